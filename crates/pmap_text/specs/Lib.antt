@@ -1,0 +1,2 @@
+pub mod MapModel
+pub mod ListModel

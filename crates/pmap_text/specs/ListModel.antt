@@ -1,0 +1,43 @@
+use Rattle.std.specs.Prelude.{◌≡◌, ℕ, zero, suc, ◌+◌, ◌^◌, ◌<◌, ◌&&◌, ◌==◌, Bool, List, [], ◌∷◌, Option, Some, None, find, option_map, nat_le, nat_lt}
+use Rattle.std.specs.Option.{option_or}
+use Rattle.prefix_keys.specs.Block.{block_number}
+use Rattle.prefix_keys.specs.Version.{width_of}
+use Rattle.prefix_keys.specs.declared.version.Version.{Version}
+use Rattle.pmap_text.specs.MapModel.{Label, MapModel, map_label}
+
+-- A prefix list as contracts see it, and what it labels an address under longest match.
+
+-- the block of `bits` bits that the address `start` is in, with a label
+pub record Prefix : Type 0 where
+  pub start : ℕ
+  pub bits : ℕ
+  pub label : Label
+
+-- any finite list of blocks of one version with labels: equal blocks, any labels and addresses without an entry are allowed
+pub record ListModel : Type 0 where
+  pub version : Version
+  pub name : Option Label
+  pub prefixes : List Prefix
+  pub table : List Label
+
+-- of addresses of W bits, the entry's block has n bits and covers the address
+abbrev pub covers : ℕ → ℕ → ℕ → Prefix → Bool
+covers W n a p = p.bits == n && block_number W n p.start == block_number W n a
+
+-- the label of the first entry of n bits that covers the address
+abbrev pub label_at : ℕ → List Prefix → ℕ → ℕ → Option Label
+label_at W ps n a = option_map (λ p. p.label) (find (covers W n a) ps)
+
+-- the label of the longest entry of fewer than n bits that covers the address, the first of equal blocks
+abbrev pub label_below : ℕ → List Prefix → ℕ → ℕ → Option Label
+label_below W ps zero a = None
+label_below W ps (suc n) a = option_or (label_at W ps n a) (label_below W ps n a)
+
+-- the label of the longest entry that covers the address, none where no entry covers it
+abbrev pub list_label : ListModel → ℕ → Option Label
+list_label l a = label_below (width_of l.version) l.prefixes (suc (width_of l.version)) a
+
+-- the list labels each address as the map does
+pub record IsEquivalent (l : ListModel) (m : MapModel) : Type 0 where
+  pub version : l.version ≡ m.version
+  pub labels : (a : ℕ) → a < 2 ^ width_of m.version → list_label l a ≡ Some (map_label m a)

@@ -1,0 +1,67 @@
+use Rattle.std.specs.Prelude.{◌≡◌, ℕ, ◌&&◌, Bool, List, [], ◌∷◌, Option, Some, None, nat_le, if◌then◌else◌}
+use Rattle.std.specs.Option.{option_or}
+use Rattle.prefix_keys.specs.Block.{first_of, last_of}
+use Rattle.prefix_keys.specs.Version.{width_of}
+use Rattle.prefix_keys.specs.declared.version.Version.{Version}
+
+-- A prefix map as contracts see it: statements over spans of addresses, the last of which counts, and a default.
+
+-- a label's text
+abbrev pub Label : Type 0
+Label = List ℕ
+
+-- the addresses from low to high have the label
+pub record Mapping : Type 0 where
+  pub low : ℕ
+  pub high : ℕ
+  pub label : Label
+
+-- a map: what it is called, its statements in order, the label of an address that no statement covers, and its label table
+pub record MapModel : Type 0 where
+  pub version : Version
+  pub name : Option Label
+  pub fallback : Label
+  pub mappings : List Mapping
+  pub table : List Label
+
+-- the last mapping that passes the test
+abbrev pub last_such : (Mapping → Bool) → List Mapping → Option Mapping
+last_such p [] = None
+last_such p (m ∷ ms) = option_or (last_such p ms) (if p m then Some m else None)
+
+-- the mapping's span covers the address
+abbrev pub spans : ℕ → Mapping → Bool
+spans a m = nat_le m.low a && nat_le a m.high
+
+-- the label of that mapping, or the default where there is none
+abbrev pub label_or : Option Mapping → Label → Label
+label_or None x = x
+label_or (Some m) x = m.label
+
+-- the label of an address: that of the last mapping that covers it, else the default
+abbrev pub map_label : MapModel → ℕ → Label
+map_label m a = label_or (last_such (spans a) m.mappings) m.fallback
+
+-- of addresses of W bits, the mapping's span covers some address of the block of n bits with the number q
+abbrev pub meets : ℕ → ℕ → ℕ → Mapping → Bool
+meets W n q m = nat_le m.low (last_of W n q) && nat_le (first_of W n q) m.high
+
+-- it covers each of them
+abbrev pub spans_all : ℕ → ℕ → ℕ → Mapping → Bool
+spans_all W n q m = nat_le m.low (first_of W n q) && nat_le (last_of W n q) m.high
+
+-- what the last mapping that meets a block says of it: its label where it covers the whole block, nothing where it covers
+-- a part, and the default where there is no such mapping
+abbrev pub settled_by : ℕ → ℕ → ℕ → Label → Option Mapping → Option Label
+settled_by W n q x None = Some x
+settled_by W n q x (Some m) = if spans_all W n q m then Some m.label else None
+
+-- A block is settled with a label where the last mapping that meets it covers all of it and has that label, or none
+-- meets it and the default is that label. None: it is not settled.
+abbrev pub settled_label : MapModel → ℕ → ℕ → Option Label
+settled_label m n q =
+    settled_by (width_of m.version) n q m.fallback (last_such (meets (width_of m.version) n q) m.mappings)
+
+-- the block of n bits with the number q is settled with the label x
+abbrev pub IsSettled : MapModel → ℕ → ℕ → Label → Type 0
+IsSettled m n q x = settled_label m n q ≡ Some x

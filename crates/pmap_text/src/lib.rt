@@ -1,0 +1,4 @@
+//! Texts of prefix maps.
+#![tactic(auto)]
+
+pub mod label;

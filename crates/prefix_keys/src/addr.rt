@@ -1,0 +1,31 @@
+ghost use Rattle.std.specs.Prelude.{◌≡◌, ◌^◌, ◌<◌, ◌↔◌, IsSome, IfSome};
+ghost use Rattle.prefix_keys.specs.Version.{width_of};
+
+use crate::version::Version;
+
+/// An IP address: its version, and the whole number that its bits make in network byte order.
+#[derive(Clone, Copy, Debug, PartialEq, Eq, Hash)]
+pub struct Addr {
+    pub version: Version,
+    pub value: u128,
+    ghost in_range: { value < 2 ^ width_of version },
+}
+
+impl Addr {
+    /// The address with this number, or `None` where the version has no such address.
+    pub fn new(version: Version, value: u128) -> Option<Addr>
+        ensures valid { IsSome result ↔ (value < 2 ^ width_of version) }
+        ensures version { IfSome result (λ a. a.version ≡ version) }
+        ensures value { IfSome result (λ a. a.value ≡ value) }
+    {
+        let fits = match version {
+            Version::V4 => value < 1 << 32,
+            Version::V6 => true,
+        };
+        if fits {
+            Some(Addr { version, value })
+        } else {
+            None
+        }
+    }
+}

@@ -1,0 +1,17 @@
+//! IP addresses, CIDR blocks and spans of addresses, and their texts.
+//!
+//! It stands on no other crate. An address is a whole number below 2^32 (IPv4) or 2^128 (IPv6), a block is
+//! what shares the leading bits of a prefix (RFC 4632), and a span is the addresses from one to another. The
+//! layer above may rely on this: each call is the quotient and interval arithmetic on those numbers that its
+//! contract cites, each type keeps its own conditions, and a text is read exactly where it has a written form.
+#![tactic(auto)]
+
+pub mod addr;
+//BLOCK
+//SPAN
+pub mod version;
+
+pub use addr::Addr;
+//UB
+//US
+pub use version::Version;

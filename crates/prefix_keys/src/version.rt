@@ -1,0 +1,23 @@
+ghost use Rattle.std.specs.Prelude.{◌≡◌};
+ghost use Rattle.prefix_keys.specs.Version.{width_of};
+
+/// The version of the Internet Protocol that an address belongs to.
+#[derive(Clone, Copy, Debug, PartialEq, Eq, Hash, PartialOrd, Ord)]
+pub enum Version {
+    /// IPv4 (RFC 791).
+    V4,
+    /// IPv6 (RFC 8200).
+    V6,
+}
+
+impl Version {
+    /// How many bits an address has.
+    pub fn width(self) -> u32
+        ensures { result ≡ width_of self }
+    {
+        match self {
+            Version::V4 => 32,
+            Version::V6 => 128,
+        }
+    }
+}
