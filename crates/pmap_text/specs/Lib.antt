@@ -1,2 +1,4 @@
 pub mod MapModel
 pub mod ListModel
+pub mod Label
+

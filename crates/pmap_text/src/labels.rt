@@ -1,0 +1,87 @@
+ghost use Rattle.std.specs.Prelude.{◌≡◌, ◌<◌, ◌↔◌, IsOk, ℕ, [], List, length, Some, IsTrue, IfOk, IfSome, OnErr, OnOk, option_map, slice_get};
+ghost use Rattle.pmap_text.specs.Label.{is_label, has_label, number_of, with_label};
+
+use crate::label::LabelId;
+use indexmap::IndexSet;
+use std::alloc::{AllocError, Global};
+use std::marker::Model;
+
+/// A table of distinct label texts. A text's number is its place, from 0 in the order in which texts were added.
+#[derive(Drop)]
+pub struct Labels {
+    alloc: Global,
+    texts: IndexSet<Vec<u8>>,
+}
+
+impl Model for Labels {
+    ghost use Rattle.std.specs.Prelude.{◌≤◌, ℕ, List, map, length, vec_len};
+    ghost use Rattle.indexmap.specs.IndexSet.{index_set_len};
+
+    ghost Value = { List (List ℕ) };
+
+    ghost view = { λ l. map (λ text. text.items) l.texts.keys };
+
+    ghost invariant = { λ l. index_set_len l.texts ≤ 65536 };
+}
+
+impl Labels {
+    /// An empty table.
+    pub fn new(alloc: Global) -> Labels
+        ensures { result ≡ [] }
+    {
+        Labels {
+            alloc,
+            texts: IndexSet::new(alloc),
+        }
+    }
+
+    /// How many texts there are.
+    pub fn len(&self) -> usize
+        ensures { result ≡ length self.now }
+    {
+        self.texts.len()
+    }
+
+    /// Whether there is no text.
+    pub fn is_empty(&self) -> bool
+        ensures { IsTrue result ↔ (self.now ≡ []) }
+    {
+        self.texts.is_empty()
+    }
+
+    /// The text with a number.
+    pub fn text(&self, id: LabelId) -> Option<&[u8]>
+        ensures value { option_map (λ t. t.now) result ≡ slice_get self.now id.0 }
+    {
+        match self.texts.get_index(id.0 as usize) {
+            Some(text) => Some(text.as_slice()),
+            None => None,
+        }
+    }
+
+    /// The number of a text.
+    pub fn id_of(&self, text: &[u8]) -> Option<LabelId>
+        ensures value { option_map (λ id. id.0) result ≡ number_of self.now text.now }
+    {
+        match self.texts.get_index_of(text) {
+            Some(index) => Some(LabelId(index as u32)),
+            None => None,
+        }
+    }
+
+    /// Adds a text, and answers its number. A known text keeps its number and takes no memory, a new one goes last.
+    pub fn add(&mut self, text: &[u8]) -> Result<LabelId, AllocError>
+        requires label { IsTrue (is_label text.now) }
+        requires room { length self.old < 65536 }
+        ensures ok { OnOk result (self.new ≡ with_label self.old text.now) }
+        ensures number { IfOk result (λ id. number_of self.new text.now ≡ Some id.0) }
+        ensures known { IsTrue (has_label self.old text.now) → IsOk result }
+        ensures err { OnErr result (self.new ≡ self.old) }
+    {
+        if let Some(id) = self.id_of(text) {
+            return Ok(id);
+        }
+        let (index, _) = self.texts.insert_full(Vec::from_slice(self.alloc, text)?)?;
+        Ok(LabelId(index as u32))
+    }
+}
