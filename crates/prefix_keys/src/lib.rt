@@ -7,11 +7,11 @@
 #![tactic(auto)]
 
 pub mod addr;
-//BLOCK
-//SPAN
+pub mod block;
+pub mod span;
 pub mod version;
 
 pub use addr::Addr;
-//UB
-//US
+pub use block::Block;
+pub use span::Span;
 pub use version::Version;

@@ -1,0 +1,39 @@
+ghost use Rattle.std.specs.Prelude.{◌≡◌, ◌≤◌, ◌↔◌, ◌&&◌, IsSome, IfSome, IsTrue, nat_le};
+ghost use Rattle.prefix_keys.specs.Block.{block_number, first_of, last_of};
+ghost use Rattle.prefix_keys.specs.Version.{width_of};
+
+use crate::addr::Addr;
+use crate::block::Block;
+
+/// The addresses of one version from `low` to `high`, both included.
+#[derive(Clone, Copy, Debug, PartialEq, Eq, Hash)]
+pub struct Span {
+    pub low: Addr,
+    pub high: Addr,
+    ghost one_version: { low.version ≡ high.version },
+    ghost ordered: { low.value ≤ high.value },
+}
+
+impl Span {
+    ghost use Rattle.prefix_keys.specs.Covers.{SpanCovers, SpanCoversBlock, SpanMeetsBlock};
+
+    /// The span between these addresses, or `None` where they are of two versions or `low` is above `high`.
+    pub fn new(low: Addr, high: Addr) -> Option<Span>
+        ensures valid { IsSome result ↔ ((low.version ≡ high.version) × (low.value ≤ high.value)) }
+        ensures low { IfSome result (λ span. span.low ≡ low) }
+        ensures high { IfSome result (λ span. span.high ≡ high) }
+    {
+        if low.version == high.version && low.value <= high.value {
+            Some(Span { low, high })
+        } else {
+            None
+        }
+    }
+
+    /// Whether the address is one of the span's.
+    pub fn covers(&self, addr: &Addr) -> bool
+        ensures { IsTrue result ↔ SpanCovers self.now addr.now }
+    {
+        self.low.version == addr.version && self.low.value <= addr.value && addr.value <= self.high.value
+    }
+}
