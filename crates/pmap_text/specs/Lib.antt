@@ -1,4 +1,4 @@
 pub mod MapModel
 pub mod ListModel
 pub mod Label
-
+pub mod MapText
