@@ -2,3 +2,4 @@ pub mod MapModel
 pub mod ListModel
 pub mod Label
 pub mod MapText
+pub mod Lines

@@ -1,8 +1,10 @@
 //! Texts of prefix maps.
 #![tactic(auto)]
 
+pub mod fault;
 pub mod label;
 pub mod labels;
+pub mod lines;
 pub mod map_text;
 pub mod name;
 pub mod statement;
