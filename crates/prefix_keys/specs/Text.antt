@@ -1,8 +1,7 @@
-use Rattle.std.specs.Prelude.{ℕ, ◌+◌, ◌-◌, ◌*◌, ◌&&◌, ◌==◌, Bool, List, [], ◌∷◌, Option, Some, None, Result, Ok, Err, length, fold, nat_le, if◌then◌else◌, option_and_then, option_map}
-use Rattle.std.specs.List.{list_all, list_any, before_first, after_first}
-use Rattle.prefix_keys.specs.Version.{width_of}
+use Rattle.std.specs.Prelude.{ℕ, ◌+◌, ◌-◌, ◌*◌, ◌&&◌, ◌==◌, Bool, List, [], ◌∷◌, Option, Some, None, length, fold, nat_le, if◌then◌else◌, option_and_then, option_map}
+use Rattle.std.specs.List.{list_all}
 use Rattle.prefix_keys.specs.declared.version.Version.{Version}
-use Rattle.prefix_keys.specs.declared.version.Version.TheVariants.{V4, V6}
+use Rattle.prefix_keys.specs.declared.version.Version.TheVariants.{V4}
 
 -- The written forms of addresses and blocks.
 
