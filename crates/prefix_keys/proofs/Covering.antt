@@ -17,8 +17,8 @@ Meet d q low high = (a : ℕ) × (a / d ≡ q) × ((low ≤ a) × (a ≤ high))
 pub meet : (d q low high : ℕ) → 0 < d → low ≤ high → low ≤ (q + 1) * d - 1 → q * d ≤ high → Meet d q low high
 meet d q low high some ordered l h =
     elim (cases_lt low (q * d)) [
-      inl under ↦ (q * d, quotient_is (q * d) d q some (omega arith) (omega arith), (omega arith, h))
-    | inr over ↦ (low, quotient_is low d q some over (omega arith), (omega arith, ordered))
+      | inl under ↦ (q * d, quotient_is (q * d) d q some (omega arith) (omega arith), (omega arith, h))
+      | inr over ↦ (low, quotient_is low d q some over (omega arith), (omega arith, ordered))
     ]
 
 pub meet-low : (d q low high : ℕ) → 0 < d → Meet d q low high → low ≤ (q + 1) * d - 1

@@ -111,5 +111,5 @@ are_halves W n v h short fits none is =
       upper_free = rw (← is) (upper-mod v h some free);
       upper_fits = omega arith;
       lower = rw (← is, half) (lower_number v h some free);
-      upper = rw (← is, half) (upper_number v h some free)
+      upper = rw (← is, half) (upper_number v h some free);
     }

@@ -40,7 +40,11 @@ pub fn block_of(addr: Addr, len: u32) -> Block
     ensures first { let W = width_of addr.version in result.value ≡ first_of W len (block_number W len addr.value) }
 {
     let host = addr.value & host_mask(addr.version, len);
-    Block { version: addr.version, value: addr.value - host, len }
+    Block {
+        version: addr.version,
+        value: addr.value - host,
+        len,
+    }
 }
 
 impl Block {
@@ -59,7 +63,11 @@ impl Block {
             return None;
         }
         let block = block_of(addr, len);
-        if block.value == value { Some(block) } else { None }
+        if block.value == value {
+            Some(block)
+        } else {
+            None
+        }
     }
 
     /// Whether the address is one of the block's.
@@ -75,7 +83,10 @@ impl Block {
         ensures value { result.value ≡ self.now.value }
         ensures first { let W = width_of self.now.version in result.value ≡ first_of W self.now.len (block_number W self.now.len self.now.value) }
     {
-        Addr { version: self.version, value: self.value }
+        Addr {
+            version: self.version,
+            value: self.value,
+        }
     }
 
     /// The highest address of the block.
@@ -83,7 +94,10 @@ impl Block {
         ensures version { result.version ≡ self.now.version }
         ensures last { let W = width_of self.now.version in result.value ≡ last_of W self.now.len (block_number W self.now.len self.now.value) }
     {
-        Addr { version: self.version, value: self.value + host_mask(self.version, self.len) }
+        Addr {
+            version: self.version,
+            value: self.value + host_mask(self.version, self.len),
+        }
     }
 
     /// The span from the lowest address of the block to its highest.
@@ -93,7 +107,10 @@ impl Block {
         ensures first { let W = width_of self.now.version in result.low.value ≡ first_of W self.now.len (block_number W self.now.len self.now.value) }
         ensures last { let W = width_of self.now.version in result.high.value ≡ last_of W self.now.len (block_number W self.now.len self.now.value) }
     {
-        Span { low: self.low(), high: self.high() }
+        Span {
+            low: self.low(),
+            high: self.high(),
+        }
     }
 
     /// The two blocks of one bit more that make up the block, the lower first, or `None` at full length.
@@ -113,8 +130,16 @@ impl Block {
         }
         let len = self.len + 1;
         let half = host_mask(self.version, len) + 1;
-        let lower = Block { version: self.version, value: self.value, len };
-        let upper = Block { version: self.version, value: self.value + half, len };
+        let lower = Block {
+            version: self.version,
+            value: self.value,
+            len,
+        };
+        let upper = Block {
+            version: self.version,
+            value: self.value + half,
+            len,
+        };
         Some((lower, upper))
     }
 }

@@ -34,7 +34,9 @@ impl Span {
     pub fn covers(&self, addr: &Addr) -> bool
         ensures { IsTrue result ↔ SpanCovers self.now addr.now }
     {
-        self.low.version == addr.version && self.low.value <= addr.value && addr.value <= self.high.value
+        self.low.version == addr.version
+            && self.low.value <= addr.value
+            && addr.value <= self.high.value
     }
 
     /// Whether each address of the block is one of the span's.

@@ -11,10 +11,10 @@ pub invariant_of-result-clause-no_host_bit : goal.invariant_of-result-clause-no_
 invariant_of-result-clause-no_host_bit c =
     let k : ℕ = width_of c.args.addr.version - c.args.len in
     rw (and_low c.args.addr.value c.host_mask.result k c.host_mask.ensures)
-        (cleared-mod c.args.addr.value (2 ^ k) (pow_pos k))
+    (cleared-mod c.args.addr.value (2 ^ k) (pow_pos k))
 
 pub returns-clause-first : goal.returns-clause-first
 returns-clause-first c =
     let k : ℕ = width_of c.args.addr.version - c.args.len in
     rw (and_low c.args.addr.value c.host_mask.result k c.host_mask.ensures)
-        (cleared c.args.addr.value (2 ^ k) (pow_pos k))
+    (cleared c.args.addr.value (2 ^ k) (pow_pos k))

@@ -29,7 +29,7 @@ invariant_of-lower c =
     record {
       len_in_range = omega arith;
       in_range = c.args.self.now.in_range;
-      no_host_bit = (facts c.args.self.now (c.host_mask-half.result + 1) (omega arith) c.host_mask-half.ensures).lower_free
+      no_host_bit = (facts c.args.self.now (c.host_mask-half.result + 1) (omega arith) c.host_mask-half.ensures).lower_free;
     }
 
 pub invariant_of-upper : goal.invariant_of-upper
@@ -38,7 +38,7 @@ invariant_of-upper c =
     record {
       len_in_range = omega arith;
       in_range = (facts c.args.self.now (c.host_mask-half.result + 1) (omega arith) c.host_mask-half.ensures).upper_fits;
-      no_host_bit = (facts c.args.self.now (c.host_mask-half.result + 1) (omega arith) c.host_mask-half.ensures).upper_free
+      no_host_bit = (facts c.args.self.now (c.host_mask-half.result + 1) (omega arith) c.host_mask-half.ensures).upper_free;
     }
 
 pub returns-clause-lower_number : goal.returns-clause-lower_number
