@@ -1,4 +1,4 @@
-use Rattle.std.specs.Prelude.{◌≡◌, ℕ, ◌+◌, ◌-◌, ◌&&◌, ◌||◌, ◌==◌, Bool, not, List, [], ◌∷◌, ◌++◌, Option, length, position, nat_le, slice_index, if◌then◌else◌}
+use Rattle.std.specs.Prelude.{◌≡◌, ℕ, ◌-◌, ◌≤◌, ◌&&◌, ◌||◌, ◌==◌, Bool, not, List, [], ◌∷◌, ◌++◌, Option, Some, IsTrue, length, position, nat_le, slice_get, slice_index, if◌then◌else◌}
 use Rattle.std.specs.List.{list_all, list_any}
 use Rattle.std.specs.Str.{bytes_eq}
 use Rattle.pmap_text.specs.MapModel.{Label}
@@ -30,3 +30,9 @@ number_of table text = position (bytes_eq text) table
 -- the table after a label is added: a known one keeps its place, a new one goes last
 abbrev pub with_label : List Label → Label → List Label
 with_label table text = if has_label table text then table else table ++ text ∷ []
+
+-- a label table: at most 65536 texts, each of them a label, and the number of each is its place, so that no two are equal
+pub record IsLabelTable (table : List Label) : Type 0 where
+  pub few : length table ≤ 65536
+  pub labels : (i : ℕ) (text : Label) → slice_get table i ≡ Some text → IsTrue (is_label text)
+  pub places : (i : ℕ) (text : Label) → slice_get table i ≡ Some text → number_of table text ≡ Some i

@@ -3,3 +3,4 @@ pub mod ListModel
 pub mod Label
 pub mod MapText
 pub mod Lines
+pub mod Reading

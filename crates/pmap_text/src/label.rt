@@ -31,8 +31,5 @@ pub fn is_label(text: &[u8]) -> bool
     ensures { result ≡ is_label_text text.now }
 {
     let has_length = !text.is_empty() && text.len() <= 255;
-    has_length
-        && has_label_bytes(text)
-        && !is_blank(text[0])
-        && !is_blank(text[text.len() - 1])
+    has_length && has_label_bytes(text) && !is_blank(text[0]) && !is_blank(text[text.len() - 1])
 }

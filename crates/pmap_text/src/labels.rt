@@ -1,5 +1,5 @@
-ghost use Rattle.std.specs.Prelude.{◌≡◌, ◌<◌, ◌↔◌, IsOk, ℕ, [], List, length, Some, IsTrue, IfOk, IfSome, OnErr, OnOk, option_map, slice_get};
-ghost use Rattle.pmap_text.specs.Label.{is_label, has_label, number_of, with_label};
+ghost use Rattle.std.specs.Prelude.{◌≡◌, ◌<◌, ◌≤◌, ◌↔◌, IsOk, ℕ, [], List, length, Some, IsTrue, IfOk, IfSome, OnErr, OnOk, option_map, slice_get};
+ghost use Rattle.pmap_text.specs.Label.{is_label, has_label, number_of, with_label, IsLabelTable};
 
 use crate::label::LabelId;
 use indexmap::IndexSet;
@@ -7,21 +7,21 @@ use std::alloc::{AllocError, Global};
 use std::marker::Model;
 
 /// A table of distinct label texts. A text's number is its place, from 0 in the order in which texts were added.
-#[derive(Drop)]
+#[derive(Debug, Drop)]
 pub struct Labels {
     alloc: Global,
     texts: IndexSet<Vec<u8>>,
 }
 
 impl Model for Labels {
-    ghost use Rattle.std.specs.Prelude.{◌≤◌, ℕ, List, map, length, vec_len};
-    ghost use Rattle.indexmap.specs.IndexSet.{index_set_len};
+    ghost use Rattle.std.specs.Prelude.{ℕ, List, map};
+    ghost use Rattle.pmap_text.specs.Label.{IsLabelTable};
 
     ghost Value = { List (List ℕ) };
 
     ghost view = { λ l. map (λ text. text.items) l.texts.keys };
 
-    ghost invariant = { λ l. index_set_len l.texts ≤ 65536 };
+    ghost invariant = { λ l. IsLabelTable (map (λ text. text.items) l.texts.keys) };
 }
 
 impl Labels {
@@ -37,7 +37,9 @@ impl Labels {
 
     /// How many texts there are.
     pub fn len(&self) -> usize
-        ensures { result ≡ length self.now }
+        ensures value { result ≡ length self.now }
+        ensures few { result ≤ 65536 }
+        ensures table { IsLabelTable self.now }
     {
         self.texts.len()
     }
@@ -49,9 +51,11 @@ impl Labels {
         self.texts.is_empty()
     }
 
-    /// The text with a number.
+    /// The text with a number. It is a label, and its number is this one.
     pub fn text(&self, id: LabelId) -> Option<&[u8]>
         ensures value { option_map (λ t. t.now) result ≡ slice_get self.now id.0 }
+        ensures number { IfSome result (λ t. number_of self.now t.now ≡ Some id.0) }
+        ensures label { IfSome result (λ t. IsTrue (is_label t.now)) }
     {
         match self.texts.get_index(id.0 as usize) {
             Some(text) => Some(text.as_slice()),
@@ -59,9 +63,10 @@ impl Labels {
         }
     }
 
-    /// The number of a text.
+    /// The number of a text. The text with that number is this one.
     pub fn id_of(&self, text: &[u8]) -> Option<LabelId>
         ensures value { option_map (λ id. id.0) result ≡ number_of self.now text.now }
+        ensures text { IfSome result (λ id. slice_get self.now id.0 ≡ Some text.now) }
     {
         match self.texts.get_index_of(text) {
             Some(index) => Some(LabelId(index as u32)),
@@ -70,11 +75,14 @@ impl Labels {
     }
 
     /// Adds a text, and answers its number. A known text keeps its number and takes no memory, a new one goes last.
+    /// The others keep their numbers. Where memory is refused, the table stays as it was.
     pub fn add(&mut self, text: &[u8]) -> Result<LabelId, AllocError>
         requires label { IsTrue (is_label text.now) }
         requires room { length self.old < 65536 }
         ensures ok { OnOk result (self.new ≡ with_label self.old text.now) }
         ensures number { IfOk result (λ id. number_of self.new text.now ≡ Some id.0) }
+        ensures text { IfOk result (λ id. slice_get self.new id.0 ≡ Some text.now) }
+        ensures kept { (i : ℕ) (t : List ℕ) → slice_get self.old i ≡ Some t → slice_get self.new i ≡ Some t }
         ensures known { IsTrue (has_label self.old text.now) → IsOk result }
         ensures err { OnErr result (self.new ≡ self.old) }
     {
