@@ -1,2 +1,3 @@
 pub mod LabelTexts
 pub mod Places
+pub mod ProgressSteps

@@ -4,3 +4,4 @@ pub mod Label
 pub mod MapText
 pub mod Lines
 pub mod Reading
+pub mod Progress

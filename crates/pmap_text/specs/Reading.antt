@@ -162,3 +162,19 @@ map_reading text = entries_from [] 0 (lines_of text) >>= (λ entries. Ok (map_fr
 -- the text is read as the map
 abbrev pub ReadsMap : List ℕ → MapModel → Type 0
 ReadsMap text map = map_reading text ≡ Ok map
+
+-- what the lines so far are after one more line
+abbrev pub added : Earlier → Entry → Earlier
+added earlier Nothing = earlier
+added earlier (Defaults label) =
+    record { mappings = earlier.mappings; table = with_label earlier.table label; fallback = Some label }
+added earlier (Maps mapping) = record {
+  mappings = earlier.mappings ++ mapping ∷ [];
+  table = with_label earlier.table mapping.label;
+  fallback = earlier.fallback;
+}
+
+-- the line was read, and the lines so far have it at their end
+abbrev pub Adds : Earlier → Earlier → Result Entry MapFaultKind → Type 0
+Adds old new (Ok entry) = new ≡ added old entry
+Adds old new (Err kind) = ⊥

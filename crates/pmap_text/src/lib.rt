@@ -7,9 +7,11 @@ pub mod labels;
 pub mod lines;
 pub mod map_text;
 pub mod name;
+mod reading;
 pub mod statement;
 pub mod statements;
 
+pub use fault::{MapFault, MapFaultKind};
 pub use label::{LabelId, is_label};
 pub use labels::Labels;
 pub use map_text::MapText;
