@@ -140,14 +140,15 @@ impl Block {
         }
         let len = self.len + 1;
         let half = host_mask(self.version, len) + 1;
+        let (version, value) = (self.version, self.value);
         let lower = Block {
-            version: self.version,
-            value: self.value,
+            version,
+            value,
             len,
         };
         let upper = Block {
-            version: self.version,
-            value: self.value + half,
+            version,
+            value: value + half,
             len,
         };
         Some((lower, upper))
