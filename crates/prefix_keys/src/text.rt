@@ -64,8 +64,10 @@ fn read_dotted(text: &[u8]) -> Option<u32>
     Some(((a * 256 + b) * 256 + c) * 256 + d)
 }
 
-/// Reads an address, or `None` where the text has none of the written forms: dotted decimal, four numbers from 0 to 255
-/// of one to three digits with points between. Leading zeros are allowed, and the number is decimal all the same.
+/// Reads an address, or `None` where the text has none of the written forms.
+///
+/// The form is dotted decimal: four numbers from 0 to 255, of one to three digits, with points between. Leading zeros
+/// are allowed, and the number is decimal all the same.
 pub fn read_addr(text: &[u8]) -> Option<Addr>
     ensures { option_map (λ addr. (addr.version, addr.value)) result ≡ address_of text.now }
 {
@@ -76,15 +78,16 @@ pub fn read_addr(text: &[u8]) -> Option<Addr>
     })
 }
 
-/// Reads a block: an address, a `/` and a length of one to three digits, at most the width of the address. Its host bits
-/// are cleared.
+/// Reads a block (RFC 4632, section 3.1): an address, a `/` and a length of one to three digits, at most the width of the
+/// address. The host bits are cleared.
 ///
 /// # Errors
 ///
-/// `BadAddress` where the text before the first `/`, or the whole text without one, is no address; else `BadLength` where
-/// what follows is no length, also where there is no `/`.
+/// `BadAddress` where the text before the first `/`, or the whole text without one, is no address; else `BadLength`
+/// where what follows is no length, also where there is no `/`.
 pub fn read_block(text: &[u8]) -> Result<Block, BlockFault>
-    ensures { result_map_both (λ block. (block.version, block.value, block.len)) (λ fault. fault) result ≡ block_of_text text.now }
+    ensures { result_map_both (λ block. (block.version, block.value, block.len)) (λ fault. fault) result
+        ≡ block_of_text text.now }
 {
     let (front, back) = cut(text, b'/');
     let Some(addr) = read_addr(front) else {
@@ -94,4 +97,63 @@ pub fn read_block(text: &[u8]) -> Result<Block, BlockFault>
         return Err(BlockFault::BadLength);
     };
     Ok(block_of(addr, len))
+}
+
+#[cfg(test)]
+mod tests {
+    use super::*;
+    use std::test::Fail;
+
+    #[test]
+    fn reads_dotted_addresses(rt: HostRuntime) {
+        for (text, want) in [
+            ("0.0.0.0", Some(0)),
+            ("10.1.1.1", Some(0x0a01_0101)),
+            ("255.255.255.255", Some(0xffff_ffff)),
+            ("010.0.0.1", Some(0x0a00_0001)),
+            ("1.02.003.4", Some(0x0102_0304)),
+            ("256.0.0.0", None),
+            ("1.2.3.0004", None),
+            ("1.2.3", None),
+            ("1.2.3.4.5", None),
+            ("1.2.3.", None),
+            (".1.2.3", None),
+            ("1..2.3", None),
+            ("1.2.3.x", None),
+            (" 1.2.3.4", None),
+            ("::1", None),
+            ("", None),
+        ] {
+            let addr = read_addr(text.as_bytes());
+            assert_eq!(rt; addr.map(|a| a.value), want, "at {text}");
+        }
+    }
+
+    #[test]
+    fn reads_blocks(rt: HostRuntime) -> Result<(), Fail> {
+        for (text, value, len) in [
+            ("10.0.0.0/8", 0x0a00_0000, 8),
+            ("1.2.3.4/8", 0x0100_0000, 8),
+            ("1.2.3.4/0", 0, 0),
+            ("1.2.3.4/032", 0x0102_0304, 32),
+        ] {
+            let block = read_block(text.as_bytes())?;
+            assert_eq!(rt; block.value, value, "at {text}");
+            assert_eq!(rt; block.len, len, "at {text}");
+        }
+        for (text, want) in [
+            ("10.0.0.0/33", BlockFault::BadLength),
+            ("10.0.0.0", BlockFault::BadLength),
+            ("10.0.0.0/", BlockFault::BadLength),
+            ("10.0.0.0/0008", BlockFault::BadLength),
+            ("10.0.0.0/8/8", BlockFault::BadLength),
+            ("10.0.0/8", BlockFault::BadAddress),
+            ("10.0.0/33", BlockFault::BadAddress),
+            ("/8", BlockFault::BadAddress),
+            ("", BlockFault::BadAddress),
+        ] {
+            assert_eq!(rt; read_block(text.as_bytes()).err(), Some(want), "at {text}");
+        }
+        Ok(())
+    }
 }
