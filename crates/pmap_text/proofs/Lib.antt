@@ -1,3 +1,4 @@
+pub mod Entries
 pub mod LabelTexts
 pub mod Places
 pub mod ProgressSteps

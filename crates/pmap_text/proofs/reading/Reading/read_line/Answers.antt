@@ -1,4 +1,5 @@
 use Rattle.std.proofs.Common.{◌≡◌, ◌≢◌, ◌<◌, ℕ, List, [], ◌∷◌, length, refl, sym, arith, OnOk, IfErr, Err}
+use Rattle.std.proofs.lemmas.Bool.{eqb-false}
 use Rattle.pmap_text.specs.Lines.{behind_word, first_word}
 use Rattle.pmap_text.specs.Reading.{Adds, Earlier, content_line, line_entry, statement_line}
 use Rattle.pmap_text.specs.declared.fault.MapFaultKind.TheVariants.{NoMemory}
@@ -11,10 +12,10 @@ content_line-words earlier (b ∷ bs) ne = refl
 
 pub returns-clause-ok : goal.returns-clause-ok
 returns-clause-ok c =
-    let e = content_line-words c.args.self.now c.content-content.result.now (omega arith) in
-    ?
+    let words = content_line-words c.args.self.now c.content-content.result.now (eqb-false _ 0 (sym c.if-is_empty.ensures)) in
+    rw (← c.content-content.ensures, words, ← c.split_word.ensures.word, ← c.split_word.ensures.rest) c.read_statement.ensures.ok
 
 pub returns-clause-err : goal.returns-clause-err
 returns-clause-err c =
-    let e = content_line-words c.args.self.now c.content-content.result.now (omega arith) in
-    ?
+    let words = content_line-words c.args.self.now c.content-content.result.now (eqb-false _ 0 (sym c.if-is_empty.ensures)) in
+    rw (← c.content-content.ensures, words, ← c.split_word.ensures.word, ← c.split_word.ensures.rest) c.read_statement.ensures.err

@@ -5,7 +5,6 @@ use Rattle.pmap_text.specs.Progress.{progress_of}
 use Rattle.pmap_text.specs.Reading.{mapping_limit}
 use Rattle.pmap_text.proofs.ProgressSteps.{IsProgress-statement, IsProgress-with_label, mapping_line-adds, progress-statement}
 use Rattle.pmap_text.proofs.reading.Reading.read_mapping.Goals as goal
-use Rattle.pmap_text.proofs.reading.Reading.read_mapping.Goals.{In-Ok}
 
 pub invariant_of-self : goal.invariant_of-self
 invariant_of-self c = rw c.in_err-label.ensures.same c.self.invariant
@@ -15,8 +14,8 @@ invariant_of-self-2 c =
     let to = c.in_ok-label.ensures.ok in
     rw (c.in-Ok.ensures.ok, to) (IsProgress-statement c.self.inside.statements c.self.inside.labels c.self.inside.default c.in_ok-text.text.now c.self.invariant (rw to at c.in_ok-label.ensures.limit) _ c.requires (rw to at c.in_ok-label.ensures.text) (omega arith))
 
-pub invariant_of-self-3 : goal.invariant_of-self-3
-invariant_of-self-3 c =
+pub invariant_of-self-in_default : goal.invariant_of-self-in_default
+invariant_of-self-in_default c =
     let to = c.in_ok-label.ensures.ok in
     rw (c.in_default.ensures.err, to) (IsProgress-with_label c.self.inside.statements c.self.inside.labels c.self.inside.default c.in_ok-text.text.now c.self.invariant (rw to at c.in_ok-label.ensures.limit))
 
