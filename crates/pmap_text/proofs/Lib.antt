@@ -1,1 +1,2 @@
 pub mod LabelTexts
+pub mod Places

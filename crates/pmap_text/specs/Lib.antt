@@ -1,4 +1,6 @@
 pub mod MapModel
 pub mod ListModel
 pub mod Label
-
+pub mod MapText
+pub mod Lines
+pub mod Reading

@@ -1,16 +1,18 @@
 //! Texts of prefix maps.
 #![tactic(auto)]
 
+pub mod fault;
 pub mod label;
 pub mod labels;
-//1pub mod map_text;
+pub mod lines;
+pub mod map_text;
 pub mod name;
-//1pub mod statement;
-//1pub mod statements;
+pub mod statement;
+pub mod statements;
 
 pub use label::{LabelId, is_label};
 pub use labels::Labels;
-//1pub use map_text::MapText;
+pub use map_text::MapText;
 pub use name::Name;
-//1pub use statement::Statement;
-//1pub use statements::Statements;
+pub use statement::Statement;
+pub use statements::Statements;

@@ -1,4 +1,4 @@
-ghost use Rattle.std.specs.Prelude.{◌≡◌, ◌+◌, ◌-◌, ◌*◌, ◌/◌, ◌%◌, ◌^◌, ◌<◌, ◌≤◌, ◌↔◌, IsSome, IfSome, IsTrue};
+ghost use Rattle.std.specs.Prelude.{◌≡◌, ◌+◌, ◌-◌, ◌*◌, ◌/◌, ◌%◌, ◌^◌, ◌<◌, ◌≤◌, ◌↔◌, IsSome, IsNone, IfSome, IsTrue};
 ghost use Rattle.prefix_keys.specs.Block.{block_number, first_of, last_of};
 ghost use Rattle.prefix_keys.specs.Version.{width_of};
 
@@ -31,6 +31,22 @@ fn host_mask(version: Version, len: u32) -> u128
     }
 }
 
+/// The block of this length that covers the address: its first `len` bits, the host bits cleared.
+pub fn block_of(addr: Addr, len: u32) -> Block
+    requires { len ≤ width_of addr.version }
+    ensures version { result.version ≡ addr.version }
+    ensures len { result.len ≡ len }
+    ensures covering { let W = width_of addr.version in block_number W len result.value ≡ block_number W len addr.value }
+    ensures first { let W = width_of addr.version in result.value ≡ first_of W len (block_number W len addr.value) }
+{
+    let host = addr.value & host_mask(addr.version, len);
+    Block {
+        version: addr.version,
+        value: addr.value - host,
+        len,
+    }
+}
+
 impl Block {
     ghost use Rattle.prefix_keys.specs.Covers.{BlockCovers};
 
@@ -43,8 +59,12 @@ impl Block {
         ensures len { IfSome result (λ block. block.len ≡ len) }
     {
         let addr = Addr::new(version, value)?;
-        if len <= version.width() && addr.value & host_mask(version, len) == 0 {
-            Some(Block { version, value, len })
+        if len > version.width() {
+            return None;
+        }
+        let block = block_of(addr, len);
+        if block.value == value {
+            Some(block)
         } else {
             None
         }
@@ -54,7 +74,7 @@ impl Block {
     pub fn covers(&self, addr: &Addr) -> bool
         ensures { IsTrue result ↔ BlockCovers self.now addr.now }
     {
-        self.version == addr.version && addr.value - (addr.value & host_mask(self.version, self.len)) == self.value
+        self.version == addr.version && block_of(*addr, self.len).value == self.value
     }
 
     /// The lowest address of the block.
@@ -63,7 +83,10 @@ impl Block {
         ensures value { result.value ≡ self.now.value }
         ensures first { let W = width_of self.now.version in result.value ≡ first_of W self.now.len (block_number W self.now.len self.now.value) }
     {
-        Addr { version: self.version, value: self.value }
+        Addr {
+            version: self.version,
+            value: self.value,
+        }
     }
 
     /// The highest address of the block.
@@ -71,7 +94,10 @@ impl Block {
         ensures version { result.version ≡ self.now.version }
         ensures last { let W = width_of self.now.version in result.value ≡ last_of W self.now.len (block_number W self.now.len self.now.value) }
     {
-        Addr { version: self.version, value: self.value + host_mask(self.version, self.len) }
+        Addr {
+            version: self.version,
+            value: self.value + host_mask(self.version, self.len),
+        }
     }
 
     /// The span from the lowest address of the block to its highest.
@@ -81,6 +107,39 @@ impl Block {
         ensures first { let W = width_of self.now.version in result.low.value ≡ first_of W self.now.len (block_number W self.now.len self.now.value) }
         ensures last { let W = width_of self.now.version in result.high.value ≡ last_of W self.now.len (block_number W self.now.len self.now.value) }
     {
-        Span { low: self.low(), high: self.high() }
+        Span {
+            low: self.low(),
+            high: self.high(),
+        }
+    }
+
+    /// The two blocks of one bit more that make up the block, the lower first, or `None` at full length.
+    pub fn halves(&self) -> Option<(Block, Block)>
+        ensures full { IsNone result ↔ (self.now.len ≡ width_of self.now.version) }
+        ensures versions { IfSome result (λ halves. (halves.0.version ≡ self.now.version) × (halves.1.version ≡ self.now.version)) }
+        ensures lens { IfSome result (λ halves. (halves.0.len ≡ self.now.len + 1) × (halves.1.len ≡ self.now.len + 1)) }
+        ensures lower { IfSome result (λ halves. halves.0.value ≡ self.now.value) }
+        ensures upper { IfSome result (λ halves. halves.1.value ≡ self.now.value + 2 ^ (width_of self.now.version - self.now.len - 1)) }
+        ensures lower_number { IfSome result (λ halves. let W = width_of self.now.version in
+            block_number W (self.now.len + 1) halves.0.value ≡ 2 * block_number W self.now.len self.now.value) }
+        ensures upper_number { IfSome result (λ halves. let W = width_of self.now.version in
+            block_number W (self.now.len + 1) halves.1.value ≡ 2 * block_number W self.now.len self.now.value + 1) }
+    {
+        if self.len == self.version.width() {
+            return None;
+        }
+        let len = self.len + 1;
+        let half = host_mask(self.version, len) + 1;
+        let lower = Block {
+            version: self.version,
+            value: self.value,
+            len,
+        };
+        let upper = Block {
+            version: self.version,
+            value: self.value + half,
+            len,
+        };
+        Some((lower, upper))
     }
 }

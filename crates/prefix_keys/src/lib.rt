@@ -9,9 +9,11 @@
 pub mod addr;
 pub mod block;
 pub mod span;
+pub mod text;
 pub mod version;
 
 pub use addr::Addr;
-pub use block::Block;
+pub use block::{Block, block_of};
 pub use span::Span;
+pub use text::{BlockFault, read_addr, read_block};
 pub use version::Version;

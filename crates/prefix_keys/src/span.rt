@@ -34,6 +34,34 @@ impl Span {
     pub fn covers(&self, addr: &Addr) -> bool
         ensures { IsTrue result ↔ SpanCovers self.now addr.now }
     {
-        self.low.version == addr.version && self.low.value <= addr.value && addr.value <= self.high.value
+        self.low.version == addr.version
+            && self.low.value <= addr.value
+            && addr.value <= self.high.value
+    }
+
+    /// Whether each address of the block is one of the span's.
+    pub fn covers_block(&self, block: &Block) -> bool
+        ensures meaning { IsTrue result ↔ SpanCoversBlock self.now block.now }
+        ensures interval { let W = width_of block.now.version in let q = block_number W block.now.len block.now.value in
+            self.now.low.version ≡ block.now.version →
+            result ≡ (nat_le self.now.low.value (first_of W block.now.len q) && nat_le (last_of W block.now.len q) self.now.high.value) }
+    {
+        if self.low.version != block.version {
+            return false;
+        }
+        self.low.value <= block.low().value && block.high().value <= self.high.value
+    }
+
+    /// Whether some address of the block is one of the span's.
+    pub fn meets(&self, block: &Block) -> bool
+        ensures meaning { IsTrue result ↔ SpanMeetsBlock self.now block.now }
+        ensures interval { let W = width_of block.now.version in let q = block_number W block.now.len block.now.value in
+            self.now.low.version ≡ block.now.version →
+            result ≡ (nat_le self.now.low.value (last_of W block.now.len q) && nat_le (first_of W block.now.len q) self.now.high.value) }
+    {
+        if self.low.version != block.version {
+            return false;
+        }
+        self.low.value <= block.high().value && block.low().value <= self.high.value
     }
 }
