@@ -8,13 +8,23 @@ use Rattle.std.specs.Option.{ForSome, option_map}
 use Rattle.prefix_keys.specs.declared.span.Span.{Span}
 use Rattle.prefix_keys.specs.declared.version.Version.TheVariants.{V4}
 use Rattle.pmap_text.specs.Label.{has_label, is_label, with_label}
-use Rattle.pmap_text.specs.MapModel.{Label, Mapping}
+use Rattle.pmap_text.specs.MapModel.{Label, MapModel, Mapping}
 use Rattle.pmap_text.specs.MapText.{mapping_of, text_at}
 use Rattle.pmap_text.specs.Progress.{IsProgress, progress_of}
-use Rattle.pmap_text.specs.Reading.{Adds, Defaults, Earlier, Maps, added, default_line, has_room, label_limit, label_of, mapping_limit, mapping_line}
+use Rattle.pmap_text.specs.Reading.{Adds, Defaults, Earlier, Maps, added, default_line, has_room, label_limit, label_of, map_from, mapping_limit, mapping_line, unknown}
 use Rattle.pmap_text.specs.declared.label.LabelId.{LabelId}
 use Rattle.pmap_text.specs.declared.statement.Statement.{Statement}
 use Rattle.pmap_text.proofs.LabelTexts.{slice_get-with_label}
+
+-- the map of some statements, a table and the number of the default
+abbrev pub finished : List Statement → List Label → LabelId → MapModel
+finished ss table id = record {
+  version = V4;
+  name = None;
+  fallback = text_at table id.0;
+  mappings = map (mapping_of table) ss;
+  table = table;
+}
 
 -- a table is not shorter after a label is added
 pub length-with_label : (table : List Label) (x : Label) → length table ≤ length (with_label table x)
@@ -101,3 +111,11 @@ default_line-adds old new rest text label room e = rw (label, room) e
 
 pub mapping_line-adds : (old new : Earlier) (low high : ℕ) (rest : List ℕ) (text : Label) → label_of rest ≡ Ok text → length old.mappings < mapping_limit → has_room old.table text ≡ true → new ≡ added old (Maps (record { low = low; high = high; label = text })) → Adds old new (mapping_line old low high rest)
 mapping_line-adds old new low high rest text label few room e = rw (label, lt-ltb (length old.mappings) mapping_limit few, room) e
+
+-- where the text has no default, the table gets its text
+pub map_from-unknown : (ss : List Statement) (table : List Label) (id : LabelId) → IsProgress ss table None → slice_get (with_label table unknown) id.0 ≡ Some unknown → finished ss (with_label table unknown) id ≡ map_from (progress_of ss table None)
+map_from-unknown ss table id ok at =
+    let build : List Mapping → Label → MapModel = λ ms t. record { version = V4; name = None; fallback = t; mappings = ms; table = with_label table unknown } in
+    let text : text_at (with_label table unknown) id.0 ≡ unknown = rw at refl in
+    ap (λ (ms : List Mapping). build ms (text_at (with_label table unknown) id.0)) (mappings-with_label table unknown ss ok.numbers)
+    ∙ ap (build (map (mapping_of table) ss)) text

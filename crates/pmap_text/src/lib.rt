@@ -16,5 +16,6 @@ pub use label::{LabelId, is_label};
 pub use labels::Labels;
 pub use map_text::MapText;
 pub use name::Name;
+pub use reading::{LABEL_LIMIT, MAPPING_LIMIT, read_map};
 pub use statement::Statement;
 pub use statements::Statements;

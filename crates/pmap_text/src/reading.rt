@@ -4,8 +4,9 @@ ghost use Rattle.std.specs.List.{list_any};
 ghost use Rattle.prefix_keys.specs.Text.{block_of_text, is_digit};
 ghost use Rattle.prefix_keys.specs.declared.version.Version.TheVariants.{V4};
 ghost use Rattle.pmap_text.specs.Label.{has_label, is_label as is_label_text, with_label};
+ghost use Rattle.pmap_text.specs.MapText.{map_of};
 ghost use Rattle.pmap_text.specs.Lines.{lines_of};
-ghost use Rattle.pmap_text.specs.Reading.{Adds, Earlier, Entry, entries_from, block_line, content_line, default_line, earlier_of, has_room, label_of, line_entry, map_from, mapping_line, other_fault, statement_line};
+ghost use Rattle.pmap_text.specs.Reading.{Adds, Earlier, Entry, entries_from, block_line, content_line, default_line, earlier_of, has_room, label_of, line_entry, map_from, mapping_line, map_reading, other_fault, statement_line, ReadsMap};
 ghost use Rattle.pmap_text.specs.declared.reading.TheConstants.{LABEL_LIMIT, MAPPING_LIMIT};
 ghost use Rattle.pmap_text.specs.declared.fault.MapFaultKind.TheVariants.{NoMemory, TooMany};
 
@@ -13,9 +14,10 @@ use crate::fault::{MapFault, MapFaultKind};
 use crate::label::{LabelId, is_label};
 use crate::labels::Labels;
 use crate::lines::{content, split_line, split_word};
+use crate::map_text::MapText;
 use crate::statement::Statement;
 use crate::statements::Statements;
-use prefix_keys::{BlockFault, Span, read_addr, read_block};
+use prefix_keys::{BlockFault, Span, Version, read_addr, read_block};
 use std::alloc::{AllocError, Global};
 use std::marker::Model;
 
@@ -24,6 +26,9 @@ pub const MAPPING_LIMIT: usize = 1_000_000;
 
 /// The greatest number of label texts that a text may have.
 pub const LABEL_LIMIT: usize = 65_535;
+
+// The label of addresses without a mapping, where the text has no default.
+const UNKNOWN: &[u8] = b"UNKNOWN";
 
 /// What the lines so far say.
 #[derive(Drop)]
@@ -184,6 +189,24 @@ impl Reading {
         }
     }
 
+    // The map of the lines so far.
+    fn finish(self) -> Result<MapText, AllocError>
+        ensures { IfOk result (λ map. map_of map ≡ map_from self) }
+    {
+        let Reading { statements, mut labels, default } = self;
+        let default = match default {
+            Some(label) => label,
+            None => labels.add(UNKNOWN)?,
+        };
+        Ok(MapText {
+            version: Version::V4,
+            name: None,
+            default,
+            statements,
+            labels,
+        })
+    }
+
     /// Reads one more line. After a fault nothing is known of the lines so far.
     pub fn read_line(&mut self, line: &[u8]) -> Result<(), MapFaultKind>
         ensures ok { OnOk result (Adds self.old self.new (line_entry self.old line.now)) }
@@ -226,4 +249,27 @@ fn read_lines(alloc: Global, text: &[u8]) -> Result<Reading, MapFault>
         rest = after;
     }
     Ok(reading)
+}
+
+/// Reads a map text.
+///
+/// Each line is blank, `default LABEL` or `BLOCK LABEL`, and from a `#` on it is a comment. Of two mappings that cover an
+/// address the later one counts, an address that none covers has the label of the last `default`, or `UNKNOWN`.
+///
+/// # Errors
+///
+/// The first faulty line, counted from 1, with the first of its faults; or `NoMemory`, with the line 0.
+pub fn read_map(alloc: Global, text: &[u8]) -> Result<MapText, MapFault>
+    ensures ok { IfOk result (λ map. ReadsMap text.now (map_of map)) }
+    ensures fault { IfErr result (λ fault. fault.kind ≢ NoMemory → map_reading text.now ≡ Err fault) }
+    ensures memory { IfErr result (λ fault. fault.kind ≡ NoMemory → fault.line ≡ 0) }
+{
+    let reading = read_lines(alloc, text)?;
+    match reading.finish() {
+        Ok(map) => Ok(map),
+        Err(_) => Err(MapFault {
+            kind: MapFaultKind::NoMemory,
+            line: 0,
+        }),
+    }
 }
