@@ -1,4 +1,4 @@
-ghost use Rattle.std.specs.Prelude.{◌≡◌, false};
+ghost use Rattle.std.specs.Prelude.{◌≡◌, false, true};
 
 use crate::devices::{DeviceFault, Input, Output};
 use std::io::{Read, Write};
@@ -30,6 +30,14 @@ impl<T> Watched<T> {
             failed: false,
         }
     }
+
+    // Keeps that a call failed.
+    fn fault(&mut self) -> DeviceFault
+        ensures { self.new ≡ true }
+    {
+        self.failed = true;
+        DeviceFault
+    }
 }
 
 impl<T: Read> Input for Watched<T> {
@@ -42,10 +50,7 @@ impl<T: Read> Input for Watched<T> {
     fn read(&mut self, buffer: &mut [u8]) -> Result<usize, DeviceFault> {
         match self.inner.read(buffer) {
             Ok(count) => Ok(count),
-            Err(_) => {
-                self.failed = true;
-                Err(DeviceFault)
-            }
+            Err(_) => Err(self.fault()),
         }
     }
 
@@ -69,20 +74,14 @@ impl<T: Write> Output for Watched<T> {
                 }
                 Ok(count)
             }
-            Err(_) => {
-                self.failed = true;
-                Err(DeviceFault)
-            }
+            Err(_) => Err(self.fault()),
         }
     }
 
     fn flush(&mut self) -> Result<(), DeviceFault> {
         match self.inner.flush() {
             Ok(()) => Ok(()),
-            Err(_) => {
-                self.failed = true;
-                Err(DeviceFault)
-            }
+            Err(_) => Err(self.fault()),
         }
     }
 
