@@ -1,0 +1,4 @@
+pub mod CertificateModel
+pub mod ExactPair
+pub mod Acceptance
+pub mod MinimalPair
