@@ -1,0 +1,10 @@
+use Rattle.pmap_cert.proofs.laws.acceptance_is_enough.Goals as goal
+
+pub returns-clause-equivalent : goal.returns-clause-equivalent
+returns-clause-equivalent c = ?
+
+pub returns-clause-least : goal.returns-clause-least
+returns-clause-least c = ?
+
+pub returns-clause-bound : goal.returns-clause-bound
+returns-clause-bound c = ?
