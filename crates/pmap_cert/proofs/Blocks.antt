@@ -59,12 +59,19 @@ block_number-halves W n q a below e =
     let h : block_number W n a ≡ block_number W (suc n) a / 2 = block_number-half W n a below in
     grind arith
 
--- addresses that share the block of n bits share the shorter blocks
-pub block_number-shorter : (W n k a b : ℕ) → n + k ≤ W → block_number W (n + k) a ≡ block_number W (n + k) b →
+-- addresses that share a block share the shorter blocks
+block_number-shorter_by : (W n k a b : ℕ) → n + k ≤ W → block_number W (n + k) a ≡ block_number W (n + k) b →
     block_number W n a ≡ block_number W n b
-block_number-shorter W n zero a b le e = rw add-zero at e
-block_number-shorter W n (suc k) a b le e =
+block_number-shorter_by W n zero a b le e = rw add-zero at e
+block_number-shorter_by W n (suc k) a b le e =
     let e' : block_number W (suc (n + k)) a ≡ block_number W (suc (n + k)) b = rw add-suc at e in
     let below : n + k < W = omega arith in
-    block_number-shorter W n k a b (omega arith)
+    block_number-shorter_by W n k a b (omega arith)
     (block_number-half W (n + k) a below ∙ ap (λ (i : ℕ). i / 2) e' ∙ sym (block_number-half W (n + k) b below))
+
+pub block_number-shorter : (W n j a b : ℕ) → n ≤ j → j ≤ W → block_number W j a ≡ block_number W j b →
+    block_number W n a ≡ block_number W n b
+block_number-shorter W n j a b le le' e =
+    let s : j ≡ n + (j - n) = omega arith in
+    block_number-shorter_by W n (j - n) a b (omega arith)
+    (subst (λ (i : ℕ). block_number W i a ≡ block_number W i b) s e)
