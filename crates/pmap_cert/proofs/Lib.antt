@@ -4,3 +4,4 @@ pub mod Counts
 pub mod Longest
 pub mod Settled
 pub mod Kernel
+pub mod Enough
