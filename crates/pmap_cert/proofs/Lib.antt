@@ -5,3 +5,7 @@ pub mod Longest
 pub mod Settled
 pub mod Kernel
 pub mod Enough
+pub mod Filters
+pub mod Handed
+pub mod Entries
+pub mod Minimal

@@ -9,7 +9,7 @@ use Rattle.pmap_cert.specs.MinimalPair.{has_inherited}
 -- Sets of labels, and the cost of the exact pair of two pairs.
 
 -- a label equals itself
-bytes_eq-same : (x : Label) → bytes_eq x x ≡ true
+pub bytes_eq-same : (x : Label) → bytes_eq x x ≡ true
 bytes_eq-same x = (bytes_eq-Decides x x).1 refl
 
 -- a set of one label has that label
