@@ -62,11 +62,11 @@ label_below-alone W ps n q le none =
     ∙ label_below-within W ps n (suc W - n) q (first_of W n q) (omega arith) (block_number-first_of W n q) none
 
 -- what is handed down to the halves is alike
-label_below-lower : (W : ℕ) (ps : List Prefix) (n q : ℕ) → n < W →
+pub label_below-lower : (W : ℕ) (ps : List Prefix) (n q : ℕ) → n < W →
     label_below W ps (suc n) (first_of W (suc n) (2 * q)) ≡ label_below W ps (suc n) (first_of W n q)
 label_below-lower W ps n q below = ap (label_below W ps (suc n)) (first_of-lower W n q below)
 
-label_below-upper : (W : ℕ) (ps : List Prefix) (n q : ℕ) → n < W →
+pub label_below-upper : (W : ℕ) (ps : List Prefix) (n q : ℕ) → n < W →
     label_below W ps (suc n) (first_of W (suc n) (2 * q + 1)) ≡ label_below W ps (suc n) (first_of W n q)
 label_below-upper W ps n q below =
     label_below-same W ps n (first_of W (suc n) (2 * q + 1)) (first_of W n q) (omega arith)

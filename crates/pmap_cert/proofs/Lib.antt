@@ -9,3 +9,5 @@ pub mod Filters
 pub mod Handed
 pub mod Entries
 pub mod Minimal
+pub mod Existence
+pub mod Alike
