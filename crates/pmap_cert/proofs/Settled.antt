@@ -17,7 +17,7 @@ last_such-cases : (test : Mapping → Bool) (m : Mapping) (ms : List Mapping) (s
 last_such-cases test m ms s e = grind arith
 
 -- the last mapping that passes a test passes it
-last_such-passes : (test : Mapping → Bool) (ms : List Mapping) (s : Mapping) → last_such test ms ≡ Some s → test s ≡ true
+pub last_such-passes : (test : Mapping → Bool) (ms : List Mapping) (s : Mapping) → last_such test ms ≡ Some s → test s ≡ true
 last_such-passes test [] s e = cc
 last_such-passes test (m ∷ ms) s e =
     elim (last_such-cases test m ms s e) [
