@@ -11,7 +11,7 @@ use Rattle.pmap_cert.proofs.Blocks.{address-first, address-last, first_of-full, 
 -- A settled block has one label at all its addresses, and a block of one address is settled.
 
 -- how the last mapping that passes is found: further on, or here where none further on passes
-last_such-cases : (test : Mapping → Bool) (m : Mapping) (ms : List Mapping) (s : Mapping) →
+pub last_such-cases : (test : Mapping → Bool) (m : Mapping) (ms : List Mapping) (s : Mapping) →
     last_such test (m ∷ ms) ≡ Some s →
     (last_such test ms ≡ Some s) ⊎ ((last_such test ms ≡ None) × (test m ≡ true) × (m ≡ s))
 last_such-cases test m ms s e = grind arith
