@@ -1,4 +1,4 @@
-use Rattle.std.proofs.Common.{◌≡◌, ℕ, zero, suc, ◌+◌, ◌*◌, ◌<◌, ◌≤◌, Bool, true, false, cond, ◌&&◌, ◌||◌, ◌⊎◌, List, [], ◌∷◌, ◌++◌, Option, Some, None, IsTrue, All, arith, filter, find, unwrap_or, refl, sym, ap, ap₂, ◌∙◌, subst, bytes_eq, inl, inr, ⊎_elim}
+use Rattle.std.proofs.Common.{◌≡◌, ℕ, suc, ◌+◌, ◌*◌, Bool, true, false, cond, ◌&&◌, ◌||◌, ◌⊎◌, List, [], ◌∷◌, ◌++◌, Option, Some, None, IsTrue, All, arith, find, unwrap_or, refl, sym, ap, ap₂, ◌∙◌, subst, bytes_eq, inl, inr, ⊎_elim}
 use Rattle.std.proofs.lemmas.Bool.{and_parts, both_ways, false≢true, or_cases, or_left}
 use Rattle.std.proofs.lemmas.Slice.Eq.{bytes_eq-Decides}
 use Rattle.std.proofs.lemmas.Option.{cond_some, none-some, same_Some}
@@ -6,12 +6,12 @@ use Rattle.std.proofs.Math.Path.{fun_ext}
 use Rattle.std.proofs.lemmas.List.Elements.{All-head, All-tail}
 use Rattle.prefix_keys.specs.Block.{first_of}
 use Rattle.prefix_keys.specs.Version.{width_of}
-use Rattle.pmap_text.specs.ListModel.{ListModel, Prefix}
-use Rattle.pmap_text.specs.MapModel.{Label, MapModel, Mapping, last_such, meets, settled_by, settled_label, spans_all}
+use Rattle.pmap_text.specs.ListModel.{ListModel}
+use Rattle.pmap_text.specs.MapModel.{Label, MapModel, Mapping, last_such, meets, settled_by, spans_all}
 use Rattle.pmap_cert.specs.CertificateModel.{CertificateModel, InnerNode, LeafNode, Pair, Tree, claim_of, has}
 use Rattle.pmap_cert.specs.ExactPair.{IsSamePair, common_labels, exact_pair, exact_pair_by}
 use Rattle.pmap_cert.specs.MinimalPair.{HasItsLabels, IsAlike, IsMinimalPair, StandsFor, entries_of, first_label, handed_on, has_inherited, least_label, own_entry}
-use Rattle.pmap_cert.proofs.Handed.{IsInhabited, inhabited}
+use Rattle.pmap_cert.proofs.Handed.{inhabited}
 use Rattle.pmap_cert.proofs.Sets.{bytes_eq-same, has-append, has-filter, has-single}
 use Rattle.pmap_cert.proofs.Settled.{last_such-cases}
 
@@ -27,17 +27,17 @@ same-exact_by : (p r p' r' : Pair) (common common' : List Label) →
     ((x : Label) → has common' x ≡ (has p'.labels x && has r'.labels x)) →
     IsSamePair p p' → IsSamePair r r' → IsSamePair (exact_pair_by p r common) (exact_pair_by p' r' common')
 same-exact_by p r p' r' [] [] both both' same same' = record {
-    cost = omega (arith, same.cost, same'.cost);
-    labels = λ z.
-        has-append p.labels r.labels z ∙ ap₂ ◌||◌ (same.labels z) (same'.labels z) ∙ sym (has-append p'.labels r'.labels z);
+  cost = omega (arith, same.cost, same'.cost);
+  labels = λ z.
+      has-append p.labels r.labels z ∙ ap₂ ◌||◌ (same.labels z) (same'.labels z) ∙ sym (has-append p'.labels r'.labels z);
 }
 same-exact_by p r p' r' [] (y ∷ ys) both both' same same' =
     absurd (none-common y ys (both y ∙ ap₂ ◌&&◌ (same.labels y) (same'.labels y) ∙ sym (both' y)))
 same-exact_by p r p' r' (x ∷ xs) [] both both' same same' =
     absurd (none-common x xs (both' x ∙ ap₂ ◌&&◌ (sym (same.labels x)) (sym (same'.labels x)) ∙ sym (both x)))
 same-exact_by p r p' r' (x ∷ xs) (y ∷ ys) both both' same same' = record {
-    cost = omega (arith, same.cost, same'.cost);
-    labels = λ z. both z ∙ ap₂ ◌&&◌ (same.labels z) (same'.labels z) ∙ sym (both' z);
+  cost = omega (arith, same.cost, same'.cost);
+  labels = λ z. both z ∙ ap₂ ◌&&◌ (same.labels z) (same'.labels z) ∙ sym (both' z);
 }
 
 pub same-exact_pair : (p r p' r' : Pair) → IsSamePair p p' → IsSamePair r r' → IsSamePair (exact_pair p r) (exact_pair p' r')
@@ -47,8 +47,8 @@ same-exact_pair p r p' r' same same' =
 
 same-between : (a b c d : Pair) → IsSamePair a b → IsSamePair b c → IsSamePair d c → IsSamePair a d
 same-between a b c d e f g = record {
-    cost = e.cost ∙ f.cost ∙ sym g.cost;
-    labels = λ x. e.labels x ∙ f.labels x ∙ sym (g.labels x);
+  cost = e.cost ∙ f.cost ∙ sym g.cost;
+  labels = λ x. e.labels x ∙ f.labels x ∙ sym (g.labels x);
 }
 
 -- alike nodes claim the same
@@ -65,10 +65,12 @@ alike m (LeafNode x) (InnerNode p l r) n q h h' = none-some x (sym h'.0 ∙ h)
 alike m (InnerNode p l r) (LeafNode y) n q h h' = none-some y (sym h.0 ∙ h')
 alike m (InnerNode p l r) (InnerNode p' l' r') n q h h' =
     let lower = alike m l l' (suc n) (2 * q) h.2 h'.2 in
-    let upper = alike m r r' (suc n) (2 * q + 1) h.3 h'.3 in
-    (same-between p (exact_pair (claim_of l) (claim_of r)) (exact_pair (claim_of l') (claim_of r')) p' h.1
-            (same-exact_pair (claim_of l) (claim_of r) (claim_of l') (claim_of r') (same-claim l l' lower) (same-claim r r' upper)) h'.1,
-        lower, upper)
+    let upper = alike m r r' (suc n) (2 * q + 1) h.3 h'.3 in (
+      same-between p (exact_pair (claim_of l) (claim_of r)) (exact_pair (claim_of l') (claim_of r')) p' h.1
+          (same-exact_pair (claim_of l) (claim_of r) (claim_of l') (claim_of r') (same-claim l l' lower) (same-claim r r' upper)) h'.1,
+      lower,
+      upper,
+    )
 
 -- of sets that are the same the least label is the same, where the table has one of theirs
 find-some : (test : Label → Bool) (xs : List Label) (x : Label) → has xs x ≡ true → test x ≡ true →
@@ -80,6 +82,7 @@ find-some test (y ∷ ys) x h passes = by_test (test y) refl (λ inside. find-so
     later true fails e inside =
         absurd (both_ways (test y) fails (subst (λ (z : Label). test z ≡ true) (sym ((bytes_eq-Decides y x).0 e)) passes))
     later false fails e inside = inside
+
     by_test : (b : Bool) → test y ≡ b → (has ys x ≡ true → (z : Label) × (find test ys ≡ Some z)) →
         (z : Label) × (cond b (Some y) (find test ys) ≡ Some z)
     by_test true e rest = (y, refl)
@@ -104,10 +107,10 @@ table-mapping : (table : List Label) (test : Mapping → Bool) (ms : List Mappin
 table-mapping table test [] s all e = cc
 table-mapping table test (m ∷ ms) s all e =
     elim (last_such-cases test m ms s e) [
-        inl h ↦ table-mapping table test ms s (All-tail (λ (p : Mapping). IsTrue (has table p.label)) m ms all) h
-        | inr h ↦
-            subst (λ (p : Mapping). has table p.label ≡ true) h.2
-            (All-head (λ (p : Mapping). IsTrue (has table p.label)) m ms all)
+      | inl h ↦ table-mapping table test ms s (All-tail (λ (p : Mapping). IsTrue (has table p.label)) m ms all) h
+      | inr h ↦
+          subst (λ (p : Mapping). has table p.label ≡ true) h.2
+          (All-head (λ (p : Mapping). IsTrue (has table p.label)) m ms all)
     ]
 
 table-settled_by : (W n q : ℕ) (table : List Label) (fallback x : Label) (ms : List Mapping) (o : Option Mapping) →
@@ -132,12 +135,12 @@ table-node : (m : MapModel) → HasItsLabels m → (t : Tree) (n q : ℕ) → St
 table-node m inside (LeafNode y) n q stands x h =
     subst (λ (z : Label). has m.table z ≡ true) (has-single y x h)
     (table-settled_by (width_of m.version) n q m.table m.fallback y m.mappings
-        (last_such (meets (width_of m.version) n q) m.mappings) inside.fallback inside.mappings refl stands)
+    (last_such (meets (width_of m.version) n q) m.mappings) inside.fallback inside.mappings refl stands)
 table-node m inside (InnerNode p l r) n q stands x h =
     let same = stands.1 in
     ⊎_elim (table-node m inside l (suc n) (2 * q) stands.2 x) (table-node m inside r (suc n) (2 * q + 1) stands.3 x)
     (exact_pair_by-labels (claim_of l) (claim_of r) x (common_labels (claim_of l) (claim_of r))
-        (λ y. has-filter (claim_of r).labels (claim_of l).labels y) (sym (same.labels x) ∙ h))
+    (λ y. has-filter (claim_of r).labels (claim_of l).labels y) (sym (same.labels x) ∙ h))
 
 -- sets that are the same make the same entry and hand on the same label
 own_entry-same : (W : ℕ) (table s s' : List Label) (h : Option Label) (n q : ℕ) → has_inherited s h ≡ has_inherited s' h →
@@ -160,17 +163,17 @@ entries-alike m inside (InnerNode p l r) (InnerNode p' l' r') h n q stands e sta
     let same = e.0 in
     let some = inhabited m (InnerNode p l r) n q stands in
     let least : least_label m.table p.labels ≡ least_label m.table p'.labels =
-        least_label-same m.table p.labels p'.labels some.0 same.labels some.1
-        (table-node m inside (InnerNode p l r) n q stands some.0 some.1) in
+    least_label-same m.table p.labels p'.labels some.0 same.labels some.1
+    (table-node m inside (InnerNode p l r) n q stands some.0 some.1) in
     let keeps : has_inherited p.labels h ≡ has_inherited p'.labels h = has_inherited-same p.labels p'.labels h same.labels in
     let handed : handed_on m.table p.labels h ≡ handed_on m.table p'.labels h =
-        handed_on-same m.table p.labels p'.labels h keeps least in
+    handed_on-same m.table p.labels p'.labels h keeps least in
     ap₂ ◌++◌ (own_entry-same (width_of m.version) m.table p.labels p'.labels h n q keeps least)
     (ap₂ ◌++◌
-        (entries-alike m inside l l' (handed_on m.table p.labels h) (suc n) (2 * q) stands.2 e.1 stands'.2
-            ∙ ap (λ (o : Option Label). entries_of (width_of m.version) m.table l' o (suc n) (2 * q)) handed)
-        (entries-alike m inside r r' (handed_on m.table p.labels h) (suc n) (2 * q + 1) stands.3 e.2 stands'.3
-            ∙ ap (λ (o : Option Label). entries_of (width_of m.version) m.table r' o (suc n) (2 * q + 1)) handed))
+    (entries-alike m inside l l' (handed_on m.table p.labels h) (suc n) (2 * q) stands.2 e.1 stands'.2
+    ∙ ap (λ (o : Option Label). entries_of (width_of m.version) m.table l' o (suc n) (2 * q)) handed)
+    (entries-alike m inside r r' (handed_on m.table p.labels h) (suc n) (2 * q + 1) stands.3 e.2 stands'.3
+    ∙ ap (λ (o : Option Label). entries_of (width_of m.version) m.table r' o (suc n) (2 * q + 1)) handed))
 
 -- so minimal pairs of one map have one list
 pub list-unique : (m : MapModel) (l l' : ListModel) (c c' : CertificateModel) → IsMinimalPair m l c → IsMinimalPair m l' c' →
@@ -180,7 +183,7 @@ list-unique m l l' c c' pair pair' inside =
     let name : l.name ≡ l'.name = pair.list_name ∙ sym pair'.list_name in
     let table : l.table ≡ l'.table = pair.list_table ∙ sym pair'.list_table in
     let prefixes : l.prefixes ≡ l'.prefixes =
-        pair.prefixes
-        ∙ entries-alike m inside c.root c'.root None 0 0 pair.root (alike m c.root c'.root 0 0 pair.root pair'.root) pair'.root
-        ∙ sym pair'.prefixes in
+    pair.prefixes
+    ∙ entries-alike m inside c.root c'.root None 0 0 pair.root (alike m c.root c'.root 0 0 pair.root pair'.root) pair'.root
+    ∙ sym pair'.prefixes in
     λ i. record { version = version i; name = name i; prefixes = prefixes i; table = table i }

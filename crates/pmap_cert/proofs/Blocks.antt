@@ -1,4 +1,4 @@
-use Rattle.std.proofs.Common.{◌≡◌, ℕ, zero, suc, ◌+◌, ◌-◌, ◌*◌, ◌/◌, ◌^◌, ◌<◌, ◌≤◌, ◌⊎◌, sym, ap, refl, ◌∙◌, arith, pow-suc, pow_pos, mul-div_cancel, div-mul-le_self, subst, add-zero, add-suc}
+use Rattle.std.proofs.Common.{◌≡◌, ℕ, zero, suc, ◌+◌, ◌-◌, ◌*◌, ◌/◌, ◌^◌, ◌<◌, ◌≤◌, ◌⊎◌, sym, ap, ◌∙◌, arith, pow-suc, pow_pos, mul-div_cancel, div-mul-le_self, subst, add-zero, add-suc}
 use Rattle.std.proofs.Math.Nat.{div-div-eq-div-mul, lt-div-mul-add, div-eq_of_lt}
 use Rattle.std.proofs.lemmas.Nat.{shl_below}
 use Rattle.prefix_keys.specs.Block.{block_number, first_of, last_of}

@@ -1,4 +1,4 @@
-use Rattle.std.proofs.Common.{◌≡◌, ℕ, zero, suc, ◌+◌, ◌*◌, ◌/◌, ◌<◌, ◌≤◌, Bool, true, false, cond, ◌&&◌, ◌==◌, List, [], ◌∷◌, Option, Some, None, arith, filter, find, length, nat_le, nat_lt, refl}
+use Rattle.std.proofs.Common.{◌≡◌, ℕ, suc, ◌+◌, ◌*◌, ◌/◌, ◌<◌, ◌≤◌, Bool, true, false, cond, ◌&&◌, ◌==◌, List, [], ◌∷◌, None, arith, filter, find, length, nat_le, refl}
 use Rattle.std.proofs.lemmas.Bool.Decides.{nat_tests}
 use Rattle.prefix_keys.specs.Block.{block_number}
 use Rattle.pmap_text.specs.ListModel.{Prefix}
@@ -64,5 +64,5 @@ count_of-halves W n q below (p ∷ ps) =
     let e : block_number W n p.start ≡ block_number W (suc n) p.start / 2 = block_number-half W n p.start below in
     let h = within-halves n p.bits (block_number W (suc n) p.start) q in
     let h' : one_if (is_within W n q p)
-        ≡ one_if (is_at W n q p) + (one_if (is_within W (suc n) (2 * q) p) + one_if (is_within W (suc n) (2 * q + 1) p)) = rw e h in
+    ≡ one_if (is_at W n q p) + (one_if (is_within W (suc n) (2 * q) p) + one_if (is_within W (suc n) (2 * q + 1) p)) = rw e h in
     omega arith

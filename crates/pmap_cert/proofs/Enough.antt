@@ -1,13 +1,13 @@
-use Rattle.std.proofs.Common.{◌≡◌, ℕ, suc, ◌+◌, ◌-◌, ◌*◌, ◌^◌, ◌<◌, ◌≤◌, List, Option, Some, None, arith, length, sym, ap, ◌∙◌, subst, inl, inr, ⊎_elim}
+use Rattle.std.proofs.Common.{◌≡◌, ℕ, suc, ◌+◌, ◌-◌, ◌*◌, ◌^◌, ◌<◌, ◌≤◌, List, Some, arith, length, sym, ap, ◌∙◌, subst, ⊎_elim}
 use Rattle.prefix_keys.specs.Block.{block_number, first_of}
 use Rattle.prefix_keys.specs.Version.{width_of}
 use Rattle.prefix_keys.specs.declared.version.Version.{Version}
 use Rattle.pmap_text.specs.ListModel.{IsEquivalent, ListModel, Prefix, label_below}
-use Rattle.pmap_text.specs.MapModel.{IsSettled, Label, MapModel, map_label}
+use Rattle.pmap_text.specs.MapModel.{Label, MapModel, map_label}
 use Rattle.pmap_cert.specs.Acceptance.{IsAccepted, IsDecided, IsLeast, IsNodeAccepted, lies_inside}
 use Rattle.pmap_cert.specs.CertificateModel.{CertificateModel, InnerNode, LeafNode, Tree, claim_of}
 use Rattle.pmap_cert.proofs.Blocks.{block_number-first_of, block_number-halves, block_number-zero}
-use Rattle.pmap_cert.proofs.Counts.{count_of, count_of-filter, count_of-le, is_within}
+use Rattle.pmap_cert.proofs.Counts.{count_of-filter, count_of-le, is_within}
 use Rattle.pmap_cert.proofs.Kernel.{kernel}
 use Rattle.pmap_cert.proofs.Longest.{label_below-inside, label_below-same}
 use Rattle.pmap_cert.proofs.Settled.{map_label-settled}
@@ -43,10 +43,10 @@ labels-at_version l m same a below =
 
 pub equivalent-accepted : (m : MapModel) (l : ListModel) (c : CertificateModel) → IsAccepted m l c → IsEquivalent l m
 equivalent-accepted m l c h = record {
-    version = h.list_version;
-    labels = λ a below.
-        subst (λ (v : Version). label_below (width_of v) l.prefixes (suc (width_of v)) a ≡ Some (map_label m a)) (sym h.list_version)
-        (node-labels m l.prefixes c.root 0 0 a (omega arith) (block_number-zero (width_of m.version) a below) h.root);
+  version = h.list_version;
+  labels = λ a below.
+      subst (λ (v : Version). label_below (width_of v) l.prefixes (suc (width_of v)) a ≡ Some (map_label m a)) (sym h.list_version)
+      (node-labels m l.prefixes c.root 0 0 a (omega arith) (block_number-zero (width_of m.version) a below) h.root);
 }
 
 pub bound-accepted : (m : MapModel) (l : ListModel) (c : CertificateModel) → IsAccepted m l c →

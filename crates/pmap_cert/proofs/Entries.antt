@@ -1,13 +1,11 @@
-use Rattle.std.proofs.Common.{◌≡◌, ℕ, suc, ◌+◌, ◌*◌, ◌/◌, ◌<◌, ◌≤◌, Bool, true, false, cond, ◌&&◌, ◌==◌, List, [], ◌∷◌, ◌++◌, Option, Some, None, arith, filter, length, nat_le, nat_lt, sym, refl, ap, ap₂, ◌∙◌, subst, append-nil, length-append, eq-eqb, le-leb, le_refl}
+use Rattle.std.proofs.Common.{◌≡◌, ℕ, suc, ◌+◌, ◌*◌, ◌/◌, ◌<◌, ◌≤◌, Bool, true, false, cond, ◌&&◌, ◌==◌, List, [], ◌∷◌, ◌++◌, Option, arith, filter, length, nat_le, sym, refl, ◌∙◌, length-append, eq-eqb, le-leb, le_refl}
 use Rattle.std.proofs.lemmas.Bool.{and_from}
 use Rattle.std.proofs.lemmas.Bool.Decides.{nat_tests}
-use Rattle.std.proofs.lemmas.List.Elements.{filter-append}
 use Rattle.prefix_keys.specs.Block.{block_number, first_of}
 use Rattle.prefix_keys.specs.Version.{width_of}
-use Rattle.pmap_text.specs.ListModel.{Prefix, covers}
+use Rattle.pmap_text.specs.ListModel.{Prefix}
 use Rattle.pmap_text.specs.MapModel.{Label, MapModel}
-use Rattle.pmap_cert.specs.Acceptance.{lies_inside}
-use Rattle.pmap_cert.specs.CertificateModel.{InnerNode, LeafNode, Pair, Tree, claim_of, has}
+use Rattle.pmap_cert.specs.CertificateModel.{InnerNode, LeafNode, Pair, Tree, claim_of}
 use Rattle.pmap_cert.specs.ExactPair.{IsSamePair, exact_pair}
 use Rattle.pmap_cert.specs.MinimalPair.{StandsFor, entries_of, handed_on, has_inherited, least_label, own_entry}
 use Rattle.pmap_cert.proofs.Blocks.{block_number-first_of, block_number-half}
@@ -42,16 +40,18 @@ pub length-entries_of : (m : MapModel) (table : List Label) (t : Tree) (h : Opti
     length (entries_of (width_of m.version) table t h n q) ≡ (claim_of t).cost + miss h (claim_of t).labels
 length-entries_of m table (LeafNode x) h n q stands = length-own_entry (width_of m.version) table (x ∷ []) h n q ∙ omega arith
 length-entries_of m table (InnerNode claim lower upper) h n q stands =
-    omega (arith,
-        length-append (own_entry (width_of m.version) table claim.labels h n q)
-            (entries_of (width_of m.version) table lower (handed_on table claim.labels h) (suc n) (2 * q)
-            ++ entries_of (width_of m.version) table upper (handed_on table claim.labels h) (suc n) (2 * q + 1)),
-        length-append (entries_of (width_of m.version) table lower (handed_on table claim.labels h) (suc n) (2 * q))
-            (entries_of (width_of m.version) table upper (handed_on table claim.labels h) (suc n) (2 * q + 1)),
-        length-own_entry (width_of m.version) table claim.labels h n q,
-        length-entries_of m table lower (handed_on table claim.labels h) (suc n) (2 * q) stands.2,
-        length-entries_of m table upper (handed_on table claim.labels h) (suc n) (2 * q + 1) stands.3,
-        halves-cost table claim (claim_of lower) (claim_of upper) h (inhabited m (InnerNode claim lower upper) n q stands) stands.1)
+    omega (
+      arith,
+      length-append (own_entry (width_of m.version) table claim.labels h n q)
+          (entries_of (width_of m.version) table lower (handed_on table claim.labels h) (suc n) (2 * q)
+          ++ entries_of (width_of m.version) table upper (handed_on table claim.labels h) (suc n) (2 * q + 1)),
+      length-append (entries_of (width_of m.version) table lower (handed_on table claim.labels h) (suc n) (2 * q))
+          (entries_of (width_of m.version) table upper (handed_on table claim.labels h) (suc n) (2 * q + 1)),
+      length-own_entry (width_of m.version) table claim.labels h n q,
+      length-entries_of m table lower (handed_on table claim.labels h) (suc n) (2 * q) stands.2,
+      length-entries_of m table upper (handed_on table claim.labels h) (suc n) (2 * q + 1) stands.3,
+      halves-cost table claim (claim_of lower) (claim_of upper) h (inhabited m (InnerNode claim lower upper) n q stands) stands.1,
+    )
 
 -- a node's own entry lies at its block
 own-within : (W n q : ℕ) (x : Label) → is_within W n q (record { start = first_of W n q; bits = n; label = x }) ≡ true
@@ -100,8 +100,8 @@ filter-entries_of m table test b (InnerNode claim lower upper) h n q le stands a
     (entries_of (width_of m.version) table lower (handed_on table claim.labels h) (suc n) (2 * q))
     (entries_of (width_of m.version) table upper (handed_on table claim.labels h) (suc n) (2 * q + 1))
     (filter-own_entry (width_of m.version) table test b claim.labels h n q
-        (λ y. alike (record { start = first_of (width_of m.version) n q; bits = n; label = y }) (own-within (width_of m.version) n q y)))
+    (λ y. alike (record { start = first_of (width_of m.version) n q; bits = n; label = y }) (own-within (width_of m.version) n q y)))
     (filter-entries_of m table test b lower (handed_on table claim.labels h) (suc n) (2 * q) below stands.2
-        (λ p w. alike p (is_within-half (width_of m.version) n q (2 * q) below (omega arith) p w)))
+    (λ p w. alike p (is_within-half (width_of m.version) n q (2 * q) below (omega arith) p w)))
     (filter-entries_of m table test b upper (handed_on table claim.labels h) (suc n) (2 * q + 1) below stands.3
-        (λ p w. alike p (is_within-half (width_of m.version) n q (2 * q + 1) below (omega arith) p w)))
+    (λ p w. alike p (is_within-half (width_of m.version) n q (2 * q + 1) below (omega arith) p w)))

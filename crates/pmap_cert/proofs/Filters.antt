@@ -1,4 +1,4 @@
-use Rattle.std.proofs.Common.{◌≡◌, Bool, true, false, cond, List, [], ◌∷◌, Option, Some, None, filter, find, slice_get, ◌++◌, refl, ap, ap₂, ◌∙◌, sym, true≢false}
+use Rattle.std.proofs.Common.{◌≡◌, Bool, true, false, cond, List, [], ◌∷◌, Option, Some, filter, find, slice_get, ◌++◌, refl, ap₂, ◌∙◌, sym, true≢false}
 use Rattle.std.proofs.lemmas.List.Elements.{filter-append}
 
 -- What a filter keeps, and what is found first.

@@ -1,11 +1,10 @@
-use Rattle.std.proofs.Common.{◌≡◌, ℕ, ◌+◌, Bool, true, false, cond, ◌&&◌, ◌||◌, List, [], ◌∷◌, ◌++◌, Option, Some, None, arith, filter, find, unwrap_or, sym, refl, ap, ◌∙◌, subst, bytes_eq}
+use Rattle.std.proofs.Common.{◌≡◌, ℕ, ◌+◌, Bool, true, false, cond, ◌&&◌, ◌||◌, List, [], ◌∷◌, ◌++◌, Option, Some, None, arith, find, unwrap_or, sym, refl, ap, ◌∙◌, subst, bytes_eq}
 use Rattle.std.proofs.lemmas.Bool.{or_left}
 use Rattle.std.proofs.lemmas.Option.{same_Some}
-use Rattle.std.specs.Option.{option_or}
-use Rattle.pmap_text.specs.MapModel.{IsSettled, Label, MapModel}
+use Rattle.pmap_text.specs.MapModel.{Label, MapModel}
 use Rattle.pmap_cert.specs.CertificateModel.{InnerNode, LeafNode, Pair, Tree, claim_of, has}
 use Rattle.pmap_cert.specs.ExactPair.{common_labels, exact_pair, exact_pair_by}
-use Rattle.pmap_cert.specs.MinimalPair.{StandsFor, first_label, handed_on, has_inherited, least_label}
+use Rattle.pmap_cert.specs.MinimalPair.{StandsFor, first_label, handed_on, least_label}
 use Rattle.pmap_cert.proofs.Sets.{bytes_eq-same, has-append, has-filter, has-own, has-single, miss}
 
 -- What a node of a minimal certificate hands on is a label of its set, and so its halves' entries number what its exact
@@ -79,8 +78,10 @@ exact_pair_by-cost_of : (p r : Pair) (x : Label) (common : List Label) →
     has (exact_pair_by p r common).labels x ≡ true →
     (exact_pair_by p r common).cost ≡ p.cost + miss (Some x) p.labels + (r.cost + miss (Some x) r.labels)
 exact_pair_by-cost_of p r x [] both h =
-    omega (arith,
-        misses-one (has p.labels x) (has r.labels x) (has (p.labels ++ r.labels) x) (both x) (has-append p.labels r.labels x) h)
+    omega (
+      arith,
+      misses-one (has p.labels x) (has r.labels x) (has (p.labels ++ r.labels) x) (both x) (has-append p.labels r.labels x) h,
+    )
 exact_pair_by-cost_of p r x (y ∷ ys) both h =
     omega (arith, misses-none (has p.labels x) (has r.labels x) (has (y ∷ ys) x) (both x) h)
 

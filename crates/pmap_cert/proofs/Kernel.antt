@@ -1,5 +1,4 @@
-use Rattle.std.proofs.Common.{◌≡◌, ℕ, zero, suc, ◌+◌, ◌-◌, ◌*◌, ◌/◌, ◌^◌, ◌<◌, ◌≤◌, Bool, true, false, cond, List, [], ◌∷◌, Option, Some, None, IsTrue, arith, sym, refl, ap, ◌∙◌, subst, pow-suc, inl, inr, eq-or-lt_of_le}
-use Rattle.std.specs.Option.{option_or}
+use Rattle.std.proofs.Common.{◌≡◌, ℕ, zero, suc, ◌+◌, ◌-◌, ◌*◌, ◌/◌, ◌^◌, ◌<◌, ◌≤◌, Bool, true, cond, List, [], ◌∷◌, Option, Some, None, arith, sym, refl, ap, ◌∙◌, subst, pow-suc}
 use Rattle.prefix_keys.specs.Block.{block_number, first_of}
 use Rattle.prefix_keys.specs.Version.{width_of}
 use Rattle.pmap_text.specs.ListModel.{Prefix, label_at, label_below}
@@ -7,7 +6,6 @@ use Rattle.pmap_text.specs.MapModel.{IsSettled, Label, MapModel, map_label}
 use Rattle.pmap_cert.specs.Acceptance.{IsNodeAccepted, IsWithinExact}
 use Rattle.pmap_cert.specs.CertificateModel.{InnerNode, LeafNode, Pair, Tree, claim_of, has}
 use Rattle.pmap_cert.specs.ExactPair.{exact_pair}
-use Rattle.pmap_cert.specs.MinimalPair.{has_inherited}
 use Rattle.pmap_cert.proofs.Blocks.{block_number-first_of, block_number-half, first_of-below, first_of-lower}
 use Rattle.pmap_cert.proofs.Counts.{count_of, count_of-halves, is_at, is_within}
 use Rattle.pmap_cert.proofs.Longest.{label_at-none, label_below-same, label_below-within}
@@ -36,8 +34,8 @@ own-miss W ps n q a s e = by_count (count_of (is_at W n q) ps) refl
         miss (label_below W ps n a) s ≤ count_of (is_at W n q) ps + miss (label_below W ps (suc n) a) s
     by_count zero none =
         let here : label_at W ps n a ≡ None =
-            label_at-none W ps n a (is_at W n q)
-            (λ p c. subst (λ (i : ℕ). is_at W n i p ≡ true) e c) none in
+        label_at-none W ps n a (is_at W n q)
+        (λ p c. subst (λ (i : ℕ). is_at W n i p ≡ true) e c) none in
         rw here (omega arith)
     by_count (suc k) some = let one = miss-le (label_below W ps n a) s in omega arith
 
@@ -80,30 +78,32 @@ halves-bound : (W : ℕ) (ps : List Prefix) (n q : ℕ) (claim p r : Pair) → n
 halves-bound W ps n q claim p r below within lower upper =
     let h : Option Label = label_below W ps (suc n) (first_of W n q) in
     let lower' : p.cost + miss (label_below W ps (suc n) (first_of W n q)) p.labels ≤ count_of (is_within W (suc n) (2 * q)) ps =
-        subst (λ (o : Option Label). p.cost + miss o p.labels ≤ count_of (is_within W (suc n) (2 * q)) ps) (label_below-lower W ps n q below) lower in
+    subst (λ (o : Option Label). p.cost + miss o p.labels ≤ count_of (is_within W (suc n) (2 * q)) ps) (label_below-lower W ps n q below) lower in
     let upper' : r.cost + miss (label_below W ps (suc n) (first_of W n q)) r.labels ≤ count_of (is_within W (suc n) (2 * q + 1)) ps =
-        subst (λ (o : Option Label). r.cost + miss o r.labels ≤ count_of (is_within W (suc n) (2 * q + 1)) ps) (label_below-upper W ps n q below) upper in
-    omega (arith,
-        count_of-halves W n q below ps,
-        own-miss W ps n q (first_of W n q) claim.labels (block_number-first_of W n q),
-        claim-cost claim (exact_pair p r) (label_below W ps (suc n) (first_of W n q)) within,
-        exact_pair-cost p r (label_below W ps (suc n) (first_of W n q)),
-        lower', upper')
+    subst (λ (o : Option Label). r.cost + miss o r.labels ≤ count_of (is_within W (suc n) (2 * q + 1)) ps) (label_below-upper W ps n q below) upper in
+    omega (
+      arith,
+      count_of-halves W n q below ps,
+      own-miss W ps n q (first_of W n q) claim.labels (block_number-first_of W n q),
+      claim-cost claim (exact_pair p r) (label_below W ps (suc n) (first_of W n q)) within,
+      exact_pair-cost p r (label_below W ps (suc n) (first_of W n q)),
+      lower',
+      upper',
+    )
 
 -- the map, the list that the node is accepted for, and any list that labels every address as the map does
 module _ (m : MapModel) (es ps : List Prefix)
     (right : (a : ℕ) → a < 2 ^ width_of m.version →
-        label_below (width_of m.version) ps (suc (width_of m.version)) a ≡ Some (map_label m a)) where
-
+    label_below (width_of m.version) ps (suc (width_of m.version)) a ≡ Some (map_label m a)) where
   -- the bound at a leaf: where no entry lies within the block, its label is handed down
   leaf-miss : (x : Label) (n q : ℕ) → n ≤ width_of m.version → q < 2 ^ n → IsSettled m n q x →
       count_of (is_within (width_of m.version) n q) ps ≡ 0 →
       miss (label_below (width_of m.version) ps n (first_of (width_of m.version) n q)) (x ∷ []) ≡ 0
   leaf-miss x n q le below settled none =
       let handed : label_below (width_of m.version) ps n (first_of (width_of m.version) n q) ≡ Some x =
-          sym (label_below-alone (width_of m.version) ps n q le none)
-          ∙ right (first_of (width_of m.version) n q) (first_of-below (width_of m.version) n q le below)
-          ∙ ap Some (map_label-settled m n q (first_of (width_of m.version) n q) x (block_number-first_of (width_of m.version) n q) settled) in
+      sym (label_below-alone (width_of m.version) ps n q le none)
+      ∙ right (first_of (width_of m.version) n q) (first_of-below (width_of m.version) n q le below)
+      ∙ ap Some (map_label-settled m n q (first_of (width_of m.version) n q) x (block_number-first_of (width_of m.version) n q) settled) in
       rw (handed, has-own x)
 
   leaf-bound : (x : Label) (n q : ℕ) → n ≤ width_of m.version → q < 2 ^ n → IsSettled m n q x →

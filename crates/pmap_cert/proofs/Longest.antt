@@ -1,11 +1,11 @@
-use Rattle.std.proofs.Common.{◌≡◌, ℕ, zero, suc, ◌+◌, ◌/◌, ◌<◌, ◌≤◌, Bool, true, ◌&&◌, ◌==◌, List, Option, Some, None, arith, find, option_map, nat_le, nat_lt, sym, refl, ap, ap₂, ◌∙◌, add-zero, add-suc, eqb-true, eq-eqb, le-leb}
+use Rattle.std.proofs.Common.{◌≡◌, ℕ, zero, suc, ◌+◌, ◌/◌, ◌<◌, ◌≤◌, Bool, true, ◌&&◌, ◌==◌, List, None, arith, find, option_map, nat_le, nat_lt, sym, ap, ap₂, ◌∙◌, add-zero, add-suc, eqb-true, eq-eqb, le-leb}
 use Rattle.std.specs.Option.{option_or}
 use Rattle.std.proofs.lemmas.Bool.{and_from, and_parts, lt-ltb}
 use Rattle.prefix_keys.specs.Block.{block_number}
 use Rattle.pmap_text.specs.ListModel.{Prefix, covers, label_at, label_below}
 use Rattle.pmap_cert.specs.Acceptance.{lies_inside}
 use Rattle.pmap_cert.proofs.Blocks.{block_number-half, block_number-shorter}
-use Rattle.pmap_cert.proofs.Counts.{count_of, find-none, is_at, is_within}
+use Rattle.pmap_cert.proofs.Counts.{count_of, find-none, is_within}
 
 -- The longest match is the same at all addresses of a block inside which no entry lies.
 
@@ -33,9 +33,10 @@ label_at-none W ps n a test passes none = ap (option_map (λ (p : Prefix). p.lab
 covers-shorter : (W n j q a : ℕ) (p : Prefix) → n ≤ j → j ≤ W → block_number W n a ≡ q → covers W j a p ≡ true →
     (p.bits ≡ j) × (block_number W n p.start ≡ q)
 covers-shorter W n j q a p le le' e c =
-    let h = and_parts (p.bits == j) (block_number W j p.start == block_number W j a) c in
-    (eqb-true p.bits j h.0,
-        block_number-shorter W n j p.start a le le' (eqb-true (block_number W j p.start) (block_number W j a) h.1) ∙ e)
+    let h = and_parts (p.bits == j) (block_number W j p.start == block_number W j a) c in (
+      eqb-true p.bits j h.0,
+      block_number-shorter W n j p.start a le le' (eqb-true (block_number W j p.start) (block_number W j a) h.1) ∙ e,
+    )
 
 -- where no entry lies within the block, those of its length and longer ones give no label
 within-passes : (W n j q a : ℕ) → n ≤ j → j ≤ W → block_number W n a ≡ q → (p : Prefix) → covers W j a p ≡ true →
@@ -50,7 +51,7 @@ label_below-within W ps n zero q a le e none = rw add-zero
 label_below-within W ps n (suc k) q a le e none =
     let le' : n + k ≤ W = omega arith in
     let here : label_at W ps (n + k) a ≡ None =
-        label_at-none W ps (n + k) a (is_within W n q) (within-passes W n (n + k) q a (omega arith) le' e) none in
+    label_at-none W ps (n + k) a (is_within W n q) (within-passes W n (n + k) q a (omega arith) le' e) none in
     rw (add-suc, here) (label_below-within W ps n k q a (omega arith) e none)
 
 -- where no entry lies inside the block, those longer than it give no label
@@ -66,8 +67,8 @@ label_below-inside W ps n zero q a le e none = ap (λ (j : ℕ). label_below W p
 label_below-inside W ps n (suc k) q a le e none =
     let s : suc n + suc k ≡ suc (suc n + k) = omega arith in
     let here : label_at W ps (suc n + k) a ≡ None =
-        label_at-none W ps (suc n + k) a (lies_inside W n q)
-        (inside-passes W n (suc n + k) q a (omega arith) (omega arith) e) none in
+    label_at-none W ps (suc n + k) a (lies_inside W n q)
+    (inside-passes W n (suc n + k) q a (omega arith) (omega arith) e) none in
     ap (λ (j : ℕ). label_below W ps j a) s
     ∙ ap (λ o. option_or o (label_below W ps (suc n + k) a)) here
     ∙ label_below-inside W ps n k q a (omega arith) e none

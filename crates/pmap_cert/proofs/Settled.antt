@@ -1,5 +1,4 @@
-use Rattle.std.proofs.Common.{◌≡◌, ℕ, zero, suc, ◌+◌, ◌<◌, ◌≤◌, Bool, true, false, cond, ◌&&◌, ◌⊎◌, List, [], ◌∷◌, Option, Some, None, arith, nat_le, sym, refl, ap, ◌∙◌, subst, inl, inr, eq-or-lt_of_le}
-use Rattle.std.specs.Option.{option_or}
+use Rattle.std.proofs.Common.{◌≡◌, ℕ, ◌<◌, ◌≤◌, Bool, true, false, cond, ◌&&◌, ◌⊎◌, List, [], ◌∷◌, Option, Some, None, arith, nat_le, sym, refl, ap, ◌∙◌, subst, inl, inr, eq-or-lt_of_le}
 use Rattle.std.proofs.lemmas.Bool.{both_ways, false_from_ne_true}
 use Rattle.std.proofs.lemmas.Bool.Decides.{nat_tests}
 use Rattle.std.proofs.lemmas.Option.{cond_some, same_Some}
@@ -21,8 +20,8 @@ pub last_such-passes : (test : Mapping → Bool) (ms : List Mapping) (s : Mappin
 last_such-passes test [] s e = cc
 last_such-passes test (m ∷ ms) s e =
     elim (last_such-cases test m ms s e) [
-        inl h ↦ last_such-passes test ms s h
-        | inr h ↦ subst (λ (t : Mapping). test t ≡ true) h.2 h.1
+      | inl h ↦ last_such-passes test ms s h
+      | inr h ↦ subst (λ (t : Mapping). test t ≡ true) h.2 h.1
     ]
 
 -- where none passes, neither the first nor a later one does
@@ -46,11 +45,11 @@ last_such-some : (weak strong : Mapping → Bool) → ((m : Mapping) → strong 
 last_such-some weak strong weaker [] s e passes = cc
 last_such-some weak strong weaker (m ∷ ms) s e passes =
     elim (last_such-cases weak m ms s e) [
-        inl h ↦ let ih : last_such strong ms ≡ Some s = last_such-some weak strong weaker ms s h passes in rw ih
-        | inr h ↦
-            let ih : last_such strong ms ≡ None = last_such-none weak strong weaker ms h.0 in
-            let here : strong m ≡ true = subst (λ (t : Mapping). strong t ≡ true) (sym h.2) passes in
-            rw (ih, here) (ap Some h.2)
+      | inl h ↦ let ih : last_such strong ms ≡ Some s = last_such-some weak strong weaker ms s h passes in rw ih
+      | inr h ↦
+          let ih : last_such strong ms ≡ None = last_such-none weak strong weaker ms h.0 in
+          let here : strong m ≡ true = subst (λ (t : Mapping). strong t ≡ true) (sym h.2) passes in
+          rw (ih, here) (ap Some h.2)
     ]
 
 -- a span that covers an address of a block meets the block, and one that covers the block covers the address
@@ -78,7 +77,7 @@ map_label-settled_by W n q a x fallback ms None e last h =
 map_label-settled_by W n q a x fallback ms (Some s) e last h =
     let parts = cond_some (spans_all W n q s) s.label x h in
     let some : last_such (spans a) ms ≡ Some s =
-        last_such-some (meets W n q) (spans a) (spans-meets W n q a e) ms s last (spans_all-spans W n q a e s parts.0) in
+    last_such-some (meets W n q) (spans a) (spans-meets W n q a e) ms s last (spans_all-spans W n q a e s parts.0) in
     rw some parts.1
 
 pub map_label-settled : (m : MapModel) (n q a : ℕ) (x : Label) → block_number (width_of m.version) n a ≡ q →
@@ -101,7 +100,7 @@ unsettled-one W q fallback ms (Some s) last h =
     one_address W q s false all met h =
         both_ways (spans_all W W q s) all
         (subst (λ (i : ℕ). (nat_le s.low i && nat_le (last_of W W q) s.high) ≡ true) (last_of-full W q ∙ sym (first_of-full W q))
-            (subst (λ (i : ℕ). (nat_le s.low (last_of W W q) && nat_le i s.high) ≡ true) (first_of-full W q ∙ sym (last_of-full W q)) met))
+        (subst (λ (i : ℕ). (nat_le s.low (last_of W W q) && nat_le i s.high) ≡ true) (first_of-full W q ∙ sym (last_of-full W q)) met))
 
 -- so a block that isn't settled has halves
 pub unsettled-halves : (m : MapModel) (n q : ℕ) → n ≤ width_of m.version → settled_label m n q ≡ None → n < width_of m.version

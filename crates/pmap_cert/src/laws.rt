@@ -12,10 +12,8 @@ ghost use Rattle.pmap_cert.specs.MinimalPair.{HasItsLabels, IsAlike, IsMinimalPa
 pub fn acceptance_is_enough()
     ensures equivalent { (m : MapModel) (l : ListModel) (c : CertificateModel) → IsAccepted m l c → IsEquivalent l m }
     ensures least { (m : MapModel) (l : ListModel) (c : CertificateModel) → IsAccepted m l c → IsLeast m l }
-    ensures bound {
-        (m : MapModel) (l : ListModel) (c : CertificateModel) → IsAccepted m l c →
-        (other : ListModel) → IsEquivalent other m → (claim_of c.root).cost + 1 ≤ length other.prefixes
-    }
+    ensures bound { (m : MapModel) (l : ListModel) (c : CertificateModel) → IsAccepted m l c →
+        (other : ListModel) → IsEquivalent other m → (claim_of c.root).cost + 1 ≤ length other.prefixes }
 {}
 
 /// Each map has a minimal pair of a list and a certificate: its blocks are halved until each is settled, as a block of one
@@ -28,10 +26,8 @@ pub fn minimal_pair_exists()
 /// the root's cost and one entries, and no equivalent list has fewer.
 pub fn minimal_pair_is_accepted()
     ensures accepted { (m : MapModel) (l : ListModel) (c : CertificateModel) → IsMinimalPair m l c → IsAccepted m l c }
-    ensures count {
-        (m : MapModel) (l : ListModel) (c : CertificateModel) → IsMinimalPair m l c →
-        length l.prefixes ≡ (claim_of c.root).cost + 1
-    }
+    ensures count { (m : MapModel) (l : ListModel) (c : CertificateModel) → IsMinimalPair m l c →
+        length l.prefixes ≡ (claim_of c.root).cost + 1 }
     ensures equivalent { (m : MapModel) (l : ListModel) (c : CertificateModel) → IsMinimalPair m l c → IsEquivalent l m }
     ensures least { (m : MapModel) (l : ListModel) (c : CertificateModel) → IsMinimalPair m l c → IsLeast m l }
 {}
@@ -39,12 +35,8 @@ pub fn minimal_pair_is_accepted()
 /// All minimal pairs of a map are alike: their certificates have one shape and the same labels, costs and sets, and where
 /// the map's table has the map's labels, their lists are one list.
 pub fn minimal_pair_is_unique()
-    ensures certificates {
-        (m : MapModel) (l l' : ListModel) (c c' : CertificateModel) → IsMinimalPair m l c → IsMinimalPair m l' c' →
-        IsAlike c.root c'.root
-    }
-    ensures lists {
-        (m : MapModel) (l l' : ListModel) (c c' : CertificateModel) → IsMinimalPair m l c → IsMinimalPair m l' c' →
-        HasItsLabels m → l ≡ l'
-    }
+    ensures certificates { (m : MapModel) (l l' : ListModel) (c c' : CertificateModel) → IsMinimalPair m l c → IsMinimalPair m l' c' →
+        IsAlike c.root c'.root }
+    ensures lists { (m : MapModel) (l l' : ListModel) (c c' : CertificateModel) → IsMinimalPair m l c → IsMinimalPair m l' c' →
+        HasItsLabels m → l ≡ l' }
 {}
