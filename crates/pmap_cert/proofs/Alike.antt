@@ -1,5 +1,5 @@
-use Rattle.std.proofs.Common.{◌≡◌, ℕ, suc, ◌+◌, ◌*◌, Bool, true, false, cond, ◌&&◌, ◌||◌, ◌⊎◌, List, [], ◌∷◌, ◌++◌, Option, Some, None, IsTrue, All, arith, find, unwrap_or, refl, sym, ap, ap₂, ◌∙◌, subst, bytes_eq, inl, inr, ⊎_elim}
-use Rattle.std.proofs.lemmas.Bool.{and_parts, both_ways, false≢true, or_cases, or_left}
+use Rattle.std.proofs.Common.{◌≡◌, ℕ, suc, ◌+◌, ◌*◌, Bool, true, false, cond, ◌&&◌, ◌||◌, ◌⊎◌, List, [], ◌∷◌, ◌++◌, Option, Some, None, IsTrue, All, find, unwrap_or, refl, sym, ap, ap₂, ◌∙◌, subst, bytes_eq, inl, inr, ⊎_elim}
+use Rattle.std.proofs.lemmas.Bool.{and_parts, both_ways, false≢true, or_cases}
 use Rattle.std.proofs.lemmas.Slice.Eq.{bytes_eq-Decides}
 use Rattle.std.proofs.lemmas.Option.{cond_some, none-some, same_Some}
 use Rattle.std.proofs.Math.Path.{fun_ext}
@@ -10,41 +10,15 @@ use Rattle.pmap_text.specs.ListModel.{ListModel}
 use Rattle.pmap_text.specs.MapModel.{Label, MapModel, Mapping, last_such, meets, settled_by, spans_all}
 use Rattle.pmap_cert.specs.CertificateModel.{CertificateModel, InnerNode, LeafNode, Pair, Tree, claim_of, has}
 use Rattle.pmap_cert.specs.ExactPair.{IsSamePair, common_labels, exact_pair, exact_pair_by}
-use Rattle.pmap_cert.specs.MinimalPair.{HasItsLabels, IsAlike, IsMinimalPair, StandsFor, entries_of, first_label, handed_on, has_inherited, least_label, own_entry}
+use Rattle.pmap_cert.specs.MinimalPair.{HasItsLabels, IsSameCertificate, IsSameTree, IsMinimalPair, StandsFor, entries_of, first_label, handed_on, has_inherited, least_label, own_entry}
+use Rattle.pmap_cert.proofs.ExactPairs.{same-exact_pair}
 use Rattle.pmap_cert.proofs.Handed.{inhabited}
-use Rattle.pmap_cert.proofs.Sets.{bytes_eq-same, has-append, has-filter, has-single}
+use Rattle.pmap_cert.proofs.Sets.{has-append, has-filter, has-single}
 use Rattle.pmap_cert.proofs.Settled.{last_such-cases}
 
 -- All minimal pairs of a map are alike.
 
--- a set that has a label isn't one without
-none-common : (y : Label) (ys : List Label) → has [] y ≡ has (y ∷ ys) y → ⊥
-none-common y ys e = both_ways (has (y ∷ ys) y) (sym e) (or_left (bytes_eq y y) (has ys y) (bytes_eq-same y))
-
--- the exact pairs of pairs that are the same are the same
-same-exact_by : (p r p' r' : Pair) (common common' : List Label) →
-    ((x : Label) → has common x ≡ (has p.labels x && has r.labels x)) →
-    ((x : Label) → has common' x ≡ (has p'.labels x && has r'.labels x)) →
-    IsSamePair p p' → IsSamePair r r' → IsSamePair (exact_pair_by p r common) (exact_pair_by p' r' common')
-same-exact_by p r p' r' [] [] both both' same same' = record {
-  cost = omega (arith, same.cost, same'.cost);
-  labels = λ z.
-      has-append p.labels r.labels z ∙ ap₂ ◌||◌ (same.labels z) (same'.labels z) ∙ sym (has-append p'.labels r'.labels z);
-}
-same-exact_by p r p' r' [] (y ∷ ys) both both' same same' =
-    absurd (none-common y ys (both y ∙ ap₂ ◌&&◌ (same.labels y) (same'.labels y) ∙ sym (both' y)))
-same-exact_by p r p' r' (x ∷ xs) [] both both' same same' =
-    absurd (none-common x xs (both' x ∙ ap₂ ◌&&◌ (sym (same.labels x)) (sym (same'.labels x)) ∙ sym (both x)))
-same-exact_by p r p' r' (x ∷ xs) (y ∷ ys) both both' same same' = record {
-  cost = omega (arith, same.cost, same'.cost);
-  labels = λ z. both z ∙ ap₂ ◌&&◌ (same.labels z) (same'.labels z) ∙ sym (both' z);
-}
-
-pub same-exact_pair : (p r p' r' : Pair) → IsSamePair p p' → IsSamePair r r' → IsSamePair (exact_pair p r) (exact_pair p' r')
-same-exact_pair p r p' r' same same' =
-    same-exact_by p r p' r' (common_labels p r) (common_labels p' r')
-    (λ x. has-filter r.labels p.labels x) (λ x. has-filter r'.labels p'.labels x) same same'
-
+-- between pairs that are the same
 same-between : (a b c d : Pair) → IsSamePair a b → IsSamePair b c → IsSamePair d c → IsSamePair a d
 same-between a b c d e f g = record {
   cost = e.cost ∙ f.cost ∙ sym g.cost;
@@ -52,14 +26,14 @@ same-between a b c d e f g = record {
 }
 
 -- alike nodes claim the same
-same-claim : (t t' : Tree) → IsAlike t t' → IsSamePair (claim_of t) (claim_of t')
+same-claim : (t t' : Tree) → IsSameTree t t' → IsSamePair (claim_of t) (claim_of t')
 same-claim (LeafNode x) (LeafNode y) e = record { cost = refl; labels = λ z. ap (λ (u : Label). has (u ∷ []) z) e }
 same-claim (LeafNode x) (InnerNode p l r) e = absurd e
 same-claim (InnerNode p l r) (LeafNode y) e = absurd e
 same-claim (InnerNode p l r) (InnerNode p' l' r') e = e.0
 
 -- two nodes that stand for one block are alike
-pub alike : (m : MapModel) (t t' : Tree) (n q : ℕ) → StandsFor m t n q → StandsFor m t' n q → IsAlike t t'
+pub alike : (m : MapModel) (t t' : Tree) (n q : ℕ) → StandsFor m t n q → StandsFor m t' n q → IsSameTree t t'
 alike m (LeafNode x) (LeafNode y) n q h h' = same_Some x y (sym h ∙ h')
 alike m (LeafNode x) (InnerNode p l r) n q h h' = none-some x (sym h'.0 ∙ h)
 alike m (InnerNode p l r) (LeafNode y) n q h h' = none-some y (sym h.0 ∙ h')
@@ -153,7 +127,7 @@ handed_on-same : (table s s' : List Label) (h : Option Label) → has_inherited 
 handed_on-same table s s' h e f = ap₂ (λ (b : Bool) (x : Label). cond b h (Some x)) e f
 
 -- alike nodes have the same entries
-entries-alike : (m : MapModel) → HasItsLabels m → (t t' : Tree) (h : Option Label) (n q : ℕ) → StandsFor m t n q → IsAlike t t' →
+entries-alike : (m : MapModel) → HasItsLabels m → (t t' : Tree) (h : Option Label) (n q : ℕ) → StandsFor m t n q → IsSameTree t t' →
     StandsFor m t' n q → entries_of (width_of m.version) m.table t h n q ≡ entries_of (width_of m.version) m.table t' h n q
 entries-alike m inside (LeafNode x) (LeafNode y) h n q stands e stands' =
     ap (λ (z : Label). own_entry (width_of m.version) m.table (z ∷ []) h n q) e
@@ -175,7 +149,15 @@ entries-alike m inside (InnerNode p l r) (InnerNode p' l' r') h n q stands e sta
     (entries-alike m inside r r' (handed_on m.table p.labels h) (suc n) (2 * q + 1) stands.3 e.2 stands'.3
     ∙ ap (λ (o : Option Label). entries_of (width_of m.version) m.table r' o (suc n) (2 * q + 1)) handed))
 
--- so minimal pairs of one map have one list
+-- so minimal pairs of one map have the same certificate and one list
+pub certificate-unique : (m : MapModel) (l l' : ListModel) (c c' : CertificateModel) → IsMinimalPair m l c → IsMinimalPair m l' c' →
+    IsSameCertificate c c'
+certificate-unique m l l' c c' pair pair' = record {
+  version = pair.certificate_version ∙ sym pair'.certificate_version;
+  table = pair.certificate_table ∙ sym pair'.certificate_table;
+  root = alike m c.root c'.root 0 0 pair.root pair'.root;
+}
+
 pub list-unique : (m : MapModel) (l l' : ListModel) (c c' : CertificateModel) → IsMinimalPair m l c → IsMinimalPair m l' c' →
     HasItsLabels m → l ≡ l'
 list-unique m l l' c c' pair pair' inside =

@@ -10,4 +10,5 @@ pub mod Handed
 pub mod Entries
 pub mod Minimal
 pub mod Existence
+pub mod ExactPairs
 pub mod Alike

@@ -1,4 +1,4 @@
-use Rattle.std.specs.Prelude.{◌≡◌, ◌+◌, List, [], ◌∷◌, ◌++◌, filter}
+use Rattle.std.specs.Prelude.{◌≡◌, ℕ, ◌+◌, Bool, List, [], ◌∷◌, ◌++◌, filter}
 use Rattle.pmap_text.specs.MapModel.{Label}
 use Rattle.pmap_cert.specs.CertificateModel.{Pair, has}
 
@@ -22,3 +22,8 @@ exact_pair p r = exact_pair_by p r (common_labels p r)
 pub record IsSamePair (p r : Pair) : Type 0 where
   pub cost : p.cost ≡ r.cost
   pub labels : (x : Label) → has p.labels x ≡ has r.labels x
+
+-- the pair has the given cost, and just the labels that pass the test
+pub record IsPairOf (p : Pair) (total : ℕ) (test : Label → Bool) : Type 0 where
+  pub cost : p.cost ≡ total
+  pub labels : (x : Label) → has p.labels x ≡ test x

@@ -60,11 +60,17 @@ pub record IsMinimalPair (m : MapModel) (l : ListModel) (c : CertificateModel) :
   pub list_table : l.table ≡ m.table
   pub prefixes : l.prefixes ≡ entries_of (width_of m.version) m.table c.root None 0 0
 
--- two nodes have the same shape, labels, costs and sets
-abbrev pub IsAlike : Tree → Tree → Type 0
-IsAlike (LeafNode x) (LeafNode y) = x ≡ y
-IsAlike (InnerNode p l r) (InnerNode p' l' r') = IsSamePair p p' × IsAlike l l' × IsAlike r r'
-IsAlike _ _ = ⊥
+-- two nodes have one shape, and the same labels, costs and sets
+abbrev pub IsSameTree : Tree → Tree → Type 0
+IsSameTree (LeafNode x) (LeafNode y) = x ≡ y
+IsSameTree (InnerNode p l r) (InnerNode p' l' r') = IsSamePair p p' × IsSameTree l l' × IsSameTree r r'
+IsSameTree _ _ = ⊥
+
+-- two certificates are the same but for the order in which their sets are listed
+pub record IsSameCertificate (c c' : CertificateModel) : Type 0 where
+  pub version : c.version ≡ c'.version
+  pub table : c.table ≡ c'.table
+  pub root : IsSameTree c.root c'.root
 
 -- the map's label table has the default and the label of each mapping
 pub record HasItsLabels (m : MapModel) : Type 0 where
