@@ -1,0 +1,4 @@
+use Rattle.flowlabel_parse.proofs.address.read_addr.Goals as goal
+
+pub returns : goal.returns
+returns c = ?

@@ -1,0 +1,33 @@
+use Rattle.std.specs.Prelude.{◌≡◌, ℕ, Bool, true, false, List, Option, Some, None}
+use Rattle.prefix_keys.specs.Text.{AddressOf}
+use Rattle.flowlabel_parse.specs.declared.command.Command.{Command}
+use Rattle.flowlabel_parse.specs.declared.command.Command.TheVariants.{Label}
+use Rattle.flowlabel_parse.specs.declared.command.Needs.{Needs}
+
+-- What a command line may ask for, apart from how the program keeps it.
+
+-- the bytes of a word
+abbrev pub Text : Type 0
+Text = List ℕ
+
+-- label: the label that the map in a file gives an address
+pub data Request : Type 0 where
+  label : (map : Text) (address : AddressOf) → Request
+
+-- the request that a command stands for
+abbrev pub request_of : Command → Request
+request_of (Label map addr) = label map.now (addr.version, addr.value)
+
+-- which of the four inputs a request reads
+abbrev pub needs_of : Request → Needs
+needs_of (label map address) = record { map = true; list = false; certificate = false; flows = false }
+
+-- the names of the files that a request reads
+pub record FileNames : Type 0 where
+  pub map : Option Text
+  pub list : Option Text
+  pub certificate : Option Text
+  pub flows : Option Text
+
+abbrev pub files_of : Request → FileNames
+files_of (label map address) = record { map = Some map; list = None; certificate = None; flows = None }
