@@ -1,7 +1,8 @@
-use Rattle.std.specs.Prelude.{◌≡◌, ℕ, Bool, true, false, List, Option, Some, None}
+use Rattle.std.specs.Prelude.{◌≡◌, ℕ, Bool, true, false, List, Option, Some, None, is_some}
 use Rattle.prefix_keys.specs.Text.{AddressOf}
 use Rattle.flowlabel_parse.specs.declared.command.Command.{Command}
 use Rattle.flowlabel_parse.specs.declared.command.Command.TheVariants.{Label}
+use Rattle.flowlabel_parse.specs.declared.command.Files.{Files}
 use Rattle.flowlabel_parse.specs.declared.command.Needs.{Needs}
 
 -- What a command line may ask for, apart from how the program keeps it.
@@ -31,3 +32,8 @@ pub record FileNames : Type 0 where
 
 abbrev pub files_of : Request → FileNames
 files_of (label map address) = record { map = Some map; list = None; certificate = None; flows = None }
+
+-- there is a file name for each input that is read, and no other
+abbrev pub NamesNeeds : Needs → Files → Type 0
+NamesNeeds needs files = (is_some files.map ≡ needs.map) × (is_some files.list ≡ needs.list)
+    × (is_some files.certificate ≡ needs.certificate) × (is_some files.flows ≡ needs.flows)

@@ -1,5 +1,5 @@
 ghost use Rattle.std.specs.Prelude.{◌≡◌, option_map};
-ghost use Rattle.flowlabel_parse.specs.Request.{files_of, needs_of, request_of};
+ghost use Rattle.flowlabel_parse.specs.Request.{NamesNeeds, files_of, needs_of, request_of};
 
 use prefix_keys::Addr;
 
@@ -50,6 +50,7 @@ impl<'a> Command<'a> {
         ensures certificate { option_map (λ s. s.now) result.certificate
             ≡ (files_of (request_of self.now)).certificate }
         ensures flows { option_map (λ s. s.now) result.flows ≡ (files_of (request_of self.now)).flows }
+        ensures needed { NamesNeeds (needs_of (request_of self.now)) result }
     {
         match self {
             Command::Label { map, .. } => Files {

@@ -14,3 +14,6 @@ pub mod words;
 pub use command::{Command, Files, Needs};
 pub use usage::{ClapText, UsageFault};
 pub use words::parse;
+
+#[cfg(test)]
+mod tests;
