@@ -1,4 +1,4 @@
-use Rattle.std.specs.Prelude.{◌≡◌, Bool, true, false, List, [], Option, Some, None, Result, Ok, Err, codes, option_and_then, option_map}
+use Rattle.std.specs.Prelude.{◌≡◌, ◌==◌, Bool, not, true, false, List, [], ◌∷◌, Option, Some, None, Result, Ok, Err, codes, option_and_then, option_map}
 use Rattle.std.specs.List.{list_any}
 use Rattle.prefix_keys.specs.Text.{AddressOf, address_of}
 use Rattle.clap.specs.Words.{Row, fault_of, first_of, subcommand_of}
@@ -76,6 +76,27 @@ abbrev pub IsOwnAnswer : Result Command UsageFault → Type 0
 IsOwnAnswer (Err (Refused text)) = ⊥
 IsOwnAnswer (Err (Help text)) = ⊥
 IsOwnAnswer result = Unit {0}
+
+-- memory aside, the result is this answer
+abbrev pub IsUnlessMemory : Answer → Result Command UsageFault → Type 0
+IsUnlessMemory answer (Err NoMemory) = Unit {0}
+IsUnlessMemory answer result = SaysOnly answer result
+
+-- a word that is no option: it begins with no hyphen
+abbrev pub is_plain_word : Text → Bool
+is_plain_word [] = true
+is_plain_word (x ∷ xs) = not (x == 45)
+
+-- `label --pmap MAP ADDRESS` is answered by its map and its address
+abbrev pub ReadsMapLine : List Text → Result Command UsageFault → Type 0
+ReadsMapLine words result = (program map address : Text) → is_plain_word map ≡ true → is_plain_word address ≡ true
+    → words ≡ program ∷ codes "label" ∷ codes "--pmap" ∷ map ∷ address ∷ []
+    → IsUnlessMemory (label_answer (Some map) (address_of address)) result
+
+-- `label ADDRESS` misses its map
+abbrev pub ReadsBareLine : List Text → Result Command UsageFault → Type 0
+ReadsBareLine words result = (program address : Text) → is_plain_word address ≡ true
+    → words ≡ program ∷ codes "label" ∷ address ∷ [] → IsUnlessMemory (Err MapMissing) result
 
 -- the fault comes of an error of this kind
 abbrev pub IsFaultOfKind : ErrorKind → UsageFault → Type 0

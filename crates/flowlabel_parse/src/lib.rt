@@ -5,7 +5,6 @@
 //! definition of the command line give, and a line that clap refuses is answered with clap's text alone.
 #![tactic(auto)]
 
-pub mod address;
 pub mod command;
 pub mod definition;
 pub mod usage;

@@ -36,7 +36,7 @@ impl ClapText {
 
 impl fmt::Display for ClapText {
     fn fmt<W: fmt::Write>(&self, f: &mut fmt::Formatter<W>) -> fmt::Result {
-        f.write_str(self.text.as_str())
+        f.write_str(self.as_str())
     }
 }
 

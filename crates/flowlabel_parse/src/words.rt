@@ -2,15 +2,14 @@ ghost use Rattle.std.specs.Prelude.{◌≡◌, option_map, true};
 ghost use Rattle.clap.specs.Words.{first_of, found_of, kind_of, rows_of, takes};
 ghost use Rattle.clap.specs.Walk.{texts};
 ghost use Rattle.flowlabel_parse.specs.Definition.{flowlabel_app};
-ghost use Rattle.flowlabel_parse.specs.Answer.{IsAnswer, IsFaultOfKind, IsOwnAnswer, SaysOnly, address_in_rows, answer_of_label};
+ghost use Rattle.flowlabel_parse.specs.Answer.{IsAnswer, IsFaultOfKind, IsOwnAnswer, ReadsBareLine, ReadsMapLine, SaysOnly, address_in_rows, answer_of_label};
 
-use crate::address::read_addr;
 use crate::command::Command;
 use crate::definition::definition;
 use crate::usage::{ClapText, UsageFault};
 use clap::ArgMatches;
 use clap::error::ErrorKind;
-use prefix_keys::Addr;
+use prefix_keys::{Addr, read_addr};
 use std::alloc::Global;
 
 /// The fault that an error of clap's is to the user, with its text.
@@ -65,6 +64,8 @@ fn label_command<'a>(entries: &ArgMatches<'a>) -> Result<Command<'a>, UsageFault
 /// Reads a command line, of which the first word is the program's name.
 pub fn parse<'a>(alloc: Global, words: &'a [&'a str]) -> Result<Command<'a>, UsageFault>
     ensures answer { IsAnswer (texts words.entry.now) result }
+    ensures map_line { ReadsMapLine (texts words.entry.now) result }
+    ensures bare_line { ReadsBareLine (texts words.entry.now) result }
     ensures taken { takes flowlabel_app (texts words.entry.now) ≡ true → IsOwnAnswer result }
 {
     let command = definition(alloc)?;

@@ -1,8 +1,9 @@
-use Rattle.std.proofs.Common.{◌≡◌, ◌∙◌, List, Option, ap, ap₂, sym, rules, subst, map}
+use Rattle.std.proofs.Common.{◌≡◌, ◌∙◌, List, Err, ap, sym, subst, map}
 use Rattle.std.specs.Prelude.{option_map}
-use Rattle.clap.specs.Words.{App, HasKind, Kinds, Row, Text, fault_of, found_of, is_simple, is_simple_and_free, rows_of, subcommand_of, subcommand_rows_of, takes}
+use Rattle.clap.specs.Words.{App, HasKind, fault_of, found_of, is_simple, is_simple_and_free, rows_of, subcommand_of, subcommand_rows_of, takes}
 use Rattle.flowlabel_parse.specs.Definition.{flowlabel_app}
 use Rattle.flowlabel_parse.proofs.AnswerLemmas.{answers, fault_at, flowlabel_is_free, flowlabel_is_simple, own, own_of_memory}
+use Rattle.flowlabel_parse.proofs.LineLemmas.{reads_bare_line, reads_map_line}
 use Rattle.flowlabel_parse.proofs.words.parse.Goals as goal
 
 pub returns-in-Ok-clause-answer : goal.returns-in-Ok-clause-answer
@@ -16,6 +17,12 @@ returns-in-Ok-clause-answer c =
     let has = sym c.subcommand.ensures.rows ∙ ap (option_map (λ p. rows_of (found_of p.1.now))) c.unwrap.ensures in
     answers words (subcommand_rows_of c.in-Ok.matches) _ _ none found has c.label_command.ensures
 
+pub returns-in-Ok-clause-map_line : goal.returns-in-Ok-clause-map_line
+returns-in-Ok-clause-map_line c = reads_map_line _ c.label_command.result (returns-in-Ok-clause-answer c)
+
+pub returns-in-Ok-clause-bare_line : goal.returns-in-Ok-clause-bare_line
+returns-in-Ok-clause-bare_line c = reads_bare_line _ c.label_command.result (returns-in-Ok-clause-answer c)
+
 pub returns-in-Ok-clause-taken : goal.returns-in-Ok-clause-taken
 returns-in-Ok-clause-taken c = λ taken. own _ _ _ c.label_command.ensures
 
@@ -26,6 +33,12 @@ returns-in-Err-clause-answer c =
     let words = map (λ s. s.now) c.args.words.now in
     let of = subst (λ (a : App). HasKind (fault_of a words) c.in-Err.error) app_is fails in
     fault_at words _ _ of c.fault_of_error.ensures
+
+pub returns-in-Err-clause-map_line : goal.returns-in-Err-clause-map_line
+returns-in-Err-clause-map_line c = reads_map_line _ (Err c.fault_of_error.result) (returns-in-Err-clause-answer c)
+
+pub returns-in-Err-clause-bare_line : goal.returns-in-Err-clause-bare_line
+returns-in-Err-clause-bare_line c = reads_bare_line _ (Err c.fault_of_error.result) (returns-in-Err-clause-answer c)
 
 pub returns-in-Err-clause-taken : goal.returns-in-Err-clause-taken
 returns-in-Err-clause-taken c =

@@ -1,4 +1,0 @@
-use Rattle.flowlabel_parse.proofs.address.read_addr.Goals as goal
-
-pub returns : goal.returns
-returns c = ?
