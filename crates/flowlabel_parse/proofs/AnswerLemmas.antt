@@ -7,9 +7,9 @@ use Rattle.clap.specs.declared.error.kind.ErrorKind.{ErrorKind}
 use Rattle.clap.specs.declared.error.kind.ErrorKind.TheVariants as kind
 use Rattle.clap.proofs.OnLiterals.{clap_on_literals}
 use Rattle.prefix_keys.specs.Text.{AddressOf}
-use Rattle.flowlabel_parse.specs.Request.{Text, request_of}
+use Rattle.flowlabel_parse.specs.Request.{Text}
 use Rattle.flowlabel_parse.specs.Definition.{flowlabel_app}
-use Rattle.flowlabel_parse.specs.Answer.{Answer, IsAnswer, IsFaultAt, IsFaultOfKind, IsOwnAnswer, SaysOnly, address_in_rows, answer_of, answer_of_label, is_help, is_mistake, label_answer}
+use Rattle.flowlabel_parse.specs.Answer.{IsAnswer, IsFaultAt, IsFaultOfKind, IsOwnAnswer, SaysOnly, address_in_rows, answer_of, answer_of_label, is_help, is_mistake, label_answer}
 use Rattle.flowlabel_parse.specs.declared.command.Command.{Command}
 use Rattle.flowlabel_parse.specs.declared.usage.UsageFault.{UsageFault}
 use Rattle.flowlabel_parse.specs.declared.usage.UsageFault.TheVariants.{Refused, Help, MapMissing, BadAddress, NoMemory}

@@ -1,4 +1,4 @@
-use Rattle.std.specs.Prelude.{◌≡◌, ℕ, Bool, true, false, List, Option, Some, None, is_some}
+use Rattle.std.specs.Prelude.{◌≡◌, ℕ, true, false, List, Option, Some, None, is_some}
 use Rattle.prefix_keys.specs.Text.{AddressOf}
 use Rattle.flowlabel_parse.specs.declared.command.Command.{Command}
 use Rattle.flowlabel_parse.specs.declared.command.Command.TheVariants.{Label}

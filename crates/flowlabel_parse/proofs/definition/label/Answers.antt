@@ -1,8 +1,8 @@
-use Rattle.std.proofs.Common.{◌≡◌, ◌∙◌, ◌||◌, Bool, ap, ap₂, rules, codes}
+use Rattle.std.proofs.Common.{◌≡◌, ◌∙◌, ap, ap₂, rules, codes}
 use Rattle.std.proofs.lemmas.Result.{IfOk-weaker}
-use Rattle.clap.specs.Words.{App, app_of, new_app, rule_of, with_rule}
+use Rattle.clap.specs.Words.{app_of, new_app, rule_of, with_rule}
 use Rattle.clap.specs.Simple.{app_of_fields}
-use Rattle.flowlabel_parse.specs.Definition.{address_rule, label_app, pmap_rule}
+use Rattle.flowlabel_parse.specs.Definition.{address_rule, pmap_rule}
 use Rattle.flowlabel_parse.proofs.definition.label.Goals as goal
 
 pub returns-clause-app : goal.returns-clause-app

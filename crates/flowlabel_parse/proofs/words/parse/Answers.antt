@@ -1,7 +1,6 @@
-use Rattle.std.proofs.Common.{◌≡◌, ◌∙◌, List, Err, ap, sym, subst, map}
+use Rattle.std.proofs.Common.{◌∙◌, Err, ap, sym, subst, map}
 use Rattle.std.specs.Prelude.{option_map}
 use Rattle.clap.specs.Words.{App, HasKind, fault_of, found_of, is_simple, is_simple_and_free, rows_of, subcommand_of, subcommand_rows_of, takes}
-use Rattle.flowlabel_parse.specs.Definition.{flowlabel_app}
 use Rattle.flowlabel_parse.proofs.AnswerLemmas.{answers, fault_at, flowlabel_is_free, flowlabel_is_simple, own, own_of_memory}
 use Rattle.flowlabel_parse.proofs.LineLemmas.{reads_bare_line, reads_map_line}
 use Rattle.flowlabel_parse.proofs.words.parse.Goals as goal
