@@ -1,0 +1,4 @@
+pub mod Blocks
+pub mod LastSuch
+pub mod Settled
+pub mod Inserted
