@@ -43,10 +43,12 @@ fits_missed : (m : MapModel) (s : Statement) (node : Node) (n q : ℕ) → meets
     → Fits m node n q → Fits (with_statement m s) node n q
 fits_missed m s (Leaf label) n q miss f = (f.0, settles_missed m s label n q miss f.1)
 fits_missed m s (Inner' p low high) n q miss f =
-    let W = width_of m.version in
-    (f.0, settled_missed W n q m.fallback m.mappings (mapping_of m.table s) miss ∙ f.1,
-    fits_missed m s low (suc n) (2 * q) (missed_inner W n q (suc n) (2 * q) (low_lies_in W n q f.0) (mapping_of m.table s) miss) f.2,
-    fits_missed m s high (suc n) (2 * q + 1) (missed_inner W n q (suc n) (2 * q + 1) (high_lies_in W n q f.0) (mapping_of m.table s) miss) f.3)
+    let W = width_of m.version in (
+      f.0,
+      settled_missed W n q m.fallback m.mappings (mapping_of m.table s) miss ∙ f.1,
+      fits_missed m s low (suc n) (2 * q) (missed_inner W n q (suc n) (2 * q) (low_lies_in W n q f.0) (mapping_of m.table s) miss) f.2,
+      fits_missed m s high (suc n) (2 * q + 1) (missed_inner W n q (suc n) (2 * q + 1) (high_lies_in W n q f.0) (mapping_of m.table s) miss) f.3,
+    )
 
 misses : (m : MapModel) (first last n q : ℕ) (s : Statement) → IsBlock m first last n q
     → (s.span.high.value < first) ⊎ (last < s.span.low.value) → meets (width_of m.version) n q (mapping_of m.table s) ≡ false
@@ -69,13 +71,15 @@ follows_covered first last s node ordered low high = record {
   follows = λ m n q block known f.
       let W = width_of m.version in
       let some : first_of W n q ≤ last_of W n q = omega (arith, block.first_is, block.last_is) in
-      let covers = le_both s.span.low.value (first_of W n q) (last_of W n q) s.span.high.value (omega (arith, block.first_is)) (omega (arith, block.last_is)) in
-      (fits_room m node n q f, record {
-        id = s.label;
-        is = refl;
-        known = known;
-        settled = settled_covered W n q m.fallback m.mappings (mapping_of m.table s) (meets_covered W n q some (mapping_of m.table s) covers) covers;
-      });
+      let covers = le_both s.span.low.value (first_of W n q) (last_of W n q) s.span.high.value (omega (arith, block.first_is)) (omega (arith, block.last_is)) in (
+        fits_room m node n q f,
+        record {
+          id = s.label;
+          is = refl;
+          known = known;
+          settled = settled_covered W n q m.fallback m.mappings (mapping_of m.table s) (meets_covered W n q some (mapping_of m.table s) covers) covers;
+        },
+      );
 }
 
 -- the statement meets the block of the addresses from `first` to `last`, and does not cover it
@@ -95,28 +99,29 @@ parted m first last n q s block part =
     let W = width_of m.version in
     let meet = le_both s.span.low.value (last_of W n q) (first_of W n q) s.span.high.value (omega (arith, block.last_is, part.low_meets)) (omega (arith, block.first_is, part.high_meets)) in
     let outside = not_both s.span.low.value (first_of W n q) (last_of W n q) s.span.high.value
-        (elim part.leaves [ inl h ↦ inl (omega (arith, h, block.first_is)) | inr h ↦ inr (omega (arith, h, block.last_is)) ]) in
+    (elim part.leaves [ inl h ↦ inl (omega (arith, h, block.first_is)) | inr h ↦ inr (omega (arith, h, block.last_is)) ]) in
     settled_parted W n q m.fallback m.mappings (mapping_of m.table s) meet outside
 
 -- a leaf of whose block it covers a part is divided into two equal leaves, to which it is added
-pub follows_divided : (first last : ℕ) (s : Statement) (label : Option LabelId) (p : _) (low high : Node) → CoversPart first last s
-    → FollowsHalves first last s (record { low = Leaf label; high = Leaf label }) (record { low = low; high = high })
-    → FollowsNode first last s (Leaf label) (Inner' p low high)
-follows_divided first last s label p low high part halves = record {
+pub follows_divided : (first last : ℕ) (s : Statement) (label : Option LabelId) (p : _) (new : Halves) → CoversPart first last s
+    → FollowsHalves first last s (record { low = Leaf label; high = Leaf label }) new
+    → FollowsNode first last s (Leaf label) (Inner' p new.low new.high)
+follows_divided first last s label p new part halves = record {
   follows = λ m n q block known f.
       let W = width_of m.version in
       let room = has_halves W n q f.0 (omega (arith, part_below first last s part, block.first_is, block.last_is)) in
-      let both = halves.follows m n q block known (room,
-          (omega (arith, room), settles_inner m label n q (suc n) (2 * q) (low_lies_in W n q room) f.1),
-          (omega (arith, room), settles_inner m label n q (suc n) (2 * q + 1) (high_lies_in W n q room) f.1)) in
+      let both = halves.follows m n q block known (
+        room,
+        (omega (arith, room), settles_inner m label n q (suc n) (2 * q) (low_lies_in W n q room) f.1),
+        (omega (arith, room), settles_inner m label n q (suc n) (2 * q + 1) (high_lies_in W n q room) f.1),
+      ) in
       (room, parted m first last n q s block part, both.1, both.2);
 }
 
 -- to the halves of a divided block it is added
-pub follows_inner : (first last : ℕ) (s : Statement) (p p' : _) (low high low' high' : Node) → CoversPart first last s
-    → FollowsHalves first last s (record { low = low; high = high }) (record { low = low'; high = high' })
-    → FollowsNode first last s (Inner' p low high) (Inner' p' low' high')
-follows_inner first last s p p' low high low' high' part halves = record {
+pub follows_inner : (first last : ℕ) (s : Statement) (p p' : _) (old new : Halves) → CoversPart first last s
+    → FollowsHalves first last s old new → FollowsNode first last s (Inner' p old.low old.high) (Inner' p' new.low new.high)
+follows_inner first last s p p' old new part halves = record {
   follows = λ m n q block known f.
       let both = halves.follows m n q block known (f.0, f.2, f.3) in
       (f.0, parted m first last n q s block part, both.1, both.2);
@@ -128,8 +133,9 @@ pub follows_halves : (first last : ℕ) (s : Statement) (old new : Halves)
     → FollowsHalves first last s old new
 follows_halves first last s old new low high = record {
   follows = λ m n q block known f.
-      let ends = halves_ends (width_of m.version) n q first last f.0 block.first_is block.last_is in
-      (f.0,
-      low.follows m (suc n) (2 * q) (record { first_is = ends.low_first; last_is = ends.low_last }) known f.1,
-      high.follows m (suc n) (2 * q + 1) (record { first_is = ends.high_first; last_is = ends.high_last }) known f.2);
+      let ends = halves_ends (width_of m.version) n q first last f.0 block.first_is block.last_is in (
+        f.0,
+        low.follows m (suc n) (2 * q) (record { first_is = ends.low_first; last_is = ends.low_last }) known f.1,
+        high.follows m (suc n) (2 * q + 1) (record { first_is = ends.high_first; last_is = ends.high_last }) known f.2,
+      );
 }

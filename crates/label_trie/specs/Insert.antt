@@ -22,7 +22,7 @@ pub record IsBlock (m : MapModel) (first last n q : ℕ) : Type 0 where
 -- where the old node of a block fits a map, the new one fits the map with the statement
 pub record FollowsNode (first last : ℕ) (s : Statement) (old new : Node) : Type 0 where
   pub follows : (m : MapModel) (n q : ℕ) → IsBlock m first last n q → s.label.0 < length m.table → Fits m old n q
-    → Fits (with_statement m s) new n q
+      → Fits (with_statement m s) new n q
 
 -- both halves of the block of n bits with the number q fit the map
 abbrev pub HalvesFit : MapModel → Halves → ℕ → ℕ → Type 0
@@ -32,4 +32,4 @@ HalvesFit m halves n q =
 -- the same of halves
 pub record FollowsHalves (first last : ℕ) (s : Statement) (old new : Halves) : Type 0 where
   pub follows : (m : MapModel) (n q : ℕ) → IsBlock m first last n q → s.label.0 < length m.table → HalvesFit m old n q
-    → HalvesFit (with_statement m s) new n q
+      → HalvesFit (with_statement m s) new n q

@@ -29,10 +29,10 @@ pub fn insert(
     node: &mut Node,
     first: u128,
     last: u128,
-    statement: Statement,
+    statement: &Statement,
 ) -> Result<(), AllocError>
     requires { first ≤ last }
-    ensures { OnOk result (FollowsNode first last statement node.old node.new) }
+    ensures { OnOk result (FollowsNode first last statement.now node.old node.new) }
 {
     let low = statement.span.low.value;
     let high = statement.span.high.value;
@@ -68,10 +68,10 @@ fn insert_into_halves(
     halves: &mut Halves,
     first: u128,
     last: u128,
-    statement: Statement,
+    statement: &Statement,
 ) -> Result<(), AllocError>
     requires { first < last }
-    ensures { OnOk result (FollowsHalves first last statement halves.old halves.new) }
+    ensures { OnOk result (FollowsHalves first last statement.now halves.old halves.new) }
 {
     let middle = first + (last - first) / 2;
     insert(alloc, &mut halves.low, first, middle, statement)?;

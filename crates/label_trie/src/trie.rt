@@ -44,7 +44,7 @@ impl Trie {
         let mut root = Node::Leaf(Some(map.default));
         let last = last_address(map.version);
         for statement in map.statements.as_slice() {
-            node::insert(alloc, &mut root, 0, last, *statement)?;
+            node::insert(alloc, &mut root, 0, last, statement)?;
         }
         Ok(Trie {
             version: map.version,
