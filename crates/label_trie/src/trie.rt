@@ -70,3 +70,6 @@ fn last_address(version: Version) -> u128
         Version::V6 => u128::MAX,
     }
 }
+
+#[cfg(test)]
+mod tests;
