@@ -34,11 +34,16 @@ abbrev pub is_want_of_memory : MapFaultKind → Bool
 is_want_of_memory kind.NoMemory = true
 is_want_of_memory k = false
 
+-- a fault at a place of a file
+abbrev pub place_text : List ℕ → List ℕ → ℕ → List ℕ
+place_text file name place =
+    codes "flowlabel: " ++ file ++ codes ": " ++ name ++ codes " at " ++ decimal place ++ codes "\n"
+
 -- the fault of a line of a map file
 abbrev pub map_fault_line_text : List ℕ → MapFault → List ℕ
 map_fault_line_text file fault =
     if is_want_of_memory fault.kind then out_of_memory
-    else codes "flowlabel: " ++ file ++ codes ": " ++ map_fault_text fault.kind ++ codes " at " ++ decimal fault.line ++ codes "\n"
+    else place_text file (map_fault_text fault.kind) fault.line
 
 abbrev pub usage_fault_text : UsageFault → List ℕ
 usage_fault_text (usage.Refused text) = text

@@ -1,6 +1,6 @@
 ghost use Rattle.std.specs.Prelude.{◌≡◌, IfOk};
 ghost use Rattle.std.specs.String.{string_bytes};
-ghost use Rattle.flowlabel.specs.Faults.{fault_text, map_fault_line_text, map_fault_text, status_of, usage_fault_text, usage_status_of};
+ghost use Rattle.flowlabel.specs.Faults.{fault_text, map_fault_line_text, map_fault_text, place_text, status_of, usage_fault_text, usage_status_of};
 
 use crate::usage::UsageFault;
 use pmap_text::{MapFault, MapFaultKind};
@@ -58,15 +58,20 @@ fn usage_line(alloc: Global, fault: &UsageFault) -> Result<String, AllocError>
     }
 }
 
+// The line of a fault at a place of a file.
+fn place_line(alloc: Global, file: &str, name: &str, place: u64) -> Result<String, AllocError>
+    ensures { IfOk result (λ line. string_bytes line ≡ place_text file.now name.now place) }
+{
+    format!(in alloc; "flowlabel: {file}: {name} at {place}\n")
+}
+
 fn map_fault_line(alloc: Global, file: &str, fault: &MapFault) -> Result<String, AllocError>
     ensures { IfOk result (λ line. string_bytes line ≡ map_fault_line_text file.now fault.now) }
 {
     if fault.kind == MapFaultKind::NoMemory {
         return String::from_str(alloc, "flowlabel: out of memory\n");
     }
-    let name = map_fault_name(fault.kind);
-    let line = fault.line;
-    format!(in alloc; "flowlabel: {file}: {name} at {line}\n")
+    place_line(alloc, file, map_fault_name(fault.kind), fault.line)
 }
 
 /// The line for standard error, with its line feed: for a refused command line clap's text, and for help nothing.

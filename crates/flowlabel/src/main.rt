@@ -7,6 +7,11 @@
 //! What `main` itself does, opening files and ending with a status, is shown by a stored run and not proved.
 #![tactic(auto)]
 
+ghost use Rattle.std.specs.Prelude.{◌≡◌, false, is_some, IfOk};
+ghost use Rattle.flowlabel.specs.Request.{NamesNeeds};
+ghost use Rattle.flowlabel.specs.Run.{AreNeeded, any_failed, source_failed};
+ghost use Rattle.flowlabel.specs.declared.command.Needs.{Needs};
+
 pub mod command;
 pub mod definition;
 pub mod fault;
@@ -36,7 +41,14 @@ mod tests;
 
 type FileSource<'a> = Source<'a, Watched<File>>;
 
-fn open<'a>(rt: &HostRuntime, name: Option<&'a str>) -> Result<Option<FileSource<'a>>, RunFault<'a>> {
+// Opens a file, where one is named.
+fn open<'a>(
+    rt: &HostRuntime,
+    name: Option<&'a str>,
+) -> Result<Option<FileSource<'a>>, RunFault<'a>>
+    ensures named { IfOk result (λ source. is_some source ≡ is_some name.entry) }
+    ensures fresh { IfOk result (λ source. source_failed (λ failed. failed) source ≡ false) }
+{
     let Some(name) = name else {
         return Ok(None);
     };
@@ -47,7 +59,13 @@ fn open<'a>(rt: &HostRuntime, name: Option<&'a str>) -> Result<Option<FileSource
 }
 
 // Opens the files that a command reads, in their order, before any of them is read.
-fn open_all<'a>(rt: &HostRuntime, files: Files<'a>) -> Result<Inputs<'a, Watched<File>>, RunFault<'a>> {
+fn open_all<'a>(
+    rt: &HostRuntime,
+    files: Files<'a>,
+) -> Result<Inputs<'a, Watched<File>>, RunFault<'a>>
+    ensures named { (needs : Needs) → NamesNeeds needs files.entry → IfOk result (AreNeeded needs) }
+    ensures fresh { IfOk result (λ inputs. any_failed (λ failed. failed) inputs ≡ false) }
+{
     Ok(Inputs {
         map: open(rt, files.map)?,
         list: open(rt, files.list)?,
