@@ -1,5 +1,5 @@
 -- A map text's map as far as its first mappings go.
-use Rattle.std.proofs.Common.{◌≡◌, ℕ, ◌+◌, ◌-◌, ◌*◌, ◌^◌, ◌<◌, ◌≤◌, List, [], ◌∷◌, ◌++◌, map, take, get_or, length, refl, sym, ◌∙◌, ap, subst, arith, All}
+use Rattle.std.proofs.Common.{◌≡◌, ℕ, ◌+◌, ◌-◌, ◌*◌, ◌^◌, ◌<◌, ◌≤◌, List, [], ◌∷◌, ◌++◌, map, take, get_or, length, sym, ap, subst, arith}
 use Rattle.std.proofs.lemmas.Grind.{take_at_read}
 use Rattle.std.proofs.lemmas.List.{map-append, take_all}
 use Rattle.std.proofs.lemmas.Nat.{pow_pos}
@@ -39,9 +39,14 @@ next_statement text count s within is =
     ap (λ (ms : List Mapping). record (map_of text) { mappings = ms }) (more_mappings text count s within is)
 
 -- all statements
-pub map_at_end : (text : MapText) (count : ℕ) → length text.statements ≤ count → map_so_far text count ≡ map_of text
+map_at_end : (text : MapText) (count : ℕ) → length text.statements ≤ count → map_so_far text count ≡ map_of text
 map_at_end text count end =
     ap (λ (ss : List Statement). record (map_of text) { mappings = map (mapping_of text.labels) ss }) (take_all count text.statements end)
+
+pub fits_at_end : (text : MapText) (count : ℕ) (items : List Statement) (root : Node) → items ≡ text.statements → length items ≤ count
+    → Fits (map_so_far text count) root 0 0 → Fits (map_of text) root 0 0
+fits_at_end text count items root same end f =
+    subst (λ (m : MapModel). Fits m root 0 0) (map_at_end text count (rw same at end)) f
 
 -- each statement's label is in the label table
 pub label_known : (text : MapText) (count : ℕ) (s : Statement) → count < length text.statements → s ≡ get_or text.statements count s
@@ -52,8 +57,8 @@ label_known text count s within is = let known = text.numbers_known count s with
 pub root_room : (m : MapModel) (node : Node) → Fits m node 0 0 → HasRoom node (width_of m.version)
 root_room m node f = fits_HasRoom m node 0 0 (width_of m.version) (omega arith) f
 
-root_ends : (W to : ℕ) (leaves : List LeafModel) → IsCut W (first_of W 0 0) (last_of W 0 0 + 1) leaves → IsCut W 0 (2 ^ W) leaves
-root_ends W to leaves cut =
+root_ends : (W : ℕ) (leaves : List LeafModel) → IsCut W (first_of W 0 0) (last_of W 0 0 + 1) leaves → IsCut W 0 (2 ^ W) leaves
+root_ends W leaves cut =
     let all : W - 0 ≡ W = omega arith in
     let positive = pow_pos W in
     let from : 0 * 2 ^ W ≡ 0 = omega arith in
@@ -63,4 +68,4 @@ root_ends W to leaves cut =
 pub root_cut : (m : MapModel) (node : Node) → Fits m node 0 0 → IsCut (width_of m.version) 0 (2 ^ width_of m.version) (leaves_of node 0 0)
 root_cut m node f =
     let W = width_of m.version in
-    root_ends W 0 (leaves_of node 0 0) (leaves_cut W node 0 0 W (omega arith) (root_room m node f))
+    root_ends W (leaves_of node 0 0) (leaves_cut W node 0 0 W (omega arith) (root_room m node f))

@@ -1,6 +1,5 @@
 -- What one more statement makes of a node.
-use Rattle.std.proofs.Common.{◌≡◌, ℕ, suc, ◌+◌, ◌-◌, ◌*◌, ◌/◌, ◌<◌, ◌≤◌, ◌⊎◌, inl, inr, true, false, length, Option, Some, None, refl, sym, ◌∙◌, arith}
-use Rattle.std.proofs.lemmas.Bool.Decides.{nat_tests}
+use Rattle.std.proofs.Common.{◌≡◌, ℕ, suc, ◌+◌, ◌-◌, ◌*◌, ◌/◌, ◌<◌, ◌≤◌, ◌⊎◌, inl, inr, false, Option, Some, None, refl, ◌∙◌, arith}
 use Rattle.prefix_keys.specs.Block.{first_of, last_of}
 use Rattle.prefix_keys.specs.Version.{width_of}
 use Rattle.pmap_text.specs.MapModel.{MapModel, meets, settled_label}
@@ -8,11 +7,11 @@ use Rattle.pmap_text.specs.MapText.{mapping_of, text_at}
 use Rattle.pmap_text.specs.declared.label.LabelId.{LabelId}
 use Rattle.pmap_text.specs.declared.statement.Statement.{Statement}
 use Rattle.label_trie.specs.Node.{Fits, Settles}
-use Rattle.label_trie.specs.Insert.{with_statement, IsBlock, FollowsNode, HalvesFit, FollowsHalves}
+use Rattle.label_trie.specs.Insert.{with_statement, IsBlock, FollowsNode, FollowsHalves}
 use Rattle.label_trie.specs.declared.node.Node.{Node}
 use Rattle.label_trie.specs.declared.node.Node.TheVariants.{Leaf, Inner'}
 use Rattle.label_trie.specs.declared.node.Halves.{Halves}
-use Rattle.label_trie.proofs.Blocks.{LiesIn, low_lies_in, high_lies_in, HalvesEnds, halves_ends, has_halves}
+use Rattle.label_trie.proofs.Blocks.{LiesIn, low_lies_in, high_lies_in, halves_ends, has_halves}
 use Rattle.label_trie.proofs.Settled.{le_both, not_both, settled_inner, settled_missed, settled_covered, settled_parted, missed_inner, meets_covered}
 
 -- a node that fits is no deeper than addresses have bits

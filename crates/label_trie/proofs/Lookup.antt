@@ -1,5 +1,5 @@
 -- The label of an address among the leaves of a node.
-use Rattle.std.proofs.Common.{◌≡◌, ℕ, zero, suc, ◌+◌, ◌-◌, ◌*◌, ◌/◌, ◌%◌, ◌^◌, ◌<◌, ◌≤◌, ◌⊎◌, inl, inr, List, [], ◌∷◌, ◌++◌, Option, Some, None, option_map, option_and_then, length, refl, sym, ◌∙◌, ap, arith, find, slice_get, unwrap_or}
+use Rattle.std.proofs.Common.{◌≡◌, ℕ, suc, ◌+◌, ◌-◌, ◌*◌, ◌/◌, ◌%◌, ◌^◌, ◌<◌, ◌≤◌, inl, inr, List, [], ◌++◌, Option, Some, None, option_and_then, length, refl, sym, ◌∙◌, ap, arith, find, slice_get, unwrap_or}
 use Rattle.std.specs.Option.{option_or}
 use Rattle.std.proofs.lemmas.Bool.{cases_eq, eq-eqb, ne_eqb}
 use Rattle.std.proofs.lemmas.List.Folds.{find-append}
@@ -7,10 +7,10 @@ use Rattle.std.proofs.lemmas.Nat.{pow_pos, shr-shr, div-add-mod', mod_below, div
 use Rattle.std.proofs.lemmas.Option.{slice_get-get_or}
 use Rattle.prefix_keys.specs.Block.{block_number, first_of, last_of}
 use Rattle.prefix_keys.specs.Version.{width_of}
-use Rattle.pmap_text.specs.MapModel.{Label, MapModel, map_label, settled_label}
+use Rattle.pmap_text.specs.MapModel.{Label, MapModel, map_label}
 use Rattle.pmap_text.specs.MapText.{text_at}
 use Rattle.label_trie.specs.TrieModel.{LeafModel, has_address, label_among}
-use Rattle.label_trie.specs.Node.{leaves_of, HasRoom, Settles, Fits}
+use Rattle.label_trie.specs.Node.{leaves_of, HasRoom, Fits}
 use Rattle.label_trie.specs.declared.node.Node.{Node}
 use Rattle.label_trie.specs.declared.node.Node.TheVariants.{Leaf, Inner'}
 use Rattle.label_trie.proofs.Leaves.{fits_HasRoom}

@@ -1,4 +1,6 @@
-ghost use Rattle.std.specs.Prelude.{◌≡◌, ◌≤◌, IfOk, length};
+ghost use Rattle.std.specs.Prelude.{◌≡◌, ◌<◌, IfOk};
+ghost use Rattle.pmap_text.specs.MapModel.{map_label};
+ghost use Rattle.pmap_text.specs.MapText.{map_of};
 
 use super::Trie;
 use pmap_text::label::is_label;
@@ -23,6 +25,21 @@ fn labels(rt: &impl Abort, alloc: Global) -> Result<Labels, AllocError> {
     Ok(labels)
 }
 
+// The addresses from the first to the last have the label with the number.
+fn statement(rt: &impl Abort, version: Version, first: u128, last: u128, label: u32) -> Statement
+    ensures version { result.span.low.version ≡ version }
+    ensures label { result.label.0 < 3 }
+{
+    assert!(rt; label < 3);
+    let low = Addr::new(version, first).expect(rt, "an address");
+    let high = Addr::new(version, last).expect(rt, "an address");
+    let span = Span::new(low, high).expect(rt, "a span");
+    Statement {
+        span,
+        label: LabelId(label),
+    }
+}
+
 // A map with these statements: the first and the last address, and the label's number.
 fn map(
     rt: &impl Abort,
@@ -36,15 +53,8 @@ fn map(
     assert!(rt; labels.len() == 3);
     assert!(rt; spans.len() <= 1000000);
     let mut statements = Statements::new(alloc);
-    for &(low, high, label) in spans {
-        assert!(rt; label < 3);
-        let low = Addr::new(version, low).expect(rt, "an address");
-        let high = Addr::new(version, high).expect(rt, "an address");
-        let span = Span::new(low, high).expect(rt, "a span");
-        statements.push(Statement {
-            span,
-            label: LabelId(label),
-        })?;
+    for &(first, last, label) in spans {
+        statements.push(statement(rt, version, first, last, label))?;
     }
     Ok(MapText {
         version,
@@ -53,6 +63,21 @@ fn map(
         statements,
         labels,
     })
+}
+
+// The text of the label that a caller finds by the trie and the label table.
+fn label_text<'a>(alloc: Global, map: &'a MapText, addr: Addr) -> Result<&'a [u8], AllocError>
+    requires { addr.version ≡ map.now.version }
+    ensures { IfOk result (λ text. text.now ≡ map_label (map_of map.now) addr.value) }
+{
+    let trie = Trie::build(alloc, map)?;
+    let Some(id) = trie.label_at(addr) else {
+        unreachable!()
+    };
+    let Some(text) = map.labels.text(id) else {
+        unreachable!()
+    };
+    Ok(text)
 }
 
 // The trie of the map has these labels at these addresses.
@@ -68,6 +93,8 @@ fn labels_are(
     for &(value, label) in wanted {
         let addr = Addr::new(version, value).expect(rt, "an address");
         assert_eq!(rt; trie.label_at(addr), Some(LabelId(label)));
+        let text = label_text(alloc, &map, addr)?;
+        assert_eq!(rt; map.labels.text(LabelId(label)), Some(text));
     }
     Ok(())
 }

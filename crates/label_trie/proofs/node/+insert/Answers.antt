@@ -1,8 +1,5 @@
-use Rattle.std.proofs.Common.{rules, ◌≡◌, ◌+◌, ◌-◌, ◌/◌, ◌<◌, ◌≤◌, ◌⊎◌, inl, inr, sym, subst, arith}
+use Rattle.std.proofs.Common.{inl, inr, arith}
 use Rattle.std.proofs.lemmas.Result.{on_ok_weaker}
-use Rattle.label_trie.specs.Insert.{FollowsNode, FollowsHalves}
-use Rattle.label_trie.specs.declared.node.Node.{Node}
-use Rattle.label_trie.specs.declared.node.Halves.{Halves}
 use Rattle.label_trie.proofs.Inserted.{CoversPart, part_below, follows_missed, follows_covered, follows_divided, follows_inner, follows_halves}
 use Rattle.label_trie.proofs.node.+insert.Goals as goal
 use Rattle.label_trie.proofs.node.+insert.Goals.{insert-then-high-first-via-then-high-first, insert-then-high-first-via-else-high-first+then-last-low, insert-else-low-first-via-then-low-first+else-last-high, insert-else-low-first-via-else-low-first}

@@ -1,4 +1,4 @@
-use Rattle.std.proofs.Common.{ℕ, ◌+◌, ◌-◌, ◌*◌}
+use Rattle.std.proofs.Common.{◌+◌, ◌-◌, ◌*◌}
 use Rattle.label_trie.proofs.node.+insert.Given as goal
 
 abbrev pub decreases-insert : goal.decreases-insert

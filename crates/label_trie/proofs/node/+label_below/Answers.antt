@@ -1,6 +1,5 @@
-use Rattle.std.proofs.Common.{◌∙◌, ap, sym, ◌≡◌, ◌+◌, ◌-◌, ◌/◌, ◌^◌, ◌<◌, ◌≤◌, ℕ, arith}
+use Rattle.std.proofs.Common.{◌∙◌, arith}
 use Rattle.label_trie.proofs.Lookup.{label_below_low, label_below_high}
-use Rattle.label_trie.specs.Node.{HasRoom}
 use Rattle.label_trie.proofs.node.+label_below.Goals as goal
 
 pub returns-then-address-host_bits-eq0 : goal.returns-then-address-host_bits-eq0

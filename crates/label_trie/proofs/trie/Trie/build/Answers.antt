@@ -1,8 +1,8 @@
-use Rattle.std.proofs.Common.{◌≡◌, ℕ, ◌+◌, ◌^◌, ◌<◌, length, get_or, refl, sym, ◌∙◌, subst, arith}
+use Rattle.std.proofs.Common.{refl, subst}
 use Rattle.pmap_text.specs.MapModel.{MapModel}
 use Rattle.pmap_text.specs.MapText.{map_of}
 use Rattle.label_trie.specs.Node.{Fits}
-use Rattle.label_trie.proofs.Built.{map_so_far, whole_space, next_statement, map_at_end, label_known, root_room, root_cut}
+use Rattle.label_trie.proofs.Built.{map_so_far, whole_space, next_statement, fits_at_end, label_known, root_room, root_cut}
 use Rattle.label_trie.proofs.Leaves.{leaves_settled, leaves_undivided}
 use Rattle.label_trie.proofs.Lookup.{labels_fit}
 use Rattle.label_trie.proofs.trie.Trie.build.Goals as goal
@@ -20,24 +20,22 @@ loop-statement-preserved c =
     (c.in_ok-insert.ensures.follows m 0 0 (whole_space m c.last_address-last.result c.last_address-last.ensures)
     (label_known text count s within is) c.loop-statement.invariant)
 
--- at the end the root fits the whole map
-root_fits : (c : goal.After-result-1) → Fits (map_of c.args.map.now) c.loop-statement.root 0 0
-root_fits c =
-    let same = c.as_slice-statement-items.ensures in
-    subst (λ (n : MapModel). Fits n c.loop-statement.root 0 0)
-    (map_at_end c.args.map.now c.loop-statement.statement-index (rw same at c.loop-statement-test.false)) c.loop-statement.invariant
-
 pub invariant_of-result : goal.invariant_of-result
-invariant_of-result c = root_room (map_of c.args.map.now) c.loop-statement.root (root_fits c)
+invariant_of-result c =
+    let text = c.args.map.now in
+    let root = c.loop-statement.root in
+    let end = fits_at_end text c.loop-statement.statement-index c.as_slice-statement-items.result.now root c.as_slice-statement-items.ensures c.loop-statement-test.false c.loop-statement.invariant in
+    root_room (map_of text) root end
 
 pub returns : goal.returns
 returns c =
-    let m = map_of c.args.map.now in
+    let text = c.args.map.now in
     let root = c.loop-statement.root in
+    let end = fits_at_end text c.loop-statement.statement-index c.as_slice-statement-items.result.now root c.as_slice-statement-items.ensures c.loop-statement-test.false c.loop-statement.invariant in
     record {
       version = refl;
-      cut = root_cut m root (root_fits c);
-      settled = leaves_settled m root (root_fits c);
-      undivided = leaves_undivided m root (root_fits c);
-      labels = λ a below. labels_fit m root a (root_fits c) below;
+      cut = root_cut (map_of text) root end;
+      settled = leaves_settled (map_of text) root end;
+      undivided = leaves_undivided (map_of text) root end;
+      labels = λ a below. labels_fit (map_of text) root a end below;
     }

@@ -1,4 +1,3 @@
-use Rattle.std.proofs.Common.{◌≡◌, ◌+◌, ◌^◌}
 use Rattle.label_trie.specs.Node.{Fits}
 use Rattle.label_trie.proofs.Built.{map_so_far}
 use Rattle.label_trie.proofs.trie.Trie.build.Given as goal
