@@ -1,10 +1,11 @@
 -- What the answer of `parse` follows from: the kind of clap's error, or the entries of its matches.
 use Rattle.std.proofs.Common.{◌≡◌, ◌⊎◌, ◌∙◌, ◌||◌, Bool, true, false, List, [], ◌∷◌, Option, Some, None, Result, Ok, Err, refl, sym, ap, ap₂, inl, inr, codes}
-use Rattle.std.specs.Prelude.{option_map}
+use Rattle.std.specs.Prelude.{option_map, unwrap_or}
 use Rattle.std.specs.List.{list_any}
-use Rattle.clap.specs.Words.{IsAmong, Kinds, Row, fault_of, first_of, is_simple, is_simple_and_free, subcommand_of}
+use Rattle.clap.specs.Words.{IsAmong, Kinds, Row, fault_of, first_of, is_simple, is_simple_and_free, subcommand_name_of, subcommand_of, subcommand_rows_of}
 use Rattle.clap.specs.declared.error.kind.ErrorKind.{ErrorKind}
 use Rattle.clap.specs.declared.error.kind.ErrorKind.TheVariants as kind
+use Rattle.clap.specs.declared.parser.ArgMatches.{ArgMatches}
 use Rattle.clap.proofs.OnLiterals.{clap_on_literals}
 use Rattle.prefix_keys.specs.Text.{AddressOf}
 use Rattle.flowlabel.specs.Request.{Text}
@@ -61,17 +62,25 @@ label_faults words None address (Help text) e none own = cc
 label_faults words (Some map) None (Help text) e none own = cc
 label_faults words (Some map) (Some address) (Help text) e none own = cc
 
--- the entries that clap found are those of its specification, so their answer is that of the words
-pub answers : (words : List Text) (sub : Option (Text × List Row)) (rows : List Row) (r : Result Command UsageFault)
-    → fault_of flowlabel_app words ≡ [] → sub ≡ subcommand_of flowlabel_app words → option_map (λ p. p.1) sub ≡ Some rows
-    → SaysOnly (answer_of_label rows) r → IsAnswer words r
-answers words None rows r none found has says = cc
-answers words (Some p) rows (Ok command) none found has says =
-    let same : Some p.1 ≡ Some rows = has in
-    (none, ap (option_map answer_of) (sym found) ∙ ap (option_map answer_of_label) same ∙ ap Some says)
-answers words (Some p) rows (Err fault) none found has says =
-    let same : Some p.1 ≡ Some rows = has in
-    label_faults words _ _ fault says none (ap (option_map answer_of) (sym found) ∙ ap (option_map answer_of_label) same ∙ ap Some says)
+-- a pair in an option, by its parts
+pair_is : {A B : Type 0} (o : Option (A × B)) (a : A) (b : B) → option_map (λ p. p.0) o ≡ Some a → option_map (λ p. p.1) o ≡ Some b → o ≡ Some (a, b)
+pair_is None a b e f = cc
+pair_is {A} {B} (Some p) a b e f = ap₂ (λ (x : Option A) (y : Option B). Some (unwrap_or x p.0, unwrap_or y p.1)) e f
+
+map_twice : {A B C : Type 0} (f : B → C) (g : A → B) (o : Option A) → option_map f (option_map g o) ≡ option_map (λ x. f (g x)) o
+map_twice f g None = refl
+map_twice f g (Some x) = refl
+
+-- the subcommand of the matches, by its name and its entries
+pub subcommand_is : (m : ArgMatches) (name : Text) (rows : List Row) → subcommand_name_of m ≡ Some name
+    → option_map (λ p. p.1) (subcommand_rows_of m) ≡ Some rows → subcommand_rows_of m ≡ Some (name, rows)
+subcommand_is m name rows e f = pair_is (subcommand_rows_of m) name rows (map_twice (λ p. p.0) _ _ ∙ e) f
+
+-- the subcommand that clap found is that of its specification, so its answer is that of the words
+pub answers : (words : List Text) (p : Text × List Row) (r : Result Command UsageFault) → fault_of flowlabel_app words ≡ []
+    → subcommand_of flowlabel_app words ≡ Some p → SaysOnly (answer_of p) r → IsAnswer words r
+answers words p (Ok command) none found says = (none, ap (option_map answer_of) found ∙ ap Some says)
+answers words p (Err fault) none found says = label_faults words _ _ fault says none (ap (option_map answer_of) found ∙ ap Some says)
 
 -- such an answer is no refusal of clap's and no help
 pub own : (map : Option Text) (address : Option AddressOf) (r : Result Command UsageFault) → SaysOnly (label_answer map address) r → IsOwnAnswer r

@@ -68,7 +68,7 @@ fn keeps_the_words_of_a_label_command(rt: HostRuntime) -> Result<(), Fail> {
 }
 
 #[test]
-fn hands_on_the_texts_of_clap(rt: HostRuntime) {
+fn hands_on_the_texts_of_clap(rt: HostRuntime) -> Result<(), Fail> {
     let Err(UsageFault::Refused(text)) = parse(rt.alloc(), &["flowlabel", "info", "flows"]) else {
         panic!(rt; "not refused");
     };
@@ -77,4 +77,7 @@ fn hands_on_the_texts_of_clap(rt: HostRuntime) {
         panic!(rt; "no help");
     };
     assert!(rt; text.as_str().contains("--pmap"));
+    let shown = format!(in rt.alloc(); "{text}")?;
+    assert!(rt; shown.as_str() == text.as_str());
+    Ok(())
 }

@@ -62,6 +62,11 @@ fn label_command<'a>(entries: &ArgMatches<'a>) -> Result<Command<'a>, UsageFault
 }
 
 /// Reads a command line, of which the first word is the program's name.
+///
+/// # Errors
+///
+/// `Refused` or `Help` where clap refuses the line or is asked for help. Where clap takes it, the first of these:
+/// `MapMissing`, `BadAddress`. `NoMemory` where an allocation failed, in place of any other answer.
 pub fn parse<'a>(alloc: Global, words: &'a [&'a str]) -> Result<Command<'a>, UsageFault>
     ensures answer { IsAnswer (texts words.entry.now) result }
     ensures map_line { ReadsMapLine (texts words.entry.now) result }

@@ -1,7 +1,7 @@
 use Rattle.std.proofs.Common.{◌∙◌, Err, ap, sym, subst, map}
 use Rattle.std.specs.Prelude.{option_map}
-use Rattle.clap.specs.Words.{App, HasKind, fault_of, found_of, is_simple, is_simple_and_free, rows_of, subcommand_of, subcommand_rows_of, takes}
-use Rattle.flowlabel.proofs.AnswerLemmas.{answers, fault_at, flowlabel_is_free, flowlabel_is_simple, own, own_of_memory}
+use Rattle.clap.specs.Words.{App, HasKind, fault_of, found_of, is_simple, is_simple_and_free, rows_of, subcommand_of, takes}
+use Rattle.flowlabel.proofs.AnswerLemmas.{answers, fault_at, flowlabel_is_free, flowlabel_is_simple, own, own_of_memory, subcommand_is}
 use Rattle.flowlabel.proofs.LineLemmas.{reads_bare_line, reads_map_line}
 use Rattle.flowlabel.proofs.words.parse.Goals as goal
 
@@ -13,8 +13,10 @@ returns-in-Ok-clause-answer c =
     let words = map (λ s. s.now) c.args.words.now in
     let none = sym (ap (λ (a : App). fault_of a words) app_is) ∙ fails in
     let found = matches.1 ∙ ap (λ (a : App). subcommand_of a words) app_is in
-    let has = sym c.subcommand.ensures.rows ∙ ap (option_map (λ p. rows_of (found_of p.1.now))) c.unwrap.ensures in
-    answers words (subcommand_rows_of c.in-Ok.matches) _ _ none found has c.label_command.ensures
+    let name = sym c.subcommand.ensures.name ∙ ap (option_map (λ p. p.0.now)) c.unwrap.ensures in
+    let rows = sym c.subcommand.ensures.rows ∙ ap (option_map (λ p. rows_of (found_of p.1.now))) c.unwrap.ensures in
+    let sub = subcommand_is c.in-Ok.matches _ _ name rows in
+    answers words _ _ none (sym found ∙ sub) c.label_command.ensures
 
 pub returns-in-Ok-clause-map_line : goal.returns-in-Ok-clause-map_line
 returns-in-Ok-clause-map_line c = reads_map_line _ c.label_command.result (returns-in-Ok-clause-answer c)
