@@ -74,8 +74,7 @@ fn map_fault_line(alloc: Global, file: &str, fault: &MapFault) -> Result<String,
     place_line(alloc, file, map_fault_name(fault.kind), fault.line)
 }
 
-/// The line for standard error, with its line feed: for a refused command line clap's text, and for help nothing.
-pub fn fault_line(alloc: Global, fault: &RunFault<'_>) -> Result<String, AllocError>
+fn text_of_fault(alloc: Global, fault: &RunFault<'_>) -> Result<String, AllocError>
     ensures { IfOk result (λ line. string_bytes line ≡ fault_text fault.now) }
 {
     match fault {
@@ -86,6 +85,13 @@ pub fn fault_line(alloc: Global, fault: &RunFault<'_>) -> Result<String, AllocEr
         RunFault::NoMemory => String::from_str(alloc, "flowlabel: out of memory\n"),
         RunFault::Map { file, fault } => map_fault_line(alloc, file, fault),
     }
+}
+
+/// The line for standard error, with its line feed: for a refused command line clap's text, and for help nothing.
+pub fn fault_line(alloc: Global, fault: &RunFault<'_>) -> Result<Vec<u8>, AllocError>
+    ensures { IfOk result (λ line. line.items ≡ fault_text fault.now) }
+{
+    Ok(text_of_fault(alloc, fault)?.into_bytes())
 }
 
 fn usage_status(fault: &UsageFault) -> u8

@@ -92,7 +92,7 @@ fn report(rt: &HostRuntime, fault: &RunFault<'_>) {
         let _ = rt.print(text.as_str());
     }
     if let Ok(line) = fault_line(rt.alloc(), fault) {
-        let _ = rt.stderr().write_all(line.as_bytes());
+        let _ = rt.stderr().write_all(line.as_slice());
     }
 }
 

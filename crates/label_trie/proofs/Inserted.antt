@@ -88,6 +88,15 @@ pub record CoversPart (first last : ℕ) (s : Statement) : Type 0 where
   pub high_meets : first ≤ s.span.high.value
   pub leaves : (first < s.span.low.value) ⊎ (s.span.high.value < last)
 
+pub covers_part : (first last : ℕ) (s : Statement) → first ≤ last → s.span.low.value ≤ last → first ≤ s.span.high.value
+    → ((s.span.low.value ≤ first) × (s.span.high.value < last)) ⊎ (first < s.span.low.value) → CoversPart first last s
+covers_part first last s ordered low high beyond = record {
+  ordered = ordered;
+  low_meets = low;
+  high_meets = high;
+  leaves = elim beyond [ inl h ↦ inr h.1 | inr h ↦ inl h ];
+}
+
 pub part_below : (first last : ℕ) (s : Statement) → CoversPart first last s → first < last
 part_below first last s part = elim part.leaves [ inl h ↦ omega (arith, h, part.low_meets) | inr h ↦ omega (arith, h, part.high_meets) ]
 

@@ -13,6 +13,7 @@ pub record LeafModel : Type 0 where
   pub number : ℕ
   pub label : Option ℕ
 
+-- a trie: the version of its addresses, and its leaves
 pub record TrieModel : Type 0 where
   pub version : Version
   pub leaves : List LeafModel
@@ -33,6 +34,7 @@ has_address W a leaf = leaf.number == block_number W leaf.bits a
 abbrev pub label_among : ℕ → List LeafModel → ℕ → Option ℕ
 label_among W leaves a = option_and_then (λ leaf. leaf.label) (find (has_address W a) leaves)
 
+-- the number of the label that the trie gives an address
 abbrev pub label_in : TrieModel → ℕ → Option ℕ
 label_in t a = label_among (width_of t.version) t.leaves a
 
@@ -43,6 +45,6 @@ pub record IsSettledLeaf (m : MapModel) (leaf : LeafModel) : Type 0 where
   pub known : id < length m.table
   pub settled : IsSettled m leaf.bits leaf.number (text_at m.table id)
 
--- no block round the leaf is settled by the map
+-- no block that has the leaf's block and more is settled by the map
 abbrev pub IsUndivided : MapModel → LeafModel → Type 0
 IsUndivided m leaf = (k : ℕ) → k < leaf.bits → settled_label m k (leaf.number / 2 ^ (leaf.bits - k)) ≡ None
