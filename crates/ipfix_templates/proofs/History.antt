@@ -98,4 +98,4 @@ in_force-append es at event domain id =
     let ends : TemplateView → Bool = λ t. withdraws id t.kind event in
     ap (λ (o : Defined). alive withdrawn ends (at, event) o) (last-append es (at, event) domain id)
     ∙ alive_after withdrawn ends (at, event) (at == domain) (definition id event) (last_definition es domain id) (λ t. refl)
-        (λ d. list_any-append (λ e. e.0 == domain && withdraws id d.0.kind e.1) d.1 ((at, event) ∷ []) ∙ any_one (withdrawn d) (at == domain && ends d.0))
+    (λ d. list_any-append (λ e. e.0 == domain && withdraws id d.0.kind e.1) d.1 ((at, event) ∷ []) ∙ any_one (withdrawn d) (at == domain && ends d.0))

@@ -111,7 +111,7 @@ drops_kind old new domain kind apart made d i =
     let test : ℕ × ℕ → Bool = same_key (d, i) in
     let here : TemplateView → Bool = λ t. not (eqb domain d) || not (same_kind kind t.kind) in
     let same : (e : (ℕ × ℕ) × TemplateView) → test e.0 ≡ true → stays domain kind e ≡ here e.1 =
-        λ e found. ap (λ (b : Bool). not b || not (same_kind kind e.1.kind)) (nat_eq_equiv.symm e.0.0 domain ∙ ap (eqb domain) (sym (key_domain (d, i) e.0 found))) in
+    λ e found. ap (λ (b : Bool). not b || not (same_kind kind e.1.kind)) (nat_eq_equiv.symm e.0.0 domain ∙ ap (eqb domain) (sym (key_domain (d, i) e.0 found))) in
     ap (λ (es : Entries). template_at es d i) made
     ∙ lookup_alike test (stays domain kind) (λ e. here e.1) same old
     ∙ lookup-filter-values key_laws here (d, i) old apart

@@ -35,5 +35,5 @@ last_definition (e ∷ es) domain id =
 unfoldable pub in_force : List (ℕ × TemplateEvent) → ℕ → ℕ → Option TemplateView
 in_force history domain id =
     option_and_then
-        (λ d. if list_any (λ e. e.0 == domain && withdraws id d.0.kind e.1) d.1 then None else Some d.0)
-        (last_definition history domain id)
+    (λ d. if list_any (λ e. e.0 == domain && withdraws id d.0.kind e.1) d.1 then None else Some d.0)
+    (last_definition history domain id)

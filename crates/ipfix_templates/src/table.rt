@@ -77,7 +77,6 @@ impl TemplateTable {
         ensures follows { (history : List (ℕ × Event)) → Follows self.old history
             → Follows self.new (history ++ (domain, WithdrawAll kind) ∷ []) }
     {
-        self.templates
-            .retain(|key, template| key.0 != domain || !kind.is(template.kind()));
+        self.templates.retain(|key, template| key.0 != domain || !kind.is(template.kind()));
     }
 }

@@ -45,6 +45,13 @@ impl Template {
         self.kind
     }
 
+    /// How many of the fields, from the first on, are scope fields.
+    pub fn scope_count(&self) -> u16
+        ensures { result ≡ self.now.scope_count }
+    {
+        self.scope_count
+    }
+
     /// The fields, in the order of the values in a record.
     pub fn fields(&self) -> &Fields
         ensures { result.now ≡ self.now.fields }

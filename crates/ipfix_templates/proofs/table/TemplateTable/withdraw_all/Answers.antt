@@ -9,7 +9,7 @@ changes : (c : goal.After-retain) → DropsKind c.args.self.now c.retain.new.sel
 changes c =
     let kept = filter_same_pairs _ (stays c.args.domain c.args.kind) _ (λ k v b w f' t. search rules) _ _ c.retain.ensures.filtered in
     subst (λ (m : List ((ℕ × ℕ) × TemplateView)). DropsKind m c.retain.new.self.entries c.args.domain c.args.kind) c.self.view_is
-        (drops_kind _ c.retain.new.self.entries c.args.domain c.args.kind c.retain.ensures.was_unique kept)
+    (drops_kind _ c.retain.new.self.entries c.args.domain c.args.kind c.retain.ensures.was_unique kept)
 
 pub returns-clause-change : goal.returns-clause-change
 returns-clause-change c = changes c
