@@ -10,7 +10,7 @@ use Rattle.ipfix_templates.specs.declared.event.TemplateEvent.{TemplateEvent}
 use Rattle.ipfix_templates.specs.declared.event.TemplateEvent.TheVariants.{Define, Withdraw, WithdrawAll}
 use Rattle.ipfix_templates.specs.declared.fault.TemplateFault.{TemplateFault}
 use Rattle.ipfix_templates.specs.declared.fault.TemplateFaultKind.{TemplateFaultKind}
-use Rattle.ipfix_templates.specs.declared.fault.TemplateFaultKind.TheVariants.{Truncated, BadTemplateId, BadScope}
+use Rattle.ipfix_templates.specs.declared.fault.TemplateFaultKind.TheVariants.{Truncated, BadTemplateId, BadScope, NoMemory}
 use Rattle.ipfix_templates.specs.Kind.{set_id}
 use Rattle.ipfix_templates.specs.Reading.{field_at, fields_at, defined_by, definition_at, withdrawal, followed_by, record_at, ReadsEvents, IsTemplateSet, HasTemplateFault}
 use Rattle.ipfix_templates.proofs.Choice.{chosen, gave, some_is, ok_is}
@@ -137,3 +137,49 @@ set_or_fault kind bytes events fault p q =
       | inr (inl more) ↦ omega (arith, more.2, p.2)
       | inr (inr more) ↦ ok_not_err _ _ _ more.3 q.4
     ]
+
+pub events_fit : (kind : Kind) (bytes : List ℕ) (events : List TemplateEvent) → IsTemplateSet kind bytes events → 4 * length events ≤ length bytes
+events_fit kind bytes events p = omega (arith, reads_shorter kind bytes events p.0 p.1)
+
+-- ---- no fault is that memory ran out
+
+defined_fault : (kind : Kind) (id scopes : ℕ) (o : Option (List Field × List ℕ)) → defined_by kind id scopes o ≡ Err NoMemory → ⊥
+defined_fault kind id scopes None e = cc
+defined_fault kind id scopes (Some x) e = cc
+
+definition_fault : (kind : Kind) (id count : ℕ) (bytes : List ℕ) → definition_at kind id count bytes ≡ Err NoMemory → ⊥
+unfolding definition_at
+definition_fault Flow id count bytes e = defined_fault Flow id 0 (fields_at count bytes) e
+definition_fault Options id count bytes e =
+    elim (chosen (ltb (length bytes) 2) (Err Truncated) _ (Err NoMemory) e) [
+      | inl p ↦ cc
+      | inr p ↦
+          elim (chosen (eqb (big_number 2 bytes) 0 || ltb count (big_number 2 bytes)) (Err BadScope) _ (Err NoMemory) p.1) [
+            | inl q ↦ cc
+            | inr q ↦ defined_fault Options id (big_number 2 bytes) (fields_at count (drop 2 bytes)) q.1
+          ]
+    ]
+
+withdrawal_fault : (kind : Kind) (id : ℕ) (after : List ℕ) → followed_by after (withdrawal kind id) ≡ Err NoMemory → ⊥
+withdrawal_fault kind id after e =
+    elim (eqb id (set_id kind)) as (λ b. followed_by after (cond b (Ok (WithdrawAll kind)) (cond (ltb id 256) (Err BadTemplateId) (Ok (Withdraw id)))) ≡ Err NoMemory → ⊥) [
+      | true ↦ λ p. cc
+      | false ↦ elim (ltb id 256) as (λ b. followed_by after (cond b (Err BadTemplateId) (Ok (Withdraw id))) ≡ Err NoMemory → ⊥) [ true ↦ λ p. cc | false ↦ λ p. cc ]
+    ] e
+
+record_fault : (kind : Kind) (bytes : List ℕ) → record_at kind bytes ≡ Err NoMemory → ⊥
+unfolding record_at
+record_fault kind bytes e =
+    let id = big_number 2 bytes in
+    let count = big_number 2 (drop 2 bytes) in
+    elim (chosen (eqb count 0) (followed_by (drop 4 bytes) (withdrawal kind id)) _ (Err NoMemory) e) [
+      | inl p ↦ withdrawal_fault kind id (drop 4 bytes) p.1
+      | inr p ↦
+          elim (chosen (ltb id 256) (Err BadTemplateId) _ (Err NoMemory) p.1) [
+            | inl q ↦ cc
+            | inr q ↦ definition_fault kind id count (drop 4 bytes) q.1
+          ]
+    ]
+
+pub memory_is_no_fault : (kind : Kind) (bytes : List ℕ) (fault : TemplateFault) → HasTemplateFault kind bytes fault → fault.kind ≡ NoMemory → ⊥
+memory_is_no_fault kind bytes fault p is = record_fault kind p.1 (p.4 ∙ ap (λ (k : TemplateFaultKind). Err k) is)

@@ -1,4 +1,4 @@
-ghost use Rattle.ipfix_templates.specs.Laws.{EventAfterHistory, OneReading};
+ghost use Rattle.ipfix_templates.specs.Laws.{EventAfterHistory, EventsFit, MemoryIsNoFault, OneReading};
 
 /// One more event changes the template in force in its own domain alone: a definition puts its template at its
 /// ID, and a withdrawal takes away the templates that it names.
@@ -10,3 +10,15 @@ pub fn event_after_history()
 pub fn one_reading()
     ensures { OneReading }
 {}
+
+/// Each event of a template set stands on at least 4 bytes.
+pub fn events_fit()
+    ensures { EventsFit }
+{
+}
+
+/// The fault that the bytes of a template set have is never that memory ran out.
+pub fn memory_is_no_fault()
+    ensures { MemoryIsNoFault }
+{
+}

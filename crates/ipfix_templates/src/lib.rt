@@ -22,7 +22,7 @@ pub use event::{TemplateEvent, TemplateEvents};
 pub use fault::{TemplateFault, TemplateFaultKind};
 pub use field::{Field, Fields, VARIABLE_LENGTH};
 pub use kind::Kind;
-pub use laws::{event_after_history, one_reading};
+pub use laws::{event_after_history, events_fit, memory_is_no_fault, one_reading};
 pub use set::read_template_set;
 pub use table::TemplateTable;
 pub use template::Template;

@@ -165,5 +165,7 @@ fn keeps_the_templates_in_force(rt: HostRuntime) -> Result<(), Fail> {
 #[test]
 fn laws_hold() {
     event_after_history();
+    events_fit();
+    memory_is_no_fault();
     one_reading();
 }
