@@ -1,0 +1,6 @@
+pub mod Choice
+pub mod Values
+pub mod Records
+pub mod Events
+pub mod Sets
+pub mod Messages
