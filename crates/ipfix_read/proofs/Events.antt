@@ -9,5 +9,5 @@ pub in_domain_more : (history : List (ℕ × TemplateEvent)) (domain : ℕ) (eve
     → (history ++ in_domain domain (take i events)) ++ (domain, get_or events i d) ∷ [] ≡ history ++ in_domain domain (take (i + 1) events)
 in_domain_more history domain events i d lt =
     let more : in_domain domain (take (i + 1) events) ≡ in_domain domain (take i events) ++ (domain, get_or events i d) ∷ [] =
-        ap (in_domain domain) (take_more events i d lt) ∙ map_push (λ (event : TemplateEvent). (domain, event)) (take i events) (get_or events i d) in
+    ap (in_domain domain) (take_more events i d lt) ∙ map_push (λ (event : TemplateEvent). (domain, event)) (take i events) (get_or events i d) in
     append_assoc history (in_domain domain (take i events)) ((domain, get_or events i d) ∷ []) ∙ ap (λ (es : List (ℕ × TemplateEvent)). history ++ es) (sym more)

@@ -31,9 +31,15 @@ module _ (bytes front after : List ℕ) (n : ℕ) (cut : Cut bytes front after n
       → HasSetsFault history domain (take (length front - 16) (drop 16 front)) (base + 16) fault → HasMessageFault history count bytes base fault
   message_fault history count domain base fault none is found =
       let at : HasSetsFault history (big_number 4 (drop 12 front)) (take (length front - 16) (drop 16 front)) (base + 16) fault =
-          subst (λ (d : ℕ). HasSetsFault history d (take (length front - 16) (drop 16 front)) (base + 16) fault) (is ∙ ap (λ (xs : List ℕ). big_number 4 xs) (from_place 12 front)) found in
-      inr (front, after, cut_parts bytes front after n cut, none, cut_written bytes front after n cut,
-      subst (λ (xs : List ℕ). HasSetsFault history (big_number 4 (drop 12 front)) xs (base + 16) fault) (from_place 16 front) at)
+      subst (λ (d : ℕ). HasSetsFault history d (take (length front - 16) (drop 16 front)) (base + 16) fault) (is ∙ ap (λ (xs : List ℕ). big_number 4 xs) (from_place 12 front)) found in
+      inr (
+        front,
+        after,
+        cut_parts bytes front after n cut,
+        none,
+        cut_written bytes front after n cut,
+        subst (λ (xs : List ℕ). HasSetsFault history (big_number 4 (drop 12 front)) xs (base + 16) fault) (from_place 16 front) at,
+      )
 
 -- one more message
 pub messages_more : (history : List (ℕ × TemplateEvent)) (count : ℕ) (bytes : List ℕ) (messages : List MessageView) (rest front after : List ℕ) (m : MessageView)

@@ -44,5 +44,5 @@ pub is_done : (front : List FieldValueView) (fields : List Field) (i : ℕ) (byt
 unfolding values_at
 is_done front fields i bytes total past so_far =
     let all : behind front (values_at (drop i fields) bytes) ≡ Some (front, bytes) =
-        rw (drop_all i fields past) (ap (λ (vs : List FieldValueView). Some (vs, bytes)) (append-nil front)) in
+    rw (drop_all i fields past) (ap (λ (vs : List FieldValueView). Some (vs, bytes)) (append-nil front)) in
     sym all ∙ so_far

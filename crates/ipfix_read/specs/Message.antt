@@ -46,9 +46,9 @@ header_fault count bytes =
     if nat_lt (length bytes) 16 then Some TruncatedHeader
     else (if count == 4294967295 then Some TooManyMessages
     else (if big_number 2 bytes == 10 then
-        (if nat_lt (written_length bytes) 16 then Some BadMessageLength
-        else (if nat_lt (length bytes) (written_length bytes) then Some TruncatedMessage
-        else None))
+    (if nat_lt (written_length bytes) 16 then Some BadMessageLength
+    else (if nat_lt (length bytes) (written_length bytes) then Some TruncatedMessage
+    else None))
     else Some BadVersion))
 
 -- the first fault of the message at the front, which begins at this offset of the File
@@ -56,4 +56,4 @@ abbrev pub HasMessageFault : List (ℕ × TemplateEvent) → ℕ → List ℕ �
 HasMessageFault history count bytes base fault =
     ((kind : ReadFaultKind) × (header_fault count bytes ≡ Some kind) × (fault ≡ record { kind = kind; offset = base }))
     ⊎ ((front : List ℕ) × (after : List ℕ) × (bytes ≡ front ++ after) × (header_fault count bytes ≡ None) × (written_length front ≡ length front)
-        × HasSetsFault history (big_number 4 (drop 12 front)) (drop 16 front) (base + 16) fault)
+    × HasSetsFault history (big_number 4 (drop 12 front)) (drop 16 front) (base + 16) fault)

@@ -54,9 +54,9 @@ in_file base fault = at_place fault.kind (base + fault.offset)
 abbrev pub HasContentFault : List (ℕ × TemplateEvent) → ℕ → ℕ → List ℕ → ℕ → ReadFault → Type 0
 HasContentFault history domain id bytes base fault =
     ((kind : Kind) × (of : TemplateFault) × (id ≡ set_id kind) × HasTemplateFault kind bytes of
-        × (fault ≡ in_file base of))
+    × (fault ≡ in_file base of))
     ⊎ ((t : TemplateView) × (place : ℕ) × (256 ≤ id) × (in_force history domain id ≡ Some t) × HasRecordFault t bytes place
-        × (fault ≡ record { kind = BadRecord; offset = base + place }))
+    × (fault ≡ record { kind = BadRecord; offset = base + place }))
 
 -- the length that stands in a set's header, and in a message's
 abbrev pub written_length : List ℕ → ℕ
@@ -76,7 +76,7 @@ abbrev pub HasSetFault : List (ℕ × TemplateEvent) → ℕ → List ℕ → �
 HasSetFault history domain bytes base fault =
     ((HasSetLength bytes → ⊥) × (fault ≡ record { kind = BadSetLength; offset = base }))
     ⊎ ((front : List ℕ) × (after : List ℕ) × (bytes ≡ front ++ after) × (4 ≤ length front) × (written_length front ≡ length front)
-        × HasContentFault history domain (big_number 2 front) (drop 4 front) (base + 4) fault)
+    × HasContentFault history domain (big_number 2 front) (drop 4 front) (base + 4) fault)
 
 -- the bytes are these sets one after the other, and then the rest; each set stands after the events of those before it
 abbrev pub ReadsSets : List (ℕ × TemplateEvent) → ℕ → List ℕ → List Set → List ℕ → Type 0

@@ -33,5 +33,5 @@ unfoldable pub values_at : List Field → List ℕ → Option (List FieldValueVi
 values_at [] bytes = Some ([], bytes)
 values_at (field ∷ fields) bytes =
     option_and_then
-        (λ v. option_and_then (λ vs. Some (record { field = field; value = v.0 } ∷ vs.0, vs.1)) (values_at fields v.1))
-        (value_at field bytes)
+    (λ v. option_and_then (λ vs. Some (record { field = field; value = v.0 } ∷ vs.0, vs.1)) (values_at fields v.1))
+    (value_at field bytes)

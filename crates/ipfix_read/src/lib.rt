@@ -24,3 +24,5 @@ pub use record::{Record, RecordList};
 pub use set::{Set, SetList};
 pub use value::{FieldValue, FieldValues};
 
+#[cfg(test)]
+mod tests;

@@ -165,7 +165,7 @@ pub fn read_message<'a>(
     requires { base + length bytes.now < 2 ^ 64 }
     ensures ok { IfOk result (λ read. (front : List ℕ) × (bytes.now ≡ front ++ read.1.now) × (header_fault count bytes.now ≡ None)
         × ((history : List (ℕ × Event)) → Follows table.old history
-            → IsMessage history front read.0 × Follows table.new (history ++ events_of_message read.0))) }
+        → IsMessage history front read.0 × Follows table.new (history ++ events_of_message read.0))) }
     ensures counted { OnOk result (count < 4294967295) }
     ensures shorter { IfOk result (λ read. length read.1.now < length bytes.now) }
     ensures fault { IfErr result (λ fault. (fault ≡ out_of_memory)

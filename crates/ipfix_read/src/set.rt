@@ -10,7 +10,10 @@ use crate::data_set::read_data_set;
 use crate::fault::{ReadFault, ReadFaultKind};
 use crate::record::RecordList;
 use byteorder::{BigEndian, ByteOrder};
-use ipfix_templates::{Kind, TemplateEvent, TemplateEvents, TemplateFault, TemplateFaultKind, TemplateTable, events_fit, read_template_set};
+use ipfix_templates::{
+    Kind, TemplateEvent, TemplateEvents, TemplateFault, TemplateFaultKind, TemplateTable,
+    events_fit, read_template_set,
+};
 use std::alloc::{AllocError, Global};
 use std::marker::Model;
 

@@ -8,9 +8,14 @@ overflow_sub-result c = omega (arith, reads_shorter c.args.template.now c.args.b
 
 pub returns-in_default : goal.returns-in_default
 returns-in_default c =
-    let missing : record_at c.args.template.now c.loop-rest.rest.now ≡ None = sym (rw c.in_default.is at c.in_ok-record.ensures) in
-    (c.loop-rest.records, c.loop-rest.rest.now, c.loop-rest.invariant, (omega (arith, c.least_length-least.ensures), omega (arith, c.least_length-least.ensures)), missing,
-    omega (arith, reads_shorter c.args.template.now c.args.bytes.now c.loop-rest.records c.loop-rest.rest.now c.loop-rest.invariant))
+    let missing : record_at c.args.template.now c.loop-rest.rest.now ≡ None = sym (rw c.in_default.is at c.in_ok-record.ensures) in (
+      c.loop-rest.records,
+      c.loop-rest.rest.now,
+      c.loop-rest.invariant,
+      (omega (arith, c.least_length-least.ensures), omega (arith, c.least_length-least.ensures)),
+      missing,
+      omega (arith, reads_shorter c.args.template.now c.args.bytes.now c.loop-rest.records c.loop-rest.rest.now c.loop-rest.invariant),
+    )
 
 pub loop-rest-smaller : goal.loop-rest-smaller
 loop-rest-smaller c =

@@ -30,9 +30,14 @@ returns-clause-ok c =
       within = c.in-Ok.ensures.within;
       whole = c.in-Ok.ensures.whole;
     } in
-    let m : MessageView = record { export_time = c.read_u32-export_time.result; sequence = c.read_u32-sequence.result; domain = c.read_u32-domain.result; sets = c.in_ok-sets.sets } in
-    (c.split_at.result.0.now, cut_parts c.args.bytes.now c.split_at.result.0.now c.split_at.result.1.now c.in-Ok.size cut, c.in-Ok.ensures.ok,
-    λ history follows.
-        let read = c.in_ok-sets.ensures.ok history follows in
-        (message_read c.args.bytes.now c.split_at.result.0.now c.split_at.result.1.now c.in-Ok.size cut history m c.in-Ok.ensures.least c.in-Ok.ensures.version
-            c.read_u32-export_time.ensures c.read_u32-sequence.ensures c.read_u32-domain.ensures read.0, read.1))
+    let m : MessageView = record { export_time = c.read_u32-export_time.result; sequence = c.read_u32-sequence.result; domain = c.read_u32-domain.result; sets = c.in_ok-sets.sets } in (
+      c.split_at.result.0.now,
+      cut_parts c.args.bytes.now c.split_at.result.0.now c.split_at.result.1.now c.in-Ok.size cut,
+      c.in-Ok.ensures.ok,
+      λ history follows.
+          let read = c.in_ok-sets.ensures.ok history follows in (
+            message_read c.args.bytes.now c.split_at.result.0.now c.split_at.result.1.now c.in-Ok.size cut history m c.in-Ok.ensures.least c.in-Ok.ensures.version
+                c.read_u32-export_time.ensures c.read_u32-sequence.ensures c.read_u32-domain.ensures read.0,
+            read.1,
+          ),
+    )

@@ -14,8 +14,8 @@ loop-event-preserved c = λ history follows.
     let before = c.loop-event.invariant history follows in
     let after = c.in_ok-apply_event.ensures (history ++ in_domain c.args.domain _) before in
     subst (λ (h : List (ℕ × TemplateEvent)). Follows c.apply_event.new.table h)
-        (in_domain_more history c.args.domain c.as_slice-event-items.result.now c.loop-event.event-index c.event-item.result c.loop-event-test.true)
-        (rw c.event-item.is at after)
+    (in_domain_more history c.args.domain c.as_slice-event-items.result.now c.loop-event.event-index c.event-item.result c.loop-event-test.true)
+    (rw c.event-item.is at after)
 
 pub returns : goal.returns
 returns c = λ history follows.

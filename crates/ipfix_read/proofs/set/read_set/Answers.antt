@@ -27,6 +27,8 @@ returns-clause-ok c =
       least = c.if-length-lt-HEADER_LENGTH.false;
       within = c.if-bytes-length.false;
       whole = c.from-length.ensures ∙ c.read_u16.ensures ∙ ap (λ (xs : List ℕ). big_number 2 xs) (from_place 2 c.args.bytes.now);
-    } in
-    (c.split_at.result.0.now, cut_parts c.args.bytes.now c.split_at.result.0.now c.split_at.result.1.now c.from-length.result cut,
-    λ history follows. let read = c.in_ok-set.ensures.ok history follows in (set_read c.args.bytes.now c.split_at.result.0.now c.split_at.result.1.now c.from-length.result cut history c.args.domain c.read_u16-id.result c.in_ok-set.set c.read_u16-id.ensures read.0, read.1))
+    } in (
+      c.split_at.result.0.now,
+      cut_parts c.args.bytes.now c.split_at.result.0.now c.split_at.result.1.now c.from-length.result cut,
+      λ history follows. let read = c.in_ok-set.ensures.ok history follows in (set_read c.args.bytes.now c.split_at.result.0.now c.split_at.result.1.now c.from-length.result cut history c.args.domain c.read_u16-id.result c.in_ok-set.set c.read_u16-id.ensures read.0, read.1),
+    )

@@ -28,7 +28,7 @@ loop-rest-preserved c = record {
       let is = next.2 (history ++ events_of_sets c.args.domain c.loop-rest.sets) before.1 in
       rw c.in_ok-push.ensures.ok (
         sets_more history c.args.domain c.args.bytes.now c.loop-rest.sets c.loop-rest.rest.now next.0 c.in_ok-set.after.now c.in_ok-set.set before.0 next.1 is.0,
-        subst (λ (h : List (ℕ × TemplateEvent)). Follows c.read_set.new.table h) (behind_push (events_of_set c.args.domain) history c.loop-rest.sets c.in_ok-set.set) is.1
+        subst (λ (h : List (ℕ × TemplateEvent)). Follows c.read_set.new.table h) (behind_push (events_of_set c.args.domain) history c.loop-rest.sets c.in_ok-set.set) is.1,
       );
 }
 
