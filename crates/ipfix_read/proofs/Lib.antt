@@ -4,3 +4,6 @@ pub mod Records
 pub mod Events
 pub mod Sets
 pub mod Messages
+pub mod UniqueRecords
+pub mod UniqueSets
+pub mod UniqueMessages

@@ -1,5 +1,5 @@
 -- Messages, one after the other.
-use Rattle.std.proofs.Common.{◌≡◌, ℕ, ◌+◌, ◌-◌, ◌<◌, ◌≤◌, List, [], ◌∷◌, ◌++◌, length, take, drop, Option, None, refl, sym, ap, subst, ◌∙◌, inl, inr, arith}
+use Rattle.std.proofs.Common.{◌≡◌, ℕ, ◌+◌, ◌-◌, ◌<◌, ◌≤◌, List, [], ◌∷◌, ◌++◌, length, take, drop, Option, None, refl, sym, ap, subst, ◌∙◌, inl, inr, arith, length-append}
 use Rattle.std.proofs.lemmas.List.{append-nil}
 use Rattle.byteorder.specs.Endian.{big_number}
 use Rattle.ipfix_templates.specs.declared.event.TemplateEvent.{TemplateEvent}
@@ -26,10 +26,10 @@ module _ (bytes front after : List ℕ) (n : ℕ) (cut : Cut bytes front after n
     sets = subst (λ (xs : List ℕ). ReadsSets history m.domain xs m.sets []) (from_place 16 front) sets;
   }
 
-  pub message_fault : (history : List (ℕ × TemplateEvent)) (count domain base : ℕ) (fault : ReadFault) → header_fault count bytes ≡ None
+  pub message_fault : (history : List (ℕ × TemplateEvent)) (count domain base : ℕ) (fault : ReadFault) → header_fault count bytes ≡ None → 16 ≤ n
       → domain ≡ big_number 4 (take (length front - 12) (drop 12 front))
       → HasSetsFault history domain (take (length front - 16) (drop 16 front)) (base + 16) fault → HasMessageFault history count bytes base fault
-  message_fault history count domain base fault none is found =
+  message_fault history count domain base fault none least is found =
       let at : HasSetsFault history (big_number 4 (drop 12 front)) (take (length front - 16) (drop 16 front)) (base + 16) fault =
       subst (λ (d : ℕ). HasSetsFault history d (take (length front - 16) (drop 16 front)) (base + 16) fault) (is ∙ ap (λ (xs : List ℕ). big_number 4 xs) (from_place 12 front)) found in
       inr (
@@ -37,6 +37,7 @@ module _ (bytes front after : List ℕ) (n : ℕ) (cut : Cut bytes front after n
         after,
         cut_parts bytes front after n cut,
         none,
+        omega (arith, cut_length bytes front after n cut),
         cut_written bytes front after n cut,
         subst (λ (xs : List ℕ). HasSetsFault history (big_number 4 (drop 12 front)) xs (base + 16) fault) (from_place 16 front) at,
       )
@@ -59,3 +60,9 @@ pub file_fault : (bytes : List ℕ) (messages : List MessageView) (rest : List �
 file_fault bytes messages rest count place fault read some counted placed found =
     let at : HasMessageFault (events_of_messages messages) (0 + length messages) rest place fault = subst (λ (k : ℕ). HasMessageFault (events_of_messages messages) k rest place fault) (omega arith) found in
     (messages, rest, read, some, subst (λ (k : ℕ). HasMessageFault (events_of_messages messages) (0 + length messages) rest k fault) (omega arith) at)
+
+-- messages are in their bytes
+pub messages_shorter : (history : List (ℕ × TemplateEvent)) (count : ℕ) (bytes : List ℕ) (messages : List MessageView) (rest : List ℕ) → ReadsMessages history count bytes messages rest → length rest ≤ length bytes
+messages_shorter history count bytes [] rest done = omega (arith, ap length done)
+messages_shorter history count bytes (x ∷ xs) rest done =
+    omega (arith, messages_shorter (history ++ events_of_message x) (count + 1) done.1 xs rest done.5, length-append done.0 done.1, ap length done.2)

@@ -4,3 +4,4 @@ pub mod Record
 pub mod Set
 pub mod Message
 pub mod File
+pub mod Laws

@@ -55,5 +55,5 @@ header_fault count bytes =
 abbrev pub HasMessageFault : List (ℕ × TemplateEvent) → ℕ → List ℕ → ℕ → ReadFault → Type 0
 HasMessageFault history count bytes base fault =
     ((kind : ReadFaultKind) × (header_fault count bytes ≡ Some kind) × (fault ≡ record { kind = kind; offset = base }))
-    ⊎ ((front : List ℕ) × (after : List ℕ) × (bytes ≡ front ++ after) × (header_fault count bytes ≡ None) × (written_length front ≡ length front)
+    ⊎ ((front : List ℕ) × (after : List ℕ) × (bytes ≡ front ++ after) × (header_fault count bytes ≡ None) × (16 ≤ length front) × (written_length front ≡ length front)
     × HasSetsFault history (big_number 4 (drop 12 front)) (drop 16 front) (base + 16) fault)

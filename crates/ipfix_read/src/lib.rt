@@ -12,6 +12,7 @@
 mod data_set;
 mod fault;
 mod file;
+mod laws;
 mod message;
 mod record;
 mod set;
@@ -19,6 +20,7 @@ mod value;
 
 pub use fault::{ReadFault, ReadFaultKind};
 pub use file::{FileEvents, read_file};
+pub use laws::{first_message_and_rest, one_reading};
 pub use message::{Message, MessageList};
 pub use record::{Record, RecordList};
 pub use set::{Set, SetList};

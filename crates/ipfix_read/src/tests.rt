@@ -375,3 +375,9 @@ fn reads_each_prefix(rt: HostRuntime) -> Result<(), Fail> {
     }
     Ok(())
 }
+
+#[test]
+fn laws_hold() {
+    first_message_and_rest();
+    one_reading();
+}

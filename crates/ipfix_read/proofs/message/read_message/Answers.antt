@@ -18,7 +18,7 @@ returns-in_err-sets-clause-fault c =
     rw (p.1, p.2) (elim c.in_err-sets.ensures.fault [
       | inl memory ↦ inl memory
       | inr fault ↦ inr (λ history follows. message_fault c.args.bytes.now c.split_at.result.0.now c.split_at.result.1.now c.in-Ok.size cut history c.args.count c.read_u32-domain.result c.args.base c.in_err-sets.field-0.0
-          c.in-Ok.ensures.ok c.read_u32-domain.ensures (fault history follows))
+          c.in-Ok.ensures.ok c.in-Ok.ensures.least c.read_u32-domain.ensures (fault history follows))
     ])
 
 pub returns-clause-ok : goal.returns-clause-ok
