@@ -1,0 +1,13 @@
+-- The template events of sets, one after the other.
+use Rattle.std.proofs.Common.{◌≡◌, ℕ, ◌+◌, ◌<◌, List, [], ◌∷◌, ◌++◌, length, get_or, take, refl, sym, ap, ◌∙◌, append_assoc, arith}
+use Rattle.std.proofs.lemmas.List.{map_push, take_more}
+use Rattle.ipfix_templates.specs.declared.event.TemplateEvent.{TemplateEvent}
+use Rattle.ipfix_read.specs.Set.{in_domain}
+
+-- one more event behind a history
+pub in_domain_more : (history : List (ℕ × TemplateEvent)) (domain : ℕ) (events : List TemplateEvent) (i : ℕ) (d : TemplateEvent) → i < length events
+    → (history ++ in_domain domain (take i events)) ++ (domain, get_or events i d) ∷ [] ≡ history ++ in_domain domain (take (i + 1) events)
+in_domain_more history domain events i d lt =
+    let more : in_domain domain (take (i + 1) events) ≡ in_domain domain (take i events) ++ (domain, get_or events i d) ∷ [] =
+    ap (in_domain domain) (take_more events i d lt) ∙ map_push (λ (event : TemplateEvent). (domain, event)) (take i events) (get_or events i d) in
+    append_assoc history (in_domain domain (take i events)) ((domain, get_or events i d) ∷ []) ∙ ap (λ (es : List (ℕ × TemplateEvent)). history ++ es) (sym more)

@@ -1,0 +1,9 @@
+pub mod Choice
+pub mod Values
+pub mod Records
+pub mod Events
+pub mod Sets
+pub mod Messages
+pub mod UniqueRecords
+pub mod UniqueSets
+pub mod UniqueMessages

@@ -1,0 +1,5 @@
+use Rattle.ipfix_read.proofs.UniqueMessages.{first_and_rest}
+use Rattle.ipfix_read.proofs.laws.first_message_and_rest.Goals as goal
+
+pub returns : goal.returns
+returns c = first_and_rest

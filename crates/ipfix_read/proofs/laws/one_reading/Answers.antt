@@ -1,0 +1,5 @@
+use Rattle.ipfix_read.proofs.UniqueMessages.{one_reading}
+use Rattle.ipfix_read.proofs.laws.one_reading.Goals as goal
+
+pub returns : goal.returns
+returns c = one_reading c.one_reading.ensures

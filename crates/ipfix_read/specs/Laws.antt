@@ -1,0 +1,20 @@
+-- What holds of the definitions.
+use Rattle.std.specs.Prelude.{◌≡◌, ℕ, ◌+◌, List, ◌∷◌, ◌++◌, length, None}
+use Rattle.ipfix_templates.specs.declared.event.TemplateEvent.{TemplateEvent}
+use Rattle.ipfix_read.specs.declared.fault.ReadFault.{ReadFault}
+use Rattle.ipfix_read.specs.Message.{MessageView, IsMessage, header_fault, events_of_message}
+use Rattle.ipfix_read.specs.File.{ReadsFile, HasFileFault}
+
+-- the first message of a File stands at the front of its bytes, and what is read after it is as if begun there
+abbrev pub FirstMessageAndRest : Type 0
+FirstMessageAndRest = (history : List (ℕ × TemplateEvent)) (offset count : ℕ) (front after : List ℕ) (m : MessageView)
+    → header_fault count (front ++ after) ≡ None → IsMessage history front m
+    → ((ms : List MessageView) → ReadsFile (history ++ events_of_message m) (count + 1) after ms → ReadsFile history count (front ++ after) (m ∷ ms))
+    × ((fault : ReadFault) → HasFileFault (history ++ events_of_message m) (offset + length front) (count + 1) after fault → HasFileFault history offset count (front ++ after) fault)
+
+-- bytes are a File of one list of messages, or have one first fault, and not both
+abbrev pub OneReading : Type 0
+OneReading = (history : List (ℕ × TemplateEvent)) (offset count : ℕ) (bytes : List ℕ)
+    → ((messages others : List MessageView) → ReadsFile history count bytes messages → ReadsFile history count bytes others → messages ≡ others)
+    × ((fault other : ReadFault) → HasFileFault history offset count bytes fault → HasFileFault history offset count bytes other → fault ≡ other)
+    × ((messages : List MessageView) (fault : ReadFault) → ReadsFile history count bytes messages → HasFileFault history offset count bytes fault → ⊥)

@@ -1,0 +1,7 @@
+pub mod Value
+pub mod Fault
+pub mod Record
+pub mod Set
+pub mod Message
+pub mod File
+pub mod Laws

@@ -1,0 +1,59 @@
+-- Messages (RFC 7011 section 3.1).
+use Rattle.std.specs.Prelude.{◌≡◌, ℕ, ◌+◌, ◌≤◌, ◌⊎◌, List, [], ◌++◌, length, drop, sum_by, Option, Some, None, nat_lt, ◌==◌, if◌then◌else◌}
+use Rattle.byteorder.specs.Endian.{big_number}
+use Rattle.ipfix_templates.specs.declared.event.TemplateEvent.{TemplateEvent}
+use Rattle.ipfix_read.specs.declared.set.Set.{Set}
+use Rattle.ipfix_read.specs.declared.set.Set.TheVariants.{Templates, Values, Skipped}
+use Rattle.ipfix_read.specs.declared.fault.ReadFault.{ReadFault}
+use Rattle.ipfix_read.specs.declared.fault.ReadFaultKind.{ReadFaultKind}
+use Rattle.ipfix_read.specs.declared.fault.ReadFaultKind.TheVariants.{TruncatedHeader, BadVersion, BadMessageLength, TruncatedMessage, TooManyMessages}
+use Rattle.ipfix_read.specs.Set.{written_length, ReadsSets, HasSetsFault, events_of_sets}
+
+-- a message without where it lies in memory
+pub record MessageView : Type 0 where
+  pub export_time : ℕ
+  pub sequence : ℕ
+  pub domain : ℕ
+  pub sets : List Set
+
+-- a set, with its events or records
+abbrev pub set_size : Set → ℕ
+set_size (Templates kind events) = 1 + length events
+set_size (Values kind records) = 1 + length records
+set_size (Skipped id) = 1
+
+-- the sets, events and records of a message together
+abbrev pub message_size : List Set → ℕ
+message_size sets = sum_by set_size sets
+
+-- the template events of a message
+abbrev pub events_of_message : MessageView → List (ℕ × TemplateEvent)
+events_of_message m = events_of_sets m.domain m.sets
+
+-- bytes are a message, after a history of template events: a header with version 10 and their length, and its sets
+pub record IsMessage (history : List (ℕ × TemplateEvent)) (bytes : List ℕ) (m : MessageView) : Type 0 where
+  pub header : 16 ≤ length bytes
+  pub version : big_number 2 bytes ≡ 10
+  pub whole : written_length bytes ≡ length bytes
+  pub export_time : m.export_time ≡ big_number 4 (drop 4 bytes)
+  pub sequence : m.sequence ≡ big_number 4 (drop 8 bytes)
+  pub domain : m.domain ≡ big_number 4 (drop 12 bytes)
+  pub sets : ReadsSets history m.domain (drop 16 bytes) m.sets []
+
+-- what is wrong with the header at the front, behind so many messages
+abbrev pub header_fault : ℕ → List ℕ → Option ReadFaultKind
+header_fault count bytes =
+    if nat_lt (length bytes) 16 then Some TruncatedHeader
+    else (if count == 4294967295 then Some TooManyMessages
+    else (if big_number 2 bytes == 10 then
+    (if nat_lt (written_length bytes) 16 then Some BadMessageLength
+    else (if nat_lt (length bytes) (written_length bytes) then Some TruncatedMessage
+    else None))
+    else Some BadVersion))
+
+-- the first fault of the message at the front, which begins at this offset of the File
+abbrev pub HasMessageFault : List (ℕ × TemplateEvent) → ℕ → List ℕ → ℕ → ReadFault → Type 0
+HasMessageFault history count bytes base fault =
+    ((kind : ReadFaultKind) × (header_fault count bytes ≡ Some kind) × (fault ≡ record { kind = kind; offset = base }))
+    ⊎ ((front : List ℕ) × (after : List ℕ) × (bytes ≡ front ++ after) × (header_fault count bytes ≡ None) × (16 ≤ length front) × (written_length front ≡ length front)
+    × HasSetsFault history (big_number 4 (drop 12 front)) (drop 16 front) (base + 16) fault)

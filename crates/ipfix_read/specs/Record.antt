@@ -1,0 +1,30 @@
+-- The records of a data set (RFC 7011 section 3.4.3).
+use Rattle.std.specs.Prelude.{◌≡◌, ℕ, ◌+◌, ◌<◌, ◌≤◌, List, [], ◌∷◌, length, Option, Some, None, option_map}
+use Rattle.ipfix_templates.specs.Field.{least_length}
+use Rattle.ipfix_templates.specs.Template.{TemplateView}
+use Rattle.ipfix_read.specs.declared.record.Record.{Record}
+use Rattle.ipfix_read.specs.Value.{values_at}
+
+-- the record of this template at the front, and the bytes after it
+abbrev pub record_at : TemplateView → List ℕ → Option (Record × List ℕ)
+record_at t bytes = option_map (λ v. (record { kind = t.kind; fields = v.0 }, v.1)) (values_at t.fields bytes)
+
+-- there are as many bytes as the shortest record has, and that isn't empty: so a record stands there, and no padding
+abbrev pub HasRoom : TemplateView → List ℕ → Type 0
+HasRoom t bytes = (0 < least_length t.fields) × (least_length t.fields ≤ length bytes)
+
+-- records that stand one after the other are these, and leave these bytes
+abbrev pub ReadsRecords : TemplateView → List ℕ → List Record → List ℕ → Type 0
+ReadsRecords t bytes [] rest = bytes ≡ rest
+ReadsRecords t bytes (r ∷ rs) rest =
+    (after : List ℕ) × HasRoom t bytes × (record_at t bytes ≡ Some (r, after)) × ReadsRecords t after rs rest
+
+-- the bytes behind the header of a data set are these records, and then padding (section 3.3.1)
+abbrev pub IsDataSet : TemplateView → List ℕ → List Record → Type 0
+IsDataSet t bytes records = (padding : List ℕ) × ReadsRecords t bytes records padding × ¬ HasRoom t padding
+
+-- at this place behind some records there is no padding, and a part of the record there passes the end
+abbrev pub HasRecordFault : TemplateView → List ℕ → ℕ → Type 0
+HasRecordFault t bytes place =
+    (records : List Record) × (rest : List ℕ) × ReadsRecords t bytes records rest
+    × HasRoom t rest × (record_at t rest ≡ None) × (place + length rest ≡ length bytes)

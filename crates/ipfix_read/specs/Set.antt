@@ -1,0 +1,92 @@
+-- The sets of a message (RFC 7011 section 3.3).
+use Rattle.std.specs.Prelude.{◌≡◌, ◌≢◌, ℕ, ◌+◌, ◌-◌, ◌<◌, ◌≤◌, ◌⊎◌, List, [], ◌∷◌, ◌++◌, length, drop, map, Option, Some, None}
+use Rattle.std.specs.List.{flat_map}
+use Rattle.byteorder.specs.Endian.{big_number}
+use Rattle.ipfix_templates.specs.declared.kind.Kind.{Kind}
+use Rattle.ipfix_templates.specs.declared.event.TemplateEvent.{TemplateEvent}
+use Rattle.ipfix_templates.specs.declared.fault.TemplateFault.{TemplateFault}
+use Rattle.ipfix_templates.specs.declared.fault.TemplateFaultKind.{TemplateFaultKind}
+use Rattle.ipfix_templates.specs.declared.fault.TemplateFaultKind.TheVariants.{Truncated, BadTemplateId, BadScope, NoMemory}
+use Rattle.ipfix_templates.specs.Kind.{set_id}
+use Rattle.ipfix_templates.specs.Template.{TemplateView}
+use Rattle.ipfix_templates.specs.InForce.{in_force}
+use Rattle.ipfix_templates.specs.Reading.{IsTemplateSet, HasTemplateFault}
+use Rattle.ipfix_read.specs.declared.set.Set.{Set}
+use Rattle.ipfix_read.specs.declared.set.Set.TheVariants.{Templates, Values, Skipped}
+use Rattle.ipfix_read.specs.declared.fault.ReadFault.{ReadFault}
+use Rattle.ipfix_read.specs.declared.fault.ReadFaultKind.TheVariants.{BadSetLength, BadTemplate, BadRecord}
+use Rattle.ipfix_read.specs.Fault.{out_of_memory}
+use Rattle.ipfix_read.specs.Record.{IsDataSet, HasRecordFault}
+
+-- template events, each with its domain
+abbrev pub in_domain : ℕ → List TemplateEvent → List (ℕ × TemplateEvent)
+in_domain domain events = map (λ event. (domain, event)) events
+
+-- the template events of a set, and of sets in order
+abbrev pub events_of_set : ℕ → Set → List (ℕ × TemplateEvent)
+events_of_set domain (Templates kind events) = in_domain domain events
+events_of_set domain (Values kind records) = []
+events_of_set domain (Skipped id) = []
+
+abbrev pub events_of_sets : ℕ → List Set → List (ℕ × TemplateEvent)
+events_of_sets domain sets = flat_map (events_of_set domain) sets
+
+-- the bytes behind the header of a set with this ID, after a history of template events: a set of templates, records
+-- under the template in force, or what is skipped, as it has no meaning or no template in force
+abbrev pub IsContent : List (ℕ × TemplateEvent) → ℕ → ℕ → List ℕ → Set → Type 0
+IsContent history domain id bytes (Templates kind events) = (id ≡ set_id kind) × IsTemplateSet kind bytes events
+IsContent history domain id bytes (Values kind records) =
+    (256 ≤ id) × (t : TemplateView) × (in_force history domain id ≡ Some t) × (kind ≡ t.kind) × IsDataSet t bytes records
+IsContent history domain id bytes (Skipped skipped) =
+    (skipped ≡ id) × (id ≢ 2) × (id ≢ 3) × (256 ≤ id → in_force history domain id ≡ None)
+
+-- the fault of a template set as one of the File, where the set's records begin at this offset
+abbrev pub at_place : TemplateFaultKind → ℕ → ReadFault
+at_place Truncated place = record { kind = BadTemplate Truncated; offset = place }
+at_place BadTemplateId place = record { kind = BadTemplate BadTemplateId; offset = place }
+at_place BadScope place = record { kind = BadTemplate BadScope; offset = place }
+at_place NoMemory place = out_of_memory
+
+abbrev pub in_file : ℕ → TemplateFault → ReadFault
+in_file base fault = at_place fault.kind (base + fault.offset)
+
+-- the first fault of such bytes, which begin at this offset of the File
+abbrev pub HasContentFault : List (ℕ × TemplateEvent) → ℕ → ℕ → List ℕ → ℕ → ReadFault → Type 0
+HasContentFault history domain id bytes base fault =
+    ((kind : Kind) × (of : TemplateFault) × (id ≡ set_id kind) × HasTemplateFault kind bytes of
+    × (fault ≡ in_file base of))
+    ⊎ ((t : TemplateView) × (place : ℕ) × (256 ≤ id) × (in_force history domain id ≡ Some t) × HasRecordFault t bytes place
+    × (fault ≡ record { kind = BadRecord; offset = base + place }))
+
+-- the length that stands in a set's header, and in a message's
+abbrev pub written_length : List ℕ → ℕ
+written_length bytes = big_number 2 (drop 2 bytes)
+
+-- bytes are a set: a header with their length, and its content
+abbrev pub IsSet : List (ℕ × TemplateEvent) → ℕ → List ℕ → Set → Type 0
+IsSet history domain bytes set =
+    (4 ≤ length bytes) × (written_length bytes ≡ length bytes) × IsContent history domain (big_number 2 bytes) (drop 4 bytes) set
+
+-- a set's header stands at the front, with a length that is at least the header's and that the bytes have
+abbrev pub HasSetLength : List ℕ → Type 0
+HasSetLength bytes = (4 ≤ length bytes) × (4 ≤ written_length bytes) × (written_length bytes ≤ length bytes)
+
+-- the first fault of the set at the front, which begins at this offset of the File
+abbrev pub HasSetFault : List (ℕ × TemplateEvent) → ℕ → List ℕ → ℕ → ReadFault → Type 0
+HasSetFault history domain bytes base fault =
+    ((HasSetLength bytes → ⊥) × (fault ≡ record { kind = BadSetLength; offset = base }))
+    ⊎ ((front : List ℕ) × (after : List ℕ) × (bytes ≡ front ++ after) × (4 ≤ length front) × (written_length front ≡ length front)
+    × HasContentFault history domain (big_number 2 front) (drop 4 front) (base + 4) fault)
+
+-- the bytes are these sets one after the other, and then the rest; each set stands after the events of those before it
+abbrev pub ReadsSets : List (ℕ × TemplateEvent) → ℕ → List ℕ → List Set → List ℕ → Type 0
+ReadsSets history domain bytes [] rest = bytes ≡ rest
+ReadsSets history domain bytes (set ∷ sets) rest =
+    (front : List ℕ) × (after : List ℕ) × (bytes ≡ front ++ after) × IsSet history domain front set
+    × ReadsSets (history ++ events_of_set domain set) domain after sets rest
+
+-- behind some sets there are bytes, and this is the first fault there
+abbrev pub HasSetsFault : List (ℕ × TemplateEvent) → ℕ → List ℕ → ℕ → ReadFault → Type 0
+HasSetsFault history domain bytes base fault =
+    (sets : List Set) × (rest : List ℕ) × ReadsSets history domain bytes sets rest × (0 < length rest)
+    × HasSetFault (history ++ events_of_sets domain sets) domain rest (base + (length bytes - length rest)) fault

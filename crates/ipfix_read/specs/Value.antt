@@ -1,0 +1,37 @@
+-- The values of a data record (RFC 7011 sections 3.4.3 and 7).
+use Rattle.std.specs.Prelude.{◌≡◌, ◌≢◌, ℕ, List, [], ◌∷◌, length, take, drop, Option, Some, None, option_and_then, option_map, nat_lt, ◌==◌, if◌then◌else◌}
+use Rattle.byteorder.specs.Endian.{big_number}
+use Rattle.ipfix_templates.specs.declared.field.Field.{Field}
+use Rattle.ipfix_templates.specs.declared.field.TheConstants.{VARIABLE_LENGTH}
+
+-- a value with its field's specifier, without where they lie in memory
+pub record FieldValueView : Type 0 where
+  pub field : Field
+  pub value : List ℕ
+
+-- the length of a fixed field is that of each value
+abbrev pub IsValueOf : Field → List ℕ → Type 0
+IsValueOf field value = field.length ≢ VARIABLE_LENGTH → length value ≡ field.length
+
+-- so many bytes, and those after them
+abbrev pub bytes_at : ℕ → List ℕ → Option (List ℕ × List ℕ)
+bytes_at count bytes = if nat_lt (length bytes) count then None else Some (take count bytes, drop count bytes)
+
+-- a length in one byte below 255, or in two bytes behind 255, and then the value
+abbrev pub variable_at : List ℕ → Option (List ℕ × List ℕ)
+variable_at [] = None
+variable_at (first ∷ bytes) =
+    if nat_lt first 255 then bytes_at first bytes
+    else (if nat_lt (length bytes) 2 then None else bytes_at (big_number 2 bytes) (drop 2 bytes))
+
+-- the value of a field, and the bytes after it
+unfoldable pub value_at : Field → List ℕ → Option (List ℕ × List ℕ)
+value_at field bytes = if field.length == VARIABLE_LENGTH then variable_at bytes else bytes_at field.length bytes
+
+-- the values of these fields, one after the other, and the bytes after them
+unfoldable pub values_at : List Field → List ℕ → Option (List FieldValueView × List ℕ)
+values_at [] bytes = Some ([], bytes)
+values_at (field ∷ fields) bytes =
+    option_and_then
+    (λ v. option_and_then (λ vs. Some (record { field = field; value = v.0 } ∷ vs.0, vs.1)) (values_at fields v.1))
+    (value_at field bytes)

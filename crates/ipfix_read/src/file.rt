@@ -1,0 +1,39 @@
+ghost use Rattle.std.specs.Prelude.{◌≡◌, [], ◌⊎◌, IfOk, IfErr};
+ghost use Rattle.ipfix_read.specs.Fault.{out_of_memory};
+ghost use Rattle.ipfix_read.specs.File.{ReadsFile, HasFileFault};
+
+use crate::fault::ReadFault;
+use crate::message::{MessageList, read_message};
+use ipfix_templates::TemplateTable;
+use std::alloc::Global;
+
+/// What a File says: its messages in order. The values of records are slices of the File.
+#[derive(Debug, Drop)]
+pub struct FileEvents<'a> {
+    /// The messages in order.
+    pub messages: MessageList<'a>,
+}
+
+/// Reads an IPFIX File (RFC 5655), which is messages of RFC 7011 one after the other, and the session in which
+/// templates are in force.
+///
+/// # Errors
+///
+/// The fault at the first place, in byte order, where the bytes are no File; or memory ran out.
+pub fn read_file(alloc: Global, bytes: &[u8]) -> Result<FileEvents<'_>, ReadFault>
+    ensures ok { IfOk result (λ file. ReadsFile [] 0 bytes.now file.messages) }
+    ensures fault { IfErr result (λ fault. (fault ≡ out_of_memory) ⊎ HasFileFault [] 0 0 bytes.now fault) }
+{
+    let mut table = TemplateTable::new(alloc);
+    let mut messages = MessageList::new(alloc);
+    let mut rest = bytes;
+    let mut count = 0u32;
+    while !rest.is_empty() {
+        let base = (bytes.len() - rest.len()) as u64;
+        let (message, after) = read_message(alloc, &mut table, count, rest, base)?;
+        messages.push(message)?;
+        count += 1;
+        rest = after;
+    }
+    Ok(FileEvents { messages })
+}

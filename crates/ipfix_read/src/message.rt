@@ -1,0 +1,190 @@
+ghost use Rattle.std.specs.Prelude.{◌≡◌, ◌^◌, ◌+◌, ◌<◌, ◌≤◌, ◌++◌, ◌∷◌, [], ◌⊎◌, ℕ, List, length, IfOk, IfErr, OnOk, OnErr, None, Some};
+ghost use Rattle.ipfix_templates.specs.declared.event.TemplateEvent.{TemplateEvent as Event};
+ghost use Rattle.ipfix_templates.specs.Table.{Follows};
+ghost use Rattle.ipfix_read.specs.Fault.{out_of_memory};
+ghost use Rattle.ipfix_read.specs.Message.{message_size, header_fault, events_of_message, IsMessage, HasMessageFault};
+ghost use Rattle.ipfix_read.specs.Set.{written_length};
+ghost use Rattle.byteorder.specs.Endian.{big_number};
+
+use crate::fault::{ReadFault, ReadFaultKind};
+use crate::set::{SetList, read_sets};
+use byteorder::{BigEndian, ByteOrder};
+use ipfix_templates::TemplateTable;
+use std::alloc::{AllocError, Global};
+use std::marker::Model;
+
+/// A message (RFC 7011 section 3.1). It has at most 65,535 sets, events and records together.
+#[derive(Debug, Drop)]
+pub struct Message<'a> {
+    /// When the message left the exporter, in seconds since 1970.
+    pub export_time: u32,
+    /// The sequence number.
+    pub sequence: u32,
+    /// The observation domain ID.
+    pub domain: u32,
+    /// The sets in order.
+    pub sets: SetList<'a>,
+}
+
+impl<'a> Model for Message<'a> {
+    ghost use Rattle.std.specs.Prelude.{◌≤◌};
+    ghost use Rattle.ipfix_read.specs.Message.{MessageView, message_size};
+
+    ghost Value = { MessageView };
+
+    ghost view = { λ m. record { export_time = m.export_time; sequence = m.sequence; domain = m.domain; sets = m.sets } };
+
+    ghost invariant = { λ m. message_size m.sets ≤ 65535 };
+}
+
+impl<'a> Message<'a> {
+    /// When the message left the exporter, in seconds since 1970.
+    pub fn export_time(&self) -> u32
+        ensures { result ≡ self.now.export_time }
+    {
+        self.export_time
+    }
+
+    /// The sequence number.
+    pub fn sequence(&self) -> u32
+        ensures { result ≡ self.now.sequence }
+    {
+        self.sequence
+    }
+
+    /// The observation domain ID.
+    pub fn domain(&self) -> u32
+        ensures { result ≡ self.now.domain }
+    {
+        self.domain
+    }
+
+    /// The sets in order. With their events and records they are at most 65,535.
+    pub fn sets(&self) -> &SetList<'a>
+        ensures value { result.now ≡ self.now.sets }
+        ensures size { message_size self.now.sets ≤ 65535 }
+    {
+        &self.sets
+    }
+}
+
+/// A list of messages.
+#[derive(Debug, Drop)]
+pub struct MessageList<'a> {
+    items: Vec<Message<'a>>,
+}
+
+impl<'a> Model for MessageList<'a> {
+    ghost use Rattle.std.specs.Prelude.{List};
+    ghost use Rattle.ipfix_read.specs.Message.{MessageView};
+
+    ghost Value = { List MessageView };
+
+    ghost view = { λ a. a.items.items };
+}
+
+impl<'a> MessageList<'a> {
+    /// No messages.
+    pub fn new(alloc: Global) -> Self
+        ensures { result ≡ [] }
+    {
+        MessageList {
+            items: Vec::new(alloc),
+        }
+    }
+
+    /// How many messages.
+    pub fn len(&self) -> usize
+        ensures { result ≡ length self.now }
+    {
+        self.items.len()
+    }
+
+    /// The messages in order.
+    pub fn as_slice(&self) -> &[Message<'a>]
+        ensures { result.now ≡ self.now }
+    {
+        self.items.as_slice()
+    }
+
+    /// Adds a message at the end. An `Err` changes nothing.
+    pub fn push(&mut self, message: Message<'a>) -> Result<(), AllocError>
+        ensures ok { OnOk result (self.new ≡ self.old ++ message.entry ∷ []) }
+        ensures err { OnErr result (self.new ≡ self.old) }
+    {
+        self.items.push(message)?;
+        Ok(())
+    }
+}
+
+/// The length of a message header.
+const HEADER_LENGTH: usize = 16;
+
+/// The version of IPFIX.
+const VERSION: u16 = 10;
+
+// The length of the message at the front behind so many messages, or what is wrong with its header.
+fn message_length(count: u32, bytes: &[u8]) -> Result<usize, ReadFaultKind>
+    ensures ok { OnOk result (header_fault count bytes.now ≡ None) }
+    ensures counted { OnOk result (count < 4294967295) }
+    ensures whole { IfOk result (λ size. size ≡ written_length bytes.now) }
+    ensures least { IfOk result (λ size. 16 ≤ size) }
+    ensures within { IfOk result (λ size. size ≤ length bytes.now) }
+    ensures most { IfOk result (λ size. size ≤ 65535) }
+    ensures version { OnOk result (big_number 2 bytes.now ≡ 10) }
+    ensures fault { IfErr result (λ kind. header_fault count bytes.now ≡ Some kind) }
+{
+    if bytes.len() < HEADER_LENGTH {
+        return Err(ReadFaultKind::TruncatedHeader);
+    }
+    if count == u32::MAX {
+        return Err(ReadFaultKind::TooManyMessages);
+    }
+    if BigEndian::read_u16(bytes) != VERSION {
+        return Err(ReadFaultKind::BadVersion);
+    }
+    let size = usize::from(BigEndian::read_u16(&bytes[2..]));
+    if size < HEADER_LENGTH {
+        return Err(ReadFaultKind::BadMessageLength);
+    }
+    if bytes.len() < size {
+        return Err(ReadFaultKind::TruncatedMessage);
+    }
+    Ok(size)
+}
+
+/// The message at the front behind so many messages, and the bytes after it, where the message begins at this
+/// offset of the File. The events of its template sets change the table.
+pub fn read_message<'a>(
+    alloc: Global,
+    table: &mut TemplateTable,
+    count: u32,
+    bytes: &'a [u8],
+    base: u64,
+) -> Result<(Message<'a>, &'a [u8]), ReadFault>
+    requires { base + length bytes.now < 2 ^ 64 }
+    ensures ok { IfOk result (λ read. (front : List ℕ) × (bytes.now ≡ front ++ read.1.now) × (header_fault count bytes.now ≡ None)
+        × ((history : List (ℕ × Event)) → Follows table.old history
+        → IsMessage history front read.0 × Follows table.new (history ++ events_of_message read.0))) }
+    ensures counted { OnOk result (count < 4294967295) }
+    ensures shorter { IfOk result (λ read. length read.1.now < length bytes.now) }
+    ensures fault { IfErr result (λ fault. (fault ≡ out_of_memory)
+        ⊎ ((history : List (ℕ × Event)) → Follows table.old history → HasMessageFault history count bytes.now base fault)) }
+{
+    let size = match message_length(count, bytes) {
+        Ok(size) => size,
+        Err(kind) => return Err(ReadFault { kind, offset: base }),
+    };
+    let (front, after) = bytes.split_at(size);
+    let export_time = BigEndian::read_u32(&front[4..]);
+    let sequence = BigEndian::read_u32(&front[8..]);
+    let domain = BigEndian::read_u32(&front[12..]);
+    let sets = read_sets(alloc, table, domain, &front[HEADER_LENGTH..], base + 16)?;
+    let message = Message {
+        export_time,
+        sequence,
+        domain,
+        sets,
+    };
+    Ok((message, after))
+}

@@ -1,0 +1,383 @@
+use super::*;
+use ipfix_templates::{Kind, TemplateEvent, TemplateFaultKind};
+use std::alloc::Global;
+use std::test::*;
+
+// The bytes that these hexadecimal digits spell, two for each byte. Spaces stand between groups.
+fn bytes_of(alloc: Global, text: &str) -> Result<Vec<u8>, Fail> {
+    let mut bytes = Vec::new(alloc);
+    let mut high = None;
+    for digit in text.bytes() {
+        let value = match digit {
+            b'0'..=b'9' => digit - b'0',
+            b'a'..=b'f' => digit - b'a' + 10,
+            _ => continue,
+        };
+        match high {
+            None => high = Some(value),
+            Some(first) => {
+                bytes.push((first & 15) * 16 + (value & 15))?;
+                high = None;
+            }
+        }
+    }
+    Ok(bytes)
+}
+
+fn kind_name(kind: Kind) -> &'static str {
+    match kind {
+        Kind::Flow => "flow",
+        Kind::Options => "options",
+    }
+}
+
+fn describe_event(text: &mut String, event: &TemplateEvent) -> Result<(), Fail> {
+    match event {
+        TemplateEvent::Define(template) => {
+            let id = template.id();
+            let kind = kind_name(template.kind());
+            let scopes = template.scope_count();
+            write!(text, " define {kind} {id} {scopes}")?;
+            for field in template.fields().as_slice() {
+                let number = field.number;
+                let length = field.length;
+                match field.enterprise {
+                    None => write!(text, " {number}:{length}")?,
+                    Some(enterprise) => write!(text, " {enterprise}/{number}:{length}")?,
+                }
+            }
+        }
+        TemplateEvent::Withdraw(id) => write!(text, " withdraw {id}")?,
+        TemplateEvent::WithdrawAll(kind) => {
+            let kind = kind_name(*kind);
+            write!(text, " withdraw all {kind}")?;
+        }
+    }
+    Ok(())
+}
+
+fn describe_record(text: &mut String, record: &Record) -> Result<(), Fail> {
+    let kind = kind_name(record.kind);
+    write!(text, " record {kind}")?;
+    for value in record.fields.as_slice() {
+        let number = value.field().number;
+        write!(text, " {number}=")?;
+        for byte in value.value() {
+            let byte = *byte;
+            write!(text, "{byte:02x}")?;
+        }
+    }
+    Ok(())
+}
+
+fn describe_set(text: &mut String, set: &Set) -> Result<(), Fail> {
+    match set {
+        Set::Templates(kind, events) => {
+            let kind = kind_name(*kind);
+            write!(text, "; templates {kind}")?;
+            for event in events.as_slice() {
+                describe_event(text, event)?;
+            }
+        }
+        Set::Values(kind, records) => {
+            let kind = kind_name(*kind);
+            write!(text, "; values {kind}")?;
+            for record in records.as_slice() {
+                describe_record(text, record)?;
+            }
+        }
+        Set::Skipped(id) => write!(text, "; skipped {id}")?,
+    }
+    Ok(())
+}
+
+// What a File says, as one text.
+fn describe(alloc: Global, file: &FileEvents) -> Result<String, Fail> {
+    let mut text = String::new(alloc);
+    for message in file.messages.as_slice() {
+        let time = message.export_time();
+        let sequence = message.sequence();
+        let domain = message.domain();
+        write!(text, "message {time} {sequence} {domain}")?;
+        for set in message.sets().as_slice() {
+            describe_set(&mut text, set)?;
+        }
+        write!(text, ". ")?;
+    }
+    Ok(text)
+}
+
+fn read_text(alloc: Global, text: &str) -> Result<String, Fail> {
+    let bytes = bytes_of(alloc, text)?;
+    let file = read_file(alloc, &bytes)?;
+    describe(alloc, &file)
+}
+
+// Worked Files: a template of addresses, protocol, packets and octets; padding; a set behind a message of
+// another domain; variable lengths; IPv6; a withdrawal; an options template; two records; reverse elements.
+const FIVE_FIELDS: &str =
+    "000a0041 60000000 00000000 00000001 0002001c 01000005 00080004 000c0004 00040001 00020004 00010004 01000015 0a000001 08080808 06 00000003 000000b4";
+
+const TWO_DOMAINS: &str =
+    "000a0044 60000000 00000000 00000001 0002001c 01000005 00080004 000c0004 00040001 00020004 00010004 01000018 0a000001 08080808 06 00000003 000000b4 000000 000a0025 60000000 00000000 00000002 01000015 0a000001 08080808 06 00000003 000000b4";
+
+const LONG_FORM: &str =
+    "000a0033 60000000 00000000 00000001 00020014 01010003 00080004 000c0004 0052ffff 0101000f 0a000001 08080808 ff0000";
+
+const VERSION_SIX: &str =
+    "000a0044 60000000 00000000 00000001 00020010 01020002 001b0010 001c0010 01020024 20010db8 00000000 00000000 00000001 20010db8 00000000 00000000 00000002";
+
+const WITHDRAWN: &str =
+    "000a0049 60000000 00000000 00000001 0002001c 01000005 00080004 000c0004 00040001 00020004 00010004 00020008 01000000 01000015 0a000001 08080808 06 00000003 000000b4";
+
+const OPTIONS: &str =
+    "000a0032 60000000 00000000 00000001 00030012 01030002 00010095 00040029 00080103 00100000 00010000 00000000 0005";
+
+const TWO_RECORDS: &str =
+    "000a0052 60000000 00000000 00000001 0002001c 01000005 00080004 000c0004 00040001 00020004 00010004 01000026 0a000001 08080808 06 00000003 000000b4 09000001 08080808 11 00000001 00000064";
+
+const REVERSE: &str =
+    "000a0059 60000000 00000000 00000001 0002002c 01000007 00080004 000c0004 00040001 00020004 00010004 80020004 00007279 80010004 00007279 0100001d 0a000001 08080808 06 00000003 000000b4 00000002 00000064";
+
+const FIVE_DEFINED: &str = "; templates flow define flow 256 0 8:4 12:4 4:1 2:4 1:4";
+
+const FIVE_VALUES: &str = " record flow 8=0a000001 12=08080808 4=06 2=00000003 1=000000b4";
+
+#[test]
+fn reads_worked_files(rt: HostRuntime) -> Result<(), Fail> {
+    let alloc = rt.alloc();
+    let one = format!(in alloc;
+        "message 1610612736 0 1{FIVE_DEFINED}; values flow{FIVE_VALUES}. "
+    )?;
+    let two = format!(in alloc; "{one}message 1610612736 0 2; skipped 256. ")?;
+    let withdrawn = format!(in alloc;
+        "message 1610612736 0 1{FIVE_DEFINED}; templates flow withdraw 256; skipped 256. "
+    )?;
+    let records = format!(in alloc;
+        "message 1610612736 0 1{FIVE_DEFINED}; values flow{FIVE_VALUES} record flow 8=09000001 12=08080808 4=11 2=00000001 1=00000064. "
+    )?;
+    let cases = [
+        ("", ""),
+        (
+            "000a0010 60000000 00000007 00000001",
+            "message 1610612736 7 1. ",
+        ),
+        (FIVE_FIELDS, one.as_str()),
+        (TWO_DOMAINS, two.as_str()),
+        (
+            LONG_FORM,
+            "message 1610612736 0 1; templates flow define flow 257 0 8:4 12:4 82:65535; values flow record flow 8=0a000001 12=08080808 82=. ",
+        ),
+        (
+            VERSION_SIX,
+            "message 1610612736 0 1; templates flow define flow 258 0 27:16 28:16; values flow record flow 27=20010db8000000000000000000000001 28=20010db8000000000000000000000002. ",
+        ),
+        (WITHDRAWN, withdrawn.as_str()),
+        (
+            OPTIONS,
+            "message 1610612736 0 1; templates options define options 259 1 149:4 41:8; values options record options 149=00000001 41=0000000000000005. ",
+        ),
+        (TWO_RECORDS, records.as_str()),
+        (
+            REVERSE,
+            "message 1610612736 0 1; templates flow define flow 256 0 8:4 12:4 4:1 2:4 1:4 29305/2:4 29305/1:4; values flow record flow 8=0a000001 12=08080808 4=06 2=00000003 1=000000b4 2=00000002 1=00000064. ",
+        ),
+    ];
+    for (i, (text, wanted)) in cases.iter().enumerate() {
+        assert_eq!(rt; read_text(alloc, text)?.as_str(), *wanted, "at {i}");
+    }
+    Ok(())
+}
+
+// Like what softflowd sends: templates of both versions in one set, an options template with its records, and
+// sets padded to four bytes.
+const TEMPLATES_IN_ONE_SET: &str =
+    "000a00a4 5f5e1000 00000000 00000000 0002004c 0400000c 00080004 000c0004 00160004 00150004 00010004 00020004 00070002 000b0002 00040001 00060001 003c0001 00050001 08000004 001b0010 001c0010 00010004 00020004 00030014 01000002 0001 008f0004 00a00008 0000 01000010 00000001 0000017500000000 04000024 0a000001 0a000002 00000010 00000020 000000b4 00000003 c001 0050 06 1b 04 00";
+
+// Like what pmacct sends: the template in a message of its own, elements of an enterprise, one of them of
+// variable length, and a padded data set.
+const ENTERPRISE_ELEMENTS: &str =
+    "000a0038 5f5e1001 00000000 00000009 00020028 04000006 00080004 000c0004 00070002 00040001 80010004 0000ab62 8002ffff 0000ab62 000a0028 5f5e1002 00000001 00000009 04000018 0a000001 0a000002 0035 11 00000007 03616263 00";
+
+// Like what YAF sends: reverse elements (RFC 5103), a structured list (RFC 6313) behind a length in the long
+// form, two scope fields, and padding behind each kind of set.
+const STRUCTURED_LIST: &str =
+    "000a00a4 5f5e1003 00000000 00000000 0002003c b0010007 00980008 00990008 00550004 80550004 00007279 00560004 80560004 00007279 0125ffff c0030002 80280004 00001ad7 00040001 00030018 d0000003 0002 00900004 00950004 00290008 0000 b001002c 0000018000000001 0000018000000002 000000b4 00000064 00000003 00000002 ff0003030102 0000 d0000014 00000001 00000000 0000000000000009";
+
+#[test]
+fn reads_files_of_usual_exporters(rt: HostRuntime) -> Result<(), Fail> {
+    let cases = [
+        (
+            TEMPLATES_IN_ONE_SET,
+            "message 1600000000 0 0; templates flow define flow 1024 0 8:4 12:4 22:4 21:4 1:4 2:4 7:2 11:2 4:1 6:1 60:1 5:1 define flow 2048 0 27:16 28:16 1:4 2:4; templates options define options 256 1 143:4 160:8; values options record options 143=00000001 160=0000017500000000; values flow record flow 8=0a000001 12=0a000002 22=00000010 21=00000020 1=000000b4 2=00000003 7=c001 11=0050 4=06 6=1b 60=04 5=00. ",
+        ),
+        (
+            ENTERPRISE_ELEMENTS,
+            "message 1600000001 0 9; templates flow define flow 1024 0 8:4 12:4 7:2 4:1 43874/1:4 43874/2:65535. message 1600000002 1 9; values flow record flow 8=0a000001 12=0a000002 7=0035 4=11 1=00000007 2=616263. ",
+        ),
+        (
+            STRUCTURED_LIST,
+            "message 1600000003 0 0; templates flow define flow 45057 0 152:8 153:8 85:4 29305/85:4 86:4 29305/86:4 293:65535 define flow 49155 0 6871/40:4 4:1; templates options define options 53248 2 144:4 149:4 41:8; values flow record flow 152=0000018000000001 153=0000018000000002 85=000000b4 85=00000064 86=00000003 86=00000002 293=030102; values options record options 144=00000001 149=00000000 41=0000000000000009. ",
+        ),
+    ];
+    for (i, (text, wanted)) in cases.iter().enumerate() {
+        assert_eq!(rt; read_text(rt.alloc(), text)?.as_str(), *wanted, "at {i}");
+    }
+    Ok(())
+}
+
+fn fault(kind: ReadFaultKind, offset: u64) -> ReadFault {
+    ReadFault { kind, offset }
+}
+
+#[test]
+fn finds_the_first_fault(rt: HostRuntime) -> Result<(), Fail> {
+    let bad_id = ReadFaultKind::BadTemplate(TemplateFaultKind::BadTemplateId);
+    let truncated = ReadFaultKind::BadTemplate(TemplateFaultKind::Truncated);
+    let bad_scope = ReadFaultKind::BadTemplate(TemplateFaultKind::BadScope);
+    let cases = [
+        // A record whose variable value passes the end of its set.
+        (
+            "000a0032 60000000 00000000 00000001 00020014 01010003 00080004 000c0004 0052ffff 0101000e 0a000001 08080808 0541",
+            fault(ReadFaultKind::BadRecord, 40),
+        ),
+        // The same in the long form, whose length passes the end itself.
+        (
+            "000a0032 60000000 00000000 00000001 00020014 01010003 00080004 000c0004 0052ffff 0101000e 0a000001 08080808 ff41",
+            fault(ReadFaultKind::BadRecord, 40),
+        ),
+        // A set that is shorter than its header, and bytes behind the last set.
+        (
+            "000a0014 60000000 00000000 00000001 01000003",
+            fault(ReadFaultKind::BadSetLength, 16),
+        ),
+        (
+            "000a0013 60000000 00000000 00000001 010000",
+            fault(ReadFaultKind::BadSetLength, 16),
+        ),
+        (
+            "000a0014 60000000 00000000 00000001 01000005",
+            fault(ReadFaultKind::BadSetLength, 16),
+        ),
+        (
+            "000a001a 60000000 00000000 00000001 0002000a 01000001 0008",
+            fault(truncated, 20),
+        ),
+        (
+            "000a001a 60000000 00000000 00000001 0003000a 01000001 0000",
+            fault(bad_scope, 20),
+        ),
+        // All options templates withdrawn in a set of templates.
+        (
+            "000a0018 60000000 00000000 00000001 00020008 00030000",
+            fault(bad_id, 20),
+        ),
+        // A second message's version, and a header cut short.
+        (
+            "000a0010 60000000 00000000 00000001 00090010 60000000 00000000 00000001",
+            fault(ReadFaultKind::BadVersion, 16),
+        ),
+        (
+            "000a0010 60000000 00000000 00000001 000a",
+            fault(ReadFaultKind::TruncatedHeader, 16),
+        ),
+    ];
+    for (i, (text, wanted)) in cases.iter().enumerate() {
+        let bytes = bytes_of(rt.alloc(), text)?;
+        assert_eq!(rt;
+            read_file(rt.alloc(), &bytes).err(),
+            Some(*wanted),
+            "at {i}"
+        );
+    }
+    Ok(())
+}
+
+// The File with these two bytes at this place.
+fn changed(alloc: Global, text: &str, place: usize, high: u8, low: u8) -> Result<Vec<u8>, Fail> {
+    let mut bytes = bytes_of(alloc, text)?;
+    if place + 1 < bytes.len() && place < 1000 {
+        bytes[place] = high;
+        bytes[place + 1] = low;
+    }
+    Ok(bytes)
+}
+
+#[test]
+fn finds_faults_of_changed_files(rt: HostRuntime) -> Result<(), Fail> {
+    let alloc = rt.alloc();
+    let truncated = ReadFaultKind::BadTemplate(TemplateFaultKind::Truncated);
+    let bad_id = ReadFaultKind::BadTemplate(TemplateFaultKind::BadTemplateId);
+    let cases = [
+        (FIVE_FIELDS, 0, 0, 9, ReadFaultKind::BadVersion, 0),
+        (FIVE_FIELDS, 2, 0, 15, ReadFaultKind::BadMessageLength, 0),
+        (FIVE_FIELDS, 20, 0, 255, bad_id, 20),
+        (FIVE_FIELDS, 18, 0, 0, ReadFaultKind::BadSetLength, 16),
+        (FIVE_FIELDS, 18, 0, 3, ReadFaultKind::BadSetLength, 16),
+        (FIVE_FIELDS, 18, 0, 0x32, ReadFaultKind::BadSetLength, 16),
+        (FIVE_FIELDS, 18, 0, 0x18, truncated, 20),
+        (FIVE_FIELDS, 18, 0, 0x31, truncated, 44),
+    ];
+    for (i, (text, place, high, low, kind, offset)) in cases.iter().enumerate() {
+        let bytes = changed(alloc, text, *place, *high, *low)?;
+        assert_eq!(rt;
+            read_file(alloc, &bytes).err(),
+            Some(fault(*kind, *offset)),
+            "at {i}"
+        );
+    }
+    Ok(())
+}
+
+// The File of a withdrawn template, with other withdrawals in its second set: of all templates, of all options
+// templates in a set of options templates and in one of templates.
+#[test]
+fn withdraws_all_of_a_kind(rt: HostRuntime) -> Result<(), Fail> {
+    let alloc = rt.alloc();
+    let mut bytes = changed(alloc, WITHDRAWN, 48, 0, 2)?;
+    let text = describe(alloc, &read_file(alloc, &bytes)?)?;
+    let wanted = format!(in alloc;
+        "message 1610612736 0 1{FIVE_DEFINED}; templates flow withdraw all flow; skipped 256. "
+    )?;
+    assert_eq!(rt; text.as_str(), wanted.as_str());
+
+    assert_eq!(rt; bytes.len(), 73);
+    bytes[48] = 0;
+    bytes[49] = 3;
+    let bad_id = ReadFaultKind::BadTemplate(TemplateFaultKind::BadTemplateId);
+    assert_eq!(rt; read_file(alloc, &bytes).err(), Some(fault(bad_id, 48)));
+
+    assert_eq!(rt; bytes.len(), 73);
+    bytes[44] = 0;
+    bytes[45] = 3;
+    let text = describe(alloc, &read_file(alloc, &bytes)?)?;
+    let wanted = format!(in alloc;
+        "message 1610612736 0 1{FIVE_DEFINED}; templates options withdraw all options; values flow{FIVE_VALUES}. "
+    )?;
+    assert_eq!(rt; text.as_str(), wanted.as_str());
+    Ok(())
+}
+
+#[test]
+fn reads_each_prefix(rt: HostRuntime) -> Result<(), Fail> {
+    let bytes = bytes_of(rt.alloc(), TWO_DOMAINS)?;
+    assert_eq!(rt; bytes.len(), 105);
+    for size in 0..106usize {
+        let wanted = match size {
+            0 | 68 | 105 => None,
+            1..=15 => Some(fault(ReadFaultKind::TruncatedHeader, 0)),
+            16..=67 => Some(fault(ReadFaultKind::TruncatedMessage, 0)),
+            69..=83 => Some(fault(ReadFaultKind::TruncatedHeader, 68)),
+            _ => Some(fault(ReadFaultKind::TruncatedMessage, 68)),
+        };
+        let front = &bytes[..size];
+        assert_eq!(rt; read_file(rt.alloc(), front).err(), wanted, "at {size}");
+    }
+    Ok(())
+}
+
+#[test]
+fn laws_hold() {
+    first_message_and_rest();
+    one_reading();
+}

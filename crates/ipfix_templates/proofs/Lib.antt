@@ -1,0 +1,5 @@
+pub mod Choice
+pub mod Records
+pub mod Loops
+pub mod History
+pub mod Tables

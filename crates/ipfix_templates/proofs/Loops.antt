@@ -1,0 +1,45 @@
+-- Reading one thing after the other, as a loop does.
+use Rattle.std.proofs.Common.{◌≡◌, ℕ, zero, suc, ◌+◌, ◌-◌, ◌<◌, ◌≤◌, List, [], ◌∷◌, ◌++◌, length, Option, Some, None, Result, Ok, Err, refl, sym, ap, ◌∙◌, append_assoc, arith}
+use Rattle.std.specs.Prelude.{option_and_then}
+use Rattle.std.proofs.lemmas.List.{append-nil}
+use Rattle.ipfix_templates.specs.declared.field.Field.{Field}
+use Rattle.ipfix_templates.specs.declared.kind.Kind.{Kind}
+use Rattle.ipfix_templates.specs.declared.event.TemplateEvent.{TemplateEvent}
+use Rattle.ipfix_templates.specs.Reading.{field_at, fields_at, record_at, ReadsEvents}
+
+-- what was read before, and what is still read
+abbrev pub behind : List Field → Option (List Field × List ℕ) → Option (List Field × List ℕ)
+behind front read = option_and_then (λ x. Some (front ++ x.0, x.1)) read
+
+regroup : (front : List Field) (f : Field) (read : Option (List Field × List ℕ)) → behind front (option_and_then (λ x. Some (f ∷ x.0, x.1)) read) ≡ behind (front ++ f ∷ []) read
+regroup front f None = refl
+regroup front f (Some x) = ap (λ (fs : List Field). Some (fs, x.1)) (simp append_assoc)
+
+pub goes_on : (front : List Field) (count i : ℕ) (bytes : List ℕ) (f : Field) (after : List ℕ) (total : Option (List Field × List ℕ)) → i < count → field_at bytes ≡ Some (f, after)
+    → behind front (fields_at (count - i) bytes) ≡ total → behind (front ++ f ∷ []) (fields_at (count - (i + 1)) after) ≡ total
+unfolding fields_at
+goes_on front count i bytes f after total lt h so_far =
+    let k : count - i ≡ suc (count - (i + 1)) = omega arith in
+    let one : behind front (fields_at (count - i) bytes) ≡ behind (front ++ f ∷ []) (fields_at (count - (i + 1)) after) = rw (k, h) (regroup front f (fields_at (count - (i + 1)) after)) in
+    sym one ∙ so_far
+
+pub ends : (front : List Field) (count i : ℕ) (bytes : List ℕ) (total : Option (List Field × List ℕ)) → i < count → field_at bytes ≡ None
+    → behind front (fields_at (count - i) bytes) ≡ total → None ≡ total
+unfolding fields_at
+ends front count i bytes total lt h so_far =
+    let k : count - i ≡ suc (count - (i + 1)) = omega arith in
+    let one : behind front (fields_at (count - i) bytes) ≡ None = rw (k, h) refl in
+    sym one ∙ so_far
+
+pub is_done : (front : List Field) (count i : ℕ) (bytes : List ℕ) (total : Option (List Field × List ℕ)) → count ≤ i → behind front (fields_at (count - i) bytes) ≡ total → Some (front, bytes) ≡ total
+unfolding fields_at
+is_done front count i bytes total le so_far =
+    let k : count - i ≡ 0 = omega arith in
+    let one : behind front (fields_at (count - i) bytes) ≡ Some (front, bytes) = rw k (ap (λ (fs : List Field). Some (fs, bytes)) (append-nil front)) in
+    sym one ∙ so_far
+
+-- one more record
+pub reads_more : (kind : Kind) (bytes : List ℕ) (events : List TemplateEvent) (rest : List ℕ) (event : TemplateEvent) (after : List ℕ) → ReadsEvents kind bytes events rest → 4 ≤ length rest
+    → record_at kind rest ≡ Ok (event, after) → ReadsEvents kind bytes (events ++ event ∷ []) after
+reads_more kind bytes [] rest event after done long read = (after, rw done long, rw done read, refl)
+reads_more kind bytes (e ∷ es) rest event after done long read = (done.0, done.1, done.2, reads_more kind done.0 es rest event after done.3 long read)

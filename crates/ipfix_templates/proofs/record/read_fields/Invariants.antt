@@ -1,0 +1,10 @@
+use Rattle.std.proofs.Common.{◌≡◌, ◌-◌, length}
+use Rattle.ipfix_templates.specs.Reading.{fields_at}
+use Rattle.ipfix_templates.proofs.Loops.{behind}
+use Rattle.ipfix_templates.proofs.record.read_fields.Given as goal
+
+abbrev pub invariant-loop : goal.invariant-loop
+invariant-loop l = record {
+  read : behind l.fields (fields_at (l.count - l.counter) l.rest) ≡ fields_at l.count l.bytes;
+  counted : length l.fields ≡ l.counter;
+}

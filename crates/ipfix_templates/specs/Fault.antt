@@ -1,0 +1,7 @@
+-- The fault that says that memory ran out.
+use Rattle.ipfix_templates.specs.declared.fault.TemplateFault.{TemplateFault}
+use Rattle.ipfix_templates.specs.declared.fault.TemplateFaultKind.TheVariants.{NoMemory}
+
+-- it has no place
+abbrev pub out_of_memory : TemplateFault
+out_of_memory = record { kind = NoMemory; offset = 0 }

@@ -1,0 +1,16 @@
+-- The two kinds of template.
+use Rattle.std.specs.Prelude.{ℕ, Bool, true, false}
+use Rattle.ipfix_templates.specs.declared.kind.Kind.{Kind}
+use Rattle.ipfix_templates.specs.declared.kind.Kind.TheVariants.{Flow, Options}
+
+-- the set ID of the sets that hold its templates (RFC 7011 section 3.3.2)
+abbrev pub set_id : Kind → ℕ
+set_id Flow = 2
+set_id Options = 3
+
+-- whether two kinds are the same
+abbrev pub same_kind : Kind → Kind → Bool
+same_kind Flow Flow = true
+same_kind Flow Options = false
+same_kind Options Flow = false
+same_kind Options Options = true

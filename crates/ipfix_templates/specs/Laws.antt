@@ -1,0 +1,34 @@
+-- What holds of the definitions.
+use Rattle.std.specs.Prelude.{◌≡◌, ℕ, ◌*◌, ◌≤◌, length, List, [], ◌∷◌, ◌++◌, Bool, Option, not, ◌==◌, ◌&&◌, if◌then◌else◌}
+use Rattle.std.specs.Option.{option_or}
+use Rattle.ipfix_templates.specs.declared.kind.Kind.{Kind}
+use Rattle.ipfix_templates.specs.declared.event.TemplateEvent.{TemplateEvent}
+use Rattle.ipfix_templates.specs.declared.fault.TemplateFault.{TemplateFault}
+use Rattle.ipfix_templates.specs.declared.fault.TemplateFaultKind.TheVariants.{NoMemory}
+use Rattle.ipfix_templates.specs.Template.{TemplateView}
+use Rattle.ipfix_templates.specs.InForce.{in_force, definition, withdraws, kept_where}
+use Rattle.ipfix_templates.specs.Reading.{IsTemplateSet, HasTemplateFault}
+
+-- what an event in the domain leaves of the template in force at an ID
+abbrev pub after_event : ℕ → TemplateEvent → Option TemplateView → Option TemplateView
+after_event id event before = option_or (definition id event) (kept_where (λ t. not (withdraws id t.kind event)) before)
+
+-- the template in force after one more event, from the one before it
+abbrev pub EventAfterHistory : Type 0
+EventAfterHistory = (history : List (ℕ × TemplateEvent)) (at : ℕ) (event : TemplateEvent) (domain id : ℕ)
+    → in_force (history ++ (at, event) ∷ []) domain id ≡ (if at == domain then after_event id event (in_force history domain id) else in_force history domain id)
+
+-- bytes are a template set of one list of events, or have one first fault, and not both
+abbrev pub OneReading : Type 0
+OneReading = (kind : Kind) (bytes : List ℕ)
+    → ((events others : List TemplateEvent) → IsTemplateSet kind bytes events → IsTemplateSet kind bytes others → events ≡ others)
+    × ((fault other : TemplateFault) → HasTemplateFault kind bytes fault → HasTemplateFault kind bytes other → fault ≡ other)
+    × ((events : List TemplateEvent) (fault : TemplateFault) → IsTemplateSet kind bytes events → HasTemplateFault kind bytes fault → ⊥)
+
+-- a template set has at least 4 bytes for each of its events
+abbrev pub EventsFit : Type 0
+EventsFit = (kind : Kind) (bytes : List ℕ) (events : List TemplateEvent) → IsTemplateSet kind bytes events → 4 * length events ≤ length bytes
+
+-- that memory ran out is no fault of the bytes
+abbrev pub MemoryIsNoFault : Type 0
+MemoryIsNoFault = (kind : Kind) (bytes : List ℕ) (fault : TemplateFault) → HasTemplateFault kind bytes fault → fault.kind ≡ NoMemory → ⊥

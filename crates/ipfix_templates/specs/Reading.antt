@@ -1,0 +1,80 @@
+-- Template records, one after the other (RFC 7011 sections 3.2 and 3.4).
+use Rattle.std.specs.Prelude.{◌≡◌, ℕ, zero, suc, ◌+◌, ◌-◌, ◌<◌, ◌≤◌, List, [], ◌∷◌, length, drop, Option, Some, None, Result, Ok, Err, option_and_then, nat_lt, ◌==◌, ◌||◌, if◌then◌else◌}
+use Rattle.byteorder.specs.Endian.{big_number}
+use Rattle.ipfix_templates.specs.declared.field.Field.{Field}
+use Rattle.ipfix_templates.specs.declared.kind.Kind.{Kind}
+use Rattle.ipfix_templates.specs.declared.kind.Kind.TheVariants.{Flow, Options}
+use Rattle.ipfix_templates.specs.declared.event.TemplateEvent.{TemplateEvent}
+use Rattle.ipfix_templates.specs.declared.event.TemplateEvent.TheVariants.{Define, Withdraw, WithdrawAll}
+use Rattle.ipfix_templates.specs.declared.fault.TemplateFault.{TemplateFault}
+use Rattle.ipfix_templates.specs.declared.fault.TemplateFaultKind.{TemplateFaultKind}
+use Rattle.ipfix_templates.specs.declared.fault.TemplateFaultKind.TheVariants.{Truncated, BadTemplateId, BadScope}
+use Rattle.ipfix_templates.specs.Kind.{set_id}
+use Rattle.ipfix_templates.specs.Template.{TemplateView}
+
+-- the field specifier at the front, and the bytes after it: the enterprise bit with the element's number, the
+-- length, and an enterprise number where the bit is 1
+unfoldable pub field_at : List ℕ → Option (Field × List ℕ)
+field_at bytes =
+    let number = big_number 2 bytes in
+    let size = big_number 2 (drop 2 bytes) in
+    if nat_lt (length bytes) 4 then None
+    else (if nat_lt number 32768 then Some (record { enterprise = None; number = number; length = size }, drop 4 bytes)
+    else (if nat_lt (length bytes) 8 then None
+    else Some (record { enterprise = Some (big_number 4 (drop 4 bytes)); number = number - 32768; length = size }, drop 8 bytes)))
+
+-- so many specifiers, and the bytes after them
+unfoldable pub fields_at : ℕ → List ℕ → Option (List Field × List ℕ)
+fields_at zero bytes = Some ([], bytes)
+fields_at (suc n) bytes = option_and_then (λ f. option_and_then (λ fs. Some (f.0 ∷ fs.0, fs.1)) (fields_at n f.1)) (field_at bytes)
+
+-- the definition that so many specifiers end, behind what stands before them
+abbrev pub defined_by : Kind → ℕ → ℕ → Option (List Field × List ℕ) → Result (TemplateEvent × List ℕ) TemplateFaultKind
+defined_by kind id scopes None = Err Truncated
+defined_by kind id scopes (Some fs) = Ok (Define (record { id = id; kind = kind; scope_count = scopes; fields = fs.0 }), fs.1)
+
+-- a definition of so many fields behind its ID and field count; an options template has a scope field count first
+unfoldable pub definition_at : Kind → ℕ → ℕ → List ℕ → Result (TemplateEvent × List ℕ) TemplateFaultKind
+definition_at Flow id count bytes = defined_by Flow id 0 (fields_at count bytes)
+definition_at Options id count bytes =
+    let scopes = big_number 2 bytes in
+    if nat_lt (length bytes) 2 then Err Truncated
+    else (if scopes == 0 || nat_lt count scopes then Err BadScope
+    else defined_by Options id scopes (fields_at count (drop 2 bytes)))
+
+-- what a field count of 0 says: under the set's own ID all templates of the kind are withdrawn, under another the
+-- template of that ID (section 8.1)
+abbrev pub withdrawal : Kind → ℕ → Result TemplateEvent TemplateFaultKind
+withdrawal kind id =
+    if id == set_id kind then Ok (WithdrawAll kind)
+    else (if nat_lt id 256 then Err BadTemplateId else Ok (Withdraw id))
+
+-- a withdrawal, and the bytes after it
+abbrev pub followed_by : List ℕ → Result TemplateEvent TemplateFaultKind → Result (TemplateEvent × List ℕ) TemplateFaultKind
+followed_by after (Ok event) = Ok (event, after)
+followed_by after (Err fault) = Err fault
+
+-- the template record at the front and the bytes after it, or the first fault of what stands there
+unfoldable pub record_at : Kind → List ℕ → Result (TemplateEvent × List ℕ) TemplateFaultKind
+record_at kind bytes =
+    let id = big_number 2 bytes in
+    let count = big_number 2 (drop 2 bytes) in
+    if count == 0 then followed_by (drop 4 bytes) (withdrawal kind id)
+    else (if nat_lt id 256 then Err BadTemplateId
+    else definition_at kind id count (drop 4 bytes))
+
+-- records that stand one after the other give these events and leave these bytes
+abbrev pub ReadsEvents : Kind → List ℕ → List TemplateEvent → List ℕ → Type 0
+ReadsEvents kind bytes [] rest = bytes ≡ rest
+ReadsEvents kind bytes (event ∷ events) rest =
+    (after : List ℕ) × (4 ≤ length bytes) × (record_at kind bytes ≡ Ok (event, after)) × ReadsEvents kind after events rest
+
+-- the bytes behind the header of a template set are these records, and then padding of fewer than 4 bytes
+abbrev pub IsTemplateSet : Kind → List ℕ → List TemplateEvent → Type 0
+IsTemplateSet kind bytes events = (padding : List ℕ) × ReadsEvents kind bytes events padding × (length padding < 4)
+
+-- behind some records there is no padding and no record, and this is the first fault there
+abbrev pub HasTemplateFault : Kind → List ℕ → TemplateFault → Type 0
+HasTemplateFault kind bytes fault =
+    (events : List TemplateEvent) × (rest : List ℕ) × ReadsEvents kind bytes events rest
+    × (4 ≤ length rest) × (record_at kind rest ≡ Err fault.kind) × (fault.offset + length rest ≡ length bytes)

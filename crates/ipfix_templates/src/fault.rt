@@ -1,0 +1,43 @@
+ghost use Rattle.std.specs.Prelude.{◌≡◌};
+ghost use Rattle.ipfix_templates.specs.Fault.{out_of_memory};
+
+use std::alloc::AllocError;
+use thiserror::Error;
+
+/// What is wrong with a template record.
+#[derive(Clone, Copy, Debug, PartialEq, Eq, Error)]
+pub enum TemplateFaultKind {
+    /// A part of the record is missing.
+    #[error("Truncated")]
+    Truncated,
+    /// The template ID is below 256, and the record is no withdrawal of all templates of the set's kind.
+    #[error("BadTemplateId")]
+    BadTemplateId,
+    /// An options template has no scope field, or more scope fields than fields (RFC 7011 section 3.4.2.2).
+    #[error("BadScope")]
+    BadScope,
+    /// Memory ran out.
+    #[error("NoMemory")]
+    NoMemory,
+}
+
+/// The first fault of a template set.
+#[derive(Clone, Copy, Debug, PartialEq, Eq, Error)]
+#[error("{kind} at {offset}")]
+pub struct TemplateFault {
+    /// What is wrong.
+    pub kind: TemplateFaultKind,
+    /// Where the template record begins, in bytes from the end of the set's header; 0 where memory ran out.
+    pub offset: u64,
+}
+
+impl From<AllocError> for TemplateFault {
+    ghost from_gives = { λ _ fault. fault ≡ out_of_memory };
+
+    fn from(_error: AllocError) -> TemplateFault {
+        TemplateFault {
+            kind: TemplateFaultKind::NoMemory,
+            offset: 0,
+        }
+    }
+}

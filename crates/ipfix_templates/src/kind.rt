@@ -1,0 +1,33 @@
+ghost use Rattle.std.specs.Prelude.{◌≡◌};
+ghost use Rattle.ipfix_templates.specs.Kind.{same_kind, set_id};
+
+/// What a template describes.
+#[derive(Clone, Copy, Debug, PartialEq, Eq)]
+pub enum Kind {
+    /// Flow records: a template of a template set (RFC 7011 section 3.4.1).
+    Flow,
+    /// Options records: a template of an options template set (RFC 7011 section 3.4.2).
+    Options,
+}
+
+impl Kind {
+    /// The set ID of the sets that hold templates of this kind (RFC 7011 section 3.3.2).
+    pub fn set_id(self) -> u16
+        ensures { result ≡ set_id self }
+    {
+        match self {
+            Kind::Flow => 2,
+            Kind::Options => 3,
+        }
+    }
+
+    /// Whether the two are the same kind.
+    pub fn is(self, other: Kind) -> bool
+        ensures { result ≡ same_kind self other }
+    {
+        match (self, other) {
+            (Kind::Flow, Kind::Flow) | (Kind::Options, Kind::Options) => true,
+            (Kind::Flow, Kind::Options) | (Kind::Options, Kind::Flow) => false,
+        }
+    }
+}

@@ -1,0 +1,31 @@
+//! IPFIX template sets, and the templates in force (RFC 7011 sections 3.2, 3.4 and 8).
+//!
+//! It stands on no other crate of this repository. `read_template_set` reads the bytes after the header of a
+//! template set or an options template set into template events: definitions, withdrawals of one template and
+//! withdrawals of all templates of a kind. `TemplateTable` keeps the templates of each observation domain.
+//! The layer above may rely on this: the events are those of the bytes, record by record, or the fault is that
+//! of the first record that is none; and a table that was changed by each event of a history in turn finds at
+//! each domain and ID the template in force, which the history alone gives (`in_force`).
+#![tactic(auto)]
+
+mod event;
+mod fault;
+mod field;
+mod kind;
+mod laws;
+mod record;
+mod set;
+mod table;
+mod template;
+
+pub use event::{TemplateEvent, TemplateEvents};
+pub use fault::{TemplateFault, TemplateFaultKind};
+pub use field::{Field, Fields, VARIABLE_LENGTH};
+pub use kind::Kind;
+pub use laws::{event_after_history, events_fit, memory_is_no_fault, one_reading};
+pub use set::read_template_set;
+pub use table::TemplateTable;
+pub use template::Template;
+
+#[cfg(test)]
+mod tests;

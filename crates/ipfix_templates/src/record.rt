@@ -1,0 +1,136 @@
+ghost use Rattle.std.specs.Prelude.{◌≡◌, ◌≤◌, ◌<◌, length, IfOk, IfSome, Ok, Err, MatchResult, option_map};
+ghost use Rattle.ipfix_templates.specs.Reading.{field_at, fields_at, record_at, definition_at};
+
+use crate::event::TemplateEvent;
+use crate::fault::TemplateFaultKind;
+use crate::field::{Field, Fields};
+use crate::kind::Kind;
+use crate::template::Template;
+use byteorder::{BigEndian, ByteOrder};
+use std::alloc::{AllocError, Global};
+
+/// What was read from the front of some bytes, and the bytes after it; or the fault of what stands there.
+pub type Read<'a, T> = Result<(T, &'a [u8]), TemplateFaultKind>;
+
+/// The bit of a field specifier's first two bytes that says that an enterprise number follows.
+const ENTERPRISE_BIT: u16 = 0x8000;
+
+/// Template IDs below this one are reserved (RFC 7011 section 3.4.1).
+const FIRST_TEMPLATE_ID: u16 = 256;
+
+// The field specifier at the front, and the bytes after it. None where a part is missing.
+#[tactic(auto, unfolding(crate::specs::Reading::field_at))]
+fn read_field(bytes: &[u8]) -> Option<(Field, &[u8])>
+    ensures { option_map (λ x. (x.0, x.1.now)) result ≡ field_at bytes.now }
+{
+    if bytes.len() < 4 {
+        return None;
+    }
+    let number = BigEndian::read_u16(bytes);
+    let length = BigEndian::read_u16(&bytes[2..]);
+    if number < ENTERPRISE_BIT {
+        let field = Field {
+            enterprise: None,
+            number,
+            length,
+        };
+        return Some((field, &bytes[4..]));
+    }
+    if bytes.len() < 8 {
+        return None;
+    }
+    let field = Field {
+        enterprise: Some(BigEndian::read_u32(&bytes[4..])),
+        number: number - ENTERPRISE_BIT,
+        length,
+    };
+    Some((field, &bytes[8..]))
+}
+
+// So many field specifiers from the front, and the bytes after them. None where a part is missing.
+fn read_fields(
+    alloc: Global,
+    count: u16,
+    bytes: &[u8],
+) -> Result<Option<(Fields, &[u8])>, AllocError>
+    ensures read { IfOk result (λ read. option_map (λ x. (x.0, x.1.now)) read ≡ fields_at count bytes.now) }
+    ensures counted { IfOk result (λ read. IfSome read (λ x. length x.0 ≡ count)) }
+{
+    let mut fields = Fields::new(alloc);
+    let mut rest = bytes;
+    for _ in 0..count {
+        let Some((field, after)) = read_field(rest) else {
+            return Ok(None);
+        };
+        fields.push(field)?;
+        rest = after;
+    }
+    Ok(Some((fields, rest)))
+}
+
+// The definition behind an ID and a field count.
+#[tactic(auto, unfolding(crate::specs::Reading::definition_at))]
+fn read_definition<'a>(
+    alloc: Global,
+    kind: Kind,
+    id: u16,
+    count: u16,
+    bytes: &'a [u8],
+) -> Result<Read<'a, TemplateEvent>, AllocError>
+    requires numbered { 256 ≤ id }
+    requires some_field { 0 < count }
+    ensures { IfOk result (λ read. MatchResult read (λ x. definition_at kind id count bytes.now ≡ Ok (x.0, x.1.now))
+        (λ fault. definition_at kind id count bytes.now ≡ Err fault)) }
+{
+    let mut rest = bytes;
+    let mut scope_count = 0;
+    if let Kind::Options = kind {
+        if bytes.len() < 2 {
+            return Ok(Err(TemplateFaultKind::Truncated));
+        }
+        scope_count = BigEndian::read_u16(bytes);
+        if scope_count == 0 || scope_count > count {
+            return Ok(Err(TemplateFaultKind::BadScope));
+        }
+        rest = &bytes[2..];
+    }
+    let Some((fields, rest)) = read_fields(alloc, count, rest)? else {
+        return Ok(Err(TemplateFaultKind::Truncated));
+    };
+    let template = Template {
+        id,
+        kind,
+        scope_count,
+        fields,
+    };
+    Ok(Ok((TemplateEvent::Define(template), rest)))
+}
+
+/// The template record at the front (RFC 7011 sections 3.4.1 and 3.4.2), and the bytes after it.
+#[tactic(auto, unfolding(crate::specs::Reading::record_at))]
+pub fn read_record<'a>(
+    alloc: Global,
+    kind: Kind,
+    bytes: &'a [u8],
+) -> Result<Read<'a, TemplateEvent>, AllocError>
+    requires { 4 ≤ length bytes.now }
+    ensures { IfOk result (λ read. MatchResult read (λ x. record_at kind bytes.now ≡ Ok (x.0, x.1.now))
+        (λ fault. record_at kind bytes.now ≡ Err fault)) }
+{
+    let id = BigEndian::read_u16(bytes);
+    let count = BigEndian::read_u16(&bytes[2..]);
+    let rest = &bytes[4..];
+    if count == 0 {
+        if id == kind.set_id() {
+            return Ok(Ok((TemplateEvent::WithdrawAll(kind), rest)));
+        }
+        if id < FIRST_TEMPLATE_ID {
+            return Ok(Err(TemplateFaultKind::BadTemplateId));
+        }
+        return Ok(Ok((TemplateEvent::Withdraw(id), rest)));
+    }
+    if id < FIRST_TEMPLATE_ID {
+        return Ok(Err(TemplateFaultKind::BadTemplateId));
+    }
+    read_definition(alloc, kind, id, count, rest)
+}

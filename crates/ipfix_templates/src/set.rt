@@ -1,0 +1,40 @@
+ghost use Rattle.std.specs.Prelude.{◌≡◌, IfOk, IfErr, ◌⊎◌};
+ghost use Rattle.ipfix_templates.specs.Reading.{IsTemplateSet, HasTemplateFault};
+ghost use Rattle.ipfix_templates.specs.Fault.{out_of_memory};
+
+use crate::event::TemplateEvents;
+use crate::fault::TemplateFault;
+use crate::kind::Kind;
+use crate::record::read_record;
+use std::alloc::Global;
+
+/// Reads the bytes behind the header of a template set, or of an options template set where the kind is
+/// `Options` (RFC 7011 section 3.3). Records are read while 4 bytes are left; fewer are padding.
+///
+/// # Errors
+///
+/// The first record that is none, with its fault and the place where it begins; or memory ran out.
+pub fn read_template_set(
+    alloc: Global,
+    bytes: &[u8],
+    kind: Kind,
+) -> Result<TemplateEvents, TemplateFault>
+    ensures ok { IfOk result (λ events. IsTemplateSet kind bytes.now events) }
+    ensures fault { IfErr result (λ fault. (fault ≡ out_of_memory) ⊎ HasTemplateFault kind bytes.now fault) }
+{
+    let mut events = TemplateEvents::new(alloc);
+    let mut rest = bytes;
+    while rest.len() >= 4 {
+        match read_record(alloc, kind, rest)? {
+            Ok((event, after)) => {
+                events.push(event)?;
+                rest = after;
+            }
+            Err(kind) => {
+                let offset = (bytes.len() - rest.len()) as u64;
+                return Err(TemplateFault { kind, offset });
+            }
+        }
+    }
+    Ok(events)
+}

@@ -1,0 +1,82 @@
+ghost use Rattle.std.specs.Prelude.{◌≡◌, ◌++◌, ◌∷◌, [], List, ℕ, Some, None, OnOk, OnErr};
+ghost use Rattle.std.specs.Option.{option_copied};
+ghost use Rattle.ipfix_templates.specs.declared.event.TemplateEvent.{TemplateEvent as Event};
+ghost use Rattle.ipfix_templates.specs.declared.event.TemplateEvent.TheVariants.{Define, Withdraw, WithdrawAll};
+ghost use Rattle.ipfix_templates.specs.Table.{template_at, ChangesAt, DropsKind, Follows};
+
+use crate::kind::Kind;
+use crate::template::Template;
+use std::alloc::{AllocError, Global};
+use std::collections::HashMap;
+use std::marker::Model;
+
+/// The templates of each observation domain, by their IDs. Contracts see it as its entries, by what
+/// `template_at` finds there at each domain and ID; their order is left open.
+#[derive(Drop)]
+pub struct TemplateTable {
+    templates: HashMap<(u32, u16), Template>,
+}
+
+impl Model for TemplateTable {
+    ghost use Rattle.std.specs.Prelude.{List, ℕ};
+    ghost use Rattle.ipfix_templates.specs.Template.{TemplateView};
+
+    ghost Value = { List ((ℕ × ℕ) × TemplateView) };
+
+    ghost view = { λ a. a.templates.entries };
+}
+
+impl TemplateTable {
+    /// A table of no templates.
+    pub fn new(alloc: Global) -> Self
+        ensures empty { result ≡ [] }
+        ensures follows { Follows result [] }
+    {
+        TemplateTable {
+            templates: HashMap::new(alloc),
+        }
+    }
+
+    /// The template of this ID in the domain.
+    pub fn get(&self, domain: u32, id: u16) -> Option<&Template>
+        ensures { option_copied result ≡ template_at self.now domain id }
+    {
+        self.templates.get(&(domain, id))
+    }
+
+    /// Defines a template in the domain, in place of the one of its ID. An `Err` changes nothing.
+    pub fn set(&mut self, domain: u32, template: Template) -> Result<(), AllocError>
+        ensures ok { OnOk result (ChangesAt self.old self.new domain template.id (Some template)) }
+        ensures err { OnErr result (self.new ≡ self.old) }
+
+        // After the events of a history and this definition the table follows both.
+        ensures follows { OnOk result ((history : List (ℕ × Event)) → Follows self.old history
+            → Follows self.new (history ++ (domain, Define template) ∷ [])) }
+    {
+        let id = template.id();
+        self.templates.insert((domain, id), template)?;
+        Ok(())
+    }
+
+    /// Withdraws the template of this ID in the domain. Where there is none, nothing changes.
+    pub fn withdraw(&mut self, domain: u32, id: u16)
+        ensures change { ChangesAt self.old self.new domain id None }
+
+        // After the events of a history and this withdrawal the table follows both.
+        ensures follows { (history : List (ℕ × Event)) → Follows self.old history
+            → Follows self.new (history ++ (domain, Withdraw id) ∷ []) }
+    {
+        self.templates.remove(&(domain, id));
+    }
+
+    /// Withdraws all templates of the kind in the domain.
+    pub fn withdraw_all(&mut self, domain: u32, kind: Kind)
+        ensures change { DropsKind self.old self.new domain kind }
+
+        // After the events of a history and this withdrawal the table follows both.
+        ensures follows { (history : List (ℕ × Event)) → Follows self.old history
+            → Follows self.new (history ++ (domain, WithdrawAll kind) ∷ []) }
+    {
+        self.templates.retain(|key, template| key.0 != domain || !kind.is(template.kind()));
+    }
+}

@@ -1,0 +1,85 @@
+ghost use Rattle.std.specs.Prelude.{◌≡◌, IfOk};
+ghost use Rattle.ipfix_templates.specs.Field.{least_length};
+
+use crate::field::Fields;
+use crate::kind::Kind;
+use std::alloc::AllocError;
+use std::marker::Model;
+
+/// A template (RFC 7011 section 3.4): its ID is 256 or above, and it has at least one field. A flow template
+/// has no scope fields. Of an options template the first fields are its scope, at least one of them.
+#[derive(Debug, Drop)]
+pub struct Template {
+    /// The template ID.
+    pub id: u16,
+    /// What its records describe.
+    pub kind: Kind,
+    /// How many of the fields, from the first on, are scope fields.
+    pub scope_count: u16,
+    /// The fields, in the order of the values in a record.
+    pub fields: Fields,
+}
+
+impl Model for Template {
+    ghost use Rattle.ipfix_templates.specs.Template.{TemplateView, IsTemplate};
+
+    ghost Value = { TemplateView };
+
+    ghost view = { λ t. record { id = t.id; kind = t.kind; scope_count = t.scope_count; fields = t.fields } };
+
+    ghost invariant = { λ t. IsTemplate t.id t.kind t.scope_count t.fields };
+}
+
+impl Template {
+    /// The template ID.
+    pub fn id(&self) -> u16
+        ensures { result ≡ self.now.id }
+    {
+        self.id
+    }
+
+    /// What the records of this template describe.
+    pub fn kind(&self) -> Kind
+        ensures { result ≡ self.now.kind }
+    {
+        self.kind
+    }
+
+    /// How many of the fields, from the first on, are scope fields.
+    pub fn scope_count(&self) -> u16
+        ensures { result ≡ self.now.scope_count }
+    {
+        self.scope_count
+    }
+
+    /// The fields, in the order of the values in a record.
+    pub fn fields(&self) -> &Fields
+        ensures { result.now ≡ self.now.fields }
+    {
+        &self.fields
+    }
+
+    /// The fewest bytes of a record: the sum of the fixed lengths, and 1 for each variable one. A data set
+    /// has records while it has this many bytes left; fewer are padding (RFC 7011 section 3.3.1).
+    pub fn least_length(&self) -> u32
+        ensures { result ≡ least_length self.now.fields }
+    {
+        let mut total = 0u32;
+        for field in self.fields.as_slice() {
+            total += u32::from(field.least_length());
+        }
+        total
+    }
+
+    /// Another template with the same parts.
+    pub fn copy(&self) -> Result<Template, AllocError>
+        ensures { IfOk result (λ template. template ≡ self.now) }
+    {
+        Ok(Template {
+            id: self.id,
+            kind: self.kind,
+            scope_count: self.scope_count,
+            fields: self.fields.copy()?,
+        })
+    }
+}
