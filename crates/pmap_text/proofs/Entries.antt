@@ -49,6 +49,6 @@ pub entries_from-line : (entries : List Entry) (number : ℕ) (line : List ℕ) 
 entries_from-line entries number line lines new adds = by (line_entry (earlier_of entries) line) refl adds
   where
     by : (r : Result Entry MapFaultKind) → line_entry (earlier_of entries) line ≡ r → Adds (earlier_of entries) new r
-      → (more : List Entry) × (entries_from entries number (line ∷ lines) ≡ entries_from more (number + 1) lines) × (new ≡ earlier_of more)
+        → (more : List Entry) × (entries_from entries number (line ∷ lines) ≡ entries_from more (number + 1) lines) × (new ≡ earlier_of more)
     by (Ok entry) e a = (entries ++ entry ∷ [], rw e refl, a ∙ sym (earlier_of-push entries entry))
     by (Err kind) e a = absurd a

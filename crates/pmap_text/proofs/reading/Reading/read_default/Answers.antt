@@ -16,4 +16,4 @@ returns-clause-ok c =
     let to = c.in_ok-label.ensures.ok in
     let old = progress_of c.self.inside.statements c.self.inside.labels c.self.inside.default in
     rw (to, ← c.self.view_is) (default_line-adds old _ c.args.rest.now c.in_ok-text.text.now c.in_ok-text.ensures.ok c.in_ok-label.ensures.room
-      (progress-default c.self.inside.statements c.self.inside.labels c.self.inside.default c.in_ok-text.text.now c.self.invariant (rw to at c.in_ok-label.ensures.limit) c.in_ok-label.label (rw to at c.in_ok-label.ensures.text)))
+    (progress-default c.self.inside.statements c.self.inside.labels c.self.inside.default c.in_ok-text.text.now c.self.invariant (rw to at c.in_ok-label.ensures.limit) c.in_ok-label.label (rw to at c.in_ok-label.ensures.text)))
