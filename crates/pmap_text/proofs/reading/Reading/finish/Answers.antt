@@ -1,4 +1,4 @@
-use Rattle.std.proofs.Common.{◌≡◌, refl, subst, None, Option}
+use Rattle.std.proofs.Common.{◌≡◌, refl, subst, Option}
 use Rattle.pmap_text.specs.Progress.{IsProgress}
 use Rattle.pmap_text.specs.Reading.{map_from}
 use Rattle.pmap_text.specs.declared.label.LabelId.{LabelId}

@@ -1,5 +1,4 @@
-use Rattle.std.proofs.Common.{sym, subst}
-use Rattle.pmap_text.specs.Progress.{IsProgress, progress_of}
+use Rattle.pmap_text.specs.Progress.{progress_of}
 use Rattle.pmap_text.proofs.ProgressSteps.{IsProgress-default, default_line-adds, progress-default}
 use Rattle.pmap_text.proofs.reading.Reading.read_default.Goals as goal
 

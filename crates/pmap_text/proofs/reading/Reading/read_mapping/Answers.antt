@@ -1,4 +1,4 @@
-use Rattle.std.proofs.Common.{arith, ◌<◌, length, ◌≡◌, map}
+use Rattle.std.proofs.Common.{arith, ◌<◌, length, map}
 use Rattle.std.proofs.lemmas.List.{length-map}
 use Rattle.pmap_text.specs.MapText.{mapping_of}
 use Rattle.pmap_text.specs.Progress.{progress_of}
