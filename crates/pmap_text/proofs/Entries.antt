@@ -1,5 +1,5 @@
 -- What the lines so far say, after one more line.
-use Rattle.std.proofs.Common.{◌≡◌, ℕ, ◌+◌, ◌<◌, ◌≤◌, Bool, true, false, cond, List, [], ◌∷◌, ◌++◌, length, Option, Some, None, Result, Ok, Err, refl, sym, ap, subst, ◌∙◌, arith, fold, append_assoc}
+use Rattle.std.proofs.Common.{◌≡◌, ℕ, ◌+◌, List, [], ◌∷◌, ◌++◌, Option, Some, None, Result, Ok, Err, refl, sym, ap, ◌∙◌, fold}
 use Rattle.std.proofs.lemmas.List.Concat.{flat_map-append}
 use Rattle.std.proofs.lemmas.List.Sums.{fold-append}
 use Rattle.std.proofs.lemmas.List.{append-nil}
@@ -7,8 +7,7 @@ use Rattle.std.specs.List.{flat_map}
 use Rattle.std.specs.Option.{option_or}
 use Rattle.pmap_text.specs.Label.{with_label}
 use Rattle.pmap_text.specs.MapModel.{Label, Mapping}
-use Rattle.pmap_text.specs.Reading.{Adds, Defaults, Earlier, Entry, Maps, Nothing, added, at_line, default_in, default_of, earlier_of, entries_from, line_entry, mapping_in, mappings_of, table_of, text_in}
-use Rattle.pmap_text.specs.declared.fault.MapFault.{MapFault}
+use Rattle.pmap_text.specs.Reading.{Adds, Defaults, Earlier, Entry, Maps, Nothing, added, default_in, default_of, earlier_of, entries_from, line_entry, mapping_in, mappings_of, table_of, text_in}
 use Rattle.pmap_text.specs.declared.fault.MapFaultKind.{MapFaultKind}
 
 option_or-none : {X : Type 0} (o : Option X) → o ≡ option_or o None
@@ -49,6 +48,6 @@ pub entries_from-line : (entries : List Entry) (number : ℕ) (line : List ℕ) 
 entries_from-line entries number line lines new adds = by (line_entry (earlier_of entries) line) refl adds
   where
     by : (r : Result Entry MapFaultKind) → line_entry (earlier_of entries) line ≡ r → Adds (earlier_of entries) new r
-      → (more : List Entry) × (entries_from entries number (line ∷ lines) ≡ entries_from more (number + 1) lines) × (new ≡ earlier_of more)
+        → (more : List Entry) × (entries_from entries number (line ∷ lines) ≡ entries_from more (number + 1) lines) × (new ≡ earlier_of more)
     by (Ok entry) e a = (entries ++ entry ∷ [], rw e refl, a ∙ sym (earlier_of-push entries entry))
     by (Err kind) e a = absurd a

@@ -1,12 +1,11 @@
 -- The first place at which a test passes.
-use Rattle.std.proofs.Common.{◌≡◌, ℕ, suc, ◌+◌, ◌<◌, ◌≤◌, Bool, true, false, not, cond, List, [], ◌∷◌, ◌++◌, length, take, drop, Option, Some, None, refl, sym, ap, ◌∙◌, arith, rules, unwrap_or, eqb}
-use Rattle.std.proofs.lemmas.Bool.{cases_Bool, cond-true, cond-false, ltb-false}
+use Rattle.std.proofs.Common.{◌≡◌, ℕ, ◌+◌, ◌<◌, ◌≤◌, Bool, true, false, not, List, [], ◌∷◌, length, take, drop, Option, refl, arith, unwrap_or, eqb}
+use Rattle.std.proofs.lemmas.Bool.{ltb-false}
 use Rattle.std.proofs.lemmas.List.Sums.{prefix_len-le-length}
-use Rattle.std.proofs.lemmas.Bool.Decides.{nat_tests}
 use Rattle.std.proofs.Math.Numerals.{one-add, add-one}
-use Rattle.std.specs.List.{prefix_len, position_or_len}
+use Rattle.std.specs.List.{position_or_len}
 use Rattle.std.specs.Prelude.{position, nat_lt}
-use Rattle.pmap_text.specs.Lines.{begin_line, lines_of}
+use Rattle.pmap_text.specs.Lines.{lines_of}
 
 pub position_or_len-le : {X : Type 0} (p : X → Bool) (xs : List X) → position_or_len p xs ≤ length xs
 position_or_len-le p xs = prefix_len-le-length (λ x. not (p x)) xs
@@ -31,9 +30,9 @@ lines_of-at_feed (b ∷ bs) h = by (eqb b 10) refl (lines_of-at_feed bs)
     by : (t : Bool) → eqb b 10 ≡ t → (feed_at bs < length bs → lines_of bs ≡ take (feed_at bs) bs ∷ lines_of (drop (feed_at bs + 1) bs)) → lines_of (b ∷ bs) ≡ take (feed_at (b ∷ bs)) (b ∷ bs) ∷ lines_of (drop (feed_at (b ∷ bs) + 1) (b ∷ bs))
     by true e ih = rw e refl
     by false e ih =
-      let k : 1 + feed_at bs < length (b ∷ bs) = rw e at h in
-      let ih' = ih (omega (arith, k)) in
-      rw (e, one-add, add-one, ih', add-one) refl
+        let k : 1 + feed_at bs < length (b ∷ bs) = rw e at h in
+        let ih' = ih (omega (arith, k)) in
+        rw (e, one-add, add-one, ih', add-one) refl
 
 -- with no line feed the text is one line
 pub lines_of-no_feed : (b : ℕ) (bs : List ℕ) → length (b ∷ bs) ≤ feed_at (b ∷ bs) → lines_of (b ∷ bs) ≡ (b ∷ bs) ∷ []
@@ -47,6 +46,6 @@ lines_of-no_feed b (b' ∷ bs) h = by (eqb b 10) refl (lines_of-no_feed b' bs)
     by : (t : Bool) → eqb b 10 ≡ t → (length (b' ∷ bs) ≤ feed_at (b' ∷ bs) → lines_of (b' ∷ bs) ≡ (b' ∷ bs) ∷ []) → lines_of (b ∷ b' ∷ bs) ≡ (b ∷ b' ∷ bs) ∷ []
     by true e ih = let k : length (b ∷ b' ∷ bs) ≤ 0 = rw e at h in absurd (omega (arith, k))
     by false e ih =
-      let k : length (b ∷ b' ∷ bs) ≤ 1 + feed_at (b' ∷ bs) = rw e at h in
-      let ih' = ih (omega (arith, k)) in
-      rw (e, ih') refl
+        let k : length (b ∷ b' ∷ bs) ≤ 1 + feed_at (b' ∷ bs) = rw e at h in
+        let ih' = ih (omega (arith, k)) in
+        rw (e, ih') refl

@@ -1,13 +1,13 @@
 -- What a reading keeps is what the lines so far say, also after one more line.
-use Rattle.std.proofs.Common.{◌≡◌, ℕ, suc, ◌+◌, ◌<◌, ◌≤◌, Bool, true, false, cond, List, [], ◌∷◌, ◌++◌, map, length, length-append, Option, Some, None, Ok, Err, refl, sym, ap, subst, ◌∙◌, arith, All, slice_get, unwrap_or}
+use Rattle.std.proofs.Common.{◌≡◌, ℕ, ◌<◌, ◌≤◌, Bool, true, false, cond, List, [], ◌∷◌, ◌++◌, map, length, length-append, Option, Some, None, Ok, refl, sym, ap, subst, ◌∙◌, arith, All, slice_get, unwrap_or}
 use Rattle.std.proofs.lemmas.Bool.{lt-ltb}
 use Rattle.std.proofs.lemmas.List.{map-append}
-use Rattle.std.proofs.lemmas.List.Elements.{All-head, All-nil, All-push, All-tail, All-weaker}
-use Rattle.std.proofs.lemmas.Option.{slice_get-get_or, slice_get_within, unwrap_or-slice_get}
+use Rattle.std.proofs.lemmas.List.Elements.{All-head, All-push, All-tail, All-weaker}
+use Rattle.std.proofs.lemmas.Option.{slice_get-get_or, slice_get_within}
 use Rattle.std.specs.Option.{ForSome, option_map}
 use Rattle.prefix_keys.specs.declared.span.Span.{Span}
 use Rattle.prefix_keys.specs.declared.version.Version.TheVariants.{V4}
-use Rattle.pmap_text.specs.Label.{has_label, is_label, with_label}
+use Rattle.pmap_text.specs.Label.{has_label, with_label}
 use Rattle.pmap_text.specs.MapModel.{Label, MapModel, Mapping}
 use Rattle.pmap_text.specs.MapText.{mapping_of, text_at}
 use Rattle.pmap_text.specs.Progress.{IsProgress, progress_of}
@@ -45,7 +45,7 @@ pub mappings-with_label : (table : List Label) (x : Label) (statements : List St
 mappings-with_label table x [] h = refl
 mappings-with_label table x (s ∷ ss) h =
     let e : mapping_of (with_label table x) s ≡ mapping_of table s =
-      ap (λ (t : Label). record { low = s.span.low.value; high = s.span.high.value; label = t }) (text_at-with_label table x s.label.0 (All-head (λ (s : Statement). s.label.0 < length table) s ss h)) in
+    ap (λ (t : Label). record { low = s.span.low.value; high = s.span.high.value; label = t }) (text_at-with_label table x s.label.0 (All-head (λ (s : Statement). s.label.0 < length table) s ss h)) in
     ap (λ (m : Mapping). m ∷ map (mapping_of (with_label table x)) ss) e ∙ ap (λ (ms : List Mapping). mapping_of table s ∷ ms) (mappings-with_label table x ss (All-tail (λ (s : Statement). s.label.0 < length table) s ss h))
 
 module _ (ss : List Statement) (table : List Label) (d : Option LabelId) (x : Label) (ok : IsProgress ss table d) (limit : length (with_label table x) ≤ label_limit) where
@@ -99,9 +99,9 @@ module _ (ss : List Statement) (table : List Label) (d : Option LabelId) (x : La
       let build : List Mapping → Option Label → Earlier = λ ms f. record { mappings = ms; table = t'; fallback = f } in
       let pushed : map (mapping_of t') (ss ++ s ∷ []) ≡ map (mapping_of t') ss ++ mapping_of t' s ∷ [] = map-append (mapping_of t') ss (s ∷ []) in
       let front : map (mapping_of t') ss ++ mapping_of t' s ∷ [] ≡ map (mapping_of table) ss ++ mapping_of t' s ∷ [] =
-        ap (λ (ms : List Mapping). ms ++ mapping_of t' s ∷ []) (mappings-with_label table x ss ok.numbers) in
+      ap (λ (ms : List Mapping). ms ++ mapping_of t' s ∷ []) (mappings-with_label table x ss ok.numbers) in
       let end : map (mapping_of table) ss ++ mapping_of t' s ∷ [] ≡ map (mapping_of table) ss ++ last x ∷ [] =
-        ap (λ (t : Label). map (mapping_of table) ss ++ last t ∷ []) text in
+      ap (λ (t : Label). map (mapping_of table) ss ++ last t ∷ []) text in
       ap (λ (ms : List Mapping). build ms (option_map (λ (i : LabelId). text_at t' i.0) d)) (pushed ∙ front ∙ end)
       ∙ ap (build (map (mapping_of table) ss ++ last x ∷ [])) (fallback-with_label d ok.fallback)
 

@@ -193,7 +193,11 @@ impl Reading {
     fn finish(self) -> Result<MapText, AllocError>
         ensures { IfOk result (λ map. map_of map ≡ map_from self) }
     {
-        let Reading { statements, mut labels, default } = self;
+        let Reading {
+            statements,
+            mut labels,
+            default,
+        } = self;
         let default = match default {
             Some(label) => label,
             None => labels.add(UNKNOWN)?,
@@ -227,7 +231,11 @@ fn fault_at(kind: MapFaultKind, number: u64) -> MapFault
     ensures line { kind ≢ NoMemory → result.line ≡ number }
     ensures memory { kind ≡ NoMemory → result.line ≡ 0 }
 {
-    let line = if kind == MapFaultKind::NoMemory { 0 } else { number };
+    let line = if kind == MapFaultKind::NoMemory {
+        0
+    } else {
+        number
+    };
     MapFault { kind, line }
 }
 
@@ -273,3 +281,6 @@ pub fn read_map(alloc: Global, text: &[u8]) -> Result<MapText, MapFault>
         }),
     }
 }
+
+#[cfg(test)]
+mod tests;

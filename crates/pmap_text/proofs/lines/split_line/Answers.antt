@@ -1,4 +1,4 @@
-use Rattle.std.proofs.Common.{◌≡◌, ◌≤◌, ◌≢◌, refl, length, List, ℕ, [], ◌∷◌, sym, ◌∙◌, ap, arith, subst}
+use Rattle.std.proofs.Common.{◌≡◌, ◌≤◌, ◌≢◌, refl, length, List, ℕ, [], ◌∷◌, arith}
 use Rattle.std.proofs.lemmas.Grind.{common_steps}
 use Rattle.pmap_text.proofs.Places.{feed_at, lines_of-at_feed, lines_of-no_feed}
 use Rattle.pmap_text.specs.Lines.{lines_of}

@@ -1,4 +1,4 @@
-use Rattle.std.proofs.Common.{◌≡◌, ℕ, Bool, true, false, Option, Some, None, sym, ap, ◌∙◌, refl}
+use Rattle.std.proofs.Common.{◌≡◌, Option, Some, None, sym, ◌∙◌}
 use Rattle.std.specs.Option.{is_some, option_map}
 use Rattle.pmap_text.specs.Label.{has_label, number_of}
 use Rattle.pmap_text.specs.MapModel.{Label}

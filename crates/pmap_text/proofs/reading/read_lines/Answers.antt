@@ -1,6 +1,6 @@
-use Rattle.std.proofs.Common.{◌≡◌, ◌∙◌, ap, subst, arith}
+use Rattle.std.proofs.Common.{◌∙◌, ap, subst, arith}
 use Rattle.pmap_text.specs.Lines.{lines_of}
-use Rattle.pmap_text.specs.Reading.{Adds, Earlier, Entry, earlier_of, entries_from, line_entry}
+use Rattle.pmap_text.specs.Reading.{Adds, Earlier, entries_from, line_entry}
 use Rattle.pmap_text.proofs.Entries.{entries_from-line}
 use Rattle.pmap_text.proofs.reading.read_lines.Goals as goal
 

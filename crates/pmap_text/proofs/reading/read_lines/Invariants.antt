@@ -1,4 +1,4 @@
-use Rattle.std.proofs.Common.{◌≡◌, ◌+◌, ◌≤◌, ◌<◌, ◌^◌, [], List, length}
+use Rattle.std.proofs.Common.{◌≡◌, ◌+◌, ◌≤◌, [], List, length}
 use Rattle.pmap_text.specs.Lines.{lines_of}
 use Rattle.pmap_text.specs.Reading.{Entry, earlier_of, entries_from}
 use Rattle.pmap_text.proofs.reading.read_lines.Given as goal

@@ -1,8 +1,7 @@
-use Rattle.std.proofs.Common.{◌≡◌, ◌≢◌, ◌<◌, ℕ, List, [], ◌∷◌, length, refl, sym, arith, OnOk, IfErr, Err}
+use Rattle.std.proofs.Common.{◌≡◌, ◌≢◌, ℕ, List, [], ◌∷◌, length, refl, sym}
 use Rattle.std.proofs.lemmas.Bool.{eqb-false}
 use Rattle.pmap_text.specs.Lines.{behind_word, first_word}
-use Rattle.pmap_text.specs.Reading.{Adds, Earlier, content_line, line_entry, statement_line}
-use Rattle.pmap_text.specs.declared.fault.MapFaultKind.TheVariants.{NoMemory}
+use Rattle.pmap_text.specs.Reading.{Earlier, content_line, statement_line}
 use Rattle.pmap_text.proofs.reading.Reading.read_line.Goals as goal
 
 -- a line with a word says what its statement says

@@ -1,4 +1,4 @@
-use Rattle.std.proofs.Common.{arith, ◌<◌, length, ◌≡◌, map}
+use Rattle.std.proofs.Common.{arith, ◌<◌, length, map}
 use Rattle.std.proofs.lemmas.List.{length-map}
 use Rattle.pmap_text.specs.MapText.{mapping_of}
 use Rattle.pmap_text.specs.Progress.{progress_of}
@@ -25,4 +25,4 @@ returns-clause-ok c =
     let ss = c.self.inside.statements in
     let few : length (map (mapping_of c.self.inside.labels) ss) < mapping_limit = rw length-map (omega arith) in
     rw (c.in-Ok.ensures.ok, to, ← c.self.view_is) (mapping_line-adds (progress_of ss c.self.inside.labels c.self.inside.default) _ c.args.span.low.value c.args.span.high.value c.args.rest.now c.in_ok-text.text.now c.in_ok-text.ensures.ok few c.in_ok-label.ensures.room
-      (progress-statement ss c.self.inside.labels c.self.inside.default c.in_ok-text.text.now c.self.invariant (rw to at c.in_ok-label.ensures.limit) c.args.span c.in_ok-label.label (rw to at c.in_ok-label.ensures.text)))
+    (progress-statement ss c.self.inside.labels c.self.inside.default c.in_ok-text.text.now c.self.invariant (rw to at c.in_ok-label.ensures.limit) c.args.span c.in_ok-label.label (rw to at c.in_ok-label.ensures.text)))
