@@ -296,7 +296,7 @@ fn finds_the_first_fault(rt: HostRuntime) -> Result<(), Fail> {
 // The File with these two bytes at this place.
 fn changed(alloc: Global, text: &str, place: usize, high: u8, low: u8) -> Result<Vec<u8>, Fail> {
     let mut bytes = bytes_of(alloc, text)?;
-    if place + 1 < bytes.len() && place < 1000 {
+    if place < 1000 && place + 1 < bytes.len() {
         bytes[place] = high;
         bytes[place + 1] = low;
     }
@@ -355,6 +355,10 @@ fn withdraws_all_of_a_kind(rt: HostRuntime) -> Result<(), Fail> {
         "message 1610612736 0 1{FIVE_DEFINED}; templates options withdraw all options; values flow{FIVE_VALUES}. "
     )?;
     assert_eq!(rt; text.as_str(), wanted.as_str());
+
+    assert_eq!(rt; bytes.len(), 73);
+    bytes[49] = 2;
+    assert_eq!(rt; read_file(alloc, &bytes).err(), Some(fault(bad_id, 48)));
     Ok(())
 }
 
