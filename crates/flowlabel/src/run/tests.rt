@@ -82,63 +82,66 @@ fn end_of<'a, const N: usize>(
 }
 
 #[test]
-fn prints_the_label_or_the_first_fault(rt: HostRuntime) -> Result<(), Fail> {
-    let bad_statement = "flowlabel: map.txt: M1 BadStatement at 2\n";
-    for (line, map, status, fault, printed) in [
-        ("--pmap map.txt 10.1.1.1", MAP, 0, "", "B\n"),
-        ("--pmap map.txt 12.0.0.0", MAP, 0, "", "UNKNOWN\n"),
-        ("--pmap map.txt 1.2.3.4", "", 0, "", "UNKNOWN\n"),
-        ("10.1.1.1", MAP, 2, "flowlabel: usage: P2 MapMissing\n", ""),
-        (
-            "--pmap map.txt 1.2.3",
-            MAP,
-            2,
-            "flowlabel: usage: P4 BadAddress\n",
-            "",
-        ),
-        (
-            "--pmap map.txt 1.2.3.4",
-            "10.0.0.0/33 A\n",
-            1,
-            "flowlabel: map.txt: M3 BadLength at 1\n",
-            "",
-        ),
-        (
-            "--pmap map.txt 1.2.3.4",
-            "10.0.0/8 A\n",
-            1,
-            "flowlabel: map.txt: M2 BadAddress at 1\n",
-            "",
-        ),
-        (
-            "--pmap map.txt 1.2.3.4",
-            "10.0.0.0/8\n",
-            1,
-            "flowlabel: map.txt: M6 MissingLabel at 1\n",
-            "",
-        ),
-        (
-            "--pmap map.txt 1.2.3.4",
-            "colour x\n",
-            1,
-            "flowlabel: map.txt: M1 BadStatement at 1\n",
-            "",
-        ),
-        (
-            "--pmap map.txt 1.2.3.4",
-            "10.0.0.0/8 A\ncolour x\n10.0.0/8 A\n",
-            1,
-            bad_statement,
-            "",
-        ),
+fn prints_the_label(rt: HostRuntime) -> Result<(), Fail> {
+    for (address, map, printed) in [
+        ("10.1.1.1", MAP, "B\n"),
+        ("12.0.0.0", MAP, "UNKNOWN\n"),
+        ("1.2.3.4", "", "UNKNOWN\n"),
     ] {
-        let line = format!(in rt.alloc(); "flowlabel label {line}")?;
+        let line = format!(in rt.alloc(); "flowlabel label --pmap map.txt {address}")?;
         let reader = MemoryInput::new(map.as_bytes(), 64, None);
         let mut writer = MemoryOutput::<64>::new(64, None, false);
         let (ended, told) = end_of(rt.alloc(), line.as_str(), reader, &mut writer)?;
-        assert_eq!(rt; told.as_str(), fault, "{line}, {map}");
-        assert_eq!(rt; ended, status, "{line}, {map}");
-        assert_eq!(rt; writer.taken(), printed.as_bytes(), "{line}, {map}");
+        assert_eq!(rt; (ended, told.as_str()), (0, ""), "{address}");
+        assert_eq!(rt; writer.taken(), printed.as_bytes(), "{address}");
+    }
+    Ok(())
+}
+
+#[test]
+fn answers_the_first_fault_of_the_map(rt: HostRuntime) -> Result<(), Fail> {
+    let line = "flowlabel label --pmap map.txt 1.2.3.4";
+    for (map, fault) in [
+        ("10.0.0.0/33 A\n", "M3 BadLength at 1"),
+        ("10.0.0/8 A\n", "M2 BadAddress at 1"),
+        ("10.0.0.0/8\n", "M6 MissingLabel at 1"),
+        ("colour x\n", "M1 BadStatement at 1"),
+        (
+            "10.0.0.0/8 A\n\ncolour x\n10.0.0/8 A\n",
+            "M1 BadStatement at 3",
+        ),
+    ] {
+        let reader = MemoryInput::new(map.as_bytes(), 64, None);
+        let mut writer = MemoryOutput::<64>::new(64, None, false);
+        let (ended, told) = end_of(rt.alloc(), line, reader, &mut writer)?;
+        let want = format!(in rt.alloc(); "flowlabel: map.txt: {fault}\n")?;
+        assert_eq!(rt; (ended, told.as_str()), (1, want.as_str()));
+        assert!(rt; writer.taken().is_empty(), "{fault}");
+    }
+    Ok(())
+}
+
+#[test]
+fn answers_the_fault_of_the_line(rt: HostRuntime) -> Result<(), Fail> {
+    for (line, fault) in [
+        ("label 10.1.1.1", "flowlabel: usage: P2 MapMissing\n"),
+        (
+            "label --pmap map.txt 1.2.3",
+            "flowlabel: usage: P4 BadAddress\n",
+        ),
+        // The text of this one is clap's.
+        ("info --colour flows", ""),
+    ] {
+        let line = format!(in rt.alloc(); "flowlabel {line}")?;
+        let reader = MemoryInput::new(MAP.as_bytes(), 64, None);
+        let mut writer = MemoryOutput::<64>::new(64, None, false);
+        let (ended, told) = end_of(rt.alloc(), line.as_str(), reader, &mut writer)?;
+        assert_eq!(rt; ended, 2, "{line}");
+        assert!(rt;
+            !told.is_empty() && (fault.is_empty() || told.as_str() == fault),
+            "{line}"
+        );
+        assert!(rt; writer.taken().is_empty(), "{line}");
     }
     Ok(())
 }
