@@ -122,3 +122,6 @@ pub fn status(fault: &RunFault<'_>) -> u8
         }
     }
 }
+
+#[cfg(test)]
+mod tests;

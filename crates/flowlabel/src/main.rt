@@ -42,10 +42,7 @@ mod tests;
 type FileSource<'a> = Source<'a, Watched<File>>;
 
 // Opens a file, where one is named.
-fn open<'a>(
-    rt: &HostRuntime,
-    name: Option<&'a str>,
-) -> Result<Option<FileSource<'a>>, RunFault<'a>>
+fn open<'a>(rt: &HostRuntime, name: Option<&'a str>) -> Result<Option<FileSource<'a>>, RunFault<'a>>
     ensures named { IfOk result (λ source. is_some source ≡ is_some name.entry) }
     ensures fresh { IfOk result (λ source. source_failed (λ failed. failed) source ≡ false) }
 {
@@ -53,7 +50,10 @@ fn open<'a>(
         return Ok(None);
     };
     match File::open(rt, name) {
-        Ok(file) => Ok(Some(Source { name, reader: Watched::new(file) })),
+        Ok(file) => Ok(Some(Source {
+            name,
+            reader: Watched::new(file),
+        })),
         Err(_) => Err(RunFault::CannotOpen(name)),
     }
 }
@@ -104,7 +104,11 @@ fn main(rt: HostRuntime) -> ExitCode {
     let Ok(words) = arguments.collect::<Vec<String>>(alloc) else {
         return ExitCode::from(3);
     };
-    let Ok(words) = words.iter().map(|word| word.as_str()).collect::<Vec<&str>>(alloc) else {
+    let Ok(words) = words
+        .iter()
+        .map(|word| word.as_str())
+        .collect::<Vec<&str>>(alloc)
+    else {
         return ExitCode::from(3);
     };
     match execute(&rt, words.as_slice()) {

@@ -21,7 +21,10 @@ use prefix_keys::Addr;
 use std::alloc::{AllocError, Global};
 
 // The map of a map file.
-fn map_of_file<'a, R: Input>(alloc: Global, source: &mut Source<'a, R>) -> Result<MapText, RunFault<'a>>
+fn map_of_file<'a, R: Input>(
+    alloc: Global,
+    source: &mut Source<'a, R>,
+) -> Result<MapText, RunFault<'a>>
     requires { R.failed source.old.reader ≡ false }
     ensures ok { IfOk result (λ map. (text : List ℕ) → R.bytes_left source.old.reader ≡ Some text → ReadsMap text (map_of map)) }
     ensures err { IfErr result (IsFaultOfMap R.bytes_left R.failed source.old source.new) }
@@ -38,7 +41,10 @@ fn map_of_file<'a, R: Input>(alloc: Global, source: &mut Source<'a, R>) -> Resul
             if fault.kind == MapFaultKind::NoMemory {
                 Err(RunFault::NoMemory)
             } else {
-                Err(RunFault::Map { file: source.name, fault })
+                Err(RunFault::Map {
+                    file: source.name,
+                    fault,
+                })
             }
         }
     }
@@ -137,3 +143,6 @@ pub fn run<'a, R: Input, W: Output>(
         Err(WriteFault) => Err(RunFault::CannotWrite),
     }
 }
+
+#[cfg(test)]
+mod tests;

@@ -1,4 +1,6 @@
-use crate::{Command, Needs, UsageFault, parse};
+use crate::command::{Command, Needs};
+use crate::usage::UsageFault;
+use crate::words::parse;
 use prefix_keys::Version;
 use std::alloc::{AllocError, Global};
 use std::test::Fail;
