@@ -28,7 +28,7 @@ fn names_each_fault_of_a_map(rt: HostRuntime) -> Result<(), Fail> {
             },
         };
         let want = format!(in rt.alloc(); "flowlabel: maps/a.txt: {name} at 1000001\n")?;
-        assert_eq!(rt; fault_line(rt.alloc(), &fault)?.as_str(), want.as_str());
+        assert_eq!(rt; fault_line(rt.alloc(), &fault)?.as_slice(), want.as_bytes());
         assert_eq!(rt; status(&fault), 1, "{name}");
     }
     Ok(())
@@ -86,7 +86,7 @@ fn tells_the_other_faults(rt: HostRuntime) -> Result<(), Fail> {
             "flowlabel: output: cannot write\n",
         ),
     ] {
-        assert_eq!(rt; fault_line(rt.alloc(), &fault)?.as_str(), line);
+        assert_eq!(rt; fault_line(rt.alloc(), &fault)?.as_slice(), line.as_bytes());
         assert_eq!(rt; status(&fault), ended, "{line}");
     }
     Ok(())

@@ -70,13 +70,13 @@ fn end_of<'a, const N: usize>(
     line: &str,
     map: MemoryInput<'a>,
     writer: &mut MemoryOutput<N>,
-) -> Result<(u8, String), AllocError>
+) -> Result<(u8, Vec<u8>), AllocError>
     requires reader { map.failed ≡ false }
     requires writer { writer.old.failed ≡ false }
 {
     let words: Vec<&str> = line.split(' ').collect(alloc)?;
     match execute(alloc, words.as_slice(), map, writer) {
-        Ok(()) => Ok((0, String::new(alloc))),
+        Ok(()) => Ok((0, Vec::new(alloc))),
         Err(fault) => Ok((status(&fault), fault_line(alloc, &fault)?)),
     }
 }
@@ -92,7 +92,7 @@ fn prints_the_label(rt: HostRuntime) -> Result<(), Fail> {
         let reader = MemoryInput::new(map.as_bytes(), 64, None);
         let mut writer = MemoryOutput::<64>::new(64, None, false);
         let (ended, told) = end_of(rt.alloc(), line.as_str(), reader, &mut writer)?;
-        assert_eq!(rt; (ended, told.as_str()), (0, ""), "{address}");
+        assert_eq!(rt; (ended, told.as_slice()), (0, b"".as_slice()), "{address}");
         assert_eq!(rt; writer.taken(), printed.as_bytes(), "{address}");
     }
     Ok(())
@@ -115,7 +115,7 @@ fn answers_the_first_fault_of_the_map(rt: HostRuntime) -> Result<(), Fail> {
         let mut writer = MemoryOutput::<64>::new(64, None, false);
         let (ended, told) = end_of(rt.alloc(), line, reader, &mut writer)?;
         let want = format!(in rt.alloc(); "flowlabel: map.txt: {fault}\n")?;
-        assert_eq!(rt; (ended, told.as_str()), (1, want.as_str()));
+        assert_eq!(rt; (ended, told.as_slice()), (1, want.as_bytes()));
         assert!(rt; writer.taken().is_empty(), "{fault}");
     }
     Ok(())
@@ -138,7 +138,7 @@ fn answers_the_fault_of_the_line(rt: HostRuntime) -> Result<(), Fail> {
         let (ended, told) = end_of(rt.alloc(), line.as_str(), reader, &mut writer)?;
         assert_eq!(rt; ended, 2, "{line}");
         assert!(rt;
-            !told.is_empty() && (fault.is_empty() || told.as_str() == fault),
+            !told.is_empty() && (fault.is_empty() || told.as_slice() == fault.as_bytes()),
             "{line}"
         );
         assert!(rt; writer.taken().is_empty(), "{line}");
@@ -159,7 +159,7 @@ fn answers_each_failing_read(rt: HostRuntime) -> Result<(), Fail> {
         } else {
             (0, "", "B\n")
         };
-        assert_eq!(rt; (ended, told.as_str()), (status, fault), "read {call}");
+        assert_eq!(rt; (ended, told.as_slice()), (status, fault.as_bytes()), "read {call}");
         assert_eq!(rt; writer.taken(), printed.as_bytes(), "read {call}");
     }
     Ok(())
@@ -190,14 +190,14 @@ fn answers_each_failing_write(rt: HostRuntime) -> Result<(), Fail> {
             } else {
                 (0, "")
             };
-            assert_eq!(rt; (ended, told.as_str()), (status, fault), "write {call}");
+            assert_eq!(rt; (ended, told.as_slice()), (status, fault.as_bytes()), "write {call}");
             assert_eq!(rt; writer.taken(), printed.as_bytes(), "write {call}");
         }
     }
     let reader = MemoryInput::new(MAP.as_bytes(), 64, None);
     let mut writer = MemoryOutput::<5>::new(64, None, false);
     let (ended, told) = end_of(rt.alloc(), line, reader, &mut writer)?;
-    assert_eq!(rt; (ended, told.as_str()), (4, CANNOT_WRITE), "a full writer");
+    assert_eq!(rt; (ended, told.as_slice()), (4, CANNOT_WRITE.as_bytes()), "a full writer");
     assert_eq!(rt; writer.taken(), b"UNKNO".as_slice());
     Ok(())
 }
@@ -211,7 +211,7 @@ fn answers_want_of_memory_as_such(rt: HostRuntime) {
     match end_of(rt.alloc(), line, reader, &mut writer) {
         Ok((0, _)) => assert_eq!(rt; writer.taken(), b"B\n".as_slice()),
         Ok((ended, told)) => {
-            assert_eq!(rt; (ended, told.as_str()), (3, OUT_OF_MEMORY));
+            assert_eq!(rt; (ended, told.as_slice()), (3, OUT_OF_MEMORY.as_bytes()));
             assert!(rt; writer.taken().is_empty());
         }
         Err(AllocError) => assert!(rt; writer.taken().is_empty()),
