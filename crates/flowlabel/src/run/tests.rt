@@ -14,11 +14,11 @@ type MemorySource<'a> = Source<'a, MemoryInput<'a>>;
 
 const MAP: &str = "10.0.0.0/8 A\n10.0.0.0/7 B\n";
 
-const CANNOT_READ: &str = "flowlabel: map.txt: cannot read\n";
+const CANNOT_READ: &[u8] = b"flowlabel: map.txt: cannot read\n";
 
-const CANNOT_WRITE: &str = "flowlabel: output: cannot write\n";
+const CANNOT_WRITE: &[u8] = b"flowlabel: output: cannot write\n";
 
-const OUT_OF_MEMORY: &str = "flowlabel: out of memory\n";
+const OUT_OF_MEMORY: &[u8] = b"flowlabel: out of memory\n";
 
 // The reader under its name, where one is named.
 fn named<'a>(name: Option<&'a str>, reader: MemoryInput<'a>) -> Option<MemorySource<'a>>
@@ -157,9 +157,9 @@ fn answers_each_failing_read(rt: HostRuntime) -> Result<(), Fail> {
         let (status, fault, printed) = if call <= 27 {
             (4, CANNOT_READ, "")
         } else {
-            (0, "", "B\n")
+            (0, b"".as_slice(), "B\n")
         };
-        assert_eq!(rt; (ended, told.as_slice()), (status, fault.as_bytes()), "read {call}");
+        assert_eq!(rt; (ended, told.as_slice()), (status, fault), "read {call}");
         assert_eq!(rt; writer.taken(), printed.as_bytes(), "read {call}");
     }
     Ok(())
@@ -188,16 +188,16 @@ fn answers_each_failing_write(rt: HostRuntime) -> Result<(), Fail> {
             let (status, fault) = if call <= 9 {
                 (4, CANNOT_WRITE)
             } else {
-                (0, "")
+                (0, b"".as_slice())
             };
-            assert_eq!(rt; (ended, told.as_slice()), (status, fault.as_bytes()), "write {call}");
+            assert_eq!(rt; (ended, told.as_slice()), (status, fault), "write {call}");
             assert_eq!(rt; writer.taken(), printed.as_bytes(), "write {call}");
         }
     }
     let reader = MemoryInput::new(MAP.as_bytes(), 64, None);
     let mut writer = MemoryOutput::<5>::new(64, None, false);
     let (ended, told) = end_of(rt.alloc(), line, reader, &mut writer)?;
-    assert_eq!(rt; (ended, told.as_slice()), (4, CANNOT_WRITE.as_bytes()), "a full writer");
+    assert_eq!(rt; (ended, told.as_slice()), (4, CANNOT_WRITE), "a full writer");
     assert_eq!(rt; writer.taken(), b"UNKNO".as_slice());
     Ok(())
 }
@@ -211,7 +211,7 @@ fn answers_want_of_memory_as_such(rt: HostRuntime) {
     match end_of(rt.alloc(), line, reader, &mut writer) {
         Ok((0, _)) => assert_eq!(rt; writer.taken(), b"B\n".as_slice()),
         Ok((ended, told)) => {
-            assert_eq!(rt; (ended, told.as_slice()), (3, OUT_OF_MEMORY.as_bytes()));
+            assert_eq!(rt; (ended, told.as_slice()), (3, OUT_OF_MEMORY));
             assert!(rt; writer.taken().is_empty());
         }
         Err(AllocError) => assert!(rt; writer.taken().is_empty()),
