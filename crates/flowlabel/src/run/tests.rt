@@ -197,7 +197,11 @@ fn answers_each_failing_write(rt: HostRuntime) -> Result<(), Fail> {
     let reader = MemoryInput::new(MAP.as_bytes(), 64, None);
     let mut writer = MemoryOutput::<5>::new(64, None, false);
     let (ended, told) = end_of(rt.alloc(), line, reader, &mut writer)?;
-    assert_eq!(rt; (ended, told.as_slice()), (4, CANNOT_WRITE), "a full writer");
+    assert_eq!(rt;
+        (ended, told.as_slice()),
+        (4, CANNOT_WRITE),
+        "a full writer"
+    );
     assert_eq!(rt; writer.taken(), b"UNKNO".as_slice());
     Ok(())
 }
