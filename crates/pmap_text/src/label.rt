@@ -1,3 +1,67 @@
+ghost use Rattle.std.specs.Prelude.{◌≡◌};
+ghost use Rattle.std.specs.List.{list_all};
+ghost use Rattle.pmap_text.specs.Label.{is_blank, is_label_byte, is_label as is_label_text};
+
 /// The number of a label text in a label table, from 0 in the order of first occurrence.
 #[derive(Clone, Copy, Debug, PartialEq, Eq, Hash, PartialOrd, Ord)]
 pub struct LabelId(pub u32);
+
+/// Whether a byte is a blank: a space, a tab or a carriage return.
+pub fn is_blank(byte: u8) -> bool
+    ensures { result ≡ is_blank byte }
+{
+    byte == b' ' || byte == b'\t' || byte == b'\r'
+}
+
+fn is_label_byte(byte: u8) -> bool
+    ensures { result ≡ is_label_byte byte }
+{
+    (byte == b'\t' || byte >= b' ') && byte != 0x7f && byte != b'#'
+}
+
+fn has_label_bytes(text: &[u8]) -> bool
+    ensures { result ≡ list_all is_label_byte text.now }
+{
+    text.iter().all(|byte| is_label_byte(*byte))
+}
+
+/// Whether a text may be a label or a name: 1 to 255 bytes, no control character but an inner tab, no `#`, and no
+/// blank at its ends. Bytes above 127 may be any.
+pub fn is_label(text: &[u8]) -> bool
+    ensures { result ≡ is_label_text text.now }
+{
+    let has_length = !text.is_empty() && text.len() <= 255;
+    has_length && has_label_bytes(text) && !is_blank(text[0]) && !is_blank(text[text.len() - 1])
+}
+
+#[cfg(test)]
+mod tests {
+    use super::*;
+
+    #[test]
+    fn tells_labels(rt: HostRuntime) {
+        let longest = [b'x'; 255];
+        let too_long = [b'x'; 256];
+        let cases: [(&[u8], bool); 16] = [
+            (b"A", true),
+            (b"Some Net", true),
+            (b"a\tb", true),
+            (b"caf\xc3\xa9", true),
+            (b"\xff", true),
+            (&longest, true),
+            (b"", false),
+            (&too_long, false),
+            (b" a", false),
+            (b"a ", false),
+            (b"\ta", false),
+            (b"a\r", false),
+            (b"a\rb", false),
+            (b"a\x1fb", false),
+            (b"a\x7fb", false),
+            (b"a#b", false),
+        ];
+        for (text, want) in cases {
+            assert_eq!(rt; is_label(text), want, "at {text:?}");
+        }
+    }
+}

@@ -1,3 +1,4 @@
 pub mod Version
 pub mod Block
+pub mod Covers
 pub mod Text

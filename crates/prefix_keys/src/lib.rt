@@ -7,11 +7,13 @@
 #![tactic(auto)]
 
 pub mod addr;
-//BLOCK
-//SPAN
+pub mod block;
+pub mod span;
+pub mod text;
 pub mod version;
 
 pub use addr::Addr;
-//UB
-//US
+pub use block::{Block, block_of};
+pub use span::Span;
+pub use text::{BlockFault, read_addr, read_block};
 pub use version::Version;

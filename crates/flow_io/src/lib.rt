@@ -1,0 +1,22 @@
+// Readers and writers that remember whether they failed.
+//
+// The program reads its files and writes its output through the traits `Input` and `Output`. A device
+// has failed exactly from its first call on that answered `Err`, or, of a writer, that took nothing of
+// a nonempty slice; `failed` tells it, so the layer above can prove that it answers a read fault or a
+// write fault only where a device failed. A type may also tell its bytes: those that it still gives,
+// or those that it has taken. Each read and write then says which bytes moved.
+// `Watched` stands on any reader or writer of std and tells no bytes, as no contract speaks of what
+// the system gives or takes. `MemoryInput` and `MemoryOutput` tell theirs, and fail where a test wants.
+// Nothing here allocates.
+#![tactic(auto)]
+
+mod countdown;
+mod devices;
+mod memory_input;
+mod memory_output;
+mod watch;
+
+pub use devices::{DeviceFault, Input, Output};
+pub use memory_input::MemoryInput;
+pub use memory_output::MemoryOutput;
+pub use watch::Watched;

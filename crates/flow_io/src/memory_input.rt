@@ -1,0 +1,128 @@
+ghost use Rattle.std.specs.Prelude.{◌≡◌, ◌+◌, ◌-◌, ◌≤◌, ◌++◌, ◌↔◌, false, IfOk, OnErr, IsErr, drop, length, min, take, unwrap_or};
+ghost use Rattle.std.specs.Io.KnownBytes.{ReadConsumes};
+ghost use Rattle.flow_io.specs.Devices.{FailsOnErr};
+
+use crate::countdown::Countdown;
+use crate::devices::{DeviceFault, Input};
+use std::marker::Model;
+
+/// A reader over bytes in memory, for tests. It gives them in pieces and fails at a call of choice.
+#[derive(Drop)]
+pub struct MemoryInput<'a> {
+    left: &'a [u8],
+    step: usize,
+    countdown: Countdown,
+    failed: bool,
+}
+
+impl<'a> Model for MemoryInput<'a> {
+    ghost use Rattle.std.specs.Prelude.{◌≤◌};
+    ghost use Rattle.flow_io.specs.MemoryInput.{InputState};
+
+    ghost Value = { InputState };
+
+    ghost view = { λ input. record { left = input.left.now; step = input.step; failing_call = input.countdown; failed = input.failed } };
+
+    ghost invariant = { λ input. 1 ≤ input.step };
+}
+
+impl<'a> MemoryInput<'a> {
+    /// Gives `bytes`, at most `step` of them a call. Call number `fail_at`, counted from 1, answers
+    /// `Err`; with `None` or 0 no call does.
+    pub fn new(bytes: &'a [u8], step: usize, fail_at: Option<u64>) -> Self
+        requires { 1 ≤ step }
+        ensures { result ≡ record { left = bytes.now; step = step; failing_call = unwrap_or fail_at 0; failed = false } }
+    {
+        MemoryInput {
+            left: bytes,
+            step,
+            countdown: Countdown::new(fail_at),
+            failed: false,
+        }
+    }
+}
+
+impl Input for MemoryInput<'_> {
+    ghost use Rattle.std.specs.Prelude.{Some};
+
+    ghost failed = { λ input. input.failed };
+
+    ghost bytes_left = { λ input. Some input.left };
+
+    fn read(&mut self, buffer: &mut [u8]) -> Result<usize, DeviceFault>
+        ensures within { IfOk result (λ count. count ≤ length buffer.new) }
+        ensures given { ReadConsumes (Some self.old.left) (Some self.new.left) result buffer.new }
+        ensures fails { FailsOnErr self.old.failed self.new.failed result }
+
+        // When it fails, and otherwise how much it gives.
+        ensures err { IsErr result ↔ (self.old.failing_call ≡ 1) }
+        ensures count { IfOk result (λ count. count ≡ min self.old.step (min (length buffer.old) (length self.old.left))) }
+        ensures copied { IfOk result (λ count. buffer.new ≡ take count self.old.left ++ drop count buffer.old) }
+        ensures unread { OnErr result (buffer.new ≡ buffer.old) }
+
+        // What comes of the rest.
+        ensures left { IfOk result (λ count. self.new.left ≡ drop count self.old.left) }
+        ensures step { self.new.step ≡ self.old.step }
+        ensures counted { self.new.failing_call ≡ self.old.failing_call - 1 }
+    {
+        if self.countdown.is_due() {
+            self.failed = true;
+            return Err(DeviceFault);
+        }
+        let count = self.step.min(buffer.len().min(self.left.len()));
+        let (front, rest) = self.left.split_at(count);
+        buffer[..count].copy_from_slice(front);
+        self.left = rest;
+        Ok(count)
+    }
+
+    fn failed(&self) -> bool {
+        self.failed
+    }
+}
+
+#[cfg(test)]
+mod tests {
+    use super::*;
+
+    // What one read through the trait answered, and the first two bytes of the buffer after it.
+    fn read_two<R: Input>(reader: &mut R) -> (Result<usize, DeviceFault>, [u8; 2]) {
+        let mut buffer = *b"..";
+        let answer = reader.read(&mut buffer);
+        (answer, buffer)
+    }
+
+    #[test]
+    fn gives_pieces_and_fails_once(rt: HostRuntime) {
+        let fault = Err(DeviceFault);
+        let table = [
+            // The step, the failing call, and what three calls answer.
+            (1, None, [(Ok(1), *b"a."), (Ok(1), *b"b."), (Ok(1), *b"c.")]),
+            (
+                1,
+                Some(2),
+                [(Ok(1), *b"a."), (fault, *b".."), (Ok(1), *b"b.")],
+            ),
+            (
+                9,
+                Some(0),
+                [(Ok(2), *b"ab"), (Ok(1), *b"c."), (Ok(0), *b"..")],
+            ),
+            (
+                9,
+                Some(3),
+                [(Ok(2), *b"ab"), (Ok(1), *b"c."), (fault, *b"..")],
+            ),
+        ];
+        for (step, fail_at, wanted) in table {
+            assert!(rt; step >= 1);
+            let mut reader = MemoryInput::new(b"abc", step, fail_at);
+            let mut failed = false;
+            for want in wanted {
+                assert_eq!(rt; read_two(&mut reader), want, "step {step}, {fail_at:?}");
+                failed = failed || want.0 == fault;
+                assert_eq!(rt; reader.failed(), failed, "step {step}, {fail_at:?}");
+            }
+        }
+    }
+}

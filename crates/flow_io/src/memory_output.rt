@@ -1,0 +1,170 @@
+ghost use Rattle.std.specs.Prelude.{◌≡◌, ◌≢◌, ◌+◌, ◌-◌, ◌≤◌, ◌++◌, ◌↔◌, false, [], IfOk, OnOk, OnErr, IsErr, length, min, unwrap_or};
+ghost use Rattle.std.specs.Io.KnownBytes.{Keeps, WriteAppends};
+ghost use Rattle.flow_io.specs.Devices.{FailsOnErr, FailsOnShortWrite};
+
+use crate::countdown::Countdown;
+use crate::devices::{DeviceFault, Output};
+use std::marker::Model;
+
+/// A writer into memory, for tests, with room for `N` bytes. It takes them in pieces and fails at a
+/// call of choice.
+#[derive(Drop)]
+pub struct MemoryOutput<const N: usize> {
+    buffer: [u8; N],
+    filled: usize,
+    step: usize,
+    countdown: Countdown,
+    zero: bool,
+    failed: bool,
+}
+
+impl<const N: usize> Model for MemoryOutput<N> {
+    ghost use Rattle.std.specs.Prelude.{◌≤◌, take};
+    ghost use Rattle.flow_io.specs.MemoryOutput.{OutputState};
+
+    ghost Value = { OutputState };
+
+    ghost view = { λ output. record { taken = take output.filled output.buffer; step = output.step; failing_call = output.countdown; zero = output.zero; failed = output.failed } };
+
+    ghost invariant = { λ output. (1 ≤ output.step) × (output.filled ≤ N) };
+}
+
+impl<const N: usize> MemoryOutput<N> {
+    /// Takes at most `step` bytes a call. Call number `fail_at` of `write` and `flush` together,
+    /// counted from 1, answers `Err`, or 0 where `zero` is true and it is a write; with `None` or 0
+    /// every call succeeds while there is room.
+    pub fn new(step: usize, fail_at: Option<u64>, zero: bool) -> Self
+        requires { 1 ≤ step }
+        ensures { result ≡ record { taken = []; step = step; failing_call = unwrap_or fail_at 0; zero = zero; failed = false } }
+    {
+        MemoryOutput {
+            buffer: [0; N],
+            filled: 0,
+            step,
+            countdown: Countdown::new(fail_at),
+            zero,
+            failed: false,
+        }
+    }
+
+    /// The bytes taken so far.
+    pub fn taken(&self) -> &[u8]
+        ensures { result.now ≡ self.now.taken }
+    {
+        &self.buffer[..self.filled]
+    }
+}
+
+impl<const N: usize> Output for MemoryOutput<N> {
+    ghost use Rattle.std.specs.Prelude.{Some};
+
+    ghost failed = { λ output. output.failed };
+
+    ghost bytes_taken = { λ output. Some output.taken };
+
+    fn write(&mut self, slice: &[u8]) -> Result<usize, DeviceFault>
+        ensures within { IfOk result (λ count. count ≤ length slice.now) }
+        ensures taken { WriteAppends (Some self.old.taken) (Some self.new.taken) result slice.now }
+        ensures fails { FailsOnShortWrite self.old.failed self.new.failed result slice.now }
+
+        // When it fails, and otherwise how much it takes.
+        ensures err { IsErr result ↔ ((self.old.failing_call ≡ 1) × (self.old.zero ≡ false)) }
+        ensures zero { self.old.failing_call ≡ 1 → IfOk result (λ count. count ≡ 0) }
+        ensures count { self.old.failing_call ≢ 1 → IfOk result (λ count.
+            count ≡ min self.old.step (min (length slice.now) (N - length self.old.taken))) }
+
+        // What comes of the rest.
+        ensures settings { (self.new.step ≡ self.old.step) × (self.new.zero ≡ self.old.zero) }
+        ensures counted { self.new.failing_call ≡ self.old.failing_call - 1 }
+    {
+        let due = self.countdown.is_due();
+        if due && !self.zero {
+            self.failed = true;
+            return Err(DeviceFault);
+        }
+        let room = N - self.filled;
+        let count = if due {
+            0
+        } else {
+            self.step.min(slice.len().min(room))
+        };
+        let end = self.filled + count;
+        let buffer = &mut self.buffer[..];
+        buffer[self.filled..end].copy_from_slice(&slice[..count]);
+        self.filled = end;
+        if count == 0 && !slice.is_empty() {
+            self.failed = true;
+        }
+        Ok(count)
+    }
+
+    fn flush(&mut self) -> Result<(), DeviceFault>
+        ensures taken { Keeps (Some self.old.taken) (Some self.new.taken) }
+        ensures fails { FailsOnErr self.old.failed self.new.failed result }
+        ensures err { IsErr result ↔ (self.old.failing_call ≡ 1) }
+        ensures settings { (self.new.step ≡ self.old.step) × (self.new.zero ≡ self.old.zero) }
+        ensures counted { self.new.failing_call ≡ self.old.failing_call - 1 }
+    {
+        if self.countdown.is_due() {
+            self.failed = true;
+            return Err(DeviceFault);
+        }
+        Ok(())
+    }
+
+    fn failed(&self) -> bool {
+        self.failed
+    }
+}
+
+#[cfg(test)]
+mod tests {
+    use super::*;
+
+    // The answers to two writes of `abcd` and one flush, through the trait.
+    fn write_twice<W: Output>(writer: &mut W) -> [Result<usize, DeviceFault>; 3] {
+        let first = writer.write(b"abcd");
+        let second = writer.write(b"abcd");
+        [first, second, writer.flush().map(|()| 0)]
+    }
+
+    #[test]
+    fn takes_pieces_and_fails_once(rt: HostRuntime) {
+        let fault = Err(DeviceFault);
+        let table = [
+            // The step, the failing call, whether it answers 0, the answers, and the bytes taken.
+            (1, None, false, [Ok(1), Ok(1), Ok(0)], "aa", false),
+            (1, Some(1), false, [fault, Ok(1), Ok(0)], "a", true),
+            (1, Some(1), true, [Ok(0), Ok(1), Ok(0)], "a", true),
+            (9, Some(0), true, [Ok(4), Ok(2), Ok(0)], "abcdab", false),
+            (3, Some(2), false, [Ok(3), fault, Ok(0)], "abc", true),
+            (3, Some(3), true, [Ok(3), Ok(3), fault], "abcabc", true),
+        ];
+        for (step, fail_at, zero, answers, taken, failed) in table {
+            assert!(rt; step >= 1);
+            let mut writer = MemoryOutput::<6>::new(step, fail_at, zero);
+            assert_eq!(rt;
+                write_twice(&mut writer),
+                answers,
+                "step {step}, {fail_at:?}"
+            );
+            assert_eq!(rt;
+                writer.taken(),
+                taken.as_bytes(),
+                "step {step}, {fail_at:?}"
+            );
+            assert_eq!(rt; writer.failed(), failed, "step {step}, {fail_at:?}");
+        }
+    }
+
+    #[test]
+    fn fails_when_full_but_not_on_nothing(rt: HostRuntime) {
+        let mut writer = MemoryOutput::<2>::new(2, Some(2), true);
+        assert_eq!(rt; writer.write(b"ab"), Ok(2));
+        assert_eq!(rt; writer.write(b""), Ok(0));
+        assert!(rt; !writer.failed());
+        assert_eq!(rt; writer.write(b"c"), Ok(0));
+        assert!(rt; writer.failed());
+        assert_eq!(rt; writer.taken(), b"ab".as_slice());
+    }
+}

@@ -1,0 +1,116 @@
+-- What the answer of `parse` follows from: the kind of clap's error, or the entries of its matches.
+use Rattle.std.proofs.Common.{◌≡◌, ◌⊎◌, ◌∙◌, ◌||◌, Bool, true, false, List, [], ◌∷◌, Option, Some, None, Result, Ok, Err, refl, sym, ap, ap₂, inl, inr, codes}
+use Rattle.std.specs.Prelude.{option_map, unwrap_or}
+use Rattle.std.specs.List.{list_any}
+use Rattle.clap.specs.Words.{IsAmong, Kinds, Row, fault_of, first_of, is_simple, is_simple_and_free, subcommand_name_of, subcommand_of, subcommand_rows_of}
+use Rattle.clap.specs.declared.error.kind.ErrorKind.{ErrorKind}
+use Rattle.clap.specs.declared.error.kind.ErrorKind.TheVariants as kind
+use Rattle.clap.specs.declared.parser.ArgMatches.{ArgMatches}
+use Rattle.clap.proofs.OnLiterals.{clap_on_literals}
+use Rattle.prefix_keys.specs.Text.{AddressOf}
+use Rattle.flowlabel.specs.Request.{Text}
+use Rattle.flowlabel.specs.Definition.{flowlabel_app}
+use Rattle.flowlabel.specs.Answer.{IsAnswer, IsFaultAt, IsFaultOfKind, IsOwnAnswer, SaysOnly, address_in_rows, answer_of, answer_of_label, is_help, is_mistake, label_answer}
+use Rattle.flowlabel.specs.declared.command.Command.{Command}
+use Rattle.flowlabel.specs.declared.usage.UsageFault.{UsageFault}
+use Rattle.flowlabel.specs.declared.usage.UsageFault.TheVariants.{Refused, Help, MapMissing, BadAddress, NoMemory}
+
+-- the definition is one of those that clap's theorems are about
+pub flowlabel_is_simple : is_simple flowlabel_app ≡ true
+unfolding flowlabel_app clap_on_literals
+flowlabel_is_simple = refl
+
+pub flowlabel_is_free : is_simple_and_free flowlabel_app ≡ true
+unfolding flowlabel_app clap_on_literals
+flowlabel_is_free = refl
+
+or_right : (a b : Bool) → b ≡ true → (a || b) ≡ true
+or_right true b e = refl
+or_right false b e = e
+
+-- one of the kinds passes a test
+among_passes : (p : ErrorKind → Bool) (k : ErrorKind) (kinds : Kinds) → IsAmong k kinds → p k ≡ true → list_any p kinds ≡ true
+among_passes p k [] h e = absurd h
+among_passes p k (x ∷ xs) (inl same) e = rw (← same, e) refl
+among_passes p k (x ∷ xs) (inr rest) e = or_right (p x) _ (among_passes p k xs rest e)
+
+-- a fault that comes of an error's kind says what clap's theorem says of that kind
+pub fault_at : (words : List Text) (k : ErrorKind) (f : UsageFault) → (k ≡ kind.OutOfMemory) ⊎ IsAmong k (fault_of flowlabel_app words)
+    → IsFaultOfKind k f → IsFaultAt words f
+fault_at words k (Refused text) (inl e) h =
+    let bad : false ≡ true = rw e at h in
+    cc
+fault_at words k (Refused text) (inr among) h = among_passes is_mistake k _ among h
+fault_at words k (Help text) (inl e) h =
+    let bad : false ≡ true = rw e at h in
+    cc
+fault_at words k (Help text) (inr among) h = among_passes is_help k _ among h
+fault_at words k MapMissing from h = absurd h
+fault_at words k BadAddress from h = absurd h
+fault_at words k NoMemory from h = tt
+
+-- the label command answers by no refusal of clap's, no help and no want of memory
+label_faults : (words : List Text) (map : Option Text) (address : Option AddressOf) (f : UsageFault) → label_answer map address ≡ Err f
+    → (fault_of flowlabel_app words ≡ []) → (option_map answer_of (subcommand_of flowlabel_app words) ≡ Some (Err f)) → IsFaultAt words f
+label_faults words map address MapMissing e none own = (none, own)
+label_faults words map address BadAddress e none own = (none, own)
+label_faults words map address NoMemory e none own = tt
+label_faults words None address (Refused text) e none own = cc
+label_faults words (Some map) None (Refused text) e none own = cc
+label_faults words (Some map) (Some address) (Refused text) e none own = cc
+label_faults words None address (Help text) e none own = cc
+label_faults words (Some map) None (Help text) e none own = cc
+label_faults words (Some map) (Some address) (Help text) e none own = cc
+
+-- a pair in an option, by its parts
+pair_is : {A B : Type 0} (o : Option (A × B)) (a : A) (b : B) → option_map (λ p. p.0) o ≡ Some a → option_map (λ p. p.1) o ≡ Some b → o ≡ Some (a, b)
+pair_is None a b e f = cc
+pair_is {A} {B} (Some p) a b e f = ap₂ (λ (x : Option A) (y : Option B). Some (unwrap_or x p.0, unwrap_or y p.1)) e f
+
+map_twice : {A B C : Type 0} (f : B → C) (g : A → B) (o : Option A) → option_map f (option_map g o) ≡ option_map (λ x. f (g x)) o
+map_twice f g None = refl
+map_twice f g (Some x) = refl
+
+-- the subcommand of the matches, by its name and its entries
+pub subcommand_is : (m : ArgMatches) (name : Text) (rows : List Row) → subcommand_name_of m ≡ Some name
+    → option_map (λ p. p.1) (subcommand_rows_of m) ≡ Some rows → subcommand_rows_of m ≡ Some (name, rows)
+subcommand_is m name rows e f = pair_is (subcommand_rows_of m) name rows (map_twice (λ p. p.0) _ _ ∙ e) f
+
+-- the subcommand that clap found is that of its specification, so its answer is that of the words
+pub answers : (words : List Text) (p : Text × List Row) (r : Result Command UsageFault) → fault_of flowlabel_app words ≡ []
+    → subcommand_of flowlabel_app words ≡ Some p → SaysOnly (answer_of p) r → IsAnswer words r
+answers words p (Ok command) none found says = (none, ap (option_map answer_of) found ∙ ap Some says)
+answers words p (Err fault) none found says = label_faults words _ _ fault says none (ap (option_map answer_of) found ∙ ap Some says)
+
+-- such an answer is no refusal of clap's and no help
+pub own : (map : Option Text) (address : Option AddressOf) (r : Result Command UsageFault) → SaysOnly (label_answer map address) r → IsOwnAnswer r
+own map address (Ok command) says = tt
+own map address (Err MapMissing) says = tt
+own map address (Err BadAddress) says = tt
+own map address (Err NoMemory) says = tt
+own None address (Err (Refused text)) says = cc
+own (Some map) None (Err (Refused text)) says = cc
+own (Some map) (Some address) (Err (Refused text)) says = cc
+own None address (Err (Help text)) says = cc
+own (Some map) None (Err (Help text)) says = cc
+own (Some map) (Some address) (Err (Help text)) says = cc
+
+-- a fault that comes of want of memory is no refusal of clap's and no help
+pub own_of_memory : (k : ErrorKind) (f : UsageFault) → k ≡ kind.OutOfMemory → IsFaultOfKind k f → IsOwnAnswer (Err f)
+own_of_memory k (Refused text) e h =
+    let bad : false ≡ true = rw e at h in
+    cc
+own_of_memory k (Help text) e h =
+    let bad : false ≡ true = rw e at h in
+    cc
+own_of_memory k MapMissing e h = tt
+own_of_memory k BadAddress e h = tt
+own_of_memory k NoMemory e h = tt
+
+-- the answer of `label` by what its entries hold
+pub label_missing : (rows : List Row) → first_of (codes "pmap") rows ≡ None → answer_of_label rows ≡ Err MapMissing
+label_missing rows e = ap (λ (m : Option Text). label_answer m (address_in_rows rows)) e
+
+pub label_is : (rows : List Row) (map : Text) (a : Option AddressOf) → first_of (codes "pmap") rows ≡ Some map → a ≡ address_in_rows rows
+    → answer_of_label rows ≡ label_answer (Some map) a
+label_is rows map a e f = ap₂ label_answer e (sym f)

@@ -1,0 +1,69 @@
+-- What clap's theorems say of a line of `label`, by computing them at it.
+use Rattle.std.proofs.Common.{◌≡◌, ◌∙◌, ◌==◌, ℕ, Bool, true, false, not, List, [], ◌∷◌, Option, Some, None, Result, Ok, Err, refl, sym, ap, codes}
+use Rattle.std.specs.Prelude.{unwrap_or}
+use Rattle.clap.specs.Lexer.{short_of}
+use Rattle.clap.specs.Words.{Text, fault_of}
+use Rattle.clap.proofs.OnLiterals.{clap_on_literals}
+use Rattle.prefix_keys.specs.Text.{address_of}
+use Rattle.flowlabel.specs.Definition.{flowlabel_app}
+use Rattle.flowlabel.specs.Answer.{Answer, Answers, IsAnswer, IsUnlessMemory, ReadsBareLine, ReadsMapLine, is_plain_word, label_answer, own_answer}
+use Rattle.flowlabel.specs.declared.command.Command.{Command}
+use Rattle.flowlabel.specs.declared.usage.UsageFault.{UsageFault}
+use Rattle.flowlabel.specs.declared.usage.UsageFault.TheVariants.{Refused, Help, MapMissing, BadAddress, NoMemory}
+
+not_true : (b : Bool) → not b ≡ true → b ≡ false
+not_true true e = sym e
+not_true false e = refl
+
+not_short : (x : ℕ) (xs : Text) → (x == 45) ≡ false → short_of (x ∷ xs) ≡ None
+not_short x xs h = rw h refl
+
+-- where the words have an answer of the program's own, the result is that one
+pub own_only : (words : List Text) (answer : Answer) (r : Result Command UsageFault) → Answers words answer → IsAnswer words r → IsUnlessMemory answer r
+own_only words answer (Ok command) own is = ap (λ (o : Option Answer). unwrap_or o answer) (sym own.1 ∙ is.1)
+own_only words answer (Err MapMissing) own is = ap (λ (o : Option Answer). unwrap_or o answer) (sym own.1 ∙ is.1)
+own_only words answer (Err BadAddress) own is = ap (λ (o : Option Answer). unwrap_or o answer) (sym own.1 ∙ is.1)
+own_only words answer (Err NoMemory) own is = tt
+own_only words answer (Err (Refused text)) own is =
+    let bad : false ≡ true = rw own.0 at is in
+    cc
+own_only words answer (Err (Help text)) own is =
+    let bad : false ≡ true = rw own.0 at is in
+    cc
+
+module _ (program : Text) where
+  map_found : (map address : Text) → is_plain_word map ≡ true → is_plain_word address ≡ true
+      → own_answer (program ∷ codes "label" ∷ codes "--pmap" ∷ map ∷ address ∷ []) ≡ Some (label_answer (Some map) (address_of address))
+  unfolding flowlabel_app clap_on_literals
+  map_found [] [] h k = refl
+  map_found (x ∷ xs) [] h k = let e = not_true (x == 45) h in rw (e, not_short x xs e) refl
+  map_found [] (y ∷ ys) h k = let f = not_true (y == 45) k in rw (f, not_short y ys f) refl
+  map_found (x ∷ xs) (y ∷ ys) h k =
+      let e = not_true (x == 45) h in let f = not_true (y == 45) k in rw (e, not_short x xs e, f, not_short y ys f) refl
+
+  map_taken : (map address : Text) → is_plain_word map ≡ true → is_plain_word address ≡ true
+      → fault_of flowlabel_app (program ∷ codes "label" ∷ codes "--pmap" ∷ map ∷ address ∷ []) ≡ []
+  unfolding flowlabel_app clap_on_literals
+  map_taken [] [] h k = refl
+  map_taken (x ∷ xs) [] h k = let e = not_true (x == 45) h in rw (e, not_short x xs e) refl
+  map_taken [] (y ∷ ys) h k = let f = not_true (y == 45) k in rw (f, not_short y ys f) refl
+  map_taken (x ∷ xs) (y ∷ ys) h k =
+      let e = not_true (x == 45) h in let f = not_true (y == 45) k in rw (e, not_short x xs e, f, not_short y ys f) refl
+
+  -- a line with a map and an address
+  pub map_line : (map address : Text) → is_plain_word map ≡ true → is_plain_word address ≡ true
+      → Answers (program ∷ codes "label" ∷ codes "--pmap" ∷ map ∷ address ∷ []) (label_answer (Some map) (address_of address))
+  map_line map address h k = (map_taken map address h k, map_found map address h k)
+
+  -- a line without a map
+  pub bare_line : (address : Text) → is_plain_word address ≡ true → Answers (program ∷ codes "label" ∷ address ∷ []) (Err MapMissing)
+  unfolding flowlabel_app clap_on_literals
+  bare_line [] h = (refl, refl)
+  bare_line (x ∷ xs) h = let e = not_true (x == 45) h in (rw (e, not_short x xs e) refl, rw (e, not_short x xs e) refl)
+
+-- such a line is read so, whatever answers what the words ask for
+pub reads_map_line : (words : List Text) (r : Result Command UsageFault) → IsAnswer words r → ReadsMapLine words r
+reads_map_line words r is program map address h k e = own_only _ _ r (map_line program map address h k) (rw e at is)
+
+pub reads_bare_line : (words : List Text) (r : Result Command UsageFault) → IsAnswer words r → ReadsBareLine words r
+reads_bare_line words r is program address h e = own_only _ _ r (bare_line program address h) (rw e at is)

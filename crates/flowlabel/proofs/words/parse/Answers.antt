@@ -1,0 +1,48 @@
+use Rattle.std.proofs.Common.{◌∙◌, Err, ap, sym, subst, map}
+use Rattle.std.specs.Prelude.{option_map}
+use Rattle.clap.specs.Words.{App, HasKind, fault_of, found_of, is_simple, is_simple_and_free, rows_of, subcommand_of, takes}
+use Rattle.flowlabel.proofs.AnswerLemmas.{answers, fault_at, flowlabel_is_free, flowlabel_is_simple, own, own_of_memory, subcommand_is}
+use Rattle.flowlabel.proofs.LineLemmas.{reads_bare_line, reads_map_line}
+use Rattle.flowlabel.proofs.words.parse.Goals as goal
+
+pub returns-in-Ok-clause-answer : goal.returns-in-Ok-clause-answer
+returns-in-Ok-clause-answer c =
+    let app_is = c.in_ok-command.ensures.app in
+    let fails = c.in-Ok.ensures.kinds (ap is_simple_and_free app_is ∙ flowlabel_is_free) in
+    let matches = c.in-Ok.ensures.matches (ap is_simple app_is ∙ flowlabel_is_simple) in
+    let words = map (λ s. s.now) c.args.words.now in
+    let none = sym (ap (λ (a : App). fault_of a words) app_is) ∙ fails in
+    let found = matches.1 ∙ ap (λ (a : App). subcommand_of a words) app_is in
+    let name = sym c.subcommand.ensures.name ∙ ap (option_map (λ p. p.0.now)) c.unwrap.ensures in
+    let rows = sym c.subcommand.ensures.rows ∙ ap (option_map (λ p. rows_of (found_of p.1.now))) c.unwrap.ensures in
+    let sub = subcommand_is c.in-Ok.matches _ _ name rows in
+    answers words _ _ none (sym found ∙ sub) c.label_command.ensures
+
+pub returns-in-Ok-clause-map_line : goal.returns-in-Ok-clause-map_line
+returns-in-Ok-clause-map_line c = reads_map_line _ c.label_command.result (returns-in-Ok-clause-answer c)
+
+pub returns-in-Ok-clause-bare_line : goal.returns-in-Ok-clause-bare_line
+returns-in-Ok-clause-bare_line c = reads_bare_line _ c.label_command.result (returns-in-Ok-clause-answer c)
+
+pub returns-in-Ok-clause-taken : goal.returns-in-Ok-clause-taken
+returns-in-Ok-clause-taken c = λ taken. own _ _ _ c.label_command.ensures
+
+pub returns-in-Err-clause-answer : goal.returns-in-Err-clause-answer
+returns-in-Err-clause-answer c =
+    let app_is = c.in_ok-command.ensures.app in
+    let fails = c.in-Err.ensures.kinds (ap is_simple_and_free app_is ∙ flowlabel_is_free) in
+    let words = map (λ s. s.now) c.args.words.now in
+    let of = subst (λ (a : App). HasKind (fault_of a words) c.in-Err.error) app_is fails in
+    fault_at words _ _ of c.fault_of_error.ensures
+
+pub returns-in-Err-clause-map_line : goal.returns-in-Err-clause-map_line
+returns-in-Err-clause-map_line c = reads_map_line _ (Err c.fault_of_error.result) (returns-in-Err-clause-answer c)
+
+pub returns-in-Err-clause-bare_line : goal.returns-in-Err-clause-bare_line
+returns-in-Err-clause-bare_line c = reads_bare_line _ (Err c.fault_of_error.result) (returns-in-Err-clause-answer c)
+
+pub returns-in-Err-clause-taken : goal.returns-in-Err-clause-taken
+returns-in-Err-clause-taken c =
+    let app_is = c.in_ok-command.ensures.app in
+    let words = map (λ s. s.now) c.args.words.now in
+    λ taken. own_of_memory _ _ (c.in-Err.ensures.passes (ap (λ (a : App). takes a words) app_is ∙ taken)) c.fault_of_error.ensures

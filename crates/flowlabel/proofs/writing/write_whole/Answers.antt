@@ -1,0 +1,18 @@
+-- What is gone from `rest` was taken by the writer.
+use Rattle.std.proofs.Common.{◌≡◌, ◌<◌, ℕ, ◌-◌, List, ◌++◌, arith, length, take, drop, sym, ap, ◌∙◌, append_assoc, take-append-drop}
+use Rattle.std.proofs.lemmas.List.{take_rest}
+use Rattle.std.proofs.KnownBytes.{Appends-trans}
+use Rattle.flowlabel.proofs.writing.write_whole.Goals as goal
+
+-- the first n of the rest may go to the front
+moves_front : (all front rest : List ℕ) (n : ℕ) → all ≡ front ++ rest → all ≡ (front ++ take n rest) ++ take (length rest - n) (drop n rest)
+moves_front all front rest n e =
+    e ∙ ap (λ l. front ++ l) (sym (take-append-drop n rest)) ∙ sym (append_assoc front (take n rest) (drop n rest)) ∙ ap (λ l. (front ++ take n rest) ++ l) (sym (take_rest rest n))
+
+pub loop-rest-preserved : goal.loop-rest-preserved
+loop-rest-preserved g c =
+    let (front, split, appended, sound) = c.loop-rest.invariant in
+    let rest = c.loop-rest.rest.now in
+    let count = c.in-Ok.count in
+    let some : 0 < count = omega arith in
+    (front ++ take count rest, moves_front _ front rest count split, Appends-trans _ _ _ _ _ appended c.in-Ok.ensures.taken, c.in-Ok.ensures.fails.some_taken some ∙ sound)

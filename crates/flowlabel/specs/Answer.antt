@@ -1,0 +1,107 @@
+use Rattle.std.specs.Prelude.{◌≡◌, ◌==◌, Bool, not, true, false, List, [], ◌∷◌, Option, Some, None, Result, Ok, Err, codes, option_and_then, option_map}
+use Rattle.std.specs.List.{list_any}
+use Rattle.prefix_keys.specs.Text.{AddressOf, address_of}
+use Rattle.clap.specs.Words.{Row, fault_of, first_of, subcommand_of}
+use Rattle.clap.specs.declared.error.kind.ErrorKind.{ErrorKind}
+use Rattle.clap.specs.declared.error.kind.ErrorKind.TheVariants as kind
+use Rattle.flowlabel.specs.Definition.{flowlabel_app}
+use Rattle.flowlabel.specs.Request.{Request, Text, label, request_of}
+use Rattle.flowlabel.specs.declared.command.Command.{Command}
+use Rattle.flowlabel.specs.declared.usage.UsageFault.{UsageFault}
+use Rattle.flowlabel.specs.declared.usage.UsageFault.TheVariants.{Refused, Help, MapMissing, BadAddress, NoMemory}
+
+-- What a command line is answered with.
+
+-- a request or a usage fault of the program's own
+abbrev pub Answer : Type 0
+Answer = Result Request UsageFault
+
+-- `label`, by its map and what its address stands for: the map is missed first
+abbrev pub label_answer : Option Text → Option AddressOf → Answer
+label_answer None address = Err MapMissing
+label_answer (Some map) None = Err BadAddress
+label_answer (Some map) (Some address) = Ok (label map address)
+
+-- what the word ADDR of an entry stands for
+abbrev pub address_in_rows : List Row → Option AddressOf
+address_in_rows rows = option_and_then address_of (first_of (codes "address") rows)
+
+-- `label`, by the entries that clap finds for it
+abbrev pub answer_of_label : List Row → Answer
+answer_of_label rows = label_answer (first_of (codes "pmap") rows) (address_in_rows rows)
+
+-- the answer to a subcommand, by its name and its entries
+abbrev pub answer_of : Text × List Row → Answer
+answer_of found = answer_of_label found.1
+
+-- the answer to the words that clap takes, by the subcommand and the entries that it finds in them
+abbrev pub own_answer : List Text → Option Answer
+own_answer words = option_map answer_of (subcommand_of flowlabel_app words)
+
+-- the kind of an error that asks for help, and one that is a mistake in the words
+abbrev pub is_help : ErrorKind → Bool
+is_help kind.DisplayHelp = true
+is_help k = false
+
+abbrev pub is_mistake : ErrorKind → Bool
+is_mistake kind.DisplayHelp = false
+is_mistake kind.OutOfMemory = false
+is_mistake k = true
+
+-- the result is this answer, and no other
+abbrev pub SaysOnly : Answer → Result Command UsageFault → Type 0
+SaysOnly answer (Ok command) = answer ≡ Ok (request_of command)
+SaysOnly answer (Err fault) = answer ≡ Err fault
+
+-- clap takes the words, and this is the answer to what it finds in them
+abbrev pub Answers : List Text → Answer → Type 0
+Answers words answer = (fault_of flowlabel_app words ≡ []) × (own_answer words ≡ Some answer)
+
+-- what a fault says of the words: a refusal of clap's and its help come where it refuses the words so, and a
+-- fault of the program's own where clap takes them
+abbrev pub IsFaultAt : List Text → UsageFault → Type 0
+IsFaultAt words (Refused text) = list_any is_mistake (fault_of flowlabel_app words) ≡ true
+IsFaultAt words (Help text) = list_any is_help (fault_of flowlabel_app words) ≡ true
+IsFaultAt words MapMissing = Answers words (Err MapMissing)
+IsFaultAt words BadAddress = Answers words (Err BadAddress)
+IsFaultAt words NoMemory = Unit {0}
+
+-- the result is what the words ask for
+abbrev pub IsAnswer : List Text → Result Command UsageFault → Type 0
+IsAnswer words (Ok command) = Answers words (Ok (request_of command))
+IsAnswer words (Err fault) = IsFaultAt words fault
+
+-- the result is no refusal of clap's and no help
+abbrev pub IsOwnAnswer : Result Command UsageFault → Type 0
+IsOwnAnswer (Err (Refused text)) = ⊥
+IsOwnAnswer (Err (Help text)) = ⊥
+IsOwnAnswer result = Unit {0}
+
+-- memory aside, the result is this answer
+abbrev pub IsUnlessMemory : Answer → Result Command UsageFault → Type 0
+IsUnlessMemory answer (Err NoMemory) = Unit {0}
+IsUnlessMemory answer result = SaysOnly answer result
+
+-- a word that is no option: it begins with no hyphen
+abbrev pub is_plain_word : Text → Bool
+is_plain_word [] = true
+is_plain_word (x ∷ xs) = not (x == 45)
+
+-- `label --pmap MAP ADDRESS` is answered by its map and its address
+abbrev pub ReadsMapLine : List Text → Result Command UsageFault → Type 0
+ReadsMapLine words result = (program map address : Text) → is_plain_word map ≡ true → is_plain_word address ≡ true
+    → words ≡ program ∷ codes "label" ∷ codes "--pmap" ∷ map ∷ address ∷ []
+    → IsUnlessMemory (label_answer (Some map) (address_of address)) result
+
+-- `label ADDRESS` misses its map
+abbrev pub ReadsBareLine : List Text → Result Command UsageFault → Type 0
+ReadsBareLine words result = (program address : Text) → is_plain_word address ≡ true
+    → words ≡ program ∷ codes "label" ∷ address ∷ [] → IsUnlessMemory (Err MapMissing) result
+
+-- the fault comes of an error of this kind
+abbrev pub IsFaultOfKind : ErrorKind → UsageFault → Type 0
+IsFaultOfKind k (Refused text) = is_mistake k ≡ true
+IsFaultOfKind k (Help text) = is_help k ≡ true
+IsFaultOfKind k MapMissing = ⊥
+IsFaultOfKind k BadAddress = ⊥
+IsFaultOfKind k NoMemory = Unit {0}

@@ -1,0 +1,76 @@
+use Rattle.std.specs.Prelude.{ℕ, Bool, true, false, List, [], ◌++◌, codes, decimal, if◌then◌else◌}
+use Rattle.pmap_text.specs.declared.fault.MapFault.{MapFault}
+use Rattle.pmap_text.specs.declared.fault.MapFaultKind.{MapFaultKind}
+use Rattle.pmap_text.specs.declared.fault.MapFaultKind.TheVariants as kind
+use Rattle.flowlabel.specs.declared.fault.RunFault.{RunFault}
+use Rattle.flowlabel.specs.declared.fault.RunFault.TheVariants.{Usage, CannotOpen, CannotRead, CannotWrite, NoMemory, Map}
+use Rattle.flowlabel.specs.declared.usage.UsageFault.{UsageFault}
+use Rattle.flowlabel.specs.declared.usage.UsageFault.TheVariants as usage
+
+-- What is printed for a fault on standard error, and the status that the program ends with.
+
+-- the code and the name of a fault of a map text or a list text
+abbrev pub map_fault_text : MapFaultKind → List ℕ
+map_fault_text kind.BadStatement = codes "M1 BadStatement"
+map_fault_text kind.BadAddress = codes "M2 BadAddress"
+map_fault_text kind.BadLength = codes "M3 BadLength"
+map_fault_text kind.LowAboveHigh = codes "M4 LowAboveHigh"
+map_fault_text kind.WrongVersion = codes "M5 WrongVersion"
+map_fault_text kind.MissingLabel = codes "M6 MissingLabel"
+map_fault_text kind.BadLabel = codes "M7 BadLabel"
+map_fault_text kind.LabelConflict = codes "M8 LabelConflict"
+map_fault_text kind.BadMode = codes "M9 BadMode"
+map_fault_text kind.ModeLate = codes "M10 ModeLate"
+map_fault_text kind.ModeRepeated = codes "M11 ModeRepeated"
+map_fault_text kind.TooMany = codes "M12 TooMany"
+map_fault_text kind.NotAList = codes "M13 NotAList"
+map_fault_text kind.DuplicateBlock = codes "M14 DuplicateBlock"
+map_fault_text kind.NoMemory = codes "M15 NoMemory"
+
+abbrev pub out_of_memory : List ℕ
+out_of_memory = codes "flowlabel: out of memory\n"
+
+abbrev pub is_want_of_memory : MapFaultKind → Bool
+is_want_of_memory kind.NoMemory = true
+is_want_of_memory k = false
+
+-- a fault at a place of a file
+abbrev pub place_text : List ℕ → List ℕ → ℕ → List ℕ
+place_text file name place =
+    codes "flowlabel: " ++ file ++ codes ": " ++ name ++ codes " at " ++ decimal place ++ codes "\n"
+
+-- the fault of a line of a map file
+abbrev pub map_fault_line_text : List ℕ → MapFault → List ℕ
+map_fault_line_text file fault =
+    if is_want_of_memory fault.kind then out_of_memory
+    else place_text file (map_fault_text fault.kind) fault.line
+
+abbrev pub usage_fault_text : UsageFault → List ℕ
+usage_fault_text (usage.Refused text) = text
+usage_fault_text (usage.Help text) = []
+usage_fault_text usage.MapMissing = codes "flowlabel: usage: P2 MapMissing\n"
+usage_fault_text usage.BadAddress = codes "flowlabel: usage: P4 BadAddress\n"
+usage_fault_text usage.NoMemory = out_of_memory
+
+abbrev pub fault_text : RunFault → List ℕ
+fault_text (Usage fault) = usage_fault_text fault
+fault_text (CannotOpen file) = codes "flowlabel: " ++ file.now ++ codes ": cannot open\n"
+fault_text (CannotRead file) = codes "flowlabel: " ++ file.now ++ codes ": cannot read\n"
+fault_text CannotWrite = codes "flowlabel: output: cannot write\n"
+fault_text NoMemory = out_of_memory
+fault_text (Map file fault) = map_fault_line_text file.now fault
+
+abbrev pub usage_status_of : UsageFault → ℕ
+usage_status_of (usage.Refused text) = 2
+usage_status_of (usage.Help text) = 0
+usage_status_of usage.MapMissing = 2
+usage_status_of usage.BadAddress = 2
+usage_status_of usage.NoMemory = 3
+
+abbrev pub status_of : RunFault → ℕ
+status_of (Usage fault) = usage_status_of fault
+status_of (CannotOpen file) = 4
+status_of (CannotRead file) = 4
+status_of CannotWrite = 4
+status_of NoMemory = 3
+status_of (Map file fault) = if is_want_of_memory fault.kind then 3 else 1

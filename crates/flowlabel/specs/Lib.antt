@@ -1,0 +1,7 @@
+pub mod Request
+pub mod Definition
+pub mod Answer
+pub mod Loops
+pub mod Faults
+pub mod Output
+pub mod Run

@@ -1,0 +1,102 @@
+use Rattle.std.specs.Prelude.{◌≡◌, ◌≢◌, ◌⊎◌, ◌||◌, ℕ, Bool, true, false, List, [], Option, Some, None, is_some, Result, Ok, Err}
+use Rattle.std.specs.Borrow.{Bor}
+use Rattle.std.specs.Io.KnownBytes.{Appends, Keeps}
+use Rattle.pmap_text.specs.Reading.{map_reading}
+use Rattle.pmap_text.specs.declared.fault.MapFaultKind.TheVariants as kind
+use Rattle.flowlabel.specs.Loops.{AppendsPrefix}
+use Rattle.flowlabel.specs.Output.{FileTexts, InMap, output_of}
+use Rattle.flowlabel.specs.Request.{Request}
+use Rattle.flowlabel.specs.declared.command.Needs.{Needs}
+use Rattle.flowlabel.specs.declared.fault.RunFault.{RunFault}
+use Rattle.flowlabel.specs.declared.fault.RunFault.TheVariants.{Usage, CannotOpen, CannotRead, CannotWrite, NoMemory, Map}
+use Rattle.flowlabel.specs.declared.inputs.Inputs.{Inputs}
+use Rattle.flowlabel.specs.declared.inputs.Source.{Source}
+
+-- What a run of a command does with the readers of its files and the writer of its output.
+
+module _ {R : Type 0} where
+  -- where the reader tells its bytes, they are this text; an input that isn't read has no bytes
+  abbrev pub HasText : (R → Option (List ℕ)) → Option (Source R) → List ℕ → Type 0
+  HasText left None text = text ≡ []
+  HasText left (Some source) text = left source.reader ≡ Some text
+
+  -- the readers tell their bytes, which are these texts
+  pub record HaveTexts (left : R → Option (List ℕ)) (inputs : Inputs R) (texts : FileTexts) : Type 0 where
+    pub map : HasText left inputs.map texts.map
+    pub list : HasText left inputs.list texts.list
+    pub certificate : HasText left inputs.certificate texts.certificate
+    pub flows : HasText left inputs.flows texts.flows
+
+  -- the reader of an input has failed
+  abbrev pub source_failed : (R → Bool) → Option (Source R) → Bool
+  source_failed failed None = false
+  source_failed failed (Some source) = failed source.reader
+
+  abbrev pub any_failed : (R → Bool) → Inputs R → Bool
+  any_failed failed inputs = source_failed failed inputs.map || (source_failed failed inputs.list
+      || (source_failed failed inputs.certificate || source_failed failed inputs.flows))
+
+  -- the input has this name
+  abbrev pub HasName : Option (Source R) → Bor (List ℕ) → Type 0
+  HasName None name = ⊥
+  HasName (Some source) name = source.name.now ≡ name.now
+
+  -- it has this name, and its reader has failed
+  abbrev pub HasFailed : (R → Bool) → Option (Source R) → Bor (List ℕ) → Type 0
+  HasFailed failed source name = HasName source name × (source_failed failed source ≡ true)
+
+  -- the output of the request by the bytes that the readers told, where they tell them
+  abbrev pub PrintsThen : (R → Option (List ℕ)) → Inputs R → Request → (List ℕ → Type 0) → Type 0
+  PrintsThen left inputs request P =
+      (texts : FileTexts) → HaveTexts left inputs texts → (out : List ℕ) × (output_of request texts ≡ Ok out) × P out
+
+  -- what a fault of reading a map file says
+  abbrev pub IsFaultOfMap : (R → Option (List ℕ)) → (R → Bool) → Source R → Source R → RunFault → Type 0
+  IsFaultOfMap left failed old new (Usage fault) = ⊥
+  IsFaultOfMap left failed old new (CannotOpen file) = ⊥
+  IsFaultOfMap left failed old new (CannotRead file) = (new.name.now ≡ file.now) × (failed new.reader ≡ true)
+  IsFaultOfMap left failed old new CannotWrite = ⊥
+  IsFaultOfMap left failed old new NoMemory = Unit {0}
+  IsFaultOfMap left failed old new (Map file fault) = (old.name.now ≡ file.now) × (fault.kind ≢ kind.NoMemory)
+      × ((text : List ℕ) → left old.reader ≡ Some text → map_reading text ≡ Err fault)
+
+  -- what a fault that comes before anything is written says: a fault of a map text is the request's first fault, and a
+  -- reader that is named has failed
+  abbrev pub IsFaultOfBytes : (R → Option (List ℕ)) → (R → Bool) → Inputs R → Inputs R → Request → RunFault → Type 0
+  IsFaultOfBytes left failed old new request (Usage fault) = ⊥
+  IsFaultOfBytes left failed old new request (CannotOpen file) = ⊥
+  IsFaultOfBytes left failed old new request (CannotRead file) =
+      HasFailed failed new.map file ⊎ (HasFailed failed new.list file ⊎ (HasFailed failed new.certificate file ⊎ HasFailed failed new.flows file))
+  IsFaultOfBytes left failed old new request CannotWrite = ⊥
+  IsFaultOfBytes left failed old new request NoMemory = Unit {0}
+  IsFaultOfBytes left failed old new request (Map file fault) =
+      HasName old.map file × (fault.kind ≢ kind.NoMemory)
+      × ((texts : FileTexts) → HaveTexts left old texts → output_of request texts ≡ Err (InMap fault))
+
+  -- what a fault says: after a write fault the writer has a prefix of the output, any other comes before
+  abbrev pub IsFaultOfRun : (R → Option (List ℕ)) → (R → Bool) → Inputs R → Inputs R → Option (List ℕ) → Option (List ℕ) → Request → RunFault → Type 0
+  IsFaultOfRun left failed old new taken taken' request CannotWrite =
+      PrintsThen left old request (AppendsPrefix taken taken')
+  IsFaultOfRun left failed old new taken taken' request (Usage fault) = ⊥
+  IsFaultOfRun left failed old new taken taken' request (CannotOpen file) = ⊥
+  IsFaultOfRun left failed old new taken taken' request (CannotRead file) =
+      IsFaultOfBytes left failed old new request (CannotRead file) × Keeps taken taken'
+  IsFaultOfRun left failed old new taken taken' request NoMemory = Keeps taken taken'
+  IsFaultOfRun left failed old new taken taken' request (Map file fault) =
+      IsFaultOfBytes left failed old new request (Map file fault) × Keeps taken taken'
+
+  -- the inputs are those that a command needs, and no others
+  pub record AreNeeded (needs : Needs) (inputs : Inputs R) : Type 0 where
+    pub map : is_some inputs.map ≡ needs.map
+    pub list : is_some inputs.list ≡ needs.list
+    pub certificate : is_some inputs.certificate ≡ needs.certificate
+    pub flows : is_some inputs.flows ≡ needs.flows
+
+-- the run ended for a reader that failed, or for the writer
+abbrev pub is_read_stop : {A : Type 0} → Result A RunFault → Bool
+is_read_stop (Err (CannotRead file)) = true
+is_read_stop result = false
+
+abbrev pub is_write_stop : {A : Type 0} → Result A RunFault → Bool
+is_write_stop (Err CannotWrite) = true
+is_write_stop result = false

@@ -1,0 +1,124 @@
+ghost use Rattle.std.specs.Prelude.{◌≡◌, IfOk};
+ghost use Rattle.std.specs.String.{string_bytes};
+ghost use Rattle.flowlabel.specs.Faults.{fault_text, map_fault_line_text, map_fault_text, place_text, status_of, usage_fault_text, usage_status_of};
+
+use crate::usage::UsageFault;
+use pmap_text::{MapFault, MapFaultKind};
+use std::alloc::{AllocError, Global};
+
+/// Why a run of the program ended without its whole output. File names are those of the command line.
+#[derive(Debug, Drop)]
+pub enum RunFault<'a> {
+    /// The command line is at fault, or asks for help.
+    Usage(UsageFault),
+    /// A file can't be opened.
+    CannotOpen(&'a str),
+    /// A file can't be read.
+    CannotRead(&'a str),
+    /// The output can't be written.
+    CannotWrite,
+    /// Memory ran out.
+    NoMemory,
+    /// The text of a map file has this fault.
+    Map { file: &'a str, fault: MapFault },
+}
+
+/// The code and the name of a fault of a map text or a list text.
+fn map_fault_name(kind: MapFaultKind) -> &'static str
+    ensures { result.now ≡ map_fault_text kind }
+{
+    match kind {
+        MapFaultKind::BadStatement => "M1 BadStatement",
+        MapFaultKind::BadAddress => "M2 BadAddress",
+        MapFaultKind::BadLength => "M3 BadLength",
+        MapFaultKind::LowAboveHigh => "M4 LowAboveHigh",
+        MapFaultKind::WrongVersion => "M5 WrongVersion",
+        MapFaultKind::MissingLabel => "M6 MissingLabel",
+        MapFaultKind::BadLabel => "M7 BadLabel",
+        MapFaultKind::LabelConflict => "M8 LabelConflict",
+        MapFaultKind::BadMode => "M9 BadMode",
+        MapFaultKind::ModeLate => "M10 ModeLate",
+        MapFaultKind::ModeRepeated => "M11 ModeRepeated",
+        MapFaultKind::TooMany => "M12 TooMany",
+        MapFaultKind::NotAList => "M13 NotAList",
+        MapFaultKind::DuplicateBlock => "M14 DuplicateBlock",
+        MapFaultKind::NoMemory => "M15 NoMemory",
+    }
+}
+
+fn usage_line(alloc: Global, fault: &UsageFault) -> Result<String, AllocError>
+    ensures { IfOk result (λ line. string_bytes line ≡ usage_fault_text fault.now) }
+{
+    match fault {
+        UsageFault::Refused(text) => String::from_str(alloc, text.as_str()),
+        UsageFault::Help(_) => String::from_str(alloc, ""),
+        UsageFault::MapMissing => String::from_str(alloc, "flowlabel: usage: P2 MapMissing\n"),
+        UsageFault::BadAddress => String::from_str(alloc, "flowlabel: usage: P4 BadAddress\n"),
+        UsageFault::NoMemory => String::from_str(alloc, "flowlabel: out of memory\n"),
+    }
+}
+
+// The line of a fault at a place of a file.
+fn place_line(alloc: Global, file: &str, name: &str, place: u64) -> Result<String, AllocError>
+    ensures { IfOk result (λ line. string_bytes line ≡ place_text file.now name.now place) }
+{
+    format!(in alloc; "flowlabel: {file}: {name} at {place}\n")
+}
+
+fn map_fault_line(alloc: Global, file: &str, fault: &MapFault) -> Result<String, AllocError>
+    ensures { IfOk result (λ line. string_bytes line ≡ map_fault_line_text file.now fault.now) }
+{
+    if fault.kind == MapFaultKind::NoMemory {
+        return String::from_str(alloc, "flowlabel: out of memory\n");
+    }
+    place_line(alloc, file, map_fault_name(fault.kind), fault.line)
+}
+
+fn text_of_fault(alloc: Global, fault: &RunFault<'_>) -> Result<String, AllocError>
+    ensures { IfOk result (λ line. string_bytes line ≡ fault_text fault.now) }
+{
+    match fault {
+        RunFault::Usage(fault) => usage_line(alloc, fault),
+        RunFault::CannotOpen(file) => format!(in alloc; "flowlabel: {file}: cannot open\n"),
+        RunFault::CannotRead(file) => format!(in alloc; "flowlabel: {file}: cannot read\n"),
+        RunFault::CannotWrite => String::from_str(alloc, "flowlabel: output: cannot write\n"),
+        RunFault::NoMemory => String::from_str(alloc, "flowlabel: out of memory\n"),
+        RunFault::Map { file, fault } => map_fault_line(alloc, file, fault),
+    }
+}
+
+/// The line for standard error, with its line feed: for a refused command line clap's text, and for help nothing.
+pub fn fault_line(alloc: Global, fault: &RunFault<'_>) -> Result<Vec<u8>, AllocError>
+    ensures { IfOk result (λ line. line.items ≡ fault_text fault.now) }
+{
+    Ok(text_of_fault(alloc, fault)?.into_bytes())
+}
+
+fn usage_status(fault: &UsageFault) -> u8
+    ensures { result ≡ usage_status_of fault.now }
+{
+    match fault {
+        UsageFault::Help(_) => 0,
+        UsageFault::NoMemory => 3,
+        UsageFault::Refused(_) | UsageFault::MapMissing | UsageFault::BadAddress => 2,
+    }
+}
+
+/// The exit status: 1 for a fault of a file's bytes, 2 for one of the command line, 3 for want of memory, 4 for a file
+/// or an output that fails. Help is no failure.
+pub fn status(fault: &RunFault<'_>) -> u8
+    ensures { result ≡ status_of fault.now }
+{
+    match fault {
+        RunFault::Usage(fault) => usage_status(fault),
+        RunFault::CannotOpen(_) | RunFault::CannotRead(_) | RunFault::CannotWrite => 4,
+        RunFault::NoMemory => 3,
+        RunFault::Map { fault, .. } => {
+            if fault.kind == MapFaultKind::NoMemory {
+                3
+            } else {
+                1
+            }
+        }
+    }
+}

@@ -1,0 +1,139 @@
+ghost use Rattle.std.specs.Prelude.{◌≡◌, ◌≢◌, ◌^◌, ◌<◌, ℕ, List, [], Some, false, IfOk, IfErr, OnOk, option_and_then, option_map, slice_get, unwrap_or};
+ghost use Rattle.std.specs.Io.KnownBytes.{Appends};
+ghost use Rattle.prefix_keys.specs.Version.{width_of};
+ghost use Rattle.pmap_text.specs.MapModel.{map_label};
+ghost use Rattle.pmap_text.specs.MapText.{map_of};
+ghost use Rattle.pmap_text.specs.Reading.{ReadsMap};
+ghost use Rattle.label_trie.specs.TrieModel.{label_in};
+ghost use Rattle.flowlabel.specs.Output.{label_of_address, line_of, output_of, FileTexts};
+ghost use Rattle.flowlabel.specs.Request.{needs_of, request_of};
+ghost use Rattle.flowlabel.specs.Run.{any_failed, is_read_stop, is_write_stop, AreNeeded, HaveTexts, IsFaultOfBytes, IsFaultOfMap, IsFaultOfRun, PrintsThen};
+
+use crate::command::Command;
+use crate::fault::RunFault;
+use crate::inputs::{Inputs, Source};
+use crate::reading::{ReadStop, read_whole};
+use crate::writing::{WriteFault, write_whole};
+use flow_io::{Input, Output};
+use label_trie::Trie;
+use pmap_text::{MapFaultKind, MapText, read_map};
+use prefix_keys::Addr;
+use std::alloc::{AllocError, Global};
+
+// The map of a map file.
+fn map_of_file<'a, R: Input>(alloc: Global, source: &mut Source<'a, R>) -> Result<MapText, RunFault<'a>>
+    requires { R.failed source.old.reader ≡ false }
+    ensures ok { IfOk result (λ map. (text : List ℕ) → R.bytes_left source.old.reader ≡ Some text → ReadsMap text (map_of map)) }
+    ensures err { IfErr result (IsFaultOfMap R.bytes_left R.failed source.old source.new) }
+    ensures failed { R.failed source.new.reader ≡ is_read_stop result }
+{
+    let text = match read_whole(alloc, &mut source.reader) {
+        Ok(text) => text,
+        Err(ReadStop::ReadFault) => return Err(RunFault::CannotRead(source.name)),
+        Err(ReadStop::NoMemory) => return Err(RunFault::NoMemory),
+    };
+    match read_map(alloc, text.as_slice()) {
+        Ok(map) => Ok(map),
+        Err(fault) => {
+            if fault.kind == MapFaultKind::NoMemory {
+                Err(RunFault::NoMemory)
+            } else {
+                Err(RunFault::Map { file: source.name, fault })
+            }
+        }
+    }
+}
+
+// The label of an address, by the trie of the map: none where the address is of the other version.
+fn label_of<'m>(map: &'m MapText, trie: &Trie, addr: Addr) -> Option<&'m [u8]>
+    requires version { trie.now.version ≡ map.now.version }
+    requires labels { (a : ℕ) → a < 2 ^ width_of map.now.version
+        → option_and_then (slice_get map.now.labels) (label_in trie.now a) ≡ Some (map_label (map_of map.now) a) }
+    ensures { option_map (λ t. t.now) result ≡ label_of_address (map_of map.now) (addr.version, addr.value) }
+{
+    if addr.version != map.version {
+        return None;
+    }
+    match trie.label_at(addr) {
+        Some(id) => map.labels.text(id),
+        None => None,
+    }
+}
+
+// The line of a label: the line feed alone where there is none.
+fn label_line(alloc: Global, label: Option<&[u8]>) -> Result<Vec<u8>, AllocError>
+    ensures { IfOk result (λ out. out.items ≡ line_of (unwrap_or (option_map (λ t. t.now) label.entry) [])) }
+{
+    let mut out = Vec::new(alloc);
+    if let Some(label) = label {
+        out.extend_from_slice(label)?;
+    }
+    out.push(b'\n')?;
+    Ok(out)
+}
+
+// What `label` prints for an address.
+fn label_output(alloc: Global, map: &MapText, addr: Addr) -> Result<Vec<u8>, AllocError>
+    ensures { IfOk result (λ out. out.items
+        ≡ line_of (unwrap_or (label_of_address (map_of map.now) (addr.version, addr.value)) [])) }
+{
+    let trie = Trie::build(alloc, map)?;
+    label_line(alloc, label_of(map, &trie, addr))
+}
+
+// The whole output of a command.
+fn output<'a, R: Input>(
+    alloc: Global,
+    command: &Command<'_>,
+    inputs: &mut Inputs<'a, R>,
+) -> Result<Vec<u8>, RunFault<'a>>
+    requires needed { AreNeeded (needs_of (request_of command.now)) inputs.old }
+    requires readers { any_failed R.failed inputs.old ≡ false }
+    ensures ok { IfOk result (λ out. (texts : FileTexts) → HaveTexts R.bytes_left inputs.old texts
+        → output_of (request_of command.now) texts ≡ Ok out.items) }
+    ensures err { IfErr result (IsFaultOfBytes R.bytes_left R.failed inputs.old inputs.new (request_of command.now)) }
+    ensures failed { any_failed R.failed inputs.new ≡ is_read_stop result }
+{
+    let Command::Label { addr, .. } = command;
+    let Some(source) = &mut inputs.map else {
+        unreachable!()
+    };
+    let map = map_of_file(alloc, source)?;
+    match label_output(alloc, &map, *addr) {
+        Ok(out) => Ok(out),
+        Err(_) => Err(RunFault::NoMemory),
+    }
+}
+
+/// Runs a command: reads its inputs, makes the whole output, and then writes it and flushes once.
+///
+/// # Errors
+///
+/// The first fault of the inputs' bytes, a reader that failed, want of memory, all with nothing written; or a writer
+/// that failed, which has taken a prefix of the output.
+pub fn run<'a, R: Input, W: Output>(
+    alloc: Global,
+    command: &Command<'_>,
+    inputs: &mut Inputs<'a, R>,
+    writer: &mut W,
+) -> Result<(), RunFault<'a>>
+    requires needed { AreNeeded (needs_of (request_of command.now)) inputs.old }
+    requires readers { any_failed R.failed inputs.old ≡ false }
+    requires writer { W.failed writer.old ≡ false }
+
+    // The writer took exactly the output of the bytes read.
+    ensures ok { OnOk result (PrintsThen R.bytes_left inputs.old (request_of command.now) (Appends (W.bytes_taken writer.old) (W.bytes_taken writer.new))) }
+
+    // A fault of the bytes is the output's, and nothing is written but a prefix of the output before a write fault.
+    ensures err { IfErr result (IsFaultOfRun R.bytes_left R.failed inputs.old inputs.new (W.bytes_taken writer.old) (W.bytes_taken writer.new) (request_of command.now)) }
+
+    // Device faults come exactly from devices that failed.
+    ensures read_fault { any_failed R.failed inputs.new ≡ is_read_stop result }
+    ensures write_fault { W.failed writer.new ≡ is_write_stop result }
+{
+    let out = output(alloc, command, inputs)?;
+    match write_whole(writer, out.as_slice()) {
+        Ok(()) => Ok(()),
+        Err(WriteFault) => Err(RunFault::CannotWrite),
+    }
+}

@@ -1,0 +1,71 @@
+ghost use Rattle.std.specs.Prelude.{◌≡◌, IfOk, List, ℕ};
+ghost use Rattle.std.specs.String.{string_bytes};
+
+use std::alloc::AllocError;
+use std::fmt;
+use std::marker::Model;
+use thiserror::Error;
+
+/// A text that clap made for the user: why it refuses a line, or its help.
+#[derive(Debug, Drop)]
+pub struct ClapText {
+    text: String,
+}
+
+impl Model for ClapText {
+    ghost Value = { List ℕ };
+
+    ghost view = { λ t. string_bytes t.text };
+}
+
+impl ClapText {
+    /// The text.
+    pub fn new(text: String) -> ClapText
+        ensures { result ≡ string_bytes text }
+    {
+        ClapText { text }
+    }
+
+    /// The text, with its last LF.
+    pub fn as_str(&self) -> &str
+        ensures { result.now ≡ self.now }
+    {
+        self.text.as_str()
+    }
+}
+
+impl fmt::Display for ClapText {
+    fn fmt<W: fmt::Write>(&self, f: &mut fmt::Formatter<W>) -> fmt::Result {
+        f.write_str(self.as_str())
+    }
+}
+
+/// Why a command line names no command.
+#[derive(Debug, Drop, Error)]
+pub enum UsageFault {
+    /// P1: clap refuses the line, and says why.
+    #[error("{0}")]
+    Refused(ClapText),
+    /// The line asks for help, which is this text.
+    #[error("{0}")]
+    Help(ClapText),
+    /// P2: the command reads a map, and none is named.
+    #[error("P2 MapMissing")]
+    MapMissing,
+    /// P4: the word is no address.
+    #[error("P4 BadAddress")]
+    BadAddress,
+    /// Memory ran out.
+    #[error("out of memory")]
+    NoMemory,
+}
+
+impl From<AllocError> for UsageFault {
+    ghost use Rattle.flowlabel.specs.declared.usage.UsageFault.TheVariants.{NoMemory};
+
+    ghost from_gives = { λ _ f. f ≡ NoMemory };
+
+    fn from(_error: AllocError) -> UsageFault {
+        UsageFault::NoMemory
+    }
+}

@@ -1,0 +1,84 @@
+ghost use Rattle.std.specs.Prelude.{◌≡◌, option_map, true};
+ghost use Rattle.clap.specs.Words.{first_of, found_of, kind_of, rows_of, takes};
+ghost use Rattle.clap.specs.Walk.{texts};
+ghost use Rattle.flowlabel.specs.Definition.{flowlabel_app};
+ghost use Rattle.flowlabel.specs.Answer.{IsAnswer, IsFaultOfKind, IsOwnAnswer, ReadsBareLine, ReadsMapLine, SaysOnly, address_in_rows, answer_of_label};
+
+use crate::command::Command;
+use crate::definition::definition;
+use crate::usage::{ClapText, UsageFault};
+use clap::ArgMatches;
+use clap::error::ErrorKind;
+use prefix_keys::{Addr, read_addr};
+use std::alloc::Global;
+
+/// The fault that an error of clap's is to the user, with its text.
+fn fault_of_error(alloc: Global, error: &clap::Error) -> UsageFault
+    ensures { IsFaultOfKind (kind_of error.now) result }
+{
+    let kind = error.kind();
+    if let ErrorKind::OutOfMemory = kind {
+        return UsageFault::NoMemory;
+    }
+    match format!(in alloc; "{error}") {
+        Err(_) => UsageFault::NoMemory,
+        Ok(text) => {
+            let text = ClapText::new(text);
+            match kind {
+                ErrorKind::DisplayHelp => UsageFault::Help(text),
+                _ => UsageFault::Refused(text),
+            }
+        }
+    }
+}
+
+/// The text of an option or a word, where the line has it.
+fn text_of<'a>(entries: &ArgMatches<'a>, id: &str) -> Option<&'a str>
+    ensures { option_map (λ s. s.now) result ≡ first_of id.now (rows_of (found_of entries.now)) }
+{
+    entries.get_str(id)
+}
+
+/// The address that the word ADDR stands for.
+fn address_in(entries: &ArgMatches<'_>) -> Option<Addr>
+    ensures { option_map (λ a. (a.version, a.value)) result
+        ≡ address_in_rows (rows_of (found_of entries.now)) }
+{
+    let text = text_of(entries, "address")?;
+    read_addr(text.as_bytes())
+}
+
+/// The command `label`, or its first usage fault, by the entries that clap found for it.
+fn label_command<'a>(entries: &ArgMatches<'a>) -> Result<Command<'a>, UsageFault>
+    ensures { SaysOnly (answer_of_label (rows_of (found_of entries.now))) result }
+{
+    let Some(map) = text_of(entries, "pmap") else {
+        return Err(UsageFault::MapMissing);
+    };
+    let Some(addr) = address_in(entries) else {
+        return Err(UsageFault::BadAddress);
+    };
+    Ok(Command::Label { map, addr })
+}
+
+/// Reads a command line, of which the first word is the program's name.
+///
+/// # Errors
+///
+/// `Refused` or `Help` where clap refuses the line or is asked for help. Where clap takes it, the first of these:
+/// `MapMissing`, `BadAddress`. `NoMemory` where an allocation failed, in place of any other answer.
+pub fn parse<'a>(alloc: Global, words: &'a [&'a str]) -> Result<Command<'a>, UsageFault>
+    ensures answer { IsAnswer (texts words.entry.now) result }
+    ensures map_line { ReadsMapLine (texts words.entry.now) result }
+    ensures bare_line { ReadsBareLine (texts words.entry.now) result }
+    ensures taken { takes flowlabel_app (texts words.entry.now) ≡ true → IsOwnAnswer result }
+{
+    let command = definition(alloc)?;
+    match command.try_get_matches_from(words) {
+        Ok(matches) => {
+            let (_, entries) = matches.subcommand().unwrap();
+            label_command(entries)
+        }
+        Err(error) => Err(fault_of_error(alloc, &error)),
+    }
+}

@@ -1,0 +1,133 @@
+-- The label of an address among the leaves of a node.
+use Rattle.std.proofs.Common.{◌≡◌, ℕ, suc, ◌+◌, ◌-◌, ◌*◌, ◌/◌, ◌%◌, ◌^◌, ◌<◌, ◌≤◌, inl, inr, List, [], ◌++◌, Option, Some, None, option_and_then, length, refl, sym, ◌∙◌, ap, arith, find, slice_get, unwrap_or}
+use Rattle.std.specs.Option.{option_or}
+use Rattle.std.proofs.lemmas.Bool.{cases_eq, eq-eqb, ne_eqb}
+use Rattle.std.proofs.lemmas.List.Folds.{find-append}
+use Rattle.std.proofs.lemmas.Nat.{pow_pos, shr-shr, div-add-mod', mod_below, div_below}
+use Rattle.std.proofs.lemmas.Option.{slice_get-get_or}
+use Rattle.prefix_keys.specs.Block.{block_number, first_of, last_of}
+use Rattle.prefix_keys.specs.Version.{width_of}
+use Rattle.pmap_text.specs.MapModel.{Label, MapModel, map_label}
+use Rattle.pmap_text.specs.MapText.{text_at}
+use Rattle.label_trie.specs.TrieModel.{LeafModel, has_address, label_among}
+use Rattle.label_trie.specs.Node.{leaves_of, HasRoom, Fits}
+use Rattle.label_trie.specs.declared.node.Node.{Node}
+use Rattle.label_trie.specs.declared.node.Node.TheVariants.{Leaf, Inner'}
+use Rattle.label_trie.proofs.Leaves.{fits_HasRoom}
+use Rattle.label_trie.proofs.Settled.{settled_address}
+
+-- an address is in the half whose number, halved, is that of its block
+outer_block : (W n a : ℕ) → n < W → block_number W n a ≡ block_number W (suc n) a / 2
+outer_block W n a below =
+    let more : W - n ≡ (W - suc n) + 1 = omega arith in
+    rw more (sym (shr-shr a (W - suc n) 1))
+
+or_none : (o : Option LeafModel) → option_or o None ≡ o
+or_none None = refl
+or_none (Some leaf) = refl
+
+-- no leaf of a block has an address outside it
+found_outside : (W : ℕ) (node : Node) (n q h a : ℕ) → h + n ≡ W → HasRoom node h → (q ≡ block_number W n a → ⊥)
+    → find (has_address W a) (leaves_of node n q) ≡ None
+found_outside W (Leaf label) n q h a e room outside = rw (ne_eqb q (block_number W n a) outside)
+found_outside W (Inner' p low high) n q h a e room outside =
+    let outer = outer_block W n a (omega (arith, room.0)) in
+    find-append (has_address W a) (leaves_of low (suc n) (2 * q)) (leaves_of high (suc n) (2 * q + 1))
+    ∙ rw (found_outside W low (suc n) (2 * q) (h - 1) a (omega (arith, room.0)) room.1 (λ same. outside (omega (arith, outer, same))))
+    (found_outside W high (suc n) (2 * q + 1) (h - 1) a (omega (arith, room.0)) room.2 (λ same. outside (omega (arith, outer, same))))
+
+-- among the leaves of both halves, an address is found among those of its half
+found_low : (W : ℕ) (low high : Node) (n q h a : ℕ) → h + n ≡ W → 0 < h → HasRoom high (h - 1) → 2 * q ≡ block_number W (suc n) a
+    → find (has_address W a) (leaves_of low (suc n) (2 * q) ++ leaves_of high (suc n) (2 * q + 1))
+    ≡ find (has_address W a) (leaves_of low (suc n) (2 * q))
+found_low W low high n q h a e positive room inside =
+    let none = found_outside W high (suc n) (2 * q + 1) (h - 1) a (omega arith) room (λ same. omega (arith, inside, same)) in
+    rw (find-append (has_address W a) (leaves_of low (suc n) (2 * q)) (leaves_of high (suc n) (2 * q + 1)), none)
+    (or_none (find (has_address W a) (leaves_of low (suc n) (2 * q))))
+
+found_high : (W : ℕ) (low high : Node) (n q h a : ℕ) → h + n ≡ W → 0 < h → HasRoom low (h - 1) → 2 * q + 1 ≡ block_number W (suc n) a
+    → find (has_address W a) (leaves_of low (suc n) (2 * q) ++ leaves_of high (suc n) (2 * q + 1))
+    ≡ find (has_address W a) (leaves_of high (suc n) (2 * q + 1))
+found_high W low high n q h a e positive room inside =
+    let none = found_outside W low (suc n) (2 * q) (h - 1) a (omega arith) room (λ same. omega (arith, inside, same)) in
+    rw (find-append (has_address W a) (leaves_of low (suc n) (2 * q)) (leaves_of high (suc n) (2 * q + 1)), none)
+
+-- so it has the label that it has among those
+pub label_among_low : (W : ℕ) (low high : Node) (n q h a : ℕ) → h + n ≡ W → 0 < h → HasRoom high (h - 1) → 2 * q ≡ block_number W (suc n) a
+    → label_among W (leaves_of low (suc n) (2 * q) ++ leaves_of high (suc n) (2 * q + 1)) a ≡ label_among W (leaves_of low (suc n) (2 * q)) a
+label_among_low W low high n q h a e positive room inside =
+    ap (option_and_then (λ leaf. leaf.label)) (found_low W low high n q h a e positive room inside)
+
+pub label_among_high : (W : ℕ) (low high : Node) (n q h a : ℕ) → h + n ≡ W → 0 < h → HasRoom low (h - 1) → 2 * q + 1 ≡ block_number W (suc n) a
+    → label_among W (leaves_of low (suc n) (2 * q) ++ leaves_of high (suc n) (2 * q + 1)) a ≡ label_among W (leaves_of high (suc n) (2 * q + 1)) a
+label_among_high W low high n q h a e positive room inside =
+    ap (option_and_then (λ leaf. leaf.label)) (found_high W low high n q h a e positive room inside)
+
+-- the same, where a node has so many host bits as the half has and one more
+pub label_below_low : (W : ℕ) (low high : Node) (h a : ℕ) → h ≤ W → 0 < h → HasRoom high (h - 1) → a / 2 ^ (h - 1) % 2 ≡ 0
+    → label_among W (leaves_of low (W - (h - 1)) (a / 2 ^ (h - 1))) a
+    ≡ label_among W (leaves_of low (suc (W - h)) (2 * (a / 2 ^ h)) ++ leaves_of high (suc (W - h)) (2 * (a / 2 ^ h) + 1)) a
+label_below_low W low high h a within positive room even =
+    let rest : W - suc (W - h) ≡ h - 1 = omega arith in
+    let most : h ≡ (h - 1) + 1 = omega arith in
+    let outer : a / 2 ^ h ≡ a / 2 ^ (h - 1) / 2 = sym (shr-shr a (h - 1) 1 ∙ ap (λ (k : ℕ). a / 2 ^ k) (sym most)) in
+    let here : a / 2 ^ (h - 1) ≡ 2 * (a / 2 ^ h) = omega (arith, outer, even) in
+    let inside : 2 * (a / 2 ^ h) ≡ block_number W (suc (W - h)) a = rw rest (sym here) in
+    let bits : W - (h - 1) ≡ suc (W - h) = omega arith in
+    rw (bits, here) (sym (label_among_low W low high (W - h) (a / 2 ^ h) h a (omega arith) positive room inside))
+
+pub label_below_high : (W : ℕ) (low high : Node) (h a : ℕ) → h ≤ W → 0 < h → HasRoom low (h - 1) → (a / 2 ^ (h - 1) % 2 ≡ 0 → ⊥)
+    → label_among W (leaves_of high (W - (h - 1)) (a / 2 ^ (h - 1))) a
+    ≡ label_among W (leaves_of low (suc (W - h)) (2 * (a / 2 ^ h)) ++ leaves_of high (suc (W - h)) (2 * (a / 2 ^ h) + 1)) a
+label_below_high W low high h a within positive room odd =
+    let rest : W - suc (W - h) ≡ h - 1 = omega arith in
+    let most : h ≡ (h - 1) + 1 = omega arith in
+    let outer : a / 2 ^ h ≡ a / 2 ^ (h - 1) / 2 = sym (shr-shr a (h - 1) 1 ∙ ap (λ (k : ℕ). a / 2 ^ k) (sym most)) in
+    let here : a / 2 ^ (h - 1) ≡ 2 * (a / 2 ^ h) + 1 = omega (arith, outer, odd) in
+    let inside : 2 * (a / 2 ^ h) + 1 ≡ block_number W (suc (W - h)) a = rw rest (sym here) in
+    let bits : W - (h - 1) ≡ suc (W - h) = omega arith in
+    rw (bits, here) (sym (label_among_high W low high (W - h) (a / 2 ^ h) h a (omega arith) positive room inside))
+
+-- an address of a block is between its ends
+block_from : (W n q a : ℕ) → q ≡ block_number W n a → first_of W n q ≤ a
+block_from W n q a inside =
+    let whole = div-add-mod' a (2 ^ (W - n)) in rw inside (omega (arith, whole))
+
+block_to : (W n q a : ℕ) → q ≡ block_number W n a → a ≤ last_of W n q
+block_to W n q a inside =
+    let whole = div-add-mod' a (2 ^ (W - n)) in
+    let small = mod_below a (2 ^ (W - n)) (pow_pos (W - n)) in
+    rw inside (omega (arith, whole, small))
+
+known_text : (table : List Label) (number : ℕ) → number < length table → slice_get table number ≡ Some (text_at table number)
+known_text table number known =
+    let e = slice_get-get_or table number [] known in
+    e ∙ ap Some (sym (ap (λ (o : Option Label). unwrap_or o []) e))
+
+-- at each address of the block the label of a node that fits a map is the map's
+label_fits : (m : MapModel) (node : Node) (n q a : ℕ) → Fits m node n q → q ≡ block_number (width_of m.version) n a
+    → option_and_then (slice_get m.table) (label_among (width_of m.version) (leaves_of node n q) a) ≡ Some (map_label m a)
+label_fits m (Leaf label) n q a f inside =
+    let W = width_of m.version in
+    let same = settled_address m n q a (text_at m.table f.1.id.0) (block_from W n q a inside) (block_to W n q a inside) f.1.settled in
+    rw (eq-eqb q (block_number W n a) inside, f.1.is, same) (known_text m.table f.1.id.0 f.1.known)
+label_fits m (Inner' p low high) n q a f inside =
+    let W = width_of m.version in
+    let outer = outer_block W n a f.0 in
+    elim (cases_eq (2 * q) (block_number W (suc n) a)) [
+      | inl side ↦ rw (label_among_low W low high n q (W - n) a (omega (arith, f.0)) (omega (arith, f.0)) (fits_HasRoom m high (suc n) (2 * q + 1) (W - n - 1) (omega (arith, f.0)) f.3) side)
+          (label_fits m low (suc n) (2 * q) a f.2 side)
+      | inr other ↦
+          let side : 2 * q + 1 ≡ block_number W (suc n) a = omega (arith, outer, inside, other) in
+          rw (label_among_high W low high n q (W - n) a (omega (arith, f.0)) (omega (arith, f.0)) (fits_HasRoom m low (suc n) (2 * q) (W - n - 1) (omega (arith, f.0)) f.2) side)
+          (label_fits m high (suc n) (2 * q + 1) a f.3 side)
+    ]
+
+-- so the label of a whole trie is the map's at each address
+pub labels_fit : (m : MapModel) (node : Node) (a : ℕ) → Fits m node 0 0 → a < 2 ^ width_of m.version
+    → option_and_then (slice_get m.table) (label_among (width_of m.version) (leaves_of node 0 0) a) ≡ Some (map_label m a)
+labels_fit m node a f below =
+    let W = width_of m.version in
+    let all : W - 0 ≡ W = omega arith in
+    let first : a / 2 ^ W < 1 = div_below a (2 ^ W) 1 (pow_pos W) (omega (arith, below)) in
+    label_fits m node 0 0 a f (rw all (omega (arith, first)))

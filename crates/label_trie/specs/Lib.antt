@@ -1,0 +1,3 @@
+pub mod TrieModel
+pub mod Node
+pub mod Insert

@@ -1,0 +1,50 @@
+use Rattle.std.specs.Prelude.{◌≡◌, ℕ, ◌+◌, ◌-◌, ◌/◌, ◌^◌, ◌<◌, ◌≤◌, ◌==◌, Bool, List, [], ◌∷◌, Option, Some, None, length, find, option_and_then}
+use Rattle.prefix_keys.specs.Block.{block_number, first_of, last_of}
+use Rattle.prefix_keys.specs.Version.{width_of}
+use Rattle.prefix_keys.specs.declared.version.Version.{Version}
+use Rattle.pmap_text.specs.MapModel.{MapModel, IsSettled, settled_label}
+use Rattle.pmap_text.specs.MapText.{text_at}
+
+-- A trie as contracts see it: its leaves, in rising order of their addresses.
+
+-- the block of `bits` bits with the number `number`, and the number of its label, if it has one
+pub record LeafModel : Type 0 where
+  pub bits : ℕ
+  pub number : ℕ
+  pub label : Option ℕ
+
+-- a trie: the version of its addresses, and its leaves
+pub record TrieModel : Type 0 where
+  pub version : Version
+  pub leaves : List LeafModel
+
+-- The leaves are blocks of addresses of W bits that follow one another, the first beginning at `from` and the last ending
+-- right before `to`: each address between is in one leaf alone.
+abbrev pub IsCut : ℕ → ℕ → ℕ → List LeafModel → Type 0
+IsCut W from to [] = from ≡ to
+IsCut W from to (leaf ∷ leaves) =
+    (leaf.bits ≤ W) × (first_of W leaf.bits leaf.number ≡ from)
+    × IsCut W (last_of W leaf.bits leaf.number + 1) to leaves
+
+-- of addresses of W bits, the leaf's block has the address
+abbrev pub has_address : ℕ → ℕ → LeafModel → Bool
+has_address W a leaf = leaf.number == block_number W leaf.bits a
+
+-- the number of the label that the leaves give an address: that of the leaf that has the address
+abbrev pub label_among : ℕ → List LeafModel → ℕ → Option ℕ
+label_among W leaves a = option_and_then (λ leaf. leaf.label) (find (has_address W a) leaves)
+
+-- the number of the label that the trie gives an address
+abbrev pub label_in : TrieModel → ℕ → Option ℕ
+label_in t a = label_among (width_of t.version) t.leaves a
+
+-- the leaf's block is settled by the map with the text of the leaf's label, which is in the map's label table
+pub record IsSettledLeaf (m : MapModel) (leaf : LeafModel) : Type 0 where
+  pub id : ℕ
+  pub is : leaf.label ≡ Some id
+  pub known : id < length m.table
+  pub settled : IsSettled m leaf.bits leaf.number (text_at m.table id)
+
+-- no block that has the leaf's block and more is settled by the map
+abbrev pub IsUndivided : MapModel → LeafModel → Type 0
+IsUndivided m leaf = (k : ℕ) → k < leaf.bits → settled_label m k (leaf.number / 2 ^ (leaf.bits - k)) ≡ None

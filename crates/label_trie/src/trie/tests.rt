@@ -1,0 +1,156 @@
+ghost use Rattle.std.specs.Prelude.{◌≡◌, ◌<◌, IfOk};
+ghost use Rattle.pmap_text.specs.MapModel.{map_label};
+ghost use Rattle.pmap_text.specs.MapText.{map_of};
+
+use super::Trie;
+use pmap_text::label::is_label;
+use pmap_text::{LabelId, Labels, MapText, Statement, Statements};
+use prefix_keys::{Addr, Span, Version};
+use std::alloc::{AllocError, Global};
+use std::process::Abort;
+
+const UNKNOWN: u32 = 0;
+
+const A: u32 = 1;
+
+const B: u32 = 2;
+
+fn labels(rt: &impl Abort, alloc: Global) -> Result<Labels, AllocError> {
+    let mut labels = Labels::new(alloc);
+    for text in [b"UNKNOWN".as_slice(), b"A".as_slice(), b"B".as_slice()] {
+        assert!(rt; is_label(text));
+        assert!(rt; labels.len() < 65536);
+        labels.add(text)?;
+    }
+    Ok(labels)
+}
+
+// The addresses from the first to the last have the label with the number.
+fn statement(rt: &impl Abort, version: Version, first: u128, last: u128, label: u32) -> Statement
+    ensures version { result.span.low.version ≡ version }
+    ensures label { result.label.0 < 3 }
+{
+    assert!(rt; label < 3);
+    let low = Addr::new(version, first).expect(rt, "an address");
+    let high = Addr::new(version, last).expect(rt, "an address");
+    let span = Span::new(low, high).expect(rt, "a span");
+    Statement {
+        span,
+        label: LabelId(label),
+    }
+}
+
+// A map with these statements: the first and the last address, and the label's number.
+fn map(
+    rt: &impl Abort,
+    alloc: Global,
+    version: Version,
+    spans: &[(u128, u128, u32)],
+) -> Result<MapText, AllocError>
+    ensures { IfOk result (λ m. m.version ≡ version) }
+{
+    let labels = labels(rt, alloc)?;
+    assert!(rt; labels.len() == 3);
+    assert!(rt; spans.len() <= 1000000);
+    let mut statements = Statements::new(alloc);
+    for &(first, last, label) in spans {
+        statements.push(statement(rt, version, first, last, label))?;
+    }
+    Ok(MapText {
+        version,
+        name: None,
+        default: LabelId(UNKNOWN),
+        statements,
+        labels,
+    })
+}
+
+// The text of the label that a caller finds by the trie and the label table.
+fn label_text<'a>(alloc: Global, map: &'a MapText, addr: Addr) -> Result<&'a [u8], AllocError>
+    requires { addr.version ≡ map.now.version }
+    ensures { IfOk result (λ text. text.now ≡ map_label (map_of map.now) addr.value) }
+{
+    let trie = Trie::build(alloc, map)?;
+    let Some(id) = trie.label_at(addr) else {
+        unreachable!()
+    };
+    let Some(text) = map.labels.text(id) else {
+        unreachable!()
+    };
+    Ok(text)
+}
+
+// The trie of the map has these labels at these addresses.
+fn labels_are(
+    rt: &impl Abort,
+    alloc: Global,
+    version: Version,
+    spans: &[(u128, u128, u32)],
+    wanted: &[(u128, u32)],
+) -> Result<(), AllocError> {
+    let map = map(rt, alloc, version, spans)?;
+    let trie = Trie::build(alloc, &map)?;
+    for &(value, label) in wanted {
+        let addr = Addr::new(version, value).expect(rt, "an address");
+        assert_eq!(rt; trie.label_at(addr), Some(LabelId(label)));
+        let text = label_text(alloc, &map, addr)?;
+        assert_eq!(rt; map.labels.text(LabelId(label)), Some(text));
+    }
+    Ok(())
+}
+
+#[test]
+fn has_the_default_where_no_statement_covers(rt: HostRuntime) -> Result<(), AllocError> {
+    let wanted = [(0, UNKNOWN), (0x0102_0304, UNKNOWN), (0xffff_ffff, UNKNOWN)];
+    labels_are(&rt, rt.alloc(), Version::V4, &[], &wanted)
+}
+
+#[test]
+fn has_the_label_of_the_last_statement(rt: HostRuntime) -> Result<(), AllocError> {
+    let (a, b) = ((0x0a00_0000, 0x0aff_ffff, A), (0x0a00_0000, 0x0bff_ffff, B));
+    let wider_last = [
+        (0x0a01_0101, B),
+        (0x0bff_ffff, B),
+        (0x0c00_0000, UNKNOWN),
+        (0x09ff_ffff, UNKNOWN),
+    ];
+    labels_are(&rt, rt.alloc(), Version::V4, &[a, b], &wider_last)?;
+    let narrower_last = [(0x0a01_0101, A), (0x0b00_0000, B), (0x0c00_0000, UNKNOWN)];
+    labels_are(&rt, rt.alloc(), Version::V4, &[b, a], &narrower_last)
+}
+
+#[test]
+fn takes_spans_that_are_no_blocks(rt: HostRuntime) -> Result<(), AllocError> {
+    let range = [(1, 6, A)];
+    let wanted = [(0, UNKNOWN), (1, A), (2, A), (5, A), (6, A), (7, UNKNOWN)];
+    labels_are(&rt, rt.alloc(), Version::V4, &range, &wanted)?;
+    let last = [(0xffff_ffff, 0xffff_ffff, A)];
+    let wanted = [(0, UNKNOWN), (0xffff_fffe, UNKNOWN), (0xffff_ffff, A)];
+    labels_are(&rt, rt.alloc(), Version::V4, &last, &wanted)?;
+    let all = [(5, 5, A), (0, 0xffff_ffff, B)];
+    labels_are(
+        &rt,
+        rt.alloc(),
+        Version::V4,
+        &all,
+        &[(0, B), (5, B), (0xffff_ffff, B)],
+    )
+}
+
+#[test]
+fn takes_addresses_of_128_bits(rt: HostRuntime) -> Result<(), AllocError> {
+    let documentation = 0x2001_0db8_u128 << 96;
+    let spans = [
+        (documentation, documentation | (u128::MAX >> 32), A),
+        (u128::MAX, u128::MAX, B),
+    ];
+    let wanted = [
+        (0, UNKNOWN),
+        (documentation - 1, UNKNOWN),
+        (documentation, A),
+        (documentation | (u128::MAX >> 32), A),
+        (u128::MAX - 1, UNKNOWN),
+        (u128::MAX, B),
+    ];
+    labels_are(&rt, rt.alloc(), Version::V6, &spans, &wanted)
+}

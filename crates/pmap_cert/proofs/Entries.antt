@@ -1,0 +1,107 @@
+use Rattle.std.proofs.Common.{◌≡◌, ℕ, suc, ◌+◌, ◌*◌, ◌/◌, ◌<◌, ◌≤◌, Bool, true, false, cond, ◌&&◌, ◌==◌, List, [], ◌∷◌, ◌++◌, Option, arith, filter, length, nat_le, sym, refl, ◌∙◌, length-append, eq-eqb, le-leb, le_refl}
+use Rattle.std.proofs.lemmas.Bool.{and_from}
+use Rattle.std.proofs.lemmas.Bool.Decides.{nat_tests}
+use Rattle.prefix_keys.specs.Block.{block_number, first_of}
+use Rattle.prefix_keys.specs.Version.{width_of}
+use Rattle.pmap_text.specs.ListModel.{Prefix}
+use Rattle.pmap_text.specs.MapModel.{Label, MapModel}
+use Rattle.pmap_cert.specs.CertificateModel.{InnerNode, LeafNode, Pair, Tree, claim_of}
+use Rattle.pmap_cert.specs.ExactPair.{IsSamePair, exact_pair}
+use Rattle.pmap_cert.specs.MinimalPair.{StandsFor, entries_of, handed_on, has_inherited, least_label, own_entry}
+use Rattle.pmap_cert.proofs.Blocks.{block_number-first_of, block_number-half}
+use Rattle.pmap_cert.proofs.Counts.{is_within}
+use Rattle.pmap_cert.proofs.Filters.{filter-three}
+use Rattle.pmap_cert.proofs.Handed.{IsInhabited, exact_pair-cost_of, handed_on-has, inhabited}
+use Rattle.pmap_cert.proofs.Sets.{miss}
+use Rattle.pmap_cert.proofs.Settled.{unsettled-halves}
+
+-- The entries of a node that stands for a block: how many they are, and that they lie within the block.
+
+-- a node has an entry of its own where its set lacks what is inherited
+length-own_entry : (W : ℕ) (table s : List Label) (h : Option Label) (n q : ℕ) →
+    length (own_entry W table s h n q) ≡ miss h s
+length-own_entry W table s h n q = by_test (has_inherited s h) (record { start = first_of W n q; bits = n; label = least_label table s })
+  where
+    by_test : (b : Bool) (p : Prefix) → length (cond b [] (p ∷ [])) ≡ cond b 0 1
+    by_test true p = refl
+    by_test false p = refl
+
+-- below a node that hands on a label of its set, its halves' entries number its cost
+halves-cost : (table : List Label) (claim p r : Pair) (h : Option Label) → IsInhabited claim.labels →
+    IsSamePair claim (exact_pair p r) →
+    claim.cost ≡ p.cost + miss (handed_on table claim.labels h) p.labels + (r.cost + miss (handed_on table claim.labels h) r.labels)
+halves-cost table claim p r h some same =
+    let handed = handed_on-has table claim.labels h some in
+    let cost = exact_pair-cost_of p r handed.0 (sym (same.labels handed.0) ∙ handed.2) in
+    rw handed.1 (same.cost ∙ cost)
+
+-- the entries number the claimed cost, and one more where the set lacks what is inherited
+pub length-entries_of : (m : MapModel) (table : List Label) (t : Tree) (h : Option Label) (n q : ℕ) → StandsFor m t n q →
+    length (entries_of (width_of m.version) table t h n q) ≡ (claim_of t).cost + miss h (claim_of t).labels
+length-entries_of m table (LeafNode x) h n q stands = length-own_entry (width_of m.version) table (x ∷ []) h n q ∙ omega arith
+length-entries_of m table (InnerNode claim lower upper) h n q stands =
+    omega (
+      arith,
+      length-append (own_entry (width_of m.version) table claim.labels h n q)
+          (entries_of (width_of m.version) table lower (handed_on table claim.labels h) (suc n) (2 * q)
+          ++ entries_of (width_of m.version) table upper (handed_on table claim.labels h) (suc n) (2 * q + 1)),
+      length-append (entries_of (width_of m.version) table lower (handed_on table claim.labels h) (suc n) (2 * q))
+          (entries_of (width_of m.version) table upper (handed_on table claim.labels h) (suc n) (2 * q + 1)),
+      length-own_entry (width_of m.version) table claim.labels h n q,
+      length-entries_of m table lower (handed_on table claim.labels h) (suc n) (2 * q) stands.2,
+      length-entries_of m table upper (handed_on table claim.labels h) (suc n) (2 * q + 1) stands.3,
+      halves-cost table claim (claim_of lower) (claim_of upper) h (inhabited m (InnerNode claim lower upper) n q stands) stands.1,
+    )
+
+-- a node's own entry lies at its block
+own-within : (W n q : ℕ) (x : Label) → is_within W n q (record { start = first_of W n q; bits = n; label = x }) ≡ true
+own-within W n q x =
+    and_from (nat_le n n) (block_number W n (first_of W n q) == q) (le-leb n n (le_refl n))
+    (eq-eqb (block_number W n (first_of W n q)) q (block_number-first_of W n q))
+
+-- an entry within a half is within the block
+within-half : (n k b q i : ℕ) → i / 2 ≡ q → (nat_le (suc n) k && b == i) ≡ true → (nat_le n k && b / 2 == q) ≡ true
+within-half n k b q i e h = grind (arith, nat_tests)
+
+pub is_within-half : (W n q i : ℕ) → n < W → i / 2 ≡ q → (p : Prefix) → is_within W (suc n) i p ≡ true → is_within W n q p ≡ true
+is_within-half W n q i below e p h =
+    let half : block_number W n p.start ≡ block_number W (suc n) p.start / 2 = block_number-half W n p.start below in
+    rw half (within-half n p.bits (block_number W (suc n) p.start) q i e h)
+
+-- a test that answers alike for all entries within the block keeps all of a node's entries, or none
+filter-own : (test : Prefix → Bool) (b k : Bool) (p : Prefix) → test p ≡ b →
+    filter test (cond k [] (p ∷ [])) ≡ cond b (cond k [] (p ∷ [])) []
+filter-own test true true p e = refl
+filter-own test false true p e = refl
+filter-own test true false p e = rw e
+filter-own test false false p e = rw e
+
+filter-joined : (test : Prefix → Bool) (b : Bool) (xs ys zs : List Prefix) → filter test xs ≡ cond b xs [] →
+    filter test ys ≡ cond b ys [] → filter test zs ≡ cond b zs [] → filter test (xs ++ (ys ++ zs)) ≡ cond b (xs ++ (ys ++ zs)) []
+filter-joined test true xs ys zs e f g = filter-three test xs ys zs xs ys zs e f g
+filter-joined test false xs ys zs e f g = filter-three test xs ys zs [] [] [] e f g
+
+pub filter-own_entry : (W : ℕ) (table : List Label) (test : Prefix → Bool) (b : Bool) (s : List Label) (h : Option Label) (n q : ℕ) →
+    ((x : Label) → test (record { start = first_of W n q; bits = n; label = x }) ≡ b) →
+    filter test (own_entry W table s h n q) ≡ cond b (own_entry W table s h n q) []
+filter-own_entry W table test b s h n q own =
+    filter-own test b (has_inherited s h) (record { start = first_of W n q; bits = n; label = least_label table s })
+    (own (least_label table s))
+
+pub filter-entries_of : (m : MapModel) (table : List Label) (test : Prefix → Bool) (b : Bool) (t : Tree) (h : Option Label) (n q : ℕ) →
+    n ≤ width_of m.version → StandsFor m t n q → ((p : Prefix) → is_within (width_of m.version) n q p ≡ true → test p ≡ b) →
+    filter test (entries_of (width_of m.version) table t h n q) ≡ cond b (entries_of (width_of m.version) table t h n q) []
+filter-entries_of m table test b (LeafNode x) h n q le stands alike =
+    filter-own_entry (width_of m.version) table test b (x ∷ []) h n q
+    (λ y. alike (record { start = first_of (width_of m.version) n q; bits = n; label = y }) (own-within (width_of m.version) n q y))
+filter-entries_of m table test b (InnerNode claim lower upper) h n q le stands alike =
+    let below : n < width_of m.version = unsettled-halves m n q le stands.0 in
+    filter-joined test b (own_entry (width_of m.version) table claim.labels h n q)
+    (entries_of (width_of m.version) table lower (handed_on table claim.labels h) (suc n) (2 * q))
+    (entries_of (width_of m.version) table upper (handed_on table claim.labels h) (suc n) (2 * q + 1))
+    (filter-own_entry (width_of m.version) table test b claim.labels h n q
+    (λ y. alike (record { start = first_of (width_of m.version) n q; bits = n; label = y }) (own-within (width_of m.version) n q y)))
+    (filter-entries_of m table test b lower (handed_on table claim.labels h) (suc n) (2 * q) below stands.2
+    (λ p w. alike p (is_within-half (width_of m.version) n q (2 * q) below (omega arith) p w)))
+    (filter-entries_of m table test b upper (handed_on table claim.labels h) (suc n) (2 * q + 1) below stands.3
+    (λ p w. alike p (is_within-half (width_of m.version) n q (2 * q + 1) below (omega arith) p w)))

@@ -1,0 +1,63 @@
+use Rattle.std.proofs.Common.{◌≡◌, ℕ, zero, suc, ◌+◌, ◌*◌, ◌<◌, Option, Some, None, arith, refl}
+use Rattle.prefix_keys.specs.Version.{width_of}
+use Rattle.pmap_text.specs.ListModel.{ListModel}
+use Rattle.pmap_text.specs.MapModel.{Label, MapModel, settled_label}
+use Rattle.pmap_cert.specs.CertificateModel.{CertificateModel, InnerNode, LeafNode, Tree, claim_of}
+use Rattle.pmap_cert.specs.ExactPair.{exact_pair}
+use Rattle.pmap_cert.specs.MinimalPair.{IsMinimalPair, StandsFor, entries_of}
+use Rattle.pmap_cert.proofs.Settled.{unsettled-halves}
+
+-- Each map has a minimal pair: blocks are halved until they are settled, and one of full length is.
+
+-- a node that stands for the block
+abbrev NodeFor : MapModel → ℕ → ℕ → Type 0
+NodeFor m n q = (t : Tree) × StandsFor m t n q
+
+-- the inner node over two nodes that stand for the halves
+node_over : (m : MapModel) (n q : ℕ) → settled_label m n q ≡ None → NodeFor m (suc n) (2 * q) → NodeFor m (suc n) (2 * q + 1) →
+    NodeFor m n q
+node_over m n q unsettled lower upper = (
+  InnerNode (exact_pair (claim_of lower.0) (claim_of upper.0)) lower.0 upper.0,
+  (unsettled, record { cost = refl; labels = λ x. refl }, lower.1, upper.1),
+)
+
+-- the recursion goes by the bits that are left
+node_for : (m : MapModel) (left n q : ℕ) → n + left ≡ width_of m.version → NodeFor m n q
+node_for m zero n q e = by_label (settled_label m n q) refl
+  where
+    by_label : (o : Option Label) → settled_label m n q ≡ o → NodeFor m n q
+    by_label (Some x) settled = (LeafNode x, settled)
+    by_label None unsettled =
+        let below : n < width_of m.version = unsettled-halves m n q (omega arith) unsettled in
+        absurd (omega arith)
+node_for m (suc left) n q e =
+    by_label (settled_label m n q) refl
+    (node_for m left (suc n) (2 * q) (omega arith)) (node_for m left (suc n) (2 * q + 1) (omega arith))
+  where
+    by_label : (o : Option Label) → settled_label m n q ≡ o → NodeFor m (suc n) (2 * q) → NodeFor m (suc n) (2 * q + 1) → NodeFor m n q
+    by_label (Some x) settled lower upper = (LeafNode x, settled)
+    by_label None unsettled lower upper = node_over m n q unsettled lower upper
+
+-- the pair that is read off a node for the address space
+pair_of : (m : MapModel) → NodeFor m 0 0 → (l : ListModel) × (c : CertificateModel) × IsMinimalPair m l c
+pair_of m node = (
+  record {
+    version = m.version;
+    name = m.name;
+    prefixes = entries_of (width_of m.version) m.table node.0 None 0 0;
+    table = m.table;
+  },
+  record { version = m.version; table = m.table; root = node.0 },
+  record {
+    certificate_version = refl;
+    certificate_table = refl;
+    root = node.1;
+    list_version = refl;
+    list_name = refl;
+    list_table = refl;
+    prefixes = refl;
+  },
+)
+
+pub minimal_pair : (m : MapModel) → (l : ListModel) × (c : CertificateModel) × IsMinimalPair m l c
+minimal_pair m = pair_of m (node_for m (width_of m.version) 0 0 (omega arith))

@@ -1,0 +1,90 @@
+use Rattle.std.proofs.Common.{◌≡◌, ℕ, ◌+◌, Bool, true, false, cond, ◌&&◌, ◌||◌, List, [], ◌∷◌, ◌++◌, Option, Some, None, arith, find, unwrap_or, sym, refl, ap, ◌∙◌, subst, bytes_eq}
+use Rattle.std.proofs.lemmas.Bool.{or_left}
+use Rattle.std.proofs.lemmas.Option.{same_Some}
+use Rattle.pmap_text.specs.MapModel.{Label, MapModel}
+use Rattle.pmap_cert.specs.CertificateModel.{InnerNode, LeafNode, Pair, Tree, claim_of, has}
+use Rattle.pmap_cert.specs.ExactPair.{common_labels, exact_pair, exact_pair_by}
+use Rattle.pmap_cert.specs.MinimalPair.{StandsFor, first_label, handed_on, least_label}
+use Rattle.pmap_cert.proofs.Sets.{bytes_eq-same, has-append, has-filter, has-own, has-single, miss}
+
+-- What a node of a minimal certificate hands on is a label of its set, and so its halves' entries number what its exact
+-- pair says.
+
+-- the set has some label
+abbrev pub IsInhabited : List Label → Type 0
+IsInhabited s = (x : Label) × (has s x ≡ true)
+
+-- what is found passes
+find-passes : (test : Label → Bool) (xs : List Label) (x : Label) → find test xs ≡ Some x → test x ≡ true
+find-passes test [] x e = cc
+find-passes test (y ∷ ys) x e = step (test y) refl e (find-passes test ys x)
+  where
+    step : (b : Bool) → test y ≡ b → cond b (Some y) (find test ys) ≡ Some x → (find test ys ≡ Some x → test x ≡ true) →
+        test x ≡ true
+    step true passes e later = subst (λ (z : Label). test z ≡ true) (same_Some y x e) passes
+    step false passes e later = later e
+
+-- the least label of a set that has one is in the set
+has-first_label : (s : List Label) → IsInhabited s → has s (first_label s) ≡ true
+has-first_label [] some = some.1
+has-first_label (x ∷ xs) some = or_left (bytes_eq x x) (has xs x) (bytes_eq-same x)
+
+pub has-least_label : (table s : List Label) → IsInhabited s → has s (least_label table s) ≡ true
+has-least_label table s some = by_find (find (has s) table) refl
+  where
+    by_find : (o : Option Label) → find (has s) table ≡ o → has s (unwrap_or o (first_label s)) ≡ true
+    by_find None e = has-first_label s some
+    by_find (Some x) e = find-passes (has s) table x e
+
+-- a node whose set has a label hands on one of its set
+pub handed_on-has : (table s : List Label) (h : Option Label) → IsInhabited s →
+    (x : Label) × (handed_on table s h ≡ Some x) × (has s x ≡ true)
+handed_on-has table s None some = (least_label table s, refl, has-least_label table s some)
+handed_on-has table s (Some y) some = by_test (has s y) refl
+  where
+    by_test : (b : Bool) → has s y ≡ b → (x : Label) × (cond b (Some y) (Some (least_label table s)) ≡ Some x) × (has s x ≡ true)
+    by_test true e = (y, refl, e)
+    by_test false e = (least_label table s, refl, has-least_label table s some)
+
+-- a leaf hands on its label
+pub handed_on-leaf : (table : List Label) (x : Label) (h : Option Label) → handed_on table (x ∷ []) h ≡ Some x
+handed_on-leaf table x h =
+    let handed = handed_on-has table (x ∷ []) h (x, has-own x) in
+    handed.1 ∙ ap Some (sym (has-single x handed.0 handed.2))
+
+-- the exact pair of sets that have labels has one
+inhabited-exact_pair_by : (p r : Pair) (common : List Label) → IsInhabited p.labels → IsInhabited (exact_pair_by p r common).labels
+inhabited-exact_pair_by p r [] some =
+    (some.0, has-append p.labels r.labels some.0 ∙ or_left (has p.labels some.0) (has r.labels some.0) some.1)
+inhabited-exact_pair_by p r (x ∷ xs) some = (x, or_left (bytes_eq x x) (has xs x) (bytes_eq-same x))
+
+-- each node's set has a label
+pub inhabited : (m : MapModel) (t : Tree) (n q : ℕ) → StandsFor m t n q → IsInhabited (claim_of t).labels
+inhabited m (LeafNode x) n q h = (x, has-own x)
+inhabited m (InnerNode claim lower upper) n q h =
+    let below = inhabited m lower _ _ h.2 in
+    let exact = inhabited-exact_pair_by (claim_of lower) (claim_of upper) (common_labels (claim_of lower) (claim_of upper)) below in
+    (exact.0, (h.1).labels exact.0 ∙ exact.1)
+
+-- for a label of its set the exact pair costs just what both halves do
+misses-one : (a b c : Bool) → false ≡ (a && b) → c ≡ (a || b) → c ≡ true → cond a 0 1 + cond b 0 1 ≡ 1
+misses-one a b c none is h = grind arith
+
+misses-none : (a b c : Bool) → c ≡ (a && b) → c ≡ true → cond a 0 1 + cond b 0 1 ≡ 0
+misses-none a b c is h = grind arith
+
+exact_pair_by-cost_of : (p r : Pair) (x : Label) (common : List Label) →
+    ((y : Label) → has common y ≡ (has p.labels y && has r.labels y)) →
+    has (exact_pair_by p r common).labels x ≡ true →
+    (exact_pair_by p r common).cost ≡ p.cost + miss (Some x) p.labels + (r.cost + miss (Some x) r.labels)
+exact_pair_by-cost_of p r x [] both h =
+    omega (
+      arith,
+      misses-one (has p.labels x) (has r.labels x) (has (p.labels ++ r.labels) x) (both x) (has-append p.labels r.labels x) h,
+    )
+exact_pair_by-cost_of p r x (y ∷ ys) both h =
+    omega (arith, misses-none (has p.labels x) (has r.labels x) (has (y ∷ ys) x) (both x) h)
+
+pub exact_pair-cost_of : (p r : Pair) (x : Label) → has (exact_pair p r).labels x ≡ true →
+    (exact_pair p r).cost ≡ p.cost + miss (Some x) p.labels + (r.cost + miss (Some x) r.labels)
+exact_pair-cost_of p r x h = exact_pair_by-cost_of p r x (common_labels p r) (λ y. has-filter r.labels p.labels y) h

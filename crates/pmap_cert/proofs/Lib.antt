@@ -1,0 +1,14 @@
+pub mod Blocks
+pub mod Sets
+pub mod Counts
+pub mod Longest
+pub mod Settled
+pub mod Kernel
+pub mod Enough
+pub mod Filters
+pub mod Handed
+pub mod Entries
+pub mod Minimal
+pub mod Existence
+pub mod ExactPairs
+pub mod Alike

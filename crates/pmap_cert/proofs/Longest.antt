@@ -1,0 +1,74 @@
+use Rattle.std.proofs.Common.{◌≡◌, ℕ, zero, suc, ◌+◌, ◌/◌, ◌<◌, ◌≤◌, Bool, true, ◌&&◌, ◌==◌, List, None, arith, find, option_map, nat_le, nat_lt, sym, ap, ap₂, ◌∙◌, add-zero, add-suc, eqb-true, eq-eqb, le-leb}
+use Rattle.std.specs.Option.{option_or}
+use Rattle.std.proofs.lemmas.Bool.{and_from, and_parts, lt-ltb}
+use Rattle.prefix_keys.specs.Block.{block_number}
+use Rattle.pmap_text.specs.ListModel.{Prefix, covers, label_at, label_below}
+use Rattle.pmap_cert.specs.Acceptance.{lies_inside}
+use Rattle.pmap_cert.proofs.Blocks.{block_number-half, block_number-shorter}
+use Rattle.pmap_cert.proofs.Counts.{count_of, find-none, is_within}
+
+-- The longest match is the same at all addresses of a block inside which no entry lies.
+
+-- addresses of one block have one label from the entries of its length
+pub label_at-same : (W : ℕ) (ps : List Prefix) (n a b : ℕ) → block_number W n a ≡ block_number W n b →
+    label_at W ps n a ≡ label_at W ps n b
+label_at-same W ps n a b e =
+    ap (λ (k : ℕ). option_map (λ (p : Prefix). p.label) (find (λ (p : Prefix). p.bits == n && block_number W n p.start == k) ps)) e
+
+-- and from those of its length and shorter ones
+pub label_below-same : (W : ℕ) (ps : List Prefix) (n a b : ℕ) → n ≤ W → block_number W n a ≡ block_number W n b →
+    label_below W ps (suc n) a ≡ label_below W ps (suc n) b
+label_below-same W ps zero a b le e = ap (λ o. option_or o None) (label_at-same W ps 0 a b e)
+label_below-same W ps (suc n) a b le e =
+    ap₂ option_or (label_at-same W ps (suc n) a b e)
+    (label_below-same W ps n a b (omega arith)
+    (block_number-half W n a le ∙ ap (λ (i : ℕ). i / 2) e ∙ sym (block_number-half W n b le)))
+
+-- where no entry passes a test that each one of n bits that covers the address would, the entries of n bits give no label
+pub label_at-none : (W : ℕ) (ps : List Prefix) (n a : ℕ) (test : Prefix → Bool) →
+    ((p : Prefix) → covers W n a p ≡ true → test p ≡ true) → count_of test ps ≡ 0 → label_at W ps n a ≡ None
+label_at-none W ps n a test passes none = ap (option_map (λ (p : Prefix). p.label)) (find-none test (covers W n a) passes ps none)
+
+-- an entry that covers an address covers it at each shorter length too
+covers-shorter : (W n j q a : ℕ) (p : Prefix) → n ≤ j → j ≤ W → block_number W n a ≡ q → covers W j a p ≡ true →
+    (p.bits ≡ j) × (block_number W n p.start ≡ q)
+covers-shorter W n j q a p le le' e c =
+    let h = and_parts (p.bits == j) (block_number W j p.start == block_number W j a) c in (
+      eqb-true p.bits j h.0,
+      block_number-shorter W n j p.start a le le' (eqb-true (block_number W j p.start) (block_number W j a) h.1) ∙ e,
+    )
+
+-- where no entry lies within the block, those of its length and longer ones give no label
+within-passes : (W n j q a : ℕ) → n ≤ j → j ≤ W → block_number W n a ≡ q → (p : Prefix) → covers W j a p ≡ true →
+    is_within W n q p ≡ true
+within-passes W n j q a le le' e p c =
+    let h = covers-shorter W n j q a p le le' e c in
+    and_from (nat_le n p.bits) (block_number W n p.start == q) (le-leb n p.bits (omega arith)) (eq-eqb _ q h.1)
+
+pub label_below-within : (W : ℕ) (ps : List Prefix) (n k q a : ℕ) → n + k ≤ suc W → block_number W n a ≡ q →
+    count_of (is_within W n q) ps ≡ 0 → label_below W ps (n + k) a ≡ label_below W ps n a
+label_below-within W ps n zero q a le e none = rw add-zero
+label_below-within W ps n (suc k) q a le e none =
+    let le' : n + k ≤ W = omega arith in
+    let here : label_at W ps (n + k) a ≡ None =
+    label_at-none W ps (n + k) a (is_within W n q) (within-passes W n (n + k) q a (omega arith) le' e) none in
+    rw (add-suc, here) (label_below-within W ps n k q a (omega arith) e none)
+
+-- where no entry lies inside the block, those longer than it give no label
+inside-passes : (W n j q a : ℕ) → n < j → j ≤ W → block_number W n a ≡ q → (p : Prefix) → covers W j a p ≡ true →
+    lies_inside W n q p ≡ true
+inside-passes W n j q a lt le' e p c =
+    let h = covers-shorter W n j q a p (omega arith) le' e c in
+    and_from (nat_lt n p.bits) (block_number W n p.start == q) (lt-ltb n p.bits (omega arith)) (eq-eqb _ q h.1)
+
+pub label_below-inside : (W : ℕ) (ps : List Prefix) (n k q a : ℕ) → n + k ≤ W → block_number W n a ≡ q →
+    count_of (lies_inside W n q) ps ≡ 0 → label_below W ps (suc n + k) a ≡ label_below W ps (suc n) a
+label_below-inside W ps n zero q a le e none = ap (λ (j : ℕ). label_below W ps j a) (add-zero (suc n))
+label_below-inside W ps n (suc k) q a le e none =
+    let s : suc n + suc k ≡ suc (suc n + k) = omega arith in
+    let here : label_at W ps (suc n + k) a ≡ None =
+    label_at-none W ps (suc n + k) a (lies_inside W n q)
+    (inside-passes W n (suc n + k) q a (omega arith) (omega arith) e) none in
+    ap (λ (j : ℕ). label_below W ps j a) s
+    ∙ ap (λ o. option_or o (label_below W ps (suc n + k) a)) here
+    ∙ label_below-inside W ps n k q a (omega arith) e none

@@ -1,0 +1,200 @@
+use Rattle.std.proofs.Common.{◌≡◌, ℕ, suc, ◌+◌, ◌*◌, ◌<◌, ◌≤◌, Bool, true, false, cond, ◌&&◌, ◌==◌, List, [], ◌∷◌, Option, Some, None, arith, filter, length, nat_le, nat_lt, option_map, slice_get, sym, refl, ap, ap₂, ◌∙◌, subst, append-nil, le_of_eq, eq-eqb, le-ltb}
+use Rattle.std.specs.Option.{option_or}
+use Rattle.std.proofs.lemmas.Bool.{and_from, and_left, lt-leb}
+use Rattle.std.proofs.lemmas.Bool.Decides.{nat_tests}
+use Rattle.prefix_keys.specs.Block.{block_number, first_of}
+use Rattle.prefix_keys.specs.Version.{width_of}
+use Rattle.pmap_text.specs.ListModel.{ListModel, Prefix, covers, label_below}
+use Rattle.pmap_text.specs.MapModel.{Label, MapModel}
+use Rattle.pmap_cert.specs.Acceptance.{IsAccepted, IsDecided, IsNodeAccepted, IsWithinExact, lies_inside}
+use Rattle.pmap_cert.specs.CertificateModel.{CertificateModel, InnerNode, LeafNode, Pair, Tree, claim_of}
+use Rattle.pmap_cert.specs.ExactPair.{IsSamePair, exact_pair}
+use Rattle.pmap_cert.specs.MinimalPair.{IsMinimalPair, StandsFor, entries_of, handed_on, has_inherited, least_label, own_entry}
+use Rattle.pmap_cert.proofs.Blocks.{block_number-first_of}
+use Rattle.pmap_cert.proofs.Counts.{is_within}
+use Rattle.pmap_cert.proofs.Entries.{filter-entries_of, filter-own_entry, is_within-half, length-entries_of}
+use Rattle.pmap_cert.proofs.Filters.{filter-filter, filter-three, find-filter}
+use Rattle.pmap_cert.proofs.Handed.{handed_on-leaf}
+use Rattle.pmap_cert.proofs.Kernel.{label_below-lower, label_below-upper}
+use Rattle.pmap_cert.proofs.Settled.{unsettled-halves}
+
+-- A minimal pair is accepted.
+
+-- what the entries of a node's block hand on: with its own entry alone at the block
+label_below-own : (W : ℕ) (ps : List Prefix) (table s : List Label) (h : Option Label) (n q : ℕ) →
+    filter (covers W n (first_of W n q)) ps ≡ own_entry W table s h n q → label_below W ps n (first_of W n q) ≡ h →
+    label_below W ps (suc n) (first_of W n q) ≡ handed_on table s h
+label_below-own W ps table s h n q own inherited =
+    ap₂ option_or
+    (ap (option_map (λ (p : Prefix). p.label))
+    (find-filter (covers W n (first_of W n q)) ps ∙ ap (λ (xs : List Prefix). slice_get xs 0) own))
+    inherited
+    ∙ by_test (has_inherited s h) (record { start = first_of W n q; bits = n; label = least_label table s })
+  where
+    by_test : (b : Bool) (p : Prefix) →
+        option_or (option_map (λ (r : Prefix). r.label) (slice_get (cond b [] (p ∷ [])) 0)) h ≡ cond b h (Some p.label)
+    by_test true p = refl
+    by_test false p = refl
+
+-- an entry of a block's own length that covers its first address is within the block
+covers-within : (W n q : ℕ) (p : Prefix) → covers W n (first_of W n q) p ≡ true → is_within W n q p ≡ true
+covers-within W n q p c =
+    of_numbers n p.bits (block_number W n p.start) q
+    (subst (λ (i : ℕ). (p.bits == n && block_number W n p.start == i) ≡ true) (block_number-first_of W n q) c)
+  where
+    of_numbers : (n k b q : ℕ) → (k == n && b == q) ≡ true → (nat_le n k && b == q) ≡ true
+    of_numbers n k b q h = grind (arith, nat_tests)
+
+-- one that lies inside it is within it
+inside-within : (W n q : ℕ) (p : Prefix) → lies_inside W n q p ≡ true → is_within W n q p ≡ true
+inside-within W n q p h = grind (arith, nat_tests)
+
+-- one within a half has more bits than the block, and isn't in the other half
+within-longer : (W n i a : ℕ) (p : Prefix) → is_within W (suc n) i p ≡ true → covers W n a p ≡ false
+within-longer W n i a p h = grind (arith, nat_tests)
+
+within-other : (W n i j : ℕ) → (i ≡ j → ⊥) → (p : Prefix) → is_within W n i p ≡ true → is_within W n j p ≡ false
+within-other W n i j other p h = grind (arith, nat_tests)
+
+-- a block's own entry covers its first address, is in no half and doesn't lie inside
+own-covers : (W n q : ℕ) (x : Label) → covers W n (first_of W n q) (record { start = first_of W n q; bits = n; label = x }) ≡ true
+own-covers W n q x =
+    and_from (n == n) (block_number W n (first_of W n q) == block_number W n (first_of W n q)) (eq-eqb n n refl)
+    (eq-eqb (block_number W n (first_of W n q)) (block_number W n (first_of W n q)) refl)
+
+own-half : (W n q i : ℕ) (x : Label) → is_within W (suc n) i (record { start = first_of W n q; bits = n; label = x }) ≡ false
+own-half W n q i x = and_left (nat_le (suc n) n) (block_number W (suc n) (first_of W n q) == i) (lt-leb (suc n) n (omega arith))
+
+own-inside : (W n q : ℕ) (x : Label) → lies_inside W n q (record { start = first_of W n q; bits = n; label = x }) ≡ false
+own-inside W n q x = and_left (nat_lt n n) (block_number W n (first_of W n q) == q) (le-ltb n n (omega arith))
+
+-- a claim that is the exact pair holds no more than it
+within-same : (claim e : Pair) → IsSamePair claim e → IsWithinExact claim e
+within-same claim e same = record { cost = le_of_eq same.cost; labels = λ cost x h. same.labels x ∙ h }
+
+-- the map, its label table, and a list
+module _ (m : MapModel) (table : List Label) (ps : List Prefix) where
+  -- of a list whose entries within a block are given, those that pass a test of entries within the block
+  filter-given : (n q : ℕ) (given : List Prefix) (test : Prefix → Bool) →
+      ((p : Prefix) → test p ≡ true → is_within (width_of m.version) n q p ≡ true) →
+      filter (is_within (width_of m.version) n q) ps ≡ given → filter test ps ≡ filter test given
+  filter-given n q given test within e =
+      sym (filter-filter (is_within (width_of m.version) n q) test within ps) ∙ ap (filter test) e
+
+  -- a leaf decides its block
+  leaf-decided : (x : Label) (h : Option Label) (n q : ℕ) →
+      filter (is_within (width_of m.version) n q) ps ≡ own_entry (width_of m.version) table (x ∷ []) h n q →
+      label_below (width_of m.version) ps n (first_of (width_of m.version) n q) ≡ h →
+      IsDecided (width_of m.version) ps n q x
+  leaf-decided x h n q given inherited = record {
+    inside =
+        filter-given n q (own_entry (width_of m.version) table (x ∷ []) h n q) (lies_inside (width_of m.version) n q)
+        (inside-within (width_of m.version) n q) given
+        ∙ filter-own_entry (width_of m.version) table (lies_inside (width_of m.version) n q) false (x ∷ []) h n q
+        (own-inside (width_of m.version) n q);
+    longest =
+        label_below-own (width_of m.version) ps table (x ∷ []) h n q
+        (filter-given n q (own_entry (width_of m.version) table (x ∷ []) h n q)
+        (covers (width_of m.version) n (first_of (width_of m.version) n q))
+        (covers-within (width_of m.version) n q) given
+        ∙ filter-own_entry (width_of m.version) table (covers (width_of m.version) n (first_of (width_of m.version) n q)) true
+        (x ∷ []) h n q (own-covers (width_of m.version) n q))
+        inherited
+        ∙ handed_on-leaf table x h;
+  }
+
+  -- an inner node's own entry and those of its halves, told apart
+  inner-own : (claim : Pair) (lower upper : Tree) (h : Option Label) (n q : ℕ) → n < width_of m.version →
+      StandsFor m (InnerNode claim lower upper) n q →
+      filter (is_within (width_of m.version) n q) ps ≡ entries_of (width_of m.version) table (InnerNode claim lower upper) h n q →
+      filter (covers (width_of m.version) n (first_of (width_of m.version) n q)) ps
+      ≡ own_entry (width_of m.version) table claim.labels h n q
+  inner-own claim lower upper h n q below stands given =
+      filter-given n q _ (covers (width_of m.version) n (first_of (width_of m.version) n q)) (covers-within (width_of m.version) n q) given
+      ∙ filter-three (covers (width_of m.version) n (first_of (width_of m.version) n q)) _ _ _
+      (own_entry (width_of m.version) table claim.labels h n q) [] []
+      (filter-own_entry (width_of m.version) table (covers (width_of m.version) n (first_of (width_of m.version) n q)) true
+      claim.labels h n q (own-covers (width_of m.version) n q))
+      (filter-entries_of m table (covers (width_of m.version) n (first_of (width_of m.version) n q)) false lower
+      (handed_on table claim.labels h) (suc n) (2 * q) below stands.2
+      (within-longer (width_of m.version) n (2 * q) (first_of (width_of m.version) n q)))
+      (filter-entries_of m table (covers (width_of m.version) n (first_of (width_of m.version) n q)) false upper
+      (handed_on table claim.labels h) (suc n) (2 * q + 1) below stands.3
+      (within-longer (width_of m.version) n (2 * q + 1) (first_of (width_of m.version) n q)))
+      ∙ append-nil (own_entry (width_of m.version) table claim.labels h n q)
+
+  inner-lower : (claim : Pair) (lower upper : Tree) (h : Option Label) (n q : ℕ) → n < width_of m.version →
+      StandsFor m (InnerNode claim lower upper) n q →
+      filter (is_within (width_of m.version) n q) ps ≡ entries_of (width_of m.version) table (InnerNode claim lower upper) h n q →
+      filter (is_within (width_of m.version) (suc n) (2 * q)) ps
+      ≡ entries_of (width_of m.version) table lower (handed_on table claim.labels h) (suc n) (2 * q)
+  inner-lower claim lower upper h n q below stands given =
+      filter-given n q _ (is_within (width_of m.version) (suc n) (2 * q))
+      (is_within-half (width_of m.version) n q (2 * q) below (omega arith)) given
+      ∙ filter-three (is_within (width_of m.version) (suc n) (2 * q)) _ _ _
+      [] (entries_of (width_of m.version) table lower (handed_on table claim.labels h) (suc n) (2 * q)) []
+      (filter-own_entry (width_of m.version) table (is_within (width_of m.version) (suc n) (2 * q)) false
+      claim.labels h n q (own-half (width_of m.version) n q (2 * q)))
+      (filter-entries_of m table (is_within (width_of m.version) (suc n) (2 * q)) true lower
+      (handed_on table claim.labels h) (suc n) (2 * q) below stands.2 (λ p w. w))
+      (filter-entries_of m table (is_within (width_of m.version) (suc n) (2 * q)) false upper
+      (handed_on table claim.labels h) (suc n) (2 * q + 1) below stands.3
+      (within-other (width_of m.version) (suc n) (2 * q + 1) (2 * q) (omega arith)))
+      ∙ append-nil (entries_of (width_of m.version) table lower (handed_on table claim.labels h) (suc n) (2 * q))
+
+  inner-upper : (claim : Pair) (lower upper : Tree) (h : Option Label) (n q : ℕ) → n < width_of m.version →
+      StandsFor m (InnerNode claim lower upper) n q →
+      filter (is_within (width_of m.version) n q) ps ≡ entries_of (width_of m.version) table (InnerNode claim lower upper) h n q →
+      filter (is_within (width_of m.version) (suc n) (2 * q + 1)) ps
+      ≡ entries_of (width_of m.version) table upper (handed_on table claim.labels h) (suc n) (2 * q + 1)
+  inner-upper claim lower upper h n q below stands given =
+      filter-given n q _ (is_within (width_of m.version) (suc n) (2 * q + 1))
+      (is_within-half (width_of m.version) n q (2 * q + 1) below (omega arith)) given
+      ∙ filter-three (is_within (width_of m.version) (suc n) (2 * q + 1)) _ _ _
+      [] [] (entries_of (width_of m.version) table upper (handed_on table claim.labels h) (suc n) (2 * q + 1))
+      (filter-own_entry (width_of m.version) table (is_within (width_of m.version) (suc n) (2 * q + 1)) false
+      claim.labels h n q (own-half (width_of m.version) n q (2 * q + 1)))
+      (filter-entries_of m table (is_within (width_of m.version) (suc n) (2 * q + 1)) false lower
+      (handed_on table claim.labels h) (suc n) (2 * q) below stands.2
+      (within-other (width_of m.version) (suc n) (2 * q) (2 * q + 1) (omega arith)))
+      (filter-entries_of m table (is_within (width_of m.version) (suc n) (2 * q + 1)) true upper
+      (handed_on table claim.labels h) (suc n) (2 * q + 1) below stands.3 (λ p w. w))
+
+  -- a list whose entries within a block are those of a node that stands for it
+  pub accepted-node : (t : Tree) (h : Option Label) (n q : ℕ) → n ≤ width_of m.version → StandsFor m t n q →
+      filter (is_within (width_of m.version) n q) ps ≡ entries_of (width_of m.version) table t h n q →
+      label_below (width_of m.version) ps n (first_of (width_of m.version) n q) ≡ h →
+      IsNodeAccepted m ps t n q
+  accepted-node (LeafNode x) h n q le stands given inherited = (stands, leaf-decided x h n q given inherited)
+  accepted-node (InnerNode claim lower upper) h n q le stands given inherited =
+      let below : n < width_of m.version = unsettled-halves m n q le stands.0 in
+      let handed : label_below (width_of m.version) ps (suc n) (first_of (width_of m.version) n q) ≡ handed_on table claim.labels h =
+      label_below-own (width_of m.version) ps table claim.labels h n q
+      (inner-own claim lower upper h n q below stands given) inherited in (
+        below,
+        accepted-node lower (handed_on table claim.labels h) (suc n) (2 * q) below stands.2
+            (inner-lower claim lower upper h n q below stands given)
+            (label_below-lower (width_of m.version) ps n q below ∙ handed),
+        accepted-node upper (handed_on table claim.labels h) (suc n) (2 * q + 1) below stands.3
+            (inner-upper claim lower upper h n q below stands given)
+            (label_below-upper (width_of m.version) ps n q below ∙ handed),
+        within-same claim (exact_pair (claim_of lower) (claim_of upper)) stands.1,
+      )
+
+-- a minimal pair's list has the root's cost and one entries
+pub length-minimal : (m : MapModel) (l : ListModel) (c : CertificateModel) → IsMinimalPair m l c →
+    length l.prefixes ≡ (claim_of c.root).cost + 1
+length-minimal m l c pair = ap length pair.prefixes ∙ length-entries_of m m.table c.root None 0 0 pair.root
+
+-- and its certificate is accepted for its list
+pub accepted-minimal : (m : MapModel) (l : ListModel) (c : CertificateModel) → IsMinimalPair m l c → IsAccepted m l c
+accepted-minimal m l c pair = record {
+  list_version = pair.list_version;
+  certificate_version = pair.certificate_version;
+  root =
+      accepted-node m m.table l.prefixes c.root None 0 0 (omega arith) pair.root
+      (ap (filter (is_within (width_of m.version) 0 0)) pair.prefixes
+      ∙ filter-entries_of m m.table (is_within (width_of m.version) 0 0) true c.root None 0 0 (omega arith) pair.root (λ p w. w))
+      refl;
+  count = le_of_eq (length-minimal m l c pair);
+}

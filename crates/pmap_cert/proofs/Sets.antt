@@ -1,0 +1,72 @@
+use Rattle.std.proofs.Common.{◌≡◌, ℕ, ◌+◌, ◌≤◌, Bool, true, false, cond, ◌&&◌, ◌||◌, List, [], ◌∷◌, ◌++◌, Option, Some, None, arith, filter, sym, refl, ap, ◌∙◌, bytes_eq}
+use Rattle.std.proofs.lemmas.Slice.Eq.{bytes_eq-Decides}
+use Rattle.std.proofs.Math.Bool.{or-false, or_assoc}
+use Rattle.pmap_text.specs.MapModel.{Label}
+use Rattle.pmap_cert.specs.CertificateModel.{Pair, has}
+use Rattle.pmap_cert.specs.ExactPair.{common_labels, exact_pair, exact_pair_by}
+use Rattle.pmap_cert.specs.MinimalPair.{has_inherited}
+
+-- Sets of labels, and the cost of the exact pair of two pairs.
+
+-- a label equals itself
+pub bytes_eq-same : (x : Label) → bytes_eq x x ≡ true
+bytes_eq-same x = (bytes_eq-Decides x x).1 refl
+
+-- a set of one label has that label
+pub has-own : (x : Label) → has (x ∷ []) x ≡ true
+has-own x = rw (bytes_eq-same x)
+
+-- and no other
+pub has-single : (x y : Label) → has (x ∷ []) y ≡ true → x ≡ y
+has-single x y h = (bytes_eq-Decides x y).0 (sym (or-false (bytes_eq x y)) ∙ h)
+
+-- what the joined list has
+pub has-append : (xs ys : List Label) (x : Label) → has (xs ++ ys) x ≡ (has xs x || has ys x)
+has-append [] ys x = refl
+has-append (y ∷ xs) ys x = let ih = has-append xs ys x in rw ih (sym (or_assoc (bytes_eq y x) (has xs x) (has ys x)))
+
+-- what the labels of a list that pass a set's test have
+has-filter-step : (a b c d e f : Bool) → (a ≡ true → c ≡ d) → e ≡ (b && d) → f ≡ cond c (a || e) e → f ≡ ((a || b) && d)
+has-filter-step a b c d e f same ih is = grind arith
+
+has-cond : (c : Bool) (xs ys : List Label) (x : Label) → has (cond c xs ys) x ≡ cond c (has xs x) (has ys x)
+has-cond true xs ys x = refl
+has-cond false xs ys x = refl
+
+pub has-filter : (s xs : List Label) (x : Label) → has (filter (has s) xs) x ≡ (has xs x && has s x)
+has-filter s [] x = refl
+has-filter s (y ∷ xs) x =
+    has-filter-step (bytes_eq y x) (has xs x) (has s y) (has s x) (has (filter (has s) xs) x)
+    (has (filter (has s) (y ∷ xs)) x)
+    (λ e. ap (has s) ((bytes_eq-Decides y x).0 e))
+    (has-filter s xs x)
+    (has-cond (has s y) (y ∷ filter (has s) xs) (filter (has s) xs) x)
+
+-- what a label costs that is handed down to a block whose set is s: nothing where the set has it, else one entry
+abbrev pub miss : Option Label → List Label → ℕ
+miss h s = cond (has_inherited s h) 0 1
+
+pub miss-le : (h : Option Label) (s : List Label) → miss h s ≤ 1
+miss-le h s = grind arith
+
+-- the exact pair costs no more than both halves
+misses-union : (a b c : Bool) → false ≡ (a && b) → c ≡ (a || b) → 1 + cond c 0 1 ≤ cond a 0 1 + cond b 0 1
+misses-union a b c none is = grind arith
+
+misses-common : (a b c : Bool) → c ≡ (a && b) → cond c 0 1 ≤ cond a 0 1 + cond b 0 1
+misses-common a b c is = grind arith
+
+exact_pair_by-cost : (p r : Pair) (h : Option Label) (common : List Label) →
+    ((x : Label) → has common x ≡ (has p.labels x && has r.labels x)) →
+    (exact_pair_by p r common).cost + miss h (exact_pair_by p r common).labels
+    ≤ p.cost + miss h p.labels + (r.cost + miss h r.labels)
+exact_pair_by-cost p r None [] both = omega arith
+exact_pair_by-cost p r None (y ∷ ys) both = omega arith
+exact_pair_by-cost p r (Some x) [] both =
+    omega (arith, misses-union (has p.labels x) (has r.labels x) (has (p.labels ++ r.labels) x) (both x) (has-append p.labels r.labels x))
+exact_pair_by-cost p r (Some x) (y ∷ ys) both =
+    omega (arith, misses-common (has p.labels x) (has r.labels x) (has (y ∷ ys) x) (both x))
+
+pub exact_pair-cost : (p r : Pair) (h : Option Label) →
+    (exact_pair p r).cost + miss h (exact_pair p r).labels ≤ p.cost + miss h p.labels + (r.cost + miss h r.labels)
+exact_pair-cost p r h = exact_pair_by-cost p r h (common_labels p r) (λ x. has-filter r.labels p.labels x)

@@ -1,0 +1,45 @@
+use Rattle.std.specs.Prelude.{◌≡◌, ℕ, suc, ◌+◌, ◌*◌, ◌<◌, ◌≤◌, ◌&&◌, ◌==◌, Bool, List, [], Some, filter, length, nat_lt, IsTrue}
+use Rattle.prefix_keys.specs.Block.{block_number, first_of}
+use Rattle.prefix_keys.specs.Version.{width_of}
+use Rattle.pmap_text.specs.ListModel.{IsEquivalent, ListModel, Prefix, label_below}
+use Rattle.pmap_text.specs.MapModel.{IsSettled, Label, MapModel}
+use Rattle.pmap_cert.specs.CertificateModel.{CertificateModel, InnerNode, LeafNode, Pair, Tree, claim_of, has}
+use Rattle.pmap_cert.specs.ExactPair.{exact_pair}
+
+-- When a certificate is accepted for a map and a prefix list. Labels are compared by their texts.
+
+-- of addresses of W bits, the entry's block lies strictly inside the block of n bits with the number q
+abbrev pub lies_inside : ℕ → ℕ → ℕ → Prefix → Bool
+lies_inside W n q p = nat_lt n p.bits && block_number W n p.start == q
+
+-- the list decides the whole block alike, by the label x: no entry lies strictly inside, and the longest that covers the
+-- block has that label
+pub record IsDecided (W : ℕ) (ps : List Prefix) (n q : ℕ) (x : Label) : Type 0 where
+  pub inside : filter (lies_inside W n q) ps ≡ []
+  pub longest : label_below W ps (suc n) (first_of W n q) ≡ Some x
+
+-- a claim holds no more than the exact pair e: its cost is below e's, or is e's and its set has all of e's labels
+pub record IsWithinExact (claim e : Pair) : Type 0 where
+  pub cost : claim.cost ≤ e.cost
+  pub labels : claim.cost ≡ e.cost → (x : Label) → IsTrue (has e.labels x) → IsTrue (has claim.labels x)
+
+-- The node is accepted for the block of n bits with the number q: a leaf where the map settles the block with its label
+-- and the list decides it alike by that label, an inner node where the block has halves, its nodes are accepted for
+-- them, and its claim holds no more than the exact pair of their claims.
+abbrev pub IsNodeAccepted : MapModel → List Prefix → Tree → ℕ → ℕ → Type 0
+IsNodeAccepted m ps (LeafNode x) n q = IsSettled m n q x × IsDecided (width_of m.version) ps n q x
+IsNodeAccepted m ps (InnerNode claim lower upper) n q =
+    (n < width_of m.version) × IsNodeAccepted m ps lower (suc n) (2 * q) × IsNodeAccepted m ps upper (suc n) (2 * q + 1)
+    × IsWithinExact claim (exact_pair (claim_of lower) (claim_of upper))
+
+-- the certificate is accepted for the map and the list: the versions agree, its root is accepted for the address space,
+-- and the list has no more entries than the root's cost and one
+pub record IsAccepted (m : MapModel) (l : ListModel) (c : CertificateModel) : Type 0 where
+  pub list_version : l.version ≡ m.version
+  pub certificate_version : c.version ≡ m.version
+  pub root : IsNodeAccepted m l.prefixes c.root 0 0
+  pub count : length l.prefixes ≤ (claim_of c.root).cost + 1
+
+-- no prefix list that is equivalent to the map has fewer entries
+abbrev pub IsLeast : MapModel → ListModel → Type 0
+IsLeast m l = (other : ListModel) → IsEquivalent other m → length l.prefixes ≤ length other.prefixes

@@ -1,0 +1,32 @@
+use Rattle.std.specs.Prelude.{ℕ, Bool, false, ◌||◌, List, [], ◌∷◌}
+use Rattle.std.specs.Str.{bytes_eq}
+use Rattle.prefix_keys.specs.declared.version.Version.{Version}
+use Rattle.pmap_text.specs.MapModel.{Label}
+
+-- A certificate as contracts see it: a binary tree over the address space, with label texts.
+
+-- a cost and a set of labels; the set is a list of which only what it has counts
+pub record Pair : Type 0 where
+  pub cost : ℕ
+  pub labels : List Label
+
+-- the set has the label
+abbrev pub has : List Label → Label → Bool
+has [] x = false
+has (y ∷ ys) x = bytes_eq y x || has ys x
+
+-- a node: a leaf with a label, or an inner node with what it claims of its block and the nodes of the block's halves
+pub data Tree : Type 0 where
+  LeafNode : (x : Label) → Tree
+  InnerNode : (claim : Pair) (lower upper : Tree) → Tree
+
+-- what a node claims: a leaf the cost 0 and its label alone
+abbrev pub claim_of : Tree → Pair
+claim_of (LeafNode x) = record { cost = 0; labels = x ∷ [] }
+claim_of (InnerNode claim lower upper) = claim
+
+-- a certificate: the version of its addresses, its label table and its root, which stands for the address space
+pub record CertificateModel : Type 0 where
+  pub version : Version
+  pub table : List Label
+  pub root : Tree

@@ -1,0 +1,5 @@
+pub mod CertificateModel
+pub mod ExactPair
+pub mod Acceptance
+pub mod MinimalPair
+pub mod FourQuarters

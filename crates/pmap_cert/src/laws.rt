@@ -1,0 +1,65 @@
+//! The laws on certificates.
+
+ghost use Rattle.std.specs.Prelude.{◌≡◌, ◌+◌, ◌≤◌, ◌&&◌, ◌||◌, false, length, IsTrue};
+ghost use Rattle.pmap_text.specs.ListModel.{IsEquivalent, ListModel};
+ghost use Rattle.pmap_text.specs.MapModel.{Label, MapModel};
+ghost use Rattle.pmap_cert.specs.Acceptance.{IsAccepted, IsLeast};
+ghost use Rattle.pmap_cert.specs.CertificateModel.{CertificateModel, Pair, claim_of, has};
+ghost use Rattle.pmap_cert.specs.ExactPair.{IsPairOf, IsSamePair, exact_pair};
+ghost use Rattle.pmap_cert.specs.FourQuarters.{four_quarters_certificate, four_quarters_list, four_quarters_map};
+ghost use Rattle.pmap_cert.specs.MinimalPair.{HasItsLabels, IsMinimalPair, IsSameCertificate};
+
+/// Acceptance is enough: whoever made the certificate, a list that it is accepted for labels every address as the map
+/// does, and no list that does so has fewer entries, nor fewer than the root's cost and one.
+pub fn acceptance_is_enough()
+    ensures equivalent { (m : MapModel) (l : ListModel) (c : CertificateModel) → IsAccepted m l c →
+        IsEquivalent l m }
+    ensures least { (m : MapModel) (l : ListModel) (c : CertificateModel) → IsAccepted m l c →
+        IsLeast m l }
+    ensures bound { (m : MapModel) (l : ListModel) (c : CertificateModel) → IsAccepted m l c →
+        (other : ListModel) → IsEquivalent other m →
+        (claim_of c.root).cost + 1 ≤ length other.prefixes }
+{}
+
+/// Each map has a minimal pair of a list and a certificate: its blocks are halved until each is settled, as a block of one
+/// address always is.
+pub fn minimal_pair_exists()
+    ensures { (m : MapModel) → (l : ListModel) × (c : CertificateModel) × IsMinimalPair m l c }
+{}
+
+/// The certificate of a minimal pair is accepted for its list, which so labels every address as the map does, has just
+/// the root's cost and one entries, and no equivalent list has fewer.
+pub fn minimal_pair_is_accepted()
+    ensures accepted { (m : MapModel) (l : ListModel) (c : CertificateModel) → IsMinimalPair m l c →
+        IsAccepted m l c }
+    ensures count { (m : MapModel) (l : ListModel) (c : CertificateModel) → IsMinimalPair m l c →
+        length l.prefixes ≡ (claim_of c.root).cost + 1 }
+    ensures equivalent { (m : MapModel) (l : ListModel) (c : CertificateModel) → IsMinimalPair m l c →
+        IsEquivalent l m }
+    ensures least { (m : MapModel) (l : ListModel) (c : CertificateModel) → IsMinimalPair m l c →
+        IsLeast m l }
+{}
+
+/// A map has one minimal pair: its certificates have one version, table and shape, and the same labels, costs and sets, so
+/// that where the map's table has the map's labels, its lists are one list.
+pub fn minimal_pair_is_unique()
+    ensures certificates { (m : MapModel) (l l' : ListModel) (c c' : CertificateModel) →
+        IsMinimalPair m l c → IsMinimalPair m l' c' → IsSameCertificate c c' }
+    ensures lists { (m : MapModel) (l l' : ListModel) (c c' : CertificateModel) →
+        IsMinimalPair m l c → IsMinimalPair m l' c' → HasItsLabels m → l ≡ l' }
+{}
+
+/// The exact pair of two pairs is one of their costs and sets: where a label is common, the sum of the costs with the
+/// common labels, else one more with the labels of either. The order in which the sets are listed doesn't count.
+pub fn exact_pair_is_of_sets()
+    ensures common { (p r : Pair) (x : Label) → IsTrue (has p.labels x) → IsTrue (has r.labels x) →
+        IsPairOf (exact_pair p r) (p.cost + r.cost) (λ y. has p.labels y && has r.labels y) }
+    ensures apart { (p r : Pair) → ((x : Label) → (has p.labels x && has r.labels x) ≡ false) →
+        IsPairOf (exact_pair p r) (p.cost + r.cost + 1) (λ y. has p.labels y || has r.labels y) }
+    ensures same { (p r p' r' : Pair) → IsSamePair p p' → IsSamePair r r' → IsSamePair (exact_pair p r) (exact_pair p' r') }
+{}
+
+/// The worked example's list and certificate are the minimal pair of its map.
+pub fn four_quarters_pair_is_minimal()
+    ensures { IsMinimalPair four_quarters_map four_quarters_list four_quarters_certificate }
+{}

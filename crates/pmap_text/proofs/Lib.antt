@@ -1,0 +1,4 @@
+pub mod Entries
+pub mod LabelTexts
+pub mod Places
+pub mod ProgressSteps

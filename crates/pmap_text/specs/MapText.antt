@@ -1,0 +1,23 @@
+use Rattle.std.specs.Prelude.{ℕ, List, [], map, slice_get, unwrap_or}
+use Rattle.pmap_text.specs.MapModel.{Label, Mapping, MapModel}
+use Rattle.pmap_text.specs.declared.map_text.MapText.{MapText}
+use Rattle.pmap_text.specs.declared.statement.Statement.{Statement}
+
+-- the label text with a number
+abbrev pub text_at : List Label → ℕ → Label
+text_at table number = unwrap_or (slice_get table number) []
+
+-- a statement as a mapping to a label text
+abbrev pub mapping_of : List Label → Statement → Mapping
+mapping_of table s =
+    record { low = s.span.low.value; high = s.span.high.value; label = text_at table s.label.0 }
+
+-- a map text as the map that it is
+abbrev pub map_of : MapText → MapModel
+map_of m = record {
+  version = m.version;
+  name = m.name;
+  fallback = text_at m.labels m.default.0;
+  mappings = map (mapping_of m.labels) m.statements;
+  table = m.labels;
+}

@@ -1,0 +1,130 @@
+ghost use Rattle.std.specs.Prelude.{◌≡◌, ◌<◌, ◌≤◌, ◌↔◌, IsOk, ℕ, [], List, length, Some, IsTrue, IfOk, IfSome, OnErr, OnOk, option_map, slice_get};
+ghost use Rattle.pmap_text.specs.Label.{is_label, has_label, number_of, with_label, IsLabelTable};
+
+use crate::label::LabelId;
+use indexmap::IndexSet;
+use std::alloc::{AllocError, Global};
+use std::marker::Model;
+
+/// A table of distinct label texts. A text's number is its place, from 0 in the order in which texts were added.
+#[derive(Debug, Drop)]
+pub struct Labels {
+    alloc: Global,
+    texts: IndexSet<Vec<u8>>,
+}
+
+impl Model for Labels {
+    ghost use Rattle.std.specs.Prelude.{ℕ, List, map};
+    ghost use Rattle.pmap_text.specs.Label.{IsLabelTable};
+
+    ghost Value = { List (List ℕ) };
+
+    ghost view = { λ l. map (λ text. text.items) l.texts.keys };
+
+    ghost invariant = { λ l. IsLabelTable (map (λ text. text.items) l.texts.keys) };
+}
+
+impl Labels {
+    /// An empty table.
+    pub fn new(alloc: Global) -> Labels
+        ensures { result ≡ [] }
+    {
+        Labels {
+            alloc,
+            texts: IndexSet::new(alloc),
+        }
+    }
+
+    /// How many texts there are.
+    pub fn len(&self) -> usize
+        ensures value { result ≡ length self.now }
+        ensures few { result ≤ 65536 }
+        ensures table { IsLabelTable self.now }
+    {
+        self.texts.len()
+    }
+
+    /// Whether there is no text.
+    pub fn is_empty(&self) -> bool
+        ensures { IsTrue result ↔ (self.now ≡ []) }
+    {
+        self.texts.is_empty()
+    }
+
+    /// The text with a number. It is a label, and its number is this one.
+    pub fn text(&self, id: LabelId) -> Option<&[u8]>
+        ensures value { option_map (λ t. t.now) result ≡ slice_get self.now id.0 }
+        ensures number { IfSome result (λ t. number_of self.now t.now ≡ Some id.0) }
+        ensures label { IfSome result (λ t. IsTrue (is_label t.now)) }
+    {
+        match self.texts.get_index(id.0 as usize) {
+            Some(text) => Some(text.as_slice()),
+            None => None,
+        }
+    }
+
+    /// The number of a text. The text with that number is this one.
+    pub fn id_of(&self, text: &[u8]) -> Option<LabelId>
+        ensures value { option_map (λ id. id.0) result ≡ number_of self.now text.now }
+        ensures text { IfSome result (λ id. slice_get self.now id.0 ≡ Some text.now) }
+    {
+        match self.texts.get_index_of(text) {
+            Some(index) => Some(LabelId(index as u32)),
+            None => None,
+        }
+    }
+
+    /// Adds a text, and answers its number. A known text keeps its number and takes no memory, a new one goes last.
+    /// The others keep their numbers. Where memory is refused, the table stays as it was.
+    pub fn add(&mut self, text: &[u8]) -> Result<LabelId, AllocError>
+        requires label { IsTrue (is_label text.now) }
+        requires room { length self.old < 65536 }
+        ensures ok { OnOk result (self.new ≡ with_label self.old text.now) }
+        ensures number { IfOk result (λ id. number_of self.new text.now ≡ Some id.0) }
+        ensures text { IfOk result (λ id. slice_get self.new id.0 ≡ Some text.now) }
+        ensures kept { (i : ℕ) (t : List ℕ) → slice_get self.old i ≡ Some t → slice_get self.new i ≡ Some t }
+        ensures known { IsTrue (has_label self.old text.now) → IsOk result }
+        ensures err { OnErr result (self.new ≡ self.old) }
+    {
+        if let Some(id) = self.id_of(text) {
+            return Ok(id);
+        }
+        let (index, _) = self.texts.insert_full(Vec::from_slice(self.alloc, text)?)?;
+        Ok(LabelId(index as u32))
+    }
+}
+
+#[cfg(test)]
+mod tests {
+    use super::*;
+    use crate::label::is_label;
+    use std::process::Abort;
+
+    fn adds(
+        rt: &impl Abort,
+        labels: &mut Labels,
+        text: &[u8],
+        want: u32,
+    ) -> Result<(), AllocError> {
+        assert!(rt; is_label(text));
+        assert!(rt; labels.len() < 65536);
+        let id = labels.add(text)?;
+        assert_eq!(rt; id, LabelId(want));
+        assert_eq!(rt; labels.text(id), Some(text));
+        assert_eq!(rt; labels.id_of(text), Some(id));
+        Ok(())
+    }
+
+    #[test]
+    fn numbers_texts_in_order_of_first_occurrence(rt: HostRuntime) -> Result<(), AllocError> {
+        let mut labels = Labels::new(rt.alloc());
+        assert!(rt; labels.is_empty());
+        adds(&rt, &mut labels, b"A", 0)?;
+        adds(&rt, &mut labels, b"B", 1)?;
+        adds(&rt, &mut labels, b"A", 0)?;
+        assert_eq!(rt; labels.len(), 2);
+        assert_eq!(rt; labels.text(LabelId(2)), None);
+        assert_eq!(rt; labels.id_of(b"C"), None);
+        Ok(())
+    }
+}

@@ -1,0 +1,86 @@
+//! The lines of a text and the words of a line.
+ghost use Rattle.std.specs.Prelude.{◌≡◌, ◌+◌, ◌<◌, ◌≤◌, ◌∷◌, ◌==◌, ℕ, Bool, [], drop, length, not, position};
+ghost use Rattle.std.specs.List.{before_first, position_or_len};
+ghost use Rattle.pmap_text.specs.Label.{is_blank as is_blank_byte};
+ghost use Rattle.pmap_text.specs.Lines.{behind_word, content_of, first_word, lines_of, trim_end, trim_start};
+
+use crate::label::is_blank;
+
+fn find_byte(text: &[u8], byte: u8) -> Option<usize>
+    ensures { result ≡ position (λ b. b == byte) text.now }
+{
+    text.iter().position(|b| *b == byte)
+}
+
+fn find_blank(text: &[u8]) -> Option<usize>
+    ensures { result ≡ position is_blank_byte text.now }
+{
+    text.iter().position(|b| is_blank(*b))
+}
+
+fn find_word(text: &[u8]) -> Option<usize>
+    ensures { result ≡ position (λ b. not (is_blank_byte b)) text.now }
+{
+    text.iter().position(|b| !is_blank(*b))
+}
+
+// The place that was found, or the length of the text.
+fn place_or_end(found: Option<usize>, text: &[u8]) -> usize
+    requires { (p : ℕ → Bool) × (found ≡ position p text.now) }
+    ensures place { (p : ℕ → Bool) → found ≡ position p text.now → result ≡ position_or_len p text.now }
+    ensures within { result ≤ length text.now }
+{
+    found.unwrap_or(text.len())
+}
+
+/// The first line of a text and what stands behind its line feed.
+pub fn split_line(text: &[u8]) -> (&[u8], &[u8])
+    requires { 0 < length text.now }
+    ensures line { lines_of text.now ≡ result.0.now ∷ lines_of result.1.now }
+    ensures shorter { length result.1.now < length text.now }
+{
+    let end = place_or_end(find_byte(text, b'\n'), text);
+    if end < text.len() {
+        (&text[..end], &text[end + 1..])
+    } else {
+        (text, &[])
+    }
+}
+
+fn before_comment(line: &[u8]) -> &[u8]
+    ensures { result.now ≡ before_first (λ b. b == 35) line.now }
+{
+    &line[..place_or_end(find_byte(line, b'#'), line)]
+}
+
+fn without_leading_blanks(text: &[u8]) -> &[u8]
+    ensures { result.now ≡ trim_start text.now }
+{
+    &text[place_or_end(find_word(text), text)..]
+}
+
+fn without_trailing_blanks(text: &[u8]) -> &[u8]
+    ensures { result.now ≡ trim_end text.now }
+{
+    let mut end = text.len();
+    while end > 0 && is_blank(text[end - 1]) {
+        end -= 1;
+    }
+    &text[..end]
+}
+
+/// What a line says: what stands before its comment, without outer blanks.
+pub fn content(line: &[u8]) -> &[u8]
+    ensures { result.now ≡ content_of line.now }
+{
+    without_trailing_blanks(without_leading_blanks(before_comment(line)))
+}
+
+/// The first word of a line's content, and what stands behind it and the blanks after it.
+pub fn split_word(content: &[u8]) -> (&[u8], &[u8])
+    ensures word { result.0.now ≡ first_word content.now }
+    ensures rest { result.1.now ≡ behind_word content.now }
+{
+    let end = place_or_end(find_blank(content), content);
+    (&content[..end], without_leading_blanks(&content[end..]))
+}
