@@ -14,11 +14,9 @@ pub fn one_reading()
 /// Each event of a template set stands on at least 4 bytes.
 pub fn events_fit()
     ensures { EventsFit }
-{
-}
+{}
 
 /// The fault that the bytes of a template set have is never that memory ran out.
 pub fn memory_is_no_fault()
     ensures { MemoryIsNoFault }
-{
-}
+{}
