@@ -15,8 +15,8 @@ const RECORDS_OF_A_MESSAGE: u32 = 1000;
 
 // A message with a template of five fields: addresses, protocol, packets and octets.
 const TEMPLATE: [u8; 44] = [
-    0, 10, 0, 44, 96, 0, 0, 0, 0, 0, 0, 0, 0, 0, 0, 1, 0, 2, 0, 28, 1, 0, 0, 5, 0, 8, 0, 4, 0, 12, 0,
-    4, 0, 4, 0, 1, 0, 2, 0, 4, 0, 1, 0, 4,
+    0, 10, 0, 44, 96, 0, 0, 0, 0, 0, 0, 0, 0, 0, 0, 1, 0, 2, 0, 28, 1, 0, 0, 5, 0, 8, 0, 4, 0, 12,
+    0, 4, 0, 4, 0, 1, 0, 2, 0, 4, 0, 1, 0, 4,
 ];
 
 // The headers of a message of 17,020 bytes and of its one data set.
@@ -59,7 +59,9 @@ fn time<R: Print + Clock + AllocGlobal>(rt: &R, records: u32) -> Result<()> {
     let read_time = start.elapsed(rt)?.as_micros();
     let messages = file.messages.len();
     let size = bytes.len();
-    rt.println(format_args!("{records} records, {size} bytes, {messages} messages: read_file {read_time} us, plain {plain_time} us ({all})"))?;
+    rt.println(format_args!(
+        "{records} records, {size} bytes, {messages} messages: read_file {read_time} us, plain {plain_time} us ({all})"
+    ))?;
     Ok(())
 }
 

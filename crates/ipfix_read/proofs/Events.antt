@@ -1,5 +1,5 @@
 -- The template events of sets, one after the other.
-use Rattle.std.proofs.Common.{◌≡◌, ℕ, ◌+◌, ◌<◌, List, [], ◌∷◌, ◌++◌, length, get_or, take, refl, sym, ap, ◌∙◌, append_assoc, arith}
+use Rattle.std.proofs.Common.{◌≡◌, ℕ, ◌+◌, ◌<◌, List, [], ◌∷◌, ◌++◌, length, get_or, take, sym, ap, ◌∙◌, append_assoc}
 use Rattle.std.proofs.lemmas.List.{map_push, take_more}
 use Rattle.ipfix_templates.specs.declared.event.TemplateEvent.{TemplateEvent}
 use Rattle.ipfix_read.specs.Set.{in_domain}

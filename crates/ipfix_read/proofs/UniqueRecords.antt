@@ -1,12 +1,10 @@
 -- Bytes have one reading as the content of a set.
-use Rattle.std.proofs.Common.{◌≡◌, ◌≢◌, ℕ, ◌+◌, ◌<◌, ◌≤◌, List, [], ◌∷◌, length, Option, Some, None, ◌⊎◌, inl, inr, refl, sym, ap, subst, ◌∙◌, arith}
+use Rattle.std.proofs.Common.{◌≡◌, ◌≢◌, ℕ, ◌+◌, ◌≤◌, List, [], ◌∷◌, length, Option, Some, None, ◌⊎◌, inl, inr, refl, sym, ap, subst, ◌∙◌, arith}
 use Rattle.ipfix_templates.specs.declared.kind.Kind.{Kind}
 use Rattle.ipfix_templates.specs.declared.kind.Kind.TheVariants.{Flow, Options}
 use Rattle.ipfix_templates.specs.declared.event.TemplateEvent.{TemplateEvent}
-use Rattle.ipfix_templates.specs.declared.fault.TemplateFault.{TemplateFault}
 use Rattle.ipfix_templates.specs.Kind.{set_id}
 use Rattle.ipfix_templates.specs.Template.{TemplateView}
-use Rattle.ipfix_templates.specs.InForce.{in_force}
 use Rattle.ipfix_templates.specs.Reading.{IsTemplateSet, HasTemplateFault}
 use Rattle.ipfix_templates.specs.Laws.{OneReading as OneTemplateSet}
 use Rattle.ipfix_read.specs.declared.record.Record.{Record}

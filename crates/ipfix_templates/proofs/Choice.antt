@@ -1,5 +1,5 @@
 -- Cases on tests, and on steps that may give nothing.
-use Rattle.std.proofs.Common.{◌≡◌, Bool, true, false, cond, Option, Some, None, Result, Ok, Err, ◌⊎◌, inl, inr, refl}
+use Rattle.std.proofs.Common.{◌≡◌, Bool, true, false, cond, Option, Some, None, Result, Ok, ◌⊎◌, inl, inr, refl}
 use Rattle.std.specs.Prelude.{option_and_then}
 
 -- which of two values was chosen, and how the test went

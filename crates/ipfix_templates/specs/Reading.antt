@@ -10,7 +10,6 @@ use Rattle.ipfix_templates.specs.declared.fault.TemplateFault.{TemplateFault}
 use Rattle.ipfix_templates.specs.declared.fault.TemplateFaultKind.{TemplateFaultKind}
 use Rattle.ipfix_templates.specs.declared.fault.TemplateFaultKind.TheVariants.{Truncated, BadTemplateId, BadScope}
 use Rattle.ipfix_templates.specs.Kind.{set_id}
-use Rattle.ipfix_templates.specs.Template.{TemplateView}
 
 -- the field specifier at the front, and the bytes after it: the enterprise bit with the element's number, the
 -- length, and an enterprise number where the bit is 1

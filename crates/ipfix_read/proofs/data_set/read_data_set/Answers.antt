@@ -1,4 +1,4 @@
-use Rattle.std.proofs.Common.{◌≡◌, None, ◌∙◌, sym, arith}
+use Rattle.std.proofs.Common.{◌≡◌, None, sym, arith}
 use Rattle.ipfix_read.specs.Record.{record_at}
 use Rattle.ipfix_read.proofs.Records.{record_shorter, reads_shorter, reads_more}
 use Rattle.ipfix_read.proofs.data_set.read_data_set.Goals as goal

@@ -1,4 +1,4 @@
-use Rattle.std.proofs.Common.{◌≡◌, ℕ, List, inl, inr, ap, ◌∙◌, arith}
+use Rattle.std.proofs.Common.{ℕ, List, inl, inr, ap, ◌∙◌}
 use Rattle.std.proofs.lemmas.Result.{err_from_is_err_and}
 use Rattle.byteorder.specs.Endian.{big_number}
 use Rattle.ipfix_read.proofs.Sets.{Cut, from_place, cut_parts, set_read, set_fault}

@@ -1,4 +1,4 @@
-use Rattle.std.proofs.Common.{◌≡◌, ◌≤◌, length, ap, inr, arith}
+use Rattle.std.proofs.Common.{inr, arith}
 use Rattle.ipfix_templates.proofs.Loops.{reads_more}
 use Rattle.ipfix_templates.proofs.Records.{record_shorter, reads_shorter}
 use Rattle.ipfix_templates.proofs.set.read_template_set.Goals as goal
