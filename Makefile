@@ -6,3 +6,4 @@ test:
 
 bench:
 	bench/run
+	bench/read_file/run
