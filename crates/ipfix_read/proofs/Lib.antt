@@ -1,5 +1,5 @@
 pub mod Choice
-pub mod Values
+pub mod Cuts
 pub mod Records
 pub mod Events
 pub mod Sets

@@ -1,5 +1,6 @@
 -- The values of a data record (RFC 7011 sections 3.4.3 and 7).
 use Rattle.std.specs.Prelude.{◌≡◌, ◌≢◌, ℕ, List, [], ◌∷◌, length, take, drop, Option, Some, None, option_and_then, nat_lt, ◌==◌, if◌then◌else◌}
+use Rattle.std.specs.Option.{option_map_or}
 use Rattle.byteorder.specs.Endian.{big_number}
 use Rattle.ipfix_templates.specs.declared.field.Field.{Field}
 use Rattle.ipfix_templates.specs.declared.field.TheConstants.{VARIABLE_LENGTH}
@@ -35,3 +36,9 @@ values_at (field ∷ fields) bytes =
     option_and_then
     (λ v. option_and_then (λ vs. Some (record { field = field; value = v.0 } ∷ vs.0, vs.1)) (values_at fields v.1))
     (value_at field bytes)
+
+-- the values of these fields, one after the other, as far as they stand whole in the bytes
+unfoldable pub whole_values : List Field → List ℕ → List FieldValueView
+whole_values [] bytes = []
+whole_values (field ∷ fields) bytes =
+    option_map_or (λ v. record { field = field; value = v.0 } ∷ whole_values fields v.1) (value_at field bytes) []

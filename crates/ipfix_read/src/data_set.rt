@@ -19,7 +19,7 @@ pub fn read_data_set<'a>(
     let mut records = RecordList::new(alloc);
     let mut rest = bytes;
     while least > 0 && rest.len() >= least {
-        let Some((record, after)) = read_record(alloc, template, rest)? else {
+        let Some((record, after)) = read_record(template, rest)? else {
             return Ok(Err(bytes.len() - rest.len()));
         };
         records.push(record)?;

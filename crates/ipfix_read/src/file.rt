@@ -15,7 +15,7 @@ pub struct FileEvents<'a> {
 }
 
 /// Reads an IPFIX File (RFC 5655), which is messages of RFC 7011 one after the other, and the session in which
-/// templates are in force.
+/// templates are in force. The memory that it takes is linear in the length of the bytes.
 ///
 /// # Errors
 ///

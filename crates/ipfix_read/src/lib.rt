@@ -24,7 +24,7 @@ pub use laws::{first_message_and_rest, one_reading};
 pub use message::{Message, MessageList};
 pub use record::{Record, RecordList};
 pub use set::{Set, SetList};
-pub use value::{FieldValue, FieldValues};
+pub use value::{FieldValue, FieldValues, Values};
 
 #[cfg(test)]
 mod tests;

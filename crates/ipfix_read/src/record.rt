@@ -66,14 +66,13 @@ impl<'a> RecordList<'a> {
 
 /// The record of this template at the front, and the bytes after it. None where a part passes the end.
 pub fn read_record<'a>(
-    alloc: Global,
     template: &Template,
     bytes: &'a [u8],
 ) -> Result<Option<(Record<'a>, &'a [u8])>, AllocError>
     ensures { IfOk result (λ read. option_map (λ x. (x.0, x.1.now)) read ≡ record_at template.now bytes.now) }
 {
     let kind = template.kind();
-    let Some((fields, rest)) = read_values(alloc, template.fields().as_slice(), bytes)? else {
+    let Some((fields, rest)) = read_values(template.fields(), bytes)? else {
         return Ok(None);
     };
     Ok(Some((Record { kind, fields }, rest)))

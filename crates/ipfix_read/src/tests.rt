@@ -59,7 +59,7 @@ fn describe_event(text: &mut String, event: &TemplateEvent) -> Result<(), Fail> 
 fn describe_record(text: &mut String, record: &Record) -> Result<(), Fail> {
     let kind = kind_name(record.kind);
     write!(text, " record {kind}")?;
-    for value in record.fields.as_slice() {
+    for value in record.fields.iter() {
         let number = value.field().number;
         write!(text, " {number}=")?;
         for byte in value.value() {
@@ -230,63 +230,77 @@ fn fault(kind: ReadFaultKind, offset: u64) -> ReadFault {
     ReadFault { kind, offset }
 }
 
+const BAD_ID: ReadFaultKind = ReadFaultKind::BadTemplate(TemplateFaultKind::BadTemplateId);
+
+const TRUNCATED: ReadFaultKind = ReadFaultKind::BadTemplate(TemplateFaultKind::Truncated);
+
+const BAD_SCOPE: ReadFaultKind = ReadFaultKind::BadTemplate(TemplateFaultKind::BadScope);
+
+const FIRST_FAULTS: [(&str, ReadFaultKind, u64); 10] = [
+    // A record whose variable value passes the end of its set.
+    (
+        "000a0032 60000000 00000000 00000001 00020014 01010003 00080004 000c0004 0052ffff 0101000e 0a000001 08080808 0541",
+        ReadFaultKind::BadRecord,
+        40,
+    ),
+    // The same in the long form, whose length passes the end itself.
+    (
+        "000a0032 60000000 00000000 00000001 00020014 01010003 00080004 000c0004 0052ffff 0101000e 0a000001 08080808 ff41",
+        ReadFaultKind::BadRecord,
+        40,
+    ),
+    // A set that is shorter than its header, and bytes behind the last set.
+    (
+        "000a0014 60000000 00000000 00000001 01000003",
+        ReadFaultKind::BadSetLength,
+        16,
+    ),
+    (
+        "000a0013 60000000 00000000 00000001 010000",
+        ReadFaultKind::BadSetLength,
+        16,
+    ),
+    (
+        "000a0014 60000000 00000000 00000001 01000005",
+        ReadFaultKind::BadSetLength,
+        16,
+    ),
+    (
+        "000a001a 60000000 00000000 00000001 0002000a 01000001 0008",
+        TRUNCATED,
+        20,
+    ),
+    (
+        "000a001a 60000000 00000000 00000001 0003000a 01000001 0000",
+        BAD_SCOPE,
+        20,
+    ),
+    // All options templates withdrawn in a set of templates.
+    (
+        "000a0018 60000000 00000000 00000001 00020008 00030000",
+        BAD_ID,
+        20,
+    ),
+    // A second message's version, and a header cut short.
+    (
+        "000a0010 60000000 00000000 00000001 00090010 60000000 00000000 00000001",
+        ReadFaultKind::BadVersion,
+        16,
+    ),
+    (
+        "000a0010 60000000 00000000 00000001 000a",
+        ReadFaultKind::TruncatedHeader,
+        16,
+    ),
+];
+
 #[test]
 fn finds_the_first_fault(rt: HostRuntime) -> Result<(), Fail> {
-    let bad_id = ReadFaultKind::BadTemplate(TemplateFaultKind::BadTemplateId);
-    let truncated = ReadFaultKind::BadTemplate(TemplateFaultKind::Truncated);
-    let bad_scope = ReadFaultKind::BadTemplate(TemplateFaultKind::BadScope);
-    let cases = [
-        // A record whose variable value passes the end of its set.
-        (
-            "000a0032 60000000 00000000 00000001 00020014 01010003 00080004 000c0004 0052ffff 0101000e 0a000001 08080808 0541",
-            fault(ReadFaultKind::BadRecord, 40),
-        ),
-        // The same in the long form, whose length passes the end itself.
-        (
-            "000a0032 60000000 00000000 00000001 00020014 01010003 00080004 000c0004 0052ffff 0101000e 0a000001 08080808 ff41",
-            fault(ReadFaultKind::BadRecord, 40),
-        ),
-        // A set that is shorter than its header, and bytes behind the last set.
-        (
-            "000a0014 60000000 00000000 00000001 01000003",
-            fault(ReadFaultKind::BadSetLength, 16),
-        ),
-        (
-            "000a0013 60000000 00000000 00000001 010000",
-            fault(ReadFaultKind::BadSetLength, 16),
-        ),
-        (
-            "000a0014 60000000 00000000 00000001 01000005",
-            fault(ReadFaultKind::BadSetLength, 16),
-        ),
-        (
-            "000a001a 60000000 00000000 00000001 0002000a 01000001 0008",
-            fault(truncated, 20),
-        ),
-        (
-            "000a001a 60000000 00000000 00000001 0003000a 01000001 0000",
-            fault(bad_scope, 20),
-        ),
-        // All options templates withdrawn in a set of templates.
-        (
-            "000a0018 60000000 00000000 00000001 00020008 00030000",
-            fault(bad_id, 20),
-        ),
-        // A second message's version, and a header cut short.
-        (
-            "000a0010 60000000 00000000 00000001 00090010 60000000 00000000 00000001",
-            fault(ReadFaultKind::BadVersion, 16),
-        ),
-        (
-            "000a0010 60000000 00000000 00000001 000a",
-            fault(ReadFaultKind::TruncatedHeader, 16),
-        ),
-    ];
-    for (i, (text, wanted)) in cases.iter().enumerate() {
+    for (i, (text, kind, offset)) in FIRST_FAULTS.iter().enumerate() {
         let bytes = bytes_of(rt.alloc(), text)?;
         assert_eq!(rt;
             read_file(rt.alloc(), &bytes).err(),
-            Some(*wanted),
+            Some(fault(*kind, *offset)),
             "at {i}"
         );
     }
@@ -306,17 +320,15 @@ fn changed(alloc: Global, text: &str, place: usize, high: u8, low: u8) -> Result
 #[test]
 fn finds_faults_of_changed_files(rt: HostRuntime) -> Result<(), Fail> {
     let alloc = rt.alloc();
-    let truncated = ReadFaultKind::BadTemplate(TemplateFaultKind::Truncated);
-    let bad_id = ReadFaultKind::BadTemplate(TemplateFaultKind::BadTemplateId);
     let cases = [
         (FIVE_FIELDS, 0, 0, 9, ReadFaultKind::BadVersion, 0),
         (FIVE_FIELDS, 2, 0, 15, ReadFaultKind::BadMessageLength, 0),
-        (FIVE_FIELDS, 20, 0, 255, bad_id, 20),
+        (FIVE_FIELDS, 20, 0, 255, BAD_ID, 20),
         (FIVE_FIELDS, 18, 0, 0, ReadFaultKind::BadSetLength, 16),
         (FIVE_FIELDS, 18, 0, 3, ReadFaultKind::BadSetLength, 16),
         (FIVE_FIELDS, 18, 0, 0x32, ReadFaultKind::BadSetLength, 16),
-        (FIVE_FIELDS, 18, 0, 0x18, truncated, 20),
-        (FIVE_FIELDS, 18, 0, 0x31, truncated, 44),
+        (FIVE_FIELDS, 18, 0, 0x18, TRUNCATED, 20),
+        (FIVE_FIELDS, 18, 0, 0x31, TRUNCATED, 44),
     ];
     for (i, (text, place, high, low, kind, offset)) in cases.iter().enumerate() {
         let bytes = changed(alloc, text, *place, *high, *low)?;
@@ -344,8 +356,7 @@ fn withdraws_all_of_a_kind(rt: HostRuntime) -> Result<(), Fail> {
     assert_eq!(rt; bytes.len(), 73);
     bytes[48] = 0;
     bytes[49] = 3;
-    let bad_id = ReadFaultKind::BadTemplate(TemplateFaultKind::BadTemplateId);
-    assert_eq!(rt; read_file(alloc, &bytes).err(), Some(fault(bad_id, 48)));
+    assert_eq!(rt; read_file(alloc, &bytes).err(), Some(fault(BAD_ID, 48)));
 
     assert_eq!(rt; bytes.len(), 73);
     bytes[44] = 0;
@@ -358,7 +369,7 @@ fn withdraws_all_of_a_kind(rt: HostRuntime) -> Result<(), Fail> {
 
     assert_eq!(rt; bytes.len(), 73);
     bytes[49] = 2;
-    assert_eq!(rt; read_file(alloc, &bytes).err(), Some(fault(bad_id, 48)));
+    assert_eq!(rt; read_file(alloc, &bytes).err(), Some(fault(BAD_ID, 48)));
     Ok(())
 }
 
@@ -376,6 +387,55 @@ fn reads_each_prefix(rt: HostRuntime) -> Result<(), Fail> {
         };
         let front = &bytes[..size];
         assert_eq!(rt; read_file(rt.alloc(), front).err(), wanted, "at {size}");
+    }
+    Ok(())
+}
+
+// A File of one message: a template of 2,000 fields, of which the one in the middle has one byte and the others have
+// none, and a data set of 2,000 records, whose bytes count up.
+fn file_of_empty_fields(alloc: Global) -> Result<Vec<u8>, Fail> {
+    let mut bytes = bytes_of(
+        alloc,
+        "000a272c 60000000 00000000 00000001 00021f48 010007d0",
+    )?;
+    for i in 0..2000u16 {
+        bytes.extend_from_slice(&i.to_be_bytes())?;
+        let length = if i == 1000 { 1u16 } else { 0 };
+        bytes.extend_from_slice(&length.to_be_bytes())?;
+    }
+    bytes.extend_from_slice(&bytes_of(alloc, "010007d4")?)?;
+    for i in 0..2000u32 {
+        bytes.push((i % 251) as u8)?;
+    }
+    Ok(bytes)
+}
+
+#[test]
+fn reads_records_of_empty_fields(rt: HostRuntime) -> Result<(), Fail> {
+    let alloc = rt.alloc();
+    let bytes = file_of_empty_fields(alloc)?;
+    let file = read_file(alloc, &bytes)?;
+    let [message] = file.messages.as_slice() else {
+        return Err(Fail::new("one message is wanted"));
+    };
+    let [_templates, values] = message.sets().as_slice() else {
+        return Err(Fail::new("two sets are wanted"));
+    };
+    let Set::Values(_kind, records) = values else {
+        return Err(Fail::new("values are wanted"));
+    };
+    assert_eq!(rt; records.len(), 2000);
+    for (i, record) in records.as_slice().iter().enumerate().step_by(199) {
+        assert_eq!(rt; record.fields.len(), 2000, "at {i}");
+        let mut found = 0;
+        for (place, value) in record.fields.iter().enumerate() {
+            assert_eq!(rt; usize::from(value.field().number), place, "at {i}");
+            if let [byte] = value.value() {
+                assert_eq!(rt; (place, usize::from(*byte)), (1000, i % 251));
+                found = place;
+            }
+        }
+        assert_eq!(rt; found, 1000, "at {i}");
     }
     Ok(())
 }

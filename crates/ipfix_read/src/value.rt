@@ -1,9 +1,10 @@
-ghost use Rattle.std.specs.Prelude.{◌≡◌, ◌+◌, ◌++◌, ◌∷◌, [], length, IfOk, IfSome, OnOk, OnErr, option_map};
+ghost use Rattle.std.specs.Prelude.{◌≡◌, length, IfOk, IfSome, option_map};
+ghost use Rattle.std.specs.Iterator.{YieldsFirst, item_count};
 ghost use Rattle.ipfix_read.specs.Value.{IsValueOf, bytes_at, variable_at, value_at, values_at};
 
 use byteorder::{BigEndian, ByteOrder};
-use ipfix_templates::{Field, VARIABLE_LENGTH};
-use std::alloc::{AllocError, Global};
+use ipfix_templates::{Field, Fields, VARIABLE_LENGTH};
+use std::alloc::AllocError;
 use std::marker::Model;
 
 /// The value of a field in a data record: the field's specifier, and the bytes that stand in the File. A value
@@ -43,52 +44,73 @@ impl<'a> FieldValue<'a> {
     }
 }
 
-/// A list of values, one for each field of a template.
+/// The values of a data record, one for each field of its template. It keeps the record's bytes and shares the
+/// template's fields; the values are cut out when they are asked for.
 #[derive(Debug, Drop)]
 pub struct FieldValues<'a> {
-    items: Vec<FieldValue<'a>>,
+    specifiers: Fields,
+    bytes: &'a [u8],
 }
 
 impl<'a> Model for FieldValues<'a> {
-    ghost use Rattle.std.specs.Prelude.{List};
-    ghost use Rattle.ipfix_read.specs.Value.{FieldValueView};
+    ghost use Rattle.std.specs.Prelude.{◌≡◌, List, [], Some};
+    ghost use Rattle.ipfix_read.specs.Value.{FieldValueView, values_at, whole_values};
 
     ghost Value = { List FieldValueView };
 
-    ghost view = { λ a. a.items.items };
+    ghost view = { λ a. whole_values a.specifiers a.bytes.now };
+
+    ghost invariant = { λ a. values_at a.specifiers a.bytes.now ≡ Some (whole_values a.specifiers a.bytes.now, []) };
 }
 
 impl<'a> FieldValues<'a> {
-    /// No values.
-    pub fn new(alloc: Global) -> Self
-        ensures { result ≡ [] }
-    {
-        FieldValues {
-            items: Vec::new(alloc),
-        }
-    }
-
     /// How many values.
     pub fn len(&self) -> usize
         ensures { result ≡ length self.now }
     {
-        self.items.len()
+        self.specifiers.len()
     }
 
     /// The values in order.
-    pub fn as_slice(&self) -> &[FieldValue<'a>]
-        ensures { result.now ≡ self.now }
+    pub fn iter(&self) -> Values<'_, 'a>
+        ensures { result ≡ self.now }
     {
-        self.items.as_slice()
+        Values {
+            specifiers: self.specifiers.as_slice(),
+            bytes: self.bytes,
+        }
     }
+}
 
-    /// Adds a value at the end. An `Err` changes nothing.
-    pub fn push(&mut self, value: FieldValue<'a>) -> Result<(), AllocError>
-        ensures ok { OnOk result (self.new ≡ self.old ++ value.entry ∷ []) }
-        ensures err { OnErr result (self.new ≡ self.old) }
-    {
-        self.items.push(value)?;
-        Ok(())
+/// The values of a data record in order, as an iterator.
+#[derive(Debug, Drop)]
+pub struct Values<'f, 'a> {
+    specifiers: &'f [Field],
+    bytes: &'a [u8],
+}
+
+impl<'f, 'a> Model for Values<'f, 'a> {
+    ghost use Rattle.std.specs.Prelude.{List};
+    ghost use Rattle.ipfix_read.specs.Value.{FieldValueView, whole_values};
+
+    ghost Value = { List FieldValueView };
+
+    ghost view = { λ a. whole_values a.specifiers.now a.bytes.now };
+}
+
+impl<'f, 'a> Iterator for Values<'f, 'a> {
+    type Item = FieldValue<'a>;
+
+    ghost next_gives = { YieldsFirst (λ values. values) };
+
+    ghost remaining = { item_count (λ values. values) };
+
+    fn next(&mut self) -> Option<FieldValue<'a>> {
+        let (field, specifiers) = self.specifiers.split_first()?;
+        let (value, bytes) = read_value(*field, self.bytes)?;
+        self.specifiers = specifiers;
+        self.bytes = bytes;
+        Some(value)
     }
 }
 
@@ -130,22 +152,31 @@ fn read_value<'a>(field: Field, bytes: &'a [u8]) -> Option<(FieldValue<'a>, &'a 
     Some((FieldValue { field, value }, rest))
 }
 
+// The bytes after the values of these fields at the front. None where a part passes the end.
+fn skip_values<'a>(fields: &[Field], bytes: &'a [u8]) -> Option<&'a [u8]>
+    ensures { option_map (λ x. x.now) result ≡ option_map (λ x. x.1) (values_at fields.now bytes.now) }
+{
+    let mut rest = bytes;
+    for field in fields {
+        let (_value, after) = read_value(*field, rest)?;
+        rest = after;
+    }
+    Some(rest)
+}
+
 /// The values of these fields at the front, and the bytes after them. None where a part passes the end.
 pub fn read_values<'a>(
-    alloc: Global,
-    fields: &[Field],
+    fields: &Fields,
     bytes: &'a [u8],
 ) -> Result<Option<(FieldValues<'a>, &'a [u8])>, AllocError>
     ensures { IfOk result (λ read. option_map (λ x. (x.0, x.1.now)) read ≡ values_at fields.now bytes.now) }
 {
-    let mut values = FieldValues::new(alloc);
-    let mut rest = bytes;
-    for field in fields {
-        let Some((value, after)) = read_value(*field, rest) else {
-            return Ok(None);
-        };
-        values.push(value)?;
-        rest = after;
-    }
+    let Some(rest) = skip_values(fields.as_slice(), bytes) else {
+        return Ok(None);
+    };
+    let values = FieldValues {
+        specifiers: fields.copy()?,
+        bytes: &bytes[..bytes.len() - rest.len()],
+    };
     Ok(Some((values, rest)))
 }

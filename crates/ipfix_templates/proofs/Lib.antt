@@ -3,3 +3,4 @@ pub mod Records
 pub mod Loops
 pub mod History
 pub mod Tables
+pub mod Parts

@@ -5,4 +5,5 @@ pub mod Fault
 pub mod Reading
 pub mod InForce
 pub mod Table
+pub mod Parts
 pub mod Laws

@@ -1,8 +1,9 @@
-ghost use Rattle.std.specs.Prelude.{◌≡◌, ◌+◌, ◌<◌, ◌≤◌, ◌++◌, ◌∷◌, [], length, IfOk, OnOk, OnErr};
+ghost use Rattle.std.specs.Prelude.{◌≡◌, ◌≤◌, length, IfOk};
 ghost use Rattle.ipfix_templates.specs.Field.{least_field_length};
 
-use std::alloc::{AllocError, Global};
+use std::alloc::AllocError;
 use std::marker::Model;
+use std::rc::RcSlice;
 
 /// The length in a field specifier that stands for a variable length (RFC 7011 section 7).
 pub const VARIABLE_LENGTH: u16 = 65535;
@@ -32,31 +33,33 @@ impl Field {
     }
 }
 
-/// A list of at most 65,535 field specifiers.
+/// A list of at most 65,535 field specifiers, which its copies share.
 #[derive(Debug, Drop)]
 pub struct Fields {
-    items: Vec<Field>,
+    items: RcSlice<Field>,
 }
 
 impl Model for Fields {
     ghost use Rattle.std.specs.Prelude.{List, ◌≤◌, length};
+    ghost use Rattle.std.specs.Rc.{rc_slice_items};
     ghost use Rattle.ipfix_templates.specs.declared.field.Field.{Field};
 
     ghost Value = { List Field };
 
-    ghost view = { λ a. a.items.items };
+    ghost view = { λ a. rc_slice_items a.items };
 
-    ghost invariant = { λ a. length a.items.items ≤ 65535 };
+    ghost invariant = { λ a. length (rc_slice_items a.items) ≤ 65535 };
 }
 
 impl Fields {
-    /// No fields.
-    pub fn new(alloc: Global) -> Self
-        ensures { result ≡ [] }
+    /// These fields in order.
+    pub fn from_vec(items: Vec<Field>) -> Result<Fields, AllocError>
+        requires { length items.items ≤ 65535 }
+        ensures { IfOk result (λ fields. fields ≡ items.items) }
     {
-        Fields {
-            items: Vec::new(alloc),
-        }
+        Ok(Fields {
+            items: RcSlice::from_vec(items)?,
+        })
     }
 
     /// How many fields.
@@ -75,23 +78,12 @@ impl Fields {
         self.items.as_slice()
     }
 
-    /// Adds a field at the end. An `Err` changes nothing.
-    pub fn push(&mut self, field: Field) -> Result<(), AllocError>
-        requires { length self.old < 65535 }
-        ensures ok { OnOk result (self.new ≡ self.old ++ field ∷ []) }
-        ensures err { OnErr result (self.new ≡ self.old) }
-    {
-        self.items.push(field)?;
-        Ok(())
-    }
-
-    /// Another list of the same fields.
+    /// The same list for another owner. The fields are shared, so that a copy takes no memory for them.
     pub fn copy(&self) -> Result<Fields, AllocError>
         ensures { IfOk result (λ fields. fields ≡ self.now) }
     {
-        let alloc = *self.items.allocator();
         Ok(Fields {
-            items: Vec::from_slice(alloc, self.items.as_slice())?,
+            items: self.items.clone()?,
         })
     }
 }

@@ -12,6 +12,7 @@ mod event;
 mod fault;
 mod field;
 mod kind;
+mod kind_table;
 mod laws;
 mod record;
 mod set;

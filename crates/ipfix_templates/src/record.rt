@@ -56,7 +56,7 @@ fn read_fields(
     ensures read { IfOk result (λ read. option_map (λ x. (x.0, x.1.now)) read ≡ fields_at count bytes.now) }
     ensures counted { IfOk result (λ read. IfSome read (λ x. length x.0 ≡ count)) }
 {
-    let mut fields = Fields::new(alloc);
+    let mut fields = Vec::new(alloc);
     let mut rest = bytes;
     for _ in 0..count {
         let Some((field, after)) = read_field(rest) else {
@@ -65,7 +65,7 @@ fn read_fields(
         fields.push(field)?;
         rest = after;
     }
-    Ok(Some((fields, rest)))
+    Ok(Some((Fields::from_vec(fields)?, rest)))
 }
 
 // The definition behind an ID and a field count.

@@ -5,25 +5,29 @@ ghost use Rattle.ipfix_templates.specs.declared.event.TemplateEvent.TheVariants.
 ghost use Rattle.ipfix_templates.specs.Table.{template_at, ChangesAt, DropsKind, Follows};
 
 use crate::kind::Kind;
+use crate::kind_table::KindTable;
 use crate::template::Template;
 use std::alloc::{AllocError, Global};
-use std::collections::HashMap;
 use std::marker::Model;
 
 /// The templates of each observation domain, by their IDs. Contracts see it as its entries, by what
 /// `template_at` finds there at each domain and ID; their order is left open.
 #[derive(Drop)]
 pub struct TemplateTable {
-    templates: HashMap<(u32, u16), Template>,
+    flow: KindTable,
+    options: KindTable,
 }
 
 impl Model for TemplateTable {
-    ghost use Rattle.std.specs.Prelude.{List, ℕ};
+    ghost use Rattle.std.specs.Prelude.{List, ℕ, ◌++◌};
     ghost use Rattle.ipfix_templates.specs.Template.{TemplateView};
+    ghost use Rattle.ipfix_templates.specs.Parts.{AreParted};
 
     ghost Value = { List ((ℕ × ℕ) × TemplateView) };
 
-    ghost view = { λ a. a.templates.entries };
+    ghost view = { λ a. a.flow ++ a.options };
+
+    ghost invariant = { λ a. AreParted a.flow a.options };
 }
 
 impl TemplateTable {
@@ -33,7 +37,8 @@ impl TemplateTable {
         ensures follows { Follows result [] }
     {
         TemplateTable {
-            templates: HashMap::new(alloc),
+            flow: KindTable::new(alloc),
+            options: KindTable::new(alloc),
         }
     }
 
@@ -41,7 +46,10 @@ impl TemplateTable {
     pub fn get(&self, domain: u32, id: u16) -> Option<&Template>
         ensures { option_copied result ≡ template_at self.now domain id }
     {
-        self.templates.get(&(domain, id))
+        match self.flow.get(domain, id) {
+            Some(template) => Some(template),
+            None => self.options.get(domain, id),
+        }
     }
 
     /// Defines a template in the domain, in place of the one of its ID. An `Err` changes nothing.
@@ -54,7 +62,16 @@ impl TemplateTable {
             → Follows self.new (history ++ (domain, Define template) ∷ [])) }
     {
         let id = template.id();
-        self.templates.insert((domain, id), template)?;
+        match template.kind() {
+            Kind::Flow => {
+                self.flow.insert(domain, template)?;
+                self.options.remove(domain, id);
+            }
+            Kind::Options => {
+                self.options.insert(domain, template)?;
+                self.flow.remove(domain, id);
+            }
+        }
         Ok(())
     }
 
@@ -66,7 +83,8 @@ impl TemplateTable {
         ensures follows { (history : List (ℕ × Event)) → Follows self.old history
             → Follows self.new (history ++ (domain, Withdraw id) ∷ []) }
     {
-        self.templates.remove(&(domain, id));
+        self.flow.remove(domain, id);
+        self.options.remove(domain, id);
     }
 
     /// Withdraws all templates of the kind in the domain.
@@ -77,6 +95,9 @@ impl TemplateTable {
         ensures follows { (history : List (ℕ × Event)) → Follows self.old history
             → Follows self.new (history ++ (domain, WithdrawAll kind) ∷ []) }
     {
-        self.templates.retain(|key, template| key.0 != domain || !kind.is(template.kind()));
+        match kind {
+            Kind::Flow => self.flow.remove_all(domain),
+            Kind::Options => self.options.remove_all(domain),
+        }
     }
 }

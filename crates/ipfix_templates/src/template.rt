@@ -71,7 +71,7 @@ impl Template {
         total
     }
 
-    /// Another template with the same parts.
+    /// Another template with the same parts. The fields are shared, so that it takes no memory for them.
     pub fn copy(&self) -> Result<Template, AllocError>
         ensures { IfOk result (λ template. template ≡ self.now) }
     {

@@ -24,7 +24,7 @@ fn plain(number: u16, length: u16) -> Field {
 }
 
 fn template(alloc: Global, kind: Kind, id: u16, number: u16) -> Result<Template, Fail> {
-    let mut fields = Fields::new(alloc);
+    let mut fields = Vec::new(alloc);
     fields.push(plain(number, 4))?;
     let scope_count = if kind.is(Kind::Options) { 1 } else { 0 };
     if id < 256 {
@@ -34,7 +34,7 @@ fn template(alloc: Global, kind: Kind, id: u16, number: u16) -> Result<Template,
         id,
         kind,
         scope_count,
-        fields,
+        fields: Fields::from_vec(fields)?,
     })
 }
 

@@ -1,14 +1,29 @@
-use Rattle.ipfix_read.specs.Value.{values_at}
-use Rattle.ipfix_read.proofs.Values.{goes_on, ends, is_done}
+use Rattle.std.proofs.Common.{◌≡◌, ◌-◌, ℕ, List, [], length, take, Some, sym, ap, ◌∙◌, arith}
+use Rattle.ipfix_read.specs.Value.{FieldValueView, values_at, whole_values}
+use Rattle.ipfix_read.proofs.Choice.{mapped}
+use Rattle.ipfix_read.proofs.Records.{values_shorter}
+use Rattle.ipfix_read.proofs.Cuts.{taken}
 use Rattle.ipfix_read.proofs.value.read_values.Goals as goal
 
-pub returns-in_default : goal.returns-in_default
-returns-in_default c =
-    ends c.loop-field.values c.args.fields.now c.loop-field.field-index _ c.loop-field.rest.now (values_at c.args.fields.now c.args.bytes.now) c.loop-field-test.true c.in_default.ensures.value c.loop-field.invariant
+-- what was read, and that the bytes behind it are the rest
+read : (c : goal.In_ok-copy) → (x : List FieldValueView × List ℕ) × (values_at c.args.fields.now c.args.bytes.now ≡ Some x) × (x.1 ≡ c.in-Some.rest.now)
+read c = mapped (values_at c.args.fields.now c.args.bytes.now) (λ x. x.1) c.in-Some.rest.now (rw c.as_slice.ensures.value at (sym c.in-Some.ensures))
 
-pub loop-field-preserved : goal.loop-field-preserved
-loop-field-preserved c =
-    rw c.in_ok-push.ensures.ok (goes_on c.loop-field.values c.args.fields.now c.loop-field.field-index _ c.loop-field.rest.now c.in-Some.value c.in-Some.after.now (values_at c.args.fields.now c.args.bytes.now) c.loop-field-test.true c.in-Some.ensures.field c.in-Some.ensures.value c.loop-field.invariant)
+pub slice_bounds-values-count : goal.slice_bounds-values-count
+slice_bounds-values-count c =
+    let r = read c in
+    omega (arith, values_shorter c.args.fields.now c.args.bytes.now r.0 r.1, ap length r.2)
+
+cut : (c : goal.In_ok-copy) → (values_at c.args.fields.now (take (length c.args.bytes.now - length c.in-Some.rest.now) c.args.bytes.now) ≡ Some (whole_values c.args.fields.now (take (length c.args.bytes.now - length c.in-Some.rest.now) c.args.bytes.now), []))
+    × (whole_values c.args.fields.now (take (length c.args.bytes.now - length c.in-Some.rest.now) c.args.bytes.now) ≡ (read c).0.0)
+cut c =
+    let r = read c in
+    taken c.args.fields.now c.args.bytes.now r.0 (length c.args.bytes.now - length c.in-Some.rest.now) r.1 (ap (λ (xs : List ℕ). length c.args.bytes.now - length xs) (sym r.2))
+
+pub invariant_of-values : goal.invariant_of-values
+invariant_of-values c = rw c.in_ok-copy.ensures (cut c).0
 
 pub returns : goal.returns
-returns c = is_done c.loop-field.values c.args.fields.now c.loop-field.field-index c.loop-field.rest.now (values_at c.args.fields.now c.args.bytes.now) c.loop-field-test.false c.loop-field.invariant
+returns c =
+    let r = read c in
+    rw c.in_ok-copy.ensures (ap (λ (vs : List FieldValueView). Some (vs, c.in-Some.rest.now)) (cut c).1 ∙ ap (λ (rest : List ℕ). Some (r.0.0, rest)) (sym r.2) ∙ sym r.1)

@@ -6,13 +6,13 @@ use Rattle.ipfix_templates.proofs.record.read_fields.Goals as goal
 
 pub returns-in_default-clause-read : goal.returns-in_default-clause-read
 returns-in_default-clause-read c =
-    ends c.loop.fields c.args.count c.loop.counter c.loop.rest.now (fields_at c.args.count c.args.bytes.now) c.loop-test.true (search rules) c.loop.invariant.read
+    ends c.loop.fields.items c.args.count c.loop.counter c.loop.rest.now (fields_at c.args.count c.args.bytes.now) c.loop-test.true (search rules) c.loop.invariant.read
 
 pub loop-preserved : goal.loop-preserved
 loop-preserved c = record {
-  read = rw c.in_ok-push.ensures.ok (goes_on c.loop.fields c.args.count c.loop.counter c.loop.rest.now c.in-Some.field c.in-Some.after.now (fields_at c.args.count c.args.bytes.now) c.loop-test.true (search rules) c.loop.invariant.read);
+  read = rw c.in_ok-push.ensures.items (goes_on c.loop.fields.items c.args.count c.loop.counter c.loop.rest.now c.in-Some.field c.in-Some.after.now (fields_at c.args.count c.args.bytes.now) c.loop-test.true (search rules) c.loop.invariant.read);
   counted = grind (arith, common_steps);
 }
 
 pub returns-clause-read : goal.returns-clause-read
-returns-clause-read c = is_done c.loop.fields c.args.count c.loop.counter c.loop.rest.now (fields_at c.args.count c.args.bytes.now) c.loop-test.false c.loop.invariant.read
+returns-clause-read c = rw c.in_ok-from_vec.ensures (is_done c.loop.fields.items c.args.count c.loop.counter c.loop.rest.now (fields_at c.args.count c.args.bytes.now) c.loop-test.false c.loop.invariant.read)

@@ -5,6 +5,6 @@ use Rattle.ipfix_templates.proofs.record.read_fields.Given as goal
 
 abbrev pub invariant-loop : goal.invariant-loop
 invariant-loop l = record {
-  read : behind l.fields (fields_at (l.count - l.counter) l.rest) ≡ fields_at l.count l.bytes;
-  counted : length l.fields ≡ l.counter;
+  read : behind l.fields.items (fields_at (l.count - l.counter) l.rest) ≡ fields_at l.count l.bytes;
+  counted : length l.fields.items ≡ l.counter;
 }

@@ -1,0 +1,81 @@
+ghost use Rattle.std.specs.Prelude.{◌≡◌, ℕ, [], None, Some, OnOk, OnErr, nat_eq, if◌then◌else◌};
+ghost use Rattle.std.specs.Option.{option_copied};
+ghost use Rattle.ipfix_templates.specs.Table.{template_at, ChangesAt};
+
+use crate::template::Template;
+use std::alloc::{AllocError, Global};
+use std::collections::HashMap;
+use std::marker::Model;
+
+/// Templates by their domains and IDs. The templates of a domain lie in a map of their own, so that all of them are
+/// dropped without a look at those of other domains. Contracts see it as its entries; their order is left open.
+#[derive(Drop)]
+pub struct KindTable {
+    alloc: Global,
+    domains: HashMap<u32, HashMap<u16, Template>>,
+}
+
+impl Model for KindTable {
+    ghost use Rattle.std.specs.Prelude.{List, ℕ, nat_eq};
+    ghost use Rattle.std.specs.HashMap.{IsUnique};
+    ghost use Rattle.ipfix_templates.specs.Template.{TemplateView};
+    ghost use Rattle.ipfix_templates.specs.Parts.{entries_of};
+
+    ghost Value = { List ((ℕ × ℕ) × TemplateView) };
+
+    ghost view = { λ a. entries_of a.domains.entries };
+
+    ghost invariant = { λ a. IsUnique nat_eq a.domains };
+}
+
+impl KindTable {
+    /// A table of no templates.
+    pub fn new(alloc: Global) -> Self
+        ensures { result ≡ [] }
+    {
+        KindTable {
+            alloc,
+            domains: HashMap::new(alloc),
+        }
+    }
+
+    /// The template of this ID in the domain.
+    pub fn get(&self, domain: u32, id: u16) -> Option<&Template>
+        ensures { option_copied result ≡ template_at self.now domain id }
+    {
+        self.domains.get(&domain)?.get(&id)
+    }
+
+    /// Puts a template in the domain, in place of the one of its ID. An `Err` changes nothing.
+    pub fn insert(&mut self, domain: u32, template: Template) -> Result<(), AllocError>
+        ensures ok { OnOk result (ChangesAt self.old self.new domain template.id (Some template)) }
+        ensures err { OnErr result (self.new ≡ self.old) }
+    {
+        let id = template.id();
+        if let Some(templates) = self.domains.get_mut(&domain) {
+            templates.insert(id, template)?;
+            return Ok(());
+        }
+        let mut templates = HashMap::new(self.alloc);
+        templates.insert(id, template)?;
+        self.domains.insert(domain, templates)?;
+        Ok(())
+    }
+
+    /// Drops the template of this ID in the domain. Where there is none, nothing changes.
+    pub fn remove(&mut self, domain: u32, id: u16)
+        ensures { ChangesAt self.old self.new domain id None }
+    {
+        let Some(templates) = self.domains.get_mut(&domain) else {
+            return;
+        };
+        templates.remove(&id);
+    }
+
+    /// Drops all templates of the domain.
+    pub fn remove_all(&mut self, domain: u32)
+        ensures { (d i : ℕ) → template_at self.new d i ≡ (if nat_eq domain d then None else template_at self.old d i) }
+    {
+        self.domains.remove(&domain);
+    }
+}
