@@ -1,7 +1,6 @@
-use Rattle.std.specs.Prelude.{◌≡◌, ℕ, ◌==◌, List, [], ◌∷◌, ◌++◌, Option, Some, None, Result, Ok, Err, unwrap_or, if◌then◌else◌}
+use Rattle.std.specs.Prelude.{ℕ, List, [], ◌∷◌, ◌++◌, Option, Result, Ok, Err, option_map, unwrap_or}
+use Rattle.prefix_keys.specs.Conversion.{converted}
 use Rattle.prefix_keys.specs.Text.{AddressOf}
-use Rattle.prefix_keys.specs.declared.version.Version.{Version}
-use Rattle.prefix_keys.specs.declared.version.Version.TheVariants.{V4, V6}
 use Rattle.pmap_text.specs.MapModel.{Label, MapModel, map_label}
 use Rattle.pmap_text.specs.Reading.{map_reading}
 use Rattle.pmap_text.specs.declared.fault.MapFault.{MapFault}
@@ -20,15 +19,9 @@ pub record FileTexts : Type 0 where
 pub data TextFault : Type 0 where
   InMap : (fault : MapFault) → TextFault
 
--- the label that a map gives an address: none where the address is of the other version
-abbrev pub label_if : Version → Version → Label → Option Label
-label_if V4 V4 x = Some x
-label_if V6 V6 x = Some x
-label_if V4 V6 x = None
-label_if V6 V4 x = None
-
+-- the label that a map gives an address, which counts by its place in the map's version: none where it has no such place
 abbrev pub label_of_address : MapModel → AddressOf → Option Label
-label_of_address m (version, value) = label_if m.version version (map_label m value)
+label_of_address m address = option_map (λ place. map_label m place.1) (converted m.version address)
 
 -- a line is a text and a line feed
 abbrev pub line_of : List ℕ → List ℕ

@@ -1,6 +1,6 @@
 use Rattle.std.specs.Prelude.{◌≡◌, ◌≢◌, ◌⊎◌, ◌||◌, ℕ, Bool, true, false, List, [], Option, Some, None, is_some, Result, Ok, Err}
 use Rattle.std.specs.Borrow.{Bor}
-use Rattle.std.specs.Io.KnownBytes.{Appends, Keeps}
+use Rattle.std.specs.Io.KnownBytes.{Keeps}
 use Rattle.pmap_text.specs.Reading.{map_reading}
 use Rattle.pmap_text.specs.declared.fault.MapFaultKind.TheVariants as kind
 use Rattle.flowlabel.specs.Loops.{AppendsPrefix}

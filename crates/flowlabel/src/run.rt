@@ -17,7 +17,7 @@ use crate::writing::{WriteFault, write_whole};
 use flow_io::{Input, Output};
 use label_trie::Trie;
 use pmap_text::{MapFaultKind, MapText, read_map};
-use prefix_keys::Addr;
+use prefix_keys::{Addr, convert};
 use std::alloc::{AllocError, Global};
 
 // The map of a map file.
@@ -50,17 +50,14 @@ fn map_of_file<'a, R: Input>(
     }
 }
 
-// The label of an address, by the trie of the map: none where the address is of the other version.
+// The label of an address, by the trie of the map: none where the address has no place in the map's version.
 fn label_of<'m>(map: &'m MapText, trie: &Trie, addr: Addr) -> Option<&'m [u8]>
     requires version { trie.now.version ≡ map.now.version }
     requires labels { (a : ℕ) → a < 2 ^ width_of map.now.version
         → option_and_then (slice_get map.now.labels) (label_in trie.now a) ≡ Some (map_label (map_of map.now) a) }
     ensures { option_map (λ t. t.now) result ≡ label_of_address (map_of map.now) (addr.version, addr.value) }
 {
-    if addr.version != map.version {
-        return None;
-    }
-    match trie.label_at(addr) {
+    match trie.label_at(convert(addr, map.version)?) {
         Some(id) => map.labels.text(id),
         None => None,
     }

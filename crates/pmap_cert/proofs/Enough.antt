@@ -2,9 +2,9 @@ use Rattle.std.proofs.Common.{◌≡◌, ℕ, suc, ◌+◌, ◌-◌, ◌*◌, �
 use Rattle.prefix_keys.specs.Block.{block_number, first_of}
 use Rattle.prefix_keys.specs.Version.{width_of}
 use Rattle.prefix_keys.specs.declared.version.Version.{Version}
-use Rattle.pmap_text.specs.ListModel.{IsEquivalent, ListModel, Prefix, label_below}
+use Rattle.pmap_text.specs.ListModel.{IsEquivalent, ListModel, Prefix, label_below, lies_inside}
 use Rattle.pmap_text.specs.MapModel.{Label, MapModel, map_label}
-use Rattle.pmap_cert.specs.Acceptance.{IsAccepted, IsDecided, IsLeast, IsNodeAccepted, lies_inside}
+use Rattle.pmap_cert.specs.Acceptance.{IsAccepted, IsDecided, IsLeast, IsNodeAccepted}
 use Rattle.pmap_cert.specs.CertificateModel.{CertificateModel, InnerNode, LeafNode, Tree, claim_of}
 use Rattle.pmap_cert.proofs.Blocks.{block_number-first_of, block_number-halves, block_number-zero}
 use Rattle.pmap_cert.proofs.Counts.{count_of-filter, count_of-le, is_within}

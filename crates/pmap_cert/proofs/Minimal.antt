@@ -4,9 +4,9 @@ use Rattle.std.proofs.lemmas.Bool.{and_from, and_left, lt-leb}
 use Rattle.std.proofs.lemmas.Bool.Decides.{nat_tests}
 use Rattle.prefix_keys.specs.Block.{block_number, first_of}
 use Rattle.prefix_keys.specs.Version.{width_of}
-use Rattle.pmap_text.specs.ListModel.{ListModel, Prefix, covers, label_below}
+use Rattle.pmap_text.specs.ListModel.{ListModel, Prefix, covers, label_below, lies_inside}
 use Rattle.pmap_text.specs.MapModel.{Label, MapModel}
-use Rattle.pmap_cert.specs.Acceptance.{IsAccepted, IsDecided, IsNodeAccepted, IsWithinExact, lies_inside}
+use Rattle.pmap_cert.specs.Acceptance.{IsAccepted, IsDecided, IsNodeAccepted, IsWithinExact}
 use Rattle.pmap_cert.specs.CertificateModel.{CertificateModel, InnerNode, LeafNode, Pair, Tree, claim_of}
 use Rattle.pmap_cert.specs.ExactPair.{IsSamePair, exact_pair}
 use Rattle.pmap_cert.specs.MinimalPair.{IsMinimalPair, StandsFor, entries_of, handed_on, has_inherited, least_label, own_entry}

@@ -1,16 +1,12 @@
-use Rattle.std.specs.Prelude.{◌≡◌, ℕ, suc, ◌+◌, ◌*◌, ◌<◌, ◌≤◌, ◌&&◌, ◌==◌, Bool, List, [], Some, filter, length, nat_lt, IsTrue}
-use Rattle.prefix_keys.specs.Block.{block_number, first_of}
+use Rattle.std.specs.Prelude.{◌≡◌, ℕ, suc, ◌+◌, ◌*◌, ◌<◌, ◌≤◌, List, [], Some, filter, length, IsTrue}
+use Rattle.prefix_keys.specs.Block.{first_of}
 use Rattle.prefix_keys.specs.Version.{width_of}
-use Rattle.pmap_text.specs.ListModel.{IsEquivalent, ListModel, Prefix, label_below}
+use Rattle.pmap_text.specs.ListModel.{IsEquivalent, ListModel, Prefix, label_below, lies_inside}
 use Rattle.pmap_text.specs.MapModel.{IsSettled, Label, MapModel}
 use Rattle.pmap_cert.specs.CertificateModel.{CertificateModel, InnerNode, LeafNode, Pair, Tree, claim_of, has}
 use Rattle.pmap_cert.specs.ExactPair.{exact_pair}
 
 -- When a certificate is accepted for a map and a prefix list. Labels are compared by their texts.
-
--- of addresses of W bits, the entry's block lies strictly inside the block of n bits with the number q
-abbrev pub lies_inside : ℕ → ℕ → ℕ → Prefix → Bool
-lies_inside W n q p = nat_lt n p.bits && block_number W n p.start == q
 
 -- the list decides the whole block alike, by the label x: no entry lies strictly inside, and the longest that covers the
 -- block has that label

@@ -61,7 +61,7 @@ position-push : {X : Type 0} (p : X → Bool) (xs : List X) (x : X) (i : ℕ) �
 position-push p xs x i e = grind (arith, nat_tests, position_or_len_push p xs x, length-append xs (x ∷ []))
 
 -- where no element passes, the first place is the length
-place-none : {X : Type 0} (p : X → Bool) (xs : List X) → list_any p xs ≡ false → position_or_len p xs ≡ length xs
+pub place-none : {X : Type 0} (p : X → Bool) (xs : List X) → list_any p xs ≡ false → position_or_len p xs ≡ length xs
 place-none p xs h = grind (arith, nat_tests, any_place p xs, prefix_len-le-length (λ x. not (p x)) xs)
 
 -- and an element that passes and goes last is the first that passes

@@ -1,4 +1,7 @@
-pub mod Entries
+pub mod LineEntries
+pub mod Filed
+pub mod Pairs
 pub mod LabelTexts
 pub mod Places
+pub mod MovedBlocks
 pub mod ProgressSteps

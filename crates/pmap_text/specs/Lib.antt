@@ -1,7 +1,10 @@
 pub mod MapModel
 pub mod ListModel
 pub mod Label
+pub mod Declarations
 pub mod MapText
+pub mod ListEntries
+pub mod PrefixList
 pub mod Lines
 pub mod Reading
 pub mod Progress

@@ -1,4 +1,4 @@
-use Rattle.std.specs.Prelude.{◌≡◌, ℕ, zero, suc, ◌^◌, ◌<◌, ◌&&◌, ◌==◌, Bool, List, Option, Some, None, find, option_map}
+use Rattle.std.specs.Prelude.{◌≡◌, ℕ, zero, suc, ◌^◌, ◌<◌, ◌&&◌, ◌==◌, Bool, List, Option, Some, None, find, nat_lt, option_map}
 use Rattle.std.specs.Option.{option_or}
 use Rattle.prefix_keys.specs.Block.{block_number}
 use Rattle.prefix_keys.specs.Version.{width_of}
@@ -41,3 +41,7 @@ list_label l a = label_below (width_of l.version) l.prefixes (suc (width_of l.ve
 pub record IsEquivalent (l : ListModel) (m : MapModel) : Type 0 where
   pub version : l.version ≡ m.version
   pub labels : (a : ℕ) → a < 2 ^ width_of m.version → list_label l a ≡ Some (map_label m a)
+
+-- of addresses of W bits, the entry's block lies strictly inside the block of n bits with the number q
+abbrev pub lies_inside : ℕ → ℕ → ℕ → Prefix → Bool
+lies_inside W n q p = nat_lt n p.bits && block_number W n p.start == q

@@ -1,63 +1,112 @@
-use Rattle.std.specs.Prelude.{◌≡◌, ℕ, ◌+◌, ◌&&◌, ◌||◌, ◌==◌, Bool, List, [], ◌∷◌, ◌++◌, Option, Some, None, Result, Ok, Err, codes, fold, length, nat_lt, slice_index, unwrap_or, is_some, if◌then◌else◌}
-use Rattle.std.specs.List.{flat_map, list_any}
+use Rattle.std.specs.Prelude.{◌≡◌, ℕ, ◌+◌, ◌-◌, ◌&&◌, ◌||◌, ◌==◌, Bool, true, false, List, [], ◌∷◌, ◌++◌, Option, Some, None, Result, Ok, Err, codes, fold, length, nat_le, nat_lt, slice_index, unwrap_or, if◌then◌else◌}
+use Rattle.std.specs.List.{flat_map, list_all, list_any}
 use Rattle.std.specs.Option.{option_or}
 use Rattle.std.specs.Str.{bytes_eq}
 use Rattle.prefix_keys.specs.Block.{block_number, last_of}
-use Rattle.prefix_keys.specs.Text.{BlockOf, address_of, block_of_text, is_digit}
+use Rattle.prefix_keys.specs.Conversion.{mapped_prefix}
+use Rattle.prefix_keys.specs.Text.{AddressOf, BlockOf, address_of, block_of_text, is_digit}
 use Rattle.prefix_keys.specs.Version.{width_of}
 use Rattle.prefix_keys.specs.declared.text.BlockFault.{BlockFault}
 use Rattle.prefix_keys.specs.declared.text.BlockFault.TheVariants as block_faults
-use Rattle.prefix_keys.specs.declared.version.Version.TheVariants.{V4}
+use Rattle.prefix_keys.specs.declared.version.Version.{Version}
+use Rattle.prefix_keys.specs.declared.version.Version.TheVariants.{V4, V6}
+use Rattle.pmap_text.specs.Declarations.{conflicts, label_number, meant_text, with_declared}
 use Rattle.pmap_text.specs.Label.{has_label, is_label, with_label}
 use Rattle.pmap_text.specs.Lines.{behind_word, content_of, first_word, lines_of}
+use Rattle.pmap_text.specs.ListModel.{ListModel, Prefix}
 use Rattle.pmap_text.specs.MapModel.{Label, Mapping, MapModel}
 use Rattle.pmap_text.specs.declared.fault.MapFault.{MapFault}
 use Rattle.pmap_text.specs.declared.fault.MapFaultKind.{MapFaultKind}
-use Rattle.pmap_text.specs.declared.fault.MapFaultKind.TheVariants.{BadAddress, BadLabel, BadLength, BadStatement, MissingLabel, TooMany}
+use Rattle.pmap_text.specs.declared.fault.MapFaultKind.TheVariants.{BadAddress, BadLabel, BadLength, BadMode, BadStatement, DuplicateBlock, LabelConflict, LowAboveHigh, MissingLabel, ModeLate, ModeRepeated, NotAList, TooMany, WrongVersion}
+use Rattle.pmap_text.specs.declared.form.Form.{Form}
+use Rattle.pmap_text.specs.declared.form.Form.TheVariants as form
 
--- What it is for a text to be read as a map, and the first fault of a text that isn't.
+-- What it is for a text to be read as a map or as a prefix list, and the first fault of a text that isn't.
 
--- what a line says: nothing, a label for the addresses without a mapping, or a mapping
+-- what a line says: nothing, a name, the version, a number for a label text, the label of addresses without a mapping,
+-- or a mapping of a map or an entry of a list, with the version that the text has
 pub data Entry : Type 0 where
   Nothing : Entry
+  Names : (name : Label) → Entry
+  Decides : (version : Version) → Entry
+  Declares : (number : ℕ) (text : Label) → Entry
   Defaults : (label : Label) → Entry
-  Maps : (mapping : Mapping) → Entry
+  Maps : (version : Version) (mapping : Mapping) → Entry
+  Lists : (version : Version) (prefix : Prefix) → Entry
 
-abbrev pub mapping_in : Entry → List Mapping
-mapping_in Nothing = []
-mapping_in (Defaults label) = []
-mapping_in (Maps mapping) = mapping ∷ []
+-- what a line says of each kind
 
-abbrev pub text_in : Entry → List Label
-text_in Nothing = []
-text_in (Defaults label) = label ∷ []
-text_in (Maps mapping) = mapping.label ∷ []
+abbrev pub decides_in : Entry → Bool
+decides_in (Decides version) = true
+decides_in _ = false
+
+abbrev pub version_in : Entry → Option Version
+version_in (Decides version) = Some version
+version_in (Maps version mapping) = Some version
+version_in (Lists version prefix) = Some version
+version_in _ = None
+
+abbrev pub name_in : Entry → Option Label
+name_in (Names name) = Some name
+name_in _ = None
+
+abbrev pub declared_in : Entry → List (ℕ × Label)
+declared_in (Declares number text) = (number, text) ∷ []
+declared_in _ = []
 
 abbrev pub default_in : Entry → Option Label
-default_in Nothing = None
 default_in (Defaults label) = Some label
-default_in (Maps mapping) = None
+default_in _ = None
 
--- of some lines: their mappings in order, their label texts in the order of first occurrence, and the last default
-abbrev pub mappings_of : List Entry → List Mapping
-mappings_of entries = flat_map mapping_in entries
+abbrev pub mapping_in : Entry → List Mapping
+mapping_in (Maps version mapping) = mapping ∷ []
+mapping_in _ = []
 
-abbrev pub table_of : List Entry → List Label
-table_of entries = fold with_label [] (flat_map text_in entries)
+abbrev pub prefix_in : Entry → List Prefix
+prefix_in (Lists version prefix) = prefix ∷ []
+prefix_in _ = []
 
-abbrev pub default_of : List Entry → Option Label
-default_of [] = None
-default_of (entry ∷ entries) = option_or (default_of entries) (default_in entry)
+abbrev pub text_in : Entry → List Label
+text_in (Declares number text) = text ∷ []
+text_in (Defaults label) = label ∷ []
+text_in (Maps version mapping) = mapping.label ∷ []
+text_in (Lists version prefix) = prefix.label ∷ []
+text_in _ = []
+
+-- the first of some lines that says such a thing says it of all, or the last
+abbrev pub first_in : {A : Type 0} → (Entry → Option A) → List Entry → Option A
+first_in f [] = None
+first_in f (entry ∷ entries) = option_or (f entry) (first_in f entries)
+
+abbrev pub last_in : {A : Type 0} → (Entry → Option A) → List Entry → Option A
+last_in f [] = None
+last_in f (entry ∷ entries) = option_or (last_in f entries) (f entry)
 
 -- all that a line may ask about the lines before it
 pub record Earlier : Type 0 where
-  pub mappings : List Mapping
-  pub table : List Label
+  pub mode : Bool
+  pub version : Option Version
+  pub name : Option Label
+  pub declared : List (ℕ × Label)
   pub fallback : Option Label
+  pub mappings : List Mapping
+  pub prefixes : List Prefix
+  pub table : List Label
 
+-- of some lines: whether a mode stands there, the version that the first mode or mapping decides, the last name, the
+-- declared numbers, the last default, the mappings and the entries in order, and the label texts in the order of first
+-- occurrence
 abbrev pub earlier_of : List Entry → Earlier
-earlier_of entries =
-    record { mappings = mappings_of entries; table = table_of entries; fallback = default_of entries }
+earlier_of entries = record {
+  mode = list_any decides_in entries;
+  version = first_in version_in entries;
+  name = last_in name_in entries;
+  declared = fold with_declared [] (flat_map declared_in entries);
+  fallback = last_in default_in entries;
+  mappings = flat_map mapping_in entries;
+  prefixes = flat_map prefix_in entries;
+  table = fold with_label [] (flat_map text_in entries);
+}
 
 -- the greatest number of mappings, and of label texts, that a text may have
 abbrev pub mapping_limit : ℕ
@@ -81,47 +130,139 @@ abbrev pub label_of : List ℕ → Result Label MapFaultKind
 label_of [] = Err MissingLabel
 label_of (b ∷ bs) = if is_label (b ∷ bs) then Ok (b ∷ bs) else Err BadLabel
 
--- `default LABEL`
-abbrev pub default_line : Earlier → List ℕ → Result Entry MapFaultKind
-default_line earlier rest =
-    label_of rest >>= (λ label. if has_room earlier.table label then Ok (Defaults label) else Err TooMany)
+-- `map-name NAME`
+abbrev pub name_line : List ℕ → Result Entry MapFaultKind
+name_line rest = label_of rest >>= (λ name. Ok (Names name))
+
+-- the version that the word of a mode names
+abbrev pub mode_version : List ℕ → Option Version
+mode_version word =
+    if bytes_eq word (codes "ipv4") || bytes_eq word (codes "ip") then Some V4
+    else (if bytes_eq word (codes "ipv6") then Some V6 else None)
+
+-- a mapping or an entry stands on the lines before
+abbrev pub has_mapping : Earlier → Bool
+has_mapping earlier = nat_lt 0 (length earlier.mappings) || nat_lt 0 (length earlier.prefixes)
+
+-- `mode WORD`, once and before the first mapping
+abbrev pub decided : Earlier → Option Version → Result Entry MapFaultKind
+decided earlier None = Err BadMode
+decided earlier (Some version) =
+    if has_mapping earlier then Err ModeLate else (if earlier.mode then Err ModeRepeated else Ok (Decides version))
+
+abbrev pub mode_line : Earlier → List ℕ → Result Entry MapFaultKind
+mode_line earlier rest = decided earlier (mode_version rest)
+
+-- `label NUMBER TEXT`: the text is a label of other bytes than digits alone, no number has two texts, and no text two numbers
+abbrev pub declared_line : Earlier → Option ℕ → List ℕ → Result Entry MapFaultKind
+declared_line earlier None rest = Err BadStatement
+declared_line earlier (Some number) rest =
+    label_of rest >>= (λ text. if list_all is_digit text then Err BadLabel
+    else (if conflicts earlier.declared number text then Err LabelConflict
+    else (if has_room earlier.table text then Ok (Declares number text) else Err TooMany)))
+
+abbrev pub label_line : Earlier → List ℕ → Result Entry MapFaultKind
+label_line earlier rest = declared_line earlier (label_number (first_word rest)) (behind_word rest)
+
+-- `default LABEL`, which no list has
+abbrev pub default_line : Form → Earlier → List ℕ → Result Entry MapFaultKind
+default_line form.List earlier rest = Err NotAList
+default_line form.Map earlier rest =
+    label_of rest >>= (λ label. let text = meant_text earlier.declared label in
+    if has_room earlier.table text then Ok (Defaults text) else Err TooMany)
 
 -- the addresses from low to high, and then a label
-abbrev pub mapping_line : Earlier → ℕ → ℕ → List ℕ → Result Entry MapFaultKind
-mapping_line earlier low high rest =
-    label_of rest >>= (λ label. if nat_lt (length earlier.mappings) mapping_limit && has_room earlier.table label
-    then Ok (Maps (record { low = low; high = high; label = label }))
+abbrev pub span_line : Earlier → Version → ℕ → ℕ → List ℕ → Result Entry MapFaultKind
+span_line earlier version low high rest =
+    label_of rest >>= (λ label. let text = meant_text earlier.declared label in
+    if nat_lt (length earlier.mappings) mapping_limit && has_room earlier.table text
+    then Ok (Maps version (record { low = low; high = high; label = text }))
     else Err TooMany)
 
--- `BLOCK LABEL`
-abbrev pub block_line : Earlier → Result BlockOf BlockFault → List ℕ → Result Entry MapFaultKind
-block_line earlier (Ok (version, first, len)) rest =
-    mapping_line earlier first (last_of (width_of version) len (block_number (width_of version) len first)) rest
-block_line earlier (Err block_faults.BadAddress) rest = Err BadAddress
-block_line earlier (Err block_faults.BadLength) rest = Err BadLength
+-- an entry for the block of this length with this first address stands there
+abbrev pub has_prefix : List Prefix → ℕ → ℕ → Bool
+has_prefix prefixes start bits = list_any (λ p. p.start == start && p.bits == bits) prefixes
+
+-- the block of this length with this first address, and then a label
+abbrev pub prefix_line : Earlier → Version → ℕ → ℕ → List ℕ → Result Entry MapFaultKind
+prefix_line earlier version start bits rest =
+    label_of rest >>= (λ label. let text = meant_text earlier.declared label in
+    if has_prefix earlier.prefixes start bits then Err DuplicateBlock
+    else (if nat_lt (length earlier.prefixes) mapping_limit && has_room earlier.table text
+    then Ok (Lists version (record { start = start; bits = bits; label = text }))
+    else Err TooMany))
+
+-- a block in the text's version, and then a label: in a map the span of its addresses, in a list the block itself
+abbrev pub placed_line : Form → Earlier → Version → ℕ → ℕ → List ℕ → Result Entry MapFaultKind
+placed_line form.Map earlier version start bits rest =
+    span_line earlier version start (last_of (width_of version) bits (block_number (width_of version) bits start)) rest
+placed_line form.List earlier version start bits rest = prefix_line earlier version start bits rest
+
+-- the version of the text at a line whose first address is of this version: where nothing decided it before, that address does
+abbrev pub version_at : Earlier → Version → Version
+version_at earlier own = unwrap_or earlier.version own
+
+-- the number of an address in a text of this version: a dotted address stands in an IPv6 text for its place in
+-- ::ffff:0:0/96 (RFC 4291 section 2.5.5.2), and a colon address has no place in an IPv4 text
+abbrev pub number_in : Version → AddressOf → Result ℕ MapFaultKind
+number_in V4 (V4, value) = Ok value
+number_in V4 (V6, value) = Err WrongVersion
+number_in V6 (V4, value) = Ok (value + mapped_prefix)
+number_in V6 (V6, value) = Ok value
+
+-- `BLOCK LABEL`: the length grows with the width of the address
+abbrev pub block_line : Form → Earlier → Result BlockOf BlockFault → List ℕ → Result Entry MapFaultKind
+block_line form earlier (Ok (own, first, len)) rest =
+    let version = version_at earlier own in
+    number_in version (own, first)
+    >>= (λ start. placed_line form earlier version start (len + (width_of version - width_of own)) rest)
+block_line form earlier (Err block_faults.BadAddress) rest = Err BadAddress
+block_line form earlier (Err block_faults.BadLength) rest = Err BadLength
+
+-- `LOW HIGH LABEL`, which no list has
+abbrev pub range_line : Form → Earlier → AddressOf → AddressOf → List ℕ → Result Entry MapFaultKind
+range_line form.List earlier first second rest = Err NotAList
+range_line form.Map earlier first second rest =
+    let version = version_at earlier first.0 in
+    number_in version first >>= (λ low. number_in version second >>= (λ high.
+    if nat_le low high then span_line earlier version low high rest else Err LowAboveHigh))
+
+-- `ADDRESS LABEL`: the block of one address
+abbrev pub single_line : Form → Earlier → AddressOf → List ℕ → Result Entry MapFaultKind
+single_line form earlier address rest =
+    let version = version_at earlier address.0 in
+    number_in version address >>= (λ start. placed_line form earlier version start (width_of version) rest)
+
+-- a line that begins with an address: with a second one behind it, it is a range
+abbrev pub one_or_two : Form → Earlier → AddressOf → Option AddressOf → List ℕ → Result Entry MapFaultKind
+one_or_two form earlier first None rest = single_line form earlier first rest
+one_or_two form earlier first (Some second) rest = range_line form earlier first second (behind_word rest)
 
 -- the fault of a line whose first word begins no statement: it looks like an address and is none, or anything else
-abbrev pub looks_like_address : List ℕ → Bool
-looks_like_address word = is_digit (slice_index word 0) || list_any (λ b. b == 58) word
-
 abbrev pub other_fault : List ℕ → MapFaultKind
-other_fault word =
-    if is_some (address_of word) then BadStatement else (if looks_like_address word then BadAddress else BadStatement)
+other_fault word = if is_digit (slice_index word 0) || list_any (λ b. b == 58) word then BadAddress else BadStatement
+
+abbrev pub address_line : Form → Earlier → List ℕ → Option AddressOf → List ℕ → Result Entry MapFaultKind
+address_line form earlier word None rest = Err (other_fault word)
+address_line form earlier word (Some first) rest = one_or_two form earlier first (address_of (first_word rest)) rest
 
 -- a line with a word, by its first word and what stands behind it
-abbrev pub statement_line : Earlier → List ℕ → List ℕ → Result Entry MapFaultKind
-statement_line earlier word rest =
-    if bytes_eq word (codes "default") then default_line earlier rest
-    else (if list_any (λ b. b == 47) word then block_line earlier (block_of_text word) rest
-    else Err (other_fault word))
+abbrev pub statement_line : Form → Earlier → List ℕ → List ℕ → Result Entry MapFaultKind
+statement_line form earlier word rest =
+    if bytes_eq word (codes "map-name") then name_line rest
+    else (if bytes_eq word (codes "mode") then mode_line earlier rest
+    else (if bytes_eq word (codes "label") then label_line earlier rest
+    else (if bytes_eq word (codes "default") then default_line form earlier rest
+    else (if list_any (λ b. b == 47) word then block_line form earlier (block_of_text word) rest
+    else address_line form earlier word (address_of word) rest))))
 
 -- what a line says, by its content
-abbrev pub content_line : Earlier → List ℕ → Result Entry MapFaultKind
-content_line earlier [] = Ok Nothing
-content_line earlier (b ∷ bs) = statement_line earlier (first_word (b ∷ bs)) (behind_word (b ∷ bs))
+abbrev pub content_line : Form → Earlier → List ℕ → Result Entry MapFaultKind
+content_line form earlier [] = Ok Nothing
+content_line form earlier (b ∷ bs) = statement_line form earlier (first_word (b ∷ bs)) (behind_word (b ∷ bs))
 
-abbrev pub line_entry : Earlier → List ℕ → Result Entry MapFaultKind
-line_entry earlier line = content_line earlier (content_of line)
+abbrev pub line_entry : Form → Earlier → List ℕ → Result Entry MapFaultKind
+line_entry form earlier line = content_line form earlier (content_of line)
 
 -- a fault of the line with this number
 abbrev pub at_line : ℕ → Result Entry MapFaultKind → Result Entry MapFault
@@ -130,11 +271,11 @@ at_line number (Err kind) = Err (record { kind = kind; line = number })
 
 -- what the lines say that come after `number` lines which said `entries`: each line is read by what it and the lines
 -- before it are, and the first faulty line ends the reading
-abbrev pub entries_from : List Entry → ℕ → List (List ℕ) → Result (List Entry) MapFault
-entries_from entries number [] = Ok entries
-entries_from entries number (line ∷ lines) =
-    at_line (number + 1) (line_entry (earlier_of entries) line)
-    >>= (λ entry. entries_from (entries ++ entry ∷ []) (number + 1) lines)
+abbrev pub entries_from : Form → List Entry → ℕ → List (List ℕ) → Result (List Entry) MapFault
+entries_from form entries number [] = Ok entries
+entries_from form entries number (line ∷ lines) =
+    at_line (number + 1) (line_entry form (earlier_of entries) line)
+    >>= (λ entry. entries_from form (entries ++ entry ∷ []) (number + 1) lines)
 
 -- the label of an address that no mapping covers, where the text has no default
 abbrev pub unknown : Label
@@ -145,33 +286,57 @@ abbrev pub full_table : List Label → Option Label → List Label
 full_table table None = with_label table unknown
 full_table table (Some label) = table
 
--- the map of some lines
+-- the map of some lines: without a mode and a mapping it is of version 4
 abbrev pub map_from : Earlier → MapModel
 map_from lines = record {
-  version = V4;
-  name = None;
+  version = unwrap_or lines.version V4;
+  name = lines.name;
   fallback = unwrap_or lines.fallback unknown;
   mappings = lines.mappings;
   table = full_table lines.table lines.fallback;
 }
 
+-- the list of some lines
+abbrev pub list_from : Earlier → ListModel
+list_from lines = record {
+  version = unwrap_or lines.version V4;
+  name = lines.name;
+  prefixes = lines.prefixes;
+  table = lines.table;
+}
+
 -- the map that a text is read as, or the first fault of the text with its line
 abbrev pub map_reading : List ℕ → Result MapModel MapFault
-map_reading text = entries_from [] 0 (lines_of text) >>= (λ entries. Ok (map_from (earlier_of entries)))
+map_reading text = entries_from form.Map [] 0 (lines_of text) >>= (λ entries. Ok (map_from (earlier_of entries)))
 
--- the text is read as the map
+-- the list that a text is read as, or the first fault of the text with its line
+abbrev pub list_reading : List ℕ → Result ListModel MapFault
+list_reading text = entries_from form.List [] 0 (lines_of text) >>= (λ entries. Ok (list_from (earlier_of entries)))
+
+-- the text is read as the map, or as the list
 abbrev pub ReadsMap : List ℕ → MapModel → Type 0
 ReadsMap text map = map_reading text ≡ Ok map
+
+abbrev pub ReadsList : List ℕ → ListModel → Type 0
+ReadsList text list = list_reading text ≡ Ok list
 
 -- what the lines so far are after one more line
 abbrev pub added : Earlier → Entry → Earlier
 added earlier Nothing = earlier
-added earlier (Defaults label) =
-    record { mappings = earlier.mappings; table = with_label earlier.table label; fallback = Some label }
-added earlier (Maps mapping) = record {
+added earlier (Names name) = record earlier { name = Some name }
+added earlier (Decides version) = record earlier { mode = true; version = option_or earlier.version (Some version) }
+added earlier (Declares number text) =
+    record earlier { declared = with_declared earlier.declared (number, text); table = with_label earlier.table text }
+added earlier (Defaults label) = record earlier { fallback = Some label; table = with_label earlier.table label }
+added earlier (Maps version mapping) = record earlier {
+  version = option_or earlier.version (Some version);
   mappings = earlier.mappings ++ mapping ∷ [];
   table = with_label earlier.table mapping.label;
-  fallback = earlier.fallback;
+}
+added earlier (Lists version prefix) = record earlier {
+  version = option_or earlier.version (Some version);
+  prefixes = earlier.prefixes ++ prefix ∷ [];
+  table = with_label earlier.table prefix.label;
 }
 
 -- the line was read, and the lines so far have it at their end

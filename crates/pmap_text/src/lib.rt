@@ -1,29 +1,42 @@
-//! Texts of prefix maps: their lines and labels, and the reading of a text as a map.
+//! Texts of prefix maps and prefix lists: their lines and labels, and the reading of a text as a map or as a list.
 //!
-//! It stands on `prefix_keys`, which reads addresses and blocks, and on `indexmap` for the table of labels. Today IPv4
-//! blocks, `default` lines and comments are read, and each other statement is a fault. The layer above may rely on this:
-//! `read_map` answers exactly the map that the text is read as, or the text's first fault with its line, counted from 1.
+//! It stands on `prefix_keys`, which reads addresses and blocks, and on `indexmap` for the tables of labels, of declared
+//! numbers and of the blocks of a list. The layer above may rely on this: `read_map` and `read_list` answer exactly the
+//! map or the list that the text is read as, or the text's first fault with its line, counted from 1.
 //! Want of memory alone has the line 0. A label's number is its place in the order in which label texts first occur,
 //! so the number and the text determine each other. Each `MapText` keeps in its type that its statements are of its
-//! version and no more than 1,000,000, and that its labels stand in its table. The definitions that contracts cite, the
-//! label that a map gives an address and settled blocks among them, are in `specs`.
+//! version and no more than 1,000,000, and that its labels stand in its table, and each `PrefixList` that its entries
+//! are of its version, that no two have one block, and that their labels stand in its table. The definitions that
+//! contracts cite, the label that a map gives an address and settled blocks among them, are in `specs`.
 #![tactic(auto)]
 
+mod declarations;
+pub mod entries;
+pub mod entry;
 pub mod fault;
+pub mod form;
 pub mod label;
 pub mod labels;
 pub mod lines;
 pub mod map_text;
 pub mod name;
+mod placing;
+pub mod prefix_list;
+mod progress;
 mod reading;
 pub mod statement;
 pub mod statements;
 
+pub use entries::Entries;
+pub use entry::Entry;
 pub use fault::{MapFault, MapFaultKind};
+pub use form::Form;
 pub use label::{LabelId, is_label};
 pub use labels::Labels;
 pub use map_text::MapText;
 pub use name::Name;
-pub use reading::{LABEL_LIMIT, MAPPING_LIMIT, read_map};
+pub use prefix_list::PrefixList;
+pub use progress::{LABEL_LIMIT, MAPPING_LIMIT};
+pub use reading::{read_list, read_map};
 pub use statement::Statement;
 pub use statements::Statements;

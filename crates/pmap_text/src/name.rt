@@ -1,5 +1,7 @@
-ghost use Rattle.std.specs.Prelude.{◌≡◌};
+ghost use Rattle.std.specs.Prelude.{◌≡◌, IfOk, IsTrue};
+ghost use Rattle.pmap_text.specs.Label.{is_label};
 
+use std::alloc::{AllocError, Global};
 use std::marker::Model;
 
 /// What a prefix map or a prefix list is called: a text in the form of a label.
@@ -9,18 +11,46 @@ pub struct Name {
 }
 
 impl Model for Name {
-    ghost use Rattle.std.specs.Prelude.{List, ℕ};
+    ghost use Rattle.std.specs.Prelude.{IsTrue, List, ℕ};
+    ghost use Rattle.pmap_text.specs.Label.{is_label};
 
     ghost Value = { List ℕ };
 
     ghost view = { λ n. n.bytes.items };
+
+    ghost invariant = { λ n. IsTrue (is_label n.bytes.items) };
 }
 
 impl Name {
-    /// The bytes of the name.
+    /// A name with this text.
+    pub fn new(alloc: Global, text: &[u8]) -> Result<Name, AllocError>
+        requires label { IsTrue (is_label text.now) }
+        ensures { IfOk result (λ name. name ≡ text.now) }
+    {
+        let bytes = Vec::from_slice(alloc, text)?;
+        Ok(Name { bytes })
+    }
+
+    /// The bytes of the name. They are in the form of a label.
     pub fn as_bytes(&self) -> &[u8]
-        ensures { result.now ≡ self.now }
+        ensures value { result.now ≡ self.now }
+        ensures label { IsTrue (is_label self.now) }
     {
         self.bytes.as_slice()
+    }
+}
+
+#[cfg(test)]
+mod tests {
+    use super::*;
+    use crate::label::is_label;
+
+    #[test]
+    fn keeps_its_text(rt: HostRuntime) -> Result<(), AllocError> {
+        let text: &[u8] = b"Some Net";
+        assert!(rt; is_label(text));
+        let name = Name::new(rt.alloc(), text)?;
+        assert_eq!(rt; name.as_bytes(), text);
+        Ok(())
     }
 }

@@ -1,229 +1,20 @@
-//! The reading of a map text, line by line.
-ghost use Rattle.std.specs.Prelude.{◌≡◌, ◌≢◌, ◌<◌, ◌≤◌, ◌==◌, ℕ, [], List, Some, Ok, Err, true, false, length, slice_get, slice_index, IsTrue, IfOk, IfErr, OnOk, OnErr};
-ghost use Rattle.std.specs.List.{list_any};
-ghost use Rattle.prefix_keys.specs.Text.{block_of_text, is_digit};
-ghost use Rattle.prefix_keys.specs.declared.version.Version.TheVariants.{V4};
-ghost use Rattle.pmap_text.specs.Label.{has_label, is_label as is_label_text, with_label};
-ghost use Rattle.pmap_text.specs.MapText.{map_of};
+//! The reading of a map text or a list text, line by line.
+ghost use Rattle.std.specs.Prelude.{◌≡◌, ◌≢◌, ◌≤◌, [], List, Ok, Err, length, IfOk, IfErr};
 ghost use Rattle.pmap_text.specs.Lines.{lines_of};
-ghost use Rattle.pmap_text.specs.Reading.{Adds, Earlier, Entry, entries_from, block_line, content_line, default_line, earlier_of, has_room, label_of, line_entry, map_from, mapping_line, map_reading, other_fault, statement_line, ReadsMap};
-ghost use Rattle.pmap_text.specs.declared.reading.TheConstants.{LABEL_LIMIT, MAPPING_LIMIT};
-ghost use Rattle.pmap_text.specs.declared.fault.MapFaultKind.TheVariants.{NoMemory, TooMany};
+ghost use Rattle.pmap_text.specs.MapText.{map_of};
+ghost use Rattle.pmap_text.specs.PrefixList.{list_of};
+ghost use Rattle.pmap_text.specs.Reading.{Entry, ReadsList, ReadsMap, earlier_of, entries_from, list_reading, map_reading};
+ghost use Rattle.pmap_text.specs.declared.fault.MapFaultKind.TheVariants.{NoMemory};
 
 use crate::fault::{MapFault, MapFaultKind};
-use crate::label::{LabelId, is_label};
-use crate::labels::Labels;
-use crate::lines::{content, split_line, split_word};
+use crate::form::Form;
+use crate::lines::split_line;
 use crate::map_text::MapText;
-use crate::statement::Statement;
-use crate::statements::Statements;
-use prefix_keys::{BlockFault, Span, Version, read_addr, read_block};
-use std::alloc::{AllocError, Global};
-use std::marker::Model;
+use crate::prefix_list::PrefixList;
+use crate::progress::Reading;
+use std::alloc::Global;
 
-/// The greatest number of mappings that a text may have.
-pub const MAPPING_LIMIT: usize = 1_000_000;
-
-/// The greatest number of label texts that a text may have.
-pub const LABEL_LIMIT: usize = 65_535;
-
-// The label of addresses without a mapping, where the text has no default.
-const UNKNOWN: &[u8] = b"UNKNOWN";
-
-/// What the lines so far say.
-#[derive(Drop)]
-pub struct Reading {
-    statements: Statements,
-    labels: Labels,
-    default: Option<LabelId>,
-}
-
-impl Model for Reading {
-    ghost use Rattle.pmap_text.specs.Reading.{Earlier};
-    ghost use Rattle.pmap_text.specs.Progress.{IsProgress, progress_of};
-
-    ghost Value = { Earlier };
-
-    ghost view = { λ r. progress_of r.statements r.labels r.default };
-
-    ghost invariant = { λ r. IsProgress r.statements r.labels r.default };
-}
-
-// The rest of a line as a label.
-fn label_text(rest: &[u8]) -> Result<&[u8], MapFaultKind>
-    ensures ok { IfOk result (λ text. label_of rest.now ≡ Ok text.now) }
-    ensures label { IfOk result (λ text. IsTrue (is_label_text text.now)) }
-    ensures err { IfErr result (λ kind. label_of rest.now ≡ Err kind) }
-{
-    if rest.is_empty() {
-        Err(MapFaultKind::MissingLabel)
-    } else if is_label(rest) {
-        Ok(rest)
-    } else {
-        Err(MapFaultKind::BadLabel)
-    }
-}
-
-fn is_known(labels: &Labels, text: &[u8]) -> bool
-    ensures { result ≡ has_label labels.now text.now }
-{
-    labels.id_of(text).is_some()
-}
-
-// Whether the text is in the table, or may be added to it.
-fn has_room(labels: &Labels, text: &[u8]) -> bool
-    ensures { result ≡ has_room labels.now text.now }
-{
-    is_known(labels, text) || labels.len() < LABEL_LIMIT
-}
-
-// The number of a label, which is added to the table where it isn't there.
-fn number_for(labels: &mut Labels, text: &[u8]) -> Result<LabelId, MapFaultKind>
-    requires label { IsTrue (is_label_text text.now) }
-    requires limit { length labels.old ≤ LABEL_LIMIT }
-    ensures room { OnOk result (has_room labels.old text.now ≡ true) }
-    ensures ok { OnOk result (labels.new ≡ with_label labels.old text.now) }
-    ensures text { IfOk result (λ id. slice_get labels.new id.0 ≡ Some text.now) }
-    ensures limit { length labels.new ≤ LABEL_LIMIT }
-    ensures same { OnErr result (labels.new ≡ labels.old) }
-    ensures err { IfErr result (λ kind. kind ≢ NoMemory → (kind ≡ TooMany) × (has_room labels.old text.now ≡ false)) }
-{
-    if has_room(labels, text) {
-        labels.add(text).map_err(|_| MapFaultKind::NoMemory)
-    } else {
-        Err(MapFaultKind::TooMany)
-    }
-}
-
-fn begins_with_digit(word: &[u8]) -> bool
-    ensures { result ≡ is_digit (slice_index word.now 0) }
-{
-    match word.first() {
-        Some(byte) => byte.is_ascii_digit(),
-        None => false,
-    }
-}
-
-fn has_byte(word: &[u8], byte: u8) -> bool
-    ensures { result ≡ list_any (λ b. b == byte) word.now }
-{
-    word.iter().any(|b| *b == byte)
-}
-
-// The fault of a line whose first word begins no statement.
-fn fault_of(word: &[u8]) -> MapFaultKind
-    ensures { result ≡ other_fault word.now }
-{
-    if read_addr(word).is_some() {
-        MapFaultKind::BadStatement
-    } else if begins_with_digit(word) || has_byte(word, b':') {
-        MapFaultKind::BadAddress
-    } else {
-        MapFaultKind::BadStatement
-    }
-}
-
-impl Reading {
-    /// No line was read.
-    pub fn new(alloc: Global) -> Reading
-        ensures { result ≡ earlier_of [] }
-    {
-        Reading {
-            statements: Statements::new(alloc),
-            labels: Labels::new(alloc),
-            default: None,
-        }
-    }
-
-    // `default LABEL`, from behind the first word.
-    fn read_default(&mut self, rest: &[u8]) -> Result<(), MapFaultKind>
-        ensures ok { OnOk result (Adds self.old self.new (default_line self.old rest.now)) }
-        ensures err { IfErr result (λ kind. kind ≢ NoMemory → default_line self.old rest.now ≡ Err kind) }
-    {
-        let text = label_text(rest)?;
-        let label = number_for(&mut self.labels, text)?;
-        self.default = Some(label);
-        Ok(())
-    }
-
-    // A span and then a label, from behind the span.
-    fn read_mapping(&mut self, span: Span, rest: &[u8]) -> Result<(), MapFaultKind>
-        requires { span.low.version ≡ V4 }
-        ensures ok { OnOk result (Adds self.old self.new (mapping_line self.old span.low.value span.high.value rest.now)) }
-        ensures err { IfErr result (λ kind. kind ≢ NoMemory → mapping_line self.old span.low.value span.high.value rest.now ≡ Err kind) }
-    {
-        let text = label_text(rest)?;
-        if self.statements.len() >= MAPPING_LIMIT {
-            return Err(MapFaultKind::TooMany);
-        }
-        let label = number_for(&mut self.labels, text)?;
-        let Ok(()) = self.statements.push(Statement { span, label }) else {
-            return Err(MapFaultKind::NoMemory);
-        };
-        Ok(())
-    }
-
-    // `BLOCK LABEL`, from the block on.
-    fn read_block_line(&mut self, word: &[u8], rest: &[u8]) -> Result<(), MapFaultKind>
-        ensures ok { OnOk result (Adds self.old self.new (block_line self.old (block_of_text word.now) rest.now)) }
-        ensures err { IfErr result (λ kind. kind ≢ NoMemory → block_line self.old (block_of_text word.now) rest.now ≡ Err kind) }
-    {
-        match read_block(word) {
-            Ok(block) => self.read_mapping(block.span(), rest),
-            Err(BlockFault::BadAddress) => Err(MapFaultKind::BadAddress),
-            Err(BlockFault::BadLength) => Err(MapFaultKind::BadLength),
-        }
-    }
-
-    // A line with a word, by its first word and what stands behind it.
-    fn read_statement(&mut self, word: &[u8], rest: &[u8]) -> Result<(), MapFaultKind>
-        ensures ok { OnOk result (Adds self.old self.new (statement_line self.old word.now rest.now)) }
-        ensures err { IfErr result (λ kind. kind ≢ NoMemory → statement_line self.old word.now rest.now ≡ Err kind) }
-    {
-        if word == b"default".as_slice() {
-            self.read_default(rest)
-        } else if has_byte(word, b'/') {
-            self.read_block_line(word, rest)
-        } else {
-            Err(fault_of(word))
-        }
-    }
-
-    // The map of the lines so far.
-    fn finish(self) -> Result<MapText, AllocError>
-        ensures { IfOk result (λ map. map_of map ≡ map_from self) }
-    {
-        let Reading {
-            statements,
-            mut labels,
-            default,
-        } = self;
-        let default = match default {
-            Some(label) => label,
-            None => labels.add(UNKNOWN)?,
-        };
-        Ok(MapText {
-            version: Version::V4,
-            name: None,
-            default,
-            statements,
-            labels,
-        })
-    }
-
-    /// Reads one more line. After a fault nothing is known of the lines so far.
-    pub fn read_line(&mut self, line: &[u8]) -> Result<(), MapFaultKind>
-        ensures ok { OnOk result (Adds self.old self.new (line_entry self.old line.now)) }
-        ensures err { IfErr result (λ kind. kind ≢ NoMemory → line_entry self.old line.now ≡ Err kind) }
-    {
-        let content = content(line);
-        if content.is_empty() {
-            return Ok(());
-        }
-        let (word, rest) = split_word(content);
-        self.read_statement(word, rest)
-    }
-}
+mod line;
 
 // The fault of a line, or the want of memory, which has the line 0.
 fn fault_at(kind: MapFaultKind, number: u64) -> MapFault
@@ -239,10 +30,10 @@ fn fault_at(kind: MapFaultKind, number: u64) -> MapFault
     MapFault { kind, line }
 }
 
-// Reads the lines of a text, up to its first fault.
-fn read_lines(alloc: Global, text: &[u8]) -> Result<Reading, MapFault>
-    ensures ok { IfOk result (λ lines. (entries : List Entry) × (entries_from [] 0 (lines_of text.now) ≡ Ok entries) × (lines ≡ earlier_of entries)) }
-    ensures err { IfErr result (λ fault. fault.kind ≢ NoMemory → entries_from [] 0 (lines_of text.now) ≡ Err fault) }
+// Reads the lines of a text of this form, up to its first fault.
+fn read_lines(alloc: Global, form: Form, text: &[u8]) -> Result<Reading, MapFault>
+    ensures ok { IfOk result (λ lines. (entries : List Entry) × (entries_from form [] 0 (lines_of text.now) ≡ Ok entries) × (lines ≡ earlier_of entries)) }
+    ensures err { IfErr result (λ fault. fault.kind ≢ NoMemory → entries_from form [] 0 (lines_of text.now) ≡ Err fault) }
     ensures memory { IfErr result (λ fault. fault.kind ≡ NoMemory → fault.line ≡ 0) }
 {
     let mut reading = Reading::new(alloc);
@@ -251,7 +42,7 @@ fn read_lines(alloc: Global, text: &[u8]) -> Result<Reading, MapFault>
     while !rest.is_empty() {
         let (line, after) = split_line(rest);
         number += 1;
-        if let Err(kind) = reading.read_line(line) {
+        if let Err(kind) = reading.read_line(form, line) {
             return Err(fault_at(kind, number));
         }
         rest = after;
@@ -261,26 +52,69 @@ fn read_lines(alloc: Global, text: &[u8]) -> Result<Reading, MapFault>
 
 /// Reads a map text.
 ///
-/// Each line is blank, `default LABEL` or `BLOCK LABEL`, and from a `#` on it is a comment. Of two mappings that cover an
-/// address the later one counts, an address that none covers has the label of the last `default`, or `UNKNOWN`.
+/// The text is cut into lines at each line feed. From the first `#` on a line is a comment; spaces, tabs and carriage
+/// returns are blanks, and a line without a word says nothing. Each other line is one of these:
+///
+/// - `map-name NAME`: what the map is called. The last one counts.
+/// - `mode VERSION`, with `ipv4`, `ip` (the same) or `ipv6`: once, and before the first mapping. Without it the first
+///   address of the first mapping decides, and a text without a mapping is of IPv4.
+/// - `label NUMBER TEXT`: on the lines below, a label that is this number, of 1 to 10 digits, means the text. The number
+///   is at most 2147483647, the text is not of digits alone, and no number has two texts nor a text two numbers.
+/// - `default LABEL`: the label of addresses without a mapping, `UNKNOWN` where no line says it. The last one counts.
+/// - `BLOCK LABEL`, as `10.0.0.0/8 A`: a mapping of the block's addresses. Host bits are cleared.
+/// - `LOW HIGH LABEL`: a mapping of the addresses from low to high.
+/// - `ADDRESS LABEL`: a mapping of one address.
+///
+/// A label or a name is the rest of the line (`is_label`). Of two mappings that cover an address the later one counts. In
+/// an IPv6 text a dotted address stands for its place in `::ffff:0:0/96` (RFC 4291, section 2.5.5.2), and its block's
+/// length grows by 96. A text has at most 1,000,000 mappings and 65,535 label texts, to which an `UNKNOWN` that no line
+/// says may be added.
 ///
 /// # Errors
 ///
-/// The first faulty line, counted from 1, with the first of its faults; or `NoMemory`, with the line 0.
+/// The first faulty line, counted from 1, with the first of its faults in this order, or `NoMemory` with the line 0.
+///
+/// - `map-name`: `MissingLabel`, `BadLabel`. `default`: these and `TooMany`.
+/// - `mode`: `BadMode`, `ModeLate`, `ModeRepeated`.
+/// - `label`: `BadStatement` (no such number), `MissingLabel`, `BadLabel`, `LabelConflict`, `TooMany`.
+/// - A block: `BadAddress`, `BadLength`, `WrongVersion`, `MissingLabel`, `BadLabel`, `TooMany`.
+/// - A range or an address: `WrongVersion` of the first address and then of the second, `LowAboveHigh`, `MissingLabel`,
+///   `BadLabel`, `TooMany`.
+/// - Any other first word: `BadAddress` where it begins with a digit or has a `:`, else `BadStatement`.
 pub fn read_map(alloc: Global, text: &[u8]) -> Result<MapText, MapFault>
     ensures ok { IfOk result (λ map. ReadsMap text.now (map_of map)) }
     ensures fault { IfErr result (λ fault. fault.kind ≢ NoMemory → map_reading text.now ≡ Err fault) }
     ensures memory { IfErr result (λ fault. fault.kind ≡ NoMemory → fault.line ≡ 0) }
 {
-    let reading = read_lines(alloc, text)?;
-    match reading.finish() {
+    let reading = read_lines(alloc, Form::Map, text)?;
+    match reading.into_map() {
         Ok(map) => Ok(map),
-        Err(_) => Err(MapFault {
-            kind: MapFaultKind::NoMemory,
-            line: 0,
-        }),
+        Err(_) => Err(fault_at(MapFaultKind::NoMemory, 0)),
     }
 }
 
+/// Reads a list text, in which the longest block that covers an address counts, and an address that none covers has no
+/// label.
+///
+/// The lines are those of a map text (`read_map`) but for three things: there are no ranges and no `default`, no block
+/// stands there twice, and no `UNKNOWN` is added to the label table. `ADDRESS LABEL` is an entry for the block of full
+/// length. A text has at most 1,000,000 entries.
+///
+/// # Errors
+///
+/// As of `read_map`, with two faults more: `NotAList` is the only fault of a line of `default`, or of two addresses, and
+/// `DuplicateBlock` comes behind `BadLabel` and before `TooMany`.
+pub fn read_list(alloc: Global, text: &[u8]) -> Result<PrefixList, MapFault>
+    ensures ok { IfOk result (λ list. ReadsList text.now (list_of list)) }
+    ensures limit { IfOk result (λ list. length list.entries ≤ 1000000) }
+    ensures fault { IfErr result (λ fault. fault.kind ≢ NoMemory → list_reading text.now ≡ Err fault) }
+    ensures memory { IfErr result (λ fault. fault.kind ≡ NoMemory → fault.line ≡ 0) }
+{
+    let reading = read_lines(alloc, Form::List, text)?;
+    Ok(reading.into_list())
+}
+
+#[cfg(test)]
+mod list_tests;
 #[cfg(test)]
 mod tests;

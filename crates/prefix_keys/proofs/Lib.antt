@@ -1,3 +1,13 @@
 pub mod Quotients
 pub mod Covering
 pub mod Pieces
+pub mod Digits
+pub mod Joined
+pub mod Groups
+pub mod Runs
+pub mod Printed
+pub mod PrintedGaps
+pub mod ReadBack
+pub mod GroupNumbers
+pub mod ColonPieces
+pub mod Gaps

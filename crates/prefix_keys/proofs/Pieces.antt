@@ -34,10 +34,10 @@ short_number-pointed limit text h =
     short_number-undigit limit text (list_all_at is_digit text n 0 h undigit)
 
 -- a text is one piece, or the piece before its first point and the pieces after it
-pub split-whole : (text : List ℕ) → length text ≤ position_or_len is_point text → slice_split is_point text ≡ text ∷ []
-split-whole text h =
-    slice_split_none is_point text
-    (All-from_get_or (λ x. is_point x ≡ false) text 0 (λ i below. fails_before_first is_point text i 0 (omega arith)))
+pub split-whole : (p : ℕ → Bool) (text : List ℕ) → length text ≤ position_or_len p text → slice_split p text ≡ text ∷ []
+split-whole p text h =
+    slice_split_none p text
+    (All-from_get_or (λ x. p x ≡ false) text 0 (λ i below. fails_before_first p text i 0 (omega arith)))
 
 pub back-whole : (text : List ℕ) → length text ≤ position_or_len is_point text → back text ≡ []
 back-whole text h = drop_of_length-le text {i = position_or_len is_point text + 1} (omega arith)
@@ -84,7 +84,7 @@ dotted-three text t1 t2 t3 e1 e2 e3 split =
           ∙ four_pieces-five (front text) (front t1) (front t2) (front t3) (slice_split is_point (back t3))
           (omega (arith, length-slice_split is_point (back t3)))
           ∙ sym (ap (four_bytes _ _ _) (short_number-pointed 255 t3 more) ∙ four_bytes-fourth _ _ _)
-      | inr last ↦ ap four_pieces (split ∙ ap (λ ps. front text ∷ front t1 ∷ front t2 ∷ ps) (split-whole t3 last))
+      | inr last ↦ ap four_pieces (split ∙ ap (λ ps. front text ∷ front t1 ∷ front t2 ∷ ps) (split-whole is_point t3 last))
     ]
 
 pub dotted : (text t1 t2 t3 : List ℕ) → t1 ≡ back text → t2 ≡ back t1 → t3 ≡ back t2 →
@@ -106,18 +106,18 @@ dotted text t1 t2 t3 e1 e2 e3 =
                       (split2 ∙ ap (λ ps. front text ∷ front t1 ∷ ps)
                       (split-pointed t2 third ∙ ap (λ t. front t2 ∷ slice_split is_point t) (sym e3)))
                   | inr none ↦
-                      ap four_pieces (split2 ∙ ap (λ ps. front text ∷ front t1 ∷ ps) (split-whole t2 none))
+                      ap four_pieces (split2 ∙ ap (λ ps. front text ∷ front t1 ∷ ps) (split-whole is_point t2 none))
                       ∙ sym (ap (λ d. four_bytes (s (front text)) (s (front t1)) (s (front t2)) d)
                       (ap s (e3 ∙ back-whole t2 none))
                       ∙ four_bytes-fourth (s (front text)) (s (front t1)) (s (front t2)))
                 ]
             | inr none ↦
-                ap four_pieces (split1 ∙ ap (λ ps. front text ∷ ps) (split-whole t1 none))
+                ap four_pieces (split1 ∙ ap (λ ps. front text ∷ ps) (split-whole is_point t1 none))
                 ∙ sym (ap (λ c. four_bytes (s (front text)) (s (front t1)) c (s t3)) (front_empty t2 (e2 ∙ back-whole t1 none))
                 ∙ four_bytes-third (s (front text)) (s (front t1)) (s t3))
           ]
       | inr none ↦
-          ap four_pieces (split-whole text none)
+          ap four_pieces (split-whole is_point text none)
           ∙ sym (ap (λ b. four_bytes (s (front text)) b (s (front t2)) (s t3)) (front_empty t1 (e1 ∙ back-whole text none))
           ∙ four_bytes-second (s (front text)) (s (front t2)) (s t3))
     ]

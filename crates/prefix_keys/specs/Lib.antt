@@ -2,3 +2,6 @@ pub mod Version
 pub mod Block
 pub mod Covers
 pub mod Text
+pub mod Conversion
+pub mod Print
+pub mod Laws

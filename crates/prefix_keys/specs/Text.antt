@@ -1,11 +1,11 @@
-use Rattle.std.specs.Prelude.{ℕ, ◌+◌, ◌-◌, ◌*◌, ◌&&◌, ◌==◌, Bool, List, [], ◌∷◌, Option, Some, None, Result, Ok, Err, length, fold, nat_le, if◌then◌else◌, option_map}
-use Rattle.std.specs.List.{list_all, slice_split, before_first, after_first}
+use Rattle.std.specs.Prelude.{ℕ, ◌+◌, ◌-◌, ◌*◌, ◌/◌, ◌%◌, ◌&&◌, ◌||◌, ◌==◌, Bool, true, false, List, [], ◌∷◌, ◌++◌, Option, Some, None, Result, Ok, Err, length, drop, fold, replicate, nat_le, if◌then◌else◌, option_map}
+use Rattle.std.specs.List.{list_all, list_any, slice_split, before_first, after_first}
 use Rattle.prefix_keys.specs.Block.{block_number, first_of}
 use Rattle.prefix_keys.specs.Version.{width_of}
 use Rattle.prefix_keys.specs.declared.text.BlockFault.{BlockFault}
 use Rattle.prefix_keys.specs.declared.text.BlockFault.TheVariants.{BadAddress, BadLength}
 use Rattle.prefix_keys.specs.declared.version.Version.{Version}
-use Rattle.prefix_keys.specs.declared.version.Version.TheVariants.{V4}
+use Rattle.prefix_keys.specs.declared.version.Version.TheVariants.{V4, V6}
 
 -- The written forms of addresses and blocks.
 
@@ -38,13 +38,114 @@ four_pieces _ = None
 abbrev pub dotted_address : List ℕ → Option ℕ
 dotted_address text = four_pieces (slice_split (λ b. b == 46) text)
 
+-- a byte from `0` to `9`, from `A` to `F` or from `a` to `f`
+abbrev pub is_hex_digit : ℕ → Bool
+is_hex_digit b = is_digit b || ((nat_le 65 b && nat_le b 70) || (nat_le 97 b && nat_le b 102))
+
+-- the number that one hexadecimal digit stands for
+abbrev pub hex_digit_value : ℕ → ℕ
+hex_digit_value b = if is_digit b then b - 48 else if nat_le b 70 then b - 55 else b - 87
+
+-- the number that hexadecimal digits stand for
+abbrev pub hex_value : List ℕ → ℕ
+hex_value digits = fold (λ n b. n * 16 + hex_digit_value b) 0 digits
+
+-- a group of 16 bits: one to four hexadecimal digits
+abbrev pub hex_group : List ℕ → Option ℕ
+hex_group text =
+    if nat_le 1 (length text) && (nat_le (length text) 4 && list_all is_hex_digit text) then Some (hex_value text) else None
+
+-- the two groups that the number of an IPv4 address makes
+abbrev pub two_groups : ℕ → List ℕ
+two_groups value = value / 65536 ∷ value % 65536 ∷ []
+
+-- the groups that the last of the pieces writes: one group, or two by an IPv4 text where one may stand there
+abbrev pub last_groups : Bool → List ℕ → Option (List ℕ)
+last_groups true piece = if list_any (λ b. b == 46) piece
+    then option_map two_groups (dotted_address piece)
+    else option_map (λ group. group ∷ []) (hex_group piece)
+last_groups false piece = option_map (λ group. group ∷ []) (hex_group piece)
+
+-- a group in front of groups, where all are some
+abbrev pub onto_groups : Option ℕ → Option (List ℕ) → Option (List ℕ)
+onto_groups (Some group) (Some groups) = Some (group ∷ groups)
+onto_groups _ _ = None
+
+-- the groups that pieces write: each piece one, and the last one or two
+abbrev pub groups_of : Bool → List (List ℕ) → Option (List ℕ)
+groups_of dotted [] = None
+groups_of dotted (piece ∷ []) = last_groups dotted piece
+groups_of dotted (piece ∷ next ∷ pieces) = onto_groups (hex_group piece) (groups_of dotted (next ∷ pieces))
+
+-- the groups that a text writes by its pieces between colons
+abbrev pub text_groups : Bool → List ℕ → Option (List ℕ)
+text_groups dotted text = groups_of dotted (slice_split (λ b. b == 58) text)
+
+-- the groups on one side of a `::`, where there may be none
+abbrev pub side_groups : Bool → List ℕ → Option (List ℕ)
+side_groups dotted [] = Some []
+side_groups dotted (b ∷ text) = text_groups dotted (b ∷ text)
+
+-- the number that groups make, the first the highest
+abbrev pub groups_number : List ℕ → ℕ
+groups_number groups = fold (λ n group. n * 65536 + group) 0 groups
+
+-- groups behind others, of which there are so many and which make that number: how many there are then and the number
+-- that all make, where they are at most eight
+abbrev pub more_groups : ℕ → ℕ → Option (List ℕ) → Option (ℕ × ℕ)
+more_groups count number (Some groups) =
+    if nat_le (count + length groups) 8
+    then Some (count + length groups, fold (λ n group. n * 65536 + group) number groups)
+    else None
+more_groups count number None = None
+
+-- the address of eight groups
+abbrev pub whole_address : Option (List ℕ) → Option ℕ
+whole_address (Some groups) = if length groups == 8 then Some (groups_number groups) else None
+whole_address None = None
+
+-- the address of the groups before a `::` and after it, which stands for one or more groups of zero
+abbrev pub gap_address : Option (List ℕ) → Option (List ℕ) → Option ℕ
+gap_address (Some front) (Some back) =
+    if nat_le (length front + length back) 7
+    then Some (groups_number (front ++ (replicate (8 - (length front + length back)) 0 ++ back)))
+    else None
+gap_address _ _ = None
+
+-- the text begins with `::`
+abbrev pub begins_gap : List ℕ → Bool
+begins_gap (a ∷ b ∷ text) = (a == 58) && (b == 58)
+begins_gap _ = false
+
+-- what stands before the first `::` and after it, where there is one
+abbrev pub around_gap : List ℕ → Option (List ℕ × List ℕ)
+around_gap [] = None
+around_gap (b ∷ text) =
+    if begins_gap (b ∷ text)
+    then Some ([], drop 1 text)
+    else option_map (λ sides. (b ∷ sides.0, sides.1)) (around_gap text)
+
+-- the address of a text round its `::`, or of a whole text without one
+abbrev pub around_address : List ℕ → Option (List ℕ × List ℕ) → Option ℕ
+around_address text (Some (front, back)) = gap_address (side_groups false front) (side_groups true back)
+around_address text None = whole_address (text_groups true text)
+
+-- the IPv6 address that a text stands for (RFC 4291, section 2.2): eight groups with colons between, where one `::`
+-- stands for one or more groups of zero, and an IPv4 text for the last two groups
+abbrev pub colon_address : List ℕ → Option ℕ
+colon_address text = around_address text (around_gap text)
+
 -- an address without its proof that it is one: the version and the number
 abbrev pub AddressOf : Type 0
 AddressOf = Version × ℕ
 
--- the address that a text stands for, where it has one of the written forms
+-- the address that a text stands for, where it has one of the written forms: with a colon it is an IPv6 address, else
+-- an IPv4 address
 abbrev pub address_of : List ℕ → Option AddressOf
-address_of text = option_map (λ value. (V4, value)) (dotted_address text)
+address_of text =
+    if list_any (λ b. b == 58) text
+    then option_map (λ value. (V6, value)) (colon_address text)
+    else option_map (λ value. (V4, value)) (dotted_address text)
 
 -- a block without its proof that it is one: the version, the number and the length
 abbrev pub BlockOf : Type 0

@@ -1,6 +1,10 @@
 use super::*;
 use crate::usage::ClapText;
+use std::alloc::{AllocError, Global};
+use std::process::Abort;
 use std::test::Fail;
+
+const OUT_OF_MEMORY: &str = "flowlabel: out of memory\n";
 
 #[test]
 fn names_each_fault_of_a_map(rt: HostRuntime) -> Result<(), Fail> {
@@ -34,42 +38,55 @@ fn names_each_fault_of_a_map(rt: HostRuntime) -> Result<(), Fail> {
     Ok(())
 }
 
+fn tells(
+    rt: &impl Abort,
+    alloc: Global,
+    fault: &RunFault,
+    ended: u8,
+    line: &str,
+) -> Result<(), AllocError> {
+    assert_eq!(rt; fault_line(alloc, fault)?.as_slice(), line.as_bytes());
+    assert_eq!(rt; status(fault), ended, "{line}");
+    Ok(())
+}
+
 #[test]
-fn tells_the_other_faults(rt: HostRuntime) -> Result<(), Fail> {
-    let refusal = ClapText::new(String::from_str(rt.alloc(), "error: no such command\n")?);
+fn tells_usage_faults(rt: HostRuntime) -> Result<(), Fail> {
+    let refused = "error: no such command\n";
+    let refusal = ClapText::new(String::from_str(rt.alloc(), refused)?);
     let help = ClapText::new(String::from_str(rt.alloc(), "Usage: flowlabel <COMMAND>\n")?);
-    let out_of_memory = "flowlabel: out of memory\n";
-    let no_memory = MapFault {
-        kind: MapFaultKind::NoMemory,
-        line: 0,
-    };
     for (fault, ended, line) in [
-        (RunFault::Usage(UsageFault::Help(help)), 0, ""),
+        (UsageFault::Help(help), 0, ""),
+        (UsageFault::Refused(refusal), 2, refused),
         (
-            RunFault::Usage(UsageFault::Refused(refusal)),
-            2,
-            "error: no such command\n",
-        ),
-        (
-            RunFault::Usage(UsageFault::MapMissing),
+            UsageFault::MapMissing,
             2,
             "flowlabel: usage: P2 MapMissing\n",
         ),
         (
-            RunFault::Usage(UsageFault::BadAddress),
+            UsageFault::BadAddress,
             2,
             "flowlabel: usage: P4 BadAddress\n",
         ),
-        (RunFault::Usage(UsageFault::NoMemory), 3, out_of_memory),
-        (RunFault::NoMemory, 3, out_of_memory),
-        (
-            RunFault::Map {
-                file: "map.txt",
-                fault: no_memory,
-            },
-            3,
-            out_of_memory,
-        ),
+        (UsageFault::NoMemory, 3, OUT_OF_MEMORY),
+    ] {
+        tells(&rt, rt.alloc(), &RunFault::Usage(fault), ended, line)?;
+    }
+    Ok(())
+}
+
+#[test]
+fn tells_devices_and_memory(rt: HostRuntime) -> Result<(), Fail> {
+    let no_memory = RunFault::Map {
+        file: "map.txt",
+        fault: MapFault {
+            kind: MapFaultKind::NoMemory,
+            line: 0,
+        },
+    };
+    for (fault, ended, line) in [
+        (RunFault::NoMemory, 3, OUT_OF_MEMORY),
+        (no_memory, 3, OUT_OF_MEMORY),
         (
             RunFault::CannotOpen("map.txt"),
             4,
@@ -86,8 +103,7 @@ fn tells_the_other_faults(rt: HostRuntime) -> Result<(), Fail> {
             "flowlabel: output: cannot write\n",
         ),
     ] {
-        assert_eq!(rt; fault_line(rt.alloc(), &fault)?.as_slice(), line.as_bytes());
-        assert_eq!(rt; status(&fault), ended, "{line}");
+        tells(&rt, rt.alloc(), &fault, ended, line)?;
     }
     Ok(())
 }

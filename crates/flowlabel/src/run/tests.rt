@@ -8,11 +8,14 @@ use crate::command::Files;
 use crate::fault::{fault_line, status};
 use crate::words::parse;
 use flow_io::{MemoryInput, MemoryOutput};
+use std::process::Abort;
 use std::test::Fail;
 
 type MemorySource<'a> = Source<'a, MemoryInput<'a>>;
 
 const MAP: &str = "10.0.0.0/8 A\n10.0.0.0/7 B\n";
+
+const NUMBERS: &str = "label 5 red\n1.0.0.0/8 5\n2.0.0.0/8 6\n";
 
 const CANNOT_READ: &[u8] = b"flowlabel: map.txt: cannot read\n";
 
@@ -81,21 +84,53 @@ fn end_of<'a, const N: usize>(
     }
 }
 
+// Addresses, map texts, and what `label` prints for the address under the map.
+const LABELS: [(&str, &str, &str); 9] = [
+    ("10.1.1.1", MAP, "B\n"),
+    ("12.0.0.0", MAP, "UNKNOWN\n"),
+    ("1.2.3.4", "", "UNKNOWN\n"),
+    // An address of the other version counts by its place among the mapped addresses.
+    ("2001:db8::1", MAP, "\n"),
+    ("::ffff:a01:101", MAP, "B\n"),
+    ("10.1.2.3", "mode ipv6\n10.0.0.0/8 In\n", "In\n"),
+    ("255.255.255.254", "255.255.255.255 X\n", "UNKNOWN\n"),
+    // A declared number means its text, and any other is a text.
+    ("1.2.3.4", NUMBERS, "red\n"),
+    ("2.0.0.1", NUMBERS, "6\n"),
+];
+
+fn prints(
+    rt: &impl Abort,
+    alloc: Global,
+    address: &str,
+    map: &[u8],
+    printed: &str,
+) -> Result<(), Fail> {
+    let line = format!(in alloc; "flowlabel label --pmap map.txt {address}")?;
+    let reader = MemoryInput::new(map, 4096, None);
+    let mut writer = MemoryOutput::<64>::new(64, None, false);
+    let (ended, told) = end_of(alloc, line.as_str(), reader, &mut writer)?;
+    assert_eq!(rt; (ended, told.as_slice()), (0, b"".as_slice()), "{address}");
+    assert_eq!(rt; writer.taken(), printed.as_bytes(), "{address}");
+    Ok(())
+}
+
 #[test]
 fn prints_the_label(rt: HostRuntime) -> Result<(), Fail> {
-    for (address, map, printed) in [
-        ("10.1.1.1", MAP, "B\n"),
-        ("12.0.0.0", MAP, "UNKNOWN\n"),
-        ("1.2.3.4", "", "UNKNOWN\n"),
-    ] {
-        let line = format!(in rt.alloc(); "flowlabel label --pmap map.txt {address}")?;
-        let reader = MemoryInput::new(map.as_bytes(), 64, None);
-        let mut writer = MemoryOutput::<64>::new(64, None, false);
-        let (ended, told) = end_of(rt.alloc(), line.as_str(), reader, &mut writer)?;
-        assert_eq!(rt; (ended, told.as_slice()), (0, b"".as_slice()), "{address}");
-        assert_eq!(rt; writer.taken(), printed.as_bytes(), "{address}");
+    for (address, map, printed) in LABELS {
+        prints(&rt, rt.alloc(), address, map.as_bytes(), printed)?;
     }
     Ok(())
+}
+
+#[test]
+fn prints_the_label_under_a_full_table(rt: HostRuntime) -> Result<(), Fail> {
+    let mut map = Vec::new(rt.alloc());
+    for number in 1..65_536 {
+        let line = format!(in rt.alloc(); "label {number} t{number}\n")?;
+        map.extend_from_slice(line.as_bytes())?;
+    }
+    prints(&rt, rt.alloc(), "1.2.3.4", map.as_slice(), "UNKNOWN\n")
 }
 
 #[test]
@@ -110,6 +145,10 @@ fn answers_the_first_fault_of_the_map(rt: HostRuntime) -> Result<(), Fail> {
             "10.0.0.0/8 A\n\ncolour x\n10.0.0/8 A\n",
             "M1 BadStatement at 3",
         ),
+        ("10.0.0.1 10.0.0.2\n", "M6 MissingLabel at 1"),
+        ("10.0.0.9 10.0.0.2 x\n", "M4 LowAboveHigh at 1"),
+        ("mode ipv4\n2001:db8::/32 x\n", "M5 WrongVersion at 2"),
+        ("mode proto-port\n", "M9 BadMode at 1"),
     ] {
         let reader = MemoryInput::new(map.as_bytes(), 64, None);
         let mut writer = MemoryOutput::<64>::new(64, None, false);

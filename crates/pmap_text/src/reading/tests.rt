@@ -1,156 +1,400 @@
 use super::*;
+use crate::label::LabelId;
+use crate::labels::Labels;
+use crate::name::Name;
+use prefix_keys::Version;
 use std::process::Abort;
 use std::test::Fail;
 
 // The first and the last address of a mapping, and the number of its label.
 type Row = (u128, u128, u32);
 
-// A map text, its mappings, the number of the label of the other addresses, and its label table with `|` between texts.
-type Reads<'a> = (&'a [u8], &'a [Row], u32, &'a [u8]);
+// A map text, its version, its mappings, the number of the label of the other addresses, and its label table with `|`
+// between texts.
+type Reads = (&'static [u8], Version, &'static [Row], u32, &'static [u8]);
 
 const TWO_MAPPINGS: &[u8] = b"10.0.0.0/8 A\n10.0.0.0/7 B\n";
+
+const BLOCK_LINES: [Reads; 12] = [
+    (b"", Version::V4, &[], 0, b"UNKNOWN"),
+    (
+        b"\n \t\r\n# 10.0.0.0/8 A\n",
+        Version::V4,
+        &[],
+        0,
+        b"UNKNOWN",
+    ),
+    (
+        TWO_MAPPINGS,
+        Version::V4,
+        &[(0x0a00_0000, 0x0aff_ffff, 0), (0x0a00_0000, 0x0bff_ffff, 1)],
+        2,
+        b"A|B|UNKNOWN",
+    ),
+    // Tabs, carriage returns, comments, blanks inside a label, and a last line without a line feed.
+    (
+        b"\t10.1.2.3/8 \t Some  Net\t\r\n11.0.0.0/8 B#C\r\n 12.0.0.0/8\tD # E",
+        Version::V4,
+        &[
+            (0x0a00_0000, 0x0aff_ffff, 0),
+            (0x0b00_0000, 0x0bff_ffff, 1),
+            (0x0c00_0000, 0x0cff_ffff, 2),
+        ],
+        3,
+        b"Some  Net|B|D|UNKNOWN",
+    ),
+    // Leading zeros are decimal, and the bytes of a label above 127 stay as they are.
+    (
+        b"010.001.000.255/024 caf\xc3\xa9\n255.255.255.255/32 \xff\n",
+        Version::V4,
+        &[(0x0a01_0000, 0x0a01_00ff, 0), (0xffff_ffff, 0xffff_ffff, 1)],
+        2,
+        b"caf\xc3\xa9|\xff|UNKNOWN",
+    ),
+    // The last `default` counts, wherever it stands, and each is a text of the table.
+    (
+        b"default A\n0.0.0.0/0 B\ndefault C D\n",
+        Version::V4,
+        &[(0, 0xffff_ffff, 1)],
+        2,
+        b"A|B|C D",
+    ),
+    (
+        b"0.0.0.0/1 A\ndefault B\n1.0.0.0/8 A",
+        Version::V4,
+        &[(0, 0x7fff_ffff, 0), (0x0100_0000, 0x01ff_ffff, 0)],
+        1,
+        b"A|B",
+    ),
+    (b"default UNKNOWN", Version::V4, &[], 0, b"UNKNOWN"),
+    // A stated `UNKNOWN` keeps its number.
+    (
+        b"0.0.0.0/1 UNKNOWN\n128.0.0.0/1 A\n",
+        Version::V4,
+        &[(0, 0x7fff_ffff, 0), (0x8000_0000, 0xffff_ffff, 1)],
+        0,
+        b"UNKNOWN|A",
+    ),
+    // The same mapping twice is two mappings.
+    (
+        b"1.0.0.0/8 A\n1.0.0.0/8 A\n",
+        Version::V4,
+        &[(0x0100_0000, 0x01ff_ffff, 0), (0x0100_0000, 0x01ff_ffff, 0)],
+        1,
+        b"A|UNKNOWN",
+    ),
+    // Behind the first word stands a label, whatever its form.
+    (b"default 1.0.0.0/8", Version::V4, &[], 0, b"1.0.0.0/8"),
+    (
+        b"1.0.0.0/8 default 5",
+        Version::V4,
+        &[(0x0100_0000, 0x01ff_ffff, 0)],
+        1,
+        b"default 5|UNKNOWN",
+    ),
+];
+
+const SPANS_AND_VERSIONS: [Reads; 10] = [
+    (
+        b"default D\n0.0.0.1 0.0.0.6 X\n",
+        Version::V4,
+        &[(1, 6, 1)],
+        0,
+        b"D|X",
+    ),
+    (
+        b"255.255.255.255 X\n",
+        Version::V4,
+        &[(0xffff_ffff, 0xffff_ffff, 0)],
+        1,
+        b"X|UNKNOWN",
+    ),
+    (
+        b"mode ipv6\n::/0 X\n",
+        Version::V6,
+        &[(0, u128::MAX, 0)],
+        1,
+        b"X|UNKNOWN",
+    ),
+    (
+        b"mode ipv6\n10.0.0.0/8 In\n",
+        Version::V6,
+        &[(0xffff_0a00_0000, 0xffff_0aff_ffff, 0)],
+        1,
+        b"In|UNKNOWN",
+    ),
+    (b"mode ip\n", Version::V4, &[], 0, b"UNKNOWN"),
+    (b"mode ipv6", Version::V6, &[], 0, b"UNKNOWN"),
+    // Without a mode the first mapping's first address decides.
+    (
+        b"::1 A\r\n10.0.0.1\tB\r\n::ffff:10.0.0.2 10.0.0.9 C\r\n",
+        Version::V6,
+        &[
+            (1, 1, 0),
+            (0xffff_0a00_0001, 0xffff_0a00_0001, 1),
+            (0xffff_0a00_0002, 0xffff_0a00_0009, 2),
+        ],
+        3,
+        b"A|B|C|UNKNOWN",
+    ),
+    (
+        b"2001:DB8::/32 A",
+        Version::V6,
+        &[(0x2001_0db8 << 96, (0x2001_0db9 << 96) - 1, 0)],
+        1,
+        b"A|UNKNOWN",
+    ),
+    // One address with itself is a range, and a second word that is no address begins the label.
+    (
+        b"10.0.0.1 10.0.0.1 10.0.0.2\n10.0.0.1 5\n10.0.0.1 10.0.0.2/32\n",
+        Version::V4,
+        &[
+            (0x0a00_0001, 0x0a00_0001, 0),
+            (0x0a00_0001, 0x0a00_0001, 1),
+            (0x0a00_0001, 0x0a00_0001, 2),
+        ],
+        3,
+        b"10.0.0.2|5|10.0.0.2/32|UNKNOWN",
+    ),
+    (
+        b"mode ipv6\n0.0.0.0/0 A\n",
+        Version::V6,
+        &[(0xffff_0000_0000, 0xffff_ffff_ffff, 0)],
+        1,
+        b"A|UNKNOWN",
+    ),
+];
+
+const LABEL_NUMBERS: [Reads; 6] = [
+    (
+        b"label 5 red\n1.0.0.0/8 5\n2.0.0.0/8 6\n",
+        Version::V4,
+        &[(0x0100_0000, 0x01ff_ffff, 0), (0x0200_0000, 0x02ff_ffff, 1)],
+        2,
+        b"red|6|UNKNOWN",
+    ),
+    // A number means its text from the next line on.
+    (
+        b"1.0.0.0/8 5\nlabel 5 red\n2.0.0.0/8 5\n",
+        Version::V4,
+        &[(0x0100_0000, 0x01ff_ffff, 0), (0x0200_0000, 0x02ff_ffff, 1)],
+        2,
+        b"5|red|UNKNOWN",
+    ),
+    // Numbers compare by value, a text of eleven digits is itself, and `default` knows the numbers too.
+    (
+        b"label 5 red\nlabel 05 red\n1.0.0.0/8 0000000005\n2.0.0.0/8 00000000005\ndefault 05\n",
+        Version::V4,
+        &[(0x0100_0000, 0x01ff_ffff, 0), (0x0200_0000, 0x02ff_ffff, 1)],
+        0,
+        b"red|00000000005",
+    ),
+    (
+        b"label 2147483647 most\nlabel 0 1st\ndefault 2147483647\n",
+        Version::V4,
+        &[],
+        0,
+        b"most|1st",
+    ),
+    (
+        b"label 5 red blue # 7\ndefault 4294967301\n",
+        Version::V4,
+        &[],
+        1,
+        b"red blue|4294967301",
+    ),
+    (
+        b"label 5 UNKNOWN\nlabel 6 A\n",
+        Version::V4,
+        &[],
+        0,
+        b"UNKNOWN|A",
+    ),
+];
 
 fn has_rows(rt: &impl Abort, map: &MapText, rows: &[Row]) {
     assert_eq!(rt; map.statements.len(), rows.len());
     for (statement, (low, high, label)) in map.statements.as_slice().iter().zip(rows) {
-        assert_eq!(rt; statement.span.low.version, Version::V4);
+        assert_eq!(rt; statement.span.low.version, map.version);
         assert_eq!(rt; statement.span.low.value, *low);
         assert_eq!(rt; statement.span.high.value, *high);
         assert_eq!(rt; statement.label, LabelId(*label));
     }
 }
 
-fn has_table(rt: &impl Abort, map: &MapText, table: &[u8]) {
+pub(super) fn has_table(rt: &impl Abort, labels: &Labels, table: &[u8]) {
     let mut count = 0;
     for text in table.split(|byte| *byte == b'|') {
-        assert_eq!(rt; map.labels.text(LabelId(count)), Some(text));
+        assert_eq!(rt; labels.text(LabelId(count)), Some(text));
         count = count.wrapping_add(1);
     }
-    assert_eq!(rt; map.labels.len(), count as usize);
+    assert_eq!(rt; labels.len(), count as usize);
 }
 
-#[test]
-fn reads_maps(rt: HostRuntime) -> Result<(), Fail> {
-    let cases: [Reads; 12] = [
-        (b"", &[], 0, b"UNKNOWN"),
-        (b"\n \t\r\n# 10.0.0.0/8 A\n", &[], 0, b"UNKNOWN"),
-        (
-            TWO_MAPPINGS,
-            &[(0x0a00_0000, 0x0aff_ffff, 0), (0x0a00_0000, 0x0bff_ffff, 1)],
-            2,
-            b"A|B|UNKNOWN",
-        ),
-        // Tabs, carriage returns, comments, blanks inside a label, and a last line without a line feed.
-        (
-            b"\t10.1.2.3/8 \t Some  Net\t\r\n11.0.0.0/8 B#C\r\n 12.0.0.0/8\tD # E",
-            &[
-                (0x0a00_0000, 0x0aff_ffff, 0),
-                (0x0b00_0000, 0x0bff_ffff, 1),
-                (0x0c00_0000, 0x0cff_ffff, 2),
-            ],
-            3,
-            b"Some  Net|B|D|UNKNOWN",
-        ),
-        // Leading zeros are decimal, and the bytes of a label above 127 stay as they are.
-        (
-            b"010.001.000.255/024 caf\xc3\xa9\n255.255.255.255/32 \xff\n",
-            &[(0x0a01_0000, 0x0a01_00ff, 0), (0xffff_ffff, 0xffff_ffff, 1)],
-            2,
-            b"caf\xc3\xa9|\xff|UNKNOWN",
-        ),
-        // The last `default` counts, wherever it stands, and each is a text of the table.
-        (
-            b"default A\n0.0.0.0/0 B\ndefault C D\n",
-            &[(0, 0xffff_ffff, 1)],
-            2,
-            b"A|B|C D",
-        ),
-        (
-            b"0.0.0.0/1 A\ndefault B\n1.0.0.0/8 A",
-            &[(0, 0x7fff_ffff, 0), (0x0100_0000, 0x01ff_ffff, 0)],
-            1,
-            b"A|B",
-        ),
-        (b"default UNKNOWN", &[], 0, b"UNKNOWN"),
-        // A stated `UNKNOWN` keeps its number.
-        (
-            b"0.0.0.0/1 UNKNOWN\n128.0.0.0/1 A\n",
-            &[(0, 0x7fff_ffff, 0), (0x8000_0000, 0xffff_ffff, 1)],
-            0,
-            b"UNKNOWN|A",
-        ),
-        // The same mapping twice is two mappings.
-        (
-            b"1.0.0.0/8 A\n1.0.0.0/8 A\n",
-            &[(0x0100_0000, 0x01ff_ffff, 0), (0x0100_0000, 0x01ff_ffff, 0)],
-            1,
-            b"A|UNKNOWN",
-        ),
-        // Behind the first word stands a label, whatever its form.
-        (b"default 1.0.0.0/8", &[], 0, b"1.0.0.0/8"),
-        (
-            b"1.0.0.0/8 default 5",
-            &[(0x0100_0000, 0x01ff_ffff, 0)],
-            1,
-            b"default 5|UNKNOWN",
-        ),
-    ];
-    for (text, rows, default, table) in cases {
-        let map = read_map(rt.alloc(), text)?;
-        assert_eq!(rt; map.version, Version::V4);
+fn reads(rt: &impl Abort, alloc: Global, cases: &[Reads]) -> Result<(), Fail> {
+    for (text, version, rows, default, table) in cases {
+        let map = read_map(alloc, text)?;
+        assert_eq!(rt; map.version, *version, "at {text:?}");
         assert!(rt; map.name.is_none());
-        assert_eq!(rt; map.default, LabelId(default), "at {text:?}");
-        has_rows(&rt, &map, rows);
-        has_table(&rt, &map, table);
+        assert_eq!(rt; map.default, LabelId(*default), "at {text:?}");
+        has_rows(rt, &map, rows);
+        has_table(rt, &map.labels, table);
     }
     Ok(())
 }
 
 #[test]
-fn tells_the_first_fault(rt: HostRuntime) {
-    let cases: [(&[u8], MapFaultKind, u64); 27] = [
-        (b"10.0.0.0/33 A\n", MapFaultKind::BadLength, 1),
-        (b"10.0.0.0/ A", MapFaultKind::BadLength, 1),
-        (b"10.0.0.0/0008 A", MapFaultKind::BadLength, 1),
-        (b"10.0.0/8 A\n", MapFaultKind::BadAddress, 1),
-        (b"10.0.0.256/8 A", MapFaultKind::BadAddress, 1),
-        (b"2001:db8::/32 x", MapFaultKind::BadAddress, 1),
-        (b"/8 x", MapFaultKind::BadAddress, 1),
-        (b"7up x", MapFaultKind::BadAddress, 1),
-        (b"x:y z", MapFaultKind::BadAddress, 1),
-        (b"10.0.0.0/8\n", MapFaultKind::MissingLabel, 1),
-        (b"10.0.0.0/8 # A", MapFaultKind::MissingLabel, 1),
-        (b"default", MapFaultKind::MissingLabel, 1),
-        (b"10.0.0.0/8 a\x01b", MapFaultKind::BadLabel, 1),
-        (b"10.0.0.0/8 a\x7f", MapFaultKind::BadLabel, 1),
-        (b"default a\x00", MapFaultKind::BadLabel, 1),
-        (b"colour x\n", MapFaultKind::BadStatement, 1),
-        (b"Default x", MapFaultKind::BadStatement, 1),
-        (b"10.0.0.1 x", MapFaultKind::BadStatement, 1),
-        (b"10.0.0.1 10.0.0.2 x", MapFaultKind::BadStatement, 1),
-        (b"mode ipv4", MapFaultKind::BadStatement, 1),
-        (b"map-name m", MapFaultKind::BadStatement, 1),
-        (b"label 5 red", MapFaultKind::BadStatement, 1),
-        // Of the faults of a line the address comes before the length, and the length before the label.
-        (b"10.0.0/33", MapFaultKind::BadAddress, 1),
-        (b"10.0.0.0/33", MapFaultKind::BadLength, 1),
-        // Blank lines and comments count, and lines behind the first fault don't.
-        (
-            b"10.0.0.0/8 A\n#\ncolour x\n",
-            MapFaultKind::BadStatement,
-            3,
-        ),
-        (b"\n\r\n1.0.0.0/8", MapFaultKind::MissingLabel, 3),
-        (
-            b"default A\n1.0.0/8 B\ncolour\n",
-            MapFaultKind::BadAddress,
-            2,
-        ),
+fn reads_block_lines(rt: HostRuntime) -> Result<(), Fail> {
+    reads(&rt, rt.alloc(), &BLOCK_LINES)
+}
+
+#[test]
+fn reads_spans_of_both_versions(rt: HostRuntime) -> Result<(), Fail> {
+    reads(&rt, rt.alloc(), &SPANS_AND_VERSIONS)
+}
+
+#[test]
+fn reads_label_numbers(rt: HostRuntime) -> Result<(), Fail> {
+    reads(&rt, rt.alloc(), &LABEL_NUMBERS)
+}
+
+#[test]
+fn reads_names(rt: HostRuntime) -> Result<(), Fail> {
+    let cases: [(&[u8], &[u8]); 4] = [
+        (b"map-name m\n", b"m"),
+        (b"map-name a b # c\r\n", b"a b"),
+        (b"map-name m\nmap-name n\n", b"n"),
+        (b"label 5 red\nmap-name 5\n", b"5"),
     ];
-    for (text, kind, line) in cases {
-        let fault = read_map(rt.alloc(), text).err();
-        assert_eq!(rt; fault, Some(MapFault { kind, line }), "at {text:?}");
+    for (text, want) in cases {
+        let map = read_map(rt.alloc(), text)?;
+        assert_eq!(rt; map.name.as_ref().map(Name::as_bytes), Some(want));
+        let list = read_list(rt.alloc(), text)?;
+        assert_eq!(rt; list.name.as_ref().map(Name::as_bytes), Some(want));
     }
+    Ok(())
+}
+
+// A map text, the kind of its fault, and the line.
+type Faulty = (&'static [u8], MapFaultKind, u64);
+
+const FAULTS: [Faulty; 24] = [
+    (b"10.0.0.0/33 A\n", MapFaultKind::BadLength, 1),
+    (b"10.0.0.0/ A", MapFaultKind::BadLength, 1),
+    (b"10.0.0.0/0008 A", MapFaultKind::BadLength, 1),
+    (b"2001:db8::/129 A", MapFaultKind::BadLength, 1),
+    (b"mode ipv6\n10.0.0.0/33 A", MapFaultKind::BadLength, 2),
+    (b"10.0.0/8 A\n", MapFaultKind::BadAddress, 1),
+    (b"10.0.0.256/8 A", MapFaultKind::BadAddress, 1),
+    (b"2001:db8::g/32 x", MapFaultKind::BadAddress, 1),
+    (b"/8 x", MapFaultKind::BadAddress, 1),
+    (b"7up x", MapFaultKind::BadAddress, 1),
+    (b"x:y z", MapFaultKind::BadAddress, 1),
+    (b"10.0.0.0/8\n", MapFaultKind::MissingLabel, 1),
+    (b"10.0.0.0/8 # A", MapFaultKind::MissingLabel, 1),
+    (b"10.0.0.1 10.0.0.2\n", MapFaultKind::MissingLabel, 1),
+    (b"10.0.0.1", MapFaultKind::MissingLabel, 1),
+    (b"default", MapFaultKind::MissingLabel, 1),
+    (b"map-name", MapFaultKind::MissingLabel, 1),
+    (b"10.0.0.0/8 a\x01b", MapFaultKind::BadLabel, 1),
+    (b"10.0.0.0/8 a\x7f", MapFaultKind::BadLabel, 1),
+    (b"default a\x00", MapFaultKind::BadLabel, 1),
+    (b"map-name a\x01b", MapFaultKind::BadLabel, 1),
+    (b"colour x\n", MapFaultKind::BadStatement, 1),
+    (b"Default x", MapFaultKind::BadStatement, 1),
+    (b"10.0.0.9 10.0.0.2 x\n", MapFaultKind::LowAboveHigh, 1),
+];
+
+const FAULTS_OF_DECISIONS: [Faulty; 24] = [
+    (b"mode proto-port\n", MapFaultKind::BadMode, 1),
+    (b"mode ipv4 x\n", MapFaultKind::BadMode, 1),
+    (b"mode", MapFaultKind::BadMode, 1),
+    (b"mode IPv4", MapFaultKind::BadMode, 1),
+    (b"10.0.0.0/8 A\nmode\n", MapFaultKind::BadMode, 2),
+    (b"10.0.0.0/8 A\nmode ipv4\n", MapFaultKind::ModeLate, 2),
+    (
+        b"mode ipv4\n1.0.0.0/8 A\nmode ip\n",
+        MapFaultKind::ModeLate,
+        3,
+    ),
+    (b"mode ipv4\nmode ip\n", MapFaultKind::ModeRepeated, 2),
+    (
+        b"mode ipv4\n2001:db8::/32 x\n",
+        MapFaultKind::WrongVersion,
+        2,
+    ),
+    (b"10.0.0.0/8 A\n::1 x\n", MapFaultKind::WrongVersion, 2),
+    (b"10.0.0.1 2001:db8::1 x\n", MapFaultKind::WrongVersion, 1),
+    (b"2001:db8::1 10.0.0.1 x\n", MapFaultKind::LowAboveHigh, 1),
+    (b"label 5 7\n", MapFaultKind::BadLabel, 1),
+    (b"label x red\n", MapFaultKind::BadStatement, 1),
+    (b"label 2147483648 red\n", MapFaultKind::BadStatement, 1),
+    (b"label 00000000005 red\n", MapFaultKind::BadStatement, 1),
+    (b"label", MapFaultKind::BadStatement, 1),
+    (b"label 5\n", MapFaultKind::MissingLabel, 1),
+    (
+        b"label 5 red\nlabel 6 red\n",
+        MapFaultKind::LabelConflict,
+        2,
+    ),
+    (
+        b"label 5 red\nlabel 05 blue\n",
+        MapFaultKind::LabelConflict,
+        2,
+    ),
+    (
+        b"label 5 red\n1.0.0.0/8 5\n2.0.0.0/8 6\nlabel 5 blue\n",
+        MapFaultKind::LabelConflict,
+        4,
+    ),
+    // Blank lines and comments count, and lines behind the first fault don't.
+    (
+        b"10.0.0.0/8 A\n#\ncolour x\n",
+        MapFaultKind::BadStatement,
+        3,
+    ),
+    (b"\n\r\n1.0.0.0/8", MapFaultKind::MissingLabel, 3),
+    (
+        b"default A\n1.0.0/8 B\ncolour\n",
+        MapFaultKind::BadAddress,
+        2,
+    ),
+];
+
+// Lines with two faults, of which the first is told.
+const ORDERED_FAULTS: [Faulty; 10] = [
+    (b"10.0.0/33", MapFaultKind::BadAddress, 1),
+    (b"10.0.0.0/33", MapFaultKind::BadLength, 1),
+    (b"mode ipv4\n::/129", MapFaultKind::BadLength, 2),
+    (b"mode ipv4\n::/0", MapFaultKind::WrongVersion, 2),
+    (
+        b"mode ipv4\n10.0.0.9 2001:db8::1 x",
+        MapFaultKind::WrongVersion,
+        2,
+    ),
+    (b"mode ipv4\n10.0.0.9 ::1", MapFaultKind::WrongVersion, 2),
+    (b"10.0.0.9 10.0.0.2", MapFaultKind::LowAboveHigh, 1),
+    (b"label x", MapFaultKind::BadStatement, 1),
+    (b"label 5 red\nlabel 5", MapFaultKind::MissingLabel, 2),
+    (b"label 5 red\nlabel 5 6", MapFaultKind::BadLabel, 2),
+];
+
+fn refuses(rt: &impl Abort, alloc: Global, cases: &[Faulty]) {
+    for (text, kind, line) in cases {
+        let fault = read_map(alloc, text).err();
+        let want = MapFault {
+            kind: *kind,
+            line: *line,
+        };
+        assert_eq!(rt; fault, Some(want), "at {text:?}");
+    }
+}
+
+#[test]
+fn tells_the_first_fault(rt: HostRuntime) {
+    refuses(&rt, rt.alloc(), &FAULTS);
+    refuses(&rt, rt.alloc(), &FAULTS_OF_DECISIONS);
+    refuses(&rt, rt.alloc(), &ORDERED_FAULTS);
 }
 
 #[test]
@@ -160,7 +404,6 @@ fn tells_the_fault_of_each_prefix(rt: HostRuntime) {
         let kind = match length % 13 {
             0 | 12 => None,
             1..=7 => Some(MapFaultKind::BadAddress),
-            8 => Some(MapFaultKind::BadStatement),
             9 => Some(MapFaultKind::BadLength),
             _ => Some(MapFaultKind::MissingLabel),
         };
@@ -215,25 +458,31 @@ fn reads_a_million_mappings(rt: HostRuntime) -> Result<(), Fail> {
 #[test]
 fn reads_65535_labels(rt: HostRuntime) -> Result<(), Fail> {
     let mut text = Vec::new(rt.alloc());
-    for number in 0..65_535 {
-        let line = format!(in rt.alloc(); "1.0.0.0/8 t{number}\n")?;
+    for number in 1..65_536 {
+        let line = format!(in rt.alloc(); "label {number} t{number}\n")?;
         text.extend_from_slice(line.as_bytes())?;
     }
+    let size = text.len();
     // A known label needs no room, and the `UNKNOWN` of a text without a default may be one more.
-    text.extend_from_slice(b"2.0.0.0/8 t7\n")?;
+    text.extend_from_slice(b"2.0.0.0/8 t7\n3.0.0.0/8 7\n")?;
     let map = read_map(rt.alloc(), &text)?;
-    assert_eq!(rt; map.statements.len(), 65_536);
+    assert_eq!(rt; map.statements.len(), 2);
     assert_eq!(rt; map.labels.len(), 65_536);
     assert_eq!(rt; map.labels.id_of(b"UNKNOWN"), Some(LabelId(65_535)));
     assert_eq!(rt; map.default, LabelId(65_535));
-    text.extend_from_slice(b"default UNKNOWN\n")?;
+    text.truncate(size);
+    text.extend_from_slice(b"label 65536 t65536\n")?;
     let fault = read_map(rt.alloc(), &text).err();
     assert_eq!(rt;
         fault,
         Some(MapFault {
             kind: MapFaultKind::TooMany,
-            line: 65_537
+            line: 65_536
         })
     );
+    text.truncate(size);
+    text.extend_from_slice(b"default UNKNOWN\n")?;
+    let fault = read_map(rt.alloc(), &text).err();
+    assert_eq!(rt; fault.map(|fault| fault.line), Some(65_536));
     Ok(())
 }

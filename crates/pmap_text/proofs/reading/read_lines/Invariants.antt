@@ -7,7 +7,7 @@ use Rattle.pmap_text.proofs.reading.read_lines.Given as goal
 abbrev pub invariant-loop-rest : goal.invariant-loop-rest
 invariant-loop-rest l = record {
   fits : l.number + length l.rest ≤ length l.text;
-  read : (entries : List Entry) × (entries_from [] 0 (lines_of l.text) ≡ entries_from entries l.number (lines_of l.rest)) × (l.reading ≡ earlier_of entries);
+  read : (entries : List Entry) × (entries_from l.form [] 0 (lines_of l.text) ≡ entries_from l.form entries l.number (lines_of l.rest)) × (l.reading ≡ earlier_of entries);
 }
 
 abbrev pub decreases-loop-rest : goal.decreases-loop-rest

@@ -1,0 +1,172 @@
+ghost use Rattle.std.specs.Prelude.{◌≡◌, [], false, option_map, IfSome, IsTrue, OnErr, OnOk};
+ghost use Rattle.pmap_text.specs.Declarations.{conflicts, declared_text, label_number as number_of_text, meant_text, with_declared};
+ghost use Rattle.pmap_text.specs.Label.{is_label};
+
+use indexmap::IndexSet;
+use std::alloc::{AllocError, Global};
+use std::marker::Model;
+
+// The numbers that a text declares for its labels, and their texts beside them: the first text is that of the first
+// number, and so on. No two numbers are equal and no two texts.
+#[derive(Debug, Drop)]
+pub struct Declarations {
+    alloc: Global,
+    numbers: IndexSet<u32>,
+    texts: IndexSet<Vec<u8>>,
+}
+
+impl Model for Declarations {
+    ghost use Rattle.std.specs.Prelude.{ℕ, List, map};
+    ghost use Rattle.std.specs.List.{zip};
+    ghost use Rattle.pmap_text.specs.Declarations.{ArePaired};
+    ghost use Rattle.pmap_text.specs.MapModel.{Label};
+
+    ghost Value = { List (ℕ × Label) };
+
+    ghost view = { λ d. zip d.numbers.keys (map (λ text. text.items) d.texts.keys) };
+
+    ghost invariant = { λ d. ArePaired d.numbers.keys (map (λ text. text.items) d.texts.keys) };
+}
+
+impl Declarations {
+    // No declarations.
+    pub fn new(alloc: Global) -> Declarations
+        ensures { result ≡ [] }
+    {
+        Declarations {
+            alloc,
+            numbers: IndexSet::new(alloc),
+            texts: IndexSet::new(alloc),
+        }
+    }
+
+    // The text that was declared for a number. It is a label.
+    pub fn text_of(&self, number: u32) -> Option<&[u8]>
+        ensures value { option_map (λ t. t.now) result ≡ declared_text self.now number }
+        ensures label { IfSome result (λ t. IsTrue (is_label t.now)) }
+    {
+        let index = self.numbers.get_index_of(&number)?;
+        match self.texts.get_index(index) {
+            Some(text) => Some(text.as_slice()),
+            None => None,
+        }
+    }
+
+    // Whether the number has another text, or the text another number: else both stand at one place, or neither is there.
+    pub fn conflicts(&self, number: u32, text: &[u8]) -> bool
+        ensures { result ≡ conflicts self.now number text.now }
+    {
+        self.numbers.get_index_of(&number) != self.texts.get_index_of(text)
+    }
+
+    // Declares a text for a number. What is known stays as it is. Where memory is refused, all stays as it was.
+    pub fn add(&mut self, number: u32, text: &[u8]) -> Result<(), AllocError>
+        requires label { IsTrue (is_label text.now) }
+        requires agrees { conflicts self.old number text.now ≡ false }
+        ensures ok { OnOk result (self.new ≡ with_declared self.old (number, text.now)) }
+        ensures err { OnErr result (self.new ≡ self.old) }
+    {
+        if self.numbers.contains(&number) {
+            return Ok(());
+        }
+        // With room for the number its insertion below takes no memory, so the two sets grow together.
+        self.numbers.reserve(1)?;
+        self.texts.insert(Vec::from_slice(self.alloc, text)?)?;
+        self.numbers.insert(number)?;
+        Ok(())
+    }
+
+    // The text that a label stands for: a declared number means its text, and any other label itself.
+    pub fn meant<'a>(&'a self, label: &'a [u8]) -> &'a [u8]
+        ensures value { result.now ≡ meant_text self.now label.now }
+        ensures label { IsTrue (is_label label.now) → IsTrue (is_label result.now) }
+    {
+        let Some(number) = label_number(label) else {
+            return label;
+        };
+        match self.text_of(number) {
+            Some(text) => text,
+            None => label,
+        }
+    }
+}
+
+// The number that 1 to 10 digits stand for, at most 2147483647.
+pub fn label_number(text: &[u8]) -> Option<u32>
+    ensures { result ≡ number_of_text text.now }
+{
+    if text.is_empty() || text.len() > 10 {
+        return None;
+    }
+    let mut number = 0u64;
+    for b in text {
+        if *b < b'0' || *b > b'9' {
+            return None;
+        }
+        number = number * 10 + u64::from(*b - b'0');
+    }
+    if number <= 2147483647 {
+        Some(number as u32)
+    } else {
+        None
+    }
+}
+
+#[cfg(test)]
+mod tests {
+    use super::*;
+    use crate::label::is_label;
+    use std::process::Abort;
+
+    fn declares(
+        rt: &impl Abort,
+        declarations: &mut Declarations,
+        number: u32,
+        text: &[u8],
+    ) -> Result<(), AllocError> {
+        assert!(rt; is_label(text));
+        assert!(rt; !declarations.conflicts(number, text));
+        declarations.add(number, text)?;
+        assert_eq!(rt; declarations.text_of(number), Some(text));
+        Ok(())
+    }
+
+    #[test]
+    fn gives_numbers_their_texts(rt: HostRuntime) -> Result<(), AllocError> {
+        let mut declarations = Declarations::new(rt.alloc());
+        declares(&rt, &mut declarations, 5, b"red")?;
+        declares(&rt, &mut declarations, 5, b"red")?;
+        declares(&rt, &mut declarations, 2147483647, b"blue")?;
+        assert!(rt; declarations.conflicts(5, b"blue"));
+        assert!(rt; declarations.conflicts(6, b"red"));
+        let cases: [(&[u8], &[u8]); 6] = [
+            (b"5", b"red"),
+            (b"0000000005", b"red"),
+            (b"00000000005", b"00000000005"),
+            (b"2147483647", b"blue"),
+            (b"6", b"6"),
+            (b"5a", b"5a"),
+        ];
+        for (label, want) in cases {
+            assert_eq!(rt; declarations.meant(label), want, "at {label:?}");
+        }
+        Ok(())
+    }
+
+    #[test]
+    fn reads_label_numbers(rt: HostRuntime) {
+        let cases: [(&[u8], Option<u32>); 8] = [
+            (b"0", Some(0)),
+            (b"05", Some(5)),
+            (b"2147483647", Some(2147483647)),
+            (b"2147483648", None),
+            (b"9999999999", None),
+            (b"00000000005", None),
+            (b"", None),
+            (b"-5", None),
+        ];
+        for (text, want) in cases {
+            assert_eq!(rt; label_number(text), want, "at {text:?}");
+        }
+    }
+}

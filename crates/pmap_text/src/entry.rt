@@ -1,0 +1,9 @@
+use crate::label::LabelId;
+use prefix_keys::Block;
+
+/// One entry of a prefix list: the addresses of a block have a label, where no entry of a longer block covers them.
+#[derive(Clone, Copy, Debug, PartialEq, Eq, Hash)]
+pub struct Entry {
+    pub block: Block,
+    pub label: LabelId,
+}

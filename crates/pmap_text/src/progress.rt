@@ -1,0 +1,298 @@
+//! What a reading keeps of the lines so far.
+ghost use Rattle.std.specs.Prelude.{◌≡◌, ◌≢◌, ◌<◌, ◌≤◌, ◌++◌, ◌∷◌, [], Some, Ok, Err, true, false, length, slice_get, IsTrue, IfOk, IfErr, OnOk, OnErr};
+ghost use Rattle.std.specs.Option.{option_or};
+ghost use Rattle.pmap_text.specs.Declarations.{conflicts as conflicts_of, meant_text, with_declared};
+ghost use Rattle.pmap_text.specs.Label.{has_label, is_label as is_label_text, with_label};
+ghost use Rattle.pmap_text.specs.MapText.{map_of, text_at};
+ghost use Rattle.pmap_text.specs.PrefixList.{list_of};
+ghost use Rattle.pmap_text.specs.Reading.{Earlier, earlier_of, has_mapping as has_mapping_of, has_prefix as has_prefix_of, has_room, list_from, map_from, version_at as version_at_of};
+ghost use Rattle.pmap_text.specs.declared.fault.MapFaultKind.TheVariants.{NoMemory, TooMany};
+ghost use Rattle.pmap_text.specs.declared.progress.TheConstants.{LABEL_LIMIT, MAPPING_LIMIT};
+
+use crate::declarations::Declarations;
+use crate::entries::Entries;
+use crate::entry::Entry;
+use crate::fault::MapFaultKind;
+use crate::label::LabelId;
+use crate::labels::Labels;
+use crate::map_text::MapText;
+use crate::name::Name;
+use crate::prefix_list::PrefixList;
+use crate::statement::Statement;
+use crate::statements::Statements;
+use prefix_keys::{Block, Span, Version};
+use std::alloc::{AllocError, Global};
+use std::marker::Model;
+
+/// The greatest number of mappings that a map text may have, and of entries that a list text may have.
+pub const MAPPING_LIMIT: usize = 1_000_000;
+
+/// The greatest number of label texts that a text may have.
+pub const LABEL_LIMIT: usize = 65_535;
+
+// The label of addresses without a mapping, where the text has no default.
+const UNKNOWN: &[u8] = b"UNKNOWN";
+
+/// What the lines so far say.
+#[derive(Drop)]
+pub struct Reading {
+    alloc: Global,
+    mode: bool,
+    version: Option<Version>,
+    name: Option<Name>,
+    declared: Declarations,
+    default: Option<LabelId>,
+    statements: Statements,
+    entries: Entries,
+    labels: Labels,
+}
+
+impl Model for Reading {
+    ghost use Rattle.pmap_text.specs.Reading.{Earlier};
+    ghost use Rattle.pmap_text.specs.Progress.{IsProgress, progress_of};
+
+    ghost Value = { Earlier };
+
+    ghost view = { λ r. progress_of r.mode r.version r.name r.declared r.default r.statements r.entries r.labels };
+
+    ghost invariant = { λ r. IsProgress r.version r.default r.statements r.entries r.labels };
+}
+
+fn is_known(labels: &Labels, text: &[u8]) -> bool
+    ensures { result ≡ has_label labels.now text.now }
+{
+    labels.id_of(text).is_some()
+}
+
+// Whether the text is in the table, or may be added to it.
+fn has_room(labels: &Labels, text: &[u8]) -> bool
+    ensures { result ≡ has_room labels.now text.now }
+{
+    is_known(labels, text) || labels.len() < LABEL_LIMIT
+}
+
+// The number of a text, which is added to the table where it isn't there.
+fn number_for(labels: &mut Labels, text: &[u8]) -> Result<LabelId, MapFaultKind>
+    requires label { IsTrue (is_label_text text.now) }
+    requires limit { length labels.old ≤ LABEL_LIMIT }
+    ensures room { OnOk result (has_room labels.old text.now ≡ true) }
+    ensures ok { OnOk result (labels.new ≡ with_label labels.old text.now) }
+    ensures text { IfOk result (λ id. slice_get labels.new id.0 ≡ Some text.now) }
+    ensures limit { length labels.new ≤ LABEL_LIMIT }
+    ensures same { OnErr result (labels.new ≡ labels.old) }
+    ensures err { IfErr result (λ kind. kind ≢ NoMemory → (kind ≡ TooMany) × (has_room labels.old text.now ≡ false)) }
+{
+    if has_room(labels, text) {
+        labels.add(text).map_err(|_| MapFaultKind::NoMemory)
+    } else {
+        Err(MapFaultKind::TooMany)
+    }
+}
+
+impl Reading {
+    /// No line was read.
+    pub fn new(alloc: Global) -> Reading
+        ensures { result ≡ earlier_of [] }
+    {
+        Reading {
+            alloc,
+            mode: false,
+            version: None,
+            name: None,
+            declared: Declarations::new(alloc),
+            default: None,
+            statements: Statements::new(alloc),
+            entries: Entries::new(alloc),
+            labels: Labels::new(alloc),
+        }
+    }
+
+    /// Whether a mode was read.
+    pub fn has_mode(&self) -> bool
+        ensures { result ≡ self.now.mode }
+    {
+        self.mode
+    }
+
+    /// Whether a mapping or an entry was read.
+    pub fn has_mapping(&self) -> bool
+        ensures { result ≡ has_mapping_of self.now }
+    {
+        self.statements.len() > 0 || self.entries.len() > 0
+    }
+
+    /// How many mappings there are.
+    pub fn mapping_count(&self) -> usize
+        ensures { result ≡ length self.now.mappings }
+    {
+        self.statements.len()
+    }
+
+    /// How many entries there are.
+    pub fn entry_count(&self) -> usize
+        ensures { result ≡ length self.now.prefixes }
+    {
+        self.entries.len()
+    }
+
+    /// Whether an entry has this block.
+    pub fn has_block(&self, block: &Block) -> bool
+        ensures { result ≡ has_prefix_of self.now.prefixes block.now.value block.now.len }
+    {
+        self.entries.has_block(block)
+    }
+
+    /// The version of the text at a line whose first address is of the version `own`, which decides where nothing did.
+    pub fn version_at(&self, own: Version) -> Version
+        ensures { result ≡ version_at_of self.now own }
+    {
+        self.version.unwrap_or(own)
+    }
+
+    /// Whether the number has another text, or the text another number.
+    pub fn conflicts(&self, number: u32, text: &[u8]) -> bool
+        ensures { result ≡ conflicts_of self.now.declared number text.now }
+    {
+        self.declared.conflicts(number, text)
+    }
+
+    /// Takes the name of the text.
+    pub fn set_name(&mut self, name: &[u8]) -> Result<(), MapFaultKind>
+        requires { IsTrue (is_label_text name.now) }
+        ensures ok { OnOk result (self.new ≡ record self.old { name = Some name.now }) }
+        ensures err { IfErr result (λ kind. kind ≡ NoMemory) }
+    {
+        let Ok(name) = Name::new(self.alloc, name) else {
+            return Err(MapFaultKind::NoMemory);
+        };
+        self.name = Some(name);
+        Ok(())
+    }
+
+    /// Takes the version that a mode names, unless the version is decided.
+    pub fn set_mode(&mut self, version: Version)
+        ensures { self.new ≡ record self.old { mode = true; version = option_or self.old.version (Some version) } }
+    {
+        self.mode = true;
+        self.version = Some(self.version_at(version));
+    }
+
+    /// The number of the text that a label stands for, which is added to the table where it isn't there.
+    pub fn label_id(&mut self, label: &[u8]) -> Result<LabelId, MapFaultKind>
+        requires { IsTrue (is_label_text label.now) }
+        ensures room { OnOk result (has_room self.old.table (meant_text self.old.declared label.now) ≡ true) }
+        ensures ok { OnOk result (self.new ≡ record self.old { table = with_label self.old.table (meant_text self.old.declared label.now) }) }
+        ensures text { IfOk result (λ id. slice_get self.new.table id.0 ≡ Some (meant_text self.old.declared label.now)) }
+        ensures err { IfErr result (λ kind. kind ≢ NoMemory → (kind ≡ TooMany) × (has_room self.old.table (meant_text self.old.declared label.now) ≡ false)) }
+    {
+        let text = self.declared.meant(label);
+        number_for(&mut self.labels, text)
+    }
+
+    /// Declares a text for a number.
+    pub fn declare(&mut self, number: u32, text: &[u8]) -> Result<(), MapFaultKind>
+        requires label { IsTrue (is_label_text text.now) }
+        requires agrees { conflicts_of self.old.declared number text.now ≡ false }
+        ensures room { OnOk result (has_room self.old.table text.now ≡ true) }
+        ensures ok { OnOk result (self.new ≡ record self.old { declared = with_declared self.old.declared (number, text.now); table = with_label self.old.table text.now }) }
+        ensures err { IfErr result (λ kind. kind ≢ NoMemory → (kind ≡ TooMany) × (has_room self.old.table text.now ≡ false)) }
+    {
+        number_for(&mut self.labels, text)?;
+        let Ok(()) = self.declared.add(number, text) else {
+            return Err(MapFaultKind::NoMemory);
+        };
+        Ok(())
+    }
+
+    /// Takes the label of addresses without a mapping.
+    pub fn set_default(&mut self, label: LabelId)
+        requires { label.0 < length self.old.table }
+        ensures { self.new ≡ record self.old { fallback = Some (text_at self.old.table label.0) } }
+    {
+        self.default = Some(label);
+    }
+
+    /// Adds a mapping of the text's version, which it decides where nothing did.
+    pub fn add_statement(&mut self, span: Span, label: LabelId) -> Result<(), MapFaultKind>
+        requires version { version_at_of self.old span.low.version ≡ span.low.version }
+        requires label { label.0 < length self.old.table }
+        requires room { length self.old.mappings < MAPPING_LIMIT }
+        ensures ok { OnOk result (self.new ≡ record self.old {
+          version = option_or self.old.version (Some span.low.version);
+          mappings = self.old.mappings ++ record { low = span.low.value; high = span.high.value; label = text_at self.old.table label.0 } ∷ [];
+        }) }
+        ensures err { IfErr result (λ kind. kind ≡ NoMemory) }
+    {
+        self.version = Some(span.low.version);
+        let Ok(()) = self.statements.push(Statement { span, label }) else {
+            return Err(MapFaultKind::NoMemory);
+        };
+        Ok(())
+    }
+
+    /// Adds an entry of the text's version, which it decides where nothing did.
+    pub fn add_entry(&mut self, block: Block, label: LabelId) -> Result<(), MapFaultKind>
+        requires version { version_at_of self.old block.version ≡ block.version }
+        requires new { has_prefix_of self.old.prefixes block.value block.len ≡ false }
+        requires label { label.0 < length self.old.table }
+        requires room { length self.old.prefixes < MAPPING_LIMIT }
+        ensures ok { OnOk result (self.new ≡ record self.old {
+          version = option_or self.old.version (Some block.version);
+          prefixes = self.old.prefixes ++ record { start = block.value; bits = block.len; label = text_at self.old.table label.0 } ∷ [];
+        }) }
+        ensures err { IfErr result (λ kind. kind ≡ NoMemory) }
+    {
+        self.version = Some(block.version);
+        let Ok(()) = self.entries.push(Entry { block, label }) else {
+            return Err(MapFaultKind::NoMemory);
+        };
+        Ok(())
+    }
+
+    /// The map of the lines so far.
+    pub fn into_map(self) -> Result<MapText, AllocError>
+        ensures { IfOk result (λ map. map_of map ≡ map_from self) }
+    {
+        let Reading {
+            version,
+            name,
+            default,
+            statements,
+            mut labels,
+            ..
+        } = self;
+        let default = match default {
+            Some(label) => label,
+            None => labels.add(UNKNOWN)?,
+        };
+        Ok(MapText {
+            version: version.unwrap_or(Version::V4),
+            name,
+            default,
+            statements,
+            labels,
+        })
+    }
+
+    /// The list of the lines so far.
+    pub fn into_list(self) -> PrefixList
+        ensures list { list_of result ≡ list_from self }
+        ensures limit { length result.entries ≤ MAPPING_LIMIT }
+    {
+        let Reading {
+            version,
+            name,
+            entries,
+            labels,
+            ..
+        } = self;
+        let count = entries.len();
+        prove!(count <= MAPPING_LIMIT);
+        PrefixList {
+            version: version.unwrap_or(Version::V4),
+            name,
+            entries,
+            labels,
+        }
+    }
+}

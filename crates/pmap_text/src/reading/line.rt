@@ -1,0 +1,300 @@
+//! The reading of one line of a text.
+ghost use Rattle.std.specs.Prelude.{◌≡◌, ◌≢◌, ◌<◌, ◌==◌, Some, Ok, Err, length, slice_index, IsTrue, IfOk, IfErr, OnOk};
+ghost use Rattle.std.specs.List.{list_all, list_any};
+ghost use Rattle.prefix_keys.specs.Text.{address_of, block_of_text, is_digit};
+ghost use Rattle.pmap_text.specs.Declarations.{label_number as number_of_label};
+ghost use Rattle.pmap_text.specs.Label.{is_label as is_label_text};
+ghost use Rattle.pmap_text.specs.Lines.{first_word};
+ghost use Rattle.pmap_text.specs.Reading.{Adds, address_line, block_line, decided, declared_line, default_line, label_line, label_of, line_entry, mode_line, mode_version, name_line, one_or_two, other_fault, placed_line, prefix_line, range_line, single_line, span_line, statement_line, version_at as version_at_of};
+ghost use Rattle.pmap_text.specs.declared.fault.MapFaultKind.TheVariants.{NoMemory};
+
+use crate::declarations::label_number;
+use crate::fault::MapFaultKind;
+use crate::form::Form;
+use crate::label::is_label;
+use crate::lines::{content, split_word};
+use crate::placing::{addr_in, block_in};
+use crate::progress::{MAPPING_LIMIT, Reading};
+use prefix_keys::{Addr, Block, BlockFault, Span, Version, block_of, read_addr, read_block};
+
+// The rest of a line as a label.
+fn label_text(rest: &[u8]) -> Result<&[u8], MapFaultKind>
+    ensures ok { IfOk result (λ text. label_of rest.now ≡ Ok text.now) }
+    ensures label { IfOk result (λ text. IsTrue (is_label_text text.now)) }
+    ensures err { IfErr result (λ kind. label_of rest.now ≡ Err kind) }
+{
+    if rest.is_empty() {
+        Err(MapFaultKind::MissingLabel)
+    } else if is_label(rest) {
+        Ok(rest)
+    } else {
+        Err(MapFaultKind::BadLabel)
+    }
+}
+
+fn has_digits_alone(text: &[u8]) -> bool
+    ensures { result ≡ list_all is_digit text.now }
+{
+    text.iter().all(|byte| byte.is_ascii_digit())
+}
+
+fn begins_with_digit(word: &[u8]) -> bool
+    ensures { result ≡ is_digit (slice_index word.now 0) }
+{
+    match word.first() {
+        Some(byte) => byte.is_ascii_digit(),
+        None => false,
+    }
+}
+
+fn has_byte(word: &[u8], byte: u8) -> bool
+    ensures { result ≡ list_any (λ b. b == byte) word.now }
+{
+    word.iter().any(|b| *b == byte)
+}
+
+// The fault of a line whose first word begins no statement.
+fn fault_of(word: &[u8]) -> MapFaultKind
+    ensures { result ≡ other_fault word.now }
+{
+    if begins_with_digit(word) || has_byte(word, b':') {
+        MapFaultKind::BadAddress
+    } else {
+        MapFaultKind::BadStatement
+    }
+}
+
+// The version that the word of a mode names.
+fn named_version(word: &[u8]) -> Option<Version>
+    ensures { result ≡ mode_version word.now }
+{
+    if word == b"ipv4".as_slice() || word == b"ip".as_slice() {
+        Some(Version::V4)
+    } else if word == b"ipv6".as_slice() {
+        Some(Version::V6)
+    } else {
+        None
+    }
+}
+
+impl Reading {
+    // `map-name NAME`, from behind the first word.
+    fn read_name(&mut self, rest: &[u8]) -> Result<(), MapFaultKind>
+        ensures ok { OnOk result (Adds self.old self.new (name_line rest.now)) }
+        ensures err { IfErr result (λ kind. kind ≢ NoMemory → name_line rest.now ≡ Err kind) }
+    {
+        let name = label_text(rest)?;
+        self.set_name(name)
+    }
+
+    // `mode WORD`, from behind the first word.
+    fn read_mode(&mut self, rest: &[u8]) -> Result<(), MapFaultKind>
+        ensures ok { OnOk result (Adds self.old self.new (mode_line self.old rest.now)) }
+        ensures err { IfErr result (λ kind. kind ≢ NoMemory → mode_line self.old rest.now ≡ Err kind) }
+    {
+        let Some(version) = named_version(rest) else {
+            return Err(MapFaultKind::BadMode);
+        };
+        if self.has_mapping() {
+            return Err(MapFaultKind::ModeLate);
+        }
+        if self.has_mode() {
+            return Err(MapFaultKind::ModeRepeated);
+        }
+        self.set_mode(version);
+        Ok(())
+    }
+
+    // A text for this number, from behind the number.
+    fn read_declared(&mut self, number: u32, rest: &[u8]) -> Result<(), MapFaultKind>
+        ensures ok { OnOk result (Adds self.old self.new (declared_line self.old (Some number) rest.now)) }
+        ensures err { IfErr result (λ kind. kind ≢ NoMemory → declared_line self.old (Some number) rest.now ≡ Err kind) }
+    {
+        let text = label_text(rest)?;
+        if has_digits_alone(text) {
+            return Err(MapFaultKind::BadLabel);
+        }
+        if self.conflicts(number, text) {
+            return Err(MapFaultKind::LabelConflict);
+        }
+        self.declare(number, text)
+    }
+
+    // `label NUMBER TEXT`, from behind the first word.
+    fn read_label(&mut self, rest: &[u8]) -> Result<(), MapFaultKind>
+        ensures ok { OnOk result (Adds self.old self.new (label_line self.old rest.now)) }
+        ensures err { IfErr result (λ kind. kind ≢ NoMemory → label_line self.old rest.now ≡ Err kind) }
+    {
+        let (word, rest) = split_word(rest);
+        match label_number(word) {
+            Some(number) => self.read_declared(number, rest),
+            None => Err(MapFaultKind::BadStatement),
+        }
+    }
+
+    // `default LABEL`, from behind the first word.
+    fn read_default(&mut self, form: Form, rest: &[u8]) -> Result<(), MapFaultKind>
+        ensures ok { OnOk result (Adds self.old self.new (default_line form self.old rest.now)) }
+        ensures err { IfErr result (λ kind. kind ≢ NoMemory → default_line form self.old rest.now ≡ Err kind) }
+    {
+        if form == Form::List {
+            return Err(MapFaultKind::NotAList);
+        }
+        let text = label_text(rest)?;
+        let label = self.label_id(text)?;
+        self.set_default(label);
+        Ok(())
+    }
+
+    // A span in the text's version and then a label, from behind the span.
+    fn read_span(&mut self, span: Span, rest: &[u8]) -> Result<(), MapFaultKind>
+        requires { version_at_of self.old span.low.version ≡ span.low.version }
+        ensures ok { OnOk result (Adds self.old self.new (span_line self.old span.low.version span.low.value span.high.value rest.now)) }
+        ensures err { IfErr result (λ kind. kind ≢ NoMemory → span_line self.old span.low.version span.low.value span.high.value rest.now ≡ Err kind) }
+    {
+        let text = label_text(rest)?;
+        if self.mapping_count() >= MAPPING_LIMIT {
+            return Err(MapFaultKind::TooMany);
+        }
+        let label = self.label_id(text)?;
+        self.add_statement(span, label)
+    }
+
+    // A block in the text's version and then a label, as an entry, from behind the block.
+    fn read_prefix(&mut self, block: Block, rest: &[u8]) -> Result<(), MapFaultKind>
+        requires { version_at_of self.old block.version ≡ block.version }
+        ensures ok { OnOk result (Adds self.old self.new (prefix_line self.old block.version block.value block.len rest.now)) }
+        ensures err { IfErr result (λ kind. kind ≢ NoMemory → prefix_line self.old block.version block.value block.len rest.now ≡ Err kind) }
+    {
+        let text = label_text(rest)?;
+        if self.has_block(&block) {
+            return Err(MapFaultKind::DuplicateBlock);
+        }
+        if self.entry_count() >= MAPPING_LIMIT {
+            return Err(MapFaultKind::TooMany);
+        }
+        let label = self.label_id(text)?;
+        self.add_entry(block, label)
+    }
+
+    // A block in the text's version and then a label, from behind the block.
+    fn read_placed(&mut self, form: Form, block: Block, rest: &[u8]) -> Result<(), MapFaultKind>
+        requires { version_at_of self.old block.version ≡ block.version }
+        ensures ok { OnOk result (Adds self.old self.new (placed_line form self.old block.version block.value block.len rest.now)) }
+        ensures err { IfErr result (λ kind. kind ≢ NoMemory → placed_line form self.old block.version block.value block.len rest.now ≡ Err kind) }
+    {
+        match form {
+            Form::Map => self.read_span(block.span(), rest),
+            Form::List => self.read_prefix(block, rest),
+        }
+    }
+
+    // `BLOCK LABEL`, from the block on.
+    fn read_block_line(&mut self, form: Form, word: &[u8], rest: &[u8]) -> Result<(), MapFaultKind>
+        ensures ok { OnOk result (Adds self.old self.new (block_line form self.old (block_of_text word.now) rest.now)) }
+        ensures err { IfErr result (λ kind. kind ≢ NoMemory → block_line form self.old (block_of_text word.now) rest.now ≡ Err kind) }
+    {
+        match read_block(word) {
+            Ok(block) => {
+                let block = block_in(self.version_at(block.version), block)?;
+                self.read_placed(form, block, rest)
+            }
+            Err(BlockFault::BadAddress) => Err(MapFaultKind::BadAddress),
+            Err(BlockFault::BadLength) => Err(MapFaultKind::BadLength),
+        }
+    }
+
+    // `LOW HIGH LABEL`, from behind the two addresses.
+    fn read_range(
+        &mut self,
+        form: Form,
+        first: Addr,
+        second: Addr,
+        rest: &[u8],
+    ) -> Result<(), MapFaultKind>
+        ensures ok { OnOk result (Adds self.old self.new (range_line form self.old (first.version, first.value) (second.version, second.value) rest.now)) }
+        ensures err { IfErr result (λ kind. kind ≢ NoMemory → range_line form self.old (first.version, first.value) (second.version, second.value) rest.now ≡ Err kind) }
+    {
+        if form == Form::List {
+            return Err(MapFaultKind::NotAList);
+        }
+        let version = self.version_at(first.version);
+        let low = addr_in(version, first)?;
+        let high = addr_in(version, second)?;
+        match Span::new(low, high) {
+            Some(span) => self.read_span(span, rest),
+            None => Err(MapFaultKind::LowAboveHigh),
+        }
+    }
+
+    // `ADDRESS LABEL`, from behind the address.
+    fn read_single(&mut self, form: Form, addr: Addr, rest: &[u8]) -> Result<(), MapFaultKind>
+        ensures ok { OnOk result (Adds self.old self.new (single_line form self.old (addr.version, addr.value) rest.now)) }
+        ensures err { IfErr result (λ kind. kind ≢ NoMemory → single_line form self.old (addr.version, addr.value) rest.now ≡ Err kind) }
+    {
+        let version = self.version_at(addr.version);
+        let addr = addr_in(version, addr)?;
+        self.read_placed(form, block_of(addr, version.width()), rest)
+    }
+
+    // A line that begins with an address, from behind it.
+    fn read_address_line(
+        &mut self,
+        form: Form,
+        first: Addr,
+        rest: &[u8],
+    ) -> Result<(), MapFaultKind>
+        ensures ok { OnOk result (Adds self.old self.new (one_or_two form self.old (first.version, first.value) (address_of (first_word rest.now)) rest.now)) }
+        ensures err { IfErr result (λ kind. kind ≢ NoMemory → one_or_two form self.old (first.version, first.value) (address_of (first_word rest.now)) rest.now ≡ Err kind) }
+    {
+        let (word, behind) = split_word(rest);
+        match read_addr(word) {
+            Some(second) => self.read_range(form, first, second, behind),
+            None => self.read_single(form, first, rest),
+        }
+    }
+
+    // A line whose first word is no keyword and has no `/`.
+    fn read_other(&mut self, form: Form, word: &[u8], rest: &[u8]) -> Result<(), MapFaultKind>
+        ensures ok { OnOk result (Adds self.old self.new (address_line form self.old word.now (address_of word.now) rest.now)) }
+        ensures err { IfErr result (λ kind. kind ≢ NoMemory → address_line form self.old word.now (address_of word.now) rest.now ≡ Err kind) }
+    {
+        match read_addr(word) {
+            Some(addr) => self.read_address_line(form, addr, rest),
+            None => Err(fault_of(word)),
+        }
+    }
+
+    // A line with a word, by its first word and what stands behind it.
+    fn read_statement(&mut self, form: Form, word: &[u8], rest: &[u8]) -> Result<(), MapFaultKind>
+        ensures ok { OnOk result (Adds self.old self.new (statement_line form self.old word.now rest.now)) }
+        ensures err { IfErr result (λ kind. kind ≢ NoMemory → statement_line form self.old word.now rest.now ≡ Err kind) }
+    {
+        if word == b"map-name".as_slice() {
+            self.read_name(rest)
+        } else if word == b"mode".as_slice() {
+            self.read_mode(rest)
+        } else if word == b"label".as_slice() {
+            self.read_label(rest)
+        } else if word == b"default".as_slice() {
+            self.read_default(form, rest)
+        } else if has_byte(word, b'/') {
+            self.read_block_line(form, word, rest)
+        } else {
+            self.read_other(form, word, rest)
+        }
+    }
+
+    /// Reads one more line. After a fault nothing is known of the lines so far.
+    pub fn read_line(&mut self, form: Form, line: &[u8]) -> Result<(), MapFaultKind>
+        ensures ok { OnOk result (Adds self.old self.new (line_entry form self.old line.now)) }
+        ensures err { IfErr result (λ kind. kind ≢ NoMemory → line_entry form self.old line.now ≡ Err kind) }
+    {
+        let content = content(line);
+        if content.is_empty() {
+            return Ok(());
+        }
+        let (word, rest) = split_word(content);
+        self.read_statement(form, word, rest)
+    }
+}

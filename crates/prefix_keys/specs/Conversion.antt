@@ -1,0 +1,19 @@
+use Rattle.std.specs.Prelude.{ℕ, ◌+◌, ◌-◌, ◌*◌, ◌^◌, ◌==◌, Option, Some, None, if◌then◌else◌}
+use Rattle.prefix_keys.specs.Block.{block_number}
+use Rattle.prefix_keys.specs.Text.{AddressOf}
+use Rattle.prefix_keys.specs.declared.version.Version.{Version}
+use Rattle.prefix_keys.specs.declared.version.Version.TheVariants.{V4, V6}
+
+-- The place of the IPv4 addresses among the IPv6 addresses: the block ::ffff:0:0/96 (RFC 4291, section 2.5.5.2).
+
+-- the number of ::ffff:0:0
+abbrev pub mapped_prefix : ℕ
+mapped_prefix = 65535 * 2 ^ 32
+
+-- the address in the other version, where it has a place there; in its own version it stays
+abbrev pub converted : Version → AddressOf → Option AddressOf
+converted V4 (V4, value) = Some (V4, value)
+converted V4 (V6, value) =
+    if block_number 128 96 value == block_number 128 96 mapped_prefix then Some (V4, value - mapped_prefix) else None
+converted V6 (V4, value) = Some (V6, value + mapped_prefix)
+converted V6 (V6, value) = Some (V6, value)

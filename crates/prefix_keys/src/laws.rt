@@ -1,0 +1,16 @@
+ghost use Rattle.prefix_keys.specs.Laws.{AddressIsReadBack, BlockIsReadBack, LongestRunIsLongest};
+
+/// The run of zero groups that a text leaves out is the longest, and of equal ones the first.
+pub fn longest_run_is_longest()
+    ensures { LongestRunIsLongest }
+{}
+
+/// The printed text of an address is one of its written forms.
+pub fn address_is_read_back()
+    ensures { AddressIsReadBack }
+{}
+
+/// The printed text of a block is one of its written forms.
+pub fn block_is_read_back()
+    ensures { BlockIsReadBack }
+{}

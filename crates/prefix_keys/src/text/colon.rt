@@ -1,0 +1,149 @@
+ghost use Rattle.std.specs.Prelude.{◌≡◌, ◌≤◌, ◌<◌, ◌+◌, ◌*◌, ◌-◌, ◌^◌, IfSome, Some, None, List, [], ◌∷◌, option_map, nat_le, if◌then◌else◌};
+ghost use Rattle.prefix_keys.specs.Text.{is_hex_digit, hex_digit_value, hex_group, last_groups, text_groups, side_groups, more_groups, around_gap, colon_address};
+
+use crate::text::dotted::read_dotted;
+use crate::text::pieces::cut;
+
+/// Groups of 16 bits, at most eight: how many, and the number that they make, the first the highest.
+#[derive(Clone, Copy)]
+struct Groups {
+    count: u32,
+    number: u128,
+    ghost count_in_range: { count ≤ 8 },
+    ghost in_range: { number < 2 ^ (16 * count) },
+}
+
+impl Groups {
+    // These groups and one more behind them, where there is room.
+    fn push(self, group: u32) -> Option<Groups>
+        requires { group < 65536 }
+        ensures { option_map (λ groups. (groups.count, groups.number)) result
+            ≡ more_groups self.count self.number (Some (group ∷ [])) }
+    {
+        if self.count < 8 {
+            Some(Groups {
+                count: self.count + 1,
+                number: self.number * 65536 + u128::from(group),
+            })
+        } else {
+            None
+        }
+    }
+
+    // These groups and those of the last piece behind them: one, or two by an IPv4 text where one may stand there.
+    fn push_last(self, piece: &[u8], dotted: bool) -> Option<Groups>
+        ensures { option_map (λ groups. (groups.count, groups.number)) result
+            ≡ more_groups self.count self.number (last_groups dotted piece.now) }
+    {
+        if dotted && piece.contains(&b'.') {
+            let value = read_dotted(piece)?;
+            self.push(value / 65536)?.push(value % 65536)
+        } else {
+            self.push(read_group(piece)?)
+        }
+    }
+}
+
+// The number that one hexadecimal digit stands for.
+fn digit_value(byte: u8) -> Option<u32>
+    ensures value { result ≡ if is_hex_digit byte then Some (hex_digit_value byte) else None }
+    ensures limited { IfSome result (λ digit. digit < 16) }
+{
+    match byte {
+        b'0'..=b'9' => Some(u32::from(byte - b'0')),
+        b'A'..=b'F' => Some(u32::from(byte - b'A') + 10),
+        b'a'..=b'f' => Some(u32::from(byte - b'a') + 10),
+        _ => None,
+    }
+}
+
+// The group that one to four hexadecimal digits stand for.
+fn read_group(text: &[u8]) -> Option<u32>
+    ensures value { result ≡ hex_group text.now }
+    ensures limited { IfSome result (λ group. group < 65536) }
+{
+    if text.is_empty() || text.len() > 4 {
+        return None;
+    }
+    let mut group = 0;
+    for b in text {
+        group = group * 16 + digit_value(*b)?;
+    }
+    Some(group)
+}
+
+// The groups that a text writes by its pieces between colons, where they are at most eight.
+fn read_groups(text: &[u8], dotted: bool) -> Option<Groups>
+    ensures { option_map (λ groups. (groups.count, groups.number)) result
+        ≡ more_groups 0 0 (text_groups dotted text.now) }
+{
+    let mut groups = Groups {
+        count: 0,
+        number: 0,
+    };
+    let mut rest = text;
+    loop {
+        let (piece, behind) = cut(rest, b':');
+        if piece.len() == rest.len() {
+            return groups.push_last(piece, dotted);
+        }
+        groups = groups.push(read_group(piece)?)?;
+        rest = behind;
+    }
+}
+
+// The groups on one side of a `::`, where they are at most eight.
+fn read_side(text: &[u8], dotted: bool) -> Option<Groups>
+    ensures { option_map (λ groups. (groups.count, groups.number)) result
+        ≡ more_groups 0 0 (side_groups dotted text.now) }
+{
+    if text.is_empty() {
+        Some(Groups {
+            count: 0,
+            number: 0,
+        })
+    } else {
+        read_groups(text, dotted)
+    }
+}
+
+// What stands before the first `::` and after it.
+fn cut_gap(text: &[u8]) -> Option<(&[u8], &[u8])>
+    ensures { option_map (λ sides. (sides.0.now, sides.1.now)) result ≡ around_gap text.now }
+{
+    for at in 1..text.len() {
+        if text[at - 1] == b':' && text[at] == b':' {
+            return Some((&text[..at - 1], &text[at + 1..]));
+        }
+    }
+    None
+}
+
+// The number of eight groups, those of the front first and those of the back last, with zeros between, where that
+// leaves room for one zero or more.
+fn join(front: Groups, back: Groups) -> Option<u128>
+    ensures { result ≡ if nat_le (front.count + back.count) 7
+        then Some (front.number * 2 ^ (16 * (8 - front.count)) + back.number)
+        else None }
+{
+    if front.count + back.count > 7 {
+        return None;
+    }
+    let high = (front.number << (16 * (7 - front.count))) << 16;
+    Some(high + back.number)
+}
+
+/// The number of an IPv6 address in one of the forms of RFC 4291, section 2.2.
+pub fn read_colon(text: &[u8]) -> Option<u128>
+    ensures { result ≡ colon_address text.now }
+{
+    let Some((front, back)) = cut_gap(text) else {
+        let groups = read_groups(text, true)?;
+        return if groups.count == 8 {
+            Some(groups.number)
+        } else {
+            None
+        };
+    };
+    join(read_side(front, false)?, read_side(back, true)?)
+}
