@@ -1,18 +1,21 @@
 -- A map text's map as far as its first mappings go.
 use Rattle.std.proofs.Common.{◌≡◌, ℕ, ◌+◌, ◌-◌, ◌*◌, ◌^◌, ◌<◌, ◌≤◌, List, [], ◌∷◌, ◌++◌, map, take, get_or, length, sym, ap, subst, arith}
+use Rattle.std.proofs.Math.Nat.{mul-le-mul_right}
 use Rattle.std.proofs.lemmas.Grind.{take_at_read}
 use Rattle.std.proofs.lemmas.List.{map-append, take_all}
 use Rattle.std.proofs.lemmas.Nat.{pow_pos}
 use Rattle.prefix_keys.specs.Block.{first_of, last_of}
 use Rattle.prefix_keys.specs.Version.{width_of}
+use Rattle.prefix_keys.specs.declared.version.Version.{Version}
+use Rattle.prefix_keys.specs.declared.version.Version.TheVariants.{V4, V6}
 use Rattle.pmap_text.specs.MapModel.{Mapping, MapModel}
 use Rattle.pmap_text.specs.MapText.{map_of, mapping_of}
 use Rattle.pmap_text.specs.declared.map_text.MapText.{MapText}
 use Rattle.pmap_text.specs.declared.statement.Statement.{Statement}
 use Rattle.label_trie.specs.TrieModel.{LeafModel, IsCut}
-use Rattle.label_trie.specs.Node.{leaves_of, HasRoom, Fits}
+use Rattle.label_trie.specs.Node.{leaves_of, leaf_count, HasRoom, Fits}
 use Rattle.label_trie.specs.declared.node.Node.{Node}
-use Rattle.label_trie.proofs.Leaves.{fits_HasRoom, leaves_cut}
+use Rattle.label_trie.proofs.NodeLeaves.{fits_HasRoom, length_leaves, leaves_cut}
 use Rattle.label_trie.specs.Insert.{with_statement, IsBlock}
 
 -- the map of a text's first mappings
@@ -20,7 +23,7 @@ abbrev pub map_so_far : MapText → ℕ → MapModel
 map_so_far text count = record (map_of text) { mappings = map (mapping_of text.labels) (take count text.statements) }
 
 -- the whole address space is the block of no bits
-pub whole_space : (m : MapModel) (last : ℕ) → last + 1 ≡ 2 ^ width_of m.version → IsBlock m 0 last 0 0
+pub whole_space : (m : MapModel) (last : ℕ) → last + 1 ≡ 2 ^ width_of m.version → IsBlock (width_of m.version) 0 last 0 0
 whole_space m last is =
     let all : width_of m.version - 0 ≡ width_of m.version = omega arith in
     record { first_is = omega arith; last_is = rw all (omega (arith, is)) }
@@ -69,3 +72,18 @@ pub root_cut : (m : MapModel) (node : Node) → Fits m node 0 0 → IsCut (width
 root_cut m node f =
     let W = width_of m.version in
     root_ends W (leaves_of node 0 0) (leaves_cut W node 0 0 W (omega arith) (root_room m node f))
+
+-- how many leaves there may be
+width_most : (v : Version) → width_of v ≤ 128
+width_most V4 = omega arith
+width_most V6 = omega arith
+
+pub leaves_most : (v : Version) (leaves count : ℕ) → leaves ≤ 1 + 2 * width_of v * count → count ≤ 1000000 → 2 * leaves ≤ 2 ^ 32
+leaves_most v leaves count few within = omega (arith, few, within, mul-le-mul_right count (width_most v))
+
+-- one statement more, which adds so many
+pub few_more : (each before more after count : ℕ) → before ≤ 1 + each * count → more ≤ each → after ≤ before + more → after ≤ 1 + each * (count + 1)
+few_more each before more after count few most sum = omega arith
+
+pub root_few : (node : Node) (W count : ℕ) → leaf_count node ≤ 1 + 2 * W * count → 2 * length (leaves_of node 0 0) ≤ 2 + 4 * W * count
+root_few node W count few = omega (arith, few, length_leaves node 0 0)

@@ -1,7 +1,13 @@
+pub mod Finds
 pub mod Blocks
 pub mod LastSuch
 pub mod Settled
+pub mod Parted
 pub mod Inserted
-pub mod Leaves
+pub mod NodeLeaves
 pub mod Lookup
 pub mod Built
+pub mod Painted
+pub mod Longest
+pub mod ListBuilt
+pub mod Divided

@@ -1,7 +1,8 @@
 -- The label of an address among the leaves of a node.
-use Rattle.std.proofs.Common.{◌≡◌, ℕ, suc, ◌+◌, ◌-◌, ◌*◌, ◌/◌, ◌%◌, ◌^◌, ◌<◌, ◌≤◌, inl, inr, List, [], ◌++◌, Option, Some, None, option_and_then, length, refl, sym, ◌∙◌, ap, arith, find, slice_get, unwrap_or}
+use Rattle.std.proofs.Common.{◌≡◌, ℕ, suc, All, ◌+◌, ◌-◌, ◌*◌, ◌/◌, ◌%◌, ◌^◌, ◌<◌, ◌≤◌, inl, inr, List, [], ◌++◌, Option, Some, None, option_and_then, option_map, length, refl, sym, ◌∙◌, ap, arith, find, slice_get, unwrap_or}
 use Rattle.std.specs.Option.{option_or}
-use Rattle.std.proofs.lemmas.Bool.{cases_eq, eq-eqb, ne_eqb}
+use Rattle.std.proofs.lemmas.Bool.{cases_eq, eq-eqb, eqb-true, ne_eqb}
+use Rattle.std.proofs.lemmas.List.Elements.{All-contains}
 use Rattle.std.proofs.lemmas.List.Folds.{find-append}
 use Rattle.std.proofs.lemmas.Nat.{pow_pos, shr-shr, div-add-mod', mod_below, div_below}
 use Rattle.std.proofs.lemmas.Option.{slice_get-get_or}
@@ -9,11 +10,11 @@ use Rattle.prefix_keys.specs.Block.{block_number, first_of, last_of}
 use Rattle.prefix_keys.specs.Version.{width_of}
 use Rattle.pmap_text.specs.MapModel.{Label, MapModel, map_label}
 use Rattle.pmap_text.specs.MapText.{text_at}
-use Rattle.label_trie.specs.TrieModel.{LeafModel, has_address, label_among}
-use Rattle.label_trie.specs.Node.{leaves_of, HasRoom, Fits}
+use Rattle.label_trie.specs.TrieModel.{LeafModel, IsSettledLeaf, has_address, label_among}
+use Rattle.label_trie.specs.Node.{leaves_of, HasRoom}
 use Rattle.label_trie.specs.declared.node.Node.{Node}
 use Rattle.label_trie.specs.declared.node.Node.TheVariants.{Leaf, Inner'}
-use Rattle.label_trie.proofs.Leaves.{fits_HasRoom}
+use Rattle.label_trie.proofs.Finds.{find_passes}
 use Rattle.label_trie.proofs.Settled.{settled_address}
 
 -- an address is in the half whose number, halved, is that of its block
@@ -89,45 +90,61 @@ label_below_high W low high h a within positive room odd =
     rw (bits, here) (sym (label_among_high W low high (W - h) (a / 2 ^ h) h a (omega arith) positive room inside))
 
 -- an address of a block is between its ends
-block_from : (W n q a : ℕ) → q ≡ block_number W n a → first_of W n q ≤ a
+pub block_from : (W n q a : ℕ) → q ≡ block_number W n a → first_of W n q ≤ a
 block_from W n q a inside =
     let whole = div-add-mod' a (2 ^ (W - n)) in rw inside (omega (arith, whole))
 
-block_to : (W n q a : ℕ) → q ≡ block_number W n a → a ≤ last_of W n q
+pub block_to : (W n q a : ℕ) → q ≡ block_number W n a → a ≤ last_of W n q
 block_to W n q a inside =
     let whole = div-add-mod' a (2 ^ (W - n)) in
     let small = mod_below a (2 ^ (W - n)) (pow_pos (W - n)) in
     rw inside (omega (arith, whole, small))
 
-known_text : (table : List Label) (number : ℕ) → number < length table → slice_get table number ≡ Some (text_at table number)
+pub known_text : (table : List Label) (number : ℕ) → number < length table → slice_get table number ≡ Some (text_at table number)
 known_text table number known =
     let e = slice_get-get_or table number [] known in
     e ∙ ap Some (sym (ap (λ (o : Option Label). unwrap_or o []) e))
 
--- at each address of the block the label of a node that fits a map is the map's
-label_fits : (m : MapModel) (node : Node) (n q a : ℕ) → Fits m node n q → q ≡ block_number (width_of m.version) n a
-    → option_and_then (slice_get m.table) (label_among (width_of m.version) (leaves_of node n q) a) ≡ Some (map_label m a)
-label_fits m (Leaf label) n q a f inside =
-    let W = width_of m.version in
-    let same = settled_address m n q a (text_at m.table f.1.id.0) (block_from W n q a inside) (block_to W n q a inside) f.1.settled in
-    rw (eq-eqb q (block_number W n a) inside, f.1.is, same) (known_text m.table f.1.id.0 f.1.known)
-label_fits m (Inner' p low high) n q a f inside =
-    let W = width_of m.version in
-    let outer = outer_block W n a f.0 in
+-- each address of the block is in a leaf
+pub leaf_found : (W : ℕ) (node : Node) (n q h a : ℕ) → h + n ≡ W → HasRoom node h → q ≡ block_number W n a
+    → (leaf : LeafModel) × (find (has_address W a) (leaves_of node n q) ≡ Some leaf)
+leaf_found W (Leaf label) n q h a e room inside =
+    (record { bits = n; number = q; label = option_map (λ id. id.0) label }, rw (eq-eqb q (block_number W n a) inside))
+leaf_found W (Inner' p low high) n q h a e room inside =
+    let outer = outer_block W n a (omega (arith, room.0)) in
     elim (cases_eq (2 * q) (block_number W (suc n) a)) [
-      | inl side ↦ rw (label_among_low W low high n q (W - n) a (omega (arith, f.0)) (omega (arith, f.0)) (fits_HasRoom m high (suc n) (2 * q + 1) (W - n - 1) (omega (arith, f.0)) f.3) side)
-          (label_fits m low (suc n) (2 * q) a f.2 side)
+      | inl side ↦
+          let below = leaf_found W low (suc n) (2 * q) (h - 1) a (omega (arith, room.0)) room.1 side in
+          (below.0, found_low W low high n q h a e room.0 room.2 side ∙ below.1)
       | inr other ↦
           let side : 2 * q + 1 ≡ block_number W (suc n) a = omega (arith, outer, inside, other) in
-          rw (label_among_high W low high n q (W - n) a (omega (arith, f.0)) (omega (arith, f.0)) (fits_HasRoom m low (suc n) (2 * q) (W - n - 1) (omega (arith, f.0)) f.2) side)
-          (label_fits m high (suc n) (2 * q + 1) a f.3 side)
+          let below = leaf_found W high (suc n) (2 * q + 1) (h - 1) a (omega (arith, room.0)) room.2 side in
+          (below.0, found_high W low high n q h a e room.0 room.1 side ∙ below.1)
     ]
 
--- so the label of a whole trie is the map's at each address
-pub labels_fit : (m : MapModel) (node : Node) (a : ℕ) → Fits m node 0 0 → a < 2 ^ width_of m.version
-    → option_and_then (slice_get m.table) (label_among (width_of m.version) (leaves_of node 0 0) a) ≡ Some (map_label m a)
-labels_fit m node a f below =
-    let W = width_of m.version in
-    let all : W - 0 ≡ W = omega arith in
+-- what is true of each leaf is true of that with the address
+pub leaf_with : (W : ℕ) (P : LeafModel → Type 0) (node : Node) (a : ℕ) → HasRoom node W → a < 2 ^ W → All P (leaves_of node 0 0)
+    → (leaf : LeafModel) × P leaf × (leaf.number ≡ block_number W leaf.bits a) × (label_among W (leaves_of node 0 0) a ≡ leaf.label)
+leaf_with W P node a room below all =
+    let whole : W - 0 ≡ W = omega arith in
     let first : a / 2 ^ W < 1 = div_below a (2 ^ W) 1 (pow_pos W) (omega (arith, below)) in
-    label_fits m node 0 0 a f (rw all (omega (arith, first)))
+    let found = leaf_found W node 0 0 W a (omega arith) room (rw whole (omega (arith, first))) in
+    let passes = find_passes (has_address W a) (leaves_of node 0 0) found.0 found.1 in (
+      found.0,
+      All-contains P (leaves_of node 0 0) found.0 all passes.0,
+      eqb-true found.0.number (block_number W found.0.bits a) passes.1,
+      ap (option_and_then (λ leaf. leaf.label)) found.1,
+    )
+
+-- so the label of a whole trie is the map's at each address
+pub labels_fit : (m : MapModel) (node : Node) (a : ℕ) → HasRoom node (width_of m.version) → All (IsSettledLeaf m) (leaves_of node 0 0)
+    → a < 2 ^ width_of m.version
+    → option_and_then (slice_get m.table) (label_among (width_of m.version) (leaves_of node 0 0) a) ≡ Some (map_label m a)
+labels_fit m node a room all below =
+    let W = width_of m.version in
+    let here = leaf_with W (IsSettledLeaf m) node a room below all in
+    let leaf = here.0 in
+    let f = here.1 in
+    let same = settled_address m leaf.bits leaf.number a (text_at m.table f.id) (block_from W leaf.bits leaf.number a here.2)
+    (block_to W leaf.bits leaf.number a here.2) f.settled in
+    rw (here.3, f.is, same) (known_text m.table f.id f.known)

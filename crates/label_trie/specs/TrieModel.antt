@@ -1,7 +1,9 @@
-use Rattle.std.specs.Prelude.{◌≡◌, ℕ, ◌+◌, ◌-◌, ◌/◌, ◌^◌, ◌<◌, ◌≤◌, ◌==◌, Bool, List, [], ◌∷◌, Option, Some, None, length, find, option_and_then}
+use Rattle.std.specs.Prelude.{◌≡◌, ℕ, suc, ◌+◌, ◌-◌, ◌/◌, ◌^◌, ◌<◌, ◌≤◌, ◌==◌, Bool, List, [], ◌∷◌, Option, Some, None, length, filter, find, slice_get, option_and_then}
+use Rattle.std.specs.Option.{ForSome}
 use Rattle.prefix_keys.specs.Block.{block_number, first_of, last_of}
 use Rattle.prefix_keys.specs.Version.{width_of}
 use Rattle.prefix_keys.specs.declared.version.Version.{Version}
+use Rattle.pmap_text.specs.ListModel.{ListModel, label_below, lies_inside}
 use Rattle.pmap_text.specs.MapModel.{MapModel, IsSettled, settled_label}
 use Rattle.pmap_text.specs.MapText.{text_at}
 
@@ -48,3 +50,11 @@ pub record IsSettledLeaf (m : MapModel) (leaf : LeafModel) : Type 0 where
 -- no block that has the leaf's block and more is settled by the map
 abbrev pub IsUndivided : MapModel → LeafModel → Type 0
 IsUndivided m leaf = (k : ℕ) → k < leaf.bits → settled_label m k (leaf.number / 2 ^ (leaf.bits - k)) ≡ None
+
+-- The prefix list decides the whole block of the leaf: no entry lies strictly inside the block, and the longest that covers
+-- it has the leaf's label. Where no entry covers the block, the leaf has none. The label is in the list's label table.
+pub record IsDecidedLeaf (l : ListModel) (leaf : LeafModel) : Type 0 where
+  pub inside : filter (lies_inside (width_of l.version) leaf.bits leaf.number) l.prefixes ≡ []
+  pub longest : label_below (width_of l.version) l.prefixes (suc leaf.bits) (first_of (width_of l.version) leaf.bits leaf.number)
+      ≡ option_and_then (slice_get l.table) leaf.label
+  pub known : ForSome leaf.label (λ id. id < length l.table)

@@ -1,14 +1,23 @@
 //! A labelled binary trie over the addresses of one version.
 //!
-//! It stands on prefix_keys (addresses, statements' spans) and pmap_text (map texts and their label tables). A
-//! trie halves the address space until each piece, a leaf, has one label. The layer above may rely on this: the
-//! leaves are blocks in rising order that cover every address once, each leaf is settled by the map that the trie
-//! was built of and has the label that settles it, no block round a leaf is settled, and so the label that the
-//! trie gives at an address is the map's. Contracts see a trie as the list of its leaves; how its nodes are kept
-//! is its own affair.
+//! It stands on prefix_keys (addresses, statements' spans) and pmap_text (map texts, prefix lists and their label
+//! tables). A trie halves the address space until each piece, a leaf, has one label or none. The layer above may rely
+//! on this: the leaves are blocks in rising order that cover every address once. In the trie of a map each leaf is
+//! settled by the map and has the label that settles it, no block round a leaf is settled, and so the label that the
+//! trie gives at an address is the map's. In the trie of a prefix list no entry lies strictly inside a leaf, each leaf
+//! has the label of the longest entry that covers it, or none, and so has each address. A walk from the root by
+//! cursors meets these leaves, and in the trie of a map no block that it meets on the way is settled. The nodes number
+//! at most one, and four times the width for each statement or twice the width for each entry. Contracts see a trie as
+//! the list of its leaves; how its nodes are kept is its own affair.
 #![tactic(auto)]
 
+pub mod cursor;
+pub mod leaf;
+pub mod leaves;
 mod node;
 pub mod trie;
 
+pub use cursor::{Cursor, Parts};
+pub use leaf::Leaf;
+pub use leaves::Leaves;
 pub use trie::Trie;

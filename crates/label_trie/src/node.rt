@@ -1,9 +1,14 @@
-ghost use Rattle.std.specs.Prelude.{◌≡◌, ◌+◌, ◌-◌, ◌/◌, ◌^◌, ◌<◌, ◌≤◌, ℕ, OnOk, option_map};
+ghost use Rattle.std.specs.Prelude.{◌≡◌, ◌+◌, ◌-◌, ◌*◌, ◌/◌, ◌^◌, ◌<◌, ◌≤◌, ◌++◌, ℕ, All, OnOk, map, option_map};
+ghost use Rattle.prefix_keys.specs.Version.{width_of};
 ghost use Rattle.label_trie.specs.Insert.{FollowsNode, FollowsHalves};
-ghost use Rattle.label_trie.specs.Node.{HasRoom, leaves_of};
+ghost use Rattle.label_trie.specs.Leaf.{model_of, number_of};
+ghost use Rattle.label_trie.specs.Node.{HasRoom, leaf_count, leaves_of};
 ghost use Rattle.label_trie.specs.TrieModel.{label_among};
 
+use crate::leaf::Leaf;
+use crate::leaves::Leaves;
 use pmap_text::{LabelId, Statement};
+use prefix_keys::Block;
 use std::alloc::{AllocError, Global};
 
 /// What a trie has for a block of addresses: one label, or the two halves of the block.
@@ -18,8 +23,8 @@ pub enum Node {
 #[cycle(node)]
 #[derive(Drop)]
 pub struct Halves {
-    low: Node,
-    high: Node,
+    pub low: Node,
+    pub high: Node,
 }
 
 /// Adds a statement at the node that stands for the addresses from `first` to `last`.
@@ -95,5 +100,39 @@ pub fn label_below(node: &Node, host_bits: u32, address: u128) -> Option<LabelId
                 label_below(&halves.high, host_bits, address)
             }
         }
+    }
+}
+
+/// Adds the leaves at and below the node, which stands for the block, at the end.
+pub fn push_leaves(leaves: &mut Leaves, node: &Node, block: Block) -> Result<(), AllocError>
+    requires { HasRoom node.now (width_of block.version - block.len) }
+    ensures version { OnOk result (All (λ leaf. leaf.block.version ≡ block.version) leaves.old
+        → All (λ leaf. leaf.block.version ≡ block.version) leaves.new) }
+    ensures leaves { OnOk result (map model_of leaves.new
+        ≡ map model_of leaves.old ++ leaves_of node.now block.len (number_of block)) }
+{
+    match node {
+        Node::Leaf(label) => leaves.push(Leaf {
+            block,
+            label: *label,
+        }),
+        Node::Inner(halves) => {
+            let Some((low, high)) = block.halves() else {
+                unreachable!()
+            };
+            push_leaves(leaves, &halves.low, low)?;
+            push_leaves(leaves, &halves.high, high)
+        }
+    }
+}
+
+/// How many nodes there are at and below the node: the leaves, and one inner node less.
+pub fn count_nodes(node: &Node) -> u32
+    requires { 2 * leaf_count node.now ≤ 2 ^ 32 }
+    ensures { result + 1 ≡ 2 * leaf_count node.now }
+{
+    match node {
+        Node::Leaf(_) => 1,
+        Node::Inner(halves) => count_nodes(&halves.low) + count_nodes(&halves.high) + 1,
     }
 }

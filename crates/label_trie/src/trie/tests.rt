@@ -3,9 +3,12 @@ ghost use Rattle.pmap_text.specs.MapModel.{map_label};
 ghost use Rattle.pmap_text.specs.MapText.{map_of};
 
 use super::Trie;
+use crate::cursor::{Cursor, Parts};
+use crate::leaf::Leaf;
+use crate::leaves::Leaves;
 use pmap_text::label::is_label;
-use pmap_text::{LabelId, Labels, MapText, Statement, Statements};
-use prefix_keys::{Addr, Span, Version};
+use pmap_text::{Entries, Entry, LabelId, Labels, MapText, PrefixList, Statement, Statements};
+use prefix_keys::{Addr, Block, Span, Version};
 use std::alloc::{AllocError, Global};
 use std::process::Abort;
 
@@ -99,6 +102,68 @@ fn labels_are(
     Ok(())
 }
 
+// Adds the leaves that are met from the place, the lower half first.
+fn walk(leaves: &mut Leaves, place: &Cursor) -> Result<(), AllocError> {
+    match place.parts() {
+        Parts::Leaf(label) => leaves.push(Leaf {
+            block: place.block(),
+            label,
+        }),
+        Parts::Inner(low, high) => {
+            walk(leaves, &low)?;
+            walk(leaves, &high)
+        }
+    }
+}
+
+// The trie of the map has leaves with these lowest addresses, lengths and labels, and a walk meets the same.
+fn leaves_are(
+    rt: &impl Abort,
+    alloc: Global,
+    version: Version,
+    spans: &[(u128, u128, u32)],
+    wanted: &[(u128, u32, u32)],
+) -> Result<(), AllocError> {
+    let map = map(rt, alloc, version, spans)?;
+    let trie = Trie::build(alloc, &map)?;
+    let mut leaves = Leaves::new(alloc);
+    for &(value, len, label) in wanted {
+        let block = Block::new(version, value, len).expect(rt, "a block");
+        leaves.push(Leaf {
+            block,
+            label: Some(LabelId(label)),
+        })?;
+    }
+    let given = trie.leaves(alloc)?;
+    assert_eq!(rt; given.as_slice(), leaves.as_slice());
+    let mut met = Leaves::new(alloc);
+    assert!(rt; met.is_empty());
+    walk(&mut met, &trie.root())?;
+    assert_eq!(rt; met.as_slice(), leaves.as_slice());
+    assert_eq!(rt; trie.node_count() as usize + 1, 2 * met.len());
+    Ok(())
+}
+
+#[test]
+fn has_leaves_in_rising_order(rt: HostRuntime) -> Result<(), AllocError> {
+    let (rt, alloc) = (&rt, rt.alloc());
+    leaves_are(rt, alloc, Version::V4, &[], &[(0, 0, UNKNOWN)])?;
+    let high = 0x8000_0000;
+    let halves = [(0, high - 1, A), (high, 0xffff_ffff, B)];
+    leaves_are(rt, alloc, Version::V4, &halves, &[(0, 1, A), (high, 1, B)])?;
+    let quarter = [(0, 0xffff_ffff, B), (0x4000_0000, high - 1, A)];
+    let wanted = [(0, 2, B), (0x4000_0000, 2, A), (high, 1, B)];
+    leaves_are(rt, alloc, Version::V4, &quarter, &wanted)?;
+    let all = u128::MAX;
+    leaves_are(
+        rt,
+        alloc,
+        Version::V6,
+        &[(0, 7, A), (0, all, B)],
+        &[(0, 0, B)],
+    )
+}
+
 #[test]
 fn has_the_default_where_no_statement_covers(rt: HostRuntime) -> Result<(), AllocError> {
     let wanted = [(0, UNKNOWN), (0x0102_0304, UNKNOWN), (0xffff_ffff, UNKNOWN)];
@@ -153,4 +218,79 @@ fn takes_addresses_of_128_bits(rt: HostRuntime) -> Result<(), AllocError> {
         (u128::MAX, B),
     ];
     labels_are(&rt, rt.alloc(), Version::V6, &spans, &wanted)
+}
+
+// A list with these entries: the lowest address of the block, its length, and the label's number.
+fn list(
+    rt: &impl Abort,
+    alloc: Global,
+    version: Version,
+    blocks: &[(u128, u32, u32)],
+) -> Result<PrefixList, AllocError>
+    ensures { IfOk result (λ l. l.version ≡ version) }
+{
+    let labels = labels(rt, alloc)?;
+    assert!(rt; labels.len() == 3);
+    let mut entries = Entries::new(alloc);
+    for &(value, len, label) in blocks {
+        assert!(rt; label < 3);
+        let block = Block::new(version, value, len).expect(rt, "a block");
+        assert!(rt; !entries.has_block(&block));
+        entries.push(Entry {
+            block,
+            label: LabelId(label),
+        })?;
+    }
+    assert!(rt; entries.len() == blocks.len());
+    Ok(PrefixList {
+        version,
+        name: None,
+        entries,
+        labels,
+    })
+}
+
+// The trie of the list has leaves with these lowest addresses, lengths and labels.
+fn list_leaves_are(
+    rt: &impl Abort,
+    alloc: Global,
+    version: Version,
+    blocks: &[(u128, u32, u32)],
+    wanted: &[(u128, u32, Option<u32>)],
+) -> Result<(), AllocError> {
+    let list = list(rt, alloc, version, blocks)?;
+    assert!(rt; list.entries.len() <= 1000000);
+    let trie = Trie::build_list(alloc, &list)?;
+    let mut leaves = Leaves::new(alloc);
+    for &(value, len, number) in wanted {
+        let block = Block::new(version, value, len).expect(rt, "a block");
+        let label = number.map(LabelId);
+        leaves.push(Leaf { block, label })?;
+        assert_eq!(rt; trie.label_at(block.high()), label);
+    }
+    let given = trie.leaves(alloc)?;
+    assert_eq!(rt; given.as_slice(), leaves.as_slice());
+    Ok(())
+}
+
+#[test]
+fn has_no_label_where_no_entry_covers(rt: HostRuntime) -> Result<(), AllocError> {
+    let (rt, alloc) = (&rt, rt.alloc());
+    list_leaves_are(rt, alloc, Version::V4, &[], &[(0, 0, None)])?;
+    let wanted = [(0, 1, Some(A)), (0x8000_0000, 1, None)];
+    list_leaves_are(rt, alloc, Version::V4, &[(0, 1, A)], &wanted)
+}
+
+#[test]
+fn has_the_label_of_the_longest_entry(rt: HostRuntime) -> Result<(), AllocError> {
+    let (rt, alloc) = (&rt, rt.alloc());
+    let wanted = [
+        (0, 2, Some(B)),
+        (0x4000_0000, 2, Some(A)),
+        (0x8000_0000, 1, None),
+    ];
+    let (half, quarter) = ((0, 1, A), (0x4000_0000, 2, A));
+    list_leaves_are(rt, alloc, Version::V4, &[(0, 2, B), half], &wanted)?;
+    list_leaves_are(rt, alloc, Version::V4, &[half, (0, 2, B)], &wanted)?;
+    list_leaves_are(rt, alloc, Version::V4, &[quarter, (0, 1, B)], &wanted)
 }

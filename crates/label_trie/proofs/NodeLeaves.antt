@@ -1,14 +1,14 @@
 -- The leaves of a node: what its room, and what a map that it fits, say of them.
-use Rattle.std.proofs.Common.{◌≡◌, ℕ, suc, ◌+◌, ◌-◌, ◌*◌, ◌/◌, ◌^◌, ◌<◌, ◌≤◌, inl, inr, List, [], ◌∷◌, ◌++◌, Option, None, option_map, refl, sym, ap, arith, All}
+use Rattle.std.proofs.Common.{◌≡◌, ℕ, suc, ◌+◌, ◌-◌, ◌*◌, ◌/◌, ◌^◌, ◌<◌, ◌≤◌, inl, inr, List, [], ◌∷◌, ◌++◌, Option, Some, None, option_map, refl, sym, arith, All, Contains, IsSome, length, length-append, true≢false}
 use Rattle.std.proofs.lemmas.Bool.{cases_eq}
-use Rattle.std.proofs.lemmas.List.Elements.{All-nil, All-cons, All-append, All-weaker}
+use Rattle.std.proofs.lemmas.List.Elements.{All-nil, All-cons, All-append, All-weaker, All-contains, Contains-push, Contains-append_left}
 use Rattle.std.proofs.lemmas.Nat.{pow_pos, shr-shr}
 use Rattle.prefix_keys.specs.Block.{first_of, last_of}
 use Rattle.prefix_keys.specs.Version.{width_of}
 use Rattle.pmap_text.specs.MapModel.{MapModel, settled_label}
 use Rattle.pmap_text.specs.declared.label.LabelId.{LabelId}
 use Rattle.label_trie.specs.TrieModel.{LeafModel, IsCut, IsSettledLeaf, IsUndivided}
-use Rattle.label_trie.specs.Node.{leaves_of, HasRoom, Settles, Fits}
+use Rattle.label_trie.specs.Node.{leaves_of, leaf_count, HasRoom, Settles, Fits, IsLabelled}
 use Rattle.label_trie.specs.declared.node.Node.{Node}
 use Rattle.label_trie.specs.declared.node.Node.TheVariants.{Leaf, Inner'}
 use Rattle.label_trie.proofs.Blocks.{size_of_halves}
@@ -21,6 +21,12 @@ fits_HasRoom m (Inner' p low high) n q h e f = (
   fits_HasRoom m low (suc n) (2 * q) (h - 1) (omega (arith, f.0)) f.2,
   fits_HasRoom m high (suc n) (2 * q + 1) (h - 1) (omega (arith, f.0)) f.3,
 )
+
+pub length_leaves : (node : Node) (n q : ℕ) → length (leaves_of node n q) ≡ leaf_count node
+length_leaves (Leaf label) n q = refl
+length_leaves (Inner' p low high) n q =
+    let sum = length-append (leaves_of low (suc n) (2 * q)) (leaves_of high (suc n) (2 * q + 1)) in
+    omega (arith, sum, length_leaves low (suc n) (2 * q), length_leaves high (suc n) (2 * q + 1))
 
 IsCut-append : (W from middle to : ℕ) (xs ys : List LeafModel) → IsCut W from middle xs → IsCut W middle to ys → IsCut W from to (xs ++ ys)
 IsCut-append W from middle to [] ys front back = let e : from ≡ middle = front in rw e back
@@ -65,17 +71,13 @@ outer_number number bits n below =
     let more : bits - n ≡ (bits - suc n) + 1 = omega arith in
     rw more (sym (shr-shr number (bits - suc n) 1))
 
-leaf_here : (m : MapModel) (label : Option LabelId) (n q : ℕ) → Settles m label n q
+leaf_here : (m : MapModel) (label : Option LabelId) (n q : ℕ) → Settles m label n q → IsSome label
     → IsLeafBelow m n q (record { bits = n; number = q; label = option_map (λ id. id.0) label })
-leaf_here m label n q f = record {
+leaf_here m None n q f some = absurd (true≢false (sym some))
+leaf_here m (Some id) n q f some = record {
   deep = omega arith;
   within = let none : n - n ≡ 0 = omega arith in rw none (omega arith);
-  settled = record {
-    id = f.id.0;
-    is = ap (option_map (λ id. id.0)) f.is;
-    known = f.known;
-    settled = f.settled;
-  };
+  settled = record { id = id.0; is = refl; known = f.0; settled = f.1 };
   undivided = λ k from to. absurd (omega (arith, from, to));
 }
 
@@ -94,19 +96,54 @@ leaf_further m n q b leaf small open' f =
       ];
     }
 
-leaves_below : (m : MapModel) (node : Node) (n q : ℕ) → Fits m node n q → All (IsLeafBelow m n q) (leaves_of node n q)
-leaves_below m (Leaf label) n q f = All-cons (IsLeafBelow m n q) _ [] (leaf_here m label n q f.1) (All-nil (IsLeafBelow m n q))
-leaves_below m (Inner' p low high) n q f =
+leaves_below : (m : MapModel) (node : Node) (n q : ℕ) → Fits m node n q → IsLabelled node → All (IsLeafBelow m n q) (leaves_of node n q)
+leaves_below m (Leaf label) n q f l = All-cons (IsLeafBelow m n q) _ [] (leaf_here m label n q f.1 l) (All-nil (IsLeafBelow m n q))
+leaves_below m (Inner' p low high) n q f l =
     let front = All-weaker (IsLeafBelow m (suc n) (2 * q)) (IsLeafBelow m n q) (λ leaf g. leaf_further m n q 0 leaf (omega arith) f.1 (let e : 2 * q ≡ 2 * q + 0 = omega arith in rw e at g))
-    (leaves_of low (suc n) (2 * q)) (leaves_below m low (suc n) (2 * q) f.2) in
+    (leaves_of low (suc n) (2 * q)) (leaves_below m low (suc n) (2 * q) f.2 l.0) in
     let back = All-weaker (IsLeafBelow m (suc n) (2 * q + 1)) (IsLeafBelow m n q) (λ leaf g. leaf_further m n q 1 leaf (omega arith) f.1 g)
-    (leaves_of high (suc n) (2 * q + 1)) (leaves_below m high (suc n) (2 * q + 1) f.3) in
+    (leaves_of high (suc n) (2 * q + 1)) (leaves_below m high (suc n) (2 * q + 1) f.3 l.1) in
     All-append (IsLeafBelow m n q) (leaves_of low (suc n) (2 * q)) (leaves_of high (suc n) (2 * q + 1)) front back
 
-pub leaves_settled : (m : MapModel) (node : Node) → Fits m node 0 0 → All (IsSettledLeaf m) (leaves_of node 0 0)
-leaves_settled m node f =
-    All-weaker (IsLeafBelow m 0 0) (IsSettledLeaf m) (λ leaf g. g.settled) (leaves_of node 0 0) (leaves_below m node 0 0 f)
+pub leaves_settled : (m : MapModel) (node : Node) → Fits m node 0 0 → IsLabelled node → All (IsSettledLeaf m) (leaves_of node 0 0)
+leaves_settled m node f l =
+    All-weaker (IsLeafBelow m 0 0) (IsSettledLeaf m) (λ leaf g. g.settled) (leaves_of node 0 0) (leaves_below m node 0 0 f l)
 
-pub leaves_undivided : (m : MapModel) (node : Node) → Fits m node 0 0 → All (IsUndivided m) (leaves_of node 0 0)
-leaves_undivided m node f =
-    All-weaker (IsLeafBelow m 0 0) (IsUndivided m) (λ leaf g k to. g.undivided k (omega arith) to) (leaves_of node 0 0) (leaves_below m node 0 0 f)
+pub leaves_undivided : (m : MapModel) (node : Node) → Fits m node 0 0 → IsLabelled node → All (IsUndivided m) (leaves_of node 0 0)
+leaves_undivided m node f l =
+    All-weaker (IsLeafBelow m 0 0) (IsUndivided m) (λ leaf g k to. g.undivided k (omega arith) to) (leaves_of node 0 0) (leaves_below m node 0 0 f l)
+
+-- one of the leaves lies in the block of n bits with the number q
+record HasInside (leaves : List LeafModel) (n q : ℕ) : Type 0 where
+  leaf : LeafModel
+  contained : Contains leaves leaf
+  deep : n ≤ leaf.bits
+  within : leaf.number / 2 ^ (leaf.bits - n) ≡ q
+
+has_inside : (node : Node) (n q : ℕ) → HasInside (leaves_of node n q) n q
+has_inside (Leaf label) n q = record {
+  leaf = record { bits = n; number = q; label = option_map (λ id. id.0) label };
+  contained = Contains-push [] _;
+  deep = omega arith;
+  within = let none : n - n ≡ 0 = omega arith in rw none (omega arith);
+}
+has_inside (Inner' p low high) n q =
+    let f = has_inside low (suc n) (2 * q) in
+    let number = outer_number f.leaf.number f.leaf.bits n (omega (arith, f.deep)) in
+    record {
+      leaf = f.leaf;
+      contained = Contains-append_left (leaves_of low (suc n) (2 * q)) (leaves_of high (suc n) (2 * q + 1)) f.leaf f.contained;
+      deep = omega (arith, f.deep);
+      within = omega (arith, number, f.within);
+    }
+
+-- a divided block is round a leaf
+pub inner_unsettled : (m : MapModel) (low high : Node) (n q : ℕ)
+    → All (IsUndivided m) (leaves_of low (suc n) (2 * q) ++ leaves_of high (suc n) (2 * q + 1)) → settled_label m n q ≡ None
+inner_unsettled m low high n q undivided =
+    let f = has_inside low (suc n) (2 * q) in
+    let number = outer_number f.leaf.number f.leaf.bits n (omega (arith, f.deep)) in
+    let within : f.leaf.number / 2 ^ (f.leaf.bits - n) ≡ q = omega (arith, number, f.within) in
+    let contained = Contains-append_left (leaves_of low (suc n) (2 * q)) (leaves_of high (suc n) (2 * q + 1)) f.leaf f.contained in
+    let none = All-contains (IsUndivided m) (leaves_of low (suc n) (2 * q) ++ leaves_of high (suc n) (2 * q + 1)) f.leaf undivided contained n (omega (arith, f.deep)) in
+    rw within at none

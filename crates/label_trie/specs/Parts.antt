@@ -1,0 +1,27 @@
+use Rattle.std.specs.Prelude.{◌≡◌, ℕ, ◌+◌, ◌*◌, [], ◌∷◌, ◌++◌, None, All}
+use Rattle.prefix_keys.specs.declared.block.Block.{Block}
+use Rattle.pmap_text.specs.MapModel.{MapModel, settled_label}
+use Rattle.label_trie.specs.TrieModel.{IsUndivided}
+use Rattle.label_trie.specs.Leaf.{number_of, model_of}
+use Rattle.label_trie.specs.CursorModel.{CursorModel}
+use Rattle.label_trie.specs.declared.cursor.Parts.{Parts}
+use Rattle.label_trie.specs.declared.cursor.Parts.TheVariants.{Leaf, Inner}
+
+-- the block is the lower half of the whole, where the side is 0, or the higher one, where it is 1
+pub record IsHalf (side : ℕ) (whole half : Block) : Type 0 where
+  pub version : half.version ≡ whole.version
+  pub len : half.len ≡ whole.len + 1
+  pub number : number_of half ≡ 2 * number_of whole + side
+
+-- A place divided into two, which stand at the halves of its block and together have its leaves. No map that settles no
+-- block round a leaf there settles the block.
+pub record IsDivided (whole low high : CursorModel) : Type 0 where
+  pub low_half : IsHalf 0 whole.block low.block
+  pub high_half : IsHalf 1 whole.block high.block
+  pub leaves : whole.leaves ≡ low.leaves ++ high.leaves
+  pub unsettled : (m : MapModel) → All (IsUndivided m) whole.leaves → settled_label m whole.block.len (number_of whole.block) ≡ None
+
+-- what there is at a place: one leaf with its block and the label, or two places
+abbrev pub ArePartsOf : CursorModel → Parts → Type 0
+ArePartsOf c (Leaf label) = c.leaves ≡ model_of (record { block = c.block; label = label }) ∷ []
+ArePartsOf c (Inner low high) = IsDivided c low high

@@ -1,0 +1,61 @@
+ghost use Rattle.std.specs.Prelude.{◌≡◌, ◌++◌, ◌∷◌, ◌↔◌, [], length, IsTrue, OnErr, OnOk};
+
+use crate::leaf::Leaf;
+use std::alloc::{AllocError, Global};
+use std::marker::Model;
+
+/// The leaves of a trie, in rising order of their blocks.
+#[derive(Debug, Drop)]
+pub struct Leaves {
+    items: Vec<Leaf>,
+}
+
+impl Model for Leaves {
+    ghost use Rattle.std.specs.Prelude.{List};
+    ghost use Rattle.label_trie.specs.declared.leaf.Leaf.{Leaf};
+
+    ghost Value = { List Leaf };
+
+    ghost view = { λ s. s.items.items };
+}
+
+impl Leaves {
+    /// No leaves.
+    pub fn new(alloc: Global) -> Leaves
+        ensures { result ≡ [] }
+    {
+        Leaves {
+            items: Vec::new(alloc),
+        }
+    }
+
+    /// How many leaves there are.
+    pub fn len(&self) -> usize
+        ensures { result ≡ length self.now }
+    {
+        self.items.len()
+    }
+
+    /// Whether there is no leaf.
+    pub fn is_empty(&self) -> bool
+        ensures { IsTrue result ↔ (self.now ≡ []) }
+    {
+        self.items.is_empty()
+    }
+
+    /// The leaves in order.
+    pub fn as_slice(&self) -> &[Leaf]
+        ensures { result.now ≡ self.now }
+    {
+        self.items.as_slice()
+    }
+
+    /// Adds a leaf at the end.
+    pub fn push(&mut self, leaf: Leaf) -> Result<(), AllocError>
+        ensures ok { OnOk result (self.new ≡ self.old ++ leaf ∷ []) }
+        ensures err { OnErr result (self.new ≡ self.old) }
+    {
+        self.items.push(leaf)?;
+        Ok(())
+    }
+}
