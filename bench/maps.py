@@ -1,10 +1,12 @@
-"""Writes a map text like a dump of a routing table: maps.py LINES ORDER FILE, where ORDER is sorted or shuffled.
+"""Writes a map text like a dump of a routing table: maps.py LINES ORDER FILE, where ORDER is sorted, shuffled or ranges.
 
 The same arguments write the same bytes. Prefixes have the lengths of a table of the whole Internet: most are /24, then
 come /16 to /23, and few are shorter. A sorted text has them by address and then by length, so that the longer of two
-nested prefixes stands later and counts. A shuffled one has the same lines in no order.
+nested prefixes stands later and counts. A shuffled one has the same lines in no order. A text of ranges is over IPv6:
+each line has the first and the last address of some neighbouring /48 prefixes out of 2000::/3, in no order.
 """
 
+import ipaddress
 import random
 import sys
 
@@ -37,10 +39,23 @@ def prefixes(rng, count):
     return sorted(found)
 
 
+def ranges(rng, names, count):
+    """The lines of so many ranges of 1 to 64 networks of /48."""
+    for _ in range(count):
+        low = 1 << 125 | rng.getrandbits(45) << 80
+        high = min(low + (rng.randrange(1, 65) << 80), 1 << 126) - 1
+        yield f"{ipaddress.IPv6Address(low)} {ipaddress.IPv6Address(high)} {rng.choice(names)}"
+
+
 def lines(count, order):
     """The lines of a text."""
     rng = random.Random(SEED)
     names = labels(rng)
+    if order == "ranges":
+        yield "mode ipv6"
+        yield "default unassigned"
+        yield from ranges(rng, names, count - 2)
+        return
     yield "# made by bench/maps.py"
     yield "default unassigned"
     # Of fewer lines the lengths are those of more, and there are only so many short prefixes.

@@ -12,6 +12,8 @@ import sys
 import time
 
 ADDRESSES = ("10.1.2.3", "128.9.160.23", "223.255.255.254")
+# Those of a text of ranges, which is over IPv6.
+RANGE_ADDRESSES = ("2001:db8::1", "2a02:26f7:b::77", "3fff:ffff:ffff:ffff::1")
 # It adds less to the memory that it measures than this interpreter does.
 METER = "/usr/bin/time"
 
@@ -37,10 +39,10 @@ def peak(words):
     return usage.ru_maxrss * 1024 / 1e6
 
 
-def measure(before):
+def measure(before, addresses):
     """The answers of a program, its seconds and its memory; `before` is the words before the address."""
-    runs = [answer([*before, address]) for address in ADDRESSES]
-    return [text for text, _ in runs], min(seconds for _, seconds in runs), peak([*before, ADDRESSES[0]])
+    runs = [answer([*before, address]) for address in addresses]
+    return [text for text, _ in runs], min(seconds for _, seconds in runs), peak([*before, addresses[0]])
 
 
 def growth(value, earlier):
@@ -57,13 +59,14 @@ def main():
     earlier = {}
     for name in maps:
         order, lines = re.fullmatch(r"(\w+)-(\d+)\.txt", os.path.basename(name)).groups()
-        answers, seconds, memory = measure([program, "label", "--pmap", name])
+        addresses = RANGE_ADDRESSES if order == "ranges" else ADDRESSES
+        answers, seconds, memory = measure([program, "label", "--pmap", name], addresses)
         last_seconds, last_memory = earlier.get(order, (None, None))
         row = [f"{int(lines):,}", order, f"{seconds:.3f}", growth(seconds, last_seconds)]
         row += [f"{memory:.1f}", growth(memory, last_memory)]
         earlier[order] = seconds, memory
         if has_baseline:
-            scanned, scan_seconds, scan_memory = measure([baseline, name])
+            scanned, scan_seconds, scan_memory = measure([baseline, name], addresses)
             if answers != scanned:
                 sys.exit(f"bench: {name}: the program answers {answers}, and the scan {scanned}")
             row += [f"{scan_seconds:.3f}", f"{scan_memory:.1f}"]
