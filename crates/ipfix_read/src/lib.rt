@@ -25,6 +25,3 @@ pub use message::{Message, MessageList};
 pub use record::{Record, RecordList};
 pub use set::{Set, SetList};
 pub use value::{FieldValue, FieldValues, Values};
-
-#[cfg(test)]
-mod tests;

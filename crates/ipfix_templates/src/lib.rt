@@ -27,6 +27,3 @@ pub use laws::{event_after_history, events_fit, memory_is_no_fault, one_reading}
 pub use set::read_template_set;
 pub use table::TemplateTable;
 pub use template::Template;
-
-#[cfg(test)]
-mod tests;

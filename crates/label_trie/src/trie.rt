@@ -158,6 +158,3 @@ fn last_address(version: Version) -> u128
         Version::V6 => u128::MAX,
     }
 }
-
-#[cfg(test)]
-mod tests;

@@ -93,38 +93,3 @@ impl Labels {
         Ok(LabelId(index as u32))
     }
 }
-
-#[cfg(test)]
-mod tests {
-    use super::*;
-    use crate::label::is_label;
-    use std::process::Abort;
-
-    fn adds(
-        rt: &impl Abort,
-        labels: &mut Labels,
-        text: &[u8],
-        want: u32,
-    ) -> Result<(), AllocError> {
-        assert!(rt; is_label(text));
-        assert!(rt; labels.len() < 65536);
-        let id = labels.add(text)?;
-        assert_eq!(rt; id, LabelId(want));
-        assert_eq!(rt; labels.text(id), Some(text));
-        assert_eq!(rt; labels.id_of(text), Some(id));
-        Ok(())
-    }
-
-    #[test]
-    fn numbers_texts_in_order_of_first_occurrence(rt: HostRuntime) -> Result<(), AllocError> {
-        let mut labels = Labels::new(rt.alloc());
-        assert!(rt; labels.is_empty());
-        adds(&rt, &mut labels, b"A", 0)?;
-        adds(&rt, &mut labels, b"B", 1)?;
-        adds(&rt, &mut labels, b"A", 0)?;
-        assert_eq!(rt; labels.len(), 2);
-        assert_eq!(rt; labels.text(LabelId(2)), None);
-        assert_eq!(rt; labels.id_of(b"C"), None);
-        Ok(())
-    }
-}

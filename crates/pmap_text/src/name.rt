@@ -39,18 +39,3 @@ impl Name {
         self.bytes.as_slice()
     }
 }
-
-#[cfg(test)]
-mod tests {
-    use super::*;
-    use crate::label::is_label;
-
-    #[test]
-    fn keeps_its_text(rt: HostRuntime) -> Result<(), AllocError> {
-        let text: &[u8] = b"Some Net";
-        assert!(rt; is_label(text));
-        let name = Name::new(rt.alloc(), text)?;
-        assert_eq!(rt; name.as_bytes(), text);
-        Ok(())
-    }
-}

@@ -113,8 +113,3 @@ pub fn read_list(alloc: Global, text: &[u8]) -> Result<PrefixList, MapFault>
     let reading = read_lines(alloc, Form::List, text)?;
     Ok(reading.into_list())
 }
-
-#[cfg(test)]
-mod list_tests;
-#[cfg(test)]
-mod tests;

@@ -135,6 +135,3 @@ pub fn print_block(out: &mut Vec<u8>, block: &Block) -> Result<(), AllocError>
     text.push_number(block.len, 10);
     out.extend_from_slice(text.as_slice())
 }
-
-#[cfg(test)]
-mod tests;

@@ -1,8 +1,6 @@
-use super::*;
-use crate::label::LabelId;
-use crate::labels::Labels;
-use crate::name::Name;
+use pmap_text::{LabelId, Labels, MapFault, MapFaultKind, MapText, Name, read_list, read_map};
 use prefix_keys::Version;
+use std::alloc::Global;
 use std::process::Abort;
 use std::test::Fail;
 

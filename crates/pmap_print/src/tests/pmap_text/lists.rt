@@ -1,6 +1,5 @@
-use super::tests::has_table;
-use super::*;
-use crate::label::LabelId;
+use super::maps::has_table;
+use pmap_text::{LabelId, MapFault, MapFaultKind, PrefixList, read_list};
 use prefix_keys::Version;
 use std::process::Abort;
 use std::test::Fail;

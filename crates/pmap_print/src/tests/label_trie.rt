@@ -2,12 +2,10 @@ ghost use Rattle.std.specs.Prelude.{◌≡◌, ◌<◌, IfOk};
 ghost use Rattle.pmap_text.specs.MapModel.{map_label};
 ghost use Rattle.pmap_text.specs.MapText.{map_of};
 
-use super::Trie;
-use crate::cursor::{Cursor, Parts};
-use crate::leaf::Leaf;
-use crate::leaves::Leaves;
-use pmap_text::label::is_label;
-use pmap_text::{Entries, Entry, LabelId, Labels, MapText, PrefixList, Statement, Statements};
+use label_trie::{Cursor, Leaf, Leaves, Parts, Trie};
+use pmap_text::{
+    Entries, Entry, LabelId, Labels, MapText, PrefixList, Statement, Statements, is_label,
+};
 use prefix_keys::{Addr, Block, Span, Version};
 use std::alloc::{AllocError, Global};
 use std::process::Abort;

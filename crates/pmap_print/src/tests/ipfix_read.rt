@@ -1,4 +1,7 @@
-use super::*;
+use ipfix_read::{
+    FileEvents, ReadFault, ReadFaultKind, Record, Set, first_message_and_rest, one_reading,
+    read_file,
+};
 use ipfix_templates::{Kind, TemplateEvent, TemplateFaultKind};
 use std::alloc::Global;
 use std::test::*;

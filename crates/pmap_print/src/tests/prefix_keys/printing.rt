@@ -1,4 +1,4 @@
-use super::*;
+use prefix_keys::{Addr, Block, Version, print_addr, print_block};
 use std::test::Fail;
 
 // An address and its text.

@@ -1,4 +1,7 @@
-use super::*;
+use ipfix_templates::{
+    Field, Fields, Kind, Template, TemplateEvent, TemplateFault, TemplateTable, VARIABLE_LENGTH,
+    event_after_history, events_fit, memory_is_no_fault, one_reading, read_template_set,
+};
 use std::alloc::Global;
 use std::test::*;
 
@@ -108,7 +111,7 @@ fn reads_withdrawals(rt: HostRuntime) -> Result<(), Fail> {
 
 #[test]
 fn finds_the_first_fault(rt: HostRuntime) {
-    use crate::fault::TemplateFaultKind::{BadScope, BadTemplateId, Truncated};
+    use ipfix_templates::TemplateFaultKind::{BadScope, BadTemplateId, Truncated};
     let scope_of_three = [1u8, 3, 0, 2, 0, 3, 0, 149, 0, 4, 0, 41, 0, 8];
     let behind_a_record = [1u8, 0, 0, 0, 0, 0, 0, 0];
     let cases = [

@@ -1,0 +1,5 @@
+//! Printed texts.
+#![tactic(auto)]
+
+#[cfg(test)]
+mod tests;

@@ -1,0 +1,7 @@
+mod entries;
+mod fault;
+mod label;
+mod labels;
+mod lists;
+mod maps;
+mod name;

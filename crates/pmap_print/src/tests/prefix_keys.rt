@@ -1,0 +1,5 @@
+mod blocks;
+mod conversion;
+mod printing;
+mod reading;
+mod spans;

@@ -1,0 +1,37 @@
+use prefix_keys::{Addr, Block, Span, Version};
+use std::test::Fail;
+
+#[test]
+fn orders_its_ends(rt: HostRuntime) -> Result<(), Fail> {
+    let two = Addr::new(Version::V4, 2).ok_or("no address")?;
+    let three = Addr::new(Version::V4, 3).ok_or("no address")?;
+    let six = Addr::new(Version::V6, 3).ok_or("no address")?;
+    assert_eq!(rt; Span::new(two, three).is_some(), true);
+    assert_eq!(rt; Span::new(two, two).is_some(), true);
+    assert_eq!(rt; Span::new(three, two).is_none(), true);
+    assert_eq!(rt; Span::new(two, six).is_none(), true);
+    Ok(())
+}
+
+#[test]
+fn compares_with_blocks(rt: HostRuntime) -> Result<(), Fail> {
+    let low = Addr::new(Version::V4, 6).ok_or("no address")?;
+    let high = Addr::new(Version::V4, 16).ok_or("no address")?;
+    let span = Span::new(low, high).ok_or("no span")?;
+    assert_eq!(rt; span.covers(&low), true);
+    assert_eq!(rt; span.covers(&high), true);
+    for (version, value, len, covered, met) in [
+        (Version::V4, 8, 29, true, true),
+        (Version::V4, 4, 30, false, true),
+        (Version::V4, 16, 31, false, true),
+        (Version::V4, 4, 31, false, false),
+        (Version::V4, 20, 30, false, false),
+        (Version::V4, 0, 0, false, true),
+        (Version::V6, 8, 128, false, false),
+    ] {
+        let block = Block::new(version, value, len).ok_or("no block")?;
+        assert_eq!(rt; span.covers_block(&block), covered, "at {value}/{len}");
+        assert_eq!(rt; span.meets(&block), met, "at {value}/{len}");
+    }
+    Ok(())
+}
