@@ -1,10 +1,10 @@
 -- What a list has, and what is found in it.
-use Rattle.std.proofs.Common.{◌≡◌, ◌⊎◌, inl, inr, Bool, true, false, cond, List, [], ◌∷◌, Some, None, refl, sym, ap, ◌∙◌, subst, arith, All, Contains, filter, find, map, option_map}
+use Rattle.std.proofs.Common.{◌≡◌, ◌⊎◌, inl, inr, Bool, true, false, cond, List, [], ◌∷◌, ◌++◌, Some, None, refl, sym, ap, ◌∙◌, subst, arith, All, Contains, filter, find, map, option_map}
 use Rattle.std.specs.List.{IsDistinct}
 use Rattle.std.proofs.lemmas.Bool.{both_ways}
 use Rattle.std.proofs.lemmas.Map.Keys.{IsDistinct-head, IsDistinct-tail}
-use Rattle.std.proofs.lemmas.Option.{same_Some}
-use Rattle.std.proofs.lemmas.List.Elements.{All-contains, All-from_recursion, All-head, All-tail, Contains-append_left, Contains-append_right, Contains-append_cases, Contains-push, Contains-push_cases}
+use Rattle.std.proofs.lemmas.Option.{none-some, same_Some}
+use Rattle.std.proofs.lemmas.List.Elements.{All-cons, All-contains, All-from_recursion, All-head, All-nil, All-tail, Contains-append_left, Contains-append_right, Contains-append_cases, Contains-push, Contains-push_cases}
 
 pub Contains-first : {X : Type 0} (x : X) (xs : List X) → Contains (x ∷ xs) x
 Contains-first x xs = Contains-append_left (x ∷ []) xs x (Contains-push [] x)
@@ -45,6 +45,65 @@ find_passes {X} test (y ∷ ys) x e = step (find_passes test ys x) (test y) refl
         let same = same_Some y x e in
         (subst (λ (z : X). Contains (y ∷ ys) z) same (Contains-first y ys), subst (λ (z : X). test z ≡ true) same passes)
     step later false fails e = let rest = later e in (Contains-later y ys x rest.0, rest.1)
+
+-- it stands behind elements that don't pass
+pub record IsFoundAt {X : Type 0} (test : X → Bool) (xs : List X) (x : X) : Type 0 where
+  pub before : List X
+  pub behind : List X
+  pub list : xs ≡ before ++ x ∷ behind
+  pub passes : test x ≡ true
+  pub fails : All (λ y. test y ≡ false) before
+
+pub find-place : {X : Type 0} (test : X → Bool) (xs : List X) (x : X) → find test xs ≡ Some x → IsFoundAt test xs x
+find-place test [] x e = absurd (none-some x e)
+find-place {X} test (y ∷ ys) x e = step (find-place test ys x) (test y) refl e
+  where
+    step : (find test ys ≡ Some x → IsFoundAt test ys x) → (b : Bool) → test y ≡ b
+        → cond b (Some y) (find test ys) ≡ Some x → IsFoundAt test (y ∷ ys) x
+    step later true passes e =
+        let same = same_Some y x e in
+        record {
+          before = [];
+          behind = ys;
+          list = ap (λ (z : X). z ∷ ys) same;
+          passes = subst (λ (z : X). test z ≡ true) same passes;
+          fails = All-nil (λ z. test z ≡ false);
+        }
+    step later false fails e =
+        let rest = later e in
+        record {
+          before = y ∷ rest.before;
+          behind = rest.behind;
+          list = ap (λ (l : List X). y ∷ l) rest.list;
+          passes = rest.passes;
+          fails = All-cons (λ z. test z ≡ false) y rest.before fails rest.fails;
+        }
+
+-- and the first that passes is found
+pub find-first : {X : Type 0} (test : X → Bool) (before behind : List X) (x : X) → All (λ y. test y ≡ false) before → test x ≡ true
+    → find test (before ++ x ∷ behind) ≡ Some x
+find-first test [] behind x none passes = rw passes
+find-first test (y ∷ before) behind x none passes =
+    rw (All-head (λ y. test y ≡ false) y before none) (find-first test before behind x (All-tail (λ y. test y ≡ false) y before none) passes)
+
+-- where none is found, none passes
+pub find-fails : {X : Type 0} (test : X → Bool) (xs : List X) → find test xs ≡ None → All (λ x. test x ≡ false) xs
+find-fails test [] e = All-nil (λ x. test x ≡ false)
+find-fails {X} test (y ∷ ys) e = step (find-fails test ys) (test y) refl e
+  where
+    step : (find test ys ≡ None → All (λ x. test x ≡ false) ys) → (b : Bool) → test y ≡ b
+        → cond b (Some y) (find test ys) ≡ None → All (λ x. test x ≡ false) (y ∷ ys)
+    step later true passes e = absurd (none-some y (sym e))
+    step later false fails e = All-cons (λ x. test x ≡ false) y ys fails (later e)
+
+-- what holds of each element of two lists behind each other holds of those of each
+pub All-left : {X : Type 0} (P : X → Type 0) (xs ys : List X) → All P (xs ++ ys) → All P xs
+All-left P [] ys h = All-nil P
+All-left P (x ∷ xs) ys h = All-cons P x xs (All-head P x (xs ++ ys) h) (All-left P xs ys (All-tail P x (xs ++ ys) h))
+
+pub All-right : {X : Type 0} (P : X → Type 0) (xs ys : List X) → All P (xs ++ ys) → All P ys
+All-right P [] ys h = h
+All-right P (x ∷ xs) ys h = All-right P xs ys (All-tail P x (xs ++ ys) h)
 
 -- none is found where none passes, and none is kept
 pub find_none : {X : Type 0} (test : X → Bool) (xs : List X) → All (λ x. test x ≡ false) xs → find test xs ≡ None

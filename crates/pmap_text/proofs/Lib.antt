@@ -9,3 +9,5 @@ pub mod Blocks
 pub mod Finds
 pub mod LastSuch
 pub mod Settled
+pub mod ListLabels
+pub mod ListBlocks
