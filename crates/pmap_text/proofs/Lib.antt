@@ -5,3 +5,9 @@ pub mod LabelTexts
 pub mod Places
 pub mod MovedBlocks
 pub mod ProgressSteps
+pub mod Blocks
+pub mod Finds
+pub mod LastSuch
+pub mod Settled
+pub mod ListLabels
+pub mod ListBlocks

@@ -1,5 +1,5 @@
 -- What the lines so far say, after one more line.
-use Rattle.std.proofs.Common.{◌≡◌, ℕ, ◌+◌, ◌||◌, Bool, true, false, List, [], ◌∷◌, ◌++◌, Option, Some, None, Result, Ok, Err, refl, sym, ap, ◌∙◌, fold}
+use Rattle.std.proofs.Common.{◌≡◌, ◌≢◌, ℕ, ◌+◌, ◌||◌, Bool, true, false, List, [], ◌∷◌, ◌++◌, Option, Some, None, Result, Ok, Err, refl, sym, ap, ◌∙◌, fold}
 use Rattle.std.proofs.lemmas.List.Concat.{flat_map-append}
 use Rattle.std.proofs.lemmas.List.Sums.{fold-append}
 use Rattle.std.proofs.lemmas.List.{append-nil}
@@ -7,7 +7,9 @@ use Rattle.std.specs.List.{flat_map, list_any}
 use Rattle.std.specs.Option.{option_or}
 use Rattle.pmap_text.specs.Declarations.{with_declared}
 use Rattle.pmap_text.specs.Label.{with_label}
-use Rattle.pmap_text.specs.Reading.{Adds, Decides, Declares, Defaults, Earlier, Entry, Lists, Maps, Names, Nothing, added, decides_in, declared_in, default_in, earlier_of, entries_from, first_in, last_in, line_entry, mapping_in, name_in, prefix_in, text_in, version_in}
+use Rattle.pmap_text.specs.Reading.{Decides, Declares, Defaults, Earlier, Entry, Lists, Maps, Names, Nothing, decides_in, declared_in, default_in, earlier_of, entries_from, first_in, last_in, line_entry, mapping_in, name_in, prefix_in, text_in, version_in}
+use Rattle.pmap_text.specs.Steps.{Adds, added, refusal_of}
+use Rattle.pmap_text.specs.declared.fault.MapFaultKind.TheVariants.{NoMemory}
 use Rattle.pmap_text.specs.declared.fault.MapFaultKind.{MapFaultKind}
 use Rattle.pmap_text.specs.declared.form.Form.{Form}
 
@@ -120,3 +122,8 @@ entries_from-line form entries number line lines new adds = by (line_entry form 
 pub entries_from-fault : (form : Form) (entries : List Entry) (number : ℕ) (line : List ℕ) (lines : List (List ℕ)) (kind : MapFaultKind) → line_entry form (earlier_of entries) line ≡ Err kind
     → entries_from form entries number (line ∷ lines) ≡ Err (record { kind = kind; line = number + 1 })
 entries_from-fault form entries number line lines kind e = rw e refl
+
+-- a line that isn't read for another reason than want of memory has that fault
+pub refusal-fault : (r : Result Entry MapFaultKind) (kind : MapFaultKind) → kind ≡ refusal_of r → kind ≢ NoMemory → r ≡ Err kind
+refusal-fault (Ok entry) kind e other = absurd (other e)
+refusal-fault (Err fault) kind e other = λ i. Err (sym e i)

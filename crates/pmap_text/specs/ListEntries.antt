@@ -1,4 +1,4 @@
-use Rattle.std.specs.Prelude.{◌≡◌, ℕ, ◌&&◌, ◌==◌, Bool, List, map}
+use Rattle.std.specs.Prelude.{ℕ, ◌&&◌, ◌==◌, Bool, List}
 use Rattle.std.specs.List.{list_any, IsDistinct}
 use Rattle.pmap_text.specs.declared.entry.Entry.{Entry}
 
@@ -15,12 +15,3 @@ same_block d e = d.block.value == e.block.value && d.block.len == e.block.len
 -- no entry has the block of an earlier one
 abbrev pub HasDistinctBlocks : List Entry → Type 0
 HasDistinctBlocks entries = IsDistinct same_block entries
-
--- what an entry is filed under: its block's start and length
-abbrev pub block_key : Entry → ℕ × ℕ
-block_key e = (e.block.value, e.block.len)
-
--- each entry is filed under its own block, and no two under one
-pub record AreFiled (filed : List ((ℕ × ℕ) × Entry)) : Type 0 where
-  pub keys : map (λ p. p.0) filed ≡ map block_key (map (λ p. p.1) filed)
-  pub distinct : HasDistinctBlocks (map (λ p. p.1) filed)

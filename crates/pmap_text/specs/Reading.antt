@@ -319,27 +319,3 @@ ReadsMap text map = map_reading text ≡ Ok map
 
 abbrev pub ReadsList : List ℕ → ListModel → Type 0
 ReadsList text list = list_reading text ≡ Ok list
-
--- what the lines so far are after one more line
-abbrev pub added : Earlier → Entry → Earlier
-added earlier Nothing = earlier
-added earlier (Names name) = record earlier { name = Some name }
-added earlier (Decides version) = record earlier { mode = true; version = option_or earlier.version (Some version) }
-added earlier (Declares number text) =
-    record earlier { declared = with_declared earlier.declared (number, text); table = with_label earlier.table text }
-added earlier (Defaults label) = record earlier { fallback = Some label; table = with_label earlier.table label }
-added earlier (Maps version mapping) = record earlier {
-  version = option_or earlier.version (Some version);
-  mappings = earlier.mappings ++ mapping ∷ [];
-  table = with_label earlier.table mapping.label;
-}
-added earlier (Lists version prefix) = record earlier {
-  version = option_or earlier.version (Some version);
-  prefixes = earlier.prefixes ++ prefix ∷ [];
-  table = with_label earlier.table prefix.label;
-}
-
--- the line was read, and the lines so far have it at their end
-abbrev pub Adds : Earlier → Earlier → Result Entry MapFaultKind → Type 0
-Adds old new (Ok entry) = new ≡ added old entry
-Adds old new (Err kind) = ⊥

@@ -2,27 +2,29 @@ ghost use Rattle.std.specs.Prelude.{◌≡◌, ◌++◌, ◌∷◌, ◌↔◌, [
 ghost use Rattle.pmap_text.specs.ListEntries.{has_entry, HasDistinctBlocks};
 
 use crate::entry::Entry;
-use indexmap::IndexMap;
 use prefix_keys::Block;
 use std::alloc::{AllocError, Global};
+use std::collections::BTreeSet;
 use std::marker::Model;
 
 /// The entries of a prefix list, in the order of the text. No two have blocks of the same start and length.
 #[derive(Debug, Drop)]
 pub struct Entries {
-    by_block: IndexMap<(u128, u32), Entry>,
+    items: Vec<Entry>,
+    // The start and the length of each entry's block. An ordered set has no keys that collide.
+    blocks: BTreeSet<(u128, u32)>,
 }
 
 impl Model for Entries {
-    ghost use Rattle.std.specs.Prelude.{List, map};
-    ghost use Rattle.pmap_text.specs.ListEntries.{AreFiled};
+    ghost use Rattle.std.specs.Prelude.{List};
+    ghost use Rattle.pmap_text.specs.Filed.{AreFiled};
     ghost use Rattle.pmap_text.specs.declared.entry.Entry.{Entry};
 
     ghost Value = { List Entry };
 
-    ghost view = { λ l. map (λ p. p.1) l.by_block.entries };
+    ghost view = { λ l. l.items.items };
 
-    ghost invariant = { λ l. AreFiled l.by_block.entries };
+    ghost invariant = { λ l. AreFiled l.items.items l.blocks.keys };
 }
 
 impl Entries {
@@ -31,7 +33,8 @@ impl Entries {
         ensures { result ≡ [] }
     {
         Entries {
-            by_block: IndexMap::new(alloc),
+            items: Vec::new(alloc),
+            blocks: BTreeSet::new(alloc),
         }
     }
 
@@ -40,14 +43,14 @@ impl Entries {
         ensures value { result ≡ length self.now }
         ensures distinct { HasDistinctBlocks self.now }
     {
-        self.by_block.len()
+        self.items.len()
     }
 
     /// Whether there is no entry.
     pub fn is_empty(&self) -> bool
         ensures { IsTrue result ↔ (self.now ≡ []) }
     {
-        self.by_block.is_empty()
+        self.items.is_empty()
     }
 
     /// The entries in order.
@@ -55,14 +58,14 @@ impl Entries {
         ensures value { result.now ≡ self.now }
         ensures distinct { HasDistinctBlocks self.now }
     {
-        self.by_block.values().as_slice()
+        self.items.as_slice()
     }
 
     /// Whether an entry has the start and the length of this block. Its version is not looked at: a list has one alone.
     pub fn has_block(&self, block: &Block) -> bool
         ensures { result ≡ has_entry self.now block.now.value block.now.len }
     {
-        self.by_block.contains_key(&(block.value, block.len))
+        self.blocks.contains(&(block.value, block.len))
     }
 
     /// Adds an entry at the end. Where memory is refused, the entries stay as they were.
@@ -71,8 +74,10 @@ impl Entries {
         ensures ok { OnOk result (self.new ≡ self.old ++ entry ∷ []) }
         ensures err { OnErr result (self.new ≡ self.old) }
     {
-        self.by_block
-            .insert((entry.block.value, entry.block.len), entry)?;
+        // With room for the entry its push below takes no memory, so that both grow together.
+        self.items.reserve(1)?;
+        self.blocks.insert((entry.block.value, entry.block.len))?;
+        self.items.push(entry)?;
         Ok(())
     }
 }

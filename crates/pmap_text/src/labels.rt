@@ -74,6 +74,20 @@ impl Labels {
         }
     }
 
+    /// A table with the same texts under the same numbers.
+    pub fn copy(&self) -> Result<Labels, AllocError>
+        ensures { IfOk result (λ copy. copy ≡ self.now) }
+    {
+        let mut texts = IndexSet::with_capacity(self.alloc, self.texts.len())?;
+        for text in self.texts.as_slice() {
+            texts.insert(Vec::from_slice(self.alloc, text.as_slice())?)?;
+        }
+        Ok(Labels {
+            alloc: self.alloc,
+            texts,
+        })
+    }
+
     /// Adds a text, and answers its number. A known text keeps its number and takes no memory, a new one goes last.
     /// The others keep their numbers. Where memory is refused, the table stays as it was.
     pub fn add(&mut self, text: &[u8]) -> Result<LabelId, AllocError>

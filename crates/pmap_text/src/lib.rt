@@ -17,6 +17,7 @@ pub mod fault;
 pub mod form;
 pub mod label;
 pub mod labels;
+pub mod laws;
 pub mod lines;
 pub mod map_text;
 pub mod name;

@@ -1,5 +1,5 @@
 //! What a reading keeps of the lines so far.
-ghost use Rattle.std.specs.Prelude.{◌≡◌, ◌≢◌, ◌<◌, ◌≤◌, ◌++◌, ◌∷◌, [], Some, Ok, Err, true, false, length, slice_get, IsTrue, IfOk, IfErr, OnOk, OnErr};
+ghost use Rattle.std.specs.Prelude.{◌≡◌, ◌<◌, ◌≤◌, ◌++◌, ◌∷◌, [], Some, true, false, ◌⊎◌, length, slice_get, IsTrue, IfOk, IfErr, OnOk, OnErr};
 ghost use Rattle.std.specs.Option.{option_or};
 ghost use Rattle.pmap_text.specs.Declarations.{conflicts as conflicts_of, meant_text, with_declared};
 ghost use Rattle.pmap_text.specs.Label.{has_label, is_label as is_label_text, with_label};
@@ -80,7 +80,7 @@ fn number_for(labels: &mut Labels, text: &[u8]) -> Result<LabelId, MapFaultKind>
     ensures text { IfOk result (λ id. slice_get labels.new id.0 ≡ Some text.now) }
     ensures limit { length labels.new ≤ LABEL_LIMIT }
     ensures same { OnErr result (labels.new ≡ labels.old) }
-    ensures err { IfErr result (λ kind. kind ≢ NoMemory → (kind ≡ TooMany) × (has_room labels.old text.now ≡ false)) }
+    ensures err { IfErr result (λ kind. ((kind ≡ NoMemory) × (has_room labels.old text.now ≡ true)) ⊎ ((kind ≡ TooMany) × (has_room labels.old text.now ≡ false))) }
 {
     if has_room(labels, text) {
         labels.add(text).map_err(|_| MapFaultKind::NoMemory)
@@ -183,7 +183,7 @@ impl Reading {
         ensures room { OnOk result (has_room self.old.table (meant_text self.old.declared label.now) ≡ true) }
         ensures ok { OnOk result (self.new ≡ record self.old { table = with_label self.old.table (meant_text self.old.declared label.now) }) }
         ensures text { IfOk result (λ id. slice_get self.new.table id.0 ≡ Some (meant_text self.old.declared label.now)) }
-        ensures err { IfErr result (λ kind. kind ≢ NoMemory → (kind ≡ TooMany) × (has_room self.old.table (meant_text self.old.declared label.now) ≡ false)) }
+        ensures err { IfErr result (λ kind. ((kind ≡ NoMemory) × (has_room self.old.table (meant_text self.old.declared label.now) ≡ true)) ⊎ ((kind ≡ TooMany) × (has_room self.old.table (meant_text self.old.declared label.now) ≡ false))) }
     {
         let text = self.declared.meant(label);
         number_for(&mut self.labels, text)
@@ -195,7 +195,7 @@ impl Reading {
         requires agrees { conflicts_of self.old.declared number text.now ≡ false }
         ensures room { OnOk result (has_room self.old.table text.now ≡ true) }
         ensures ok { OnOk result (self.new ≡ record self.old { declared = with_declared self.old.declared (number, text.now); table = with_label self.old.table text.now }) }
-        ensures err { IfErr result (λ kind. kind ≢ NoMemory → (kind ≡ TooMany) × (has_room self.old.table text.now ≡ false)) }
+        ensures err { IfErr result (λ kind. ((kind ≡ NoMemory) × (has_room self.old.table text.now ≡ true)) ⊎ ((kind ≡ TooMany) × (has_room self.old.table text.now ≡ false))) }
     {
         number_for(&mut self.labels, text)?;
         let Ok(()) = self.declared.add(number, text) else {

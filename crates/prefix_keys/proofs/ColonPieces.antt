@@ -3,7 +3,8 @@ use Rattle.std.specs.List.{slice_split, before_first, after_first, position_or_l
 use Rattle.std.proofs.lemmas.List.{length-take, length-drop, take_all}
 use Rattle.std.proofs.lemmas.List.Splits.{slice_split_first, length-slice_split}
 use Rattle.std.proofs.lemmas.Bool.Decides.{nat_tests}
-use Rattle.prefix_keys.specs.Text.{groups_of, text_groups, last_groups, hex_group, onto_groups, more_groups}
+use Rattle.prefix_keys.specs.Text.{groups_of, text_groups, last_groups, hex_group, onto_groups}
+use Rattle.prefix_keys.specs.Steps.{more_groups}
 use Rattle.prefix_keys.proofs.Pieces.{split-whole}
 
 -- The groups that the pieces of a text between colons write, one piece after another.

@@ -6,7 +6,8 @@ use Rattle.std.proofs.lemmas.Nat.{pow-add, shl_below, shl_whole}
 use Rattle.std.proofs.lemmas.List.{length-append, length-replicate}
 use Rattle.std.proofs.lemmas.List.Sums.{fold-append}
 use Rattle.std.proofs.lemmas.Bool.Decides.{nat_tests}
-use Rattle.prefix_keys.specs.Text.{groups_number, more_groups, whole_address, gap_address}
+use Rattle.prefix_keys.specs.Text.{groups_number, whole_address, gap_address}
+use Rattle.prefix_keys.specs.Steps.{more_groups}
 
 -- Groups of 16 bits and the numbers that they make.
 

@@ -90,15 +90,6 @@ side_groups dotted (b ∷ text) = text_groups dotted (b ∷ text)
 abbrev pub groups_number : List ℕ → ℕ
 groups_number groups = fold (λ n group. n * 65536 + group) 0 groups
 
--- groups behind others, of which there are so many and which make that number: how many there are then and the number
--- that all make, where they are at most eight
-abbrev pub more_groups : ℕ → ℕ → Option (List ℕ) → Option (ℕ × ℕ)
-more_groups count number (Some groups) =
-    if nat_le (count + length groups) 8
-    then Some (count + length groups, fold (λ n group. n * 65536 + group) number groups)
-    else None
-more_groups count number None = None
-
 -- the address of eight groups
 abbrev pub whole_address : Option (List ℕ) → Option ℕ
 whole_address (Some groups) = if length groups == 8 then Some (groups_number groups) else None

@@ -1,12 +1,12 @@
 //! The reading of one line of a text.
-ghost use Rattle.std.specs.Prelude.{◌≡◌, ◌≢◌, ◌<◌, ◌==◌, Some, Ok, Err, length, slice_index, IsTrue, IfOk, IfErr, OnOk};
+ghost use Rattle.std.specs.Prelude.{◌≡◌, ◌<◌, ◌==◌, Some, Ok, Err, length, slice_index, IsTrue, IfOk, IfErr, OnOk};
 ghost use Rattle.std.specs.List.{list_all, list_any};
 ghost use Rattle.prefix_keys.specs.Text.{address_of, block_of_text, is_digit};
 ghost use Rattle.pmap_text.specs.Declarations.{label_number as number_of_label};
 ghost use Rattle.pmap_text.specs.Label.{is_label as is_label_text};
 ghost use Rattle.pmap_text.specs.Lines.{first_word};
-ghost use Rattle.pmap_text.specs.Reading.{Adds, address_line, block_line, decided, declared_line, default_line, label_line, label_of, line_entry, mode_line, mode_version, name_line, one_or_two, other_fault, placed_line, prefix_line, range_line, single_line, span_line, statement_line, version_at as version_at_of};
-ghost use Rattle.pmap_text.specs.declared.fault.MapFaultKind.TheVariants.{NoMemory};
+ghost use Rattle.pmap_text.specs.Reading.{address_line, block_line, decided, declared_line, default_line, label_line, label_of, line_entry, mode_line, mode_version, name_line, one_or_two, other_fault, placed_line, prefix_line, range_line, single_line, span_line, statement_line, version_at as version_at_of};
+ghost use Rattle.pmap_text.specs.Steps.{Adds, refusal_of};
 
 use crate::declarations::label_number;
 use crate::fault::MapFaultKind;
@@ -81,7 +81,7 @@ impl Reading {
     // `map-name NAME`, from behind the first word.
     fn read_name(&mut self, rest: &[u8]) -> Result<(), MapFaultKind>
         ensures ok { OnOk result (Adds self.old self.new (name_line rest.now)) }
-        ensures err { IfErr result (λ kind. kind ≢ NoMemory → name_line rest.now ≡ Err kind) }
+        ensures err { IfErr result (λ kind. kind ≡ refusal_of (name_line rest.now)) }
     {
         let name = label_text(rest)?;
         self.set_name(name)
@@ -90,7 +90,7 @@ impl Reading {
     // `mode WORD`, from behind the first word.
     fn read_mode(&mut self, rest: &[u8]) -> Result<(), MapFaultKind>
         ensures ok { OnOk result (Adds self.old self.new (mode_line self.old rest.now)) }
-        ensures err { IfErr result (λ kind. kind ≢ NoMemory → mode_line self.old rest.now ≡ Err kind) }
+        ensures err { IfErr result (λ kind. kind ≡ refusal_of (mode_line self.old rest.now)) }
     {
         let Some(version) = named_version(rest) else {
             return Err(MapFaultKind::BadMode);
@@ -108,7 +108,7 @@ impl Reading {
     // A text for this number, from behind the number.
     fn read_declared(&mut self, number: u32, rest: &[u8]) -> Result<(), MapFaultKind>
         ensures ok { OnOk result (Adds self.old self.new (declared_line self.old (Some number) rest.now)) }
-        ensures err { IfErr result (λ kind. kind ≢ NoMemory → declared_line self.old (Some number) rest.now ≡ Err kind) }
+        ensures err { IfErr result (λ kind. kind ≡ refusal_of (declared_line self.old (Some number) rest.now)) }
     {
         let text = label_text(rest)?;
         if has_digits_alone(text) {
@@ -123,7 +123,7 @@ impl Reading {
     // `label NUMBER TEXT`, from behind the first word.
     fn read_label(&mut self, rest: &[u8]) -> Result<(), MapFaultKind>
         ensures ok { OnOk result (Adds self.old self.new (label_line self.old rest.now)) }
-        ensures err { IfErr result (λ kind. kind ≢ NoMemory → label_line self.old rest.now ≡ Err kind) }
+        ensures err { IfErr result (λ kind. kind ≡ refusal_of (label_line self.old rest.now)) }
     {
         let (word, rest) = split_word(rest);
         match label_number(word) {
@@ -135,7 +135,7 @@ impl Reading {
     // `default LABEL`, from behind the first word.
     fn read_default(&mut self, form: Form, rest: &[u8]) -> Result<(), MapFaultKind>
         ensures ok { OnOk result (Adds self.old self.new (default_line form self.old rest.now)) }
-        ensures err { IfErr result (λ kind. kind ≢ NoMemory → default_line form self.old rest.now ≡ Err kind) }
+        ensures err { IfErr result (λ kind. kind ≡ refusal_of (default_line form self.old rest.now)) }
     {
         if form == Form::List {
             return Err(MapFaultKind::NotAList);
@@ -150,7 +150,7 @@ impl Reading {
     fn read_span(&mut self, span: Span, rest: &[u8]) -> Result<(), MapFaultKind>
         requires { version_at_of self.old span.low.version ≡ span.low.version }
         ensures ok { OnOk result (Adds self.old self.new (span_line self.old span.low.version span.low.value span.high.value rest.now)) }
-        ensures err { IfErr result (λ kind. kind ≢ NoMemory → span_line self.old span.low.version span.low.value span.high.value rest.now ≡ Err kind) }
+        ensures err { IfErr result (λ kind. kind ≡ refusal_of (span_line self.old span.low.version span.low.value span.high.value rest.now)) }
     {
         let text = label_text(rest)?;
         if self.mapping_count() >= MAPPING_LIMIT {
@@ -164,7 +164,7 @@ impl Reading {
     fn read_prefix(&mut self, block: Block, rest: &[u8]) -> Result<(), MapFaultKind>
         requires { version_at_of self.old block.version ≡ block.version }
         ensures ok { OnOk result (Adds self.old self.new (prefix_line self.old block.version block.value block.len rest.now)) }
-        ensures err { IfErr result (λ kind. kind ≢ NoMemory → prefix_line self.old block.version block.value block.len rest.now ≡ Err kind) }
+        ensures err { IfErr result (λ kind. kind ≡ refusal_of (prefix_line self.old block.version block.value block.len rest.now)) }
     {
         let text = label_text(rest)?;
         if self.has_block(&block) {
@@ -181,7 +181,7 @@ impl Reading {
     fn read_placed(&mut self, form: Form, block: Block, rest: &[u8]) -> Result<(), MapFaultKind>
         requires { version_at_of self.old block.version ≡ block.version }
         ensures ok { OnOk result (Adds self.old self.new (placed_line form self.old block.version block.value block.len rest.now)) }
-        ensures err { IfErr result (λ kind. kind ≢ NoMemory → placed_line form self.old block.version block.value block.len rest.now ≡ Err kind) }
+        ensures err { IfErr result (λ kind. kind ≡ refusal_of (placed_line form self.old block.version block.value block.len rest.now)) }
     {
         match form {
             Form::Map => self.read_span(block.span(), rest),
@@ -192,7 +192,7 @@ impl Reading {
     // `BLOCK LABEL`, from the block on.
     fn read_block_line(&mut self, form: Form, word: &[u8], rest: &[u8]) -> Result<(), MapFaultKind>
         ensures ok { OnOk result (Adds self.old self.new (block_line form self.old (block_of_text word.now) rest.now)) }
-        ensures err { IfErr result (λ kind. kind ≢ NoMemory → block_line form self.old (block_of_text word.now) rest.now ≡ Err kind) }
+        ensures err { IfErr result (λ kind. kind ≡ refusal_of (block_line form self.old (block_of_text word.now) rest.now)) }
     {
         match read_block(word) {
             Ok(block) => {
@@ -213,7 +213,7 @@ impl Reading {
         rest: &[u8],
     ) -> Result<(), MapFaultKind>
         ensures ok { OnOk result (Adds self.old self.new (range_line form self.old (first.version, first.value) (second.version, second.value) rest.now)) }
-        ensures err { IfErr result (λ kind. kind ≢ NoMemory → range_line form self.old (first.version, first.value) (second.version, second.value) rest.now ≡ Err kind) }
+        ensures err { IfErr result (λ kind. kind ≡ refusal_of (range_line form self.old (first.version, first.value) (second.version, second.value) rest.now)) }
     {
         if form == Form::List {
             return Err(MapFaultKind::NotAList);
@@ -230,7 +230,7 @@ impl Reading {
     // `ADDRESS LABEL`, from behind the address.
     fn read_single(&mut self, form: Form, addr: Addr, rest: &[u8]) -> Result<(), MapFaultKind>
         ensures ok { OnOk result (Adds self.old self.new (single_line form self.old (addr.version, addr.value) rest.now)) }
-        ensures err { IfErr result (λ kind. kind ≢ NoMemory → single_line form self.old (addr.version, addr.value) rest.now ≡ Err kind) }
+        ensures err { IfErr result (λ kind. kind ≡ refusal_of (single_line form self.old (addr.version, addr.value) rest.now)) }
     {
         let version = self.version_at(addr.version);
         let addr = addr_in(version, addr)?;
@@ -245,7 +245,7 @@ impl Reading {
         rest: &[u8],
     ) -> Result<(), MapFaultKind>
         ensures ok { OnOk result (Adds self.old self.new (one_or_two form self.old (first.version, first.value) (address_of (first_word rest.now)) rest.now)) }
-        ensures err { IfErr result (λ kind. kind ≢ NoMemory → one_or_two form self.old (first.version, first.value) (address_of (first_word rest.now)) rest.now ≡ Err kind) }
+        ensures err { IfErr result (λ kind. kind ≡ refusal_of (one_or_two form self.old (first.version, first.value) (address_of (first_word rest.now)) rest.now)) }
     {
         let (word, behind) = split_word(rest);
         match read_addr(word) {
@@ -257,7 +257,7 @@ impl Reading {
     // A line whose first word is no keyword and has no `/`.
     fn read_other(&mut self, form: Form, word: &[u8], rest: &[u8]) -> Result<(), MapFaultKind>
         ensures ok { OnOk result (Adds self.old self.new (address_line form self.old word.now (address_of word.now) rest.now)) }
-        ensures err { IfErr result (λ kind. kind ≢ NoMemory → address_line form self.old word.now (address_of word.now) rest.now ≡ Err kind) }
+        ensures err { IfErr result (λ kind. kind ≡ refusal_of (address_line form self.old word.now (address_of word.now) rest.now)) }
     {
         match read_addr(word) {
             Some(addr) => self.read_address_line(form, addr, rest),
@@ -268,7 +268,7 @@ impl Reading {
     // A line with a word, by its first word and what stands behind it.
     fn read_statement(&mut self, form: Form, word: &[u8], rest: &[u8]) -> Result<(), MapFaultKind>
         ensures ok { OnOk result (Adds self.old self.new (statement_line form self.old word.now rest.now)) }
-        ensures err { IfErr result (λ kind. kind ≢ NoMemory → statement_line form self.old word.now rest.now ≡ Err kind) }
+        ensures err { IfErr result (λ kind. kind ≡ refusal_of (statement_line form self.old word.now rest.now)) }
     {
         if word == b"map-name".as_slice() {
             self.read_name(rest)
@@ -288,7 +288,7 @@ impl Reading {
     /// Reads one more line. After a fault nothing is known of the lines so far.
     pub fn read_line(&mut self, form: Form, line: &[u8]) -> Result<(), MapFaultKind>
         ensures ok { OnOk result (Adds self.old self.new (line_entry form self.old line.now)) }
-        ensures err { IfErr result (λ kind. kind ≢ NoMemory → line_entry form self.old line.now ≡ Err kind) }
+        ensures err { IfErr result (λ kind. kind ≡ refusal_of (line_entry form self.old line.now)) }
     {
         let content = content(line);
         if content.is_empty() {

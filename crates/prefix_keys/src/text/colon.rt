@@ -1,5 +1,6 @@
 ghost use Rattle.std.specs.Prelude.{◌≡◌, ◌≤◌, ◌<◌, ◌+◌, ◌*◌, ◌-◌, ◌^◌, IfSome, Some, None, List, [], ◌∷◌, option_map, nat_le, if◌then◌else◌};
-ghost use Rattle.prefix_keys.specs.Text.{is_hex_digit, hex_digit_value, hex_group, last_groups, text_groups, side_groups, more_groups, around_gap, colon_address};
+ghost use Rattle.prefix_keys.specs.Text.{is_hex_digit, hex_digit_value, hex_group, last_groups, text_groups, side_groups, around_gap, colon_address};
+ghost use Rattle.prefix_keys.specs.Steps.{more_groups};
 
 use crate::text::dotted::read_dotted;
 use crate::text::pieces::cut;

@@ -1,8 +1,9 @@
 use Rattle.std.proofs.Common.{◌≡◌, ◌≢◌, ◌∙◌, Err, ap, sym, subst, arith}
 use Rattle.pmap_text.specs.Lines.{lines_of}
-use Rattle.pmap_text.specs.Reading.{Adds, Earlier, entries_from, line_entry}
+use Rattle.pmap_text.specs.Reading.{Earlier, entries_from, line_entry}
+use Rattle.pmap_text.specs.Steps.{Adds}
 use Rattle.pmap_text.specs.declared.fault.MapFaultKind.TheVariants.{NoMemory}
-use Rattle.pmap_text.proofs.LineEntries.{entries_from-fault, entries_from-line}
+use Rattle.pmap_text.proofs.LineEntries.{entries_from-fault, entries_from-line, refusal-fault}
 use Rattle.pmap_text.proofs.reading.read_lines.Goals as goal
 
 pub loop-rest-preserved : goal.loop-rest-preserved
@@ -22,7 +23,8 @@ returns-in-Err-clause-err c =
     let so_far = c.loop-rest.invariant.read in
     let line = c.split_line.result.0.now in
     let known : c.in-Err.kind ≢ NoMemory = λ e. some (c.fault_at.ensures.kind ∙ e) in
-    let fault = subst (λ (e : Earlier). line_entry c.args.form e line ≡ Err c.in-Err.kind) so_far.2 (c.in-Err.ensures.err known) in
+    let fault = subst (λ (e : Earlier). line_entry c.args.form e line ≡ Err c.in-Err.kind) so_far.2
+    (refusal-fault (line_entry c.args.form c.loop-rest.reading line) c.in-Err.kind c.in-Err.ensures.err known) in
     so_far.1 ∙ (ap (entries_from c.args.form so_far.0 c.loop-rest.number) c.split_line.ensures.line
     ∙ (entries_from-fault c.args.form so_far.0 c.loop-rest.number line (lines_of c.split_line.result.1.now) c.in-Err.kind fault
     ∙ (λ i. Err (record { kind = sym c.fault_at.ensures.kind i; line = sym (c.fault_at.ensures.line known) i }))))

@@ -1,0 +1,37 @@
+//! The laws on maps and prefix lists.
+
+ghost use Rattle.std.specs.Prelude.{◌≡◌, ℕ, Some, MatchOption, All};
+ghost use Rattle.std.specs.List.Sorted.{IsPermutation};
+ghost use Rattle.prefix_keys.specs.Block.{block_number};
+ghost use Rattle.prefix_keys.specs.Version.{width_of};
+ghost use Rattle.pmap_text.specs.ListModel.{ListModel, Prefix, list_label};
+ghost use Rattle.pmap_text.specs.LongestMatch.{CoversAddress, HasDistinctPrefixes, HasSamePrefixes, IsLongestMatch, LabelsBlocksOnce};
+ghost use Rattle.pmap_text.specs.MapModel.{IsSettled, Label, MapModel, map_label};
+ghost use Rattle.pmap_text.specs.PrefixList.{list_of};
+ghost use Rattle.pmap_text.specs.declared.prefix_list.PrefixList.{PrefixList};
+
+/// A settled block has its label at each of its addresses.
+pub fn settled_block_has_its_label()
+    ensures { (m : MapModel) (n q a : ℕ) (x : Label) → block_number (width_of m.version) n a ≡ q →
+        IsSettled m n q x → map_label m a ≡ x }
+{}
+
+/// A list's label of an address is that of the longest entry that covers it, of equal blocks the first. Where no entry
+/// covers the address it has none.
+pub fn longest_match_counts()
+    ensures label { (l : ListModel) (a : ℕ) (p : Prefix) → IsLongestMatch (width_of l.version) l.prefixes a p →
+        list_label l a ≡ Some p.label }
+    ensures cases { (l : ListModel) (a : ℕ) → MatchOption (list_label l a)
+        (All (λ p. ¬ CoversAddress (width_of l.version) a p) l.prefixes)
+        (λ x. (p : Prefix) × IsLongestMatch (width_of l.version) l.prefixes a p × (p.label ≡ x)) }
+{}
+
+/// The order of a list's entries doesn't count where no two have one block, as in each list that a text is read as, nor
+/// where those of one block have one label.
+pub fn order_of_entries_is_free()
+    ensures order { (l r : ListModel) → l.version ≡ r.version → HasDistinctPrefixes (width_of l.version) l.prefixes →
+        IsPermutation l.prefixes r.prefixes → (a : ℕ) → list_label l a ≡ list_label r a }
+    ensures entries { (l r : ListModel) → l.version ≡ r.version → LabelsBlocksOnce (width_of l.version) l.prefixes →
+        HasSamePrefixes l.prefixes r.prefixes → (a : ℕ) → list_label l a ≡ list_label r a }
+    ensures distinct { (l : PrefixList) → HasDistinctPrefixes (width_of l.version) (list_of l).prefixes }
+{}
