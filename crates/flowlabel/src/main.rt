@@ -44,7 +44,7 @@ type FileSource<'a> = Source<'a, Watched<File>>;
 // Opens a file, where one is named.
 fn open<'a>(rt: &HostRuntime, name: Option<&'a str>) -> Result<Option<FileSource<'a>>, RunFault<'a>>
     ensures named { IfOk result (λ source. is_some source ≡ is_some name.entry) }
-    ensures fresh { IfOk result (λ source. source_failed (λ failed. failed) source ≡ false) }
+    ensures fresh { IfOk result (λ source. source_failed (λ watched. watched.failed) source ≡ false) }
 {
     let Some(name) = name else {
         return Ok(None);
@@ -64,7 +64,7 @@ fn open_all<'a>(
     files: Files<'a>,
 ) -> Result<Inputs<'a, Watched<File>>, RunFault<'a>>
     ensures named { (needs : Needs) → NamesNeeds needs files.entry → IfOk result (AreNeeded needs) }
-    ensures fresh { IfOk result (λ inputs. any_failed (λ failed. failed) inputs ≡ false) }
+    ensures fresh { IfOk result (λ inputs. any_failed (λ watched. watched.failed) inputs ≡ false) }
 {
     Ok(Inputs {
         map: open(rt, files.map)?,
