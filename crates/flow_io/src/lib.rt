@@ -3,20 +3,23 @@
 // The program reads its files and writes its output through the traits `Input` and `Output`. A device
 // has failed exactly from its first call on that answered `Err`, or, of a writer, that took nothing of
 // a nonempty slice; `failed` tells it, so the layer above can prove that it answers a read fault or a
-// write fault only where a device failed. A type may also tell its bytes: those that it still gives,
-// or those that it has taken. Each read and write then says which bytes moved.
-// `Watched` stands on any reader or writer of std and tells no bytes, as no contract speaks of what
-// the system gives or takes. `MemoryInput` and `MemoryOutput` tell theirs, and fail where a test wants.
-// Nothing here allocates.
+// write fault only where a device failed. A writer tells its last call as well, so the layer above can
+// prove that the output was flushed behind its last byte. A type may also tell its bytes: those that it
+// still gives, or those that it has taken. Each read and write then says which bytes moved.
+// `Watched` stands on any reader or writer of std and tells the bytes of those that tell theirs: a slice
+// or a `Vec` does, and a file does not, as no contract speaks of what the system gives or takes.
+// `MemoryInput` and `MemoryOutput` tell theirs, and fail where a test wants. Nothing here allocates.
 #![tactic(auto)]
 
 mod countdown;
 mod devices;
+mod last_call;
 mod memory_input;
 mod memory_output;
 mod watch;
 
 pub use devices::{DeviceFault, Input, Output};
+pub use last_call::LastCall;
 pub use memory_input::MemoryInput;
 pub use memory_output::MemoryOutput;
 pub use watch::Watched;

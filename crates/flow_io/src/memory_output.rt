@@ -1,9 +1,11 @@
 ghost use Rattle.std.specs.Prelude.{◌≡◌, ◌≢◌, ◌+◌, ◌-◌, ◌≤◌, ◌++◌, ◌↔◌, false, [], IfOk, OnOk, OnErr, IsErr, length, min, unwrap_or};
 ghost use Rattle.std.specs.Io.KnownBytes.{Keeps, WriteAppends};
-ghost use Rattle.flow_io.specs.Devices.{FailsOnErr, FailsOnShortWrite};
+ghost use Rattle.flow_io.specs.Devices.{FailsOnErr, FailsOnShortWrite, flush_call};
+ghost use Rattle.flow_io.specs.declared.last_call.LastCall.TheVariants.{Nothing, Write};
 
 use crate::countdown::Countdown;
 use crate::devices::{DeviceFault, Output};
+use crate::last_call::LastCall;
 use std::marker::Model;
 
 /// A writer into memory, for tests, with room for `N` bytes. It takes them in pieces and fails at a
@@ -16,6 +18,7 @@ pub struct MemoryOutput<const N: usize> {
     countdown: Countdown,
     zero: bool,
     failed: bool,
+    last_call: LastCall,
 }
 
 impl<const N: usize> Model for MemoryOutput<N> {
@@ -24,7 +27,7 @@ impl<const N: usize> Model for MemoryOutput<N> {
 
     ghost Value = { OutputState };
 
-    ghost view = { λ output. record { taken = take output.filled output.buffer; step = output.step; failing_call = output.countdown; zero = output.zero; failed = output.failed } };
+    ghost view = { λ output. record { taken = take output.filled output.buffer; step = output.step; failing_call = output.countdown; zero = output.zero; failed = output.failed; last_call = output.last_call } };
 
     ghost invariant = { λ output. (1 ≤ output.step) × (output.filled ≤ N) };
 }
@@ -35,7 +38,7 @@ impl<const N: usize> MemoryOutput<N> {
     /// every call succeeds while there is room.
     pub fn new(step: usize, fail_at: Option<u64>, zero: bool) -> Self
         requires { 1 ≤ step }
-        ensures { result ≡ record { taken = []; step = step; failing_call = unwrap_or fail_at 0; zero = zero; failed = false } }
+        ensures { result ≡ record { taken = []; step = step; failing_call = unwrap_or fail_at 0; zero = zero; failed = false; last_call = Nothing } }
     {
         MemoryOutput {
             buffer: [0; N],
@@ -44,6 +47,7 @@ impl<const N: usize> MemoryOutput<N> {
             countdown: Countdown::new(fail_at),
             zero,
             failed: false,
+            last_call: LastCall::Nothing,
         }
     }
 
@@ -60,12 +64,15 @@ impl<const N: usize> Output for MemoryOutput<N> {
 
     ghost failed = { λ output. output.failed };
 
+    ghost last_call = { λ output. output.last_call };
+
     ghost bytes_taken = { λ output. Some output.taken };
 
     fn write(&mut self, slice: &[u8]) -> Result<usize, DeviceFault>
         ensures within { IfOk result (λ count. count ≤ length slice.now) }
         ensures taken { WriteAppends (Some self.old.taken) (Some self.new.taken) result slice.now }
         ensures fails { FailsOnShortWrite self.old.failed self.new.failed result slice.now }
+        ensures last { self.new.last_call ≡ Write }
 
         // When it fails, and otherwise how much it takes.
         ensures err { IsErr result ↔ ((self.old.failing_call ≡ 1) × (self.old.zero ≡ false)) }
@@ -78,6 +85,7 @@ impl<const N: usize> Output for MemoryOutput<N> {
         ensures counted { self.new.failing_call ≡ self.old.failing_call - 1 }
     {
         let due = self.countdown.is_due();
+        self.last_call = LastCall::Write;
         if due && !self.zero {
             self.failed = true;
             return Err(DeviceFault);
@@ -101,14 +109,17 @@ impl<const N: usize> Output for MemoryOutput<N> {
     fn flush(&mut self) -> Result<(), DeviceFault>
         ensures taken { Keeps (Some self.old.taken) (Some self.new.taken) }
         ensures fails { FailsOnErr self.old.failed self.new.failed result }
+        ensures last { self.new.last_call ≡ flush_call result }
         ensures err { IsErr result ↔ (self.old.failing_call ≡ 1) }
         ensures settings { (self.new.step ≡ self.old.step) × (self.new.zero ≡ self.old.zero) }
         ensures counted { self.new.failing_call ≡ self.old.failing_call - 1 }
     {
         if self.countdown.is_due() {
             self.failed = true;
+            self.last_call = LastCall::FailedFlush;
             return Err(DeviceFault);
         }
+        self.last_call = LastCall::Flush;
         Ok(())
     }
 

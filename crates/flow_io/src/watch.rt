@@ -1,56 +1,54 @@
 ghost use Rattle.std.specs.Prelude.{◌≡◌, false, true};
+ghost use Rattle.flow_io.specs.declared.last_call.LastCall.TheVariants.{Nothing};
 
 use crate::devices::{DeviceFault, Input, Output};
+use crate::last_call::LastCall;
 use std::io::{Read, Write};
 use std::marker::Model;
 
-/// A reader or a writer of std that remembers whether it failed. Each call is passed on as it is, and
-/// any error, an interrupted call among them, is a `DeviceFault`. Contracts see whether it has failed.
+/// A reader or a writer of std that remembers whether it failed, and of a writer which call it had last.
+/// Each call is passed on as it is, and any error, an interrupted call among them, is a `DeviceFault`.
+/// Where the reader or writer inside tells its bytes, these are its bytes.
 #[derive(Drop)]
 pub struct Watched<T> {
     inner: T,
     failed: bool,
+    last_call: LastCall,
 }
 
 impl<T> Model for Watched<T> {
-    ghost use Rattle.std.specs.Prelude.{Bool};
+    ghost use Rattle.flow_io.specs.Watched.{WatchState};
 
-    ghost Value = { Bool };
+    ghost Value = { WatchState T };
 
-    ghost view = { λ watched. watched.failed };
+    ghost view = { λ watched. record { inner = watched.inner; failed = watched.failed; last_call = watched.last_call } };
 }
 
 impl<T> Watched<T> {
-    /// Watches over `inner`, which counts as not failed.
+    /// Watches over `inner`, which counts as not failed and not called yet.
     pub fn new(inner: T) -> Self
-        ensures { result ≡ false }
+        ensures { result ≡ record { inner = inner; failed = false; last_call = Nothing } }
     {
         Watched {
             inner,
             failed: false,
+            last_call: LastCall::Nothing,
         }
-    }
-
-    // Keeps that a call failed.
-    fn fault(&mut self) -> DeviceFault
-        ensures { self.new ≡ true }
-    {
-        self.failed = true;
-        DeviceFault
     }
 }
 
 impl<T: Read> Input for Watched<T> {
-    ghost use Rattle.std.specs.Prelude.{None};
+    ghost failed = { λ watched. watched.failed };
 
-    ghost failed = { λ watched. watched };
-
-    ghost bytes_left = { λ _. None };
+    ghost bytes_left = { λ watched. T.remaining watched.inner };
 
     fn read(&mut self, buffer: &mut [u8]) -> Result<usize, DeviceFault> {
         match self.inner.read(buffer) {
             Ok(count) => Ok(count),
-            Err(_) => Err(self.fault()),
+            Err(_) => {
+                self.failed = true;
+                Err(DeviceFault)
+            }
         }
     }
 
@@ -60,13 +58,14 @@ impl<T: Read> Input for Watched<T> {
 }
 
 impl<T: Write> Output for Watched<T> {
-    ghost use Rattle.std.specs.Prelude.{None};
+    ghost failed = { λ watched. watched.failed };
 
-    ghost failed = { λ watched. watched };
+    ghost last_call = { λ watched. watched.last_call };
 
-    ghost bytes_taken = { λ _. None };
+    ghost bytes_taken = { λ watched. T.contents watched.inner };
 
     fn write(&mut self, slice: &[u8]) -> Result<usize, DeviceFault> {
+        self.last_call = LastCall::Write;
         match self.inner.write(slice) {
             Ok(count) => {
                 if count == 0 && !slice.is_empty() {
@@ -74,14 +73,24 @@ impl<T: Write> Output for Watched<T> {
                 }
                 Ok(count)
             }
-            Err(_) => Err(self.fault()),
+            Err(_) => {
+                self.failed = true;
+                Err(DeviceFault)
+            }
         }
     }
 
     fn flush(&mut self) -> Result<(), DeviceFault> {
         match self.inner.flush() {
-            Ok(()) => Ok(()),
-            Err(_) => Err(self.fault()),
+            Ok(()) => {
+                self.last_call = LastCall::Flush;
+                Ok(())
+            }
+            Err(_) => {
+                self.failed = true;
+                self.last_call = LastCall::FailedFlush;
+                Err(DeviceFault)
+            }
         }
     }
 

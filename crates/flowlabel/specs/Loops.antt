@@ -1,6 +1,8 @@
 -- What the loops over readers and writers do with the bytes.
-use Rattle.std.specs.Prelude.{◌≡◌, ℕ, Bool, false, true, List, ◌++◌, Option, Result, Ok, Err}
-use Rattle.std.specs.Io.KnownBytes.{Appends}
+use Rattle.std.specs.Prelude.{◌≡◌, ◌⊎◌, ℕ, Bool, false, true, List, ◌++◌, Option, Result, Ok, Err}
+use Rattle.std.specs.Io.KnownBytes.{Appends, Keeps}
+use Rattle.flow_io.specs.declared.last_call.LastCall.{LastCall}
+use Rattle.flow_io.specs.declared.last_call.LastCall.TheVariants.{Write, FailedFlush}
 use Rattle.flowlabel.specs.declared.reading.ReadStop.{ReadStop}
 use Rattle.flowlabel.specs.declared.reading.ReadStop.TheVariants.{ReadFault, NoMemory}
 
@@ -13,3 +15,14 @@ is_read_fault (Err NoMemory) = false
 -- known bytes grow by a prefix of these
 abbrev pub AppendsPrefix : Option (List ℕ) → Option (List ℕ) → List ℕ → Type 0
 AppendsPrefix old new bytes = (front : List ℕ) × ((rest : List ℕ) × (bytes ≡ front ++ rest)) × Appends old new front
+
+-- Two states of a writer, of which the first function tells the bytes taken, and the second the last call.
+module _ {W : Type 0} (taken : W → Option (List ℕ)) (last : W → LastCall) where
+  -- it was to take these bytes and then be flushed, and failed: at a write, with a prefix of them taken, or at the flush, with all of them
+  abbrev pub StopsWriting : W → W → List ℕ → Type 0
+  StopsWriting old new bytes =
+      (AppendsPrefix (taken old) (taken new) bytes × (last new ≡ Write)) ⊎ (Appends (taken old) (taken new) bytes × (last new ≡ FailedFlush))
+
+  -- it took nothing and had no call
+  abbrev pub IsUntouched : W → W → Type 0
+  IsUntouched old new = Keeps (taken old) (taken new) × (last new ≡ last old)

@@ -1,9 +1,9 @@
 use Rattle.std.specs.Prelude.{◌≡◌, ◌≢◌, ◌⊎◌, ◌||◌, ℕ, Bool, true, false, List, [], Option, Some, None, is_some, Result, Ok, Err}
 use Rattle.std.specs.Borrow.{Bor}
-use Rattle.std.specs.Io.KnownBytes.{Keeps}
+use Rattle.flow_io.specs.declared.last_call.LastCall.{LastCall}
 use Rattle.pmap_text.specs.Reading.{map_reading}
 use Rattle.pmap_text.specs.declared.fault.MapFaultKind.TheVariants as kind
-use Rattle.flowlabel.specs.Loops.{AppendsPrefix}
+use Rattle.flowlabel.specs.Loops.{IsUntouched, StopsWriting}
 use Rattle.flowlabel.specs.Output.{FileTexts, InMap, output_of}
 use Rattle.flowlabel.specs.Request.{Request}
 use Rattle.flowlabel.specs.declared.command.Needs.{Needs}
@@ -41,9 +41,9 @@ module _ {R : Type 0} where
   HasName None name = ⊥
   HasName (Some source) name = source.name.now ≡ name.now
 
-  -- it has this name, and its reader has failed
-  abbrev pub HasFailed : (R → Bool) → Option (Source R) → Bor (List ℕ) → Type 0
-  HasFailed failed source name = HasName source name × (source_failed failed source ≡ true)
+  -- the input had this name before the call, and its reader has failed behind it
+  abbrev pub HasFailed : (R → Bool) → Option (Source R) → Option (Source R) → Bor (List ℕ) → Type 0
+  HasFailed failed old new name = HasName old name × (source_failed failed new ≡ true)
 
   -- the output of the request by the bytes that the readers told, where they tell them
   abbrev pub PrintsThen : (R → Option (List ℕ)) → Inputs R → Request → (List ℕ → Type 0) → Type 0
@@ -54,36 +54,26 @@ module _ {R : Type 0} where
   abbrev pub IsFaultOfMap : (R → Option (List ℕ)) → (R → Bool) → Source R → Source R → RunFault → Type 0
   IsFaultOfMap left failed old new (Usage fault) = ⊥
   IsFaultOfMap left failed old new (CannotOpen file) = ⊥
-  IsFaultOfMap left failed old new (CannotRead file) = (new.name.now ≡ file.now) × (failed new.reader ≡ true)
+  IsFaultOfMap left failed old new (CannotRead file) = (old.name.now ≡ file.now) × (failed new.reader ≡ true)
   IsFaultOfMap left failed old new CannotWrite = ⊥
   IsFaultOfMap left failed old new NoMemory = Unit {0}
   IsFaultOfMap left failed old new (Map file fault) = (old.name.now ≡ file.now) × (fault.kind ≢ kind.NoMemory)
       × ((text : List ℕ) → left old.reader ≡ Some text → map_reading text ≡ Err fault)
 
-  -- what a fault that comes before anything is written says: a fault of a map text is the request's first fault, and a
-  -- reader that is named has failed
+  -- what a fault that comes before anything is written says, names being those before the call: a fault of a map text is
+  -- the request's first fault, and a reader that is named has failed
   abbrev pub IsFaultOfBytes : (R → Option (List ℕ)) → (R → Bool) → Inputs R → Inputs R → Request → RunFault → Type 0
   IsFaultOfBytes left failed old new request (Usage fault) = ⊥
   IsFaultOfBytes left failed old new request (CannotOpen file) = ⊥
   IsFaultOfBytes left failed old new request (CannotRead file) =
-      HasFailed failed new.map file ⊎ (HasFailed failed new.list file ⊎ (HasFailed failed new.certificate file ⊎ HasFailed failed new.flows file))
+      HasFailed failed old.map new.map file
+      ⊎ (HasFailed failed old.list new.list file
+      ⊎ (HasFailed failed old.certificate new.certificate file ⊎ HasFailed failed old.flows new.flows file))
   IsFaultOfBytes left failed old new request CannotWrite = ⊥
   IsFaultOfBytes left failed old new request NoMemory = Unit {0}
   IsFaultOfBytes left failed old new request (Map file fault) =
       HasName old.map file × (fault.kind ≢ kind.NoMemory)
       × ((texts : FileTexts) → HaveTexts left old texts → output_of request texts ≡ Err (InMap fault))
-
-  -- what a fault says: after a write fault the writer has a prefix of the output, any other comes before
-  abbrev pub IsFaultOfRun : (R → Option (List ℕ)) → (R → Bool) → Inputs R → Inputs R → Option (List ℕ) → Option (List ℕ) → Request → RunFault → Type 0
-  IsFaultOfRun left failed old new taken taken' request CannotWrite =
-      PrintsThen left old request (AppendsPrefix taken taken')
-  IsFaultOfRun left failed old new taken taken' request (Usage fault) = ⊥
-  IsFaultOfRun left failed old new taken taken' request (CannotOpen file) = ⊥
-  IsFaultOfRun left failed old new taken taken' request (CannotRead file) =
-      IsFaultOfBytes left failed old new request (CannotRead file) × Keeps taken taken'
-  IsFaultOfRun left failed old new taken taken' request NoMemory = Keeps taken taken'
-  IsFaultOfRun left failed old new taken taken' request (Map file fault) =
-      IsFaultOfBytes left failed old new request (Map file fault) × Keeps taken taken'
 
   -- the inputs are those that a command needs, and no others
   pub record AreNeeded (needs : Needs) (inputs : Inputs R) : Type 0 where
@@ -91,6 +81,19 @@ module _ {R : Type 0} where
     pub list : is_some inputs.list ≡ needs.list
     pub certificate : is_some inputs.certificate ≡ needs.certificate
     pub flows : is_some inputs.flows ≡ needs.flows
+
+-- what a fault of a run says: after a write fault the writer has a prefix of the output, or all of it where the flush
+-- failed; any other fault comes before the writer has a call
+module _ {R W : Type 0} (left : R → Option (List ℕ)) (failed : R → Bool) (taken : W → Option (List ℕ)) (last : W → LastCall) where
+  abbrev pub IsFaultOfRun : Inputs R → Inputs R → W → W → Request → RunFault → Type 0
+  IsFaultOfRun old new writer writer' request CannotWrite = PrintsThen left old request (StopsWriting taken last writer writer')
+  IsFaultOfRun old new writer writer' request (Usage fault) = ⊥
+  IsFaultOfRun old new writer writer' request (CannotOpen file) = ⊥
+  IsFaultOfRun old new writer writer' request (CannotRead file) =
+      IsFaultOfBytes left failed old new request (CannotRead file) × IsUntouched taken last writer writer'
+  IsFaultOfRun old new writer writer' request NoMemory = IsUntouched taken last writer writer'
+  IsFaultOfRun old new writer writer' request (Map file fault) =
+      IsFaultOfBytes left failed old new request (Map file fault) × IsUntouched taken last writer writer'
 
 -- the run ended for a reader that failed, or for the writer
 abbrev pub is_read_stop : {A : Type 0} → Result A RunFault → Bool

@@ -1,5 +1,6 @@
 ghost use Rattle.std.specs.Prelude.{◌≡◌, ◌≢◌, ◌^◌, ◌<◌, ℕ, List, [], Some, false, IfOk, IfErr, OnOk, option_and_then, option_map, slice_get, unwrap_or};
 ghost use Rattle.std.specs.Io.KnownBytes.{Appends};
+ghost use Rattle.flow_io.specs.declared.last_call.LastCall.TheVariants.{Flush};
 ghost use Rattle.prefix_keys.specs.Version.{width_of};
 ghost use Rattle.pmap_text.specs.MapModel.{map_label};
 ghost use Rattle.pmap_text.specs.MapText.{map_of};
@@ -112,8 +113,9 @@ fn output<'a, R: Input>(
 ///
 /// # Errors
 ///
-/// The first fault of the inputs' bytes, a reader that failed, want of memory, all with nothing written; or a writer
-/// that failed, which has taken a prefix of the output.
+/// The first fault of the inputs' bytes, a reader that failed, want of memory, all before the writer has a call; or a
+/// writer that failed, which has taken a prefix of the output, or all of it where the flush failed. Names are those that
+/// the inputs had before the call.
 pub fn run<'a, R: Input, W: Output>(
     alloc: Global,
     command: &Command<'_>,
@@ -124,11 +126,13 @@ pub fn run<'a, R: Input, W: Output>(
     requires readers { any_failed R.failed inputs.old ≡ false }
     requires writer { W.failed writer.old ≡ false }
 
-    // The writer took exactly the output of the bytes read.
+    // The writer took exactly the output of the bytes read, and was flushed behind it.
     ensures ok { OnOk result (PrintsThen R.bytes_left inputs.old (request_of command.now) (Appends (W.bytes_taken writer.old) (W.bytes_taken writer.new))) }
 
+    ensures flushed { OnOk result (W.last_call writer.new ≡ Flush) }
+
     // A fault of the bytes is the output's, and nothing is written but a prefix of the output before a write fault.
-    ensures err { IfErr result (IsFaultOfRun R.bytes_left R.failed inputs.old inputs.new (W.bytes_taken writer.old) (W.bytes_taken writer.new) (request_of command.now)) }
+    ensures err { IfErr result (IsFaultOfRun R.bytes_left R.failed W.bytes_taken W.last_call inputs.old inputs.new writer.old writer.new (request_of command.now)) }
 
     // Device faults come exactly from devices that failed.
     ensures read_fault { any_failed R.failed inputs.new ≡ is_read_stop result }

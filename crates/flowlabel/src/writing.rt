@@ -1,6 +1,7 @@
-ghost use Rattle.std.specs.Prelude.{◌≡◌, false, is_err, OnOk};
+ghost use Rattle.std.specs.Prelude.{◌≡◌, false, is_err, OnErr, OnOk};
 ghost use Rattle.std.specs.Io.KnownBytes.{Appends};
-ghost use Rattle.flowlabel.specs.Loops.{AppendsPrefix};
+ghost use Rattle.flow_io.specs.declared.last_call.LastCall.TheVariants.{Flush};
+ghost use Rattle.flowlabel.specs.Loops.{StopsWriting};
 
 use flow_io::Output;
 
@@ -8,11 +9,13 @@ use flow_io::Output;
 #[derive(Clone, Copy, Debug, PartialEq, Eq)]
 pub struct WriteFault;
 
-/// Writes all the bytes, and then flushes once. After a fault the writer has taken a prefix of them.
+/// Writes all the bytes, and then flushes once. After a fault of a write the writer has taken a prefix of them, and after
+/// one of the flush all of them.
 pub fn write_whole<W: Output>(writer: &mut W, bytes: &[u8]) -> Result<(), WriteFault>
     requires { W.failed writer.old ≡ false }
     ensures whole { OnOk result (Appends (W.bytes_taken writer.old) (W.bytes_taken writer.new) bytes.now) }
-    ensures prefix { AppendsPrefix (W.bytes_taken writer.old) (W.bytes_taken writer.new) bytes.now }
+    ensures flushed { OnOk result (W.last_call writer.new ≡ Flush) }
+    ensures stopped { OnErr result (StopsWriting W.bytes_taken W.last_call writer.old writer.new bytes.now) }
     ensures fault { W.failed writer.new ≡ is_err result }
 {
     let mut rest = bytes;
@@ -22,7 +25,10 @@ pub fn write_whole<W: Output>(writer: &mut W, bytes: &[u8]) -> Result<(), WriteF
             Ok(count) => rest = &rest[count..],
         }
     }
-    writer.flush().map_err(|_| WriteFault)
+    match writer.flush() {
+        Ok(()) => Ok(()),
+        Err(_) => Err(WriteFault),
+    }
 }
 
 #[cfg(test)]

@@ -3,6 +3,7 @@ ghost use Rattle.std.specs.Prelude.{◌≤◌, IfOk};
 use super::*;
 use std::io;
 use std::io::ErrorKind;
+use std::test::Fail;
 
 // A device whose calls, reads, writes and flushes alike, answer in turn 2, an error, 0 and 1. It
 // keeps how many calls it had, and the first byte that it was given last.
@@ -89,4 +90,18 @@ fn fails_where_nothing_is_taken(rt: HostRuntime) {
     assert_eq!(rt; write_some(&mut writer, b""), (Ok(0), false));
     let mut writer = Watched::new(Scripted { calls: 1, last: 0 });
     assert_eq!(rt; write_some(&mut writer, b"a"), (Err(DeviceFault), true));
+}
+
+#[test]
+fn moves_the_bytes_inside(rt: HostRuntime) -> Result<(), Fail> {
+    let mut reader = Watched::new(b"abcd".as_slice());
+    assert_eq!(rt; read_three(&mut reader), (Ok(3), *b"abc", false));
+    assert_eq!(rt; read_three(&mut reader), (Ok(1), *b"d..", false));
+    assert_eq!(rt; read_three(&mut reader), (Ok(0), *b"...", false));
+    let mut writer = Watched::new(Vec::new(rt.alloc()));
+    assert_eq!(rt; write_some(&mut writer, b"ab"), (Ok(2), false));
+    assert_eq!(rt; flush_one(&mut writer), (Ok(()), false));
+    assert_eq!(rt; write_some(&mut writer, b"c"), (Ok(1), false));
+    assert_eq!(rt; writer.inner.as_slice(), b"abc".as_slice());
+    Ok(())
 }
