@@ -1,12 +1,21 @@
-"""Writes a map text like a dump of a routing table: maps.py LINES ORDER FILE, where ORDER is sorted, shuffled or ranges.
+"""Writes a map text: maps.py LINES ORDER FILE. The same arguments write the same bytes.
 
-The same arguments write the same bytes. Prefixes have the lengths of a table of the whole Internet: most are /24, then
-come /16 to /23, and few are shorter. A sorted text has them by address and then by length, so that the longer of two
-nested prefixes stands later and counts. A shuffled one has the same lines in no order. A text of ranges is over IPv6:
-each line has the first and the last address of some neighbouring /48 prefixes out of 2000::/3, in no order.
+The orders sorted and shuffled are like a dump of a routing table. Prefixes have the lengths of a table of the whole
+Internet: most are /24, then come /16 to /23, and few are shorter. A sorted text has them by address and then by length, so
+that the longer of two nested prefixes stands later and counts. A shuffled one has the same lines in no order.
+
+The others are over IPv6:
+
+- ranges: each line has the first and the last address of some neighbouring /48 prefixes out of 2000::/3, in no order;
+- equal: each line has the same address;
+- nested: each range lies strictly inside the one before it;
+- alternating: ranges from one low address to about the middle, in turn with ranges from about the middle to one high address;
+- list: no two lines have the same block, a random address of 2000::/3;
+- colliding: the same, of addresses that all have one value under the standard library's hash, whose seed is fixed.
 """
 
 import ipaddress
+import itertools
 import random
 import sys
 
@@ -18,6 +27,15 @@ SHARES = {
     8: 1, 9: 1, 10: 1, 11: 1, 12: 1, 13: 1, 14: 2, 15: 2,
     16: 14, 17: 9, 18: 15, 19: 26, 20: 45, 21: 52, 22: 110, 23: 103, 24: 616,
 }
+# 2001:db8:0:0:8000::, of the block that is kept for documents (RFC 3849).
+MIDDLE = 0x2001_0DB8_0000_0000_8000_0000_0000_0000
+# The hash multiplies the exclusive or of a key's first 64 bits and this number, which here is 0.
+COLLIDING = 0x9E37_79B9_7F4A_7C15
+
+
+def text_of(value):
+    """The text of an IPv6 address."""
+    return str(ipaddress.IPv6Address(value))
 
 
 def labels(rng):
@@ -44,27 +62,71 @@ def ranges(rng, names, count):
     for _ in range(count):
         low = 1 << 125 | rng.getrandbits(45) << 80
         high = min(low + (rng.randrange(1, 65) << 80), 1 << 126) - 1
-        yield f"{ipaddress.IPv6Address(low)} {ipaddress.IPv6Address(high)} {rng.choice(names)}"
+        yield f"{text_of(low)} {text_of(high)} {rng.choice(names)}"
+
+
+def nested(names, count):
+    """The lines of so many ranges round one middle, each inside the one before."""
+    for number in range(count, 0, -1):
+        yield f"{text_of(MIDDLE - number)} {text_of(MIDDLE + number)} {names[number % LABELS]}"
+
+
+def alternating(names, count):
+    """The lines of so many ranges that end or begin about one middle, in turn."""
+    low, high = text_of(MIDDLE - (1 << 64)), text_of(MIDDLE + (1 << 64))
+    for number in range(count):
+        name = names[number % LABELS]
+        yield f"{low} {text_of(MIDDLE + number)} {name}" if number % 2 else f"{text_of(MIDDLE - number)} {high} {name}"
+
+
+def addresses(rng, names, first_half):
+    """Endless lines of random addresses; `first_half` gives the first 64 bits of one."""
+    while True:
+        yield f"{text_of(first_half() << 64 | rng.getrandbits(64))}/128 {rng.choice(names)}"
+
+
+def ipv6_lines(rng, names, count, order):
+    """The lines of a text over IPv6 below its mode."""
+    match order:
+        case "ranges":
+            return ranges(rng, names, count)
+        case "equal":
+            return (f"{text_of(MIDDLE)}/128 {names[number % LABELS]}" for number in range(count))
+        case "nested":
+            return nested(names, count)
+        case "alternating":
+            return alternating(names, count)
+        case "list":
+            return itertools.islice(addresses(rng, names, lambda: 1 << 61 | rng.getrandbits(61)), count)
+        case "colliding":
+            return itertools.islice(addresses(rng, names, lambda: COLLIDING), count)
+    sys.exit(f"maps.py: no order {order}")
+
+
+def ipv4_lines(rng, names, count, order):
+    """The lines of a text over IPv4."""
+    # Of fewer lines the lengths are those of more, and there are only so many short prefixes.
+    found = prefixes(rng, count)
+    if order == "shuffled":
+        rng.shuffle(found)
+    for value, length in found:
+        dotted = f"{value >> 24}.{value >> 16 & 255}.{value >> 8 & 255}.{value & 255}"
+        yield f"{dotted}/{length} {rng.choice(names)}"
 
 
 def lines(count, order):
     """The lines of a text."""
     rng = random.Random(SEED)
     names = labels(rng)
-    if order == "ranges":
-        yield "mode ipv6"
+    if order in ("sorted", "shuffled"):
+        yield "# made by bench/maps.py"
         yield "default unassigned"
-        yield from ranges(rng, names, count - 2)
+        yield from ipv4_lines(rng, names, count - 2, order)
         return
-    yield "# made by bench/maps.py"
-    yield "default unassigned"
-    # Of fewer lines the lengths are those of more, and there are only so many short prefixes.
-    found = prefixes(rng, count - 2)
-    if order == "shuffled":
-        rng.shuffle(found)
-    for value, length in found:
-        dotted = f"{value >> 24}.{value >> 16 & 255}.{value >> 8 & 255}.{value & 255}"
-        yield f"{dotted}/{length} {rng.choice(names)}"
+    yield "mode ipv6"
+    # A list has no default.
+    yield "# made by bench/maps.py" if order in ("list", "colliding") else "default unassigned"
+    yield from ipv6_lines(rng, names, count - 2, order)
 
 
 def main():

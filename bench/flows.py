@@ -1,0 +1,124 @@
+"""Writes an IPFIX File: flows.py KIND COUNT FILE. The same arguments write the same bytes.
+
+- mixed: so many flows in messages like those of an exporter, each with a set of IPv4 flows and one of IPv6 flows. Flows
+  have ten fields.
+
+The others are made to hurt:
+
+- domains: so many messages, each with a template and a record in a domain of its own, whose numbers collide in a hash
+  (bench/domains.rs prints them to bench/data/domains.txt);
+- fields: so many messages full of records of 8 bytes, whose template has thousands of fields without a byte;
+- sets: so many messages full of data sets without a record, under a template of thousands of fields.
+"""
+
+import itertools
+import os
+import random
+import struct
+import sys
+
+SEED = 20260101
+DOMAINS = os.path.join(os.path.dirname(os.path.realpath(__file__)), "data/domains.txt")
+EXPORT_TIME = 1_767_225_600
+# Ports, protocol, flags, packets, octets, start and end.
+COMMON = [(7, 2), (11, 2), (4, 1), (6, 1), (2, 8), (1, 8), (152, 8), (153, 8)]
+V4_FIELDS = [(8, 4), (12, 4), *COMMON]
+V6_FIELDS = [(27, 16), (28, 16), *COMMON]
+V4_ID, V6_ID = 256, 257
+# How many flows of each version a message has, and how many messages stand before the templates are sent again.
+V4_FLOWS, V6_FLOWS = 10, 14
+RESENT = 1000
+# As many fields as a message can hold, but for some.
+MANY = 16_000
+
+
+def data_set(number, body):
+    return struct.pack(">HH", number, 4 + len(body)) + body
+
+
+def template_set(*templates):
+    """A set of templates, each an ID with the elements and lengths of its fields."""
+    return data_set(2, b"".join(
+        struct.pack(">HH", number, len(fields)) + b"".join(struct.pack(">HH", *field) for field in fields)
+        for number, fields in templates))
+
+
+def message(sequence, domain, *sets):
+    body = b"".join(sets)
+    return struct.pack(">HHIII", 10, 16 + len(body), EXPORT_TIME, sequence, domain) + body
+
+
+def common(rng):
+    """The fields of a flow behind its addresses."""
+    packets = rng.choice((1, 1, 2, 5, 12, rng.getrandbits(16) + 1))
+    start = 1000 * EXPORT_TIME - rng.getrandbits(20)
+    return struct.pack(">HHBBQQQQ", rng.getrandbits(16), rng.choice((53, 80, 443, 8080)), rng.choice((1, 6, 6, 17)),
+                       rng.getrandbits(6), packets, packets * (40 + rng.getrandbits(10)), start, start + rng.getrandbits(12))
+
+
+def v6_address(rng):
+    """An address of 2001:db8::/32: of a server, with a small number, or of a host with a random one."""
+    site = 0x2001_0DB8 << 32 | rng.getrandbits(16) << 16
+    return struct.pack(">QQ", site, rng.choice((rng.getrandbits(8), rng.getrandbits(64))))
+
+
+def v4_flow(rng):
+    return struct.pack(">II", 10 << 24 | rng.getrandbits(24), rng.getrandbits(32)) + common(rng)
+
+
+def v6_flow(rng):
+    return v6_address(rng) + v6_address(rng) + common(rng)
+
+
+def mixed(count):
+    """The messages of so many flows."""
+    rng = random.Random(SEED)
+    for number in itertools.count():
+        left = count - number * (V4_FLOWS + V6_FLOWS)
+        if left <= 0:
+            return
+        v4_count = min(V4_FLOWS, left)
+        v6_count = min(V6_FLOWS, left - v4_count)
+        sets = [template_set((V4_ID, V4_FIELDS), (V6_ID, V6_FIELDS))] if number % RESENT == 0 else []
+        sets.append(data_set(V4_ID, b"".join(v4_flow(rng) for _ in range(v4_count))))
+        sets.append(data_set(V6_ID, b"".join(v6_flow(rng) for _ in range(v6_count))))
+        yield message(count - left, 1, *sets)
+
+
+def in_domains(domains, count):
+    """A message for each of the first domains."""
+    sets = template_set((V4_ID, [(1, 4)])) + data_set(V4_ID, bytes(4))
+    for sequence, domain in enumerate(domains[:count]):
+        yield message(sequence, int(domain), sets)
+
+
+def full(count, fields, set_of):
+    """A template, and so many messages that a set fills over and over."""
+    yield message(0, 1, template_set((V4_ID, fields)))
+    room = 65_535 - 16
+    sets = set_of(room) * (room // len(set_of(room)))
+    for _ in range(count):
+        yield message(0, 1, sets)
+
+
+def main():
+    kind, count, name = sys.argv[1:]
+    count = int(count)
+    empty = [(210, 0)] * MANY
+    match kind:
+        case "mixed":
+            messages = mixed(count)
+        case "domains":
+            with open(DOMAINS, encoding="ascii") as numbers:
+                messages = in_domains(numbers.read().split(), count)
+        case "fields":
+            messages = full(count, [*empty, (8, 4), (12, 4)], lambda room: data_set(V4_ID, bytes((room - 4) // 8 * 8)))
+        case "sets":
+            messages = full(count, [(8, 4), (12, 4), *empty], lambda _: data_set(V4_ID, b""))
+        case _:
+            sys.exit(f"flows.py: no kind {kind}")
+    with open(name, "wb") as file:
+        file.writelines(messages)
+
+
+main()
