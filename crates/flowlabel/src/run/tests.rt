@@ -176,7 +176,14 @@ fn prints_the_label_under_a_full_table(rt: HostRuntime) -> Result<(), Fail> {
     }
     let reader = MemoryInput::new(map.as_slice(), 4096, None);
     let writer = MemoryOutput::<64>::new(64, None, false);
-    ends(&rt, rt.alloc(), LABEL, reader, writer, (0, "", "UNKNOWN\n"))
+    ends(
+        &rt,
+        rt.alloc(),
+        "flowlabel label --pmap map.txt 1.2.3.4",
+        reader,
+        writer,
+        (0, "", "UNKNOWN\n"),
+    )
 }
 
 #[test]
