@@ -312,22 +312,32 @@ fn rows(file: &[u8]) -> Result<Vec<u8>, Fault> {
     Ok(out)
 }
 
+/// Calls back with each cell of a text, the number of its column, and the byte behind it.
+fn each_cell(text: &[u8], mut each: impl FnMut(usize, &[u8], u8)) {
+    let (mut column, mut start) = (0, 0);
+    for (place, byte) in text.iter().enumerate() {
+        if *byte == b'|' || *byte == b'\n' {
+            each(column, &text[start..place], *byte);
+            start = place + 1;
+            column = if *byte == b'|' { column + 1 } else { 0 };
+        }
+    }
+}
+
 /// Fills each cell with spaces on its left, to the width of its column.
 fn columns(text: &[u8]) -> Vec<u8> {
     let mut widths = [0; 10];
-    for line in text.split_inclusive(|byte| *byte == b'\n') {
-        for (width, cell) in widths.iter_mut().zip(line[..line.len() - 1].split(|byte| *byte == b'|')) {
-            *width = cell.len().max(*width);
-        }
-    }
-    let line_length: usize = widths.iter().sum::<usize>() + widths.len();
-    let mut out = Vec::with_capacity(line_length * text.iter().filter(|byte| **byte == b'\n').count());
-    for line in text.split_inclusive(|byte| *byte == b'\n') {
-        for (width, cell) in widths.iter().zip(line.split_inclusive(|byte| *byte == b'|' || *byte == b'\n')) {
-            out.resize(out.len() + width + 1 - cell.len(), b' ');
-            out.extend_from_slice(cell);
-        }
-    }
+    let mut lines = 0;
+    each_cell(text, |column, cell, end| {
+        widths[column] = cell.len().max(widths[column]);
+        lines += usize::from(end == b'\n');
+    });
+    let mut out = Vec::with_capacity(lines * (widths.iter().sum::<usize>() + widths.len()));
+    each_cell(text, |column, cell, end| {
+        out.resize(out.len() + widths[column] - cell.len(), b' ');
+        out.extend_from_slice(cell);
+        out.push(end);
+    });
     out
 }
 
