@@ -16,3 +16,4 @@ examples:
 
 bench:
 	bench/run
+	bench/read_file/run

@@ -8,6 +8,7 @@ The others are made to hurt:
 - domains: so many messages, each with a template and a record in a domain of its own, whose numbers collide in a hash
   (bench/domains.rs prints them to bench/data/domains.txt);
 - fields: so many messages full of records of 8 bytes, whose template has thousands of fields without a byte;
+- variable: so many messages full of records of thousands of fields of variable length, each empty;
 - sets: so many messages full of data sets without a record, under a template of thousands of fields.
 """
 
@@ -113,6 +114,10 @@ def main():
                 messages = in_domains(numbers.read().split(), count)
         case "fields":
             messages = full(count, [*empty, (8, 4), (12, 4)], lambda room: data_set(V4_ID, bytes((room - 4) // 8 * 8)))
+        case "variable":
+            size = MANY + 8
+            messages = full(count, [*[(210, 65_535)] * MANY, (8, 4), (12, 4)],
+                            lambda room: data_set(V4_ID, bytes((room - 4) // size * size)))
         case "sets":
             messages = full(count, [(8, 4), (12, 4), *empty], lambda _: data_set(V4_ID, b""))
         case _:
