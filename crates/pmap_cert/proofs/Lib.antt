@@ -23,3 +23,6 @@ pub mod Whole
 pub mod SetWords
 pub mod ReadingSteps
 pub mod Written
+pub mod Equal
+pub mod MapLabels
+pub mod InOrder

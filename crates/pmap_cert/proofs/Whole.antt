@@ -47,6 +47,13 @@ ended_by-found c place x e = by (is_ended place.pieces) refl
     by true h = (ended-is place.pieces h, ok_is c x (sym (cond-true (is_ended place.pieces) (Ok c) (Err (fault_at place NodesLeft)) h) ∙ e))
     by false h = absurd (failed (sym (cond-false (is_ended place.pieces) (Ok c) (Err (fault_at place NodesLeft)) h) ∙ e))
 
+-- the pieces that each step leaves are those of the lines of a certificate
+joined-pieces : (all behind_header behind_labels behind_nodes : List (List ℕ)) (version : Version) (count : ℕ) (table : List Label) (lines : List (List ℕ))
+    → all ≡ header_line version count ∷ behind_header → behind_header ≡ table ++ behind_labels → behind_labels ≡ lines ++ behind_nodes → behind_nodes ≡ [] ∷ [] → count ≡ length table
+    → all ≡ (header_line version (length table) ∷ (table ++ lines)) ++ [] ∷ []
+joined-pieces all behind_header behind_labels behind_nodes version count table lines e f g h is =
+    e ∙ (λ i. header_line version (is i) ∷ (f ∙ ap (λ rest. table ++ rest) (g ∙ ap (λ rest. lines ++ rest) h) ∙ sym (append_assoc table lines ([] ∷ []))) i)
+
 -- what is read is the text of the certificate, which has its form
 pub reading-found : (text : List ℕ) (c : CertificateModel) → certificate_reading text ≡ Ok c → HasTextForm c × (text ≡ certificate_text c)
 unfolding certificate_reading
@@ -64,12 +71,8 @@ reading-found text c e =
     let nodes = node_at-found table read.3 (width_of version) labels.0.1 root.0 root.1 in
     let count_is : count ≡ length table = sym read.4 ∙ ap (λ (t : List Label). length t) (sym read.1) in
     let pieces : pieces_of text ≡ certificate_lines (record { version = version; table = table; root = root.0.0 }) ++ [] ∷ [] =
-    head.0
-    ∙ ap (λ (rest : List (List ℕ)). header_line version count ∷ rest)
-    (read.2 ∙ ap (λ (t : List Label). t ++ labels.0.1.pieces) (sym read.1)
-    ∙ ap (λ (rest : List (List ℕ)). table ++ rest) (nodes.0 ∙ ap (λ (rest : List (List ℕ)). node_lines table root.0.0 ++ rest) end.0)
-    ∙ sym (append_assoc table (node_lines table root.0.0) ([] ∷ [])))
-    ∙ ap (λ (n : ℕ). header_line version n ∷ (table ++ node_lines table root.0.0) ++ [] ∷ []) count_is in
+    joined-pieces (pieces_of text) header.0.1.pieces labels.0.1.pieces root.0.1.pieces version count table (node_lines table root.0.0)
+    head.0 (read.2 ∙ ap (λ (t : List Label). t ++ labels.0.1.pieces) (sym read.1)) nodes.0 end.0 count_is in
     subst (λ (c : CertificateModel). HasTextForm c × (text ≡ certificate_text c)) end.1
     (record { table = read.3; root = nodes.1 }, text_from_pieces text (certificate_lines (record { version = version; table = table; root = root.0.0 })) pieces)
 

@@ -3,6 +3,7 @@ pub mod ExactPair
 pub mod Acceptance
 pub mod MinimalPair
 pub mod FourQuarters
+pub mod ListForm
 pub mod CertificateText
 pub mod CertificateForm
 pub mod CertificateReading
