@@ -52,15 +52,15 @@ find-some : (test : Label → Bool) (xs : List Label) (x : Label) → has xs x �
 find-some test [] x h passes = absurd (false≢true h)
 find-some test (y ∷ ys) x h passes = by_test (test y) refl (λ inside. find-some test ys x inside passes)
   where
-    later : (b : Bool) → test y ≡ false → bytes_eq y x ≡ b → (b || has ys x) ≡ true → has ys x ≡ true
+    later : (b : Bool) → test y ≡ false → bytes_eq x y ≡ b → (b || has ys x) ≡ true → has ys x ≡ true
     later true fails e inside =
-        absurd (both_ways (test y) fails (subst (λ (z : Label). test z ≡ true) (sym ((bytes_eq-Decides y x).0 e)) passes))
+        absurd (both_ways (test y) fails (subst (λ (z : Label). test z ≡ true) ((bytes_eq-Decides x y).0 e) passes))
     later false fails e inside = inside
 
     by_test : (b : Bool) → test y ≡ b → (has ys x ≡ true → (z : Label) × (find test ys ≡ Some z)) →
         (z : Label) × (cond b (Some y) (find test ys) ≡ Some z)
     by_test true e rest = (y, refl)
-    by_test false e rest = rest (later (bytes_eq y x) e refl h)
+    by_test false e rest = rest (later (bytes_eq x y) e refl h)
 
 least_label-same : (table s s' : List Label) (x : Label) → ((y : Label) → has s y ≡ has s' y) → has s x ≡ true → has table x ≡ true →
     least_label table s ≡ least_label table s'
@@ -104,7 +104,7 @@ exact_pair_by-labels p r x [] both h = or_cases (has p.labels x) (has r.labels x
 exact_pair_by-labels p r x (y ∷ ys) both h = inl ((and_parts (has p.labels x) (has r.labels x) (sym (both x) ∙ h)).0)
 
 -- the labels of the sets are the map's
-table-node : (m : MapModel) → HasItsLabels m → (t : Tree) (n q : ℕ) → StandsFor m t n q → (x : Label) →
+pub table-node : (m : MapModel) → HasItsLabels m → (t : Tree) (n q : ℕ) → StandsFor m t n q → (x : Label) →
     has (claim_of t).labels x ≡ true → has m.table x ≡ true
 table-node m inside (LeafNode y) n q stands x h =
     subst (λ (z : Label). has m.table z ≡ true) (has-single y x h)

@@ -12,3 +12,17 @@ pub mod Minimal
 pub mod Existence
 pub mod ExactPairs
 pub mod Alike
+pub mod Pieces
+pub mod Numbers
+pub mod NodeLines
+pub mod Tables
+pub mod Trees
+pub mod TreesAgain
+pub mod Headers
+pub mod Whole
+pub mod SetWords
+pub mod ReadingSteps
+pub mod Written
+pub mod Equal
+pub mod MapLabels
+pub mod InOrder

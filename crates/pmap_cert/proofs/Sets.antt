@@ -18,12 +18,12 @@ has-own x = rw (bytes_eq-same x)
 
 -- and no other
 pub has-single : (x y : Label) → has (x ∷ []) y ≡ true → x ≡ y
-has-single x y h = (bytes_eq-Decides x y).0 (sym (or-false (bytes_eq x y)) ∙ h)
+has-single x y h = sym ((bytes_eq-Decides y x).0 (sym (or-false (bytes_eq y x)) ∙ h))
 
 -- what the joined list has
 pub has-append : (xs ys : List Label) (x : Label) → has (xs ++ ys) x ≡ (has xs x || has ys x)
 has-append [] ys x = refl
-has-append (y ∷ xs) ys x = let ih = has-append xs ys x in rw ih (sym (or_assoc (bytes_eq y x) (has xs x) (has ys x)))
+has-append (y ∷ xs) ys x = let ih = has-append xs ys x in rw ih (sym (or_assoc (bytes_eq x y) (has xs x) (has ys x)))
 
 -- what the labels of a list that pass a set's test have
 has-filter-step : (a b c d e f : Bool) → (a ≡ true → c ≡ d) → e ≡ (b && d) → f ≡ cond c (a || e) e → f ≡ ((a || b) && d)
@@ -36,9 +36,9 @@ has-cond false xs ys x = refl
 pub has-filter : (s xs : List Label) (x : Label) → has (filter (has s) xs) x ≡ (has xs x && has s x)
 has-filter s [] x = refl
 has-filter s (y ∷ xs) x =
-    has-filter-step (bytes_eq y x) (has xs x) (has s y) (has s x) (has (filter (has s) xs) x)
+    has-filter-step (bytes_eq x y) (has xs x) (has s y) (has s x) (has (filter (has s) xs) x)
     (has (filter (has s) (y ∷ xs)) x)
-    (λ e. ap (has s) ((bytes_eq-Decides y x).0 e))
+    (λ e. ap (has s) (sym ((bytes_eq-Decides x y).0 e)))
     (has-filter s xs x)
     (has-cond (has s y) (y ∷ filter (has s) xs) (filter (has s) xs) x)
 

@@ -1,6 +1,6 @@
-use Rattle.std.specs.Prelude.{ℕ, Bool, false, ◌||◌, List, [], ◌∷◌}
-use Rattle.std.specs.Str.{bytes_eq}
+use Rattle.std.specs.Prelude.{ℕ, Bool, List, [], ◌∷◌}
 use Rattle.prefix_keys.specs.declared.version.Version.{Version}
+use Rattle.pmap_text.specs.Label.{has_label}
 use Rattle.pmap_text.specs.MapModel.{Label}
 
 -- A certificate as contracts see it: a binary tree over the address space, with label texts.
@@ -10,10 +10,9 @@ pub record Pair : Type 0 where
   pub cost : ℕ
   pub labels : List Label
 
--- the set has the label
+-- the set has the label, as a table has it
 abbrev pub has : List Label → Label → Bool
-has [] x = false
-has (y ∷ ys) x = bytes_eq y x || has ys x
+has s x = has_label s x
 
 -- a node: a leaf with a label, or an inner node with what it claims of its block and the nodes of the block's halves
 pub data Tree : Type 0 where

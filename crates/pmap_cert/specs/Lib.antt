@@ -3,3 +3,10 @@ pub mod ExactPair
 pub mod Acceptance
 pub mod MinimalPair
 pub mod FourQuarters
+pub mod ListForm
+pub mod CertificateText
+pub mod CertificateForm
+pub mod CertificateReading
+pub mod Node
+pub mod Certificate
+pub mod Words

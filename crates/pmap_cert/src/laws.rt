@@ -1,12 +1,15 @@
 //! The laws on certificates.
 
-ghost use Rattle.std.specs.Prelude.{◌≡◌, ◌+◌, ◌≤◌, ◌&&◌, ◌||◌, false, length, IsTrue};
+ghost use Rattle.std.specs.Prelude.{◌≡◌, ◌+◌, ◌≤◌, ◌&&◌, ◌||◌, ℕ, List, false, length, IsTrue};
 ghost use Rattle.pmap_text.specs.ListModel.{IsEquivalent, ListModel};
 ghost use Rattle.pmap_text.specs.MapModel.{Label, MapModel};
+ghost use Rattle.pmap_text.specs.Reading.{ReadsMap};
 ghost use Rattle.pmap_cert.specs.Acceptance.{IsAccepted, IsLeast};
+ghost use Rattle.pmap_cert.specs.CertificateForm.{HasTextForm};
 ghost use Rattle.pmap_cert.specs.CertificateModel.{CertificateModel, Pair, claim_of, has};
 ghost use Rattle.pmap_cert.specs.ExactPair.{IsPairOf, IsSamePair, exact_pair};
 ghost use Rattle.pmap_cert.specs.FourQuarters.{four_quarters_certificate, four_quarters_list, four_quarters_map};
+ghost use Rattle.pmap_cert.specs.ListForm.{HasListForm};
 ghost use Rattle.pmap_cert.specs.MinimalPair.{HasItsLabels, IsMinimalPair, IsSameCertificate};
 
 /// Acceptance is enough: whoever made the certificate, a list that it is accepted for labels every address as the map
@@ -47,6 +50,24 @@ pub fn minimal_pair_is_unique()
         IsMinimalPair m l c → IsMinimalPair m l' c' → IsSameCertificate c c' }
     ensures lists { (m : MapModel) (l l' : ListModel) (c c' : CertificateModel) →
         IsMinimalPair m l c → IsMinimalPair m l' c' → HasItsLabels m → l ≡ l' }
+{}
+
+/// The certificates of a map's minimal pairs that have the form of their text are one certificate, and so have one text.
+pub fn minimal_certificate_is_one()
+    ensures { (m : MapModel) (l l' : ListModel) (c c' : CertificateModel) →
+        IsMinimalPair m l c → IsMinimalPair m l' c' → HasTextForm c → HasTextForm c' → c ≡ c' }
+{}
+
+/// The label table of a map that a text is read as has the map's labels, so that the map has one minimal list.
+pub fn map_text_has_its_labels()
+    ensures { (text : List ℕ) (m : MapModel) → ReadsMap text m → HasItsLabels m }
+{}
+
+/// The list of a minimal pair has blocks that are no two equal, by rising first address and of one address the shorter
+/// first, with labels of its table.
+pub fn minimal_list_is_in_order()
+    ensures { (m : MapModel) (l : ListModel) (c : CertificateModel) →
+        IsMinimalPair m l c → HasItsLabels m → HasListForm l }
 {}
 
 /// The exact pair of two pairs is one of their costs and sets: where a label is common, the sum of the costs with the

@@ -5,7 +5,24 @@
 //! The crate stands on prefix_keys (blocks) and pmap_text (maps, prefix lists and their labels).
 //! The layers above, the minimiser and the checker, may rely on the laws in `laws`: an accepted certificate shows that
 //! its list is equivalent and least, each map has a minimal pair of a list and a certificate that is accepted, and all
-//! minimal pairs of a map are alike.
+//! minimal pairs of a map are alike. Each `Certificate` keeps in its type that its labels are in its table, that its sets
+//! rise, and that no node lies deeper than an address has bits. `write_cert` gives the one text of a certificate;
+//! `read_cert` reads a text exactly where it is the text of a certificate, and else names its first fault.
 #![tactic(auto)]
 
+pub mod certificate;
+pub mod fault;
+pub mod label_set;
 pub mod laws;
+mod lines;
+pub mod node;
+mod reading;
+mod words;
+mod writing;
+
+pub use certificate::Certificate;
+pub use fault::{CertFault, CertFaultKind};
+pub use label_set::LabelSet;
+pub use node::Node;
+pub use reading::read_cert;
+pub use writing::write_cert;

@@ -1,0 +1,106 @@
+-- Numbers as they are written, and rising numbers.
+use Rattle.std.proofs.Common.{◌≡◌, ℕ, suc, ◌+◌, ◌-◌, ◌*◌, ◌^◌, ◌<◌, ◌≤◌, ◌==◌, ◌&&◌, ◌∙◌, Bool, true, false, List, [], ◌∷◌, ◌++◌, Option, Some, None, All, length, map, fold, take, drop, refl, sym, ap, subst, arith, cond, leb, ltb}
+use Rattle.std.specs.Fmt.{decimal, digit_glyph}
+use Rattle.std.specs.List.{AllByRecursion}
+use Rattle.std.specs.Option.{option_map}
+use Rattle.std.specs.Str.{bytes_eq}
+use Rattle.std.proofs.lemmas.Bool.{and_from, and_parts, cond-true, le-leb, leb-true, lt-ltb, ltb-true, ne_eqb}
+use Rattle.std.proofs.lemmas.Option.{cond_some, none-some}
+use Rattle.std.proofs.lemmas.List.{take-append-drop}
+use Rattle.std.proofs.lemmas.List.Sums.{fold-append}
+use Rattle.std.proofs.lemmas.Slice.Eq.{bytes_eq-Decides}
+use Rattle.prefix_keys.proofs.Digits.{All-digits, fold-digits}
+use Rattle.prefix_keys.proofs.Printed.{Lacks}
+use Rattle.prefix_keys.specs.Text.{decimal_value}
+use Rattle.pmap_cert.specs.CertificateForm.{IsRising}
+use Rattle.pmap_cert.specs.CertificateReading.{number_below, onto_numbers, rising_numbers}
+
+-- a digit is no byte below the digits, and stands for its number
+digit-other : (c d : ℕ) → c < 48 → d < 10 → (digit_glyph false d == c) ≡ false
+digit-other c d low h = rw (lt-ltb d 10 h) (ne_eqb (48 + d) c (λ e. omega arith))
+
+digit-value : (d : ℕ) → d < 10 → digit_glyph false d - 48 ≡ d
+digit-value d h = rw (lt-ltb d 10 h) (omega arith)
+
+pub Lacks-decimal : (c n : ℕ) → c < 48 → n < 2 ^ 63 → Lacks c (decimal n)
+Lacks-decimal c n low small = All-digits 10 (omega arith) (λ b. (b == c) ≡ false) (λ d h. digit-other c d low h) n small
+
+pub decimal_value-decimal : (n : ℕ) → n < 2 ^ 63 → decimal_value (decimal n) ≡ n
+decimal_value-decimal n small = fold-digits 10 (omega arith) (λ b. b - 48) digit-value n small
+
+-- a number is read where its decimal text is written, and nowhere else
+pub number_below-decimal : (bound n : ℕ) → n < bound → n < 2 ^ 63 → number_below bound (decimal n) ≡ Some n
+number_below-decimal bound n h small =
+    let text : List ℕ = decimal n in
+    let value : decimal_value text ≡ n = decimal_value-decimal n small in
+    let same : bytes_eq text (decimal (decimal_value text)) ≡ true = (bytes_eq-Decides text (decimal (decimal_value text))).1 (ap decimal (sym value)) in
+    let below : ltb (decimal_value text) bound ≡ true = lt-ltb _ _ (omega (arith, value)) in
+    cond-true _ (Some (decimal_value text)) None (and_from _ _ same below) ∙ ap (λ m. Some m) value
+
+pub number_below-found : (bound : ℕ) (word : List ℕ) (n : ℕ) → number_below bound word ≡ Some n → (word ≡ decimal n) × (n < bound)
+number_below-found bound word n e =
+    let found = cond_some (bytes_eq word (decimal (decimal_value word)) && ltb (decimal_value word) bound) (decimal_value word) n e in
+    let tests = and_parts _ _ found.0 in
+    let same : word ≡ decimal (decimal_value word) = (bytes_eq-Decides word (decimal (decimal_value word))).0 tests.0 in
+    subst (λ (m : ℕ). (word ≡ decimal m) × (m < bound)) found.1 (same, ltb-true _ _ tests.1)
+
+-- an option that was mapped
+pub option_map_some : {A B : Type 0} (f : A → B) (o : Option A) (y : B) → option_map f o ≡ Some y → (x : A) × (o ≡ Some x) × (f x ≡ y)
+option_map_some f None y e = absurd (none-some y e)
+option_map_some f (Some x) y e = (x, refl, cc)
+
+-- the first of rising numbers and those behind it
+onto-found : (low : ℕ) (o : Option ℕ) (others : ℕ → Option (List ℕ)) (ns : List ℕ) → onto_numbers low o others ≡ Some ns
+    → (n : ℕ) × (rest : List ℕ) × (o ≡ Some n) × (low ≤ n) × (others (n + 1) ≡ Some rest) × (n ∷ rest ≡ ns)
+onto-found low None others ns e = absurd (none-some ns e)
+onto-found low (Some n) others ns e = by (leb low n) refl
+  where
+    by : (b : Bool) → leb low n ≡ b → (m : ℕ) × (rest : List ℕ) × (Some n ≡ Some m) × (low ≤ m) × (others (m + 1) ≡ Some rest) × (m ∷ rest ≡ ns)
+    by true h =
+        let some = option_map_some (λ rest. n ∷ rest) (others (n + 1)) ns (sym (cond-true (leb low n) (option_map (λ rest. n ∷ rest) (others (n + 1))) None h) ∙ e) in
+        (n, some.0, refl, leb-true _ _ h, some.1, some.2)
+    by false h = absurd (none-some ns (sym (ap (λ b. cond b (option_map (λ rest. n ∷ rest) (others (n + 1))) None) h) ∙ e))
+
+nil_is : (ns : List ℕ) → Some [] ≡ Some ns → [] ≡ ns
+nil_is ns e = cc
+
+pub rising_numbers-found : (bound low : ℕ) (words : List (List ℕ)) (ns : List ℕ) → rising_numbers bound low words ≡ Some ns → (words ≡ map decimal ns) × IsRising bound low ns
+rising_numbers-found bound low [] ns e =
+    subst (λ (ns : List ℕ). ([] ≡ map decimal ns) × IsRising bound low ns) (nil_is ns e) (refl, tt)
+rising_numbers-found bound low (word ∷ words) ns e =
+    let found = onto-found low (number_below bound word) (λ next. rising_numbers bound next words) ns e in
+    let number = number_below-found bound word found.0 found.2 in
+    let rest = rising_numbers-found bound (found.0 + 1) words found.1 found.4 in
+    subst (λ (ns : List ℕ). (word ∷ words ≡ map decimal ns) × IsRising bound low ns) found.5
+    ((λ i. number.0 i ∷ rest.0 i), (found.3, number.1, rest.1))
+
+pub rising_numbers-decimals : (bound low : ℕ) (ns : List ℕ) → bound ≤ 2 ^ 63 → IsRising bound low ns → rising_numbers bound low (map decimal ns) ≡ Some ns
+rising_numbers-decimals bound low [] small rising = refl
+rising_numbers-decimals bound low (n ∷ ns) small rising =
+    let first = number_below-decimal bound n rising.1 (omega arith) in
+    ap (λ o. onto_numbers low o (λ next. rising_numbers bound next (map decimal ns))) first
+    ∙ cond-true (leb low n) (option_map (λ rest. n ∷ rest) (rising_numbers bound (n + 1) (map decimal ns))) None (le-leb _ _ rising.0)
+    ∙ ap (option_map (λ rest. n ∷ rest)) (rising_numbers-decimals bound (n + 1) ns small rising.2)
+
+-- no word of numbers has a byte below the digits
+pub Lacks-decimals : (c bound low : ℕ) (ns : List ℕ) → c < 48 → bound ≤ 2 ^ 63 → IsRising bound low ns → AllByRecursion (Lacks c) (map decimal ns)
+Lacks-decimals c bound low [] less small rising = tt
+Lacks-decimals c bound low (n ∷ ns) less small rising =
+    (Lacks-decimal c n less (omega (arith, rising.1)), Lacks-decimals c bound (n + 1) ns less small rising.2)
+
+-- one more number above all others
+pub IsRising-push : (bound low : ℕ) (ns : List ℕ) (n : ℕ) → IsRising bound low ns → All (λ m. m < n) ns → low ≤ n → n < bound → IsRising bound low (ns ++ n ∷ [])
+IsRising-push bound low [] n rising below least small = (least, small, tt)
+IsRising-push bound low (m ∷ ns) n rising below least small =
+    (rising.0, rising.1, IsRising-push bound (m + 1) ns n rising.2 (λ k d h. below (suc k) d (omega arith)) (omega (arith, below 0 0 (omega arith))) small)
+
+-- more digits make no smaller number
+value-grows : (m : ℕ) (digits : List ℕ) → m ≤ fold (λ n b. n * 10 + (b - 48)) m digits
+value-grows m [] = omega arith
+value-grows m (b ∷ digits) = omega (arith, value-grows (m * 10 + (b - 48)) digits)
+
+pub decimal_value-take-le : (i : ℕ) (word : List ℕ) → decimal_value (take i word) ≤ decimal_value word
+decimal_value-take-le i word =
+    subst (λ (text : List ℕ). decimal_value (take i word) ≤ decimal_value text) (take-append-drop i word)
+    (subst (λ (m : ℕ). decimal_value (take i word) ≤ m) (sym (fold-append (λ n b. n * 10 + (b - 48)) 0 (take i word) (drop i word)))
+    (value-grows (decimal_value (take i word)) (drop i word)))

@@ -1,0 +1,10 @@
+use Rattle.std.proofs.Common.{◌≡◌, ◌++◌, ◌∷◌, [], ◌∙◌, All, arith, ap, map, sym, subst}
+use Rattle.std.proofs.lemmas.List.{map_push}
+use Rattle.pmap_cert.specs.CertificateForm.{IsRising}
+use Rattle.pmap_cert.proofs.Numbers.{IsRising-push}
+use Rattle.pmap_cert.proofs.label_set.LabelSet.push.Goals as goal
+
+pub invariant_of-self-2 : goal.invariant_of-self-2
+invariant_of-self-2 c =
+    rw (c.in_ok-push.ensures.items, map_push)
+    (IsRising-push _ 0 _ c.args.id.0 c.self.invariant (rw (← c.self.view_is) at c.requires) (omega arith) (omega arith))

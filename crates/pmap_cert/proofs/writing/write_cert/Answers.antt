@@ -1,0 +1,12 @@
+use Rattle.std.proofs.Common.{◌++◌, ◌∷◌, [], ◌∙◌, ap}
+use Rattle.pmap_cert.specs.CertificateText.{header_line}
+use Rattle.pmap_cert.proofs.Written.{whole_text}
+use Rattle.pmap_cert.proofs.writing.write_cert.Goals as goal
+
+pub returns : goal.returns
+returns c =
+    let certificate = c.args.certificate.now in
+    whole_text certificate c.len.result c.root.result.now c.push_header.new.out.items c.push_labels.new.out.items c.push_node.new.out.items
+    c.len.ensures.table c.root.ensures.numbers c.len.ensures.value c.root.ensures.value
+    (c.in_ok-push_header.ensures ∙ ap (λ out. out ++ (header_line certificate.version c.len.result ++ 10 ∷ [])) c.new-out.ensures.items)
+    c.in_ok-push_labels.ensures c.in_ok-push_node.ensures

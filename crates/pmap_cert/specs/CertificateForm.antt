@@ -1,0 +1,33 @@
+use Rattle.std.specs.Prelude.{ℕ, zero, suc, ◌+◌, ◌^◌, ◌<◌, ◌≤◌, List, [], ◌∷◌, length, map}
+use Rattle.std.specs.Coded.{×_prop, Unit-prop, le_prop}
+use Rattle.prefix_keys.specs.Version.{width_of}
+use Rattle.pmap_text.specs.Label.{IsLabelTable}
+use Rattle.pmap_text.specs.MapModel.{Label}
+use Rattle.pmap_cert.specs.CertificateModel.{CertificateModel, InnerNode, LeafNode, Tree}
+use Rattle.pmap_cert.specs.CertificateText.{place_of}
+
+-- The certificates that have a text: each label is in the table, sets are listed by rising numbers, costs are below
+-- 2 ^ 32, and no inner node is as deep as an address has bits.
+
+-- the numbers rise, none equal to another; all are below the bound, and none is below low
+abbrev pub IsRising : ℕ → ℕ → List ℕ → Type 0
+IsRising bound low [] = Unit {0}
+IsRising bound low (n ∷ ns) = (low ≤ n) × (n < bound) × IsRising bound (n + 1) ns
+
+pub IsRising-prop : (bound low : ℕ) (ns : List ℕ) → IsProp (IsRising bound low ns)
+IsRising-prop bound low [] = Unit-prop
+IsRising-prop bound low (n ∷ ns) = λ x y i. (le_prop x.0 y.0 i, le_prop x.1 y.1 i, IsRising-prop bound (n + 1) ns x.2 y.2 i)
+
+-- Below a node there are at most so many nodes one inside the other, each label is in the table, and each claim is a
+-- cost below 2 ^ 32 and a set listed by rising numbers.
+abbrev pub HasNodeForm : List Label → Tree → ℕ → Type 0
+HasNodeForm table (LeafNode x) room = place_of table x < length table
+HasNodeForm table (InnerNode claim lower upper) zero = ⊥
+HasNodeForm table (InnerNode claim lower upper) (suc room) =
+    (claim.cost < 2 ^ 32) × IsRising (length table) 0 (map (place_of table) claim.labels)
+    × HasNodeForm table lower room × HasNodeForm table upper room
+
+-- the certificate has a text
+pub record HasTextForm (c : CertificateModel) : Type 0 where
+  pub table : IsLabelTable c.table
+  pub root : HasNodeForm c.table c.root (width_of c.version)

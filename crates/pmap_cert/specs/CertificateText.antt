@@ -1,0 +1,53 @@
+use Rattle.std.specs.Prelude.{ℕ, ◌+◌, List, [], ◌∷◌, ◌++◌, codes, length, map}
+use Rattle.std.specs.List.{flat_map, join_with_byte, position_or_len}
+use Rattle.std.specs.Fmt.{decimal}
+use Rattle.std.specs.Str.{bytes_eq}
+use Rattle.prefix_keys.specs.declared.version.Version.{Version}
+use Rattle.prefix_keys.specs.declared.version.Version.TheVariants.{V4, V6}
+use Rattle.pmap_text.specs.MapModel.{Label}
+use Rattle.pmap_cert.specs.CertificateModel.{CertificateModel, InnerNode, LeafNode, Tree}
+
+-- The text of a certificate, version 1 of the format: lines of words with a space between each two, and a line feed
+-- behind each line.
+
+-- the number of a label: its place in the table, from 0, or the table's length where the table hasn't got it
+abbrev pub place_of : List Label → Label → ℕ
+place_of table x = position_or_len (bytes_eq x) table
+
+-- the words of a line with single spaces between
+abbrev pub line_of : List (List ℕ) → List ℕ
+line_of words = join_with_byte 32 words
+
+abbrev pub version_word : Version → List ℕ
+version_word V4 = codes "ipv4"
+version_word V6 = codes "ipv6"
+
+-- `flowlabel-cert 1 VERSION COUNT`
+abbrev pub header_line : Version → ℕ → List ℕ
+header_line version count = line_of (codes "flowlabel-cert" ∷ codes "1" ∷ version_word version ∷ decimal count ∷ [])
+
+-- `l NUMBER`: a leaf with the number of its label
+abbrev pub leaf_line : ℕ → List ℕ
+leaf_line number = line_of (codes "l" ∷ decimal number ∷ [])
+
+-- `n COST NUMBER NUMBER ..`: an inner node with the cost that it claims and the numbers of its set
+abbrev pub inner_line : ℕ → List ℕ → List ℕ
+inner_line cost numbers = line_of (codes "n" ∷ decimal cost ∷ map decimal numbers)
+
+-- the lines of a node and of those below it in preorder: first the node, then all of the lower half, then all of the upper
+abbrev pub node_lines : List Label → Tree → List (List ℕ)
+node_lines table (LeafNode x) = leaf_line (place_of table x) ∷ []
+node_lines table (InnerNode claim lower upper) =
+    inner_line claim.cost (map (place_of table) claim.labels) ∷ (node_lines table lower ++ node_lines table upper)
+
+-- the header, the labels of the table in order, and the nodes
+abbrev pub certificate_lines : CertificateModel → List (List ℕ)
+certificate_lines c = header_line c.version (length c.table) ∷ (c.table ++ node_lines c.table c.root)
+
+-- each line with its line feed
+abbrev pub text_of_lines : List (List ℕ) → List ℕ
+text_of_lines lines = flat_map (λ line. line ++ 10 ∷ []) lines
+
+-- the text of a certificate
+abbrev pub certificate_text : CertificateModel → List ℕ
+certificate_text c = text_of_lines (certificate_lines c)

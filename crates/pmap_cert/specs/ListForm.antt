@@ -1,0 +1,28 @@
+use Rattle.std.specs.Prelude.{◌≡◌, ℕ, ◌-◌, ◌%◌, ◌^◌, ◌<◌, ◌≤◌, ◌&&◌, ◌||◌, ◌==◌, Bool, List, [], ◌∷◌, All, IsTrue, nat_lt}
+use Rattle.std.specs.List.{AllByRecursion}
+use Rattle.prefix_keys.specs.Version.{width_of}
+use Rattle.pmap_text.specs.ListModel.{ListModel, Prefix}
+use Rattle.pmap_cert.specs.CertificateModel.{has}
+
+-- What the list of a minimal pair is like: it can be kept and printed as a prefix list.
+
+-- the first entry begins at a lower address, or both begin at one and the first is shorter
+abbrev pub is_before : Prefix → Prefix → Bool
+is_before p r = nat_lt p.start r.start || (p.start == r.start && nat_lt p.bits r.bits)
+
+-- each entry stands before all that follow it, so that no two have one block
+abbrev pub IsInOrder : List Prefix → Type 0
+IsInOrder [] = Unit {0}
+IsInOrder (p ∷ ps) = AllByRecursion (λ r. IsTrue (is_before p r)) ps × IsInOrder ps
+
+-- of addresses of W bits, the entry has a block: its start is an address without host bits
+pub record HasBlock (W : ℕ) (p : Prefix) : Type 0 where
+  pub bits : p.bits ≤ W
+  pub start : p.start < 2 ^ W
+  pub no_host_bit : p.start % 2 ^ (W - p.bits) ≡ 0
+
+-- the entries are blocks in order, with labels of the table
+pub record HasListForm (l : ListModel) : Type 0 where
+  pub order : IsInOrder l.prefixes
+  pub blocks : All (HasBlock (width_of l.version)) l.prefixes
+  pub labels : All (λ p. IsTrue (has l.table p.label)) l.prefixes

@@ -1,0 +1,78 @@
+//! The lines of a certificate's text.
+ghost use Rattle.std.specs.Prelude.{◌≡◌, ◌==◌, option_map, position};
+ghost use Rattle.std.specs.List.{slice_split};
+ghost use Rattle.pmap_cert.specs.CertificateReading.{fault_at, is_ended, next_line, start_of};
+
+use crate::fault::{CertFault, CertFaultKind};
+use std::marker::Model;
+
+// What is left of a text, and how many of its lines were read.
+#[derive(Drop)]
+pub struct Lines<'a> {
+    rest: &'a [u8],
+    number: u64,
+}
+
+impl<'a> Model for Lines<'a> {
+    ghost use Rattle.std.specs.Prelude.{◌+◌, ◌^◌, ◌≤◌, length};
+    ghost use Rattle.pmap_cert.specs.CertificateReading.{Place, pieces_of};
+
+    ghost Value = { Place };
+
+    ghost view = { λ l. record { number = l.number; pieces = pieces_of l.rest.now } };
+
+    ghost invariant = { λ l. l.number + length l.rest.now ≤ 2 ^ 63 };
+}
+
+impl<'a> Lines<'a> {
+    // All of a text is left.
+    pub fn new(text: &'a [u8]) -> Lines<'a>
+        ensures { result ≡ start_of text.now }
+    {
+        Lines {
+            rest: text,
+            number: 0,
+        }
+    }
+
+    // The next line and what comes behind its line feed.
+    pub fn next(&self) -> Option<(&'a [u8], Lines<'a>)>
+        ensures { option_map (λ x. (x.0.now, x.1)) result ≡ next_line self.now }
+    {
+        let text = self.rest;
+        match find_byte(text, b'\n') {
+            Some(end) => Some((
+                &text[..end],
+                Lines {
+                    rest: &text[end + 1..],
+                    number: self.number + 1,
+                },
+            )),
+            None => None,
+        }
+    }
+
+    // Whether nothing is left.
+    pub fn is_ended(&self) -> bool
+        ensures { result ≡ is_ended self.now.pieces }
+    {
+        self.rest.is_empty()
+    }
+
+    // A fault of the line that comes next.
+    pub fn fault(&self, kind: CertFaultKind) -> CertFault
+        ensures { result ≡ fault_at self.now kind }
+    {
+        CertFault {
+            kind,
+            line: self.number + 1,
+        }
+    }
+}
+
+// The place of the first such byte.
+pub fn find_byte(text: &[u8], byte: u8) -> Option<usize>
+    ensures { result ≡ position (λ b. b == byte) text.now }
+{
+    text.iter().position(|b| *b == byte)
+}
