@@ -139,6 +139,9 @@ fn leaves_are(
     walk(&mut met, &trie.root())?;
     assert_eq!(rt; met.as_slice(), leaves.as_slice());
     assert_eq!(rt; trie.node_count() as usize + 1, 2 * met.len());
+    for number in 0..trie.node_count() {
+        assert_eq!(rt; trie.node(number).number(), number);
+    }
     Ok(())
 }
 
