@@ -1,7 +1,7 @@
 use Rattle.std.specs.Prelude.{◌≡◌, ℕ, ◌&&◌, ◌==◌, Bool, List}
 use Rattle.std.specs.List.{list_any, IsDistinct}
 use Rattle.std.specs.List.Sorted.{IsStrictlySortedBy}
-use Rattle.std.specs.Ordering.{nat_cmp, ordering_then}
+use Rattle.std.specs.Ordering.{is_eq, nat_cmp, ordering_then}
 use Rattle.std.specs.declared.cmp.Ordering.{Ordering}
 use Rattle.pmap_text.specs.ListModel.{Prefix}
 use Rattle.pmap_text.specs.Reading.{has_prefix}
@@ -19,6 +19,10 @@ HasOncePlaced prefixes = IsDistinct same_place prefixes
 -- starts and lengths in order
 abbrev pub key_cmp : ℕ × ℕ → ℕ × ℕ → Ordering
 key_cmp x y = ordering_then (nat_cmp x.0 y.0) (nat_cmp x.1 y.1)
+
+-- a set of keys has one
+abbrev pub has_key : List (ℕ × ℕ) → ℕ × ℕ → Bool
+has_key keys k = list_any (λ q. is_eq (key_cmp k q)) keys
 
 abbrev pub AreRising : List (ℕ × ℕ) → Type 0
 AreRising keys = IsStrictlySortedBy key_cmp keys

@@ -1,8 +1,8 @@
 ghost use Rattle.std.specs.Prelude.{◌≡◌, ◌++◌, ◌∷◌, ◌↔◌, [], false, length, IsTrue, OnErr, OnOk};
 ghost use Rattle.pmap_text.specs.ListEntries.{has_entry, HasDistinctBlocks};
 
-use crate::repeats::has_block;
 use crate::entry::Entry;
+use crate::repeats::has_block;
 use prefix_keys::Block;
 use std::alloc::{AllocError, Global};
 use std::marker::Model;

@@ -11,7 +11,6 @@ ghost use Rattle.pmap_text.specs.declared.fault.MapFaultKind.TheVariants.{NoMemo
 ghost use Rattle.pmap_text.specs.declared.progress.TheConstants.{LABEL_LIMIT, MAPPING_LIMIT};
 
 use crate::declarations::Declarations;
-use crate::repeats::{has_block, have_distinct_blocks};
 use crate::entries::Entries;
 use crate::entry::Entry;
 use crate::fault::MapFaultKind;
@@ -20,6 +19,7 @@ use crate::labels::Labels;
 use crate::map_text::MapText;
 use crate::name::Name;
 use crate::prefix_list::PrefixList;
+use crate::repeats::{has_block, have_distinct_blocks};
 use crate::statement::Statement;
 use crate::statements::Statements;
 use prefix_keys::{Block, Span, Version};

@@ -65,7 +65,9 @@ fn read_unchecked(alloc: Global, text: &[u8]) -> Option<Reading>
     let mut rest = text;
     while !rest.is_empty() {
         let (line, after) = split_line(rest);
-        reading.read_line(Form::List, line).ok()?;
+        let Ok(()) = reading.read_line(Form::List, line) else {
+            return None;
+        };
         rest = after;
     }
     Some(reading)

@@ -11,9 +11,7 @@ use std::alloc::{AllocError, Global};
 pub fn has_block(entries: &[Entry], block: &Block) -> bool
     ensures { result ≡ has_entry entries.now block.now.value block.now.len }
 {
-    entries
-        .iter()
-        .any(|entry| entry.block.value == block.value && entry.block.len == block.len)
+    entries.iter().any(|entry| entry.block.value == block.value && entry.block.len == block.len)
 }
 
 // Whether each key is above the one before it.
@@ -44,6 +42,6 @@ pub fn have_distinct_blocks(alloc: Global, entries: &[Entry]) -> Result<bool, Al
     ensures { IfOk result (λ distinct. IsTrue distinct → HasDistinctBlocks entries.now) }
 {
     let mut keys = keys_of(alloc, entries)?;
-    keys.as_mut_slice().sort_unstable();
-    Ok(are_rising(&keys))
+    keys.sort()?;
+    Ok(are_rising(keys.as_slice()))
 }

@@ -187,13 +187,10 @@ impl Reading {
         ensures err { IfErr result (λ kind. kind ≡ refusal_of (prefix_line self.old block.version block.value block.len rest.now)) }
     {
         let text = label_text(rest)?;
-        let Err(kind) = self.take_prefix(block, text) else {
-            return Ok(());
-        };
-        if self.has_block(&block) {
-            Err(MapFaultKind::DuplicateBlock)
-        } else {
-            Err(kind)
+        match self.take_prefix(block, text) {
+            Ok(()) => Ok(()),
+            Err(_) if self.has_block(&block) => Err(MapFaultKind::DuplicateBlock),
+            Err(kind) => Err(kind),
         }
     }
 
