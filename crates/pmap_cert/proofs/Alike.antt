@@ -14,7 +14,7 @@ use Rattle.pmap_cert.specs.MinimalPair.{HasItsLabels, IsSameCertificate, IsSameT
 use Rattle.pmap_cert.proofs.ExactPairs.{same-exact_pair}
 use Rattle.pmap_cert.proofs.Handed.{inhabited}
 use Rattle.pmap_cert.proofs.Sets.{has-append, has-filter, has-single}
-use Rattle.pmap_cert.proofs.Settled.{last_such-cases}
+use Rattle.pmap_text.proofs.LastSuch.{last_such-cases}
 
 -- All minimal pairs of a map are alike.
 

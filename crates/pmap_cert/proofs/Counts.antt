@@ -2,7 +2,7 @@ use Rattle.std.proofs.Common.{◌≡◌, ℕ, suc, ◌+◌, ◌*◌, ◌/◌, �
 use Rattle.std.proofs.lemmas.Bool.Decides.{nat_tests}
 use Rattle.prefix_keys.specs.Block.{block_number}
 use Rattle.pmap_text.specs.ListModel.{Prefix}
-use Rattle.pmap_cert.proofs.Blocks.{block_number-half}
+use Rattle.pmap_text.proofs.Blocks.{block_number-half}
 
 -- How many entries of a prefix list pass a test, as that of lying at or inside a block.
 

@@ -6,11 +6,11 @@ use Rattle.pmap_text.specs.ListModel.{IsEquivalent, ListModel, Prefix, label_bel
 use Rattle.pmap_text.specs.MapModel.{Label, MapModel, map_label}
 use Rattle.pmap_cert.specs.Acceptance.{IsAccepted, IsDecided, IsLeast, IsNodeAccepted}
 use Rattle.pmap_cert.specs.CertificateModel.{CertificateModel, InnerNode, LeafNode, Tree, claim_of}
-use Rattle.pmap_cert.proofs.Blocks.{block_number-first_of, block_number-halves, block_number-zero}
+use Rattle.pmap_text.proofs.Blocks.{block_number-first_of, block_number-halves, block_number-zero}
 use Rattle.pmap_cert.proofs.Counts.{count_of-filter, count_of-le, is_within}
 use Rattle.pmap_cert.proofs.Kernel.{kernel}
 use Rattle.pmap_cert.proofs.Longest.{label_below-inside, label_below-same}
-use Rattle.pmap_cert.proofs.Settled.{map_label-settled}
+use Rattle.pmap_text.proofs.Settled.{map_label-settled}
 
 -- An accepted certificate shows that its list is equivalent to the map and least.
 

@@ -8,12 +8,12 @@ use Rattle.pmap_text.specs.MapModel.{Label, MapModel}
 use Rattle.pmap_cert.specs.CertificateModel.{InnerNode, LeafNode, Pair, Tree, claim_of}
 use Rattle.pmap_cert.specs.ExactPair.{IsSamePair, exact_pair}
 use Rattle.pmap_cert.specs.MinimalPair.{StandsFor, entries_of, handed_on, has_inherited, least_label, own_entry}
-use Rattle.pmap_cert.proofs.Blocks.{block_number-first_of, block_number-half}
+use Rattle.pmap_text.proofs.Blocks.{block_number-first_of, block_number-half}
 use Rattle.pmap_cert.proofs.Counts.{is_within}
 use Rattle.pmap_cert.proofs.Filters.{filter-three}
 use Rattle.pmap_cert.proofs.Handed.{IsInhabited, exact_pair-cost_of, handed_on-has, inhabited}
 use Rattle.pmap_cert.proofs.Sets.{miss}
-use Rattle.pmap_cert.proofs.Settled.{unsettled-halves}
+use Rattle.pmap_text.proofs.Settled.{unsettled-halves}
 
 -- The entries of a node that stands for a block: how many they are, and that they lie within the block.
 

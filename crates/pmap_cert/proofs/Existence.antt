@@ -5,7 +5,7 @@ use Rattle.pmap_text.specs.MapModel.{Label, MapModel, settled_label}
 use Rattle.pmap_cert.specs.CertificateModel.{CertificateModel, InnerNode, LeafNode, Tree, claim_of}
 use Rattle.pmap_cert.specs.ExactPair.{exact_pair}
 use Rattle.pmap_cert.specs.MinimalPair.{IsMinimalPair, StandsFor, entries_of}
-use Rattle.pmap_cert.proofs.Settled.{unsettled-halves}
+use Rattle.pmap_text.proofs.Settled.{unsettled-halves}
 
 -- Each map has a minimal pair: blocks are halved until they are settled, and one of full length is.
 

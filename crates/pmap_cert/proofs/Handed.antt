@@ -2,6 +2,7 @@ use Rattle.std.proofs.Common.{◌≡◌, ℕ, ◌+◌, Bool, true, false, cond, 
 use Rattle.std.proofs.lemmas.Bool.{or_left}
 use Rattle.std.proofs.lemmas.Option.{same_Some}
 use Rattle.pmap_text.specs.MapModel.{Label, MapModel}
+use Rattle.pmap_text.proofs.Finds.{find_passes}
 use Rattle.pmap_cert.specs.CertificateModel.{InnerNode, LeafNode, Pair, Tree, claim_of, has}
 use Rattle.pmap_cert.specs.ExactPair.{common_labels, exact_pair, exact_pair_by}
 use Rattle.pmap_cert.specs.MinimalPair.{StandsFor, first_label, handed_on, least_label}
@@ -14,16 +15,6 @@ use Rattle.pmap_cert.proofs.Sets.{bytes_eq-same, has-append, has-filter, has-own
 abbrev pub IsInhabited : List Label → Type 0
 IsInhabited s = (x : Label) × (has s x ≡ true)
 
--- what is found passes
-find-passes : (test : Label → Bool) (xs : List Label) (x : Label) → find test xs ≡ Some x → test x ≡ true
-find-passes test [] x e = cc
-find-passes test (y ∷ ys) x e = step (test y) refl e (find-passes test ys x)
-  where
-    step : (b : Bool) → test y ≡ b → cond b (Some y) (find test ys) ≡ Some x → (find test ys ≡ Some x → test x ≡ true) →
-        test x ≡ true
-    step true passes e later = subst (λ (z : Label). test z ≡ true) (same_Some y x e) passes
-    step false passes e later = later e
-
 -- the least label of a set that has one is in the set
 has-first_label : (s : List Label) → IsInhabited s → has s (first_label s) ≡ true
 has-first_label [] some = some.1
@@ -34,7 +25,7 @@ has-least_label table s some = by_find (find (has s) table) refl
   where
     by_find : (o : Option Label) → find (has s) table ≡ o → has s (unwrap_or o (first_label s)) ≡ true
     by_find None e = has-first_label s some
-    by_find (Some x) e = find-passes (has s) table x e
+    by_find (Some x) e = (find_passes (has s) table x e).1
 
 -- a node whose set has a label hands on one of its set
 pub handed_on-has : (table s : List Label) (h : Option Label) → IsInhabited s →

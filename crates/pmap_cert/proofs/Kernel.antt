@@ -6,11 +6,11 @@ use Rattle.pmap_text.specs.MapModel.{IsSettled, Label, MapModel, map_label}
 use Rattle.pmap_cert.specs.Acceptance.{IsNodeAccepted, IsWithinExact}
 use Rattle.pmap_cert.specs.CertificateModel.{InnerNode, LeafNode, Pair, Tree, claim_of, has}
 use Rattle.pmap_cert.specs.ExactPair.{exact_pair}
-use Rattle.pmap_cert.proofs.Blocks.{block_number-first_of, block_number-half, first_of-below, first_of-lower}
+use Rattle.pmap_text.proofs.Blocks.{block_number-first_of, block_number-half, first_of-below, first_of-lower}
 use Rattle.pmap_cert.proofs.Counts.{count_of, count_of-halves, is_at, is_within}
 use Rattle.pmap_cert.proofs.Longest.{label_at-none, label_below-same, label_below-within}
 use Rattle.pmap_cert.proofs.Sets.{exact_pair-cost, has-own, miss, miss-le}
-use Rattle.pmap_cert.proofs.Settled.{map_label-settled}
+use Rattle.pmap_text.proofs.Settled.{map_label-settled}
 
 -- The bound: a list that labels a block's addresses as the map does has at least the entries there that an accepted
 -- node claims, and one more where the label handed down from above isn't in the claim's set or none is.

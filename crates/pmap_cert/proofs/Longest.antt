@@ -3,7 +3,7 @@ use Rattle.std.specs.Option.{option_or}
 use Rattle.std.proofs.lemmas.Bool.{and_from, and_parts, lt-ltb}
 use Rattle.prefix_keys.specs.Block.{block_number}
 use Rattle.pmap_text.specs.ListModel.{Prefix, covers, label_at, label_below, lies_inside}
-use Rattle.pmap_cert.proofs.Blocks.{block_number-half, block_number-shorter}
+use Rattle.pmap_text.proofs.Blocks.{block_number-half, block_number-shorter}
 use Rattle.pmap_cert.proofs.Counts.{count_of, find-none, is_within}
 
 -- The longest match is the same at all addresses of a block inside which no entry lies.

@@ -10,13 +10,13 @@ use Rattle.pmap_cert.specs.Acceptance.{IsAccepted, IsDecided, IsNodeAccepted, Is
 use Rattle.pmap_cert.specs.CertificateModel.{CertificateModel, InnerNode, LeafNode, Pair, Tree, claim_of}
 use Rattle.pmap_cert.specs.ExactPair.{IsSamePair, exact_pair}
 use Rattle.pmap_cert.specs.MinimalPair.{IsMinimalPair, StandsFor, entries_of, handed_on, has_inherited, least_label, own_entry}
-use Rattle.pmap_cert.proofs.Blocks.{block_number-first_of}
+use Rattle.pmap_text.proofs.Blocks.{block_number-first_of}
 use Rattle.pmap_cert.proofs.Counts.{is_within}
 use Rattle.pmap_cert.proofs.Entries.{filter-entries_of, filter-own_entry, is_within-half, length-entries_of}
 use Rattle.pmap_cert.proofs.Filters.{filter-filter, filter-three, find-filter}
 use Rattle.pmap_cert.proofs.Handed.{handed_on-leaf}
 use Rattle.pmap_cert.proofs.Kernel.{label_below-lower, label_below-upper}
-use Rattle.pmap_cert.proofs.Settled.{unsettled-halves}
+use Rattle.pmap_text.proofs.Settled.{unsettled-halves}
 
 -- A minimal pair is accepted.
 

@@ -1,17 +1,21 @@
--- Lemmas on lists without repetition, and on the entries of a prefix list and the keys of their blocks.
-use Rattle.std.proofs.Common.{◌≡◌, ℕ, Bool, true, false, cond, ◌&&◌, ◌||◌, ◌==◌, List, [], ◌∷◌, ◌++◌, map, refl, sym, ap, ap₂, ◌∙◌, arith}
+-- Lemmas on lists without repetition, and on how the blocks of entries are told apart.
+use Rattle.std.proofs.Common.{◌≡◌, ℕ, ◌+◌, ◌<◌, Bool, true, false, cond, ◌&&◌, ◌||◌, ◌==◌, List, [], ◌∷◌, ◌++◌, get_or, length, map, refl, sym, subst, ap, ap₂, ◌∙◌, arith}
 use Rattle.std.proofs.lemmas.Bool.{eqb-true, ltb-true}
-use Rattle.std.proofs.lemmas.Cmp.{and_equiv, nat_eq_equiv, on_equiv}
+use Rattle.std.proofs.lemmas.Cmp.{and_equiv, eq_by_cmp_equiv, nat_cmp_total, nat_eq_equiv, on_equiv, on_total, then_total}
 use Rattle.std.proofs.lemmas.List.Folds.{list_any-append}
-use Rattle.std.proofs.lemmas.Map.Keys.{IsDistinct-push}
-use Rattle.std.specs.Cmp.{IsEquivalence}
+use Rattle.std.proofs.lemmas.List.Sorted.{IsPermutation-sym}
+use Rattle.std.proofs.lemmas.Map.Keys.{IsDistinct-IsPermutation, IsDistinct-from_sorted, IsDistinct-push, sorted_from_all_adjacent}
+use Rattle.std.specs.Cmp.{IsEquivalence, IsTotalOrder}
 use Rattle.std.specs.List.{list_any, AllByRecursion, IsDistinct}
-use Rattle.std.specs.Ordering.{is_eq, nat_cmp, ordering_then}
+use Rattle.std.specs.List.Sorted.{IsPermutation}
+use Rattle.std.specs.Ordering.{eq_by_cmp, is_eq, nat_cmp, ordering_then}
 use Rattle.std.specs.Prelude.{nat_lt}
 use Rattle.std.specs.declared.cmp.Ordering.{Ordering}
 use Rattle.std.specs.declared.cmp.Ordering.TheVariants.{Equal, Greater, Less}
-use Rattle.pmap_text.specs.Filed.{AreFiled}
-use Rattle.pmap_text.specs.ListEntries.{has_entry, same_block}
+use Rattle.pmap_text.specs.Filed.{AreFiled, AreRising, HasOncePlaced, key_cmp, same_place}
+use Rattle.pmap_text.specs.ListEntries.{HasDistinctBlocks}
+use Rattle.pmap_text.specs.ListModel.{Prefix}
+use Rattle.pmap_text.specs.Reading.{has_prefix}
 use Rattle.pmap_text.specs.declared.entry.Entry.{Entry}
 
 module _ {X Y : Type 0} (f : X → Y) where
@@ -66,24 +70,72 @@ cond-or true false = refl
 cond-or false true = refl
 cond-or false false = refl
 
-same_block-equiv : IsEquivalence same_block
-same_block-equiv = and_equiv (on_equiv (λ e. e.block.value) nat_eq_equiv) (on_equiv (λ e. e.block.len) nat_eq_equiv)
+same_place-equiv : IsEquivalence same_place
+same_place-equiv = and_equiv (on_equiv (λ p. p.start) nat_eq_equiv) (on_equiv (λ p. p.bits) nat_eq_equiv)
 
-pub AreFiled-push : (entries : List Entry) (e : Entry) (keys more : List (ℕ × ℕ)) → AreFiled entries keys →
-    has_entry entries e.block.value e.block.len ≡ false →
-    ((q : ℕ × ℕ) → list_any (λ k. is_eq (ordering_then (nat_cmp q.0 k.0) (nat_cmp q.1 k.1))) more
-    ≡ cond (is_eq (ordering_then (nat_cmp e.block.value q.0) (nat_cmp e.block.len q.1))) true
-    (list_any (λ k. is_eq (ordering_then (nat_cmp q.0 k.0) (nat_cmp q.1 k.1))) keys)) →
-    AreFiled (entries ++ e ∷ []) more
-AreFiled-push entries e keys more ok new added = record {
+pub AreFiled-push : (prefixes : List Prefix) (p : Prefix) (keys more : List (ℕ × ℕ)) → AreFiled prefixes keys →
+    has_prefix prefixes p.start p.bits ≡ false →
+    ((q : ℕ × ℕ) → list_any (λ k. is_eq (key_cmp q k)) more
+    ≡ cond (is_eq (key_cmp (p.start, p.bits) q)) true (list_any (λ k. is_eq (key_cmp q k)) keys)) →
+    AreFiled (prefixes ++ p ∷ []) more
+AreFiled-push prefixes p keys more ok new added = record {
   blocks = λ start bits.
       sym (is_found start bits more) ∙ added (start, bits)
       ∙ ap₂ (λ here before. cond here true before)
-      (is_eq-pair e.block.value e.block.len (start, bits) ∙ ap₂ ◌&&◌ (nat_eq_equiv.symm start e.block.value) (nat_eq_equiv.symm bits e.block.len))
+      (is_eq-pair p.start p.bits (start, bits) ∙ ap₂ ◌&&◌ (nat_eq_equiv.symm start p.start) (nat_eq_equiv.symm bits p.bits))
       (is_found start bits keys ∙ ok.blocks start bits)
-      ∙ cond-or (e.block.value == start && e.block.len == bits) (has_entry entries start bits)
-      ∙ sym (list_any-append (λ d. d.block.value == start && d.block.len == bits) entries (e ∷ []));
-  distinct = IsDistinct-push same_block-equiv entries e ok.distinct
-      (ap (λ t. list_any t entries)
-      (λ i d. nat_eq_equiv.symm e.block.value d.block.value i && nat_eq_equiv.symm e.block.len d.block.len i) ∙ new);
+      ∙ cond-or (p.start == start && p.bits == bits) (has_prefix prefixes start bits)
+      ∙ sym (list_any-append (λ r. r.start == start && r.bits == bits) prefixes (p ∷ []));
+  distinct = IsDistinct-push same_place-equiv prefixes p ok.distinct
+      (ap (λ t. list_any t prefixes)
+      (λ i r. nat_eq_equiv.symm p.start r.start i && nat_eq_equiv.symm p.bits r.bits i) ∙ new);
 }
+
+pub none_filed : AreFiled [] []
+unfolding IsDistinct
+none_filed = record { blocks = λ start bits. refl; distinct = tt }
+
+-- a key is in the set exactly where an entry has the block
+pub is_filed : (prefixes : List Prefix) (keys : List (ℕ × ℕ)) → AreFiled prefixes keys → (k : ℕ × ℕ) →
+    list_any (λ q. is_eq (key_cmp k q)) keys ≡ has_prefix prefixes k.0 k.1
+is_filed prefixes keys ok k = is_found k.0 k.1 keys ∙ ok.blocks k.0 k.1
+
+-- of entries of distinct blocks the last has a new one
+all_front : {X : Type 0} (P : X → Type 0) (xs : List X) (y : X) → AllByRecursion P (xs ++ y ∷ []) → AllByRecursion P xs
+all_front P [] y h = tt
+all_front P (x ∷ xs) y h = (h.0, all_front P xs y h.1)
+
+all_last : {X : Type 0} (P : X → Type 0) (xs : List X) (y : X) → AllByRecursion P (xs ++ y ∷ []) → P y
+all_last P [] y h = h.0
+all_last P (x ∷ xs) y h = all_last P xs y h.1
+
+pub once-front : (ps : List Prefix) (p : Prefix) → HasOncePlaced (ps ++ p ∷ []) → HasOncePlaced ps
+unfolding IsDistinct
+once-front [] p h = tt
+once-front (q ∷ qs) p h = (all_front (λ r. same_place q r ≡ false) qs p h.0, once-front qs p h.1)
+
+pub once-last : (ps : List Prefix) (p : Prefix) → HasOncePlaced (ps ++ p ∷ []) → has_prefix ps p.start p.bits ≡ false
+unfolding IsDistinct
+once-last [] p h = refl
+once-last (q ∷ qs) p h = ap₂ ◌||◌ (all_last (λ r. same_place q r ≡ false) qs p h.0) (once-last qs p h.1)
+
+-- entries whose starts and lengths rise when they are sorted have distinct blocks
+key_cmp-total : IsTotalOrder key_cmp
+key_cmp-total = then_total (on_total (λ t. t.0) nat_cmp_total) (on_total (λ t. t.1) nat_cmp_total)
+
+pub rising-adjacent : (keys : List (ℕ × ℕ)) →
+    ((k : ℕ) → k + 1 < length keys → key_cmp (get_or keys k (0, 0)) (get_or keys (k + 1) (0, 0)) ≡ Less) → AreRising keys
+rising-adjacent keys adjacent = sorted_from_all_adjacent key_cmp-total keys (0, 0) adjacent
+
+abbrev block_key : Entry → ℕ × ℕ
+block_key e = (e.block.value, e.block.len)
+
+pub distinct-rising : (entries : List Entry) (keys sorted : List (ℕ × ℕ)) → keys ≡ map (λ e. (e.block.value, e.block.len)) entries →
+    IsPermutation keys sorted → AreRising sorted → HasDistinctBlocks entries
+distinct-rising entries keys sorted e moved rising =
+    let once = IsDistinct-from_sorted key_cmp sorted rising in
+    let back = IsDistinct-IsPermutation (eq_by_cmp key_cmp) (eq_by_cmp_equiv key_cmp-total).symm sorted keys (IsPermutation-sym keys sorted moved) once in
+    let apart = distinct_from_map block_key (eq_by_cmp key_cmp) entries (subst (IsDistinct (eq_by_cmp key_cmp)) e back) in
+    subst (λ same. IsDistinct same entries)
+    (λ i d r. (is_eq-pair d.block.value d.block.len (r.block.value, r.block.len)
+    ∙ ap₂ ◌&&◌ (nat_eq_equiv.symm r.block.value d.block.value) (nat_eq_equiv.symm r.block.len d.block.len)) i) apart

@@ -11,3 +11,4 @@ pub mod LastSuch
 pub mod Settled
 pub mod ListLabels
 pub mod ListBlocks
+pub mod Entering

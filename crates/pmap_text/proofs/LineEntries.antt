@@ -1,5 +1,5 @@
 -- What the lines so far say, after one more line.
-use Rattle.std.proofs.Common.{◌≡◌, ◌≢◌, ℕ, ◌+◌, ◌||◌, Bool, true, false, List, [], ◌∷◌, ◌++◌, Option, Some, None, Result, Ok, Err, refl, sym, ap, ◌∙◌, fold}
+use Rattle.std.proofs.Common.{◌≡◌, ◌≢◌, ℕ, ◌+◌, ◌||◌, Bool, true, false, List, [], ◌∷◌, ◌++◌, Option, Some, None, Result, Ok, Err, ◌⊎◌, inl, inr, refl, sym, ap, ◌∙◌, fold}
 use Rattle.std.proofs.lemmas.List.Concat.{flat_map-append}
 use Rattle.std.proofs.lemmas.List.Sums.{fold-append}
 use Rattle.std.proofs.lemmas.List.{append-nil}
@@ -7,9 +7,10 @@ use Rattle.std.specs.List.{flat_map, list_any}
 use Rattle.std.specs.Option.{option_or}
 use Rattle.pmap_text.specs.Declarations.{with_declared}
 use Rattle.pmap_text.specs.Label.{with_label}
-use Rattle.pmap_text.specs.Reading.{Decides, Declares, Defaults, Earlier, Entry, Lists, Maps, Names, Nothing, decides_in, declared_in, default_in, earlier_of, entries_from, first_in, last_in, line_entry, mapping_in, name_in, prefix_in, text_in, version_in}
-use Rattle.pmap_text.specs.Steps.{Adds, added, refusal_of}
-use Rattle.pmap_text.specs.declared.fault.MapFaultKind.TheVariants.{NoMemory}
+use Rattle.pmap_text.specs.ListModel.{Prefix}
+use Rattle.pmap_text.specs.Reading.{Decides, Declares, Defaults, Earlier, Entry, Lists, Maps, Names, Nothing, decides_in, declared_in, default_in, earlier_of, entries_from, first_in, has_prefix, last_in, line_entry, mapping_in, name_in, prefix_in, text_in, version_in}
+use Rattle.pmap_text.specs.Steps.{Adds, Takes, added, refusal_of}
+use Rattle.pmap_text.specs.declared.fault.MapFaultKind.TheVariants.{DuplicateBlock, NoMemory}
 use Rattle.pmap_text.specs.declared.fault.MapFaultKind.{MapFaultKind}
 use Rattle.pmap_text.specs.declared.form.Form.{Form}
 
@@ -127,3 +128,17 @@ entries_from-fault form entries number line lines kind e = rw e refl
 pub refusal-fault : (r : Result Entry MapFaultKind) (kind : MapFaultKind) → kind ≡ refusal_of r → kind ≢ NoMemory → r ≡ Err kind
 refusal-fault (Ok entry) kind e other = absurd (other e)
 refusal-fault (Err fault) kind e other = λ i. Err (sym e i)
+
+-- a line that was taken has no entry, or one for a new block, or its fault is that it has one for a block that is known
+abbrev pub TakenCases : Earlier → Earlier → Result Entry MapFaultKind → Type 0
+TakenCases old new r =
+    (Adds old new r × (new.prefixes ≡ old.prefixes))
+    ⊎ ((p : Prefix) × (new.prefixes ≡ old.prefixes ++ p ∷ [])
+    × ((Adds old new r × (refusal_of r ≡ NoMemory) × (has_prefix old.prefixes p.start p.bits ≡ false))
+    ⊎ ((r ≡ Err DuplicateBlock) × (has_prefix old.prefixes p.start p.bits ≡ true))))
+
+pub taken-cases : (old new : Earlier) (r : Result Entry MapFaultKind) → Takes old new r → TakenCases old new r
+taken-cases old new (Ok (Lists v p)) taken = inr (p, ap (λ (e : Earlier). e.prefixes) taken.0, inl (taken.0, refl, taken.1))
+taken-cases old new (Ok entry) taken = inl (taken.0, ap (λ (e : Earlier). e.prefixes) taken.0)
+taken-cases old new (Err DuplicateBlock) taken = inr (taken.prefix, taken.prefixes, inr (refl, taken.known))
+taken-cases old new (Err kind) taken = absurd taken

@@ -1,6 +1,5 @@
 -- The label that a prefix list gives an address: that of the longest entry that covers it.
 use Rattle.std.proofs.Common.{◌≡◌, ℕ, zero, suc, ◌<◌, ◌≤◌, ◌==◌, inl, inr, true, false, List, [], ◌∷◌, ◌++◌, Option, Some, None, get_or, option_map, find, refl, sym, ap, ◌∙◌, subst, arith, All, Contains, le_refl}
-use Rattle.std.specs.List.{IsDistinct}
 use Rattle.std.specs.List.Sorted.{IsPermutation}
 use Rattle.std.specs.Option.{MatchOption, option_or}
 use Rattle.std.proofs.lemmas.Bool.{and_from, and_parts, both_ways, cases_eq, eq-eqb, eqb-true, false_from_ne_true}
@@ -11,7 +10,7 @@ use Rattle.prefix_keys.specs.Block.{block_number}
 use Rattle.pmap_text.specs.ListModel.{Prefix, covers, label_at, label_below}
 use Rattle.pmap_text.specs.LongestMatch.{CoversAddress, HasDistinctPrefixes, HasSamePrefixes, IsLongestMatch, LabelsBlocksOnce, is_same_prefix}
 use Rattle.pmap_text.specs.MapModel.{Label}
-use Rattle.pmap_text.proofs.Finds.{All-left, All-right, Contains-first, IsFoundAt, distinct_same, find-fails, find-first, find-place, find_alike, find_none}
+use Rattle.pmap_text.proofs.Finds.{All-left, All-right, Contains-first, distinct_same, find-fails, find-first, find-place, find_alike, find_none}
 
 -- an entry passes the test for n bits where it has n bits and covers the address
 pub covers-true : (W n a : ℕ) (p : Prefix) → n ≤ W → covers W n a p ≡ true → (p.bits ≡ n) × CoversAddress W a p
@@ -91,7 +90,7 @@ longest-below W ps (suc n) a fits =
         let fails = subst (λ (rs : List Prefix). All (λ r. covers W n a r ≡ false) rs) so_far.list (find-fails (covers W n a) ps found) in
         let before = All-left (λ r. covers W n a r ≡ false) so_far.before (p ∷ so_far.behind) fails in
         let behind = All-right (λ r. covers W n a r ≡ false) (so_far.before ++ p ∷ []) so_far.behind
-            (subst (λ (rs : List Prefix). All (λ r. covers W n a r ≡ false) rs) (sym (append_assoc so_far.before (p ∷ []) so_far.behind)) fails) in (
+        (subst (λ (rs : List Prefix). All (λ r. covers W n a r ≡ false) rs) (sym (append_assoc so_far.before (p ∷ []) so_far.behind)) fails) in (
           p,
           record {
             before = so_far.before;
@@ -206,9 +205,9 @@ label_below-top W ps a p has covered most alike (suc k) longer fits =
 pub once-distinct : (W : ℕ) (ps : List Prefix) → HasDistinctPrefixes W ps → LabelsBlocksOnce W ps
 once-distinct W ps distinct p r has has' bits number =
     let there = and_from (p.bits == r.bits) (block_number W p.bits p.start == block_number W r.bits r.start)
-        (eq-eqb p.bits r.bits bits) (eq-eqb (block_number W p.bits p.start) (block_number W r.bits r.start) number) in
+    (eq-eqb p.bits r.bits bits) (eq-eqb (block_number W p.bits p.start) (block_number W r.bits r.start) number) in
     let back = and_from (r.bits == p.bits) (block_number W r.bits r.start == block_number W p.bits p.start)
-        (eq-eqb r.bits p.bits (sym bits)) (eq-eqb (block_number W r.bits r.start) (block_number W p.bits p.start) (sym number)) in
+    (eq-eqb r.bits p.bits (sym bits)) (eq-eqb (block_number W r.bits r.start) (block_number W p.bits p.start) (sym number)) in
     ap (λ (s : Prefix). s.label) (distinct_same (is_same_prefix W) ps p r distinct has has' there back)
 
 -- the label depends on which entries a list has, and not on their order, where a block has one label

@@ -1,11 +1,33 @@
-use Rattle.std.specs.Prelude.{◌≡◌, ℕ, ◌&&◌, ◌==◌, List}
-use Rattle.std.specs.List.{list_any}
-use Rattle.pmap_text.specs.ListEntries.{HasDistinctBlocks, has_entry}
-use Rattle.pmap_text.specs.declared.entry.Entry.{Entry}
+use Rattle.std.specs.Prelude.{◌≡◌, ℕ, ◌&&◌, ◌==◌, Bool, List}
+use Rattle.std.specs.List.{list_any, IsDistinct}
+use Rattle.std.specs.List.Sorted.{IsStrictlySortedBy}
+use Rattle.std.specs.Ordering.{is_eq, nat_cmp, ordering_then}
+use Rattle.std.specs.declared.cmp.Ordering.{Ordering}
+use Rattle.pmap_text.specs.ListModel.{Prefix}
+use Rattle.pmap_text.specs.Reading.{has_prefix}
 
--- How the code finds an entry's block: no user need read it.
+-- How the code finds the block of an earlier entry: no user need read it.
+
+-- two entries have blocks with one start and one length
+abbrev pub same_place : Prefix → Prefix → Bool
+same_place p r = p.start == r.start && p.bits == r.bits
+
+-- no entry has the block of an earlier one
+abbrev pub HasOncePlaced : List Prefix → Type 0
+HasOncePlaced prefixes = IsDistinct same_place prefixes
+
+-- starts and lengths in order
+abbrev pub key_cmp : ℕ × ℕ → ℕ × ℕ → Ordering
+key_cmp x y = ordering_then (nat_cmp x.0 y.0) (nat_cmp x.1 y.1)
+
+-- a set of keys has one
+abbrev pub has_key : List (ℕ × ℕ) → ℕ × ℕ → Bool
+has_key keys k = list_any (λ q. is_eq (key_cmp k q)) keys
+
+abbrev pub AreRising : List (ℕ × ℕ) → Type 0
+AreRising keys = IsStrictlySortedBy key_cmp keys
 
 -- the keys are the starts and lengths of the entries' blocks, no two of which are equal
-pub record AreFiled (entries : List Entry) (keys : List (ℕ × ℕ)) : Type 0 where
-  pub blocks : (start bits : ℕ) → list_any (λ k. k.0 == start && k.1 == bits) keys ≡ has_entry entries start bits
-  pub distinct : HasDistinctBlocks entries
+pub record AreFiled (prefixes : List Prefix) (keys : List (ℕ × ℕ)) : Type 0 where
+  pub blocks : (start bits : ℕ) → list_any (λ k. k.0 == start && k.1 == bits) keys ≡ has_prefix prefixes start bits
+  pub distinct : HasOncePlaced prefixes

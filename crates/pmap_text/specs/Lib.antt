@@ -4,10 +4,10 @@ pub mod Label
 pub mod Declarations
 pub mod MapText
 pub mod ListEntries
-pub mod Filed
 pub mod PrefixList
 pub mod LongestMatch
 pub mod Lines
 pub mod Reading
 pub mod Steps
+pub mod Filed
 pub mod Progress

@@ -2,29 +2,27 @@ ghost use Rattle.std.specs.Prelude.{◌≡◌, ◌++◌, ◌∷◌, ◌↔◌, [
 ghost use Rattle.pmap_text.specs.ListEntries.{has_entry, HasDistinctBlocks};
 
 use crate::entry::Entry;
+use crate::repeats::has_block;
 use prefix_keys::Block;
 use std::alloc::{AllocError, Global};
-use std::collections::BTreeSet;
 use std::marker::Model;
 
 /// The entries of a prefix list, in the order of the text. No two have blocks of the same start and length.
 #[derive(Debug, Drop)]
 pub struct Entries {
     items: Vec<Entry>,
-    // The start and the length of each entry's block. An ordered set has no keys that collide.
-    blocks: BTreeSet<(u128, u32)>,
 }
 
 impl Model for Entries {
     ghost use Rattle.std.specs.Prelude.{List};
-    ghost use Rattle.pmap_text.specs.Filed.{AreFiled};
+    ghost use Rattle.pmap_text.specs.ListEntries.{HasDistinctBlocks};
     ghost use Rattle.pmap_text.specs.declared.entry.Entry.{Entry};
 
     ghost Value = { List Entry };
 
     ghost view = { λ l. l.items.items };
 
-    ghost invariant = { λ l. AreFiled l.items.items l.blocks.keys };
+    ghost invariant = { λ l. HasDistinctBlocks l.items.items };
 }
 
 impl Entries {
@@ -34,8 +32,15 @@ impl Entries {
     {
         Entries {
             items: Vec::new(alloc),
-            blocks: BTreeSet::new(alloc),
         }
+    }
+
+    /// Entries whose blocks are distinct.
+    pub(crate) fn from_distinct(items: Vec<Entry>) -> Entries
+        requires { HasDistinctBlocks items.items }
+        ensures { result ≡ items.items }
+    {
+        Entries { items }
     }
 
     /// How many entries there are.
@@ -62,10 +67,11 @@ impl Entries {
     }
 
     /// Whether an entry has the start and the length of this block. Its version is not looked at: a list has one alone.
+    /// Each entry is looked at.
     pub fn has_block(&self, block: &Block) -> bool
         ensures { result ≡ has_entry self.now block.now.value block.now.len }
     {
-        self.blocks.contains(&(block.value, block.len))
+        has_block(&self.items, block)
     }
 
     /// Adds an entry at the end. Where memory is refused, the entries stay as they were.
@@ -74,9 +80,6 @@ impl Entries {
         ensures ok { OnOk result (self.new ≡ self.old ++ entry ∷ []) }
         ensures err { OnErr result (self.new ≡ self.old) }
     {
-        // With room for the entry its push below takes no memory, so that both grow together.
-        self.items.reserve(1)?;
-        self.blocks.insert((entry.block.value, entry.block.len))?;
         self.items.push(entry)?;
         Ok(())
     }

@@ -10,6 +10,7 @@
 //! contracts cite, the label that a map gives an address and settled blocks among them, are in `specs`.
 #![tactic(auto)]
 
+mod checked;
 mod declarations;
 pub mod entries;
 pub mod entry;
@@ -25,6 +26,7 @@ mod placing;
 pub mod prefix_list;
 mod progress;
 mod reading;
+mod repeats;
 pub mod statement;
 pub mod statements;
 

@@ -1,7 +1,8 @@
 //! What a reading keeps of the lines so far.
-ghost use Rattle.std.specs.Prelude.{◌≡◌, ◌<◌, ◌≤◌, ◌++◌, ◌∷◌, [], Some, true, false, ◌⊎◌, length, slice_get, IsTrue, IfOk, IfErr, OnOk, OnErr};
+ghost use Rattle.std.specs.Prelude.{◌≡◌, ◌<◌, ◌≤◌, ◌++◌, ◌∷◌, [], Some, true, false, ◌⊎◌, length, option_map, slice_get, IsTrue, IfOk, IfErr, OnOk, OnErr};
 ghost use Rattle.std.specs.Option.{option_or};
 ghost use Rattle.pmap_text.specs.Declarations.{conflicts as conflicts_of, meant_text, with_declared};
+ghost use Rattle.pmap_text.specs.Filed.{HasOncePlaced};
 ghost use Rattle.pmap_text.specs.Label.{has_label, is_label as is_label_text, with_label};
 ghost use Rattle.pmap_text.specs.MapText.{map_of, text_at};
 ghost use Rattle.pmap_text.specs.PrefixList.{list_of};
@@ -18,6 +19,7 @@ use crate::labels::Labels;
 use crate::map_text::MapText;
 use crate::name::Name;
 use crate::prefix_list::PrefixList;
+use crate::repeats::{has_block, have_distinct_blocks};
 use crate::statement::Statement;
 use crate::statements::Statements;
 use prefix_keys::{Block, Span, Version};
@@ -43,7 +45,7 @@ pub struct Reading {
     declared: Declarations,
     default: Option<LabelId>,
     statements: Statements,
-    entries: Entries,
+    entries: Vec<Entry>,
     labels: Labels,
 }
 
@@ -53,9 +55,9 @@ impl Model for Reading {
 
     ghost Value = { Earlier };
 
-    ghost view = { λ r. progress_of r.mode r.version r.name r.declared r.default r.statements r.entries r.labels };
+    ghost view = { λ r. progress_of r.mode r.version r.name r.declared r.default r.statements r.entries.items r.labels };
 
-    ghost invariant = { λ r. IsProgress r.version r.default r.statements r.entries r.labels };
+    ghost invariant = { λ r. IsProgress r.version r.default r.statements r.entries.items r.labels };
 }
 
 fn is_known(labels: &Labels, text: &[u8]) -> bool
@@ -102,7 +104,7 @@ impl Reading {
             declared: Declarations::new(alloc),
             default: None,
             statements: Statements::new(alloc),
-            entries: Entries::new(alloc),
+            entries: Vec::new(alloc),
             labels: Labels::new(alloc),
         }
     }
@@ -135,11 +137,28 @@ impl Reading {
         self.entries.len()
     }
 
-    /// Whether an entry has this block.
+    /// Whether an entry has this block. Each entry is looked at.
     pub fn has_block(&self, block: &Block) -> bool
         ensures { result ≡ has_prefix_of self.now.prefixes block.now.value block.now.len }
     {
-        self.entries.has_block(block)
+        has_block(&self.entries, block)
+    }
+
+    /// The start and the length of the block of the entry at a place, if there is one.
+    pub fn key_at(&self, place: usize) -> Option<(u128, u32)>
+        ensures { result ≡ option_map (λ p. (p.start, p.bits)) (slice_get self.now.prefixes place) }
+    {
+        match self.entries.get(place) {
+            Some(entry) => Some((entry.block.value, entry.block.len)),
+            None => None,
+        }
+    }
+
+    /// Whether the entries are seen to have distinct blocks. It sorts their starts and lengths, in memory of their own.
+    pub fn has_distinct_blocks(&self) -> Result<bool, AllocError>
+        ensures { IfOk result (λ distinct. IsTrue distinct → HasOncePlaced self.now.prefixes) }
+    {
+        have_distinct_blocks(self.alloc, &self.entries)
     }
 
     /// The version of the text at a line whose first address is of the version `own`, which decides where nothing did.
@@ -184,6 +203,7 @@ impl Reading {
         ensures ok { OnOk result (self.new ≡ record self.old { table = with_label self.old.table (meant_text self.old.declared label.now) }) }
         ensures text { IfOk result (λ id. slice_get self.new.table id.0 ≡ Some (meant_text self.old.declared label.now)) }
         ensures err { IfErr result (λ kind. ((kind ≡ NoMemory) × (has_room self.old.table (meant_text self.old.declared label.now) ≡ true)) ⊎ ((kind ≡ TooMany) × (has_room self.old.table (meant_text self.old.declared label.now) ≡ false))) }
+        ensures kept { OnErr result (self.new.prefixes ≡ self.old.prefixes) }
     {
         let text = self.declared.meant(label);
         number_for(&mut self.labels, text)
@@ -230,10 +250,9 @@ impl Reading {
         Ok(())
     }
 
-    /// Adds an entry of the text's version, which it decides where nothing did.
+    /// Adds an entry of the text's version, which it decides where nothing did. Its block may have an entry already.
     pub fn add_entry(&mut self, block: Block, label: LabelId) -> Result<(), MapFaultKind>
         requires version { version_at_of self.old block.version ≡ block.version }
-        requires new { has_prefix_of self.old.prefixes block.value block.len ≡ false }
         requires label { label.0 < length self.old.table }
         requires room { length self.old.prefixes < MAPPING_LIMIT }
         ensures ok { OnOk result (self.new ≡ record self.old {
@@ -241,6 +260,7 @@ impl Reading {
           prefixes = self.old.prefixes ++ record { start = block.value; bits = block.len; label = text_at self.old.table label.0 } ∷ [];
         }) }
         ensures err { IfErr result (λ kind. kind ≡ NoMemory) }
+        ensures kept { OnErr result (self.new.prefixes ≡ self.old.prefixes) }
     {
         self.version = Some(block.version);
         let Ok(()) = self.entries.push(Entry { block, label }) else {
@@ -274,8 +294,9 @@ impl Reading {
         })
     }
 
-    /// The list of the lines so far.
+    /// The list of the lines so far, whose entries have distinct blocks.
     pub fn into_list(self) -> PrefixList
+        requires { HasOncePlaced self.prefixes }
         ensures list { list_of result ≡ list_from self }
         ensures limit { length result.entries ≤ MAPPING_LIMIT }
     {
@@ -288,6 +309,7 @@ impl Reading {
         } = self;
         let count = entries.len();
         prove!(count <= MAPPING_LIMIT);
+        let entries = Entries::from_distinct(entries);
         PrefixList {
             version: version.unwrap_or(Version::V4),
             name,

@@ -1,11 +1,14 @@
 //! The reading of a map text or a list text, line by line.
-ghost use Rattle.std.specs.Prelude.{◌≡◌, ◌≢◌, ◌≤◌, [], List, Ok, Err, length, IfOk, IfErr};
+ghost use Rattle.std.specs.Prelude.{◌≡◌, ◌≢◌, ◌≤◌, [], List, Ok, Err, length, IfOk, IfErr, IfSome};
+ghost use Rattle.pmap_text.specs.Filed.{HasOncePlaced};
 ghost use Rattle.pmap_text.specs.Lines.{lines_of};
 ghost use Rattle.pmap_text.specs.MapText.{map_of};
 ghost use Rattle.pmap_text.specs.PrefixList.{list_of};
 ghost use Rattle.pmap_text.specs.Reading.{Entry, ReadsList, ReadsMap, earlier_of, entries_from, list_reading, map_reading};
+ghost use Rattle.pmap_text.specs.declared.form.Form.TheVariants as form;
 ghost use Rattle.pmap_text.specs.declared.fault.MapFaultKind.TheVariants.{NoMemory};
 
+use crate::checked::{Keys, read_checked};
 use crate::fault::{MapFault, MapFaultKind};
 use crate::form::Form;
 use crate::lines::split_line;
@@ -33,21 +36,41 @@ fn fault_at(kind: MapFaultKind, number: u64) -> MapFault
 // Reads the lines of a text of this form, up to its first fault.
 fn read_lines(alloc: Global, form: Form, text: &[u8]) -> Result<Reading, MapFault>
     ensures ok { IfOk result (λ lines. (entries : List Entry) × (entries_from form [] 0 (lines_of text.now) ≡ Ok entries) × (lines ≡ earlier_of entries)) }
+    ensures distinct { IfOk result (λ lines. HasOncePlaced lines.prefixes) }
     ensures err { IfErr result (λ fault. fault.kind ≢ NoMemory → entries_from form [] 0 (lines_of text.now) ≡ Err fault) }
     ensures memory { IfErr result (λ fault. fault.kind ≡ NoMemory → fault.line ≡ 0) }
 {
     let mut reading = Reading::new(alloc);
+    let mut keys = Keys::new(alloc);
     let mut rest = text;
     let mut number = 0;
     while !rest.is_empty() {
         let (line, after) = split_line(rest);
         number += 1;
-        if let Err(kind) = reading.read_line(form, line) {
+        if let Err(kind) = read_checked(&mut reading, &mut keys, form, line) {
             return Err(fault_at(kind, number));
         }
         rest = after;
     }
     Ok(reading)
+}
+
+// Reads the lines of a list text, and doesn't look for the block of an entry among those before. What was read counts
+// where all blocks are distinct, and `None` says nothing.
+fn read_unchecked(alloc: Global, text: &[u8]) -> Option<Reading>
+    ensures { IfSome result (λ lines. HasOncePlaced lines.prefixes →
+        (entries : List Entry) × (entries_from form.List [] 0 (lines_of text.now) ≡ Ok entries) × (lines ≡ earlier_of entries)) }
+{
+    let mut reading = Reading::new(alloc);
+    let mut rest = text;
+    while !rest.is_empty() {
+        let (line, after) = split_line(rest);
+        let Ok(()) = reading.read_line(Form::List, line) else {
+            return None;
+        };
+        rest = after;
+    }
+    Some(reading)
 }
 
 /// Reads a map text.
@@ -110,6 +133,12 @@ pub fn read_list(alloc: Global, text: &[u8]) -> Result<PrefixList, MapFault>
     ensures fault { IfErr result (λ fault. fault.kind ≢ NoMemory → list_reading text.now ≡ Err fault) }
     ensures memory { IfErr result (λ fault. fault.kind ≡ NoMemory → fault.line ≡ 0) }
 {
+    // Sorting all blocks once is faster than looking for each, and tells of most lists that they have no fault.
+    if let Some(reading) = read_unchecked(alloc, text) {
+        if let Ok(true) = reading.has_distinct_blocks() {
+            return Ok(reading.into_list());
+        }
+    }
     let reading = read_lines(alloc, Form::List, text)?;
     Ok(reading.into_list())
 }

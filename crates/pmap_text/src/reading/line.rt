@@ -1,12 +1,13 @@
 //! The reading of one line of a text.
-ghost use Rattle.std.specs.Prelude.{◌≡◌, ◌<◌, ◌==◌, Some, Ok, Err, length, slice_index, IsTrue, IfOk, IfErr, OnOk};
+ghost use Rattle.std.specs.Prelude.{◌≡◌, ◌<◌, ◌==◌, ◌⊎◌, Some, Ok, Err, true, false, length, slice_index, IsTrue, IfOk, IfErr, OnOk, OnErr};
 ghost use Rattle.std.specs.List.{list_all, list_any};
 ghost use Rattle.prefix_keys.specs.Text.{address_of, block_of_text, is_digit};
-ghost use Rattle.pmap_text.specs.Declarations.{label_number as number_of_label};
+ghost use Rattle.pmap_text.specs.Declarations.{label_number as number_of_label, meant_text};
 ghost use Rattle.pmap_text.specs.Label.{is_label as is_label_text};
 ghost use Rattle.pmap_text.specs.Lines.{first_word};
-ghost use Rattle.pmap_text.specs.Reading.{address_line, block_line, decided, declared_line, default_line, label_line, label_of, line_entry, mode_line, mode_version, name_line, one_or_two, other_fault, placed_line, prefix_line, range_line, single_line, span_line, statement_line, version_at as version_at_of};
-ghost use Rattle.pmap_text.specs.Steps.{Adds, refusal_of};
+ghost use Rattle.pmap_text.specs.Reading.{Lists, address_line, block_line, decided, declared_line, default_line, label_line, label_of, line_entry, mode_line, mode_version, name_line, one_or_two, other_fault, placed_line, prefix_line, range_line, single_line, span_line, statement_line, version_at as version_at_of};
+ghost use Rattle.pmap_text.specs.Steps.{Takes, added, has_prefix_room, refusal_of};
+ghost use Rattle.pmap_text.specs.declared.fault.MapFaultKind.TheVariants.{NoMemory, TooMany};
 
 use crate::declarations::label_number;
 use crate::fault::MapFaultKind;
@@ -80,7 +81,7 @@ fn named_version(word: &[u8]) -> Option<Version>
 impl Reading {
     // `map-name NAME`, from behind the first word.
     fn read_name(&mut self, rest: &[u8]) -> Result<(), MapFaultKind>
-        ensures ok { OnOk result (Adds self.old self.new (name_line rest.now)) }
+        ensures ok { OnOk result (Takes self.old self.new (name_line rest.now)) }
         ensures err { IfErr result (λ kind. kind ≡ refusal_of (name_line rest.now)) }
     {
         let name = label_text(rest)?;
@@ -89,7 +90,7 @@ impl Reading {
 
     // `mode WORD`, from behind the first word.
     fn read_mode(&mut self, rest: &[u8]) -> Result<(), MapFaultKind>
-        ensures ok { OnOk result (Adds self.old self.new (mode_line self.old rest.now)) }
+        ensures ok { OnOk result (Takes self.old self.new (mode_line self.old rest.now)) }
         ensures err { IfErr result (λ kind. kind ≡ refusal_of (mode_line self.old rest.now)) }
     {
         let Some(version) = named_version(rest) else {
@@ -107,7 +108,7 @@ impl Reading {
 
     // A text for this number, from behind the number.
     fn read_declared(&mut self, number: u32, rest: &[u8]) -> Result<(), MapFaultKind>
-        ensures ok { OnOk result (Adds self.old self.new (declared_line self.old (Some number) rest.now)) }
+        ensures ok { OnOk result (Takes self.old self.new (declared_line self.old (Some number) rest.now)) }
         ensures err { IfErr result (λ kind. kind ≡ refusal_of (declared_line self.old (Some number) rest.now)) }
     {
         let text = label_text(rest)?;
@@ -122,7 +123,7 @@ impl Reading {
 
     // `label NUMBER TEXT`, from behind the first word.
     fn read_label(&mut self, rest: &[u8]) -> Result<(), MapFaultKind>
-        ensures ok { OnOk result (Adds self.old self.new (label_line self.old rest.now)) }
+        ensures ok { OnOk result (Takes self.old self.new (label_line self.old rest.now)) }
         ensures err { IfErr result (λ kind. kind ≡ refusal_of (label_line self.old rest.now)) }
     {
         let (word, rest) = split_word(rest);
@@ -134,7 +135,7 @@ impl Reading {
 
     // `default LABEL`, from behind the first word.
     fn read_default(&mut self, form: Form, rest: &[u8]) -> Result<(), MapFaultKind>
-        ensures ok { OnOk result (Adds self.old self.new (default_line form self.old rest.now)) }
+        ensures ok { OnOk result (Takes self.old self.new (default_line form self.old rest.now)) }
         ensures err { IfErr result (λ kind. kind ≡ refusal_of (default_line form self.old rest.now)) }
     {
         if form == Form::List {
@@ -149,7 +150,7 @@ impl Reading {
     // A span in the text's version and then a label, from behind the span.
     fn read_span(&mut self, span: Span, rest: &[u8]) -> Result<(), MapFaultKind>
         requires { version_at_of self.old span.low.version ≡ span.low.version }
-        ensures ok { OnOk result (Adds self.old self.new (span_line self.old span.low.version span.low.value span.high.value rest.now)) }
+        ensures ok { OnOk result (Takes self.old self.new (span_line self.old span.low.version span.low.value span.high.value rest.now)) }
         ensures err { IfErr result (λ kind. kind ≡ refusal_of (span_line self.old span.low.version span.low.value span.high.value rest.now)) }
     {
         let text = label_text(rest)?;
@@ -160,27 +161,43 @@ impl Reading {
         self.add_statement(span, label)
     }
 
-    // A block in the text's version and then a label, as an entry, from behind the block.
-    fn read_prefix(&mut self, block: Block, rest: &[u8]) -> Result<(), MapFaultKind>
-        requires { version_at_of self.old block.version ≡ block.version }
-        ensures ok { OnOk result (Adds self.old self.new (prefix_line self.old block.version block.value block.len rest.now)) }
-        ensures err { IfErr result (λ kind. kind ≡ refusal_of (prefix_line self.old block.version block.value block.len rest.now)) }
+    // Adds an entry for a block with this label. Whether the block has an entry already is not looked at.
+    fn take_prefix(&mut self, block: Block, label: &[u8]) -> Result<(), MapFaultKind>
+        requires version { version_at_of self.old block.version ≡ block.version }
+        requires label { IsTrue (is_label_text label.now) }
+        ensures room { OnOk result (has_prefix_room self.old (meant_text self.old.declared label.now) ≡ true) }
+        ensures ok { OnOk result (self.new ≡ added self.old (Lists block.version
+            (record { start = block.value; bits = block.len; label = meant_text self.old.declared label.now }))) }
+        ensures err { IfErr result (λ kind. ((kind ≡ NoMemory) × (has_prefix_room self.old (meant_text self.old.declared label.now) ≡ true))
+            ⊎ ((kind ≡ TooMany) × (has_prefix_room self.old (meant_text self.old.declared label.now) ≡ false))) }
+        ensures kept { OnErr result (self.new.prefixes ≡ self.old.prefixes) }
     {
-        let text = label_text(rest)?;
-        if self.has_block(&block) {
-            return Err(MapFaultKind::DuplicateBlock);
-        }
         if self.entry_count() >= MAPPING_LIMIT {
             return Err(MapFaultKind::TooMany);
         }
-        let label = self.label_id(text)?;
+        let label = self.label_id(label)?;
         self.add_entry(block, label)
+    }
+
+    // A block in the text's version and then a label, as an entry, from behind the block. A block that has an entry
+    // already is found where the line has another fault, and else behind the last line.
+    fn read_prefix(&mut self, block: Block, rest: &[u8]) -> Result<(), MapFaultKind>
+        requires { version_at_of self.old block.version ≡ block.version }
+        ensures ok { OnOk result (Takes self.old self.new (prefix_line self.old block.version block.value block.len rest.now)) }
+        ensures err { IfErr result (λ kind. kind ≡ refusal_of (prefix_line self.old block.version block.value block.len rest.now)) }
+    {
+        let text = label_text(rest)?;
+        match self.take_prefix(block, text) {
+            Ok(()) => Ok(()),
+            Err(_) if self.has_block(&block) => Err(MapFaultKind::DuplicateBlock),
+            Err(kind) => Err(kind),
+        }
     }
 
     // A block in the text's version and then a label, from behind the block.
     fn read_placed(&mut self, form: Form, block: Block, rest: &[u8]) -> Result<(), MapFaultKind>
         requires { version_at_of self.old block.version ≡ block.version }
-        ensures ok { OnOk result (Adds self.old self.new (placed_line form self.old block.version block.value block.len rest.now)) }
+        ensures ok { OnOk result (Takes self.old self.new (placed_line form self.old block.version block.value block.len rest.now)) }
         ensures err { IfErr result (λ kind. kind ≡ refusal_of (placed_line form self.old block.version block.value block.len rest.now)) }
     {
         match form {
@@ -191,7 +208,7 @@ impl Reading {
 
     // `BLOCK LABEL`, from the block on.
     fn read_block_line(&mut self, form: Form, word: &[u8], rest: &[u8]) -> Result<(), MapFaultKind>
-        ensures ok { OnOk result (Adds self.old self.new (block_line form self.old (block_of_text word.now) rest.now)) }
+        ensures ok { OnOk result (Takes self.old self.new (block_line form self.old (block_of_text word.now) rest.now)) }
         ensures err { IfErr result (λ kind. kind ≡ refusal_of (block_line form self.old (block_of_text word.now) rest.now)) }
     {
         match read_block(word) {
@@ -212,7 +229,7 @@ impl Reading {
         second: Addr,
         rest: &[u8],
     ) -> Result<(), MapFaultKind>
-        ensures ok { OnOk result (Adds self.old self.new (range_line form self.old (first.version, first.value) (second.version, second.value) rest.now)) }
+        ensures ok { OnOk result (Takes self.old self.new (range_line form self.old (first.version, first.value) (second.version, second.value) rest.now)) }
         ensures err { IfErr result (λ kind. kind ≡ refusal_of (range_line form self.old (first.version, first.value) (second.version, second.value) rest.now)) }
     {
         if form == Form::List {
@@ -229,7 +246,7 @@ impl Reading {
 
     // `ADDRESS LABEL`, from behind the address.
     fn read_single(&mut self, form: Form, addr: Addr, rest: &[u8]) -> Result<(), MapFaultKind>
-        ensures ok { OnOk result (Adds self.old self.new (single_line form self.old (addr.version, addr.value) rest.now)) }
+        ensures ok { OnOk result (Takes self.old self.new (single_line form self.old (addr.version, addr.value) rest.now)) }
         ensures err { IfErr result (λ kind. kind ≡ refusal_of (single_line form self.old (addr.version, addr.value) rest.now)) }
     {
         let version = self.version_at(addr.version);
@@ -244,7 +261,7 @@ impl Reading {
         first: Addr,
         rest: &[u8],
     ) -> Result<(), MapFaultKind>
-        ensures ok { OnOk result (Adds self.old self.new (one_or_two form self.old (first.version, first.value) (address_of (first_word rest.now)) rest.now)) }
+        ensures ok { OnOk result (Takes self.old self.new (one_or_two form self.old (first.version, first.value) (address_of (first_word rest.now)) rest.now)) }
         ensures err { IfErr result (λ kind. kind ≡ refusal_of (one_or_two form self.old (first.version, first.value) (address_of (first_word rest.now)) rest.now)) }
     {
         let (word, behind) = split_word(rest);
@@ -256,7 +273,7 @@ impl Reading {
 
     // A line whose first word is no keyword and has no `/`.
     fn read_other(&mut self, form: Form, word: &[u8], rest: &[u8]) -> Result<(), MapFaultKind>
-        ensures ok { OnOk result (Adds self.old self.new (address_line form self.old word.now (address_of word.now) rest.now)) }
+        ensures ok { OnOk result (Takes self.old self.new (address_line form self.old word.now (address_of word.now) rest.now)) }
         ensures err { IfErr result (λ kind. kind ≡ refusal_of (address_line form self.old word.now (address_of word.now) rest.now)) }
     {
         match read_addr(word) {
@@ -267,7 +284,7 @@ impl Reading {
 
     // A line with a word, by its first word and what stands behind it.
     fn read_statement(&mut self, form: Form, word: &[u8], rest: &[u8]) -> Result<(), MapFaultKind>
-        ensures ok { OnOk result (Adds self.old self.new (statement_line form self.old word.now rest.now)) }
+        ensures ok { OnOk result (Takes self.old self.new (statement_line form self.old word.now rest.now)) }
         ensures err { IfErr result (λ kind. kind ≡ refusal_of (statement_line form self.old word.now rest.now)) }
     {
         if word == b"map-name".as_slice() {
@@ -285,9 +302,10 @@ impl Reading {
         }
     }
 
-    /// Reads one more line. After a fault nothing is known of the lines so far.
+    /// Reads one more line. An entry for a block that has one already is added too. After a fault nothing is known of the
+    /// lines so far.
     pub fn read_line(&mut self, form: Form, line: &[u8]) -> Result<(), MapFaultKind>
-        ensures ok { OnOk result (Adds self.old self.new (line_entry form self.old line.now)) }
+        ensures ok { OnOk result (Takes self.old self.new (line_entry form self.old line.now)) }
         ensures err { IfErr result (λ kind. kind ≡ refusal_of (line_entry form self.old line.now)) }
     {
         let content = content(line);

@@ -1,4 +1,6 @@
-use Rattle.std.proofs.Common.{◌≡◌, ◌≢◌, ◌∙◌, Err, ap, sym, subst, arith}
+use Rattle.std.proofs.Common.{◌≡◌, ◌≢◌, ◌∙◌, [], refl, Err, ap, sym, subst, arith}
+use Rattle.pmap_text.specs.Filed.{AreFiled}
+use Rattle.pmap_text.proofs.Filed.{none_filed}
 use Rattle.pmap_text.specs.Lines.{lines_of}
 use Rattle.pmap_text.specs.Reading.{Earlier, entries_from, line_entry}
 use Rattle.pmap_text.specs.Steps.{Adds}
@@ -6,15 +8,23 @@ use Rattle.pmap_text.specs.declared.fault.MapFaultKind.TheVariants.{NoMemory}
 use Rattle.pmap_text.proofs.LineEntries.{entries_from-fault, entries_from-line, refusal-fault}
 use Rattle.pmap_text.proofs.reading.read_lines.Goals as goal
 
+pub loop-rest-init : goal.loop-rest-init
+loop-rest-init c = record {
+  fits = omega arith;
+  read = ([], refl, c.new-reading.ensures);
+  filed = subst (λ (e : Earlier). AreFiled e.prefixes c.new-keys.result.keys) (sym c.new-reading.ensures) (subst (AreFiled []) (sym c.new-keys.ensures.empty) none_filed);
+}
+
 pub loop-rest-preserved : goal.loop-rest-preserved
 loop-rest-preserved c =
     let so_far = c.loop-rest.invariant.read in
     let line = c.split_line.result.0.now in
-    let adds = subst (λ (e : Earlier). Adds e c.read_line.new.self (line_entry c.args.form e line)) so_far.2 c.in_default.ensures.ok in
-    let more = entries_from-line c.args.form so_far.0 c.loop-rest.number line (lines_of c.split_line.result.1.now) c.read_line.new.self adds in
+    let adds = subst (λ (e : Earlier). Adds e c.read_checked.new.reading (line_entry c.args.form e line)) so_far.2 c.in_default.ensures.ok in
+    let more = entries_from-line c.args.form so_far.0 c.loop-rest.number line (lines_of c.split_line.result.1.now) c.read_checked.new.reading adds in
     record {
       fits = omega arith;
       read = (more.0, so_far.1 ∙ (ap (entries_from c.args.form so_far.0 c.loop-rest.number) c.split_line.ensures.line ∙ more.1), more.2);
+      filed = c.in_default.ensures.filed;
     }
 
 pub returns-in-Err-clause-err : goal.returns-in-Err-clause-err

@@ -1,19 +1,19 @@
-use Rattle.std.proofs.Common.{◌≡◌, ◌++◌, ◌∷◌, [], ◌∙◌, ap, sym, subst}
-use Rattle.pmap_text.specs.Filed.{AreFiled}
-use Rattle.pmap_text.specs.ListEntries.{has_entry}
-use Rattle.pmap_text.proofs.Filed.{AreFiled-push}
+use Rattle.std.proofs.Common.{◌∙◌, ◌&&◌, ap, sym, subst}
+use Rattle.std.proofs.lemmas.Cmp.{and_equiv, nat_eq_equiv, on_equiv}
+use Rattle.std.proofs.lemmas.Map.Keys.{IsDistinct-push}
+use Rattle.std.specs.Cmp.{IsEquivalence}
+use Rattle.std.specs.List.{list_any}
+use Rattle.pmap_text.specs.ListEntries.{HasDistinctBlocks, has_entry, same_block}
 use Rattle.pmap_text.proofs.entries.Entries.push.Goals as goal
 
--- the entries after the call
-pushed : (c : goal.In_ok-push) → c.push.new.self.items ≡ c.self.inside.items.items ++ c.args.entry ∷ []
-pushed c = c.in_ok-push.ensures.items ∙ ap (λ es. es ++ c.args.entry ∷ []) c.reserve.ensures.items
+same_block-equiv : IsEquivalence same_block
+same_block-equiv = and_equiv (on_equiv (λ e. e.block.value) nat_eq_equiv) (on_equiv (λ e. e.block.len) nat_eq_equiv)
 
 pub invariant_of-self-2 : goal.invariant_of-self-2
 invariant_of-self-2 c =
-    subst (λ es. AreFiled es c.insert.new.self.keys) (sym (pushed c))
-    (AreFiled-push c.self.inside.items.items c.args.entry c.self.inside.blocks.keys c.insert.new.self.keys c.self.invariant
-    (ap (λ es. has_entry es c.args.entry.block.value c.args.entry.block.len) c.self.view_is ∙ c.requires.new)
-    c.in_ok-insert.ensures.updates.0)
-
-pub returns-clause-ok : goal.returns-clause-ok
-returns-clause-ok c = pushed c ∙ ap (λ es. es ++ c.args.entry ∷ []) c.self.view_is
+    let e = c.args.entry in
+    subst HasDistinctBlocks (sym c.in_ok-push.ensures.items)
+    (IsDistinct-push same_block-equiv c.self.inside.items.items e c.self.invariant
+    (ap (λ t. list_any t c.self.inside.items.items)
+    (λ i d. nat_eq_equiv.symm e.block.value d.block.value i && nat_eq_equiv.symm e.block.len d.block.len i)
+    ∙ ap (λ es. has_entry es e.block.value e.block.len) c.self.view_is ∙ c.requires.new))

@@ -1,8 +1,7 @@
-use Rattle.std.proofs.Common.{◌≡◌, ◌≤◌, ◌∙◌, map, length, Some, sym, ap, subst, slice_get, option_map, refl, take}
+use Rattle.std.proofs.Common.{◌≡◌, ◌≤◌, ◌∙◌, map, length, Some, sym, ap, subst, slice_get, option_map, refl}
 use Rattle.std.proofs.lemmas.List.{length-map, take_all}
 use Rattle.std.proofs.lemmas.Option.{slice_get-map, slice_get_read}
 use Rattle.pmap_text.specs.Label.{IsLabelTable, with_label}
-use Rattle.pmap_text.specs.MapModel.{Label}
 use Rattle.pmap_text.proofs.LabelTexts.{map-insert_key, take-with_label}
 use Rattle.pmap_text.proofs.labels.Labels.copy.Goals as goal
 

@@ -1,7 +1,11 @@
-use Rattle.std.proofs.Common.{sym, ◌∙◌}
+use Rattle.std.proofs.Common.{ap, sym, ◌∙◌}
+use Rattle.pmap_text.specs.ListEntries.{has_entry}
 use Rattle.pmap_text.proofs.ProgressSteps.{has_prefix-entries}
 use Rattle.pmap_text.proofs.progress.Reading.has_block.Goals as goal
 
 pub returns : goal.returns
 returns c =
-    rw (← c.self.view_is) (c.has_block.ensures ∙ sym (has_prefix-entries c.self.inside.labels c.self.inside.entries c.args.block.now.value c.args.block.now.len))
+    let block = c.args.block.now in
+    rw (← c.self.view_is)
+    (c.has_block.ensures ∙ ap (λ es. has_entry es block.value block.len) c.deref.ensures.value
+    ∙ sym (has_prefix-entries c.self.inside.labels c.self.inside.entries.items block.value block.len))

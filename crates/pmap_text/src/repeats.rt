@@ -1,0 +1,47 @@
+//! Blocks that entries share.
+ghost use Rattle.std.specs.Prelude.{◌≡◌, ◌<◌, IsTrue, IfOk, length, map};
+ghost use Rattle.pmap_text.specs.Filed.{AreRising};
+ghost use Rattle.pmap_text.specs.ListEntries.{HasDistinctBlocks, has_entry};
+
+use crate::entry::Entry;
+use prefix_keys::Block;
+use std::alloc::{AllocError, Global};
+
+/// Whether an entry has the start and the length of this block.
+pub fn has_block(entries: &[Entry], block: &Block) -> bool
+    ensures { result ≡ has_entry entries.now block.now.value block.now.len }
+{
+    entries.iter().any(|entry| entry.block.value == block.value && entry.block.len == block.len)
+}
+
+// Whether each key is above the one before it.
+fn are_rising(keys: &[(u128, u32)]) -> bool
+    ensures { IsTrue result → AreRising keys.now }
+{
+    for i in 1..keys.len() {
+        if !keys[i - 1].cmp(&keys[i]).is_lt() {
+            return false;
+        }
+    }
+    true
+}
+
+// The start and the length of each entry's block.
+fn keys_of(alloc: Global, entries: &[Entry]) -> Result<Vec<(u128, u32)>, AllocError>
+    ensures { IfOk result (λ keys. keys.items ≡ map (λ e. (e.block.value, e.block.len)) entries.now) }
+{
+    entries
+        .iter()
+        .map(|entry| (entry.block.value, entry.block.len))
+        .collect(alloc)
+}
+
+/// Whether the entries are seen to have distinct blocks, by sorting the starts and lengths. Unlike in a hash table, no
+/// choice of blocks makes that slow.
+pub fn have_distinct_blocks(alloc: Global, entries: &[Entry]) -> Result<bool, AllocError>
+    ensures { IfOk result (λ distinct. IsTrue distinct → HasDistinctBlocks entries.now) }
+{
+    let mut keys = keys_of(alloc, entries)?;
+    keys.sort()?;
+    Ok(are_rising(keys.as_slice()))
+}
