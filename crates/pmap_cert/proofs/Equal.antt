@@ -8,9 +8,8 @@ use Rattle.pmap_text.specs.MapModel.{Label, MapModel}
 use Rattle.pmap_text.specs.ListModel.{ListModel}
 use Rattle.pmap_text.specs.MapText.{text_at}
 use Rattle.pmap_cert.specs.CertificateForm.{HasNodeForm, HasTextForm, IsRising}
-use Rattle.pmap_cert.specs.CertificateModel.{CertificateModel, InnerNode, LeafNode, Pair, Tree, has}
+use Rattle.pmap_cert.specs.CertificateModel.{CertificateModel, InnerNode, LeafNode, Tree, has}
 use Rattle.pmap_cert.specs.CertificateText.{place_of}
-use Rattle.pmap_cert.specs.ExactPair.{IsSamePair}
 use Rattle.pmap_cert.specs.MinimalPair.{IsMinimalPair, IsSameCertificate, IsSameTree}
 use Rattle.pmap_cert.proofs.Alike.{certificate-unique}
 use Rattle.pmap_cert.proofs.Sets.{bytes_eq-same}

@@ -1,5 +1,5 @@
 -- The header of a certificate's text, and what lines lack.
-use Rattle.std.proofs.Common.{◌≡◌, ℕ, zero, suc, ◌+◌, ◌^◌, ◌<◌, ◌≤◌, ◌==◌, ◌&&◌, ◌∙◌, Bool, true, false, not, List, [], ◌∷◌, ◌++◌, Option, Some, None, Result, Ok, Err, All, IsTrue, length, map, refl, sym, ap, subst, arith, cond, codes}
+use Rattle.std.proofs.Common.{◌≡◌, ℕ, zero, suc, ◌+◌, ◌<◌, ◌==◌, ◌&&◌, ◌∙◌, Bool, true, false, not, List, [], ◌∷◌, Option, Some, None, Ok, IsTrue, length, refl, sym, ap, subst, arith, cond, codes}
 use Rattle.std.specs.Fmt.{decimal}
 use Rattle.std.specs.List.{AllByRecursion, list_all, slice_get}
 use Rattle.std.specs.Str.{bytes_eq}
@@ -11,7 +11,7 @@ use Rattle.std.proofs.lemmas.Slice.Eq.{bytes_eq-Decides}
 use Rattle.prefix_keys.proofs.Printed.{Lacks}
 use Rattle.prefix_keys.specs.declared.version.Version.{Version}
 use Rattle.prefix_keys.specs.declared.version.Version.TheVariants.{V4, V6}
-use Rattle.pmap_text.specs.Label.{IsLabelTable, is_blank, is_label, is_label_byte}
+use Rattle.pmap_text.specs.Label.{IsLabelTable, is_label, is_label_byte}
 use Rattle.pmap_text.specs.MapModel.{Label}
 use Rattle.pmap_cert.specs.CertificateReading.{Place, both, fault_at, header_at, header_by, header_of, line_from, named_version, number_below, or_fault, words_of}
 use Rattle.pmap_cert.specs.CertificateText.{header_line, line_of, version_word}

@@ -1,5 +1,5 @@
 -- The entries of a minimal pair are blocks in order, with labels of the table.
-use Rattle.std.proofs.Common.{◌≡◌, ℕ, suc, ◌+◌, ◌-◌, ◌*◌, ◌/◌, ◌%◌, ◌^◌, ◌<◌, ◌≤◌, ◌==◌, ◌&&◌, ◌||◌, ◌∙◌, ◌⊎◌, inl, inr, Bool, true, false, cond, List, [], ◌∷◌, ◌++◌, Option, None, All, IsTrue, filter, nat_le, nat_lt, refl, sym, ap, subst, arith, pow-suc, pow_pos}
+use Rattle.std.proofs.Common.{◌≡◌, ℕ, suc, ◌+◌, ◌-◌, ◌*◌, ◌^◌, ◌<◌, ◌≤◌, ◌==◌, ◌&&◌, ◌⊎◌, inl, inr, Bool, true, false, cond, List, [], ◌∷◌, ◌++◌, Option, None, All, IsTrue, filter, nat_le, nat_lt, refl, sym, subst, arith, pow-suc, pow_pos}
 use Rattle.std.specs.List.{AllByRecursion}
 use Rattle.std.proofs.lemmas.Bool.{and_parts, and_from, cases_lt, eq-eqb, eqb-true, leb-true, lt-ltb, or_left, or_right}
 use Rattle.std.proofs.lemmas.List.Elements.{All-from_recursion, All-same, filter_passes, recursion_from_All}

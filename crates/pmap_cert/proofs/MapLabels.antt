@@ -1,5 +1,5 @@
 -- The label table of a map that a text is read as has the map's labels.
-use Rattle.std.proofs.Common.{◌≡◌, ℕ, ◌∙◌, ◌⊎◌, inl, inr, Bool, true, false, ◌||◌, List, [], ◌∷◌, ◌++◌, Option, Some, None, Result, Ok, Err, All, IsTrue, fold, refl, sym, ap, subst, bytes_eq, cond, unwrap_or}
+use Rattle.std.proofs.Common.{◌≡◌, ℕ, ◌∙◌, ◌⊎◌, inl, inr, Bool, true, false, List, [], ◌∷◌, ◌++◌, Option, Some, None, Result, Ok, Err, IsTrue, fold, refl, sym, subst, bytes_eq}
 use Rattle.std.specs.List.{AllByRecursion, flat_map}
 use Rattle.std.specs.Option.{option_or}
 use Rattle.std.proofs.lemmas.Bool.{false≢true, or_cases, or_left, or_right}
@@ -9,7 +9,7 @@ use Rattle.std.proofs.lemmas.Slice.Eq.{bytes_eq-Decides}
 use Rattle.pmap_text.proofs.LabelTexts.{has_label-with_label}
 use Rattle.pmap_text.specs.Label.{has_label, with_label}
 use Rattle.pmap_text.specs.MapModel.{Label, MapModel, Mapping}
-use Rattle.pmap_text.specs.Reading.{◌>>=◌, Decides, Declares, Defaults, Entry, Lists, Maps, Names, Nothing, ReadsMap, default_in, earlier_of, entries_from, full_table, last_in, map_from, map_reading, mapping_in, text_in, unknown}
+use Rattle.pmap_text.specs.Reading.{◌>>=◌, Decides, Declares, Defaults, Entry, Lists, Maps, Names, Nothing, ReadsMap, default_in, earlier_of, entries_from, last_in, map_from, mapping_in, text_in, unknown}
 use Rattle.pmap_text.specs.Lines.{lines_of}
 use Rattle.pmap_text.specs.declared.fault.MapFault.{MapFault}
 use Rattle.pmap_text.specs.declared.form.Form.TheVariants as form

@@ -1,15 +1,14 @@
 -- The pieces of a text between its line feeds, and those of a line between its spaces.
-use Rattle.std.proofs.Common.{◌≡◌, ℕ, zero, suc, ◌+◌, ◌<◌, ◌≤◌, ◌==◌, ◌∙◌, Bool, true, false, List, [], ◌∷◌, ◌++◌, Option, Some, None, All, length, take, drop, refl, sym, ap, subst, arith, cond, ltb}
-use Rattle.std.specs.List.{AllByRecursion, after_first, before_first, flat_map, join_with_byte, onto_first, position_or_len, slice_split}
-use Rattle.std.specs.Option.{option_map}
+use Rattle.std.proofs.Common.{◌≡◌, ℕ, ◌+◌, ◌<◌, ◌≤◌, ◌==◌, ◌∙◌, Bool, true, false, List, [], ◌∷◌, ◌++◌, Some, None, length, take, drop, refl, sym, ap, subst, arith, cond, ltb}
+use Rattle.std.specs.List.{AllByRecursion, after_first, before_first, join_with_byte, onto_first, position_or_len, slice_split}
 use Rattle.std.specs.Prelude.{position}
 use Rattle.std.proofs.lemmas.Bool.{eq-eqb, ltb-false, ltb-true, ne_eqb}
 use Rattle.std.proofs.lemmas.Option.{cond_some, none-some}
-use Rattle.std.proofs.lemmas.List.{append_assoc, length-append}
+use Rattle.std.proofs.lemmas.List.{append_assoc}
 use Rattle.std.proofs.lemmas.List.Splits.{join_with_byte-slice_split, length-slice_split, slice_split_at, slice_split_first, slice_split_none}
 use Rattle.prefix_keys.proofs.Pieces.{split-whole}
 use Rattle.prefix_keys.proofs.Printed.{Lacks}
-use Rattle.pmap_cert.specs.CertificateReading.{Place, is_ended, line_from, pieces_of, words_of}
+use Rattle.pmap_cert.specs.CertificateReading.{is_ended, line_from, pieces_of, words_of}
 use Rattle.pmap_cert.specs.CertificateText.{line_of, text_of_lines}
 use Rattle.pmap_cert.specs.Words.{words_behind}
 

@@ -1,5 +1,5 @@
 -- The numbers of a set, word by word.
-use Rattle.std.proofs.Common.{◌≡◌, ℕ, ◌+◌, ◌<◌, ◌≤◌, ◌==◌, ◌∙◌, List, [], ◌∷◌, ◌++◌, Option, Some, None, length, refl, sym, ap, arith, cond, leb}
+use Rattle.std.proofs.Common.{◌≡◌, ℕ, ◌+◌, ◌<◌, ◌≤◌, ◌==◌, ◌∙◌, List, [], ◌∷◌, ◌++◌, Option, Some, None, length, refl, sym, ap, arith, leb}
 use Rattle.std.specs.Option.{option_map}
 use Rattle.std.proofs.lemmas.Bool.{cond-false, cond-true, le-leb, lt-leb}
 use Rattle.std.proofs.lemmas.List.{append-nil, append_assoc}

@@ -1,25 +1,19 @@
 -- Nodes, read and written.
-use Rattle.std.proofs.Common.{◌≡◌, ℕ, zero, suc, ◌+◌, ◌^◌, ◌<◌, ◌≤◌, ◌==◌, ◌∙◌, Bool, true, false, List, [], ◌∷◌, ◌++◌, Option, Some, None, Result, Ok, Err, length, map, refl, sym, ap, subst, arith, codes}
+use Rattle.std.proofs.Common.{◌≡◌, ℕ, zero, suc, ◌+◌, ◌∙◌, List, [], ◌∷◌, ◌++◌, Option, Some, None, Result, Ok, Err, length, map, sym, ap, subst, codes}
 use Rattle.std.specs.Fmt.{decimal}
-use Rattle.std.specs.List.{AllByRecursion}
-use Rattle.std.proofs.lemmas.List.{append_assoc, length-append}
-use Rattle.prefix_keys.proofs.Printed.{Lacks}
+use Rattle.std.proofs.lemmas.List.{append_assoc}
 use Rattle.pmap_text.specs.Label.{IsLabelTable}
 use Rattle.pmap_text.specs.MapModel.{Label}
 use Rattle.pmap_text.specs.MapText.{text_at}
-use Rattle.pmap_cert.specs.CertificateForm.{HasNodeForm, IsRising}
+use Rattle.pmap_cert.specs.CertificateForm.{HasNodeForm}
 use Rattle.pmap_cert.specs.CertificateModel.{InnerNode, LeafNode, Pair, Tree}
 use Rattle.pmap_cert.specs.CertificateReading.{◌>>=◌, InnerLine, LeafLine, NodeLine, Place, due_at, due_by, fault_at, line_from, node_at, node_by, node_line, or_fault, words_of}
-use Rattle.pmap_cert.specs.CertificateText.{inner_line, leaf_line, line_of, node_lines, place_of}
-use Rattle.pmap_cert.specs.Node.{HasNumberForm, number_lines, tree_of}
+use Rattle.pmap_cert.specs.CertificateText.{inner_line, leaf_line, node_lines, place_of}
 use Rattle.pmap_cert.specs.declared.fault.CertFault.{CertFault}
 use Rattle.pmap_cert.specs.declared.fault.CertFaultKind.TheVariants.{BadNode, TooDeep}
-use Rattle.pmap_cert.specs.declared.node.Node.{Node}
-use Rattle.pmap_cert.specs.declared.node.Node.TheVariants.{Inner', Leaf}
-use Rattle.pmap_cert.proofs.NodeLines.{SaysNode, node_words-found, node_words-inner, node_words-leaf}
-use Rattle.pmap_cert.proofs.Numbers.{Lacks-decimal, Lacks-decimals}
-use Rattle.pmap_cert.proofs.Pieces.{line-words, line_from-cons, words-line}
-use Rattle.pmap_cert.proofs.Tables.{bind_ok, ok_is, place_of-text_at, places-texts, text_at-place_of, texts-places}
+use Rattle.pmap_cert.proofs.NodeLines.{SaysNode, node_words-found}
+use Rattle.pmap_cert.proofs.Pieces.{line-words}
+use Rattle.pmap_cert.proofs.Tables.{bind_ok, ok_is, place_of-text_at, places-texts}
 
 -- the line of a node says it by its words
 or_fault-found : (fault : CertFault) (after : Place) (o : Option NodeLine) (x : NodeLine × Place) → or_fault fault after o ≡ Ok x → (o ≡ Some x.0) × (after ≡ x.1)

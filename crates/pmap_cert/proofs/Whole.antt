@@ -1,5 +1,5 @@
 -- A text is read exactly where it is the text of a certificate.
-use Rattle.std.proofs.Common.{◌≡◌, ◌≢◌, ℕ, zero, suc, ◌+◌, ◌^◌, ◌<◌, ◌≤◌, ◌==◌, ◌∙◌, Bool, true, false, List, [], ◌∷◌, ◌++◌, Option, Some, None, Result, Ok, Err, length, map, refl, sym, ap, subst, arith, cond, codes}
+use Rattle.std.proofs.Common.{◌≡◌, ◌≢◌, ℕ, zero, suc, ◌+◌, ◌<◌, ◌≤◌, ◌∙◌, Bool, true, false, List, [], ◌∷◌, ◌++◌, Result, Ok, Err, length, map, refl, sym, ap, subst, arith, codes}
 use Rattle.std.specs.Fmt.{decimal}
 use Rattle.std.specs.List.{AllByRecursion}
 use Rattle.std.specs.Result.{IfErr, IfOk}
@@ -15,7 +15,7 @@ use Rattle.pmap_cert.specs.Certificate.{certificate_of}
 use Rattle.pmap_cert.specs.CertificateForm.{HasNodeForm, HasTextForm}
 use Rattle.pmap_cert.specs.CertificateModel.{CertificateModel, InnerNode, LeafNode, Tree}
 use Rattle.pmap_cert.specs.CertificateReading.{◌>>=◌, Place, certificate_reading, ended_by, fault_at, header_at, is_ended, labels_at, node_at, pieces_of, start_of}
-use Rattle.pmap_cert.specs.CertificateText.{certificate_lines, certificate_text, header_line, inner_line, leaf_line, line_of, node_lines, place_of, text_of_lines}
+use Rattle.pmap_cert.specs.CertificateText.{certificate_lines, certificate_text, header_line, node_lines, place_of}
 use Rattle.pmap_cert.specs.declared.fault.CertFault.{CertFault}
 use Rattle.pmap_cert.specs.declared.certificate.Certificate.{Certificate}
 use Rattle.pmap_cert.specs.declared.fault.CertFaultKind.{CertFaultKind}

@@ -1,5 +1,5 @@
 -- What is written of a node by its numbers is the text of the tree that it is.
-use Rattle.std.proofs.Common.{◌≡◌, ℕ, zero, suc, ◌+◌, ◌^◌, ◌<◌, ◌≤◌, ◌∙◌, List, [], ◌∷◌, ◌++◌, Some, length, map, take, refl, sym, ap, subst, arith, codes}
+use Rattle.std.proofs.Common.{◌≡◌, ℕ, zero, suc, ◌+◌, ◌<◌, ◌∙◌, List, [], ◌∷◌, ◌++◌, Some, length, map, take, sym, ap, subst}
 use Rattle.std.specs.Fmt.{decimal}
 use Rattle.std.specs.List.{flat_map, join_with_byte, slice_get}
 use Rattle.std.proofs.lemmas.List.{append-nil, append_assoc, take_more}
@@ -9,8 +9,8 @@ use Rattle.prefix_keys.specs.Version.{width_of}
 use Rattle.pmap_text.specs.Label.{IsLabelTable}
 use Rattle.pmap_text.specs.MapModel.{Label}
 use Rattle.pmap_cert.specs.Certificate.{certificate_of}
-use Rattle.pmap_cert.specs.CertificateForm.{HasNodeForm, HasTextForm, IsRising}
-use Rattle.pmap_cert.specs.CertificateText.{certificate_text, header_line, inner_line, leaf_line, node_lines, place_of, text_of_lines}
+use Rattle.pmap_cert.specs.CertificateForm.{HasNodeForm, IsRising}
+use Rattle.pmap_cert.specs.CertificateText.{certificate_text, header_line, inner_line, leaf_line, node_lines, text_of_lines}
 use Rattle.pmap_cert.specs.Node.{HasNumberForm, number_lines, tree_of}
 use Rattle.pmap_cert.specs.declared.certificate.Certificate.{Certificate}
 use Rattle.pmap_cert.specs.declared.node.Node.{Node}

@@ -1,5 +1,4 @@
-use Rattle.std.specs.Prelude.{ℕ, List, [], Option, Some, None, map}
-use Rattle.pmap_text.specs.MapModel.{Label}
+use Rattle.std.specs.Prelude.{ℕ, List, [], Option, Some, None}
 use Rattle.pmap_cert.specs.CertificateReading.{InnerLine, LeafLine, NodeLine as NodeLineModel, words_of}
 use Rattle.pmap_cert.specs.declared.reading.node_line.NodeLine.{NodeLine}
 use Rattle.pmap_cert.specs.declared.reading.node_line.NodeLine.TheVariants.{Inner, Leaf}

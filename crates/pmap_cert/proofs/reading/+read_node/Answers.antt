@@ -1,7 +1,6 @@
-use Rattle.std.proofs.Common.{◌≡◌, ◌-◌, ◌<◌, suc, ◌∙◌, ℕ, arith, ap, sym, subst, length}
+use Rattle.std.proofs.Common.{◌≡◌, ◌-◌, suc, arith, subst, length}
 use Rattle.std.proofs.lemmas.Result.{err_from_is_err_and}
 use Rattle.pmap_cert.specs.Node.{HasNumberForm, tree_of}
-use Rattle.pmap_cert.specs.CertificateReading.{InnerLine, LeafLine}
 use Rattle.pmap_cert.specs.declared.node.Node.{Node}
 use Rattle.pmap_cert.specs.declared.node.Node.TheViews.{Inner}
 use Rattle.pmap_cert.proofs.ReadingSteps.{inner_form, node_at-deep, node_at-fault, node_at-inner, node_at-leaf, node_at-lower_fault, node_at-upper_fault}

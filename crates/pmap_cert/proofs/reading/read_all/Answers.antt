@@ -1,6 +1,5 @@
-use Rattle.std.proofs.Common.{◌≡◌, ◌∙◌, Ok, ap, sym}
+use Rattle.std.proofs.Common.{◌∙◌, Ok, sym}
 use Rattle.std.proofs.lemmas.Result.{err_from_is_err_and}
-use Rattle.pmap_cert.specs.CertificateReading.{header_at, start_of}
 use Rattle.pmap_cert.specs.Node.{tree_of}
 use Rattle.pmap_cert.proofs.Whole.{reading-ended, reading-header_fault, reading-labels_fault, reading-left, reading-root_fault}
 use Rattle.pmap_cert.proofs.reading.read_all.Goals as goal

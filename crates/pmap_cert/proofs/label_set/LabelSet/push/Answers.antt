@@ -1,6 +1,5 @@
-use Rattle.std.proofs.Common.{◌≡◌, ◌++◌, ◌∷◌, [], ◌∙◌, All, arith, ap, map, sym, subst}
+use Rattle.std.proofs.Common.{arith}
 use Rattle.std.proofs.lemmas.List.{map_push}
-use Rattle.pmap_cert.specs.CertificateForm.{IsRising}
 use Rattle.pmap_cert.proofs.Numbers.{IsRising-push}
 use Rattle.pmap_cert.proofs.label_set.LabelSet.push.Goals as goal
 

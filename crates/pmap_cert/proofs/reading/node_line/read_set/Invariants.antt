@@ -1,4 +1,4 @@
-use Rattle.std.proofs.Common.{◌≡◌, ℕ, ◌+◌, ◌^◌, ◌<◌, ◌≤◌, All, length}
+use Rattle.std.proofs.Common.{◌≡◌, ◌+◌, ◌^◌, ◌<◌, ◌≤◌, All, length}
 use Rattle.std.specs.Option.{option_map, unwrap_or}
 use Rattle.pmap_cert.specs.CertificateReading.{rising_numbers}
 use Rattle.pmap_cert.specs.Words.{words_behind}
