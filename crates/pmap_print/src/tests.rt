@@ -5,6 +5,7 @@ mod files;
 mod ipfix_read;
 mod ipfix_templates;
 mod label_trie;
+mod pmap_cert;
 mod pmap_text;
 mod prefix_keys;
 mod printing;

@@ -1,3 +1,6 @@
+use super::files::{
+    FIVE_FIELDS, LONG_FORM, OPTIONS, REVERSE, TWO_DOMAINS, TWO_RECORDS, VERSION_SIX, WITHDRAWN, bytes_of,
+};
 use ipfix_read::{
     FileEvents, ReadFault, ReadFaultKind, Record, Set, first_message_and_rest, one_reading,
     read_file,
@@ -5,27 +8,6 @@ use ipfix_read::{
 use ipfix_templates::{Kind, TemplateEvent, TemplateFaultKind};
 use std::alloc::Global;
 use std::test::*;
-
-// The bytes that these hexadecimal digits spell, two for each byte. Spaces stand between groups.
-fn bytes_of(alloc: Global, text: &str) -> Result<Vec<u8>, Fail> {
-    let mut bytes = Vec::new(alloc);
-    let mut high = None;
-    for digit in text.bytes() {
-        let value = match digit {
-            b'0'..=b'9' => digit - b'0',
-            b'a'..=b'f' => digit - b'a' + 10,
-            _ => continue,
-        };
-        match high {
-            None => high = Some(value),
-            Some(first) => {
-                bytes.push((first & 15) * 16 + (value & 15))?;
-                high = None;
-            }
-        }
-    }
-    Ok(bytes)
-}
 
 fn kind_name(kind: Kind) -> &'static str {
     match kind {
@@ -115,32 +97,6 @@ fn read_text(alloc: Global, text: &str) -> Result<String, Fail> {
     let file = read_file(alloc, &bytes)?;
     describe(alloc, &file)
 }
-
-// Worked Files: a template of addresses, protocol, packets and octets; padding; a set behind a message of
-// another domain; variable lengths; IPv6; a withdrawal; an options template; two records; reverse elements.
-const FIVE_FIELDS: &str =
-    "000a0041 60000000 00000000 00000001 0002001c 01000005 00080004 000c0004 00040001 00020004 00010004 01000015 0a000001 08080808 06 00000003 000000b4";
-
-const TWO_DOMAINS: &str =
-    "000a0044 60000000 00000000 00000001 0002001c 01000005 00080004 000c0004 00040001 00020004 00010004 01000018 0a000001 08080808 06 00000003 000000b4 000000 000a0025 60000000 00000000 00000002 01000015 0a000001 08080808 06 00000003 000000b4";
-
-const LONG_FORM: &str =
-    "000a0033 60000000 00000000 00000001 00020014 01010003 00080004 000c0004 0052ffff 0101000f 0a000001 08080808 ff0000";
-
-const VERSION_SIX: &str =
-    "000a0044 60000000 00000000 00000001 00020010 01020002 001b0010 001c0010 01020024 20010db8 00000000 00000000 00000001 20010db8 00000000 00000000 00000002";
-
-const WITHDRAWN: &str =
-    "000a0049 60000000 00000000 00000001 0002001c 01000005 00080004 000c0004 00040001 00020004 00010004 00020008 01000000 01000015 0a000001 08080808 06 00000003 000000b4";
-
-const OPTIONS: &str =
-    "000a0032 60000000 00000000 00000001 00030012 01030002 00010095 00040029 00080103 00100000 00010000 00000000 0005";
-
-const TWO_RECORDS: &str =
-    "000a0052 60000000 00000000 00000001 0002001c 01000005 00080004 000c0004 00040001 00020004 00010004 01000026 0a000001 08080808 06 00000003 000000b4 09000001 08080808 11 00000001 00000064";
-
-const REVERSE: &str =
-    "000a0059 60000000 00000000 00000001 0002002c 01000007 00080004 000c0004 00040001 00020004 00010004 80020004 00007279 80010004 00007279 0100001d 0a000001 08080808 06 00000003 000000b4 00000002 00000064";
 
 const FIVE_DEFINED: &str = "; templates flow define flow 256 0 8:4 12:4 4:1 2:4 1:4";
 
