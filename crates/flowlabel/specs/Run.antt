@@ -1,10 +1,9 @@
 use Rattle.std.specs.Prelude.{◌≡◌, ◌≢◌, ◌⊎◌, ◌||◌, ℕ, Bool, true, false, List, [], Option, Some, None, is_some, Result, Ok, Err}
 use Rattle.std.specs.Borrow.{Bor}
 use Rattle.flow_io.specs.declared.last_call.LastCall.{LastCall}
-use Rattle.pmap_text.specs.Reading.{map_reading}
 use Rattle.pmap_text.specs.declared.fault.MapFaultKind.TheVariants as kind
 use Rattle.flowlabel.specs.Loops.{IsUntouched, StopsWriting}
-use Rattle.flowlabel.specs.Output.{FileTexts, InMap, output_of}
+use Rattle.flowlabel.specs.Output.{FileTexts, InMap, IsOutput, Outcome}
 use Rattle.flowlabel.specs.Request.{Request}
 use Rattle.flowlabel.specs.declared.command.Needs.{Needs}
 use Rattle.flowlabel.specs.declared.fault.RunFault.{RunFault}
@@ -48,17 +47,18 @@ module _ {R : Type 0} where
   -- the output of the request by the bytes that the readers told, where they tell them
   abbrev pub PrintsThen : (R → Option (List ℕ)) → Inputs R → Request → (List ℕ → Type 0) → Type 0
   PrintsThen left inputs request P =
-      (texts : FileTexts) → HaveTexts left inputs texts → (out : List ℕ) × (output_of request texts ≡ Ok out) × P out
+      (texts : FileTexts) → HaveTexts left inputs texts → (out : List ℕ) × IsOutput request texts (Ok out) × P out
 
-  -- what a fault of reading a map file says
-  abbrev pub IsFaultOfMap : (R → Option (List ℕ)) → (R → Bool) → Source R → Source R → RunFault → Type 0
-  IsFaultOfMap left failed old new (Usage fault) = ⊥
-  IsFaultOfMap left failed old new (CannotOpen file) = ⊥
-  IsFaultOfMap left failed old new (CannotRead file) = (old.name.now ≡ file.now) × (failed new.reader ≡ true)
-  IsFaultOfMap left failed old new CannotWrite = ⊥
-  IsFaultOfMap left failed old new NoMemory = Unit {0}
-  IsFaultOfMap left failed old new (Map file fault) = (old.name.now ≡ file.now) × (fault.kind ≢ kind.NoMemory)
-      × ((text : List ℕ) → left old.reader ≡ Some text → map_reading text ≡ Err fault)
+  -- what a fault of a run that reads one file says, by the relation that its text has to the outcome: the file has the
+  -- name that it had before the call, and its reader has failed, or the outcome is the fault of its text
+  abbrev pub IsFaultOfSource : (R → Option (List ℕ)) → (R → Bool) → (List ℕ → Outcome → Type 0) → Source R → Source R → RunFault → Type 0
+  IsFaultOfSource left failed over old new (Usage fault) = ⊥
+  IsFaultOfSource left failed over old new (CannotOpen file) = ⊥
+  IsFaultOfSource left failed over old new (CannotRead file) = (old.name.now ≡ file.now) × (failed new.reader ≡ true)
+  IsFaultOfSource left failed over old new CannotWrite = ⊥
+  IsFaultOfSource left failed over old new NoMemory = Unit {0}
+  IsFaultOfSource left failed over old new (Map file fault) = (old.name.now ≡ file.now) × (fault.kind ≢ kind.NoMemory)
+      × ((text : List ℕ) → left old.reader ≡ Some text → over text (Err (InMap fault)))
 
   -- what a fault that comes before anything is written says, names being those before the call: a fault of a map text is
   -- the request's first fault, and a reader that is named has failed
@@ -73,7 +73,7 @@ module _ {R : Type 0} where
   IsFaultOfBytes left failed old new request NoMemory = Unit {0}
   IsFaultOfBytes left failed old new request (Map file fault) =
       HasName old.map file × (fault.kind ≢ kind.NoMemory)
-      × ((texts : FileTexts) → HaveTexts left old texts → output_of request texts ≡ Err (InMap fault))
+      × ((texts : FileTexts) → HaveTexts left old texts → IsOutput request texts (Err (InMap fault)))
 
   -- the inputs are those that a command needs, and no others
   pub record AreNeeded (needs : Needs) (inputs : Inputs R) : Type 0 where

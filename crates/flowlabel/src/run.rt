@@ -6,9 +6,9 @@ ghost use Rattle.pmap_text.specs.MapModel.{map_label};
 ghost use Rattle.pmap_text.specs.MapText.{map_of};
 ghost use Rattle.pmap_text.specs.Reading.{ReadsMap};
 ghost use Rattle.label_trie.specs.TrieModel.{label_in};
-ghost use Rattle.flowlabel.specs.Output.{label_of_address, line_of, output_of, FileTexts};
+ghost use Rattle.flowlabel.specs.Output.{FailsMap, FileTexts, IsOutput, MapThen, Prints, label_of_address, label_text, line_of};
 ghost use Rattle.flowlabel.specs.Request.{needs_of, request_of};
-ghost use Rattle.flowlabel.specs.Run.{any_failed, is_read_stop, is_write_stop, AreNeeded, HaveTexts, IsFaultOfBytes, IsFaultOfMap, IsFaultOfRun, PrintsThen};
+ghost use Rattle.flowlabel.specs.Run.{any_failed, is_read_stop, is_write_stop, AreNeeded, HaveTexts, IsFaultOfBytes, IsFaultOfRun, IsFaultOfSource, PrintsThen};
 
 use crate::command::Command;
 use crate::fault::RunFault;
@@ -21,6 +21,8 @@ use pmap_text::{MapFaultKind, MapText, read_map};
 use prefix_keys::{Addr, convert};
 use std::alloc::{AllocError, Global};
 
+pub mod laws;
+
 // The map of a map file.
 fn map_of_file<'a, R: Input>(
     alloc: Global,
@@ -28,7 +30,7 @@ fn map_of_file<'a, R: Input>(
 ) -> Result<MapText, RunFault<'a>>
     requires { R.failed source.old.reader ≡ false }
     ensures ok { IfOk result (λ map. (text : List ℕ) → R.bytes_left source.old.reader ≡ Some text → ReadsMap text (map_of map)) }
-    ensures err { IfErr result (IsFaultOfMap R.bytes_left R.failed source.old source.new) }
+    ensures err { IfErr result (IsFaultOfSource R.bytes_left R.failed FailsMap source.old source.new) }
     ensures failed { R.failed source.new.reader ≡ is_read_stop result }
 {
     let text = match read_whole(alloc, &mut source.reader) {
@@ -78,11 +80,30 @@ fn label_line(alloc: Global, label: Option<&[u8]>) -> Result<Vec<u8>, AllocError
 
 // What `label` prints for an address.
 fn label_output(alloc: Global, map: &MapText, addr: Addr) -> Result<Vec<u8>, AllocError>
-    ensures { IfOk result (λ out. out.items
-        ≡ line_of (unwrap_or (label_of_address (map_of map.now) (addr.version, addr.value)) [])) }
+    ensures { IfOk result (λ out. out.items ≡ label_text (addr.version, addr.value) (map_of map.now)) }
 {
     let trie = Trie::build(alloc, map)?;
     label_line(alloc, label_of(map, &trie, addr))
+}
+
+// What `label` prints for an address, by the map of a map file.
+fn label_of_file<'a, R: Input>(
+    alloc: Global,
+    source: &mut Source<'a, R>,
+    addr: Addr,
+) -> Result<Vec<u8>, RunFault<'a>>
+    requires { R.failed source.old.reader ≡ false }
+    ensures ok { IfOk result (λ out. (text : List ℕ) → R.bytes_left source.old.reader ≡ Some text
+        → MapThen (λ m. Prints (label_text (addr.version, addr.value) m)) text (Ok out.items)) }
+    ensures err { IfErr result (IsFaultOfSource R.bytes_left R.failed
+        (MapThen (λ m. Prints (label_text (addr.version, addr.value) m))) source.old source.new) }
+    ensures failed { R.failed source.new.reader ≡ is_read_stop result }
+{
+    let map = map_of_file(alloc, source)?;
+    match label_output(alloc, &map, addr) {
+        Ok(out) => Ok(out),
+        Err(_) => Err(RunFault::NoMemory),
+    }
 }
 
 // The whole output of a command.
@@ -94,7 +115,7 @@ fn output<'a, R: Input>(
     requires needed { AreNeeded (needs_of (request_of command.now)) inputs.old }
     requires readers { any_failed R.failed inputs.old ≡ false }
     ensures ok { IfOk result (λ out. (texts : FileTexts) → HaveTexts R.bytes_left inputs.old texts
-        → output_of (request_of command.now) texts ≡ Ok out.items) }
+        → IsOutput (request_of command.now) texts (Ok out.items)) }
     ensures err { IfErr result (IsFaultOfBytes R.bytes_left R.failed inputs.old inputs.new (request_of command.now)) }
     ensures failed { any_failed R.failed inputs.new ≡ is_read_stop result }
 {
@@ -102,11 +123,7 @@ fn output<'a, R: Input>(
     let Some(source) = &mut inputs.map else {
         unreachable!()
     };
-    let map = map_of_file(alloc, source)?;
-    match label_output(alloc, &map, *addr) {
-        Ok(out) => Ok(out),
-        Err(_) => Err(RunFault::NoMemory),
-    }
+    label_of_file(alloc, source, *addr)
 }
 
 /// Runs a command: reads its inputs, makes the whole output, and then writes it and flushes once.
