@@ -8,12 +8,12 @@ use Rattle.clap.specs.declared.error.kind.ErrorKind.TheVariants as kind
 use Rattle.clap.specs.declared.parser.ArgMatches.{ArgMatches}
 use Rattle.clap.proofs.OnLiterals.{clap_on_literals}
 use Rattle.prefix_keys.specs.Text.{AddressOf}
-use Rattle.flowlabel.specs.Request.{Text}
+use Rattle.flowlabel.specs.Request.{Request, Text}
 use Rattle.flowlabel.specs.Definition.{flowlabel_app}
-use Rattle.flowlabel.specs.Answer.{IsAnswer, IsFaultAt, IsFaultOfKind, IsOwnAnswer, SaysOnly, address_in_rows, answer_of, answer_of_label, is_help, is_mistake, label_answer}
+use Rattle.flowlabel.specs.Answer.{Answer, Answers, IsAnswer, IsFaultAt, IsFaultOfKind, IsOwnAnswer, IsOwnFault, SaysOnly, address_in_rows, answer_of, answer_of_label, is_help, is_mistake, label_answer}
 use Rattle.flowlabel.specs.declared.command.Command.{Command}
 use Rattle.flowlabel.specs.declared.usage.UsageFault.{UsageFault}
-use Rattle.flowlabel.specs.declared.usage.UsageFault.TheVariants.{Refused, Help, MapMissing, BadAddress, NoMemory}
+use Rattle.flowlabel.specs.declared.usage.UsageFault.TheVariants.{Refused, NotUtf8, Help, MapMissing, BadAddress, NoMemory}
 
 -- the definition is one of those that clap's theorems are about
 pub flowlabel_is_simple : is_simple flowlabel_app ≡ true
@@ -45,22 +45,30 @@ fault_at words k (Help text) (inl e) h =
     let bad : false ≡ true = rw e at h in
     cc
 fault_at words k (Help text) (inr among) h = among_passes is_help k _ among h
+fault_at words k NotUtf8 from h = absurd h
 fault_at words k MapMissing from h = absurd h
 fault_at words k BadAddress from h = absurd h
 fault_at words k NoMemory from h = tt
 
--- the label command answers by no refusal of clap's, no help and no want of memory
-label_faults : (words : List Text) (map : Option Text) (address : Option AddressOf) (f : UsageFault) → label_answer map address ≡ Err f
-    → (fault_of flowlabel_app words ≡ []) → (option_map answer_of (subcommand_of flowlabel_app words) ≡ Some (Err f)) → IsFaultAt words f
-label_faults words map address MapMissing e none own = (none, own)
-label_faults words map address BadAddress e none own = (none, own)
-label_faults words map address NoMemory e none own = tt
-label_faults words None address (Refused text) e none own = cc
-label_faults words (Some map) None (Refused text) e none own = cc
-label_faults words (Some map) (Some address) (Refused text) e none own = cc
-label_faults words None address (Help text) e none own = cc
-label_faults words (Some map) None (Help text) e none own = cc
-label_faults words (Some map) (Some address) (Help text) e none own = cc
+-- a fault of the program's own that is the answer to the words comes of them
+fault_of_answer : (words : List Text) (f : UsageFault) → IsOwnFault f → Answers words (Err f) → IsFaultAt words f
+fault_of_answer words (Refused text) own is = absurd own
+fault_of_answer words NotUtf8 own is = absurd own
+fault_of_answer words (Help text) own is = absurd own
+fault_of_answer words MapMissing own is = is
+fault_of_answer words BadAddress own is = is
+fault_of_answer words NoMemory own is = tt
+
+-- the label command answers by no refusal of clap's and no help
+pub label_own : (map : Option Text) (address : Option AddressOf) → IsOwnAnswer (label_answer map address)
+label_own None address = tt
+label_own (Some map) None = tt
+label_own (Some map) (Some address) = tt
+
+-- and so does a result that says the same
+pub own : (answer : Answer) (r : Result Command UsageFault) → IsOwnAnswer answer → SaysOnly answer r → IsOwnAnswer r
+own answer (Ok command) is says = tt
+own answer (Err fault) is says = rw says at is
 
 -- a pair in an option, by its parts
 pair_is : {A B : Type 0} (o : Option (A × B)) (a : A) (b : B) → option_map (λ p. p.0) o ≡ Some a → option_map (λ p. p.1) o ≡ Some b → o ≡ Some (a, b)
@@ -80,29 +88,19 @@ subcommand_is m name rows e f = pair_is (subcommand_rows_of m) name rows (map_tw
 pub answers : (words : List Text) (p : Text × List Row) (r : Result Command UsageFault) → fault_of flowlabel_app words ≡ []
     → subcommand_of flowlabel_app words ≡ Some p → SaysOnly (answer_of p) r → IsAnswer words r
 answers words p (Ok command) none found says = (none, ap (option_map answer_of) found ∙ ap Some says)
-answers words p (Err fault) none found says = label_faults words _ _ fault says none (ap (option_map answer_of) found ∙ ap Some says)
-
--- such an answer is no refusal of clap's and no help
-pub own : (map : Option Text) (address : Option AddressOf) (r : Result Command UsageFault) → SaysOnly (label_answer map address) r → IsOwnAnswer r
-own map address (Ok command) says = tt
-own map address (Err MapMissing) says = tt
-own map address (Err BadAddress) says = tt
-own map address (Err NoMemory) says = tt
-own None address (Err (Refused text)) says = cc
-own (Some map) None (Err (Refused text)) says = cc
-own (Some map) (Some address) (Err (Refused text)) says = cc
-own None address (Err (Help text)) says = cc
-own (Some map) None (Err (Help text)) says = cc
-own (Some map) (Some address) (Err (Help text)) says = cc
+answers words p (Err fault) none found says =
+    let own_fault : IsOwnFault fault = own (answer_of p) (Err fault) (label_own _ _) says in
+    fault_of_answer words fault own_fault (none, ap (option_map answer_of) found ∙ ap Some says)
 
 -- a fault that comes of want of memory is no refusal of clap's and no help
-pub own_of_memory : (k : ErrorKind) (f : UsageFault) → k ≡ kind.OutOfMemory → IsFaultOfKind k f → IsOwnAnswer (Err f)
+pub own_of_memory : (k : ErrorKind) (f : UsageFault) → k ≡ kind.OutOfMemory → IsFaultOfKind k f → IsOwnFault f
 own_of_memory k (Refused text) e h =
     let bad : false ≡ true = rw e at h in
     cc
 own_of_memory k (Help text) e h =
     let bad : false ≡ true = rw e at h in
     cc
+own_of_memory k NotUtf8 e h = absurd h
 own_of_memory k MapMissing e h = tt
 own_of_memory k BadAddress e h = tt
 own_of_memory k NoMemory e h = tt

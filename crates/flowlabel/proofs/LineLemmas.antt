@@ -9,7 +9,7 @@ use Rattle.flowlabel.specs.Definition.{flowlabel_app}
 use Rattle.flowlabel.specs.Answer.{Answer, Answers, IsAnswer, IsUnlessMemory, ReadsBareLine, ReadsMapLine, is_plain_word, label_answer, own_answer}
 use Rattle.flowlabel.specs.declared.command.Command.{Command}
 use Rattle.flowlabel.specs.declared.usage.UsageFault.{UsageFault}
-use Rattle.flowlabel.specs.declared.usage.UsageFault.TheVariants.{Refused, Help, MapMissing, BadAddress, NoMemory}
+use Rattle.flowlabel.specs.declared.usage.UsageFault.TheVariants.{Refused, NotUtf8, Help, MapMissing, BadAddress, NoMemory}
 
 not_true : (b : Bool) → not b ≡ true → b ≡ false
 not_true true e = sym e
@@ -24,6 +24,7 @@ own_only words answer (Ok command) own is = ap (λ (o : Option Answer). unwrap_o
 own_only words answer (Err MapMissing) own is = ap (λ (o : Option Answer). unwrap_or o answer) (sym own.1 ∙ is.1)
 own_only words answer (Err BadAddress) own is = ap (λ (o : Option Answer). unwrap_or o answer) (sym own.1 ∙ is.1)
 own_only words answer (Err NoMemory) own is = tt
+own_only words answer (Err NotUtf8) own is = absurd is
 own_only words answer (Err (Refused text)) own is =
     let bad : false ≡ true = rw own.0 at is in
     cc

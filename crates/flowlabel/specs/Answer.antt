@@ -1,5 +1,7 @@
 use Rattle.std.specs.Prelude.{◌≡◌, ◌==◌, Bool, not, true, false, List, [], ◌∷◌, Option, Some, None, Result, Ok, Err, codes, option_and_then, option_map}
 use Rattle.std.specs.List.{list_any}
+use Rattle.std.specs.declared.io.ErrorKind.TheVariants as io
+use Rattle.std.specs.declared.io.ErrorKind.{ErrorKind as IoErrorKind}
 use Rattle.prefix_keys.specs.Text.{AddressOf, address_of}
 use Rattle.clap.specs.Words.{Row, fault_of, first_of, subcommand_of}
 use Rattle.clap.specs.declared.error.kind.ErrorKind.{ErrorKind}
@@ -8,7 +10,7 @@ use Rattle.flowlabel.specs.Definition.{flowlabel_app}
 use Rattle.flowlabel.specs.Request.{Request, Text, label, request_of}
 use Rattle.flowlabel.specs.declared.command.Command.{Command}
 use Rattle.flowlabel.specs.declared.usage.UsageFault.{UsageFault}
-use Rattle.flowlabel.specs.declared.usage.UsageFault.TheVariants.{Refused, Help, MapMissing, BadAddress, NoMemory}
+use Rattle.flowlabel.specs.declared.usage.UsageFault.TheVariants.{Refused, NotUtf8, Help, MapMissing, BadAddress, NoMemory}
 
 -- What a command line is answered with.
 
@@ -58,9 +60,10 @@ abbrev pub Answers : List Text → Answer → Type 0
 Answers words answer = (fault_of flowlabel_app words ≡ []) × (own_answer words ≡ Some answer)
 
 -- what a fault says of the words: a refusal of clap's and its help come where it refuses the words so, and a
--- fault of the program's own where clap takes them
+-- fault of the program's own where clap takes them; the words are texts
 abbrev pub IsFaultAt : List Text → UsageFault → Type 0
 IsFaultAt words (Refused text) = list_any is_mistake (fault_of flowlabel_app words) ≡ true
+IsFaultAt words NotUtf8 = ⊥
 IsFaultAt words (Help text) = list_any is_help (fault_of flowlabel_app words) ≡ true
 IsFaultAt words MapMissing = Answers words (Err MapMissing)
 IsFaultAt words BadAddress = Answers words (Err BadAddress)
@@ -71,11 +74,19 @@ abbrev pub IsAnswer : List Text → Result Command UsageFault → Type 0
 IsAnswer words (Ok command) = Answers words (Ok (request_of command))
 IsAnswer words (Err fault) = IsFaultAt words fault
 
--- the result is no refusal of clap's and no help
-abbrev pub IsOwnAnswer : Result Command UsageFault → Type 0
-IsOwnAnswer (Err (Refused text)) = ⊥
-IsOwnAnswer (Err (Help text)) = ⊥
-IsOwnAnswer result = Unit {0}
+-- the fault is no refusal of clap's and no help
+abbrev pub IsOwnFault : UsageFault → Type 0
+IsOwnFault (Refused text) = ⊥
+IsOwnFault NotUtf8 = ⊥
+IsOwnFault (Help text) = ⊥
+IsOwnFault MapMissing = Unit {0}
+IsOwnFault BadAddress = Unit {0}
+IsOwnFault NoMemory = Unit {0}
+
+-- the result is no such fault
+abbrev pub IsOwnAnswer : {A : Type 0} → Result A UsageFault → Type 0
+IsOwnAnswer (Ok command) = Unit {0}
+IsOwnAnswer (Err fault) = IsOwnFault fault
 
 -- memory aside, the result is this answer
 abbrev pub IsUnlessMemory : Answer → Result Command UsageFault → Type 0
@@ -101,7 +112,14 @@ ReadsBareLine words result = (program address : Text) → is_plain_word address 
 -- the fault comes of an error of this kind
 abbrev pub IsFaultOfKind : ErrorKind → UsageFault → Type 0
 IsFaultOfKind k (Refused text) = is_mistake k ≡ true
+IsFaultOfKind k NotUtf8 = ⊥
 IsFaultOfKind k (Help text) = is_help k ≡ true
 IsFaultOfKind k MapMissing = ⊥
 IsFaultOfKind k BadAddress = ⊥
 IsFaultOfKind k NoMemory = Unit {0}
+
+-- the fault of a command line whose words can't be had, by the kind of the system's error: one of them is no text, or
+-- memory ran out
+abbrev pub words_fault_of : IoErrorKind → UsageFault
+words_fault_of io.InvalidData = NotUtf8
+words_fault_of k = NoMemory

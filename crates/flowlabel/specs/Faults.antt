@@ -1,4 +1,4 @@
-use Rattle.std.specs.Prelude.{ℕ, Bool, true, false, List, [], ◌++◌, codes, decimal, if◌then◌else◌}
+use Rattle.std.specs.Prelude.{ℕ, Bool, true, false, List, [], ◌++◌, Result, Ok, Err, codes, decimal, if◌then◌else◌}
 use Rattle.pmap_text.specs.declared.fault.MapFault.{MapFault}
 use Rattle.pmap_text.specs.declared.fault.MapFaultKind.{MapFaultKind}
 use Rattle.pmap_text.specs.declared.fault.MapFaultKind.TheVariants as kind
@@ -7,7 +7,7 @@ use Rattle.flowlabel.specs.declared.fault.RunFault.TheVariants.{Usage, CannotOpe
 use Rattle.flowlabel.specs.declared.usage.UsageFault.{UsageFault}
 use Rattle.flowlabel.specs.declared.usage.UsageFault.TheVariants as usage
 
--- What is printed for a fault on standard error, and the status that the program ends with.
+-- What is printed for a fault, and the status that the program ends with.
 
 -- the code and the name of a fault of a map text or a list text
 abbrev pub map_fault_text : MapFaultKind → List ℕ
@@ -47,6 +47,7 @@ map_fault_line_text file fault =
 
 abbrev pub usage_fault_text : UsageFault → List ℕ
 usage_fault_text (usage.Refused text) = text
+usage_fault_text usage.NotUtf8 = codes "flowlabel: usage: P1 NotUtf8\n"
 usage_fault_text (usage.Help text) = []
 usage_fault_text usage.MapMissing = codes "flowlabel: usage: P2 MapMissing\n"
 usage_fault_text usage.BadAddress = codes "flowlabel: usage: P4 BadAddress\n"
@@ -60,8 +61,14 @@ fault_text CannotWrite = codes "flowlabel: output: cannot write\n"
 fault_text NoMemory = out_of_memory
 fault_text (Map file fault) = map_fault_line_text file.now fault
 
+-- what is printed on standard output: the text of help, and nothing for a fault
+abbrev pub help_text_of : RunFault → List ℕ
+help_text_of (Usage (usage.Help text)) = text
+help_text_of fault = []
+
 abbrev pub usage_status_of : UsageFault → ℕ
 usage_status_of (usage.Refused text) = 2
+usage_status_of usage.NotUtf8 = 2
 usage_status_of (usage.Help text) = 0
 usage_status_of usage.MapMissing = 2
 usage_status_of usage.BadAddress = 2
@@ -74,3 +81,8 @@ status_of (CannotRead file) = 4
 status_of CannotWrite = 4
 status_of NoMemory = 3
 status_of (Map file fault) = if is_want_of_memory fault.kind then 3 else 1
+
+-- the status of a run that ended so
+abbrev pub exit_status_of : {A : Type 0} → Result A RunFault → ℕ
+exit_status_of (Ok done) = 0
+exit_status_of (Err fault) = status_of fault

@@ -5,3 +5,4 @@ pub mod Loops
 pub mod Faults
 pub mod Output
 pub mod Run
+pub mod Opening

@@ -1,6 +1,6 @@
 ghost use Rattle.std.specs.Prelude.{◌≡◌, IfOk};
 ghost use Rattle.std.specs.String.{string_bytes};
-ghost use Rattle.flowlabel.specs.Faults.{fault_text, map_fault_line_text, map_fault_text, place_text, status_of, usage_fault_text, usage_status_of};
+ghost use Rattle.flowlabel.specs.Faults.{exit_status_of, fault_text, help_text_of, map_fault_line_text, map_fault_text, place_text, status_of, usage_fault_text, usage_status_of};
 
 use crate::usage::UsageFault;
 use pmap_text::{MapFault, MapFaultKind};
@@ -51,6 +51,7 @@ fn usage_line(alloc: Global, fault: &UsageFault) -> Result<String, AllocError>
 {
     match fault {
         UsageFault::Refused(text) => String::from_str(alloc, text.as_str()),
+        UsageFault::NotUtf8 => String::from_str(alloc, "flowlabel: usage: P1 NotUtf8\n"),
         UsageFault::Help(_) => String::from_str(alloc, ""),
         UsageFault::MapMissing => String::from_str(alloc, "flowlabel: usage: P2 MapMissing\n"),
         UsageFault::BadAddress => String::from_str(alloc, "flowlabel: usage: P4 BadAddress\n"),
@@ -94,13 +95,26 @@ pub fn fault_line(alloc: Global, fault: &RunFault<'_>) -> Result<Vec<u8>, AllocE
     Ok(text_of_fault(alloc, fault)?.into_bytes())
 }
 
+/// The text for standard output: clap's where it was asked for help, and none for any other fault.
+pub fn help_text<'f>(fault: &'f RunFault<'_>) -> &'f str
+    ensures { result.now ≡ help_text_of fault.now }
+{
+    match fault {
+        RunFault::Usage(UsageFault::Help(text)) => text.as_str(),
+        _ => "",
+    }
+}
+
 fn usage_status(fault: &UsageFault) -> u8
     ensures { result ≡ usage_status_of fault.now }
 {
     match fault {
         UsageFault::Help(_) => 0,
         UsageFault::NoMemory => 3,
-        UsageFault::Refused(_) | UsageFault::MapMissing | UsageFault::BadAddress => 2,
+        UsageFault::Refused(_)
+        | UsageFault::NotUtf8
+        | UsageFault::MapMissing
+        | UsageFault::BadAddress => 2,
     }
 }
 
@@ -120,6 +134,16 @@ pub fn status(fault: &RunFault<'_>) -> u8
                 1
             }
         }
+    }
+}
+
+/// The exit status of a run that ended so: 0 where it is done, else that of its fault.
+pub fn exit_status(outcome: &Result<(), RunFault<'_>>) -> u8
+    ensures { result ≡ exit_status_of outcome.now }
+{
+    match outcome {
+        Ok(()) => 0,
+        Err(fault) => status(fault),
     }
 }
 

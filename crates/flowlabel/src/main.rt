@@ -1,81 +1,55 @@
 //! `flowlabel`: labels addresses from a prefix map.
 //!
-//! It stands on all the other crates: `parse` reads the command line (clap takes the words apart), `run` reads the
-//! files, makes the whole output and then writes it, and `main` opens the files and hands them in. What may be relied
-//! on is the contract of `run`: the bytes written are a stated function of the bytes read, a fault is the first one of
-//! those bytes, nothing is written on any fault but a write fault, and device faults come exactly from failed devices.
-//! What `main` itself does, opening files and ending with a status, is shown by a stored run and not proved.
+//! It stands on all the other crates: `parse` reads the command line (clap takes the words apart), `open_all` opens the
+//! files that it names, and `run` reads them, makes the whole output and then writes it. What may be relied on is the
+//! contract of `run`: the bytes written are a stated function of the bytes read, a fault is the first one of those
+//! bytes, nothing is written on any fault but a write fault, and device faults come exactly from failed devices.
+//! `main` joins them and has no choice of its own: which fault the words have, which file is named and which status ends
+//! the program stand in contracts. That the streams are not mixed up is shown by running the program.
 #![tactic(auto)]
 
-ghost use Rattle.std.specs.Prelude.{◌≡◌, false, is_some, IfOk};
-ghost use Rattle.flowlabel.specs.Request.{NamesNeeds};
-ghost use Rattle.flowlabel.specs.Run.{AreNeeded, any_failed, source_failed};
-ghost use Rattle.flowlabel.specs.declared.command.Needs.{Needs};
+ghost use Rattle.std.specs.Prelude.{◌≡◌};
+ghost use Rattle.clap.specs.Walk.{texts};
+ghost use Rattle.flowlabel.specs.Faults.{exit_status_of};
+ghost use Rattle.flowlabel.specs.Opening.{IsEndOf};
 
 pub mod command;
 pub mod definition;
 pub mod fault;
 pub mod inputs;
+pub mod opening;
 pub mod reading;
 pub mod run;
 pub mod usage;
 pub mod words;
 pub mod writing;
 
-use command::{Command, Files};
-use fault::{RunFault, fault_line, status};
+use fault::{RunFault, exit_status, fault_line, help_text};
 use flow_io::Watched;
-use inputs::{Inputs, Source};
+use opening::open_all;
 use run::run;
-use std::alloc::Global;
-use std::fs::File;
+use std::alloc::AllocError;
+use std::env;
 use std::io::Write;
 use std::process::ExitCode;
-use std::rt::Files as FileSystem;
-use std::{env, io};
 use usage::UsageFault;
-use words::parse;
+use words::{parse, words_fault};
 
 #[cfg(test)]
 mod tests;
 
-type FileSource<'a> = Source<'a, Watched<File>>;
-
-// Opens a file, where one is named.
-fn open<'a>(rt: &HostRuntime, name: Option<&'a str>) -> Result<Option<FileSource<'a>>, RunFault<'a>>
-    ensures named { IfOk result (λ source. is_some source ≡ is_some name.entry) }
-    ensures fresh { IfOk result (λ source. source_failed (λ watched. watched.failed) source ≡ false) }
-{
-    let Some(name) = name else {
-        return Ok(None);
-    };
-    match File::open(rt, name) {
-        Ok(file) => Ok(Some(Source {
-            name,
-            reader: Watched::new(file),
-        })),
-        Err(_) => Err(RunFault::CannotOpen(name)),
+// The words of the command line, of which the first is the program's name.
+fn arguments(rt: &HostRuntime) -> Result<Vec<String>, UsageFault> {
+    match env::args(rt) {
+        Ok(words) => Ok(words.collect(rt.alloc())?),
+        Err(error) => Err(words_fault(error.kind())),
     }
 }
 
-// Opens the files that a command reads, in their order, before any of them is read.
-fn open_all<'a>(
-    rt: &HostRuntime,
-    files: Files<'a>,
-) -> Result<Inputs<'a, Watched<File>>, RunFault<'a>>
-    ensures named { (needs : Needs) → NamesNeeds needs files.entry → IfOk result (AreNeeded needs) }
-    ensures fresh { IfOk result (λ inputs. any_failed (λ watched. watched.failed) inputs ≡ false) }
-{
-    Ok(Inputs {
-        map: open(rt, files.map)?,
-        list: open(rt, files.list)?,
-        certificate: open(rt, files.certificate)?,
-        flows: open(rt, files.flows)?,
-    })
-}
-
 // What a command line asks for, carried out.
-fn execute<'a>(rt: &HostRuntime, words: &'a [&'a str]) -> Result<(), RunFault<'a>> {
+fn execute<'a>(rt: &HostRuntime, words: &'a [&'a str]) -> Result<(), RunFault<'a>>
+    ensures { IsEndOf (texts words.entry.now) result }
+{
     let command = match parse(rt.alloc(), words) {
         Ok(command) => command,
         Err(fault) => return Err(RunFault::Usage(fault)),
@@ -85,37 +59,38 @@ fn execute<'a>(rt: &HostRuntime, words: &'a [&'a str]) -> Result<(), RunFault<'a
     run(rt.alloc(), &command, &mut inputs, &mut output)
 }
 
-// Help goes to standard output, and the line of a fault to standard error. Where the line finds no memory, or standard
-// error fails, the status stands.
+// Help goes to standard output, and the line of a fault to standard error. Where the line finds no memory, or a stream
+// fails, the status stands.
 fn report(rt: &HostRuntime, fault: &RunFault<'_>) {
-    if let RunFault::Usage(UsageFault::Help(text)) = fault {
-        let _ = rt.print(text.as_str());
-    }
+    let _ = rt.print(help_text(fault));
     if let Ok(line) = fault_line(rt.alloc(), fault) {
         let _ = rt.stderr().write_all(line.as_slice());
     }
 }
 
-fn main(rt: HostRuntime) -> ExitCode {
-    let Ok(arguments) = env::args(&rt) else {
-        return ExitCode::from(3);
-    };
-    let alloc = rt.alloc();
-    let Ok(words) = arguments.collect::<Vec<String>>(alloc) else {
-        return ExitCode::from(3);
-    };
-    let Ok(words) = words
-        .iter()
-        .map(|word| word.as_str())
-        .collect::<Vec<&str>>(alloc)
-    else {
-        return ExitCode::from(3);
-    };
-    match execute(&rt, words.as_slice()) {
-        Ok(()) => ExitCode::SUCCESS,
-        Err(fault) => {
-            report(&rt, &fault);
-            ExitCode::from(status(&fault))
-        }
+// Tells the fault that ended the program, and gives the exit status.
+fn ended(rt: &HostRuntime, outcome: &Result<(), RunFault<'_>>) -> u8
+    ensures { result ≡ exit_status_of outcome.now }
+{
+    if let Err(fault) = outcome {
+        report(rt, fault);
     }
+    exit_status(outcome)
+}
+
+// Carries out the command line and gives the exit status.
+fn answer(rt: &HostRuntime) -> u8 {
+    let arguments = match arguments(rt) {
+        Ok(arguments) => arguments,
+        Err(fault) => return ended(rt, &Err(RunFault::Usage(fault))),
+    };
+    let words = arguments.iter().map(|word| word.as_str());
+    match words.collect::<Vec<&str>>(rt.alloc()) {
+        Ok(words) => ended(rt, &execute(rt, words.as_slice())),
+        Err(AllocError) => ended(rt, &Err(RunFault::NoMemory)),
+    }
+}
+
+fn main(rt: HostRuntime) -> ExitCode {
+    ExitCode::from(answer(&rt))
 }

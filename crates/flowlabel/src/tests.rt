@@ -10,6 +10,7 @@ fn outcome(alloc: Global, line: &str) -> Result<&'static str, AllocError> {
     Ok(match parse(alloc, words.as_slice()) {
         Ok(Command::Label { .. }) => "label",
         Err(UsageFault::Refused(_)) => "refused",
+        Err(UsageFault::NotUtf8) => "P1",
         Err(UsageFault::Help(_)) => "help",
         Err(UsageFault::MapMissing) => "P2",
         Err(UsageFault::BadAddress) => "P4",

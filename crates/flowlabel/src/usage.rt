@@ -50,6 +50,9 @@ pub enum UsageFault {
     /// P1: clap refuses the line, and says why.
     #[error("{0}")]
     Refused(ClapText),
+    /// P1 as well: a word of the line is no text, as its bytes aren't UTF-8.
+    #[error("P1 NotUtf8")]
+    NotUtf8,
     /// The line asks for help, which is this text.
     #[error("{0}")]
     Help(ClapText),

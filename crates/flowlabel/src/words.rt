@@ -2,7 +2,7 @@ ghost use Rattle.std.specs.Prelude.{◌≡◌, option_map, true};
 ghost use Rattle.clap.specs.Words.{first_of, found_of, kind_of, rows_of, takes};
 ghost use Rattle.clap.specs.Walk.{texts};
 ghost use Rattle.flowlabel.specs.Definition.{flowlabel_app};
-ghost use Rattle.flowlabel.specs.Answer.{IsAnswer, IsFaultOfKind, IsOwnAnswer, ReadsBareLine, ReadsMapLine, SaysOnly, address_in_rows, answer_of_label};
+ghost use Rattle.flowlabel.specs.Answer.{IsAnswer, IsFaultOfKind, IsOwnAnswer, ReadsBareLine, ReadsMapLine, SaysOnly, address_in_rows, answer_of_label, words_fault_of};
 
 use crate::command::Command;
 use crate::definition::definition;
@@ -11,6 +11,7 @@ use clap::ArgMatches;
 use clap::error::ErrorKind;
 use prefix_keys::{Addr, read_addr};
 use std::alloc::Global;
+use std::io;
 
 /// The fault that an error of clap's is to the user, with its text.
 fn fault_of_error(alloc: Global, error: &clap::Error) -> UsageFault
@@ -59,6 +60,17 @@ fn label_command<'a>(entries: &ArgMatches<'a>) -> Result<Command<'a>, UsageFault
         return Err(UsageFault::BadAddress);
     };
     Ok(Command::Label { map, addr })
+}
+
+/// The fault of a command line whose words can't be had, by the kind of the error: one of them is no text, or memory ran
+/// out.
+pub fn words_fault(kind: io::ErrorKind) -> UsageFault
+    ensures { result ≡ words_fault_of kind }
+{
+    match kind {
+        io::ErrorKind::InvalidData => UsageFault::NotUtf8,
+        _ => UsageFault::NoMemory,
+    }
 }
 
 /// Reads a command line, of which the first word is the program's name.

@@ -36,47 +36,90 @@ mod tests {
     use super::*;
     use flow_io::{MemoryOutput, Watched};
     use std::fs::File;
+    use std::process::Abort;
     use std::test::Fail;
+
+    // Writing these bytes answers so, and this is what the writer has taken then.
+    fn writes<const N: usize>(
+        rt: &impl Abort,
+        writer: &mut MemoryOutput<N>,
+        bytes: &str,
+        is_whole: bool,
+        taken: &str,
+    )
+        requires { writer.old.failed ≡ false }
+    {
+        let answer = write_whole(writer, bytes.as_bytes());
+        assert!(rt; answer.is_ok() == is_whole, "{bytes}");
+        assert!(rt; writer.taken() == taken.as_bytes(), "{taken}");
+    }
 
     #[test]
     fn writes_until_a_fault(rt: HostRuntime) {
-        let table = [
-            // The failing call, whether it answers 0, the answer, and the bytes taken.
-            (None, false, Ok(()), "abc"),
-            (Some(1), false, Err(WriteFault), ""),
-            (Some(3), false, Err(WriteFault), "ab"),
-            (Some(3), true, Err(WriteFault), "ab"),
-            // The flush.
-            (Some(4), true, Err(WriteFault), "abc"),
-            (Some(5), true, Ok(()), "abc"),
-        ];
-        for (fail_at, zero, answer, taken) in table {
-            let mut writer = MemoryOutput::<3>::new(1, fail_at, zero);
-            assert_eq!(rt; write_whole(&mut writer, b"abc"), answer, "{fail_at:?}");
-            assert_eq!(rt; writer.taken(), taken.as_bytes(), "{fail_at:?}");
+        for (call, taken) in [(1, ""), (3, "ab"), (4, "abc")] {
+            writes(
+                &rt,
+                &mut MemoryOutput::<3>::new(1, Some(call), false),
+                "abc",
+                false,
+                taken,
+            );
         }
+        // The third write answers 0; the fourth call is the flush.
+        writes(
+            &rt,
+            &mut MemoryOutput::<3>::new(1, Some(3), true),
+            "abc",
+            false,
+            "ab",
+        );
+        writes(
+            &rt,
+            &mut MemoryOutput::<3>::new(1, Some(4), true),
+            "abc",
+            false,
+            "abc",
+        );
+        writes(
+            &rt,
+            &mut MemoryOutput::<3>::new(1, Some(5), true),
+            "abc",
+            true,
+            "abc",
+        );
+        writes(
+            &rt,
+            &mut MemoryOutput::<3>::new(1, None, false),
+            "abc",
+            true,
+            "abc",
+        );
     }
 
     #[test]
     fn flushes_once_and_fails_when_full(rt: HostRuntime) {
         let mut writer = MemoryOutput::<2>::new(9, Some(2), false);
-        assert_eq!(rt; write_whole(&mut writer, b""), Ok(()));
-        assert_eq!(rt; write_whole(&mut writer, b""), Err(WriteFault));
-        let mut writer = MemoryOutput::<2>::new(9, None, false);
-        assert_eq!(rt; write_whole(&mut writer, b"abc"), Err(WriteFault));
-        assert_eq!(rt; writer.taken(), b"ab".as_slice());
+        assert!(rt; write_whole(&mut writer, b"").is_ok());
+        assert!(rt; write_whole(&mut writer, b"").is_err());
+        writes(
+            &rt,
+            &mut MemoryOutput::<2>::new(9, None, false),
+            "abc",
+            false,
+            "ab",
+        );
     }
 
     #[test]
     fn writes_to_the_terminal(rt: HostRuntime) {
         let mut writer = Watched::new(rt.stdout());
-        assert_eq!(rt; write_whole(&mut writer, b"three words written\n"), Ok(()));
+        assert!(rt; write_whole(&mut writer, b"three words written\n").is_ok());
     }
 
     #[test]
     fn meets_a_full_device(rt: HostRuntime) -> Result<(), Fail> {
         let mut writer = Watched::new(File::create(&rt, "/dev/full")?);
-        assert_eq!(rt; write_whole(&mut writer, b"abc"), Err(WriteFault));
+        assert!(rt; write_whole(&mut writer, b"abc").is_err());
         Ok(())
     }
 }

@@ -58,6 +58,7 @@ fn tells_usage_faults(rt: HostRuntime) -> Result<(), Fail> {
     for (fault, ended, line) in [
         (UsageFault::Help(help), 0, ""),
         (UsageFault::Refused(refusal), 2, refused),
+        (UsageFault::NotUtf8, 2, "flowlabel: usage: P1 NotUtf8\n"),
         (
             UsageFault::MapMissing,
             2,

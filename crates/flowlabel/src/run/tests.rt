@@ -17,11 +17,11 @@ const MAP: &str = "10.0.0.0/8 A\n10.0.0.0/7 B\n";
 
 const NUMBERS: &str = "label 5 red\n1.0.0.0/8 5\n2.0.0.0/8 6\n";
 
-const CANNOT_READ: &[u8] = b"flowlabel: map.txt: cannot read\n";
+const LABEL: &str = "flowlabel label --pmap map.txt 10.1.1.1";
 
-const CANNOT_WRITE: &[u8] = b"flowlabel: output: cannot write\n";
+const CANNOT_READ: &str = "flowlabel: map.txt: cannot read\n";
 
-const OUT_OF_MEMORY: &[u8] = b"flowlabel: out of memory\n";
+const CANNOT_WRITE: &str = "flowlabel: output: cannot write\n";
 
 // The reader under its name, where one is named.
 fn named<'a>(name: Option<&'a str>, reader: MemoryInput<'a>) -> Option<MemorySource<'a>>
@@ -84,78 +84,134 @@ fn end_of<'a, const N: usize>(
     }
 }
 
-// Addresses, map texts, and what `label` prints for the address under the map.
-const LABELS: [(&str, &str, &str); 9] = [
-    ("10.1.1.1", MAP, "B\n"),
-    ("12.0.0.0", MAP, "UNKNOWN\n"),
-    ("1.2.3.4", "", "UNKNOWN\n"),
-    // An address of the other version counts by its place among the mapped addresses.
-    ("2001:db8::1", MAP, "\n"),
-    ("::ffff:a01:101", MAP, "B\n"),
-    ("10.1.2.3", "mode ipv6\n10.0.0.0/8 In\n", "In\n"),
-    ("255.255.255.254", "255.255.255.255 X\n", "UNKNOWN\n"),
-    // A declared number means its text, and any other is a text.
-    ("1.2.3.4", NUMBERS, "red\n"),
-    ("2.0.0.1", NUMBERS, "6\n"),
-];
+// What an end is compared with: the status, the line on standard error, and the output.
+type Wanted<'a> = (u8, &'a str, &'a str);
 
+fn is_wanted(rt: &impl Abort, ended: u8, told: &[u8], printed: &[u8], wanted: Wanted<'_>) {
+    let (status, line, output) = wanted;
+    assert!(rt; ended == status, "status {ended}, not {status}");
+    assert!(rt; told == line.as_bytes(), "not told: {line}");
+    assert!(rt; printed == output.as_bytes(), "not printed: {output}");
+}
+
+// Such a command line ends so over a reader of the map and a writer in memory.
+fn ends<const N: usize>(
+    rt: &impl Abort,
+    alloc: Global,
+    line: &str,
+    map: MemoryInput<'_>,
+    mut writer: MemoryOutput<N>,
+    wanted: Wanted<'_>,
+) -> Result<(), Fail>
+    requires reader { map.failed ≡ false }
+    requires writer { writer.failed ≡ false }
+{
+    let (ended, told) = end_of(alloc, line, map, &mut writer)?;
+    is_wanted(rt, ended, told.as_slice(), writer.taken(), wanted);
+    Ok(())
+}
+
+// The same where nothing fails.
+fn ends_over(
+    rt: &impl Abort,
+    alloc: Global,
+    line: &str,
+    map: &str,
+    wanted: Wanted<'_>,
+) -> Result<(), Fail> {
+    let reader = MemoryInput::new(map.as_bytes(), 64, None);
+    let writer = MemoryOutput::<64>::new(64, None, false);
+    ends(rt, alloc, line, reader, writer, wanted)
+}
+
+// What `label` prints for an address, under a map text.
 fn prints(
     rt: &impl Abort,
     alloc: Global,
-    address: &str,
-    map: &[u8],
+    line: &str,
+    map: &str,
     printed: &str,
 ) -> Result<(), Fail> {
-    let line = format!(in alloc; "flowlabel label --pmap map.txt {address}")?;
-    let reader = MemoryInput::new(map, 4096, None);
-    let mut writer = MemoryOutput::<64>::new(64, None, false);
-    let (ended, told) = end_of(alloc, line.as_str(), reader, &mut writer)?;
-    assert_eq!(rt; (ended, told.as_slice()), (0, b"".as_slice()), "{address}");
-    assert_eq!(rt; writer.taken(), printed.as_bytes(), "{address}");
-    Ok(())
+    ends_over(rt, alloc, line, map, (0, "", printed))
 }
 
 #[test]
 fn prints_the_label(rt: HostRuntime) -> Result<(), Fail> {
-    for (address, map, printed) in LABELS {
-        prints(&rt, rt.alloc(), address, map.as_bytes(), printed)?;
+    for (line, map, printed) in [
+        (LABEL, MAP, "B\n"),
+        ("flowlabel label --pmap map.txt 12.0.0.0", MAP, "UNKNOWN\n"),
+        ("flowlabel label --pmap map.txt 1.2.3.4", "", "UNKNOWN\n"),
+        // An address of the other version counts by its place among the mapped addresses.
+        ("flowlabel label --pmap map.txt 2001:db8::1", MAP, "\n"),
+        ("flowlabel label --pmap map.txt ::ffff:a01:101", MAP, "B\n"),
+        (
+            "flowlabel label --pmap map.txt 10.1.2.3",
+            "mode ipv6\n10.0.0.0/8 In\n",
+            "In\n",
+        ),
+        (
+            "flowlabel label --pmap map.txt 255.255.255.254",
+            "255.255.255.255 X\n",
+            "UNKNOWN\n",
+        ),
+        // A declared number means its text, and any other is a text.
+        ("flowlabel label --pmap map.txt 1.2.3.4", NUMBERS, "red\n"),
+        ("flowlabel label --pmap map.txt 2.0.0.1", NUMBERS, "6\n"),
+    ] {
+        prints(&rt, rt.alloc(), line, map, printed)?;
     }
     Ok(())
+}
+
+// The line that declares a number.
+fn declaration(alloc: Global, number: u32) -> Result<String, AllocError> {
+    format!(in alloc; "label {number} t{number}\n")
 }
 
 #[test]
 fn prints_the_label_under_a_full_table(rt: HostRuntime) -> Result<(), Fail> {
     let mut map = Vec::new(rt.alloc());
     for number in 1..65_536 {
-        let line = format!(in rt.alloc(); "label {number} t{number}\n")?;
-        map.extend_from_slice(line.as_bytes())?;
+        map.extend_from_slice(declaration(rt.alloc(), number)?.as_bytes())?;
     }
-    prints(&rt, rt.alloc(), "1.2.3.4", map.as_slice(), "UNKNOWN\n")
+    let reader = MemoryInput::new(map.as_slice(), 4096, None);
+    let writer = MemoryOutput::<64>::new(64, None, false);
+    ends(
+        &rt,
+        rt.alloc(),
+        "flowlabel label --pmap map.txt 1.2.3.4",
+        reader,
+        writer,
+        (0, "", "UNKNOWN\n"),
+    )
 }
 
 #[test]
 fn answers_the_first_fault_of_the_map(rt: HostRuntime) -> Result<(), Fail> {
-    let line = "flowlabel label --pmap map.txt 1.2.3.4";
     for (map, fault) in [
-        ("10.0.0.0/33 A\n", "M3 BadLength at 1"),
-        ("10.0.0/8 A\n", "M2 BadAddress at 1"),
-        ("10.0.0.0/8\n", "M6 MissingLabel at 1"),
-        ("colour x\n", "M1 BadStatement at 1"),
+        ("10.0.0.0/33 A\n", "flowlabel: map.txt: M3 BadLength at 1\n"),
+        ("10.0.0/8 A\n", "flowlabel: map.txt: M2 BadAddress at 1\n"),
+        ("10.0.0.0/8\n", "flowlabel: map.txt: M6 MissingLabel at 1\n"),
+        ("colour x\n", "flowlabel: map.txt: M1 BadStatement at 1\n"),
         (
             "10.0.0.0/8 A\n\ncolour x\n10.0.0/8 A\n",
-            "M1 BadStatement at 3",
+            "flowlabel: map.txt: M1 BadStatement at 3\n",
         ),
-        ("10.0.0.1 10.0.0.2\n", "M6 MissingLabel at 1"),
-        ("10.0.0.9 10.0.0.2 x\n", "M4 LowAboveHigh at 1"),
-        ("mode ipv4\n2001:db8::/32 x\n", "M5 WrongVersion at 2"),
-        ("mode proto-port\n", "M9 BadMode at 1"),
+        (
+            "10.0.0.1 10.0.0.2\n",
+            "flowlabel: map.txt: M6 MissingLabel at 1\n",
+        ),
+        (
+            "10.0.0.9 10.0.0.2 x\n",
+            "flowlabel: map.txt: M4 LowAboveHigh at 1\n",
+        ),
+        (
+            "mode ipv4\n2001:db8::/32 x\n",
+            "flowlabel: map.txt: M5 WrongVersion at 2\n",
+        ),
+        ("mode proto-port\n", "flowlabel: map.txt: M9 BadMode at 1\n"),
     ] {
-        let reader = MemoryInput::new(map.as_bytes(), 64, None);
-        let mut writer = MemoryOutput::<64>::new(64, None, false);
-        let (ended, told) = end_of(rt.alloc(), line, reader, &mut writer)?;
-        let want = format!(in rt.alloc(); "flowlabel: map.txt: {fault}\n")?;
-        assert_eq!(rt; (ended, told.as_slice()), (1, want.as_bytes()));
-        assert!(rt; writer.taken().is_empty(), "{fault}");
+        ends_over(&rt, rt.alloc(), LABEL, map, (1, fault, ""))?;
     }
     Ok(())
 }
@@ -163,50 +219,57 @@ fn answers_the_first_fault_of_the_map(rt: HostRuntime) -> Result<(), Fail> {
 #[test]
 fn answers_the_fault_of_the_line(rt: HostRuntime) -> Result<(), Fail> {
     for (line, fault) in [
-        ("label 10.1.1.1", "flowlabel: usage: P2 MapMissing\n"),
         (
-            "label --pmap map.txt 1.2.3",
+            "flowlabel label 10.1.1.1",
+            "flowlabel: usage: P2 MapMissing\n",
+        ),
+        (
+            "flowlabel label --pmap map.txt 1.2.3",
             "flowlabel: usage: P4 BadAddress\n",
         ),
-        // The text of this one is clap's.
-        ("info --colour flows", ""),
     ] {
-        let line = format!(in rt.alloc(); "flowlabel {line}")?;
-        let reader = MemoryInput::new(MAP.as_bytes(), 64, None);
-        let mut writer = MemoryOutput::<64>::new(64, None, false);
-        let (ended, told) = end_of(rt.alloc(), line.as_str(), reader, &mut writer)?;
-        assert_eq!(rt; ended, 2, "{line}");
-        assert!(rt;
-            !told.is_empty() && (fault.is_empty() || told.as_slice() == fault.as_bytes()),
-            "{line}"
-        );
-        assert!(rt; writer.taken().is_empty(), "{line}");
+        ends_over(&rt, rt.alloc(), line, MAP, (2, fault, ""))?;
     }
+    // The text of this fault is clap's.
+    let reader = MemoryInput::new(MAP.as_bytes(), 64, None);
+    let mut writer = MemoryOutput::<64>::new(64, None, false);
+    let (ended, told) = end_of(
+        rt.alloc(),
+        "flowlabel info --colour flows",
+        reader,
+        &mut writer,
+    )?;
+    assert!(rt; ended == 2 && !told.is_empty() && writer.taken().is_empty());
     Ok(())
 }
 
 #[test]
 fn answers_each_failing_read(rt: HostRuntime) -> Result<(), Fail> {
-    let line = "flowlabel label --pmap map.txt 10.1.1.1";
     // One read for each byte, and one that finds the end.
-    for call in 1..29u64 {
+    for call in 1..28u64 {
         let reader = MemoryInput::new(MAP.as_bytes(), 1, Some(call));
-        let mut writer = MemoryOutput::<64>::new(64, None, false);
-        let (ended, told) = end_of(rt.alloc(), line, reader, &mut writer)?;
-        let (status, fault, printed) = if call <= 27 {
-            (4, CANNOT_READ, "")
-        } else {
-            (0, b"".as_slice(), "B\n")
-        };
-        assert_eq!(rt; (ended, told.as_slice()), (status, fault), "read {call}");
-        assert_eq!(rt; writer.taken(), printed.as_bytes(), "read {call}");
+        let writer = MemoryOutput::<64>::new(64, None, false);
+        ends(&rt, rt.alloc(), LABEL, reader, writer, (4, CANNOT_READ, ""))?;
     }
-    Ok(())
+    let reader = MemoryInput::new(MAP.as_bytes(), 1, Some(28));
+    let writer = MemoryOutput::<64>::new(64, None, false);
+    ends(&rt, rt.alloc(), LABEL, reader, writer, (0, "", "B\n"))
+}
+
+// The label of an address that no mapping covers is written a byte a call, and this call fails: it answers an error,
+// and in a second run 0, where it is a write.
+fn ends_at_call(rt: &impl Abort, alloc: Global, call: u64, wanted: Wanted<'_>) -> Result<(), Fail> {
+    let line = "flowlabel label --pmap map.txt 12.0.0.0";
+    let reader = MemoryInput::new(MAP.as_bytes(), 64, None);
+    let writer = MemoryOutput::<64>::new(1, Some(call), false);
+    ends(rt, alloc, line, reader, writer, wanted)?;
+    let reader = MemoryInput::new(MAP.as_bytes(), 64, None);
+    let writer = MemoryOutput::<64>::new(1, Some(call), true);
+    ends(rt, alloc, line, reader, writer, wanted)
 }
 
 #[test]
 fn answers_each_failing_write(rt: HostRuntime) -> Result<(), Fail> {
-    let line = "flowlabel label --pmap map.txt 12.0.0.0";
     // The bytes taken before the failing call, of which the ninth is the flush.
     for (call, printed) in [
         (1, ""),
@@ -218,44 +281,37 @@ fn answers_each_failing_write(rt: HostRuntime) -> Result<(), Fail> {
         (7, "UNKNOW"),
         (8, "UNKNOWN"),
         (9, "UNKNOWN\n"),
-        (10, "UNKNOWN\n"),
     ] {
-        for zero in [false, true] {
-            let reader = MemoryInput::new(MAP.as_bytes(), 64, None);
-            let mut writer = MemoryOutput::<64>::new(1, Some(call), zero);
-            let (ended, told) = end_of(rt.alloc(), line, reader, &mut writer)?;
-            let (status, fault) = if call <= 9 {
-                (4, CANNOT_WRITE)
-            } else {
-                (0, b"".as_slice())
-            };
-            assert_eq!(rt; (ended, told.as_slice()), (status, fault), "write {call}");
-            assert_eq!(rt; writer.taken(), printed.as_bytes(), "write {call}");
-        }
+        ends_at_call(&rt, rt.alloc(), call, (4, CANNOT_WRITE, printed))?;
     }
+    ends_at_call(&rt, rt.alloc(), 10, (0, "", "UNKNOWN\n"))
+}
+
+#[test]
+fn answers_a_full_writer(rt: HostRuntime) -> Result<(), Fail> {
+    let line = "flowlabel label --pmap map.txt 12.0.0.0";
     let reader = MemoryInput::new(MAP.as_bytes(), 64, None);
-    let mut writer = MemoryOutput::<5>::new(64, None, false);
-    let (ended, told) = end_of(rt.alloc(), line, reader, &mut writer)?;
-    assert_eq!(rt;
-        (ended, told.as_slice()),
-        (4, CANNOT_WRITE),
-        "a full writer"
-    );
-    assert_eq!(rt; writer.taken(), b"UNKNO".as_slice());
-    Ok(())
+    let writer = MemoryOutput::<5>::new(64, None, false);
+    ends(
+        &rt,
+        rt.alloc(),
+        line,
+        reader,
+        writer,
+        (4, CANNOT_WRITE, "UNKNO"),
+    )
 }
 
 // This one holds also where an allocation fails: the answer is want of memory, and not another one.
 #[test]
 fn answers_want_of_memory_as_such(rt: HostRuntime) {
-    let line = "flowlabel label --pmap map.txt 10.1.1.1";
     let reader = MemoryInput::new(MAP.as_bytes(), 64, None);
     let mut writer = MemoryOutput::<64>::new(64, None, false);
-    match end_of(rt.alloc(), line, reader, &mut writer) {
-        Ok((0, _)) => assert_eq!(rt; writer.taken(), b"B\n".as_slice()),
+    match end_of(rt.alloc(), LABEL, reader, &mut writer) {
+        Ok((0, told)) => is_wanted(&rt, 0, told.as_slice(), writer.taken(), (0, "", "B\n")),
         Ok((ended, told)) => {
-            assert_eq!(rt; (ended, told.as_slice()), (3, OUT_OF_MEMORY));
-            assert!(rt; writer.taken().is_empty());
+            let wanted = (3, "flowlabel: out of memory\n", "");
+            is_wanted(&rt, ended, told.as_slice(), writer.taken(), wanted);
         }
         Err(AllocError) => assert!(rt; writer.taken().is_empty()),
     }

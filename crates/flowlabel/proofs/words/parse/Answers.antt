@@ -1,7 +1,7 @@
 use Rattle.std.proofs.Common.{◌∙◌, Err, ap, sym, subst, map}
 use Rattle.std.specs.Prelude.{option_map}
 use Rattle.clap.specs.Words.{App, HasKind, fault_of, found_of, is_simple, is_simple_and_free, rows_of, subcommand_of, takes}
-use Rattle.flowlabel.proofs.AnswerLemmas.{answers, fault_at, flowlabel_is_free, flowlabel_is_simple, own, own_of_memory, subcommand_is}
+use Rattle.flowlabel.proofs.AnswerLemmas.{answers, fault_at, flowlabel_is_free, flowlabel_is_simple, label_own, own, own_of_memory, subcommand_is}
 use Rattle.flowlabel.proofs.LineLemmas.{reads_bare_line, reads_map_line}
 use Rattle.flowlabel.proofs.words.parse.Goals as goal
 
@@ -25,7 +25,7 @@ pub returns-in-Ok-clause-bare_line : goal.returns-in-Ok-clause-bare_line
 returns-in-Ok-clause-bare_line c = reads_bare_line _ c.label_command.result (returns-in-Ok-clause-answer c)
 
 pub returns-in-Ok-clause-taken : goal.returns-in-Ok-clause-taken
-returns-in-Ok-clause-taken c = λ taken. own _ _ _ c.label_command.ensures
+returns-in-Ok-clause-taken c = λ taken. own _ _ (label_own _ _) c.label_command.ensures
 
 pub returns-in-Err-clause-answer : goal.returns-in-Err-clause-answer
 returns-in-Err-clause-answer c =
