@@ -1,11 +1,14 @@
 -- The values at the front of bytes, and the bytes that they take.
-use Rattle.std.proofs.Common.{◌≡◌, ℕ, ◌+◌, ◌-◌, ◌<◌, ◌≤◌, Bool, true, false, cond, ltb, eqb, List, [], ◌∷◌, ◌++◌, length, get_or, take, drop, Option, Some, None, inl, inr, refl, sym, ap, subst, ◌∙◌, append_assoc, take-append-drop, length-append, drop-cons, add-one, arith}
-use Rattle.std.specs.Prelude.{option_and_then, option_map}
-use Rattle.std.proofs.lemmas.Bool.{ltb-false, le-ltb}
-use Rattle.std.proofs.lemmas.List.{append-nil, drop_all, take_at, drop_at, length-take-le}
+use Rattle.std.proofs.Common.{◌≡◌, ℕ, ◌+◌, ◌-◌, ◌<◌, ◌≤◌, Bool, true, false, not, cond, ltb, eqb, List, [], ◌∷◌, ◌++◌, length, take, drop, Option, Some, None, inl, inr, refl, sym, ap, subst, ◌∙◌, append_assoc, take-append-drop, length-append, length-drop, drop-drop, arith}
+use Rattle.std.specs.Prelude.{filter, option_and_then, option_map}
+use Rattle.std.specs.Option.{option_map_or}
+use Rattle.std.proofs.lemmas.Bool.{ltb-true, ltb-false, lt-ltb, le-ltb, eqb-true}
+use Rattle.std.proofs.lemmas.List.{append-nil, take_at, drop_at, length-take-le}
 use Rattle.byteorder.specs.Endian.{big_number}
 use Rattle.ipfix_templates.specs.declared.field.Field.{Field}
-use Rattle.ipfix_read.specs.Value.{FieldValueView, bytes_at, variable_at, value_at, values_at, whole_values}
+use Rattle.ipfix_templates.specs.Field.{has_bytes, is_variable}
+use Rattle.ipfix_templates.specs.Runs.{runs_behind, last_run_behind}
+use Rattle.ipfix_read.specs.Value.{FieldValueView, bytes_at, variable_at, value_at, values_at, whole_values, values_with_bytes}
 use Rattle.ipfix_read.proofs.Choice.{chosen, gave, some_is}
 
 -- what was read stands at the front, and is read alike whatever follows it
@@ -102,41 +105,104 @@ taken fields bytes x n e is =
     let whole = whole_is fields (take n bytes) (x.0, []) read in
     (read ∙ ap (λ (vs : List FieldValueView). Some (vs, [])) (sym whole), whole)
 
--- ---- the bytes behind values, field by field
+-- ---- the bytes behind values, run by run
 
 -- what is left of a reading
 abbrev pub left : Option (List FieldValueView × List ℕ) → Option (List ℕ)
 left read = option_map (λ x. x.1) read
 
+-- what is left behind runs of bytes with a variable value after each, and a last run
+abbrev pub behind_runs : List ℕ → ℕ → List ℕ → Option (List ℕ)
+behind_runs [] last bytes = option_map (λ f. f.1) (bytes_at last bytes)
+behind_runs (n ∷ ns) last bytes = option_and_then (λ f. option_and_then (λ v. behind_runs ns last v.1) (variable_at f.1)) (bytes_at n bytes)
+
+then_alike : {A B : Type 0} (o : Option A) (f g : A → Option B) → ((x : A) → f x ≡ g x) → option_and_then f o ≡ option_and_then g o
+then_alike None f g alike = refl
+then_alike (Some x) f g alike = alike x
+
+then_left : (o : Option (List ℕ × List ℕ)) → option_map (λ f. f.1) o ≡ option_and_then (λ f. Some f.1) o
+then_left None = refl
+then_left (Some x) = refl
+
 left_step : (v : FieldValueView) (read : Option (List FieldValueView × List ℕ)) → left (option_and_then (λ vs. Some (v ∷ vs.0, vs.1)) read) ≡ left read
 left_step v None = refl
 left_step v (Some x) = refl
 
-pub goes_on : (fields : List Field) (i : ℕ) (d : Field) (bytes value after : List ℕ) (total : Option (List ℕ)) → i < length fields
-    → Some (value, after) ≡ value_at (get_or fields i d) bytes → left (values_at (drop i fields) bytes) ≡ total → left (values_at (drop (i + 1) fields) after) ≡ total
-unfolding values_at
-goes_on fields i d bytes value after total lt read so_far =
-    let field = get_or fields i d in
-    let rest = drop (i + 1) fields in
-    let cut : drop i fields ≡ field ∷ rest = rw add-one (drop-cons fields i d lt) in
-    let step : left (values_at (field ∷ rest) bytes) ≡ left (values_at rest after) = rw (← read) (left_step (record { field = field; value = value }) (values_at rest after)) in
-    sym step ∙ ap (λ (fs : List Field). left (values_at fs bytes)) (sym cut) ∙ so_far
+-- the bytes behind the value of a field, and behind those of the fields after it
+left_first : (field : Field) (fields : List Field) (read : Option (List ℕ × List ℕ))
+    → left (option_and_then (λ v. option_and_then (λ vs. Some (record { field = field; value = v.0 } ∷ vs.0, vs.1)) (values_at fields v.1)) read)
+    ≡ option_and_then (λ v. left (values_at fields v.1)) read
+left_first field fields None = refl
+left_first field fields (Some v) = left_step (record { field = field; value = v.0 }) (values_at fields v.1)
 
-pub ends : (fields : List Field) (i : ℕ) (d : Field) (bytes : List ℕ) (total : Option (List ℕ)) → i < length fields
-    → None ≡ value_at (get_or fields i d) bytes → left (values_at (drop i fields) bytes) ≡ total → None ≡ total
+left_cons : (field : Field) (fields : List Field) (bytes : List ℕ) → left (values_at (field ∷ fields) bytes) ≡ option_and_then (λ v. left (values_at fields v.1)) (value_at field bytes)
 unfolding values_at
-ends fields i d bytes total lt read so_far =
-    let field = get_or fields i d in
-    let rest = drop (i + 1) fields in
-    let cut : drop i fields ≡ field ∷ rest = rw add-one (drop-cons fields i d lt) in
-    let step : left (values_at (field ∷ rest) bytes) ≡ None = rw (← read) refl in
-    sym step ∙ ap (λ (fs : List Field). left (values_at fs bytes)) (sym cut) ∙ so_far
+left_cons field fields bytes = left_first field fields (value_at field bytes)
 
-pub is_done : (fields : List Field) (i : ℕ) (bytes : List ℕ) (total : Option (List ℕ)) → length fields ≤ i → left (values_at (drop i fields) bytes) ≡ total → Some bytes ≡ total
+variable_is : (field : Field) (bytes : List ℕ) → is_variable field ≡ true → value_at field bytes ≡ variable_at bytes
+unfolding value_at
+variable_is field bytes is = rw is refl
+
+fixed_is : (field : Field) (bytes : List ℕ) → is_variable field ≡ false → value_at field bytes ≡ bytes_at field.length bytes
+unfolding value_at
+fixed_is field bytes is = rw is refl
+
+-- no bytes, and then what follows
+none_first : (next : List ℕ → Option (List ℕ)) (bytes : List ℕ) → option_and_then (λ f. next f.1) (bytes_at 0 bytes) ≡ next bytes
+none_first next bytes = rw (le-ltb (length bytes) 0 (omega arith)) refl
+
+below_alike : (n a b : ℕ) → a ≤ n → ltb (n - a) b ≡ ltb n (a + b)
+below_alike n a b le =
+    elim (ltb n (a + b)) as (λ c. ltb n (a + b) ≡ c → ltb (n - a) b ≡ c) [
+      | true ↦ λ h. lt-ltb (n - a) b (omega (arith, ltb-true n (a + b) h))
+      | false ↦ λ h. le-ltb (n - a) b (omega (arith, ltb-false n (a + b) h))
+    ] refl
+
+-- what follows so many bytes
+abbrev then_next : (List ℕ → Option (List ℕ)) → Option (List ℕ × List ℕ) → Option (List ℕ)
+then_next next read = option_and_then (λ f. next f.1) read
+
+cut_alike : (next : List ℕ → Option (List ℕ)) (short : Bool) (front other after : List ℕ)
+    → then_next next (cond short None (Some (front, after))) ≡ then_next next (cond short None (Some (other, after)))
+cut_alike next true front other after = refl
+cut_alike next false front other after = refl
+
+-- so many bytes and so many more, and then what follows
+both_first : (next : List ℕ → Option (List ℕ)) (a b : ℕ) (bytes : List ℕ)
+    → option_and_then (λ f. then_next next (bytes_at b f.1)) (bytes_at a bytes) ≡ then_next next (bytes_at (a + b) bytes)
+both_first next a b bytes =
+    elim (ltb (length bytes) a) as (λ c. ltb (length bytes) a ≡ c
+    → option_and_then (λ (f : List ℕ × List ℕ). then_next next (bytes_at b f.1)) (cond {A = Option (List ℕ × List ℕ)} c None (Some (take a bytes, drop a bytes))) ≡ then_next next (bytes_at (a + b) bytes)) [
+      | true ↦ λ h.
+          let short : length bytes < a = ltb-true (length bytes) a h in
+          rw (lt-ltb (length bytes) (a + b) (omega arith)) refl
+      | false ↦ λ h.
+          let long : a ≤ length bytes = ltb-false (length bytes) a h in
+          rw (length-drop a bytes, below_alike (length bytes) a b long, drop-drop b a bytes)
+          (cut_alike next (ltb (length bytes) (a + b)) (take b (drop a bytes)) (take (a + b) bytes) (drop (a + b) bytes))
+    ] refl
+
+-- runs that are kept of fields lead to what is left behind the fields' values
+runs_behind_lem : (sum : ℕ) (fields : List Field) (bytes : List ℕ)
+    → behind_runs (runs_behind sum fields) (last_run_behind sum fields) bytes ≡ option_and_then (λ f. left (values_at fields f.1)) (bytes_at sum bytes)
 unfolding values_at
-is_done fields i bytes total past so_far =
-    let all : left (values_at (drop i fields) bytes) ≡ Some bytes = rw (drop_all i fields past) refl in
-    sym all ∙ so_far
+runs_behind_lem sum [] bytes = then_left (bytes_at sum bytes)
+runs_behind_lem sum (field ∷ fields) bytes =
+    elim (is_variable field) as (λ c. is_variable field ≡ c
+    → behind_runs (cond c (sum ∷ runs_behind 0 fields) (runs_behind (sum + field.length) fields)) (cond c (last_run_behind 0 fields) (last_run_behind (sum + field.length) fields)) bytes
+    ≡ option_and_then (λ f. left (values_at (field ∷ fields) f.1)) (bytes_at sum bytes)) [
+      | true ↦ λ is. then_alike (bytes_at sum bytes) _ _ (λ f.
+          then_alike (variable_at f.1) _ _ (λ v. runs_behind_lem 0 fields v.1 ∙ none_first (λ bs. left (values_at fields bs)) v.1)
+          ∙ sym (left_cons field fields f.1 ∙ ap (λ (o : Option (List ℕ × List ℕ)). option_and_then (λ v. left (values_at fields v.1)) o) (variable_is field f.1 is)))
+      | false ↦ λ is.
+          runs_behind_lem (sum + field.length) fields bytes
+          ∙ sym (both_first (λ bs. left (values_at fields bs)) sum field.length bytes)
+          ∙ then_alike (bytes_at sum bytes) _ _ (λ f.
+          sym (left_cons field fields f.1 ∙ ap (λ (o : Option (List ℕ × List ℕ)). option_and_then (λ v. left (values_at fields v.1)) o) (fixed_is field f.1 is)))
+    ] refl
+
+pub runs_are : (fields : List Field) (bytes : List ℕ) → behind_runs (runs_behind 0 fields) (last_run_behind 0 fields) bytes ≡ left (values_at fields bytes)
+runs_are fields bytes = runs_behind_lem 0 fields bytes ∙ none_first (λ bs. left (values_at fields bs)) bytes
 
 -- ---- the values one by one
 
@@ -153,3 +219,27 @@ pub one_more : (field : Field) (fields : List Field) (bytes : List ℕ) (v : Fie
     → whole_values (field ∷ fields) bytes ≡ v ∷ whole_values fields after
 one_more field fields bytes v after same e =
     whole_step field fields bytes (v.value, after) (sym e) ∙ ap (λ (f : Field). record { field = f; value = v.value } ∷ whole_values fields after) (sym same)
+
+-- ---- the values of fields that take bytes
+
+nothing_is : (field : Field) (bytes : List ℕ) → field.length ≡ 0 → value_at field bytes ≡ Some ([], bytes)
+unfolding value_at
+nothing_is field bytes none = rw (none, le-ltb (length bytes) 0 (omega arith)) refl
+
+kept_step : (field : Field) (fields : List Field) (read : Option (List ℕ × List ℕ)) → has_bytes field ≡ true
+    → ((bytes : List ℕ) → whole_values (filter has_bytes fields) bytes ≡ values_with_bytes (whole_values fields bytes))
+    → option_map_or (λ v. record { field = field; value = v.0 } ∷ whole_values (filter has_bytes fields) v.1) read []
+    ≡ values_with_bytes (option_map_or (λ v. record { field = field; value = v.0 } ∷ whole_values fields v.1) read [])
+kept_step field fields None has rest = refl
+kept_step field fields (Some v) has rest = rw has (ap (λ (vs : List FieldValueView). record { field = field; value = v.0 } ∷ vs) (rest v.1))
+
+pub filled_values : (fields : List Field) (bytes : List ℕ) → whole_values (filter has_bytes fields) bytes ≡ values_with_bytes (whole_values fields bytes)
+unfolding whole_values
+filled_values [] bytes = refl
+filled_values (field ∷ fields) bytes =
+    elim (eqb field.length 0) as (λ c. eqb field.length 0 ≡ c → whole_values (cond (not c) (field ∷ filter has_bytes fields) (filter has_bytes fields)) bytes ≡ values_with_bytes (whole_values (field ∷ fields) bytes)) [
+      | true ↦ λ is.
+          let skips : values_with_bytes (whole_values (field ∷ fields) bytes) ≡ values_with_bytes (whole_values fields bytes) = rw (nothing_is field bytes (eqb-true field.length 0 is), is) refl in
+          filled_values fields bytes ∙ sym skips
+      | false ↦ λ is. kept_step field fields (value_at field bytes) (ap not is) (filled_values fields)
+    ] refl

@@ -4,6 +4,7 @@ pub mod Records
 pub mod Events
 pub mod Sets
 pub mod Messages
+pub mod Faults
 pub mod UniqueRecords
 pub mod UniqueSets
 pub mod UniqueMessages

@@ -1,7 +1,9 @@
 -- What holds of the definitions.
-use Rattle.std.specs.Prelude.{◌≡◌, ℕ, ◌+◌, List, ◌∷◌, ◌++◌, length, None}
+use Rattle.std.specs.Prelude.{◌≡◌, ◌≢◌, ℕ, ◌+◌, List, ◌∷◌, ◌++◌, length, None}
 use Rattle.ipfix_templates.specs.declared.event.TemplateEvent.{TemplateEvent}
+use Rattle.ipfix_templates.specs.declared.fault.TemplateFaultKind.TheVariants.{NoMemory as NoTemplateMemory}
 use Rattle.ipfix_read.specs.declared.fault.ReadFault.{ReadFault}
+use Rattle.ipfix_read.specs.declared.fault.ReadFaultKind.TheVariants.{BadTemplate, NoMemory}
 use Rattle.ipfix_read.specs.Message.{MessageView, IsMessage, header_fault, events_of_message}
 use Rattle.ipfix_read.specs.File.{ReadsFile, HasFileFault}
 
@@ -18,3 +20,8 @@ OneReading = (history : List (ℕ × TemplateEvent)) (offset count : ℕ) (bytes
     → ((messages others : List MessageView) → ReadsFile history count bytes messages → ReadsFile history count bytes others → messages ≡ others)
     × ((fault other : ReadFault) → HasFileFault history offset count bytes fault → HasFileFault history offset count bytes other → fault ≡ other)
     × ((messages : List MessageView) (fault : ReadFault) → ReadsFile history count bytes messages → HasFileFault history offset count bytes fault → ⊥)
+
+-- that memory ran out is no fault of the bytes, nor is it what is wrong with a template record
+abbrev pub MemoryIsNoFault : Type 0
+MemoryIsNoFault = (history : List (ℕ × TemplateEvent)) (offset count : ℕ) (bytes : List ℕ) (fault : ReadFault) → HasFileFault history offset count bytes fault
+    → (fault.kind ≢ NoMemory) × (fault.kind ≢ BadTemplate NoTemplateMemory)

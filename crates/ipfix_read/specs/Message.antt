@@ -44,12 +44,13 @@ pub record IsMessage (history : List (ℕ × TemplateEvent)) (bytes : List ℕ) 
 abbrev pub header_fault : ℕ → List ℕ → Option ReadFaultKind
 header_fault count bytes =
     if nat_lt (length bytes) 16 then Some TruncatedHeader
-    else (if count == 4294967295 then Some TooManyMessages
-    else (if big_number 2 bytes == 10 then
+    else (if nat_lt count 4294967295 then
+    (if big_number 2 bytes == 10 then
     (if nat_lt (written_length bytes) 16 then Some BadMessageLength
     else (if nat_lt (length bytes) (written_length bytes) then Some TruncatedMessage
     else None))
-    else Some BadVersion))
+    else Some BadVersion)
+    else Some TooManyMessages)
 
 -- the first fault of the message at the front, which begins at this offset of the File
 abbrev pub HasMessageFault : List (ℕ × TemplateEvent) → ℕ → List ℕ → ℕ → ReadFault → Type 0

@@ -1,5 +1,5 @@
 -- The records of a data set (RFC 7011 section 3.4.3).
-use Rattle.std.specs.Prelude.{◌≡◌, ℕ, ◌+◌, ◌<◌, ◌≤◌, List, [], ◌∷◌, length, Option, Some, None, option_map}
+use Rattle.std.specs.Prelude.{◌≡◌, ℕ, ◌+◌, ◌<◌, ◌≤◌, List, [], ◌∷◌, length, Option, Some, None, IsSome, option_map}
 use Rattle.ipfix_templates.specs.Field.{least_length}
 use Rattle.ipfix_templates.specs.Template.{TemplateView}
 use Rattle.ipfix_read.specs.declared.record.Record.{Record}
@@ -22,6 +22,10 @@ ReadsRecords t bytes (r ∷ rs) rest =
 -- the bytes behind the header of a data set are these records, and then padding (section 3.3.1)
 abbrev pub IsDataSet : TemplateView → List ℕ → List Record → Type 0
 IsDataSet t bytes records = (padding : List ℕ) × ReadsRecords t bytes records padding × ¬ HasRoom t padding
+
+-- behind some records there is no padding, and the record there stands whole
+abbrev pub HasRecord : TemplateView → List ℕ → Type 0
+HasRecord t bytes = (records : List Record) × (rest : List ℕ) × ReadsRecords t bytes records rest × HasRoom t rest × IsSome (record_at t rest)
 
 -- at this place behind some records there is no padding, and a part of the record there passes the end
 abbrev pub HasRecordFault : TemplateView → List ℕ → ℕ → Type 0

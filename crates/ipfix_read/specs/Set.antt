@@ -5,8 +5,6 @@ use Rattle.byteorder.specs.Endian.{big_number}
 use Rattle.ipfix_templates.specs.declared.kind.Kind.{Kind}
 use Rattle.ipfix_templates.specs.declared.event.TemplateEvent.{TemplateEvent}
 use Rattle.ipfix_templates.specs.declared.fault.TemplateFault.{TemplateFault}
-use Rattle.ipfix_templates.specs.declared.fault.TemplateFaultKind.{TemplateFaultKind}
-use Rattle.ipfix_templates.specs.declared.fault.TemplateFaultKind.TheVariants.{Truncated, BadTemplateId, BadScope, NoMemory}
 use Rattle.ipfix_templates.specs.Kind.{set_id}
 use Rattle.ipfix_templates.specs.Template.{TemplateView}
 use Rattle.ipfix_templates.specs.InForce.{in_force}
@@ -15,7 +13,6 @@ use Rattle.ipfix_read.specs.declared.set.Set.{Set}
 use Rattle.ipfix_read.specs.declared.set.Set.TheVariants.{Templates, Values, Skipped}
 use Rattle.ipfix_read.specs.declared.fault.ReadFault.{ReadFault}
 use Rattle.ipfix_read.specs.declared.fault.ReadFaultKind.TheVariants.{BadSetLength, BadTemplate, BadRecord}
-use Rattle.ipfix_read.specs.Fault.{out_of_memory}
 use Rattle.ipfix_read.specs.Record.{IsDataSet, HasRecordFault}
 
 -- template events, each with its domain
@@ -41,14 +38,8 @@ IsContent history domain id bytes (Skipped skipped) =
     (skipped ≡ id) × (id ≢ 2) × (id ≢ 3) × (256 ≤ id → in_force history domain id ≡ None)
 
 -- the fault of a template set as one of the File, where the set's records begin at this offset
-abbrev pub at_place : TemplateFaultKind → ℕ → ReadFault
-at_place Truncated place = record { kind = BadTemplate Truncated; offset = place }
-at_place BadTemplateId place = record { kind = BadTemplate BadTemplateId; offset = place }
-at_place BadScope place = record { kind = BadTemplate BadScope; offset = place }
-at_place NoMemory place = out_of_memory
-
 abbrev pub in_file : ℕ → TemplateFault → ReadFault
-in_file base fault = at_place fault.kind (base + fault.offset)
+in_file base fault = record { kind = BadTemplate fault.kind; offset = base + fault.offset }
 
 -- the first fault of such bytes, which begin at this offset of the File
 abbrev pub HasContentFault : List (ℕ × TemplateEvent) → ℕ → ℕ → List ℕ → ℕ → ReadFault → Type 0

@@ -1,9 +1,9 @@
 -- The values of a data record (RFC 7011 sections 3.4.3 and 7).
-use Rattle.std.specs.Prelude.{◌≡◌, ◌≢◌, ℕ, List, [], ◌∷◌, length, take, drop, Option, Some, None, option_and_then, nat_lt, ◌==◌, if◌then◌else◌}
+use Rattle.std.specs.Prelude.{◌≡◌, ◌≢◌, ℕ, List, [], ◌∷◌, length, take, drop, filter, Option, Some, None, option_and_then, nat_lt, if◌then◌else◌}
 use Rattle.std.specs.Option.{option_map_or}
 use Rattle.byteorder.specs.Endian.{big_number}
 use Rattle.ipfix_templates.specs.declared.field.Field.{Field}
-use Rattle.ipfix_templates.specs.declared.field.TheConstants.{VARIABLE_LENGTH}
+use Rattle.ipfix_templates.specs.Field.{has_bytes, is_variable}
 
 -- a value with its field's specifier, without where they lie in memory
 pub record FieldValueView : Type 0 where
@@ -12,7 +12,7 @@ pub record FieldValueView : Type 0 where
 
 -- the length of a fixed field is that of each value
 abbrev pub IsValueOf : Field → List ℕ → Type 0
-IsValueOf field value = field.length ≢ VARIABLE_LENGTH → length value ≡ field.length
+IsValueOf field value = field.length ≢ 65535 → length value ≡ field.length
 
 -- so many bytes, and those after them
 abbrev pub bytes_at : ℕ → List ℕ → Option (List ℕ × List ℕ)
@@ -27,7 +27,7 @@ variable_at (first ∷ bytes) =
 
 -- the value of a field, and the bytes after it
 unfoldable pub value_at : Field → List ℕ → Option (List ℕ × List ℕ)
-value_at field bytes = if field.length == VARIABLE_LENGTH then variable_at bytes else bytes_at field.length bytes
+value_at field bytes = if is_variable field then variable_at bytes else bytes_at field.length bytes
 
 -- the values of these fields, one after the other, and the bytes after them
 unfoldable pub values_at : List Field → List ℕ → Option (List FieldValueView × List ℕ)
@@ -42,3 +42,7 @@ unfoldable pub whole_values : List Field → List ℕ → List FieldValueView
 whole_values [] bytes = []
 whole_values (field ∷ fields) bytes =
     option_map_or (λ v. record { field = field; value = v.0 } ∷ whole_values fields v.1) (value_at field bytes) []
+
+-- those of the values whose fields take bytes
+abbrev pub values_with_bytes : List FieldValueView → List FieldValueView
+values_with_bytes values = filter (λ v. has_bytes v.field) values

@@ -1,5 +1,5 @@
-ghost use Rattle.std.specs.Prelude.{IfOk, MatchResult};
-ghost use Rattle.ipfix_read.specs.Record.{IsDataSet, HasRecordFault};
+ghost use Rattle.std.specs.Prelude.{IfOk, OnErr, MatchResult};
+ghost use Rattle.ipfix_read.specs.Record.{IsDataSet, HasRecord, HasRecordFault};
 
 use crate::record::{RecordList, read_record};
 use ipfix_templates::Template;
@@ -12,8 +12,11 @@ pub fn read_data_set<'a>(
     template: &Template,
     bytes: &'a [u8],
 ) -> Result<Result<RecordList<'a>, usize>, AllocError>
-    ensures { IfOk result (λ read. MatchResult read (λ records. IsDataSet template.now bytes.now records)
+    ensures read { IfOk result (λ read. MatchResult read (λ records. IsDataSet template.now bytes.now records)
         (λ place. HasRecordFault template.now bytes.now place)) }
+
+    // Memory runs out only at a record that has no fault, behind others.
+    ensures memory { OnErr result (HasRecord template.now bytes.now) }
 {
     let least = template.least_length() as usize;
     let mut records = RecordList::new(alloc);

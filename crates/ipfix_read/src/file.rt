@@ -1,17 +1,21 @@
-ghost use Rattle.std.specs.Prelude.{◌≡◌, [], ◌⊎◌, IfOk, IfErr};
+ghost use Rattle.std.specs.Prelude.{◌≡◌, ◌≢◌, ◌≤◌, [], ◌⊎◌, length, IfOk, IfErr};
+ghost use Rattle.ipfix_templates.specs.declared.fault.TemplateFaultKind.TheVariants.{NoMemory};
+ghost use Rattle.ipfix_read.specs.declared.fault.ReadFaultKind.TheVariants.{BadTemplate};
 ghost use Rattle.ipfix_read.specs.Fault.{out_of_memory};
 ghost use Rattle.ipfix_read.specs.File.{ReadsFile, HasFileFault};
 
 use crate::fault::ReadFault;
+use crate::laws::memory_is_no_fault;
 use crate::message::{MessageList, read_message};
 use ipfix_templates::TemplateTable;
 use std::alloc::Global;
 
-/// What a File says: its messages in order. The values of records are slices of the File.
+/// What a File says: its messages in order, at most 4,294,967,295. The values of records are slices of the File.
 #[derive(Debug, Drop)]
 pub struct FileEvents<'a> {
     /// The messages in order.
     pub messages: MessageList<'a>,
+    ghost counted: { length messages ≤ 4294967295 },
 }
 
 /// Reads an IPFIX File (RFC 5655), which is messages of RFC 7011 one after the other, and the session in which
@@ -23,7 +27,11 @@ pub struct FileEvents<'a> {
 pub fn read_file(alloc: Global, bytes: &[u8]) -> Result<FileEvents<'_>, ReadFault>
     ensures ok { IfOk result (λ file. ReadsFile [] 0 bytes.now file.messages) }
     ensures fault { IfErr result (λ fault. (fault ≡ out_of_memory) ⊎ HasFileFault [] 0 0 bytes.now fault) }
+
+    // A template record that is none is told by what is wrong with it.
+    ensures template { IfErr result (λ fault. fault.kind ≢ BadTemplate NoMemory) }
 {
+    memory_is_no_fault();
     let mut table = TemplateTable::new(alloc);
     let mut messages = MessageList::new(alloc);
     let mut rest = bytes;

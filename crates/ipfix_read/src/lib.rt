@@ -20,7 +20,7 @@ mod value;
 
 pub use fault::{ReadFault, ReadFaultKind};
 pub use file::{FileEvents, read_file};
-pub use laws::{first_message_and_rest, one_reading};
+pub use laws::{first_message_and_rest, memory_is_no_fault, one_reading};
 pub use message::{Message, MessageList};
 pub use record::{Record, RecordList};
 pub use set::{Set, SetList};

@@ -1,4 +1,4 @@
-ghost use Rattle.std.specs.Prelude.{◌≡◌, ◌++◌, ◌∷◌, [], length, IfOk, OnOk, OnErr, option_map};
+ghost use Rattle.std.specs.Prelude.{◌≡◌, ◌++◌, ◌∷◌, [], length, IfOk, IsSome, OnOk, OnErr, option_map};
 ghost use Rattle.ipfix_read.specs.Record.{record_at};
 
 use crate::value::{FieldValues, read_values};
@@ -64,12 +64,14 @@ impl<'a> RecordList<'a> {
     }
 }
 
-/// The record of this template at the front, and the bytes after it. None where a part passes the end.
+/// The record of this template at the front, and the bytes after it. None where a part passes the end. Memory is asked
+/// for only where none does.
 pub fn read_record<'a>(
     template: &Template,
     bytes: &'a [u8],
 ) -> Result<Option<(Record<'a>, &'a [u8])>, AllocError>
-    ensures { IfOk result (λ read. option_map (λ x. (x.0, x.1.now)) read ≡ record_at template.now bytes.now) }
+    ensures read { IfOk result (λ read. option_map (λ x. (x.0, x.1.now)) read ≡ record_at template.now bytes.now) }
+    ensures memory { OnErr result (IsSome (record_at template.now bytes.now)) }
 {
     let kind = template.kind();
     let Some((fields, rest)) = read_values(template.fields(), bytes)? else {

@@ -1,6 +1,7 @@
 ghost use Rattle.std.specs.Prelude.{◌≡◌, ◌≢◌, ◌^◌, ◌+◌, ◌<◌, ◌≤◌, ◌++◌, ◌∷◌, [], ◌⊎◌, ℕ, List, length, IfOk, IfErr, OnOk, OnErr};
 ghost use Rattle.ipfix_templates.specs.declared.event.TemplateEvent.{TemplateEvent as Event};
 ghost use Rattle.ipfix_templates.specs.Table.{Follows};
+ghost use Rattle.ipfix_templates.specs.declared.fault.TemplateFaultKind.TheVariants.{NoMemory};
 ghost use Rattle.ipfix_templates.specs.Kind.{set_id};
 ghost use Rattle.ipfix_read.specs.Fault.{out_of_memory};
 ghost use Rattle.ipfix_read.specs.Set.{in_domain, in_file, events_of_set, events_of_sets, IsContent, HasContentFault, IsSet, HasSetFault, ReadsSets, HasSetsFault};
@@ -12,7 +13,7 @@ use crate::record::RecordList;
 use byteorder::{BigEndian, ByteOrder};
 use ipfix_templates::{
     Kind, TemplateEvent, TemplateEvents, TemplateFault, TemplateFaultKind, TemplateTable,
-    events_fit, read_template_set,
+    events_fit, memory_is_no_fault, read_template_set,
 };
 use std::alloc::{AllocError, Global};
 use std::marker::Model;
@@ -118,7 +119,8 @@ fn apply_events(
 // The fault of a template set as one of the File, where the set's records begin at this offset.
 fn fault_in_file(fault: TemplateFault, base: u64) -> ReadFault
     requires { base + fault.offset < 2 ^ 64 }
-    ensures { result ≡ in_file base fault }
+    ensures memory { fault.kind ≡ NoMemory → result ≡ out_of_memory }
+    ensures place { fault.kind ≢ NoMemory → result ≡ in_file base fault }
 {
     if let TemplateFaultKind::NoMemory = fault.kind {
         return ReadFault {
@@ -149,6 +151,7 @@ fn read_templates<'a>(
         ⊎ ((history : List (ℕ × Event)) → Follows table.old history → HasContentFault history domain (set_id kind) bytes.now base fault)) }
 {
     events_fit();
+    memory_is_no_fault();
     let events = match read_template_set(alloc, bytes, kind) {
         Ok(events) => events,
         Err(fault) => return Err(fault_in_file(fault, base)),

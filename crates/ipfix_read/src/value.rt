@@ -1,9 +1,9 @@
-ghost use Rattle.std.specs.Prelude.{◌≡◌, length, IfOk, IfSome, option_map};
+ghost use Rattle.std.specs.Prelude.{◌≡◌, length, IfOk, IfSome, IsSome, OnErr, option_map};
 ghost use Rattle.std.specs.Iterator.{YieldsFirst, item_count};
-ghost use Rattle.ipfix_read.specs.Value.{IsValueOf, bytes_at, variable_at, value_at, values_at};
+ghost use Rattle.ipfix_read.specs.Value.{IsValueOf, bytes_at, variable_at, value_at, values_at, values_with_bytes};
 
 use byteorder::{BigEndian, ByteOrder};
-use ipfix_templates::{Field, Fields, VARIABLE_LENGTH};
+use ipfix_templates::{Field, Fields};
 use std::alloc::AllocError;
 use std::marker::Model;
 
@@ -80,6 +80,18 @@ impl<'a> FieldValues<'a> {
             bytes: self.bytes,
         }
     }
+
+    /// The values of the fields that take bytes, in order: those whose field has a length that is not 0, also a
+    /// variable one, of which the value may be empty. They are at most as many as the record has bytes, however many
+    /// fields its template has.
+    pub fn with_bytes(&self) -> Values<'_, 'a>
+        ensures { result ≡ values_with_bytes self.now }
+    {
+        Values {
+            specifiers: self.specifiers.filled(),
+            bytes: self.bytes,
+        }
+    }
 }
 
 /// The values of a data record in order, as an iterator.
@@ -144,34 +156,39 @@ fn read_value<'a>(field: Field, bytes: &'a [u8]) -> Option<(FieldValue<'a>, &'a 
     ensures field { IfSome result (λ x. x.0.field ≡ field) }
     ensures value { option_map (λ x. (x.0.value, x.1.now)) result ≡ value_at field bytes.now }
 {
-    if field.length == VARIABLE_LENGTH {
+    if field.is_variable() {
         let (value, rest) = read_variable(bytes)?;
         return Some((FieldValue { field, value }, rest));
     }
-    let (value, rest) = read_bytes(usize::from(field.length), bytes)?;
+    let (value, rest) = read_bytes(usize::from(field.length()), bytes)?;
     Some((FieldValue { field, value }, rest))
 }
 
-// The bytes after the values of these fields at the front. None where a part passes the end.
-fn skip_values<'a>(fields: &[Field], bytes: &'a [u8]) -> Option<&'a [u8]>
+// The bytes after the values of these fields at the front. None where a part passes the end. The fixed lengths between
+// variable fields are skipped together, so that each step but the last takes a byte.
+fn skip_values<'a>(fields: &Fields, bytes: &'a [u8]) -> Option<&'a [u8]>
     ensures { option_map (λ x. x.now) result ≡ option_map (λ x. x.1) (values_at fields.now bytes.now) }
 {
     let mut rest = bytes;
-    for field in fields {
-        let (_value, after) = read_value(*field, rest)?;
+    for run in fields.runs() {
+        let (_fixed, behind) = read_bytes(*run as usize, rest)?;
+        let (_value, after) = read_variable(behind)?;
         rest = after;
     }
-    Some(rest)
+    let (_fixed, after) = read_bytes(fields.last_run() as usize, rest)?;
+    Some(after)
 }
 
-/// The values of these fields at the front, and the bytes after them. None where a part passes the end.
+/// The values of these fields at the front, and the bytes after them. None where a part passes the end. Memory is
+/// asked for only where none does.
 pub fn read_values<'a>(
     fields: &Fields,
     bytes: &'a [u8],
 ) -> Result<Option<(FieldValues<'a>, &'a [u8])>, AllocError>
-    ensures { IfOk result (λ read. option_map (λ x. (x.0, x.1.now)) read ≡ values_at fields.now bytes.now) }
+    ensures read { IfOk result (λ read. option_map (λ x. (x.0, x.1.now)) read ≡ values_at fields.now bytes.now) }
+    ensures memory { OnErr result (IsSome (values_at fields.now bytes.now)) }
 {
-    let Some(rest) = skip_values(fields.as_slice(), bytes) else {
+    let Some(rest) = skip_values(fields, bytes) else {
         return Ok(None);
     };
     let values = FieldValues {

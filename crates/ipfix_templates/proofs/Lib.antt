@@ -3,4 +3,5 @@ pub mod Records
 pub mod Loops
 pub mod History
 pub mod Tables
+pub mod Order
 pub mod Parts

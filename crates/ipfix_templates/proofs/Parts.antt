@@ -3,7 +3,7 @@ use Rattle.std.proofs.Common.{◌≡◌, ℕ, ◌&&◌, not, Bool, true, false, 
 use Rattle.std.specs.Prelude.{nat_eq, option_and_then, OnErr}
 use Rattle.std.specs.List.{IsDistinct, AllByRecursion}
 use Rattle.std.specs.Map.{lookup, keys_of, set_value}
-use Rattle.std.specs.HashMap.{HashMap}
+use Rattle.std.specs.BTreeMap.{BTreeMap}
 use Rattle.std.specs.Option.{option_or}
 use Rattle.std.proofs.lemmas.Bool.{eqb-true}
 use Rattle.ipfix_templates.specs.declared.kind.Kind.TheVariants.{Flow, Options}
@@ -42,78 +42,77 @@ in_domain d i k (e ∷ es) =
 same_some : {A : Type 0} (x y : A) → ◌≡◌ {A = Option A} (Some x) (Some y) → x ≡ y
 same_some x y e = cc
 
-abbrev Domains : Type 0 → Type 0
-Domains S = List (ℕ × HashMap ℕ TemplateView S)
+abbrev Domains : Type 0
+Domains = List (ℕ × BTreeMap ℕ TemplateView)
 
-module _ {S : Type 0} where
-  -- what a domain's map has at an ID, where there is one
-  abbrev pub found : ℕ → Option (HashMap ℕ TemplateView S) → Option TemplateView
-  found id o = option_and_then (λ m. lookup (nat_eq id) m.entries) o
+-- what a domain's map has at an ID, where there is one
+abbrev pub found : ℕ → Option (BTreeMap ℕ TemplateView) → Option TemplateView
+found id o = option_and_then (λ m. lookup (nat_eq id) m.entries) o
 
-  absent : (d : ℕ) (es : Domains S) → AllByRecursion (λ y. nat_eq d y ≡ false) (keys_of es) → lookup (nat_eq d) es ≡ None
-  absent d [] other = refl
-  absent d (e ∷ es) other = rw other.0 (absent d es other.1)
+absent : (d : ℕ) (es : Domains) → AllByRecursion (λ y. nat_eq d y ≡ false) (keys_of es) → lookup (nat_eq d) es ≡ None
+absent d [] other = refl
+absent d (e ∷ es) other = rw other.0 (absent d es other.1)
 
-  -- an entry is found in the map of its domain
-  pub found_at : (d i : ℕ) (es : Domains S) → IsDistinct nat_eq (keys_of es) → template_at (entries_of es) d i ≡ found i (lookup (nat_eq d) es)
-  unfolding IsDistinct
-  found_at d i [] apart = refl
-  found_at d i (e ∷ es) apart =
-      lookup-append (same_key (d, i)) (map (λ t. ((e.0, t.0), t.1)) e.1.entries) (entries_of es)
-      ∙ ap (λ (o : Option TemplateView). option_or o (template_at (entries_of es) d i)) (in_domain d i e.0 e.1.entries)
-      ∙ ap (λ (o : Option TemplateView). option_or (cond (nat_eq d e.0) (lookup (nat_eq i) e.1.entries) None) o) (found_at d i es apart.1)
-      ∙ elim (nat_eq d e.0) as (λ b. nat_eq d e.0 ≡ b → option_or (cond b (lookup (nat_eq i) e.1.entries) None) (found i (lookup (nat_eq d) es)) ≡ found i (cond b (Some e.1) (lookup (nat_eq d) es))) [
-        | true ↦ λ is.
-            let gone : lookup (nat_eq d) es ≡ None = absent d es (rw (eqb-true d e.0 is) apart.0) in
-            ap (λ (o : Option (HashMap ℕ TemplateView S)). option_or (lookup (nat_eq i) e.1.entries) (found i o)) gone ∙ or_none (lookup (nat_eq i) e.1.entries)
-        | false ↦ λ is. refl
-      ] refl
+-- an entry is found in the map of its domain
+pub found_at : (d i : ℕ) (es : Domains) → IsDistinct nat_eq (keys_of es) → template_at (entries_of es) d i ≡ found i (lookup (nat_eq d) es)
+unfolding IsDistinct
+found_at d i [] apart = refl
+found_at d i (e ∷ es) apart =
+    lookup-append (same_key (d, i)) (map (λ t. ((e.0, t.0), t.1)) e.1.entries) (entries_of es)
+    ∙ ap (λ (o : Option TemplateView). option_or o (template_at (entries_of es) d i)) (in_domain d i e.0 e.1.entries)
+    ∙ ap (λ (o : Option TemplateView). option_or (cond (nat_eq d e.0) (lookup (nat_eq i) e.1.entries) None) o) (found_at d i es apart.1)
+    ∙ elim (nat_eq d e.0) as (λ b. nat_eq d e.0 ≡ b → option_or (cond b (lookup (nat_eq i) e.1.entries) None) (found i (lookup (nat_eq d) es)) ≡ found i (cond b (Some e.1) (lookup (nat_eq d) es))) [
+      | true ↦ λ is.
+          let gone : lookup (nat_eq d) es ≡ None = absent d es (rw (eqb-true d e.0 is) apart.0) in
+          ap (λ (o : Option (BTreeMap ℕ TemplateView)). option_or (lookup (nat_eq i) e.1.entries) (found i o)) gone ∙ or_none (lookup (nat_eq i) e.1.entries)
+      | false ↦ λ is. refl
+    ] refl
 
-  -- another map in one domain, with one change
-  pub changed : (old new : Domains S) (domain id : ℕ) (m : HashMap ℕ TemplateView S) (value : Option TemplateView)
-      → IsDistinct nat_eq (keys_of old) → IsDistinct nat_eq (keys_of new)
-      → ((q : ℕ) → lookup (nat_eq q) new ≡ cond (nat_eq domain q) (Some m) (lookup (nat_eq q) old))
-      → ((q : ℕ) → lookup (nat_eq q) m.entries ≡ cond (nat_eq id q) value (found q (lookup (nat_eq domain) old)))
-      → ChangesAt (entries_of old) (entries_of new) domain id value
-  changed old new domain id m value was is outer inner d i =
-      found_at d i new is ∙ ap (found i) (outer d)
-      ∙ elim (nat_eq domain d) as (λ b. nat_eq domain d ≡ b → found i (cond b (Some m) (lookup (nat_eq d) old)) ≡ cond (b && nat_eq id i) value (found i (lookup (nat_eq d) old))) [
-        | true ↦ λ here. inner i ∙ ap (λ (k : ℕ). cond (nat_eq id i) value (found i (lookup (nat_eq k) old))) (eqb-true domain d here)
-        | false ↦ λ here. refl
-      ] refl
-      ∙ ap (λ (o : Option TemplateView). cond (same_key (domain, id) (d, i)) value o) (sym (found_at d i old was))
+-- another map in one domain, with one change
+pub changed : (old new : Domains) (domain id : ℕ) (m : BTreeMap ℕ TemplateView) (value : Option TemplateView)
+    → IsDistinct nat_eq (keys_of old) → IsDistinct nat_eq (keys_of new)
+    → ((q : ℕ) → lookup (nat_eq q) new ≡ cond (nat_eq domain q) (Some m) (lookup (nat_eq q) old))
+    → ((q : ℕ) → lookup (nat_eq q) m.entries ≡ cond (nat_eq id q) value (found q (lookup (nat_eq domain) old)))
+    → ChangesAt (entries_of old) (entries_of new) domain id value
+changed old new domain id m value was is outer inner d i =
+    found_at d i new is ∙ ap (found i) (outer d)
+    ∙ elim (nat_eq domain d) as (λ b. nat_eq domain d ≡ b → found i (cond b (Some m) (lookup (nat_eq d) old)) ≡ cond (b && nat_eq id i) value (found i (lookup (nat_eq d) old))) [
+      | true ↦ λ here. inner i ∙ ap (λ (k : ℕ). cond (nat_eq id i) value (found i (lookup (nat_eq k) old))) (eqb-true domain d here)
+      | false ↦ λ here. refl
+    ] refl
+    ∙ ap (λ (o : Option TemplateView). cond (same_key (domain, id) (d, i)) value o) (sym (found_at d i old was))
 
-  -- no map in the domain
-  pub nothing_there : (old : Domains S) (domain id : ℕ) → IsDistinct nat_eq (keys_of old) → lookup (nat_eq domain) old ≡ None
-      → ChangesAt (entries_of old) (entries_of old) domain id None
-  nothing_there old domain id was none d i =
-      found_at d i old was
-      ∙ elim (nat_eq domain d) as (λ b. nat_eq domain d ≡ b → found i (lookup (nat_eq d) old) ≡ cond (b && nat_eq id i) None (found i (lookup (nat_eq d) old))) [
-        | true ↦ λ here.
-            let gone : found i (lookup (nat_eq d) old) ≡ None = ap (λ (k : ℕ). found i (lookup (nat_eq k) old)) (sym (eqb-true domain d here)) ∙ ap (found i) none in
-            rw gone (elim (nat_eq id i) as (λ c. ◌≡◌ {A = Option TemplateView} None (cond c None None)) [ true ↦ refl | false ↦ refl ])
-        | false ↦ λ here. refl
-      ] refl
-      ∙ ap (λ (o : Option TemplateView). cond (same_key (domain, id) (d, i)) None o) (sym (found_at d i old was))
+-- no map in the domain
+pub nothing_there : (old : Domains) (domain id : ℕ) → IsDistinct nat_eq (keys_of old) → lookup (nat_eq domain) old ≡ None
+    → ChangesAt (entries_of old) (entries_of old) domain id None
+nothing_there old domain id was none d i =
+    found_at d i old was
+    ∙ elim (nat_eq domain d) as (λ b. nat_eq domain d ≡ b → found i (lookup (nat_eq d) old) ≡ cond (b && nat_eq id i) None (found i (lookup (nat_eq d) old))) [
+      | true ↦ λ here.
+          let gone : found i (lookup (nat_eq d) old) ≡ None = ap (λ (k : ℕ). found i (lookup (nat_eq k) old)) (sym (eqb-true domain d here)) ∙ ap (found i) none in
+          rw gone (elim (nat_eq id i) as (λ c. ◌≡◌ {A = Option TemplateView} None (cond c None None)) [ true ↦ refl | false ↦ refl ])
+      | false ↦ λ here. refl
+    ] refl
+    ∙ ap (λ (o : Option TemplateView). cond (same_key (domain, id) (d, i)) None o) (sym (found_at d i old was))
 
-  -- the map of one domain taken away
-  pub dropped : (old new : Domains S) (domain : ℕ) → IsDistinct nat_eq (keys_of old) → IsDistinct nat_eq (keys_of new)
-      → ((q : ℕ) → lookup (nat_eq q) new ≡ cond (nat_eq domain q) None (lookup (nat_eq q) old))
-      → (d i : ℕ) → template_at (entries_of new) d i ≡ cond (nat_eq domain d) None (template_at (entries_of old) d i)
-  dropped old new domain was is outer d i =
-      found_at d i new is ∙ ap (found i) (outer d)
-      ∙ elim (nat_eq domain d) as (λ b. found i (cond b None (lookup (nat_eq d) old)) ≡ cond b None (found i (lookup (nat_eq d) old))) [ true ↦ refl | false ↦ refl ]
-      ∙ ap (λ (o : Option TemplateView). cond (nat_eq domain d) None o) (sym (found_at d i old was))
+-- the map of one domain taken away
+pub dropped : (old new : Domains) (domain : ℕ) → IsDistinct nat_eq (keys_of old) → IsDistinct nat_eq (keys_of new)
+    → ((q : ℕ) → lookup (nat_eq q) new ≡ cond (nat_eq domain q) None (lookup (nat_eq q) old))
+    → (d i : ℕ) → template_at (entries_of new) d i ≡ cond (nat_eq domain d) None (template_at (entries_of old) d i)
+dropped old new domain was is outer d i =
+    found_at d i new is ∙ ap (found i) (outer d)
+    ∙ elim (nat_eq domain d) as (λ b. found i (cond b None (lookup (nat_eq d) old)) ≡ cond b None (found i (lookup (nat_eq d) old))) [ true ↦ refl | false ↦ refl ]
+    ∙ ap (λ (o : Option TemplateView). cond (nat_eq domain d) None o) (sym (found_at d i old was))
 
-  -- a map of the same entries in the place of another
-  pub same_entries : (test : ℕ → Bool) (es : Domains S) (m w : HashMap ℕ TemplateView S) → lookup test es ≡ Some m → w.entries ≡ m.entries
-      → entries_of (set_value test es w) ≡ entries_of es
-  same_entries test [] m w e same = absurd (cc)
-  same_entries test (x ∷ xs) m w e same =
-      elim (test x.0) as (λ b. cond b (Some x.1) (lookup test xs) ≡ Some m → entries_of (cond b ((x.0, w) ∷ xs) (x ∷ set_value test xs w)) ≡ entries_of (x ∷ xs)) [
-        | true ↦ λ p. ap (λ (ys : List (ℕ × TemplateView)). map (λ t. ((x.0, t.0), t.1)) ys ++ entries_of xs) (same ∙ ap (λ (n : HashMap ℕ TemplateView S). n.entries) (sym (same_some _ _ p)))
-        | false ↦ λ p. ap (λ (ys : Entries). map (λ t. ((x.0, t.0), t.1)) x.1.entries ++ ys) (same_entries test xs m w p same)
-      ] e
+-- a map of the same entries in the place of another
+pub same_entries : (test : ℕ → Bool) (es : Domains) (m w : BTreeMap ℕ TemplateView) → lookup test es ≡ Some m → w.entries ≡ m.entries
+    → entries_of (set_value test es w) ≡ entries_of es
+same_entries test [] m w e same = absurd (cc)
+same_entries test (x ∷ xs) m w e same =
+    elim (test x.0) as (λ b. cond b (Some x.1) (lookup test xs) ≡ Some m → entries_of (cond b ((x.0, w) ∷ xs) (x ∷ set_value test xs w)) ≡ entries_of (x ∷ xs)) [
+      | true ↦ λ p. ap (λ (ys : List (ℕ × TemplateView)). map (λ t. ((x.0, t.0), t.1)) ys ++ entries_of xs) (same ∙ ap (λ (n : BTreeMap ℕ TemplateView). n.entries) (sym (same_some _ _ p)))
+      | false ↦ λ p. ap (λ (ys : Entries). map (λ t. ((x.0, t.0), t.1)) x.1.entries ++ ys) (same_entries test xs m w p same)
+    ] e
 
 -- ---- the parts of the two kinds
 

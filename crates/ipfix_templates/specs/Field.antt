@@ -1,12 +1,25 @@
--- How long the values of fields are.
-use Rattle.std.specs.Prelude.{ℕ, List, sum_by, ◌==◌, if◌then◌else◌}
-use Rattle.ipfix_templates.specs.declared.field.Field.{Field}
-use Rattle.ipfix_templates.specs.declared.field.TheConstants.{VARIABLE_LENGTH}
+-- Field specifiers (RFC 7011 section 3.2), and how long the values of fields are.
+use Rattle.std.specs.Prelude.{ℕ, List, Bool, Option, not, sum_by, ◌==◌, if◌then◌else◌}
 
--- the fewest bytes of a value: its fixed length, or one byte of a variable length (RFC 7011 section 7)
-abbrev pub least_field_length : Field → ℕ
-least_field_length f = if f.length == VARIABLE_LENGTH then 1 else f.length
+-- a specifier: the enterprise number where the enterprise bit is 1, the number of the element, and the length
+pub record FieldView : Type 0 where
+  pub enterprise : Option ℕ
+  pub number : ℕ
+  pub length : ℕ
+
+-- whether the length is variable (section 7)
+abbrev pub is_variable : FieldView → Bool
+is_variable f = f.length == 65535
+
+-- whether values of the field take bytes in a record: those of a fixed length above 0, and variable ones, which have a
+-- length in front
+abbrev pub has_bytes : FieldView → Bool
+has_bytes f = not (f.length == 0)
+
+-- the fewest bytes of a value: its fixed length, or one byte of a variable length
+abbrev pub least_field_length : FieldView → ℕ
+least_field_length f = if f.length == 65535 then 1 else f.length
 
 -- the fewest bytes of a record of these fields
-abbrev pub least_length : List Field → ℕ
+abbrev pub least_length : List FieldView → ℕ
 least_length fields = sum_by least_field_length fields

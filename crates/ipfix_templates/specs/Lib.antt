@@ -1,5 +1,6 @@
 pub mod Kind
 pub mod Field
+pub mod Runs
 pub mod Template
 pub mod Fault
 pub mod Reading

@@ -1,13 +1,14 @@
--- How a table lies in memory: the templates of each kind by themselves, and for each domain a map from the IDs.
+-- How a table lies in memory: the templates of each kind by themselves, and for each domain a map from the IDs. It is of
+-- the code: what a table says is told by Table and InForce, and a user needs none of this.
 use Rattle.std.specs.Prelude.{◌≡◌, ⊤, ℕ, List, Option, Some, None, map}
 use Rattle.std.specs.List.{flat_map}
-use Rattle.std.specs.HashMap.{HashMap}
+use Rattle.std.specs.BTreeMap.{BTreeMap}
 use Rattle.ipfix_templates.specs.declared.kind.Kind.TheVariants.{Flow, Options}
 use Rattle.ipfix_templates.specs.Template.{TemplateView}
 use Rattle.ipfix_templates.specs.Table.{template_at}
 
 -- the entries of the maps of domains
-abbrev pub entries_of : {S : Type 0} → List (ℕ × HashMap ℕ TemplateView S) → List ((ℕ × ℕ) × TemplateView)
+abbrev pub entries_of : List (ℕ × BTreeMap ℕ TemplateView) → List ((ℕ × ℕ) × TemplateView)
 entries_of domains = flat_map (λ domain. map (λ e. ((domain.0, e.0), e.1)) domain.1.entries) domains
 
 -- a template is found in the part of its kind, and never one in each part

@@ -1,5 +1,5 @@
 -- A table of templates as contracts see it: entries of a domain and an ID, with the template there.
-use Rattle.std.specs.Prelude.{◌≡◌, ℕ, List, Bool, Option, not, nat_eq, ◌==◌, ◌&&◌, if◌then◌else◌}
+use Rattle.std.specs.Prelude.{◌≡◌, ℕ, List, Bool, Option, IfSome, not, nat_eq, ◌==◌, ◌&&◌, if◌then◌else◌}
 use Rattle.std.specs.Map.{lookup}
 use Rattle.ipfix_templates.specs.declared.kind.Kind.{Kind}
 use Rattle.ipfix_templates.specs.declared.event.TemplateEvent.{TemplateEvent}
@@ -14,6 +14,10 @@ same_key a b = nat_eq a.0 b.0 && nat_eq a.1 b.1
 -- the template that the table has at a domain and an ID
 abbrev pub template_at : List ((ℕ × ℕ) × TemplateView) → ℕ → ℕ → Option TemplateView
 template_at table domain id = lookup (same_key (domain, id)) table
+
+-- each template stands at its own ID
+abbrev pub AreKeyed : List ((ℕ × ℕ) × TemplateView) → Type 0
+AreKeyed table = (domain id : ℕ) → IfSome (template_at table domain id) (λ t. t.id ≡ id)
 
 -- new has this at the domain and ID, and at each other place what old has
 abbrev pub ChangesAt : List ((ℕ × ℕ) × TemplateView) → List ((ℕ × ℕ) × TemplateView) → ℕ → ℕ → Option TemplateView → Type 0

@@ -4,20 +4,22 @@ ghost use Rattle.ipfix_templates.specs.Table.{template_at, ChangesAt};
 
 use crate::template::Template;
 use std::alloc::{AllocError, Global};
-use std::collections::HashMap;
+use std::collections::BTreeMap;
 use std::marker::Model;
 
 /// Templates by their domains and IDs. The templates of a domain lie in a map of their own, so that all of them are
-/// dropped without a look at those of other domains. Contracts see it as its entries; their order is left open.
+/// dropped without a look at those of other domains. The maps are ordered: no choice of domains or IDs makes looking
+/// up slow. Contracts see the table as its entries; their order is left open.
 #[derive(Drop)]
 pub struct KindTable {
     alloc: Global,
-    domains: HashMap<u32, HashMap<u16, Template>>,
+    domains: BTreeMap<u32, BTreeMap<u16, Template>>,
 }
 
 impl Model for KindTable {
-    ghost use Rattle.std.specs.Prelude.{List, ℕ, nat_eq};
-    ghost use Rattle.std.specs.HashMap.{IsUnique};
+    ghost use Rattle.std.specs.Prelude.{List, ℕ};
+    ghost use Rattle.std.specs.Ordering.{nat_cmp};
+    ghost use Rattle.std.specs.BTreeMap.{IsOrdered};
     ghost use Rattle.ipfix_templates.specs.Template.{TemplateView};
     ghost use Rattle.ipfix_templates.specs.Parts.{entries_of};
 
@@ -25,7 +27,7 @@ impl Model for KindTable {
 
     ghost view = { λ a. entries_of a.domains.entries };
 
-    ghost invariant = { λ a. IsUnique nat_eq a.domains };
+    ghost invariant = { λ a. IsOrdered nat_cmp a.domains };
 }
 
 impl KindTable {
@@ -35,7 +37,7 @@ impl KindTable {
     {
         KindTable {
             alloc,
-            domains: HashMap::new(alloc),
+            domains: BTreeMap::new(alloc),
         }
     }
 
@@ -56,7 +58,7 @@ impl KindTable {
             templates.insert(id, template)?;
             return Ok(());
         }
-        let mut templates = HashMap::new(self.alloc);
+        let mut templates = BTreeMap::new(self.alloc);
         templates.insert(id, template)?;
         self.domains.insert(domain, templates)?;
         Ok(())

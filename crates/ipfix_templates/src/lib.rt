@@ -11,6 +11,8 @@
 mod event;
 mod fault;
 mod field;
+mod field_list;
+mod fields;
 mod kind;
 mod kind_table;
 mod laws;
@@ -21,7 +23,8 @@ mod template;
 
 pub use event::{TemplateEvent, TemplateEvents};
 pub use fault::{TemplateFault, TemplateFaultKind};
-pub use field::{Field, Fields, VARIABLE_LENGTH};
+pub use field::{Field, VARIABLE_LENGTH};
+pub use fields::Fields;
 pub use kind::Kind;
 pub use laws::{event_after_history, events_fit, memory_is_no_fault, one_reading};
 pub use set::read_template_set;

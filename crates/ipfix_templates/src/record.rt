@@ -3,7 +3,8 @@ ghost use Rattle.ipfix_templates.specs.Reading.{field_at, fields_at, record_at, 
 
 use crate::event::TemplateEvent;
 use crate::fault::TemplateFaultKind;
-use crate::field::{Field, Fields};
+use crate::field::Field;
+use crate::fields::Fields;
 use crate::kind::Kind;
 use crate::template::Template;
 use byteorder::{BigEndian, ByteOrder};
@@ -59,11 +60,11 @@ fn read_fields(
     let mut fields = Vec::new(alloc);
     let mut rest = bytes;
     for _ in 0..count {
-        let Some((field, after)) = read_field(rest) else {
+        let Some(read) = read_field(rest) else {
             return Ok(None);
         };
-        fields.push(field)?;
-        rest = after;
+        fields.push(read.0)?;
+        rest = read.1;
     }
     Ok(Some((Fields::from_vec(fields)?, rest)))
 }

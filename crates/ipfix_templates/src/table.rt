@@ -1,4 +1,4 @@
-ghost use Rattle.std.specs.Prelude.{◌≡◌, ◌++◌, ◌∷◌, [], List, ℕ, Some, None, OnOk, OnErr};
+ghost use Rattle.std.specs.Prelude.{◌≡◌, ◌++◌, ◌∷◌, [], List, ℕ, Some, None, IfSome, OnOk, OnErr};
 ghost use Rattle.std.specs.Option.{option_copied};
 ghost use Rattle.ipfix_templates.specs.declared.event.TemplateEvent.{TemplateEvent as Event};
 ghost use Rattle.ipfix_templates.specs.declared.event.TemplateEvent.TheVariants.{Define, Withdraw, WithdrawAll};
@@ -21,13 +21,14 @@ pub struct TemplateTable {
 impl Model for TemplateTable {
     ghost use Rattle.std.specs.Prelude.{List, ℕ, ◌++◌};
     ghost use Rattle.ipfix_templates.specs.Template.{TemplateView};
+    ghost use Rattle.ipfix_templates.specs.Table.{AreKeyed};
     ghost use Rattle.ipfix_templates.specs.Parts.{AreParted};
 
     ghost Value = { List ((ℕ × ℕ) × TemplateView) };
 
     ghost view = { λ a. a.flow ++ a.options };
 
-    ghost invariant = { λ a. AreParted a.flow a.options };
+    ghost invariant = { λ a. AreParted a.flow a.options × AreKeyed (a.flow ++ a.options) };
 }
 
 impl TemplateTable {
@@ -44,7 +45,8 @@ impl TemplateTable {
 
     /// The template of this ID in the domain.
     pub fn get(&self, domain: u32, id: u16) -> Option<&Template>
-        ensures { option_copied result ≡ template_at self.now domain id }
+        ensures found { option_copied result ≡ template_at self.now domain id }
+        ensures numbered { IfSome result (λ template. template.now.id ≡ id) }
     {
         match self.flow.get(domain, id) {
             Some(template) => Some(template),

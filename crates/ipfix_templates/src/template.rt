@@ -1,7 +1,7 @@
 ghost use Rattle.std.specs.Prelude.{◌≡◌, IfOk};
 ghost use Rattle.ipfix_templates.specs.Field.{least_length};
 
-use crate::field::Fields;
+use crate::fields::Fields;
 use crate::kind::Kind;
 use std::alloc::AllocError;
 use std::marker::Model;
@@ -64,11 +64,7 @@ impl Template {
     pub fn least_length(&self) -> u32
         ensures { result ≡ least_length self.now.fields }
     {
-        let mut total = 0u32;
-        for field in self.fields.as_slice() {
-            total += u32::from(field.least_length());
-        }
-        total
+        self.fields.least_length()
     }
 
     /// Another template with the same parts. The fields are shared, so that it takes no memory for them.

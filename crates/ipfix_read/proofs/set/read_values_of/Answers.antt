@@ -4,5 +4,5 @@ use Rattle.ipfix_read.proofs.set.read_values_of.Goals as goal
 
 pub returns-in-Ok-clause-size : goal.returns-in-Ok-clause-size
 returns-in-Ok-clause-size c =
-    let is = rw c.in-Ok.is at c.in_ok-records.ensures in
+    let is = rw c.in-Ok.is at c.in_ok-records.ensures.read in
     omega (arith, reads_shorter c.in-Some.template.now c.args.bytes.now c.in-Ok.records is.0 is.1)

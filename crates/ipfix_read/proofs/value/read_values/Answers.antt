@@ -7,7 +7,7 @@ use Rattle.ipfix_read.proofs.value.read_values.Goals as goal
 
 -- what was read, and that the bytes behind it are the rest
 read : (c : goal.In_ok-copy) → (x : List FieldValueView × List ℕ) × (values_at c.args.fields.now c.args.bytes.now ≡ Some x) × (x.1 ≡ c.in-Some.rest.now)
-read c = mapped (values_at c.args.fields.now c.args.bytes.now) (λ x. x.1) c.in-Some.rest.now (rw c.as_slice.ensures.value at (sym c.in-Some.ensures))
+read c = mapped (values_at c.args.fields.now c.args.bytes.now) (λ x. x.1) c.in-Some.rest.now (sym c.in-Some.ensures)
 
 pub slice_bounds-values-count : goal.slice_bounds-values-count
 slice_bounds-values-count c =
@@ -23,7 +23,7 @@ cut c =
 pub invariant_of-values : goal.invariant_of-values
 invariant_of-values c = rw c.in_ok-copy.ensures (cut c).0
 
-pub returns : goal.returns
-returns c =
+pub returns-clause-read : goal.returns-clause-read
+returns-clause-read c =
     let r = read c in
     rw c.in_ok-copy.ensures (ap (λ (vs : List FieldValueView). Some (vs, c.in-Some.rest.now)) (cut c).1 ∙ ap (λ (rest : List ℕ). Some (r.0.0, rest)) (sym r.2) ∙ sym r.1)

@@ -1,4 +1,4 @@
-use Rattle.std.proofs.Common.{rules, arith}
+use Rattle.std.proofs.Common.{◌≡◌, [], ◌∷◌, ◌++◌, rules, arith}
 use Rattle.std.proofs.lemmas.Grind.{common_steps}
 use Rattle.ipfix_templates.specs.Reading.{fields_at}
 use Rattle.ipfix_templates.proofs.Loops.{goes_on, ends, is_done}
@@ -10,7 +10,9 @@ returns-in_default-clause-read c =
 
 pub loop-preserved : goal.loop-preserved
 loop-preserved c = record {
-  read = rw c.in_ok-push.ensures.items (goes_on c.loop.fields.items c.args.count c.loop.counter c.loop.rest.now c.in-Some.field c.in-Some.after.now (fields_at c.args.count c.args.bytes.now) c.loop-test.true (search rules) c.loop.invariant.read);
+  read =
+      let items : c.push.new.self.items ≡ c.loop.fields.items ++ c.in-Some.read.0 ∷ [] = c.in_ok-push.ensures.items in
+      rw items (goes_on c.loop.fields.items c.args.count c.loop.counter c.loop.rest.now c.in-Some.read.0 c.in-Some.read.1.now (fields_at c.args.count c.args.bytes.now) c.loop-test.true (search rules) c.loop.invariant.read);
   counted = grind (arith, common_steps);
 }
 

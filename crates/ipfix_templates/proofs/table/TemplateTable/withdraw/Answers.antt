@@ -1,19 +1,24 @@
 use Rattle.std.proofs.Common.{None, ◌++◌}
-use Rattle.ipfix_templates.proofs.Parts.{options_put, from_view}
-use Rattle.ipfix_templates.proofs.Tables.{follows_withdraw}
+use Rattle.ipfix_templates.specs.Table.{ChangesAt}
+use Rattle.ipfix_templates.proofs.Parts.{options_put, removed_parted, from_view}
+use Rattle.ipfix_templates.proofs.Tables.{follows_withdraw, keyed_removed}
 use Rattle.ipfix_templates.proofs.table.TemplateTable.withdraw.Goals as goal
+use Rattle.ipfix_templates.proofs.table.TemplateTable.withdraw.Goals.{After-remove-2}
+
+inside : (c : After-remove-2) → ChangesAt (c.self.inside.flow ++ c.self.inside.options) (c.remove.new.self ++ c.remove-2.new.self) c.args.domain c.args.id None
+inside c = options_put c.self.inside.flow c.remove.new.self c.self.inside.options c.remove-2.new.self c.args.domain c.args.id None c.remove.ensures c.remove-2.ensures
+
+changes : (c : After-remove-2) → ChangesAt c.args.self.now (c.remove.new.self ++ c.remove-2.new.self) c.args.domain c.args.id None
+changes c = from_view _ c.args.self.now _ c.args.domain c.args.id None c.self.view_is (inside c)
+
+pub invariant_of-self : goal.invariant_of-self
+invariant_of-self c = (
+  removed_parted c.self.inside.flow c.remove.new.self c.self.inside.options c.remove-2.new.self c.args.domain c.args.id c.remove.ensures c.remove-2.ensures c.self.invariant.0,
+  keyed_removed _ _ c.args.domain c.args.id (inside c) c.self.invariant.1,
+)
 
 pub returns-clause-change : goal.returns-clause-change
-returns-clause-change c =
-    let f = c.self.inside.flow in
-    let o = c.self.inside.options in
-    from_view (f ++ o) c.args.self.now (c.remove.new.self ++ c.remove-2.new.self) c.args.domain c.args.id None c.self.view_is
-    (options_put f c.remove.new.self o c.remove-2.new.self c.args.domain c.args.id None c.remove.ensures c.remove-2.ensures)
+returns-clause-change c = changes c
 
 pub returns-clause-follows : goal.returns-clause-follows
-returns-clause-follows c =
-    let f = c.self.inside.flow in
-    let o = c.self.inside.options in
-    let change = from_view (f ++ o) c.args.self.now (c.remove.new.self ++ c.remove-2.new.self) c.args.domain c.args.id None c.self.view_is
-    (options_put f c.remove.new.self o c.remove-2.new.self c.args.domain c.args.id None c.remove.ensures c.remove-2.ensures) in
-    follows_withdraw c.args.self.now (c.remove.new.self ++ c.remove-2.new.self) c.args.domain c.args.id change
+returns-clause-follows c = follows_withdraw c.args.self.now (c.remove.new.self ++ c.remove-2.new.self) c.args.domain c.args.id (changes c)

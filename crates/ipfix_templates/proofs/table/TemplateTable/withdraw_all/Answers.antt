@@ -1,26 +1,36 @@
 use Rattle.std.proofs.Common.{ℕ, List, ◌++◌, subst}
 use Rattle.ipfix_templates.specs.Template.{TemplateView}
 use Rattle.ipfix_templates.specs.Table.{DropsKind}
-use Rattle.ipfix_templates.proofs.Parts.{flow_dropped, options_dropped}
-use Rattle.ipfix_templates.proofs.Tables.{follows_withdraw_all}
+use Rattle.ipfix_templates.proofs.Parts.{flow_dropped, options_dropped, flow_dropped_parted, options_dropped_parted}
+use Rattle.ipfix_templates.proofs.Tables.{follows_withdraw_all, keyed_dropped}
 use Rattle.ipfix_templates.proofs.table.TemplateTable.withdraw_all.Goals as goal
+
+flow_inside : (c : goal.After-remove_all) → DropsKind (c.self.inside.flow ++ c.self.inside.options) (c.remove_all.new.self ++ c.self.inside.options) c.args.domain c.args.kind
+flow_inside c = rw c.in-Flow.is (flow_dropped c.self.inside.flow c.self.inside.options c.args.domain c.self.invariant.0 c.remove_all.new.self c.remove_all.ensures)
 
 flow_changes : (c : goal.After-remove_all) → DropsKind c.args.self.now (c.remove_all.new.self ++ c.self.inside.options) c.args.domain c.args.kind
 flow_changes c =
-    let f = c.self.inside.flow in
-    let o = c.self.inside.options in
-    let new = c.remove_all.new.self ++ o in
-    let drops : DropsKind (f ++ o) new c.args.domain c.args.kind = rw c.in-Flow.is (flow_dropped f o c.args.domain c.self.invariant c.remove_all.new.self c.remove_all.ensures) in
-    subst (λ (old : List ((ℕ × ℕ) × TemplateView)). DropsKind old new c.args.domain c.args.kind) c.self.view_is drops
+    subst (λ (old : List ((ℕ × ℕ) × TemplateView)). DropsKind old (c.remove_all.new.self ++ c.self.inside.options) c.args.domain c.args.kind) c.self.view_is (flow_inside c)
+
+options_inside : (c : goal.After-remove_all-in-Options) → DropsKind (c.self.inside.flow ++ c.self.inside.options) (c.self.inside.flow ++ c.remove_all-in-Options.new.self) c.args.domain c.args.kind
+options_inside c =
+    rw c.in-Options.is (options_dropped c.self.inside.flow c.self.inside.options c.args.domain c.self.invariant.0 c.remove_all-in-Options.new.self c.remove_all-in-Options.ensures)
 
 options_changes : (c : goal.After-remove_all-in-Options) → DropsKind c.args.self.now (c.self.inside.flow ++ c.remove_all-in-Options.new.self) c.args.domain c.args.kind
 options_changes c =
-    let f = c.self.inside.flow in
-    let o = c.self.inside.options in
-    let new = f ++ c.remove_all-in-Options.new.self in
-    let drops : DropsKind (f ++ o) new c.args.domain c.args.kind =
-    rw c.in-Options.is (options_dropped f o c.args.domain c.self.invariant c.remove_all-in-Options.new.self c.remove_all-in-Options.ensures) in
-    subst (λ (old : List ((ℕ × ℕ) × TemplateView)). DropsKind old new c.args.domain c.args.kind) c.self.view_is drops
+    subst (λ (old : List ((ℕ × ℕ) × TemplateView)). DropsKind old (c.self.inside.flow ++ c.remove_all-in-Options.new.self) c.args.domain c.args.kind) c.self.view_is (options_inside c)
+
+pub invariant_of-self : goal.invariant_of-self
+invariant_of-self c = (
+  flow_dropped_parted c.self.inside.flow c.self.inside.options c.args.domain c.self.invariant.0 c.remove_all.new.self c.remove_all.ensures,
+  keyed_dropped _ _ c.args.domain c.args.kind (flow_inside c) c.self.invariant.1,
+)
+
+pub invariant_of-self-in-Options : goal.invariant_of-self-in-Options
+invariant_of-self-in-Options c = (
+  options_dropped_parted c.self.inside.flow c.self.inside.options c.args.domain c.self.invariant.0 c.remove_all-in-Options.new.self c.remove_all-in-Options.ensures,
+  keyed_dropped _ _ c.args.domain c.args.kind (options_inside c) c.self.invariant.1,
+)
 
 pub returns-in-Flow-clause-change : goal.returns-in-Flow-clause-change
 returns-in-Flow-clause-change c = flow_changes c

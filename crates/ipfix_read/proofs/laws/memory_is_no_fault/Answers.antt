@@ -1,0 +1,5 @@
+use Rattle.ipfix_read.proofs.Faults.{memory_is_no_fault}
+use Rattle.ipfix_read.proofs.laws.memory_is_no_fault.Goals as goal
+
+pub returns : goal.returns
+returns c = memory_is_no_fault c.memory_is_no_fault.ensures
