@@ -27,6 +27,10 @@ pub data TextFault : Type 0 where
 abbrev pub Outcome : Type 0
 Outcome = Result (List ℕ) TextFault
 
+-- the outcome is the fault of no text: none is
+abbrev pub IsNoFault : List ℕ → Outcome → Type 0
+IsNoFault text outcome = ⊥
+
 -- the outcome is this text
 abbrev pub Prints : List ℕ → Outcome → Type 0
 Prints text outcome = outcome ≡ Ok text
