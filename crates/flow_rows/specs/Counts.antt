@@ -1,0 +1,85 @@
+-- The counts of messages.
+use Rattle.std.specs.Prelude.{ℕ, List, Bool, true, false, length, count_by}
+use Rattle.ipfix_templates.specs.declared.kind.Kind.{Kind}
+use Rattle.ipfix_templates.specs.declared.kind.Kind.TheVariants.{Flow, Options}
+use Rattle.ipfix_templates.specs.declared.event.TemplateEvent.{TemplateEvent}
+use Rattle.ipfix_templates.specs.declared.event.TemplateEvent.TheVariants.{Define, Withdraw, WithdrawAll}
+use Rattle.ipfix_templates.specs.Kind.{same_kind}
+use Rattle.ipfix_read.specs.declared.record.Record.{Record}
+use Rattle.ipfix_read.specs.declared.set.Set.{Set}
+use Rattle.ipfix_read.specs.declared.set.Set.TheVariants.{Templates, Values, Skipped}
+use Rattle.ipfix_read.specs.Message.{MessageView}
+use Rattle.flow_rows.specs.declared.counts.Counts.{Counts}
+use Rattle.flow_rows.specs.Content.{events_of, records_of, rows_of, sets_of}
+
+-- counts without the proof that they are bounded
+pub record CountsView : Type 0 where
+  pub messages : ℕ
+  pub templates : ℕ
+  pub options_templates : ℕ
+  pub withdrawals : ℕ
+  pub data_sets : ℕ
+  pub skipped_sets : ℕ
+  pub records : ℕ
+  pub options_records : ℕ
+  pub rows : ℕ
+
+abbrev pub counts_view : Counts → CountsView
+counts_view c = record {
+  messages = c.messages;
+  templates = c.templates;
+  options_templates = c.options_templates;
+  withdrawals = c.withdrawals;
+  data_sets = c.data_sets;
+  skipped_sets = c.skipped_sets;
+  records = c.records;
+  options_records = c.options_records;
+  rows = c.rows;
+}
+
+-- the event defines a template of the kind
+abbrev pub defines : Kind → TemplateEvent → Bool
+defines kind (Define template) = same_kind template.kind kind
+defines kind (Withdraw id) = false
+defines kind (WithdrawAll every) = false
+
+-- the event withdraws one template, or all of a kind
+abbrev pub is_withdrawal : TemplateEvent → Bool
+is_withdrawal (Define template) = false
+is_withdrawal (Withdraw id) = true
+is_withdrawal (WithdrawAll every) = true
+
+-- the set is a data set under a template in force
+abbrev pub is_data_set : Set → Bool
+is_data_set (Templates kind events) = false
+is_data_set (Values kind records) = true
+is_data_set (Skipped id) = false
+
+-- the set is skipped
+abbrev pub is_skipped : Set → Bool
+is_skipped (Templates kind events) = false
+is_skipped (Values kind records) = false
+is_skipped (Skipped id) = true
+
+-- the record is described by a template of the kind
+abbrev pub is_of_kind : Kind → Record → Bool
+is_of_kind kind r = same_kind r.kind kind
+
+-- the counts of so many messages with these sets: definitions of templates of each kind, withdrawals, data sets and
+-- skipped sets, records of each kind, and rows
+abbrev pub counts_in : ℕ → List Set → CountsView
+counts_in messages sets = record {
+  messages = messages;
+  templates = count_by (defines Flow) (events_of sets);
+  options_templates = count_by (defines Options) (events_of sets);
+  withdrawals = count_by is_withdrawal (events_of sets);
+  data_sets = count_by is_data_set sets;
+  skipped_sets = count_by is_skipped sets;
+  records = count_by (is_of_kind Flow) (records_of sets);
+  options_records = count_by (is_of_kind Options) (records_of sets);
+  rows = length (rows_of sets);
+}
+
+-- the counts of messages
+abbrev pub counts_of : List MessageView → CountsView
+counts_of messages = counts_in (length messages) (sets_of messages)

@@ -1,0 +1,146 @@
+ghost use Rattle.std.specs.Prelude.{◌≡◌, ◌≤◌, count_by, is_some, sum_by};
+ghost use Rattle.flow_rows.specs.Content.{events_in, records_in};
+ghost use Rattle.flow_rows.specs.Counts.{defines, is_data_set, is_of_kind, is_skipped, is_withdrawal};
+ghost use Rattle.flow_rows.specs.Elements.{first_row};
+
+use crate::record::has_row;
+use ipfix_read::Set;
+use ipfix_templates::{Kind, TemplateEvent};
+
+// Whether the event defines a template of the kind.
+fn defines(event: &TemplateEvent, kind: Kind) -> bool
+    ensures { result ≡ defines kind event.now }
+{
+    match event {
+        TemplateEvent::Define(template) => template.kind().is(kind),
+        TemplateEvent::Withdraw(_) | TemplateEvent::WithdrawAll(_) => false,
+    }
+}
+
+// Whether the event withdraws one template or more.
+fn is_withdrawal(event: &TemplateEvent) -> bool
+    ensures { result ≡ is_withdrawal event.now }
+{
+    match event {
+        TemplateEvent::Define(_) => false,
+        TemplateEvent::Withdraw(_) | TemplateEvent::WithdrawAll(_) => true,
+    }
+}
+
+// How many events of the set define a template of the kind.
+fn definitions_in(set: &Set<'_>, kind: Kind) -> u64
+    ensures { result ≡ count_by (defines kind) (events_in set.now) }
+{
+    match set {
+        Set::Templates(_, events) => {
+            events
+                .as_slice()
+                .iter()
+                .filter(|event| defines(event, kind))
+                .count() as u64
+        }
+        Set::Values(..) | Set::Skipped(_) => 0,
+    }
+}
+
+// How many events of the set are withdrawals.
+fn withdrawals_in(set: &Set<'_>) -> u64
+    ensures { result ≡ count_by is_withdrawal (events_in set.now) }
+{
+    match set {
+        Set::Templates(_, events) => {
+            events
+                .as_slice()
+                .iter()
+                .filter(|event| is_withdrawal(event))
+                .count() as u64
+        }
+        Set::Values(..) | Set::Skipped(_) => 0,
+    }
+}
+
+// How many records of the set are described by a template of the kind.
+fn records_in(set: &Set<'_>, kind: Kind) -> u64
+    ensures { result ≡ count_by (is_of_kind kind) (records_in set.now) }
+{
+    match set {
+        Set::Values(_, records) => {
+            records
+                .as_slice()
+                .iter()
+                .filter(|record| record.kind.is(kind))
+                .count() as u64
+        }
+        Set::Templates(..) | Set::Skipped(_) => 0,
+    }
+}
+
+// How many records of the set have a row.
+fn rows_in(set: &Set<'_>) -> u64
+    ensures { result ≡ count_by (λ r. is_some (first_row r)) (records_in set.now) }
+{
+    match set {
+        Set::Values(_, records) => {
+            records
+                .as_slice()
+                .iter()
+                .filter(|record| has_row(record))
+                .count() as u64
+        }
+        Set::Templates(..) | Set::Skipped(_) => 0,
+    }
+}
+
+/// How many events of the sets define a template of the kind.
+pub fn definitions(sets: &[Set<'_>], kind: Kind) -> u64
+    requires { sum_by (λ set. count_by (defines kind) (events_in set)) sets.now ≤ 65535 }
+    ensures value { result ≡ sum_by (λ set. count_by (defines kind) (events_in set)) sets.now }
+    ensures bound { result ≤ 65535 }
+{
+    sets.iter().map(|set| definitions_in(set, kind)).sum()
+}
+
+/// How many events of the sets are withdrawals.
+pub fn withdrawals(sets: &[Set<'_>]) -> u64
+    requires { sum_by (λ set. count_by is_withdrawal (events_in set)) sets.now ≤ 65535 }
+    ensures value { result ≡ sum_by (λ set. count_by is_withdrawal (events_in set)) sets.now }
+    ensures bound { result ≤ 65535 }
+{
+    sets.iter().map(|set| withdrawals_in(set)).sum()
+}
+
+/// How many sets are data sets under a template in force.
+pub fn data_sets(sets: &[Set<'_>]) -> u64
+    ensures { result ≡ count_by is_data_set sets.now }
+{
+    sets.iter()
+        .filter(|set| matches!(set, Set::Values(..)))
+        .count() as u64
+}
+
+/// How many sets are skipped.
+pub fn skipped_sets(sets: &[Set<'_>]) -> u64
+    ensures { result ≡ count_by is_skipped sets.now }
+{
+    sets.iter()
+        .filter(|set| matches!(set, Set::Skipped(_)))
+        .count() as u64
+}
+
+/// How many records of the sets are described by a template of the kind.
+pub fn records(sets: &[Set<'_>], kind: Kind) -> u64
+    requires { sum_by (λ set. count_by (is_of_kind kind) (records_in set)) sets.now ≤ 65535 }
+    ensures value { result ≡ sum_by (λ set. count_by (is_of_kind kind) (records_in set)) sets.now }
+    ensures bound { result ≤ 65535 }
+{
+    sets.iter().map(|set| records_in(set, kind)).sum()
+}
+
+/// How many records of the sets have a row.
+pub fn rows(sets: &[Set<'_>]) -> u64
+    requires { sum_by (λ set. count_by (λ r. is_some (first_row r)) (records_in set)) sets.now ≤ 65535 }
+    ensures value { result ≡ sum_by (λ set. count_by (λ r. is_some (first_row r)) (records_in set)) sets.now }
+    ensures bound { result ≤ 65535 }
+{
+    sets.iter().map(|set| rows_in(set)).sum()
+}

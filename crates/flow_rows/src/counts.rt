@@ -1,0 +1,71 @@
+ghost use Rattle.std.specs.Prelude.{◌+◌, ◌*◌, ◌≤◌};
+
+use crate::counting::{data_sets, definitions, records, rows, skipped_sets, withdrawals};
+use ipfix_read::Message;
+use ipfix_templates::Kind;
+
+/// The counts of messages: what `info` shows of a File. Each is at most 65,535 for each message.
+#[derive(Clone, Copy, Debug, PartialEq, Eq)]
+pub struct Counts {
+    /// Messages (RFC 7011 section 3.1).
+    pub messages: u64,
+    /// Definitions of templates of flow records (RFC 7011 section 3.4.1).
+    pub templates: u64,
+    /// Definitions of templates of options records (RFC 7011 section 3.4.2).
+    pub options_templates: u64,
+    /// Withdrawals, of one template or of all of a kind (RFC 7011 section 8.1).
+    pub withdrawals: u64,
+    /// Data sets under a template in force, of either kind (RFC 7011 section 3.4.3).
+    pub data_sets: u64,
+    /// Data sets without a template in force, and sets whose IDs have no meaning.
+    pub skipped_sets: u64,
+    /// Flow records.
+    pub records: u64,
+    /// Options records.
+    pub options_records: u64,
+    /// Rows of the records.
+    pub rows: u64,
+    ghost bounded: { templates + options_templates + withdrawals + data_sets + skipped_sets + records + options_records + rows
+        ≤ 524280 * messages },
+}
+
+impl Counts {
+    ghost use Rattle.std.specs.Prelude.{◌≡◌, ◌++◌, ◌∷◌, [], ◌<◌, List};
+    ghost use Rattle.ipfix_read.specs.Message.{MessageView};
+    ghost use Rattle.flow_rows.specs.Counts.{counts_of, counts_view};
+
+    /// The counts of no message.
+    pub fn new() -> Counts
+        ensures { counts_view result ≡ counts_of [] }
+    {
+        Counts {
+            messages: 0,
+            templates: 0,
+            options_templates: 0,
+            withdrawals: 0,
+            data_sets: 0,
+            skipped_sets: 0,
+            records: 0,
+            options_records: 0,
+            rows: 0,
+        }
+    }
+
+    /// Counts one more message.
+    pub fn add(&mut self, message: &Message<'_>)
+        requires { self.old.messages < 4294967295 }
+        ensures { (messages : List MessageView) → counts_view self.old ≡ counts_of messages
+            → counts_view self.new ≡ counts_of (messages ++ message.now ∷ []) }
+    {
+        let sets = message.sets().as_slice();
+        self.messages += 1;
+        self.templates += definitions(sets, Kind::Flow);
+        self.options_templates += definitions(sets, Kind::Options);
+        self.withdrawals += withdrawals(sets);
+        self.data_sets += data_sets(sets);
+        self.skipped_sets += skipped_sets(sets);
+        self.records += records(sets, Kind::Flow);
+        self.options_records += records(sets, Kind::Options);
+        self.rows += rows(sets);
+    }
+}
