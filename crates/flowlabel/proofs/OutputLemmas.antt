@@ -7,7 +7,7 @@ use Rattle.ipfix_read.specs.Laws.{OneReading}
 use Rattle.ipfix_read.specs.Message.{MessageView}
 use Rattle.ipfix_read.specs.declared.fault.ReadFault.{ReadFault}
 use Rattle.flowlabel.specs.Output.{FileTexts, FlowsThen, InFlows, InMap, IsOutput, MapThen, OneOutput, Outcome, Prints}
-use Rattle.flowlabel.specs.Request.{Request, label}
+use Rattle.flowlabel.specs.Request.{Request, label, info, rows}
 
 -- what comes of a value is one outcome at most
 abbrev IsOne : {A : Type 0} → (A → Outcome → Type 0) → Type 0
@@ -38,3 +38,5 @@ flows_then_one law rest one bytes outcome other (inr p) (inr q) =
 
 pub one_output : OneReading → OneOutput
 one_output law (label map address) texts outcome other p q = map_then_one _ (prints_one _) texts.map outcome other p q
+one_output law (info flows) texts outcome other p q = flows_then_one law _ (prints_one _) texts.flows outcome other p q
+one_output law (rows columns flows) texts outcome other p q = flows_then_one law _ (prints_one _) texts.flows outcome other p q

@@ -1,4 +1,4 @@
-use Rattle.std.specs.Prelude.{◌≡◌, ◌⊎◌, ℕ, List, [], ◌∷◌, ◌++◌, Option, Result, Ok, Err, option_map, unwrap_or}
+use Rattle.std.specs.Prelude.{◌≡◌, ◌⊎◌, ℕ, List, [], ◌∷◌, ◌++◌, Option, None, Result, Ok, Err, option_map, unwrap_or}
 use Rattle.prefix_keys.specs.Conversion.{converted}
 use Rattle.prefix_keys.specs.Text.{AddressOf}
 use Rattle.pmap_text.specs.MapModel.{Label, MapModel, map_label}
@@ -7,7 +7,11 @@ use Rattle.pmap_text.specs.declared.fault.MapFault.{MapFault}
 use Rattle.ipfix_read.specs.File.{HasFileFault, ReadsFile}
 use Rattle.ipfix_read.specs.Message.{MessageView}
 use Rattle.ipfix_read.specs.declared.fault.ReadFault.{ReadFault}
-use Rattle.flowlabel.specs.Request.{Request, label}
+use Rattle.flow_rows.specs.Content.{rows_of_messages}
+use Rattle.flow_rows.specs.Counts.{counts_of}
+use Rattle.pmap_print.specs.Info.{info_text}
+use Rattle.pmap_print.specs.Rows.{rows_text}
+use Rattle.flowlabel.specs.Request.{Request, label, info, rows}
 
 -- The output of a request: the text that it prints, or the first fault of its files' bytes.
 
@@ -26,10 +30,6 @@ pub data TextFault : Type 0 where
 -- a text, or the first fault
 abbrev pub Outcome : Type 0
 Outcome = Result (List ℕ) TextFault
-
--- the outcome is the fault of no text: none is
-abbrev pub IsNoFault : List ℕ → Outcome → Type 0
-IsNoFault text outcome = ⊥
 
 -- the outcome is this text
 abbrev pub Prints : List ℕ → Outcome → Type 0
@@ -66,6 +66,8 @@ label_text address m = line_of (unwrap_or (label_of_address m address) [])
 -- this is an output of the request by the texts of its files, which are read in the order map, list, certificate, flows
 abbrev pub IsOutput : Request → FileTexts → Outcome → Type 0
 IsOutput (label map address) texts = MapThen (λ m. Prints (label_text address m)) texts.map
+IsOutput (info flows) texts = FlowsThen (λ messages. Prints (info_text (counts_of messages))) texts.flows
+IsOutput (rows columns flows) texts = FlowsThen (λ messages. Prints (rows_text (rows_of_messages messages) None columns)) texts.flows
 
 -- a request has one output at most
 abbrev pub OneOutput : Type 0

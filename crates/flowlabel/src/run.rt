@@ -14,9 +14,11 @@ use std::alloc::Global;
 
 mod label;
 pub mod laws;
+pub mod report;
 mod source;
 
 use label::label_of_file;
+use report::{Report, report_of_file};
 
 // The whole output of a command.
 fn output<'a, R: Input>(
@@ -31,11 +33,26 @@ fn output<'a, R: Input>(
     ensures err { IfErr result (IsFaultOfBytes R.bytes_left R.failed inputs.old inputs.new (request_of command.now)) }
     ensures failed { any_failed R.failed inputs.new ≡ is_read_stop result }
 {
-    let Command::Label { addr, .. } = command;
-    let Some(source) = &mut inputs.map else {
-        unreachable!()
-    };
-    label_of_file(alloc, source, *addr)
+    match command {
+        Command::Label { addr, .. } => {
+            let Some(source) = &mut inputs.map else {
+                unreachable!()
+            };
+            label_of_file(alloc, source, *addr)
+        }
+        Command::Info { .. } => {
+            let Some(source) = &mut inputs.flows else {
+                unreachable!()
+            };
+            report_of_file(alloc, source, Report::Info)
+        }
+        Command::Rows { columns, .. } => {
+            let Some(source) = &mut inputs.flows else {
+                unreachable!()
+            };
+            report_of_file(alloc, source, Report::Rows { columns: *columns })
+        }
+    }
 }
 
 /// Runs a command: reads its inputs, makes the whole output, and then writes it and flushes once.

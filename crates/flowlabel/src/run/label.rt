@@ -5,7 +5,7 @@ ghost use Rattle.pmap_text.specs.MapModel.{map_label};
 ghost use Rattle.pmap_text.specs.MapText.{map_of};
 ghost use Rattle.label_trie.specs.TrieModel.{label_in};
 ghost use Rattle.flowlabel.specs.Output.{MapThen, Prints, label_of_address, label_text, line_of};
-ghost use Rattle.flowlabel.specs.Run.{is_read_stop, IsFaultOfSource};
+ghost use Rattle.flowlabel.specs.Run.{is_read_stop, IsFaultOfMapFile};
 
 use crate::fault::RunFault;
 use crate::inputs::Source;
@@ -58,7 +58,7 @@ pub fn label_of_file<'a, R: Input>(
     requires { R.failed source.old.reader ≡ false }
     ensures ok { IfOk result (λ out. (text : List ℕ) → R.bytes_left source.old.reader ≡ Some text
         → MapThen (λ m. Prints (label_text (addr.version, addr.value) m)) text (Ok out.items)) }
-    ensures err { IfErr result (IsFaultOfSource R.bytes_left R.failed
+    ensures err { IfErr result (IsFaultOfMapFile R.bytes_left R.failed
         (MapThen (λ m. Prints (label_text (addr.version, addr.value) m))) source.old source.new) }
     ensures failed { R.failed source.new.reader ≡ is_read_stop result }
 {

@@ -2,8 +2,8 @@
 ghost use Rattle.std.specs.Prelude.{◌≡◌, false, IfErr, IfOk, IfSome, List, Some, ℕ};
 ghost use Rattle.pmap_text.specs.MapText.{map_of};
 ghost use Rattle.pmap_text.specs.Reading.{ReadsMap};
-ghost use Rattle.flowlabel.specs.Output.{FailsMap, IsNoFault};
-ghost use Rattle.flowlabel.specs.Run.{is_read_stop, IsFaultOfSource};
+ghost use Rattle.flowlabel.specs.Output.{FailsMap};
+ghost use Rattle.flowlabel.specs.Run.{is_read_stop, IsFaultOfMapFile, IsFaultOfReading};
 
 use crate::fault::RunFault;
 use crate::inputs::Source;
@@ -19,7 +19,7 @@ pub fn text_of_file<'a, R: Input>(
 ) -> Result<Vec<u8>, RunFault<'a>>
     requires { R.failed source.old.reader ≡ false }
     ensures ok { IfOk result (λ text. IfSome (R.bytes_left source.old.reader) (λ left. text.items ≡ left)) }
-    ensures err { IfErr result (IsFaultOfSource R.bytes_left R.failed IsNoFault source.old source.new) }
+    ensures err { IfErr result (IsFaultOfReading R.failed source.old source.new) }
     ensures name { source.new.name.now ≡ source.old.name.now }
     ensures failed { R.failed source.new.reader ≡ is_read_stop result }
 {
@@ -37,7 +37,7 @@ pub fn map_of_file<'a, R: Input>(
 ) -> Result<MapText, RunFault<'a>>
     requires { R.failed source.old.reader ≡ false }
     ensures ok { IfOk result (λ map. (text : List ℕ) → R.bytes_left source.old.reader ≡ Some text → ReadsMap text (map_of map)) }
-    ensures err { IfErr result (IsFaultOfSource R.bytes_left R.failed FailsMap source.old source.new) }
+    ensures err { IfErr result (IsFaultOfMapFile R.bytes_left R.failed FailsMap source.old source.new) }
     ensures failed { R.failed source.new.reader ≡ is_read_stop result }
 {
     let text = text_of_file(alloc, source)?;
