@@ -14,7 +14,10 @@ own_fault bytes text fault other (inr found) same = subst (λ (b : List ℕ). Ha
 pub returns-in_default : goal.returns-in_default
 returns-in_default g c = record {
   ok = tt;
-  err = (sym c.in_ok-text.ensures.name, c.in_default.not-NoMemory,
-    λ text told. inl (c.in-Err.fault, own_fault _ text _ c.in_default.not-NoMemory c.in-Err.ensures.fault (c.as_slice.ensures.value ∙ rw told at c.in_ok-text.ensures.ok), refl));
+  err = (
+    sym c.in_ok-text.ensures.name,
+    c.in_default.not-NoMemory,
+    λ text told. inl (c.in-Err.fault, own_fault _ text _ c.in_default.not-NoMemory c.in-Err.ensures.fault (c.as_slice.ensures.value ∙ rw told at c.in_ok-text.ensures.ok), refl),
+  );
   failed = c.in_ok-text.ensures.failed;
 }
