@@ -1,13 +1,13 @@
 use crate::command::{Command, Needs};
-use crate::usage::UsageFault;
+use crate::usage::{ClapText, UsageFault};
 use crate::words::parse;
 use prefix_keys::Version;
 use std::alloc::{AllocError, Global};
+use std::process::Abort;
 use std::test::Fail;
 
-fn outcome(alloc: Global, line: &str) -> Result<&'static str, AllocError> {
-    let words: Vec<&str> = line.split(' ').collect(alloc)?;
-    Ok(match parse(alloc, words.as_slice()) {
+fn name_of(answer: &Result<Command<'_>, UsageFault>) -> &'static str {
+    match answer {
         Ok(Command::Label { .. }) => "label",
         Err(UsageFault::Refused(_)) => "refused",
         Err(UsageFault::NotUtf8) => "P1",
@@ -15,49 +15,53 @@ fn outcome(alloc: Global, line: &str) -> Result<&'static str, AllocError> {
         Err(UsageFault::MapMissing) => "P2",
         Err(UsageFault::BadAddress) => "P4",
         Err(UsageFault::NoMemory) => "out of memory",
-    })
+    }
 }
 
-#[test]
-fn answers_lines(rt: HostRuntime) -> Result<(), Fail> {
-    for (line, want) in [
-        ("flowlabel label --pmap map.txt 10.1.1.1", "label"),
-        ("flowlabel label --pmap=map.txt 10.1.1.1", "label"),
-        ("flowlabel label 10.1.1.1 --pmap map.txt", "label"),
-        ("flowlabel label 10.1.1.1", "P2"),
-        ("flowlabel label 1.2.3", "P2"),
-        ("flowlabel label --pmap map.txt 1.2.3", "P4"),
-        ("flowlabel label --pmap map.txt 2001:db8::1", "label"),
-        ("flowlabel label --pmap map.txt 2001:db8::1::", "P4"),
-        ("flowlabel label --pmap map.txt ", "P4"),
-        ("flowlabel info --colour flows", "refused"),
-        ("flowlabel label --pmap map.txt", "refused"),
-        (
-            "flowlabel label --pmap map.txt 10.1.1.1 10.1.1.2",
-            "refused",
-        ),
-        ("flowlabel label 10.1.1.1 --pmap", "refused"),
-        ("flowlabel label --map map.txt 10.1.1.1", "refused"),
-        ("flowlabel", "refused"),
-        ("flowlabel help", "refused"),
-        ("flowlabel --help", "help"),
-        ("flowlabel label --help", "help"),
-    ] {
-        assert_eq!(rt; outcome(rt.alloc(), line)?, want, "at {line}");
+fn outcome(alloc: Global, line: &str) -> Result<&'static str, AllocError> {
+    let words: Vec<&str> = line.split(' ').collect(alloc)?;
+    Ok(name_of(&parse(alloc, words.as_slice())))
+}
+
+const LINES: [(&str, &str); 18] = [
+    ("flowlabel label --pmap map.txt 10.1.1.1", "label"),
+    ("flowlabel label --pmap=map.txt 10.1.1.1", "label"),
+    ("flowlabel label 10.1.1.1 --pmap map.txt", "label"),
+    ("flowlabel label 10.1.1.1", "P2"),
+    ("flowlabel label 1.2.3", "P2"),
+    ("flowlabel label --pmap map.txt 1.2.3", "P4"),
+    ("flowlabel label --pmap map.txt 2001:db8::1", "label"),
+    ("flowlabel label --pmap map.txt 2001:db8::1::", "P4"),
+    ("flowlabel label --pmap map.txt ", "P4"),
+    ("flowlabel info --colour flows", "refused"),
+    ("flowlabel label --pmap map.txt", "refused"),
+    (
+        "flowlabel label --pmap map.txt 10.1.1.1 10.1.1.2",
+        "refused",
+    ),
+    ("flowlabel label 10.1.1.1 --pmap", "refused"),
+    ("flowlabel label --map map.txt 10.1.1.1", "refused"),
+    ("flowlabel", "refused"),
+    ("flowlabel help", "refused"),
+    ("flowlabel --help", "help"),
+    ("flowlabel label --help", "help"),
+];
+
+fn answers_each(rt: &impl Abort, alloc: Global, lines: &[(&str, &str)]) -> Result<(), AllocError> {
+    for (line, want) in lines {
+        assert_eq!(rt; outcome(alloc, line)?, *want, "at {line}");
     }
-    assert!(rt; matches!(parse(rt.alloc(), &[]), Err(UsageFault::Refused(_))));
     Ok(())
 }
 
 #[test]
-fn keeps_the_words_of_a_label_command(rt: HostRuntime) -> Result<(), Fail> {
-    let command = parse(
-        rt.alloc(),
-        &["flowlabel", "label", "--pmap", "map.txt", "10.1.1.1"],
-    )?;
-    let Command::Label { map, addr } = command;
-    assert_eq!(rt; map, "map.txt");
-    assert_eq!(rt; (addr.version, addr.value), (Version::V4, 0x0a01_0101));
+fn answers_lines(rt: HostRuntime) -> Result<(), Fail> {
+    answers_each(&rt, rt.alloc(), &LINES)?;
+    assert_eq!(rt; name_of(&parse(rt.alloc(), &[])), "refused");
+    Ok(())
+}
+
+fn names_map_alone(rt: &impl Abort, command: &Command<'_>) {
     let map_alone = Needs {
         map: true,
         list: false,
@@ -68,20 +72,64 @@ fn keeps_the_words_of_a_label_command(rt: HostRuntime) -> Result<(), Fail> {
     let files = command.files();
     assert_eq!(rt; files.map, Some("map.txt"));
     assert!(rt; files.list.is_none() && files.certificate.is_none() && files.flows.is_none());
+}
+
+fn is_label_command(rt: &impl Abort, command: &Command<'_>) {
+    let Command::Label { map, addr } = command;
+    assert_eq!(rt; *map, "map.txt");
+    assert_eq!(rt; (addr.version, addr.value), (Version::V4, 0x0a01_0101));
+}
+
+#[test]
+fn keeps_the_words_of_a_label_command(rt: HostRuntime) -> Result<(), Fail> {
+    let words = ["flowlabel", "label", "--pmap", "map.txt", "10.1.1.1"];
+    let command = parse(rt.alloc(), &words)?;
+    is_label_command(&rt, &command);
+    names_map_alone(&rt, &command);
+    Ok(())
+}
+
+// The text that clap has for the user, and whether it is help.
+fn clap_text(answer: Result<Command<'_>, UsageFault>) -> Option<(bool, ClapText)> {
+    match answer {
+        Err(UsageFault::Refused(text)) => Some((false, text)),
+        Err(UsageFault::Help(text)) => Some((true, text)),
+        _ => None,
+    }
+}
+
+fn says(
+    rt: &impl Abort,
+    alloc: Global,
+    words: &[&str],
+    is_help: bool,
+    word: &str,
+) -> Result<(), AllocError> {
+    let Some((helps, text)) = clap_text(parse(alloc, words)) else {
+        panic!(rt; "no text of clap's");
+    };
+    assert_eq!(rt; helps, is_help, "{word}");
+    assert!(rt; text.as_str().contains(word), "{word}");
+    let shown = format!(in alloc; "{text}")?;
+    assert!(rt; shown.as_str() == text.as_str(), "{word}");
     Ok(())
 }
 
 #[test]
 fn hands_on_the_texts_of_clap(rt: HostRuntime) -> Result<(), Fail> {
-    let Err(UsageFault::Refused(text)) = parse(rt.alloc(), &["flowlabel", "info", "flows"]) else {
-        panic!(rt; "not refused");
-    };
-    assert!(rt; text.as_str().contains("info"));
-    let Err(UsageFault::Help(text)) = parse(rt.alloc(), &["flowlabel", "label", "--help"]) else {
-        panic!(rt; "no help");
-    };
-    assert!(rt; text.as_str().contains("--pmap"));
-    let shown = format!(in rt.alloc(); "{text}")?;
-    assert!(rt; shown.as_str() == text.as_str());
+    says(
+        &rt,
+        rt.alloc(),
+        &["flowlabel", "info", "flows"],
+        false,
+        "info",
+    )?;
+    says(
+        &rt,
+        rt.alloc(),
+        &["flowlabel", "label", "--help"],
+        true,
+        "--pmap",
+    )?;
     Ok(())
 }

@@ -6,38 +6,6 @@ use std::test::Fail;
 
 const OUT_OF_MEMORY: &str = "flowlabel: out of memory\n";
 
-#[test]
-fn names_each_fault_of_a_map(rt: HostRuntime) -> Result<(), Fail> {
-    for (kind, name) in [
-        (MapFaultKind::BadStatement, "M1 BadStatement"),
-        (MapFaultKind::BadAddress, "M2 BadAddress"),
-        (MapFaultKind::BadLength, "M3 BadLength"),
-        (MapFaultKind::LowAboveHigh, "M4 LowAboveHigh"),
-        (MapFaultKind::WrongVersion, "M5 WrongVersion"),
-        (MapFaultKind::MissingLabel, "M6 MissingLabel"),
-        (MapFaultKind::BadLabel, "M7 BadLabel"),
-        (MapFaultKind::LabelConflict, "M8 LabelConflict"),
-        (MapFaultKind::BadMode, "M9 BadMode"),
-        (MapFaultKind::ModeLate, "M10 ModeLate"),
-        (MapFaultKind::ModeRepeated, "M11 ModeRepeated"),
-        (MapFaultKind::TooMany, "M12 TooMany"),
-        (MapFaultKind::NotAList, "M13 NotAList"),
-        (MapFaultKind::DuplicateBlock, "M14 DuplicateBlock"),
-    ] {
-        let fault = RunFault::Map {
-            file: "maps/a.txt",
-            fault: MapFault {
-                kind,
-                line: 1_000_001,
-            },
-        };
-        let want = format!(in rt.alloc(); "flowlabel: maps/a.txt: {name} at 1000001\n")?;
-        assert_eq!(rt; fault_line(rt.alloc(), &fault)?.as_slice(), want.as_bytes());
-        assert_eq!(rt; status(&fault), 1, "{name}");
-    }
-    Ok(())
-}
-
 fn tells(
     rt: &impl Abort,
     alloc: Global,
@@ -50,61 +18,168 @@ fn tells(
     Ok(())
 }
 
-#[test]
-fn tells_usage_faults(rt: HostRuntime) -> Result<(), Fail> {
-    let refused = "error: no such command\n";
-    let refusal = ClapText::new(String::from_str(rt.alloc(), refused)?);
-    let help = ClapText::new(String::from_str(rt.alloc(), "Usage: flowlabel <COMMAND>\n")?);
-    for (fault, ended, line) in [
-        (UsageFault::Help(help), 0, ""),
-        (UsageFault::Refused(refusal), 2, refused),
-        (UsageFault::NotUtf8, 2, "flowlabel: usage: P1 NotUtf8\n"),
-        (
-            UsageFault::MapMissing,
-            2,
-            "flowlabel: usage: P2 MapMissing\n",
-        ),
-        (
-            UsageFault::BadAddress,
-            2,
-            "flowlabel: usage: P4 BadAddress\n",
-        ),
-        (UsageFault::NoMemory, 3, OUT_OF_MEMORY),
-    ] {
-        tells(&rt, rt.alloc(), &RunFault::Usage(fault), ended, line)?;
+fn map_fault(kind: MapFaultKind, line: u64) -> RunFault<'static> {
+    let fault = MapFault { kind, line };
+    let file = "maps/a.txt";
+    RunFault::Map { file, fault }
+}
+
+// Each fault at the line 1,000,001 of a map.
+const MAP_FAULTS: [(MapFaultKind, &str); 14] = [
+    (
+        MapFaultKind::BadStatement,
+        "flowlabel: maps/a.txt: M1 BadStatement at 1000001\n",
+    ),
+    (
+        MapFaultKind::BadAddress,
+        "flowlabel: maps/a.txt: M2 BadAddress at 1000001\n",
+    ),
+    (
+        MapFaultKind::BadLength,
+        "flowlabel: maps/a.txt: M3 BadLength at 1000001\n",
+    ),
+    (
+        MapFaultKind::LowAboveHigh,
+        "flowlabel: maps/a.txt: M4 LowAboveHigh at 1000001\n",
+    ),
+    (
+        MapFaultKind::WrongVersion,
+        "flowlabel: maps/a.txt: M5 WrongVersion at 1000001\n",
+    ),
+    (
+        MapFaultKind::MissingLabel,
+        "flowlabel: maps/a.txt: M6 MissingLabel at 1000001\n",
+    ),
+    (
+        MapFaultKind::BadLabel,
+        "flowlabel: maps/a.txt: M7 BadLabel at 1000001\n",
+    ),
+    (
+        MapFaultKind::LabelConflict,
+        "flowlabel: maps/a.txt: M8 LabelConflict at 1000001\n",
+    ),
+    (
+        MapFaultKind::BadMode,
+        "flowlabel: maps/a.txt: M9 BadMode at 1000001\n",
+    ),
+    (
+        MapFaultKind::ModeLate,
+        "flowlabel: maps/a.txt: M10 ModeLate at 1000001\n",
+    ),
+    (
+        MapFaultKind::ModeRepeated,
+        "flowlabel: maps/a.txt: M11 ModeRepeated at 1000001\n",
+    ),
+    (
+        MapFaultKind::TooMany,
+        "flowlabel: maps/a.txt: M12 TooMany at 1000001\n",
+    ),
+    (
+        MapFaultKind::NotAList,
+        "flowlabel: maps/a.txt: M13 NotAList at 1000001\n",
+    ),
+    (
+        MapFaultKind::DuplicateBlock,
+        "flowlabel: maps/a.txt: M14 DuplicateBlock at 1000001\n",
+    ),
+];
+
+fn names_each(
+    rt: &impl Abort,
+    alloc: Global,
+    cases: &[(MapFaultKind, &str)],
+) -> Result<(), AllocError> {
+    for (kind, line) in cases {
+        tells(rt, alloc, &map_fault(*kind, 1_000_001), 1, line)?;
     }
     Ok(())
 }
 
 #[test]
-fn tells_devices_and_memory(rt: HostRuntime) -> Result<(), Fail> {
-    let no_memory = RunFault::Map {
-        file: "map.txt",
-        fault: MapFault {
-            kind: MapFaultKind::NoMemory,
-            line: 0,
+fn names_each_fault_of_a_map(rt: HostRuntime) -> Result<(), Fail> {
+    names_each(&rt, rt.alloc(), &MAP_FAULTS)?;
+    Ok(())
+}
+
+const USAGE_FAULTS: [(RunFault<'static>, u8, &str); 4] = [
+    (
+        RunFault::Usage(UsageFault::NotUtf8),
+        2,
+        "flowlabel: usage: P1 NotUtf8\n",
+    ),
+    (
+        RunFault::Usage(UsageFault::MapMissing),
+        2,
+        "flowlabel: usage: P2 MapMissing\n",
+    ),
+    (
+        RunFault::Usage(UsageFault::BadAddress),
+        2,
+        "flowlabel: usage: P4 BadAddress\n",
+    ),
+    (RunFault::Usage(UsageFault::NoMemory), 3, OUT_OF_MEMORY),
+];
+
+const DEVICE_FAULTS: [(RunFault<'static>, u8, &str); 5] = [
+    (RunFault::NoMemory, 3, OUT_OF_MEMORY),
+    (
+        RunFault::Map {
+            file: "map.txt",
+            fault: MapFault {
+                kind: MapFaultKind::NoMemory,
+                line: 0,
+            },
         },
-    };
-    for (fault, ended, line) in [
-        (RunFault::NoMemory, 3, OUT_OF_MEMORY),
-        (no_memory, 3, OUT_OF_MEMORY),
-        (
-            RunFault::CannotOpen("map.txt"),
-            4,
-            "flowlabel: map.txt: cannot open\n",
-        ),
-        (
-            RunFault::CannotRead("map.txt"),
-            4,
-            "flowlabel: map.txt: cannot read\n",
-        ),
-        (
-            RunFault::CannotWrite,
-            4,
-            "flowlabel: output: cannot write\n",
-        ),
-    ] {
-        tells(&rt, rt.alloc(), &fault, ended, line)?;
+        3,
+        OUT_OF_MEMORY,
+    ),
+    (
+        RunFault::CannotOpen("map.txt"),
+        4,
+        "flowlabel: map.txt: cannot open\n",
+    ),
+    (
+        RunFault::CannotRead("map.txt"),
+        4,
+        "flowlabel: map.txt: cannot read\n",
+    ),
+    (
+        RunFault::CannotWrite,
+        4,
+        "flowlabel: output: cannot write\n",
+    ),
+];
+
+fn tells_each(
+    rt: &impl Abort,
+    alloc: Global,
+    cases: &[(RunFault<'_>, u8, &str)],
+) -> Result<(), AllocError> {
+    for (fault, ended, line) in cases {
+        tells(rt, alloc, fault, *ended, line)?;
     }
+    Ok(())
+}
+
+#[test]
+fn tells_usage_devices_and_memory(rt: HostRuntime) -> Result<(), Fail> {
+    tells_each(&rt, rt.alloc(), &USAGE_FAULTS)?;
+    tells_each(&rt, rt.alloc(), &DEVICE_FAULTS)?;
+    Ok(())
+}
+
+fn clap_text(alloc: Global, text: &str) -> Result<ClapText, AllocError> {
+    Ok(ClapText::new(String::from_str(alloc, text)?))
+}
+
+#[test]
+fn tells_the_texts_of_clap(rt: HostRuntime) -> Result<(), Fail> {
+    let refused = "error: no such command\n";
+    let fault = UsageFault::Refused(clap_text(rt.alloc(), refused)?);
+    tells(&rt, rt.alloc(), &RunFault::Usage(fault), 2, refused)?;
+    let shown = "Usage: flowlabel <COMMAND>\n";
+    let help = RunFault::Usage(UsageFault::Help(clap_text(rt.alloc(), shown)?));
+    tells(&rt, rt.alloc(), &help, 0, "")?;
+    assert_eq!(rt; help_text(&help), shown);
     Ok(())
 }
