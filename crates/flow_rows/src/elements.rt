@@ -94,10 +94,10 @@ impl Elements {
         ensures { self.new ≡ after_value self.old value.now }
     {
         let field = value.field();
-        if field.enterprise.is_some() {
+        if field.enterprise().is_some() {
             return;
         }
-        match field.number {
+        match field.number() {
             1 => keep_u64(&mut self.octets, value, 1),
             2 => keep_u64(&mut self.packets, value, 1),
             4 => keep_u8(&mut self.protocol, value),

@@ -10,7 +10,7 @@ pub fn keep_u64(slot: &mut Option<u64>, value: &FieldValue<'_>, least: u16)
     requires { 1 ≤ least }
     ensures { slot.new ≡ kept slot.old (number_within least 8 value.now) }
 {
-    let length = value.field().length;
+    let length = value.field().length();
     if slot.is_some() || length < least || length > 8 {
         return;
     }
@@ -27,7 +27,7 @@ pub fn keep_u64(slot: &mut Option<u64>, value: &FieldValue<'_>, least: u16)
 pub fn keep_u16(slot: &mut Option<u16>, value: &FieldValue<'_>)
     ensures { slot.new ≡ kept slot.old (number_within 1 2 value.now) }
 {
-    let length = value.field().length;
+    let length = value.field().length();
     if slot.is_some() || length < 1 || length > 2 {
         return;
     }
@@ -44,7 +44,7 @@ pub fn keep_u16(slot: &mut Option<u16>, value: &FieldValue<'_>)
 pub fn keep_u8(slot: &mut Option<u8>, value: &FieldValue<'_>)
     ensures { slot.new ≡ kept slot.old (number_within 1 1 value.now) }
 {
-    if slot.is_none() && value.field().length == 1 {
+    if slot.is_none() && value.field().length() == 1 {
         *slot = Some(value.value()[0]);
     }
 }
@@ -54,7 +54,7 @@ pub fn keep_u8(slot: &mut Option<u8>, value: &FieldValue<'_>)
 pub fn keep_u32(slot: &mut Option<u32>, value: &FieldValue<'_>)
     ensures { slot.new ≡ kept slot.old (number_within 4 4 value.now) }
 {
-    if slot.is_none() && value.field().length == 4 {
+    if slot.is_none() && value.field().length() == 4 {
         *slot = Some(BigEndian::read_u32(value.value()));
     }
 }
@@ -64,7 +64,7 @@ pub fn keep_u32(slot: &mut Option<u32>, value: &FieldValue<'_>)
 pub fn keep_u128(slot: &mut Option<u128>, value: &FieldValue<'_>)
     ensures { slot.new ≡ kept slot.old (number_within 16 16 value.now) }
 {
-    if slot.is_none() && value.field().length == 16 {
+    if slot.is_none() && value.field().length() == 16 {
         *slot = Some(BigEndian::read_u128(value.value()));
     }
 }

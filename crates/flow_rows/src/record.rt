@@ -17,7 +17,7 @@ pub fn row_of(source: &Record<'_>) -> Option<Row>
         return None;
     }
     let mut elements = Elements::new();
-    for value in source.fields.iter() {
+    for value in source.fields.with_bytes() {
         elements.take(&value);
     }
     elements.row()
@@ -31,7 +31,7 @@ pub fn has_row(source: &Record<'_>) -> bool
         return false;
     }
     let mut elements = Elements::new();
-    for value in source.fields.iter() {
+    for value in source.fields.with_bytes() {
         elements.take(&value);
         if elements.have_row() {
             return true;

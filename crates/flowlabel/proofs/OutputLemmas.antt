@@ -1,13 +1,12 @@
 -- A request has one output at most: a map text and a File have one reading, and what comes of it is one text.
-use Rattle.std.proofs.Common.{◌≡◌, ◌∙◌, ℕ, List, [], Result, Ok, Err, ap, sym, subst, inl, inr}
+use Rattle.std.proofs.Common.{◌≡◌, ◌∙◌, ℕ, List, [], Err, ap, sym, subst, inl, inr}
 use Rattle.pmap_text.specs.MapModel.{MapModel}
-use Rattle.pmap_text.specs.Reading.{map_reading}
 use Rattle.pmap_text.specs.declared.fault.MapFault.{MapFault}
 use Rattle.ipfix_read.specs.Laws.{OneReading}
 use Rattle.ipfix_read.specs.Message.{MessageView}
 use Rattle.ipfix_read.specs.declared.fault.ReadFault.{ReadFault}
-use Rattle.flowlabel.specs.Output.{FileTexts, FlowsThen, InFlows, InMap, IsOutput, MapThen, OneOutput, Outcome, Prints}
-use Rattle.flowlabel.specs.Request.{Request, label, info, rows}
+use Rattle.flowlabel.specs.Output.{FlowsThen, InFlows, InMap, MapThen, OneOutput, Outcome, Prints}
+use Rattle.flowlabel.specs.Request.{label, info, rows}
 
 -- what comes of a value is one outcome at most
 abbrev IsOne : {A : Type 0} → (A → Outcome → Type 0) → Type 0

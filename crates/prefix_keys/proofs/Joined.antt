@@ -7,7 +7,7 @@ use Rattle.prefix_keys.specs.Print.{joined_text}
 -- Numbers with a separator between each two.
 
 -- one more piece
-join_push : (c : ℕ) (pieces : List (List ℕ)) (piece : List ℕ) → 0 < length pieces →
+pub join_push : (c : ℕ) (pieces : List (List ℕ)) (piece : List ℕ) → 0 < length pieces →
     join_with_byte c (pieces ++ piece ∷ []) ≡ join_with_byte c pieces ++ (c ∷ piece)
 join_push c [] piece h = absurd (omega arith)
 join_push c (x ∷ []) piece h = refl

@@ -2,6 +2,8 @@ use Rattle.std.proofs.Common.{◌≡◌, ◌∙◌, refl, sym, ap, is_some, true
 use Rattle.flow_rows.specs.declared.elements.Elements.{Elements}
 use Rattle.flow_rows.specs.Elements.{elements_of, row_of_elements}
 use Rattle.flow_rows.specs.Parts.{after_values}
+use Rattle.ipfix_read.specs.Value.{values_with_bytes}
+use Rattle.flow_rows.proofs.Bytes.{elements_of-with_bytes}
 use Rattle.flow_rows.proofs.Passes.{after_values-none, after_values-cons, after_values-nil, first_row_of-flow, is_some-after_values}
 use Rattle.flow_rows.proofs.record.has_row.Goals as goal
 use Rattle.flow_rows.proofs.record.has_row.Goals.{After-have_row}
@@ -9,8 +11,8 @@ use Rattle.flow_rows.proofs.record.has_row.Goals.{After-have_row}
 pub loop-value-init : goal.loop-value-init
 loop-value-init c = record {
   known =
-      rw (c.new-elements.ensures, c.into_iter-value-iterator.ensures.into_iter_gives, c.iter-value-items.ensures)
-      (after_values-none c.args.source.now.fields);
+      rw (c.new-elements.ensures, c.into_iter-value-iterator.ensures.into_iter_gives, c.with_bytes-value-items.ensures)
+      (after_values-none (values_with_bytes c.args.source.now.fields) ∙ elements_of-with_bytes c.args.source.now.fields);
   no_row = rw c.new-elements.ensures refl;
 }
 

@@ -1,12 +1,14 @@
 use Rattle.std.proofs.Common.{◌∙◌, sym, ap}
 use Rattle.flow_rows.specs.Elements.{row_of_elements}
+use Rattle.ipfix_read.specs.Value.{values_with_bytes}
+use Rattle.flow_rows.proofs.Bytes.{elements_of-with_bytes}
 use Rattle.flow_rows.proofs.Passes.{after_values-none, after_values-cons, after_values-nil, first_row_of-flow}
 use Rattle.flow_rows.proofs.record.row_of.Goals as goal
 
 pub loop-value-init : goal.loop-value-init
 loop-value-init c =
-    rw (c.new-elements.ensures, c.into_iter-value-iterator.ensures.into_iter_gives, c.iter-value-items.ensures)
-    (after_values-none c.args.source.now.fields)
+    rw (c.new-elements.ensures, c.into_iter-value-iterator.ensures.into_iter_gives, c.with_bytes-value-items.ensures)
+    (after_values-none (values_with_bytes c.args.source.now.fields) ∙ elements_of-with_bytes c.args.source.now.fields)
 
 pub loop-value-preserved : goal.loop-value-preserved
 loop-value-preserved c =

@@ -1,0 +1,38 @@
+ghost use Rattle.std.specs.Prelude.{◌≡◌, ◌++◌, OnOk, decimal};
+ghost use Rattle.pmap_print.specs.Cell.{cell_text};
+
+use itoa::Buffer;
+use prefix_keys::{Addr, print_addr};
+use std::alloc::AllocError;
+
+/// What stands in a field of a table.
+#[derive(Clone, Copy)]
+pub enum Cell<'a> {
+    /// An address.
+    Address(Addr),
+    /// A number, in decimal.
+    Number(u64),
+    /// A text as it is.
+    Bytes(&'a [u8]),
+}
+
+/// Appends a number in decimal.
+#[inline]
+pub fn print_number(out: &mut Vec<u8>, number: u64) -> Result<(), AllocError>
+    ensures { OnOk result (out.new.items ≡ out.old.items ++ decimal number) }
+{
+    let mut buffer = Buffer::new();
+    out.extend_from_slice(buffer.format(number).as_bytes())
+}
+
+/// Appends the text of a cell.
+#[inline]
+pub fn print_cell(out: &mut Vec<u8>, cell: &Cell<'_>) -> Result<(), AllocError>
+    ensures { OnOk result (out.new.items ≡ out.old.items ++ cell_text cell.now) }
+{
+    match cell {
+        Cell::Address(addr) => print_addr(out, *addr),
+        Cell::Number(number) => print_number(out, *number),
+        Cell::Bytes(bytes) => out.extend_from_slice(bytes),
+    }
+}

@@ -1,0 +1,35 @@
+ghost use Rattle.std.specs.Prelude.{◌≡◌, ◌++◌, IfOk, OnOk};
+ghost use Rattle.flow_rows.specs.Counts.{counts_view};
+ghost use Rattle.pmap_print.specs.Info.{count_text, info_text};
+
+use crate::cell::print_number;
+use flow_rows::Counts;
+use std::alloc::{AllocError, Global};
+
+// Appends the line of a count.
+fn print_count(out: &mut Vec<u8>, name: &[u8], number: u64) -> Result<(), AllocError>
+    ensures { OnOk result (out.new.items ≡ out.old.items ++ count_text name.now number) }
+{
+    out.extend_from_slice(name)?;
+    out.push(b' ')?;
+    print_number(out, number)?;
+    out.push(b'\n')?;
+    Ok(())
+}
+
+/// The text of counts: a line for each, with its name and its number.
+pub fn print_info(alloc: Global, counts: &Counts) -> Result<Vec<u8>, AllocError>
+    ensures { IfOk result (λ out. out.items ≡ info_text (counts_view counts.now)) }
+{
+    let mut out = Vec::new(alloc);
+    print_count(&mut out, b"messages", counts.messages)?;
+    print_count(&mut out, b"templates", counts.templates)?;
+    print_count(&mut out, b"options-templates", counts.options_templates)?;
+    print_count(&mut out, b"withdrawals", counts.withdrawals)?;
+    print_count(&mut out, b"data-sets", counts.data_sets)?;
+    print_count(&mut out, b"skipped-sets", counts.skipped_sets)?;
+    print_count(&mut out, b"records", counts.records)?;
+    print_count(&mut out, b"options-records", counts.options_records)?;
+    print_count(&mut out, b"rows", counts.rows)?;
+    Ok(out)
+}

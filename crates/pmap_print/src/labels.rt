@@ -1,0 +1,8 @@
+/// The labels of a row's two addresses, each where the address has one.
+#[derive(Clone, Copy, Debug)]
+pub struct RowLabels<'a> {
+    /// The label of the source.
+    pub src: Option<&'a [u8]>,
+    /// The label of the destination.
+    pub dst: Option<&'a [u8]>,
+}

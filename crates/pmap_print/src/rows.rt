@@ -1,0 +1,133 @@
+ghost use Rattle.std.specs.Prelude.{◌≡◌, ◌<◌, ◌++◌, IfOk, length, map, slice_index};
+ghost use Rattle.std.specs.Option.{ForSome};
+ghost use Rattle.flow_rows.specs.Row.{row_view};
+ghost use Rattle.pmap_print.specs.Cell.{cell_text};
+ghost use Rattle.pmap_print.specs.Parts.{column_count, labels_at};
+ghost use Rattle.pmap_print.specs.Rows.{given_labels, label_fields, label_texts, label_titles, row_fields, row_lines, row_titles, rows_text};
+ghost use Rattle.pmap_print.specs.Table.{filled_line, table_lines};
+
+use crate::cell::Cell;
+use crate::labels::RowLabels;
+use crate::table::{print_line, widen};
+use flow_rows::Row;
+use std::alloc::{AllocError, Global};
+
+// How many columns rows have, and how many with labels.
+const COLUMNS: usize = 10;
+
+const COLUMNS_WITH_LABELS: usize = 12;
+
+// The cells of a title.
+fn title_cells() -> [Cell<'static>; COLUMNS_WITH_LABELS]
+    ensures { map cell_text result ≡ row_titles ++ label_titles }
+{
+    [
+        Cell::Bytes(b"sip"),
+        Cell::Bytes(b"dip"),
+        Cell::Bytes(b"sport"),
+        Cell::Bytes(b"dport"),
+        Cell::Bytes(b"proto"),
+        Cell::Bytes(b"flags"),
+        Cell::Bytes(b"packets"),
+        Cell::Bytes(b"bytes"),
+        Cell::Bytes(b"stime"),
+        Cell::Bytes(b"etime"),
+        Cell::Bytes(b"src-label"),
+        Cell::Bytes(b"dst-label"),
+    ]
+}
+
+// The cells of a row, and those of its labels. Without a label there is nothing in the cell.
+fn row_cells<'a>(row: &Row, labels: RowLabels<'a>) -> [Cell<'a>; COLUMNS_WITH_LABELS]
+    ensures { map cell_text result ≡ row_fields (row_view row.now) ++ label_fields (label_texts labels.entry) }
+{
+    [
+        Cell::Address(row.src),
+        Cell::Address(row.dst),
+        Cell::Number(u64::from(row.sport)),
+        Cell::Number(u64::from(row.dport)),
+        Cell::Number(u64::from(row.protocol)),
+        Cell::Number(u64::from(row.flags)),
+        Cell::Number(row.packets),
+        Cell::Number(row.octets),
+        Cell::Number(row.start_ms),
+        Cell::Number(row.end_ms),
+        Cell::Bytes(labels.src.unwrap_or(b"")),
+        Cell::Bytes(labels.dst.unwrap_or(b"")),
+    ]
+}
+
+// The labels of the row at this place.
+fn labels_of<'a>(labels: Option<&[RowLabels<'a>]>, place: usize) -> RowLabels<'a>
+    requires { ForSome labels (λ given. place < length given.now) }
+    ensures { label_texts result ≡ labels_at (given_labels labels.entry) place }
+{
+    match labels {
+        Some(labels) => labels[place],
+        None => RowLabels {
+            src: None,
+            dst: None,
+        },
+    }
+}
+
+// How many columns there are.
+fn column_count(labels: Option<&[RowLabels<'_>]>) -> usize
+    ensures { result ≡ column_count (given_labels labels.entry) }
+{
+    if labels.is_some() {
+        COLUMNS_WITH_LABELS
+    } else {
+        COLUMNS
+    }
+}
+
+// The widths of the columns of rows with their title; 0 where the fields are to stand as they are.
+fn column_widths(
+    scratch: &mut Vec<u8>,
+    rows: &[Row],
+    labels: Option<&[RowLabels<'_>]>,
+    columns: bool,
+) -> Result<[usize; COLUMNS_WITH_LABELS], AllocError>
+    requires { ForSome labels (λ given. length given.now ≡ length rows.now) }
+    ensures { let lines = row_lines (map row_view rows.now) (given_labels labels.entry) in
+        IfOk result (λ widths. map (filled_line (slice_index widths)) lines ≡ table_lines columns lines) }
+{
+    let mut widths = [0; COLUMNS_WITH_LABELS];
+    if !columns {
+        return Ok(widths);
+    }
+    let count = column_count(labels);
+    let title = title_cells();
+    widen(&mut widths, scratch, &title[..count])?;
+    for (i, row) in rows.iter().enumerate() {
+        let cells = row_cells(row, labels_of(labels, i));
+        widen(&mut widths, scratch, &cells[..count])?;
+    }
+    Ok(widths)
+}
+
+/// The text of rows: a title, and a line for each row. Where labels are given, each line ends in those of its row. With
+/// `columns` each field is filled with spaces on the left to the width of its column.
+pub fn print_rows(
+    alloc: Global,
+    rows: &[Row],
+    labels: Option<&[RowLabels<'_>]>,
+    columns: bool,
+) -> Result<Vec<u8>, AllocError>
+    requires { ForSome labels (λ given. length given.now ≡ length rows.now) }
+    ensures { IfOk result (λ out. out.items
+        ≡ rows_text (map row_view rows.now) (given_labels labels.entry) columns) }
+{
+    let mut scratch = Vec::new(alloc);
+    let widths = column_widths(&mut scratch, rows, labels, columns)?;
+    let count = column_count(labels);
+    let mut out = Vec::new(alloc);
+    let title = title_cells();
+    print_line(&mut out, &mut scratch, &title[..count], &widths)?;
+    for (i, row) in rows.iter().enumerate() {
+        let cells = row_cells(row, labels_of(labels, i));
+        print_line(&mut out, &mut scratch, &cells[..count], &widths)?;
+    }
+    Ok(out)
+}
