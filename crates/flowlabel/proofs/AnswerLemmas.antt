@@ -1,7 +1,8 @@
 -- What the answer of `parse` follows from: the kind of clap's error, or the entries of its matches.
 use Rattle.std.proofs.Common.{◌≡◌, ◌⊎◌, ◌∙◌, ◌||◌, Bool, true, false, List, [], ◌∷◌, Option, Some, None, Result, Ok, Err, refl, sym, ap, ap₂, inl, inr, codes}
-use Rattle.std.specs.Prelude.{option_map, unwrap_or}
+use Rattle.std.specs.Prelude.{option_map, unwrap_or, if◌then◌else◌}
 use Rattle.std.specs.List.{list_any}
+use Rattle.std.specs.Str.{bytes_eq}
 use Rattle.clap.specs.Words.{IsAmong, Kinds, Row, fault_of, first_of, is_simple, is_simple_and_free, subcommand_name_of, subcommand_of, subcommand_rows_of}
 use Rattle.clap.specs.declared.error.kind.ErrorKind.{ErrorKind}
 use Rattle.clap.specs.declared.error.kind.ErrorKind.TheVariants as kind
@@ -10,7 +11,7 @@ use Rattle.clap.proofs.OnLiterals.{clap_on_literals}
 use Rattle.prefix_keys.specs.Text.{AddressOf}
 use Rattle.flowlabel.specs.Request.{Request, Text}
 use Rattle.flowlabel.specs.Definition.{flowlabel_app}
-use Rattle.flowlabel.specs.Answer.{Answer, Answers, IsAnswer, IsFaultAt, IsFaultOfKind, IsOwnAnswer, IsOwnFault, SaysOnly, address_in_rows, answer_of, answer_of_label, is_help, is_mistake, label_answer}
+use Rattle.flowlabel.specs.Answer.{Answer, Answers, IsAnswer, IsFaultAt, IsFaultOfKind, IsOwnAnswer, IsOwnFault, SaysOnly, address_in_rows, answer_of, answer_of_info, answer_of_label, answer_of_rows, is_help, is_mistake, label_answer}
 use Rattle.flowlabel.specs.declared.command.Command.{Command}
 use Rattle.flowlabel.specs.declared.usage.UsageFault.{UsageFault}
 use Rattle.flowlabel.specs.declared.usage.UsageFault.TheVariants.{Refused, NotUtf8, Help, MapMissing, BadAddress, NoMemory}
@@ -60,10 +61,21 @@ fault_of_answer words BadAddress own is = is
 fault_of_answer words NoMemory own is = tt
 
 -- the label command answers by no refusal of clap's and no help
-pub label_own : (map : Option Text) (address : Option AddressOf) → IsOwnAnswer (label_answer map address)
+label_own : (map : Option Text) (address : Option AddressOf) → IsOwnAnswer (label_answer map address)
 label_own None address = tt
 label_own (Some map) None = tt
 label_own (Some map) (Some address) = tt
+
+-- each command answers so
+pub answer_own : (p : Text × List Row) → IsOwnAnswer (answer_of p)
+answer_own p =
+    elim (bytes_eq p.0 (codes "info")) as (λ b. IsOwnAnswer (if b then answer_of_info p.1 else if bytes_eq p.0 (codes "rows") then answer_of_rows p.1 else answer_of_label p.1)) [
+      | true ↦ tt
+      | false ↦ elim (bytes_eq p.0 (codes "rows")) as (λ b. IsOwnAnswer (if b then answer_of_rows p.1 else answer_of_label p.1)) [
+        | true ↦ tt
+        | false ↦ label_own _ _
+      ]
+    ]
 
 -- and so does a result that says the same
 pub own : (answer : Answer) (r : Result Command UsageFault) → IsOwnAnswer answer → SaysOnly answer r → IsOwnAnswer r
@@ -89,7 +101,7 @@ pub answers : (words : List Text) (p : Text × List Row) (r : Result Command Usa
     → subcommand_of flowlabel_app words ≡ Some p → SaysOnly (answer_of p) r → IsAnswer words r
 answers words p (Ok command) none found says = (none, ap (option_map answer_of) found ∙ ap Some says)
 answers words p (Err fault) none found says =
-    let own_fault : IsOwnFault fault = own (answer_of p) (Err fault) (label_own _ _) says in
+    let own_fault : IsOwnFault fault = own (answer_of p) (Err fault) (answer_own p) says in
     fault_of_answer words fault own_fault (none, ap (option_map answer_of) found ∙ ap Some says)
 
 -- a fault that comes of want of memory is no refusal of clap's and no help

@@ -1,2 +1,4 @@
 pub mod AnswerLemmas
 pub mod LineLemmas
+pub mod OutputLemmas
+pub mod RequestLemmas

@@ -6,7 +6,8 @@ use Rattle.clap.specs.Words.{Text, fault_of}
 use Rattle.clap.proofs.OnLiterals.{clap_on_literals}
 use Rattle.prefix_keys.specs.Text.{address_of}
 use Rattle.flowlabel.specs.Definition.{flowlabel_app}
-use Rattle.flowlabel.specs.Answer.{Answer, Answers, IsAnswer, IsUnlessMemory, ReadsBareLine, ReadsMapLine, is_plain_word, label_answer, own_answer}
+use Rattle.flowlabel.specs.Request.{info, rows}
+use Rattle.flowlabel.specs.Answer.{Answer, Answers, IsAnswer, IsUnlessMemory, ReadsBareLine, ReadsColumnsLine, ReadsInfoLine, ReadsMapLine, ReadsRowsLine, is_plain_word, label_answer, own_answer}
 use Rattle.flowlabel.specs.declared.command.Command.{Command}
 use Rattle.flowlabel.specs.declared.usage.UsageFault.{UsageFault}
 use Rattle.flowlabel.specs.declared.usage.UsageFault.TheVariants.{Refused, NotUtf8, Help, MapMissing, BadAddress, NoMemory}
@@ -62,9 +63,35 @@ module _ (program : Text) where
   bare_line [] h = (refl, refl)
   bare_line (x ∷ xs) h = let e = not_true (x == 45) h in (rw (e, not_short x xs e) refl, rw (e, not_short x xs e) refl)
 
+  -- a line of `info`
+  pub info_line : (file : Text) → is_plain_word file ≡ true → Answers (program ∷ codes "info" ∷ file ∷ []) (Ok (info file))
+  unfolding flowlabel_app clap_on_literals
+  info_line [] h = (refl, refl)
+  info_line (x ∷ xs) h = let e = not_true (x == 45) h in (rw (e, not_short x xs e) refl, rw (e, not_short x xs e) refl)
+
+  -- lines of `rows`, without columns and with them
+  pub rows_line : (file : Text) → is_plain_word file ≡ true → Answers (program ∷ codes "rows" ∷ file ∷ []) (Ok (rows false file))
+  unfolding flowlabel_app clap_on_literals
+  rows_line [] h = (refl, refl)
+  rows_line (x ∷ xs) h = let e = not_true (x == 45) h in (rw (e, not_short x xs e) refl, rw (e, not_short x xs e) refl)
+
+  pub columns_line : (file : Text) → is_plain_word file ≡ true → Answers (program ∷ codes "rows" ∷ codes "--columns" ∷ file ∷ []) (Ok (rows true file))
+  unfolding flowlabel_app clap_on_literals
+  columns_line [] h = (refl, refl)
+  columns_line (x ∷ xs) h = let e = not_true (x == 45) h in (rw (e, not_short x xs e) refl, rw (e, not_short x xs e) refl)
+
 -- such a line is read so, whatever answers what the words ask for
 pub reads_map_line : (words : List Text) (r : Result Command UsageFault) → IsAnswer words r → ReadsMapLine words r
 reads_map_line words r is program map address h k e = own_only _ _ r (map_line program map address h k) (rw e at is)
 
 pub reads_bare_line : (words : List Text) (r : Result Command UsageFault) → IsAnswer words r → ReadsBareLine words r
 reads_bare_line words r is program address h e = own_only _ _ r (bare_line program address h) (rw e at is)
+
+pub reads_info_line : (words : List Text) (r : Result Command UsageFault) → IsAnswer words r → ReadsInfoLine words r
+reads_info_line words r is program file h e = own_only _ _ r (info_line program file h) (rw e at is)
+
+pub reads_rows_line : (words : List Text) (r : Result Command UsageFault) → IsAnswer words r → ReadsRowsLine words r
+reads_rows_line words r is program file h e = own_only _ _ r (rows_line program file h) (rw e at is)
+
+pub reads_columns_line : (words : List Text) (r : Result Command UsageFault) → IsAnswer words r → ReadsColumnsLine words r
+reads_columns_line words r is program file h e = own_only _ _ r (columns_line program file h) (rw e at is)

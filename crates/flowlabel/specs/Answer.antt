@@ -1,5 +1,6 @@
-use Rattle.std.specs.Prelude.{◌≡◌, ◌==◌, Bool, not, true, false, List, [], ◌∷◌, Option, Some, None, Result, Ok, Err, codes, option_and_then, option_map}
+use Rattle.std.specs.Prelude.{◌≡◌, ◌==◌, Bool, not, true, false, List, [], ◌∷◌, Option, Some, None, Result, Ok, Err, codes, option_and_then, option_map, unwrap_or, if◌then◌else◌}
 use Rattle.std.specs.List.{list_any}
+use Rattle.std.specs.Str.{bytes_eq}
 use Rattle.std.specs.declared.io.ErrorKind.TheVariants as io
 use Rattle.std.specs.declared.io.ErrorKind.{ErrorKind as IoErrorKind}
 use Rattle.prefix_keys.specs.Text.{AddressOf, address_of}
@@ -7,7 +8,7 @@ use Rattle.clap.specs.Words.{Row, fault_of, first_of, subcommand_of}
 use Rattle.clap.specs.declared.error.kind.ErrorKind.{ErrorKind}
 use Rattle.clap.specs.declared.error.kind.ErrorKind.TheVariants as kind
 use Rattle.flowlabel.specs.Definition.{flowlabel_app}
-use Rattle.flowlabel.specs.Request.{Request, Text, label, request_of}
+use Rattle.flowlabel.specs.Request.{Request, Text, info, label, request_of, rows}
 use Rattle.flowlabel.specs.declared.command.Command.{Command}
 use Rattle.flowlabel.specs.declared.usage.UsageFault.{UsageFault}
 use Rattle.flowlabel.specs.declared.usage.UsageFault.TheVariants.{Refused, NotUtf8, Help, MapMissing, BadAddress, NoMemory}
@@ -26,15 +27,33 @@ label_answer (Some map) (Some address) = Ok (label map address)
 
 -- what the word ADDR of an entry stands for
 abbrev pub address_in_rows : List Row → Option AddressOf
-address_in_rows rows = option_and_then address_of (first_of (codes "address") rows)
+address_in_rows entries = option_and_then address_of (first_of (codes "address") entries)
 
 -- `label`, by the entries that clap finds for it
 abbrev pub answer_of_label : List Row → Answer
-answer_of_label rows = label_answer (first_of (codes "pmap") rows) (address_in_rows rows)
+answer_of_label entries = label_answer (first_of (codes "pmap") entries) (address_in_rows entries)
+
+-- the file that the word FILE of entries names: clap takes no line of `info` or `rows` without one
+abbrev pub flows_in_rows : List Row → Text
+flows_in_rows entries = unwrap_or (first_of (codes "flows") entries) []
+
+-- a flag is given: it has the value that clap gives it then
+abbrev pub is_given : Text → List Row → Bool
+is_given flag entries = bytes_eq (unwrap_or (first_of flag entries) []) (codes "true")
+
+-- `info` and `rows`, by the entries that clap finds for them
+abbrev pub answer_of_info : List Row → Answer
+answer_of_info entries = Ok (info (flows_in_rows entries))
+
+abbrev pub answer_of_rows : List Row → Answer
+answer_of_rows entries = Ok (rows (is_given (codes "columns") entries) (flows_in_rows entries))
 
 -- the answer to a subcommand, by its name and its entries
 abbrev pub answer_of : Text × List Row → Answer
-answer_of found = answer_of_label found.1
+answer_of found =
+    if bytes_eq found.0 (codes "info") then answer_of_info found.1
+    else if bytes_eq found.0 (codes "rows") then answer_of_rows found.1
+    else answer_of_label found.1
 
 -- the answer to the words that clap takes, by the subcommand and the entries that it finds in them
 abbrev pub own_answer : List Text → Option Answer
@@ -108,6 +127,21 @@ ReadsMapLine words result = (program map address : Text) → is_plain_word map �
 abbrev pub ReadsBareLine : List Text → Result Command UsageFault → Type 0
 ReadsBareLine words result = (program address : Text) → is_plain_word address ≡ true
     → words ≡ program ∷ codes "label" ∷ address ∷ [] → IsUnlessMemory (Err MapMissing) result
+
+-- `info FILE` is answered by its file
+abbrev pub ReadsInfoLine : List Text → Result Command UsageFault → Type 0
+ReadsInfoLine words result = (program file : Text) → is_plain_word file ≡ true
+    → words ≡ program ∷ codes "info" ∷ file ∷ [] → IsUnlessMemory (Ok (info file)) result
+
+-- `rows FILE` is answered by its file
+abbrev pub ReadsRowsLine : List Text → Result Command UsageFault → Type 0
+ReadsRowsLine words result = (program file : Text) → is_plain_word file ≡ true
+    → words ≡ program ∷ codes "rows" ∷ file ∷ [] → IsUnlessMemory (Ok (rows false file)) result
+
+-- `rows --columns FILE` asks for columns
+abbrev pub ReadsColumnsLine : List Text → Result Command UsageFault → Type 0
+ReadsColumnsLine words result = (program file : Text) → is_plain_word file ≡ true
+    → words ≡ program ∷ codes "rows" ∷ codes "--columns" ∷ file ∷ [] → IsUnlessMemory (Ok (rows true file)) result
 
 -- the fault comes of an error of this kind
 abbrev pub IsFaultOfKind : ErrorKind → UsageFault → Type 0

@@ -1,4 +1,5 @@
 use Rattle.std.specs.Prelude.{true, Some, codes}
+use Rattle.clap.specs.declared.builder.action.ArgAction.TheVariants.{SetTrue}
 use Rattle.clap.specs.Words.{App, Rule, new_app, new_rule, with_rule, with_subcommand}
 
 -- What clap reads of the definition of the command line: each subcommand with its options and words.
@@ -15,6 +16,22 @@ address_rule = record (new_rule (codes "address")) { value_names = 1; required =
 abbrev pub label_app : App
 label_app = with_rule (with_rule (new_app (codes "label")) pmap_rule) address_rule
 
+-- `FILE`, an IPFIX File
+abbrev pub flows_rule : Rule
+flows_rule = record (new_rule (codes "flows")) { value_names = 1; required = true }
+
+-- `--columns`
+abbrev pub columns_rule : Rule
+columns_rule = record (new_rule (codes "columns")) { long = Some (codes "columns"); action = Some SetTrue }
+
+-- `info FILE`
+abbrev pub info_app : App
+info_app = with_rule (new_app (codes "info")) flows_rule
+
+-- `rows [--columns] FILE`
+abbrev pub rows_app : App
+rows_app = with_rule (with_rule (new_app (codes "rows")) columns_rule) flows_rule
+
 -- the program before its subcommands: one of them is required, and `help` is none
 abbrev pub program : App
 program = record (new_app (codes "flowlabel")) {
@@ -23,4 +40,4 @@ program = record (new_app (codes "flowlabel")) {
 
 -- the command line
 unfoldable pub flowlabel_app : App
-flowlabel_app = with_subcommand program label_app.top
+flowlabel_app = with_subcommand (with_subcommand (with_subcommand program label_app.top) info_app.top) rows_app.top

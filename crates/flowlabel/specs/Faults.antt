@@ -1,9 +1,14 @@
 use Rattle.std.specs.Prelude.{ℕ, Bool, true, false, List, [], ◌++◌, Result, Ok, Err, codes, decimal, if◌then◌else◌}
+use Rattle.ipfix_read.specs.declared.fault.ReadFault.{ReadFault}
+use Rattle.ipfix_read.specs.declared.fault.ReadFaultKind.{ReadFaultKind}
+use Rattle.ipfix_read.specs.declared.fault.ReadFaultKind.TheVariants as flows
+use Rattle.ipfix_templates.specs.declared.fault.TemplateFaultKind.{TemplateFaultKind}
+use Rattle.ipfix_templates.specs.declared.fault.TemplateFaultKind.TheVariants as template
 use Rattle.pmap_text.specs.declared.fault.MapFault.{MapFault}
 use Rattle.pmap_text.specs.declared.fault.MapFaultKind.{MapFaultKind}
 use Rattle.pmap_text.specs.declared.fault.MapFaultKind.TheVariants as kind
 use Rattle.flowlabel.specs.declared.fault.RunFault.{RunFault}
-use Rattle.flowlabel.specs.declared.fault.RunFault.TheVariants.{Usage, CannotOpen, CannotRead, CannotWrite, NoMemory, Map}
+use Rattle.flowlabel.specs.declared.fault.RunFault.TheVariants.{Usage, CannotOpen, CannotRead, CannotWrite, NoMemory, Map, Flows}
 use Rattle.flowlabel.specs.declared.usage.UsageFault.{UsageFault}
 use Rattle.flowlabel.specs.declared.usage.UsageFault.TheVariants as usage
 
@@ -27,12 +32,35 @@ map_fault_text kind.NotAList = codes "M13 NotAList"
 map_fault_text kind.DuplicateBlock = codes "M14 DuplicateBlock"
 map_fault_text kind.NoMemory = codes "M15 NoMemory"
 
+-- the codes of a bad template and of what is wrong with it, and the name of the first
+abbrev pub template_fault_text : TemplateFaultKind → List ℕ
+template_fault_text template.Truncated = codes "F6 BadTemplate X1"
+template_fault_text template.BadTemplateId = codes "F6 BadTemplate X2"
+template_fault_text template.BadScope = codes "F6 BadTemplate X3"
+template_fault_text template.NoMemory = codes "F6 BadTemplate X4"
+
+-- the code and the name of a fault of an IPFIX File
+abbrev pub flows_fault_text : ReadFaultKind → List ℕ
+flows_fault_text flows.TruncatedHeader = codes "F1 TruncatedHeader"
+flows_fault_text flows.BadVersion = codes "F2 BadVersion"
+flows_fault_text flows.BadMessageLength = codes "F3 BadMessageLength"
+flows_fault_text flows.TruncatedMessage = codes "F4 TruncatedMessage"
+flows_fault_text flows.BadSetLength = codes "F5 BadSetLength"
+flows_fault_text (flows.BadTemplate kind) = template_fault_text kind
+flows_fault_text flows.BadRecord = codes "F7 BadRecord"
+flows_fault_text flows.TooManyMessages = codes "F9 TooManyMessages"
+flows_fault_text flows.NoMemory = codes "F10 NoMemory"
+
 abbrev pub out_of_memory : List ℕ
 out_of_memory = codes "flowlabel: out of memory\n"
 
 abbrev pub is_want_of_memory : MapFaultKind → Bool
 is_want_of_memory kind.NoMemory = true
 is_want_of_memory k = false
+
+abbrev pub is_flows_want_of_memory : ReadFaultKind → Bool
+is_flows_want_of_memory flows.NoMemory = true
+is_flows_want_of_memory k = false
 
 -- a fault at a place of a file
 abbrev pub place_text : List ℕ → List ℕ → ℕ → List ℕ
@@ -44,6 +72,12 @@ abbrev pub map_fault_line_text : List ℕ → MapFault → List ℕ
 map_fault_line_text file fault =
     if is_want_of_memory fault.kind then out_of_memory
     else place_text file (map_fault_text fault.kind) fault.line
+
+-- the fault of the bytes of an IPFIX File
+abbrev pub flows_fault_line_text : List ℕ → ReadFault → List ℕ
+flows_fault_line_text file fault =
+    if is_flows_want_of_memory fault.kind then out_of_memory
+    else place_text file (flows_fault_text fault.kind) fault.offset
 
 abbrev pub usage_fault_text : UsageFault → List ℕ
 usage_fault_text (usage.Refused text) = text
@@ -60,6 +94,7 @@ fault_text (CannotRead file) = codes "flowlabel: " ++ file.now ++ codes ": canno
 fault_text CannotWrite = codes "flowlabel: output: cannot write\n"
 fault_text NoMemory = out_of_memory
 fault_text (Map file fault) = map_fault_line_text file.now fault
+fault_text (Flows file fault) = flows_fault_line_text file.now fault
 
 -- what is printed on standard output: the text of help, and nothing for a fault
 abbrev pub help_text_of : RunFault → List ℕ
@@ -74,13 +109,18 @@ usage_status_of usage.MapMissing = 2
 usage_status_of usage.BadAddress = 2
 usage_status_of usage.NoMemory = 3
 
+-- the status of a fault of a file's bytes, or of want of memory while they were read
+abbrev pub bytes_status_of : Bool → ℕ
+bytes_status_of want_of_memory = if want_of_memory then 3 else 1
+
 abbrev pub status_of : RunFault → ℕ
 status_of (Usage fault) = usage_status_of fault
 status_of (CannotOpen file) = 4
 status_of (CannotRead file) = 4
 status_of CannotWrite = 4
 status_of NoMemory = 3
-status_of (Map file fault) = if is_want_of_memory fault.kind then 3 else 1
+status_of (Map file fault) = bytes_status_of (is_want_of_memory fault.kind)
+status_of (Flows file fault) = bytes_status_of (is_flows_want_of_memory fault.kind)
 
 -- the status of a run that ended so
 abbrev pub exit_status_of : {A : Type 0} → Result A RunFault → ℕ

@@ -4,5 +4,6 @@ pub mod Answer
 pub mod Loops
 pub mod Faults
 pub mod Output
+pub mod Report
 pub mod Run
 pub mod Opening

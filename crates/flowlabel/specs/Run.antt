@@ -1,14 +1,14 @@
 use Rattle.std.specs.Prelude.{◌≡◌, ◌≢◌, ◌⊎◌, ◌||◌, ℕ, Bool, true, false, List, [], Option, Some, None, is_some, Result, Ok, Err}
 use Rattle.std.specs.Borrow.{Bor}
 use Rattle.flow_io.specs.declared.last_call.LastCall.{LastCall}
-use Rattle.pmap_text.specs.Reading.{map_reading}
 use Rattle.pmap_text.specs.declared.fault.MapFaultKind.TheVariants as kind
 use Rattle.flowlabel.specs.Loops.{IsUntouched, StopsWriting}
-use Rattle.flowlabel.specs.Output.{FileTexts, InMap, output_of}
+use Rattle.ipfix_read.specs.declared.fault.ReadFaultKind.TheVariants as flows
+use Rattle.flowlabel.specs.Output.{FileTexts, InFlows, InMap, IsOutput, Outcome}
 use Rattle.flowlabel.specs.Request.{Request}
 use Rattle.flowlabel.specs.declared.command.Needs.{Needs}
 use Rattle.flowlabel.specs.declared.fault.RunFault.{RunFault}
-use Rattle.flowlabel.specs.declared.fault.RunFault.TheVariants.{Usage, CannotOpen, CannotRead, CannotWrite, NoMemory, Map}
+use Rattle.flowlabel.specs.declared.fault.RunFault.TheVariants.{Usage, CannotOpen, CannotRead, CannotWrite, NoMemory, Map, Flows}
 use Rattle.flowlabel.specs.declared.inputs.Inputs.{Inputs}
 use Rattle.flowlabel.specs.declared.inputs.Source.{Source}
 
@@ -48,20 +48,33 @@ module _ {R : Type 0} where
   -- the output of the request by the bytes that the readers told, where they tell them
   abbrev pub PrintsThen : (R → Option (List ℕ)) → Inputs R → Request → (List ℕ → Type 0) → Type 0
   PrintsThen left inputs request P =
-      (texts : FileTexts) → HaveTexts left inputs texts → (out : List ℕ) × (output_of request texts ≡ Ok out) × P out
+      (texts : FileTexts) → HaveTexts left inputs texts → (out : List ℕ) × IsOutput request texts (Ok out) × P out
 
-  -- what a fault of reading a map file says
-  abbrev pub IsFaultOfMap : (R → Option (List ℕ)) → (R → Bool) → Source R → Source R → RunFault → Type 0
-  IsFaultOfMap left failed old new (Usage fault) = ⊥
-  IsFaultOfMap left failed old new (CannotOpen file) = ⊥
-  IsFaultOfMap left failed old new (CannotRead file) = (old.name.now ≡ file.now) × (failed new.reader ≡ true)
-  IsFaultOfMap left failed old new CannotWrite = ⊥
-  IsFaultOfMap left failed old new NoMemory = Unit {0}
-  IsFaultOfMap left failed old new (Map file fault) = (old.name.now ≡ file.now) × (fault.kind ≢ kind.NoMemory)
-      × ((text : List ℕ) → left old.reader ≡ Some text → map_reading text ≡ Err fault)
+  -- what a fault of reading a file whole says: the file has the name that it had before the call, and its reader has failed
+  abbrev pub IsFaultOfReading : (R → Bool) → Source R → Source R → RunFault → Type 0
+  IsFaultOfReading failed old new (Usage fault) = ⊥
+  IsFaultOfReading failed old new (CannotOpen file) = ⊥
+  IsFaultOfReading failed old new (CannotRead file) = (old.name.now ≡ file.now) × (failed new.reader ≡ true)
+  IsFaultOfReading failed old new CannotWrite = ⊥
+  IsFaultOfReading failed old new NoMemory = Unit {0}
+  IsFaultOfReading failed old new (Map file fault) = ⊥
+  IsFaultOfReading failed old new (Flows file fault) = ⊥
 
-  -- what a fault that comes before anything is written says, names being those before the call: a fault of a map text is
-  -- the request's first fault, and a reader that is named has failed
+  -- what a fault of a run over a map file says, by the relation that its text has to the outcome: a fault of the text is the
+  -- outcome
+  abbrev pub IsFaultOfMapFile : (R → Option (List ℕ)) → (R → Bool) → (List ℕ → Outcome → Type 0) → Source R → Source R → RunFault → Type 0
+  IsFaultOfMapFile left failed over old new (Map file fault) = (old.name.now ≡ file.now) × (fault.kind ≢ kind.NoMemory)
+      × ((text : List ℕ) → left old.reader ≡ Some text → over text (Err (InMap fault)))
+  IsFaultOfMapFile left failed over old new other = IsFaultOfReading failed old new other
+
+  -- the same over an IPFIX File
+  abbrev pub IsFaultOfFlowsFile : (R → Option (List ℕ)) → (R → Bool) → (List ℕ → Outcome → Type 0) → Source R → Source R → RunFault → Type 0
+  IsFaultOfFlowsFile left failed over old new (Flows file fault) = (old.name.now ≡ file.now) × (fault.kind ≢ flows.NoMemory)
+      × ((text : List ℕ) → left old.reader ≡ Some text → over text (Err (InFlows fault)))
+  IsFaultOfFlowsFile left failed over old new other = IsFaultOfReading failed old new other
+
+  -- what a fault that comes before anything is written says, names being those before the call: a fault of a file's bytes
+  -- is the request's first fault, and a reader that is named has failed
   abbrev pub IsFaultOfBytes : (R → Option (List ℕ)) → (R → Bool) → Inputs R → Inputs R → Request → RunFault → Type 0
   IsFaultOfBytes left failed old new request (Usage fault) = ⊥
   IsFaultOfBytes left failed old new request (CannotOpen file) = ⊥
@@ -73,7 +86,10 @@ module _ {R : Type 0} where
   IsFaultOfBytes left failed old new request NoMemory = Unit {0}
   IsFaultOfBytes left failed old new request (Map file fault) =
       HasName old.map file × (fault.kind ≢ kind.NoMemory)
-      × ((texts : FileTexts) → HaveTexts left old texts → output_of request texts ≡ Err (InMap fault))
+      × ((texts : FileTexts) → HaveTexts left old texts → IsOutput request texts (Err (InMap fault)))
+  IsFaultOfBytes left failed old new request (Flows file fault) =
+      HasName old.flows file × (fault.kind ≢ flows.NoMemory)
+      × ((texts : FileTexts) → HaveTexts left old texts → IsOutput request texts (Err (InFlows fault)))
 
   -- the inputs are those that a command needs, and no others
   pub record AreNeeded (needs : Needs) (inputs : Inputs R) : Type 0 where
@@ -94,6 +110,8 @@ module _ {R W : Type 0} (left : R → Option (List ℕ)) (failed : R → Bool) (
   IsFaultOfRun old new writer writer' request NoMemory = IsUntouched taken last writer writer'
   IsFaultOfRun old new writer writer' request (Map file fault) =
       IsFaultOfBytes left failed old new request (Map file fault) × IsUntouched taken last writer writer'
+  IsFaultOfRun old new writer writer' request (Flows file fault) =
+      IsFaultOfBytes left failed old new request (Flows file fault) × IsUntouched taken last writer writer'
 
 -- the run ended for a reader that failed, or for the writer
 abbrev pub is_read_stop : {A : Type 0} → Result A RunFault → Bool

@@ -8,6 +8,10 @@ use prefix_keys::Addr;
 pub enum Command<'a> {
     /// `label --pmap FILE ADDR`: the label that a map gives an address.
     Label { map: &'a str, addr: Addr },
+    /// `info FILE`: how many messages, sets and records an IPFIX File has.
+    Info { flows: &'a str },
+    /// `rows [--columns] FILE`: the rows of an IPFIX File, padded to columns where that is asked for.
+    Rows { columns: bool, flows: &'a str },
 }
 
 /// Which of the four inputs a command reads.
@@ -40,6 +44,12 @@ impl<'a> Command<'a> {
                 certificate: false,
                 flows: false,
             },
+            Command::Info { .. } | Command::Rows { .. } => Needs {
+                map: false,
+                list: false,
+                certificate: false,
+                flows: true,
+            },
         }
     }
 
@@ -58,6 +68,12 @@ impl<'a> Command<'a> {
                 list: None,
                 certificate: None,
                 flows: None,
+            },
+            Command::Info { flows } | Command::Rows { flows, .. } => Files {
+                map: None,
+                list: None,
+                certificate: None,
+                flows: Some(flows),
             },
         }
     }

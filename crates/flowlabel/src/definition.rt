@@ -1,9 +1,9 @@
 ghost use Rattle.std.specs.Prelude.{◌≡◌, IfOk, false, true};
-ghost use Rattle.clap.specs.Words.{app_of};
+ghost use Rattle.clap.specs.Words.{app_of, rule_of};
 ghost use Rattle.clap.specs.declared.builder.command.Command.TheViews.{out-Command};
-ghost use Rattle.flowlabel.specs.Definition.{flowlabel_app, label_app};
+ghost use Rattle.flowlabel.specs.Definition.{flowlabel_app, flows_rule, info_app, label_app, program, rows_app};
 
-use clap::{Arg, Command};
+use clap::{Arg, ArgAction, Command};
 use std::alloc::{AllocError, Global};
 
 /// `label --pmap FILE ADDR`.
@@ -25,15 +25,62 @@ fn label<'a>(alloc: Global) -> Result<Command<'a>, AllocError>
         .arg(address)
 }
 
+/// `FILE`, the IPFIX File of `info` and `rows`.
+fn flows_argument<'a>(alloc: Global) -> Arg<'a>
+    ensures rule { rule_of result ≡ flows_rule }
+    ensures local { result.global ≡ false }
+{
+    Arg::new(alloc, "flows")
+        .value_name("FILE")
+        .required(true)
+        .help("The IPFIX File")
+}
+
+/// `info FILE`.
+fn info<'a>(alloc: Global) -> Result<Command<'a>, AllocError>
+    ensures app { IfOk result (λ c. app_of c ≡ info_app) }
+    ensures local { IfOk result (λ c. (out-Command c).has_globals ≡ false) }
+{
+    Command::new(alloc, "info")
+        .about("Print the counts of an IPFIX File")
+        .arg(flows_argument(alloc))
+}
+
+/// `rows [--columns] FILE`.
+fn rows<'a>(alloc: Global) -> Result<Command<'a>, AllocError>
+    ensures app { IfOk result (λ c. app_of c ≡ rows_app) }
+    ensures local { IfOk result (λ c. (out-Command c).has_globals ≡ false) }
+{
+    let columns = Arg::new(alloc, "columns")
+        .long("columns")
+        .action(ArgAction::SetTrue)
+        .help("Pad the values to columns");
+    Command::new(alloc, "rows")
+        .about("Print the rows of an IPFIX File")
+        .arg(columns)?
+        .arg(flows_argument(alloc))
+}
+
+/// The program before its subcommands.
+fn program<'a>(alloc: Global) -> Command<'a>
+    ensures app { app_of result ≡ program }
+    ensures local { (out-Command result).has_globals ≡ false }
+    ensures required { (out-Command result).subcommand_required ≡ true }
+{
+    Command::new(alloc, "flowlabel")
+        .about("Label flows from a prefix map")
+        .subcommand_required(true)
+        .disable_help_subcommand(true)
+}
+
 /// The command line as clap reads it: a simple command with one required level of subcommands.
 pub fn definition<'a>(alloc: Global) -> Result<Command<'a>, AllocError>
     ensures app { IfOk result (λ c. app_of c ≡ flowlabel_app) }
     ensures local { IfOk result (λ c. (out-Command c).has_globals ≡ false) }
     ensures required { IfOk result (λ c. (out-Command c).subcommand_required ≡ true) }
 {
-    Command::new(alloc, "flowlabel")
-        .about("Label flows from a prefix map")
-        .subcommand_required(true)
-        .disable_help_subcommand(true)
-        .subcommand(label(alloc)?)
+    program(alloc)
+        .subcommand(label(alloc)?)?
+        .subcommand(info(alloc)?)?
+        .subcommand(rows(alloc)?)
 }

@@ -1,8 +1,10 @@
 ghost use Rattle.std.specs.Prelude.{◌≡◌, IfOk};
 ghost use Rattle.std.specs.String.{string_bytes};
-ghost use Rattle.flowlabel.specs.Faults.{exit_status_of, fault_text, help_text_of, map_fault_line_text, map_fault_text, place_text, status_of, usage_fault_text, usage_status_of};
+ghost use Rattle.flowlabel.specs.Faults.{bytes_status_of, exit_status_of, fault_text, flows_fault_line_text, flows_fault_text, help_text_of, map_fault_line_text, map_fault_text, place_text, status_of, template_fault_text, usage_fault_text, usage_status_of};
 
 use crate::usage::UsageFault;
+use ipfix_read::{ReadFault, ReadFaultKind};
+use ipfix_templates::TemplateFaultKind;
 use pmap_text::{MapFault, MapFaultKind};
 use std::alloc::{AllocError, Global};
 
@@ -21,6 +23,8 @@ pub enum RunFault<'a> {
     NoMemory,
     /// The text of a map file has this fault.
     Map { file: &'a str, fault: MapFault },
+    /// The bytes of an IPFIX File have this fault.
+    Flows { file: &'a str, fault: ReadFault },
 }
 
 /// The code and the name of a fault of a map text or a list text.
@@ -43,6 +47,35 @@ fn map_fault_name(kind: MapFaultKind) -> &'static str
         MapFaultKind::NotAList => "M13 NotAList",
         MapFaultKind::DuplicateBlock => "M14 DuplicateBlock",
         MapFaultKind::NoMemory => "M15 NoMemory",
+    }
+}
+
+/// The codes and the names of a bad template and of what is wrong with it.
+fn template_fault_name(kind: TemplateFaultKind) -> &'static str
+    ensures { result.now ≡ template_fault_text kind }
+{
+    match kind {
+        TemplateFaultKind::Truncated => "F6 BadTemplate X1",
+        TemplateFaultKind::BadTemplateId => "F6 BadTemplate X2",
+        TemplateFaultKind::BadScope => "F6 BadTemplate X3",
+        TemplateFaultKind::NoMemory => "F6 BadTemplate X4",
+    }
+}
+
+/// The code and the name of a fault of an IPFIX File.
+fn flows_fault_name(kind: ReadFaultKind) -> &'static str
+    ensures { result.now ≡ flows_fault_text kind }
+{
+    match kind {
+        ReadFaultKind::TruncatedHeader => "F1 TruncatedHeader",
+        ReadFaultKind::BadVersion => "F2 BadVersion",
+        ReadFaultKind::BadMessageLength => "F3 BadMessageLength",
+        ReadFaultKind::TruncatedMessage => "F4 TruncatedMessage",
+        ReadFaultKind::BadSetLength => "F5 BadSetLength",
+        ReadFaultKind::BadTemplate(kind) => template_fault_name(kind),
+        ReadFaultKind::BadRecord => "F7 BadRecord",
+        ReadFaultKind::TooManyMessages => "F9 TooManyMessages",
+        ReadFaultKind::NoMemory => "F10 NoMemory",
     }
 }
 
@@ -75,6 +108,15 @@ fn map_fault_line(alloc: Global, file: &str, fault: &MapFault) -> Result<String,
     place_line(alloc, file, map_fault_name(fault.kind), fault.line)
 }
 
+fn flows_fault_line(alloc: Global, file: &str, fault: &ReadFault) -> Result<String, AllocError>
+    ensures { IfOk result (λ line. string_bytes line ≡ flows_fault_line_text file.now fault.now) }
+{
+    if fault.kind == ReadFaultKind::NoMemory {
+        return String::from_str(alloc, "flowlabel: out of memory\n");
+    }
+    place_line(alloc, file, flows_fault_name(fault.kind), fault.offset)
+}
+
 fn text_of_fault(alloc: Global, fault: &RunFault<'_>) -> Result<String, AllocError>
     ensures { IfOk result (λ line. string_bytes line ≡ fault_text fault.now) }
 {
@@ -85,6 +127,7 @@ fn text_of_fault(alloc: Global, fault: &RunFault<'_>) -> Result<String, AllocErr
         RunFault::CannotWrite => String::from_str(alloc, "flowlabel: output: cannot write\n"),
         RunFault::NoMemory => String::from_str(alloc, "flowlabel: out of memory\n"),
         RunFault::Map { file, fault } => map_fault_line(alloc, file, fault),
+        RunFault::Flows { file, fault } => flows_fault_line(alloc, file, fault),
     }
 }
 
@@ -118,6 +161,13 @@ fn usage_status(fault: &UsageFault) -> u8
     }
 }
 
+// The status of a fault of a file's bytes, or of want of memory while they were read.
+fn bytes_status(is_want_of_memory: bool) -> u8
+    ensures { result ≡ bytes_status_of is_want_of_memory }
+{
+    if is_want_of_memory { 3 } else { 1 }
+}
+
 /// The exit status: 1 for a fault of a file's bytes, 2 for one of the command line, 3 for want of memory, 4 for a file
 /// or an output that fails. Help is no failure.
 pub fn status(fault: &RunFault<'_>) -> u8
@@ -127,13 +177,8 @@ pub fn status(fault: &RunFault<'_>) -> u8
         RunFault::Usage(fault) => usage_status(fault),
         RunFault::CannotOpen(_) | RunFault::CannotRead(_) | RunFault::CannotWrite => 4,
         RunFault::NoMemory => 3,
-        RunFault::Map { fault, .. } => {
-            if fault.kind == MapFaultKind::NoMemory {
-                3
-            } else {
-                1
-            }
-        }
+        RunFault::Map { fault, .. } => bytes_status(fault.kind == MapFaultKind::NoMemory),
+        RunFault::Flows { fault, .. } => bytes_status(fault.kind == ReadFaultKind::NoMemory),
     }
 }
 

@@ -1,89 +1,24 @@
-ghost use Rattle.std.specs.Prelude.{◌≡◌, ◌≢◌, ◌^◌, ◌<◌, ℕ, List, [], Some, false, IfOk, IfErr, OnOk, option_and_then, option_map, slice_get, unwrap_or};
+ghost use Rattle.std.specs.Prelude.{◌≡◌, Ok, false, IfErr, IfOk, OnOk};
 ghost use Rattle.std.specs.Io.KnownBytes.{Appends};
 ghost use Rattle.flow_io.specs.declared.last_call.LastCall.TheVariants.{Flush};
-ghost use Rattle.prefix_keys.specs.Version.{width_of};
-ghost use Rattle.pmap_text.specs.MapModel.{map_label};
-ghost use Rattle.pmap_text.specs.MapText.{map_of};
-ghost use Rattle.pmap_text.specs.Reading.{ReadsMap};
-ghost use Rattle.label_trie.specs.TrieModel.{label_in};
-ghost use Rattle.flowlabel.specs.Output.{label_of_address, line_of, output_of, FileTexts};
+ghost use Rattle.flowlabel.specs.Output.{FileTexts, IsOutput};
 ghost use Rattle.flowlabel.specs.Request.{needs_of, request_of};
-ghost use Rattle.flowlabel.specs.Run.{any_failed, is_read_stop, is_write_stop, AreNeeded, HaveTexts, IsFaultOfBytes, IsFaultOfMap, IsFaultOfRun, PrintsThen};
+ghost use Rattle.flowlabel.specs.Run.{any_failed, is_read_stop, is_write_stop, AreNeeded, HaveTexts, IsFaultOfBytes, IsFaultOfRun, PrintsThen};
 
 use crate::command::Command;
 use crate::fault::RunFault;
-use crate::inputs::{Inputs, Source};
-use crate::reading::{ReadStop, read_whole};
+use crate::inputs::Inputs;
 use crate::writing::{WriteFault, write_whole};
 use flow_io::{Input, Output};
-use label_trie::Trie;
-use pmap_text::{MapFaultKind, MapText, read_map};
-use prefix_keys::{Addr, convert};
-use std::alloc::{AllocError, Global};
+use std::alloc::Global;
 
-// The map of a map file.
-fn map_of_file<'a, R: Input>(
-    alloc: Global,
-    source: &mut Source<'a, R>,
-) -> Result<MapText, RunFault<'a>>
-    requires { R.failed source.old.reader ≡ false }
-    ensures ok { IfOk result (λ map. (text : List ℕ) → R.bytes_left source.old.reader ≡ Some text → ReadsMap text (map_of map)) }
-    ensures err { IfErr result (IsFaultOfMap R.bytes_left R.failed source.old source.new) }
-    ensures failed { R.failed source.new.reader ≡ is_read_stop result }
-{
-    let text = match read_whole(alloc, &mut source.reader) {
-        Ok(text) => text,
-        Err(ReadStop::ReadFault) => return Err(RunFault::CannotRead(source.name)),
-        Err(ReadStop::NoMemory) => return Err(RunFault::NoMemory),
-    };
-    match read_map(alloc, text.as_slice()) {
-        Ok(map) => Ok(map),
-        Err(fault) => {
-            if fault.kind == MapFaultKind::NoMemory {
-                Err(RunFault::NoMemory)
-            } else {
-                Err(RunFault::Map {
-                    file: source.name,
-                    fault,
-                })
-            }
-        }
-    }
-}
+mod label;
+pub mod laws;
+pub mod report;
+mod source;
 
-// The label of an address, by the trie of the map: none where the address has no place in the map's version.
-fn label_of<'m>(map: &'m MapText, trie: &Trie, addr: Addr) -> Option<&'m [u8]>
-    requires version { trie.now.version ≡ map.now.version }
-    requires labels { (a : ℕ) → a < 2 ^ width_of map.now.version
-        → option_and_then (slice_get map.now.labels) (label_in trie.now a) ≡ Some (map_label (map_of map.now) a) }
-    ensures { option_map (λ t. t.now) result ≡ label_of_address (map_of map.now) (addr.version, addr.value) }
-{
-    match trie.label_at(convert(addr, map.version)?) {
-        Some(id) => map.labels.text(id),
-        None => None,
-    }
-}
-
-// The line of a label: the line feed alone where there is none.
-fn label_line(alloc: Global, label: Option<&[u8]>) -> Result<Vec<u8>, AllocError>
-    ensures { IfOk result (λ out. out.items ≡ line_of (unwrap_or (option_map (λ t. t.now) label.entry) [])) }
-{
-    let mut out = Vec::new(alloc);
-    if let Some(label) = label {
-        out.extend_from_slice(label)?;
-    }
-    out.push(b'\n')?;
-    Ok(out)
-}
-
-// What `label` prints for an address.
-fn label_output(alloc: Global, map: &MapText, addr: Addr) -> Result<Vec<u8>, AllocError>
-    ensures { IfOk result (λ out. out.items
-        ≡ line_of (unwrap_or (label_of_address (map_of map.now) (addr.version, addr.value)) [])) }
-{
-    let trie = Trie::build(alloc, map)?;
-    label_line(alloc, label_of(map, &trie, addr))
-}
+use label::label_of_file;
+use report::{Report, report_of_file};
 
 // The whole output of a command.
 fn output<'a, R: Input>(
@@ -94,18 +29,29 @@ fn output<'a, R: Input>(
     requires needed { AreNeeded (needs_of (request_of command.now)) inputs.old }
     requires readers { any_failed R.failed inputs.old ≡ false }
     ensures ok { IfOk result (λ out. (texts : FileTexts) → HaveTexts R.bytes_left inputs.old texts
-        → output_of (request_of command.now) texts ≡ Ok out.items) }
+        → IsOutput (request_of command.now) texts (Ok out.items)) }
     ensures err { IfErr result (IsFaultOfBytes R.bytes_left R.failed inputs.old inputs.new (request_of command.now)) }
     ensures failed { any_failed R.failed inputs.new ≡ is_read_stop result }
 {
-    let Command::Label { addr, .. } = command;
-    let Some(source) = &mut inputs.map else {
-        unreachable!()
-    };
-    let map = map_of_file(alloc, source)?;
-    match label_output(alloc, &map, *addr) {
-        Ok(out) => Ok(out),
-        Err(_) => Err(RunFault::NoMemory),
+    match command {
+        Command::Label { addr, .. } => {
+            let Some(source) = &mut inputs.map else {
+                unreachable!()
+            };
+            label_of_file(alloc, source, *addr)
+        }
+        Command::Info { .. } => {
+            let Some(source) = &mut inputs.flows else {
+                unreachable!()
+            };
+            report_of_file(alloc, source, Report::Info)
+        }
+        Command::Rows { columns, .. } => {
+            let Some(source) = &mut inputs.flows else {
+                unreachable!()
+            };
+            report_of_file(alloc, source, Report::Rows { columns: *columns })
+        }
     }
 }
 

@@ -9,6 +9,9 @@ use std::test::Fail;
 fn name_of(answer: &Result<Command<'_>, UsageFault>) -> &'static str {
     match answer {
         Ok(Command::Label { .. }) => "label",
+        Ok(Command::Info { .. }) => "info",
+        Ok(Command::Rows { columns: false, .. }) => "rows",
+        Ok(Command::Rows { columns: true, .. }) => "rows in columns",
         Err(UsageFault::Refused(_)) => "refused",
         Err(UsageFault::NotUtf8) => "P1",
         Err(UsageFault::Help(_)) => "help",
@@ -23,7 +26,7 @@ fn outcome(alloc: Global, line: &str) -> Result<&'static str, AllocError> {
     Ok(name_of(&parse(alloc, words.as_slice())))
 }
 
-const LINES: [(&str, &str); 18] = [
+const LINES: [(&str, &str); 30] = [
     ("flowlabel label --pmap map.txt 10.1.1.1", "label"),
     ("flowlabel label --pmap=map.txt 10.1.1.1", "label"),
     ("flowlabel label 10.1.1.1 --pmap map.txt", "label"),
@@ -33,6 +36,18 @@ const LINES: [(&str, &str); 18] = [
     ("flowlabel label --pmap map.txt 2001:db8::1", "label"),
     ("flowlabel label --pmap map.txt 2001:db8::1::", "P4"),
     ("flowlabel label --pmap map.txt ", "P4"),
+    ("flowlabel info flows", "info"),
+    ("flowlabel rows flows", "rows"),
+    ("flowlabel rows --columns flows", "rows in columns"),
+    ("flowlabel rows flows --columns", "rows in columns"),
+    ("flowlabel rows -- --columns", "rows"),
+    ("flowlabel info", "refused"),
+    ("flowlabel rows --columns", "refused"),
+    ("flowlabel rows --columns=yes flows", "refused"),
+    ("flowlabel rows flows flows", "refused"),
+    ("flowlabel info --columns flows", "refused"),
+    ("flowlabel rows --pmap map.txt flows", "refused"),
+    ("flowlabel rows --help", "help"),
     ("flowlabel info --colour flows", "refused"),
     ("flowlabel label --pmap map.txt", "refused"),
     (
@@ -74,8 +89,23 @@ fn names_map_alone(rt: &impl Abort, command: &Command<'_>) {
     assert!(rt; files.list.is_none() && files.certificate.is_none() && files.flows.is_none());
 }
 
+fn names_flows_alone(rt: &impl Abort, command: &Command<'_>) {
+    let flows_alone = Needs {
+        map: false,
+        list: false,
+        certificate: false,
+        flows: true,
+    };
+    assert_eq!(rt; command.needs(), flows_alone);
+    let files = command.files();
+    assert_eq!(rt; files.flows, Some("flows"));
+    assert!(rt; files.map.is_none() && files.list.is_none() && files.certificate.is_none());
+}
+
 fn is_label_command(rt: &impl Abort, command: &Command<'_>) {
-    let Command::Label { map, addr } = command;
+    let Command::Label { map, addr } = command else {
+        panic!(rt; "another command");
+    };
     assert_eq!(rt; *map, "map.txt");
     assert_eq!(rt; (addr.version, addr.value), (Version::V4, 0x0a01_0101));
 }
@@ -86,6 +116,15 @@ fn keeps_the_words_of_a_label_command(rt: HostRuntime) -> Result<(), Fail> {
     let command = parse(rt.alloc(), &words)?;
     is_label_command(&rt, &command);
     names_map_alone(&rt, &command);
+    Ok(())
+}
+
+#[test]
+fn keeps_the_file_of_flows(rt: HostRuntime) -> Result<(), Fail> {
+    let command = parse(rt.alloc(), &["flowlabel", "info", "flows"])?;
+    names_flows_alone(&rt, &command);
+    let command = parse(rt.alloc(), &["flowlabel", "rows", "--columns", "flows"])?;
+    names_flows_alone(&rt, &command);
     Ok(())
 }
 
@@ -120,9 +159,9 @@ fn hands_on_the_texts_of_clap(rt: HostRuntime) -> Result<(), Fail> {
     says(
         &rt,
         rt.alloc(),
-        &["flowlabel", "info", "flows"],
+        &["flowlabel", "counts", "flows"],
         false,
-        "info",
+        "counts",
     )?;
     says(
         &rt,

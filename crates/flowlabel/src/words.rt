@@ -2,7 +2,7 @@ ghost use Rattle.std.specs.Prelude.{◌≡◌, option_map, true};
 ghost use Rattle.clap.specs.Words.{first_of, found_of, kind_of, rows_of, takes};
 ghost use Rattle.clap.specs.Walk.{texts};
 ghost use Rattle.flowlabel.specs.Definition.{flowlabel_app};
-ghost use Rattle.flowlabel.specs.Answer.{IsAnswer, IsFaultOfKind, IsOwnAnswer, ReadsBareLine, ReadsMapLine, SaysOnly, address_in_rows, answer_of_label, words_fault_of};
+ghost use Rattle.flowlabel.specs.Answer.{IsAnswer, IsFaultOfKind, IsOwnAnswer, ReadsBareLine, ReadsColumnsLine, ReadsInfoLine, ReadsMapLine, ReadsRowsLine, SaysOnly, address_in_rows, answer_of, answer_of_label, flows_in_rows, is_given, words_fault_of};
 
 use crate::command::Command;
 use crate::definition::definition;
@@ -62,6 +62,36 @@ fn label_command<'a>(entries: &ArgMatches<'a>) -> Result<Command<'a>, UsageFault
     Ok(Command::Label { map, addr })
 }
 
+/// The file of flows that the word FILE names: clap takes no line of `info` or `rows` without one.
+fn flows_in<'a>(entries: &ArgMatches<'a>) -> &'a str
+    ensures { result.now ≡ flows_in_rows (rows_of (found_of entries.now)) }
+{
+    text_of(entries, "flows").unwrap_or("")
+}
+
+/// Whether a flag is given: its text is then `true`.
+fn is_given(entries: &ArgMatches<'_>, flag: &str) -> bool
+    ensures { result ≡ is_given flag.now (rows_of (found_of entries.now)) }
+{
+    text_of(entries, flag).unwrap_or("") == "true"
+}
+
+/// The command of a subcommand, or its first usage fault, by its name and the entries that clap found for it.
+fn command_of<'a>(name: &str, entries: &ArgMatches<'a>) -> Result<Command<'a>, UsageFault>
+    ensures { SaysOnly (answer_of (name.now, rows_of (found_of entries.now))) result }
+{
+    if name == "info" {
+        let flows = flows_in(entries);
+        return Ok(Command::Info { flows });
+    }
+    if name == "rows" {
+        let columns = is_given(entries, "columns");
+        let flows = flows_in(entries);
+        return Ok(Command::Rows { columns, flows });
+    }
+    label_command(entries)
+}
+
 /// The fault of a command line whose words can't be had, by the kind of the error: one of them is no text, or memory ran
 /// out.
 pub fn words_fault(kind: io::ErrorKind) -> UsageFault
@@ -83,13 +113,16 @@ pub fn parse<'a>(alloc: Global, words: &'a [&'a str]) -> Result<Command<'a>, Usa
     ensures answer { IsAnswer (texts words.entry.now) result }
     ensures map_line { ReadsMapLine (texts words.entry.now) result }
     ensures bare_line { ReadsBareLine (texts words.entry.now) result }
+    ensures info_line { ReadsInfoLine (texts words.entry.now) result }
+    ensures rows_line { ReadsRowsLine (texts words.entry.now) result }
+    ensures columns_line { ReadsColumnsLine (texts words.entry.now) result }
     ensures taken { takes flowlabel_app (texts words.entry.now) ≡ true → IsOwnAnswer result }
 {
     let command = definition(alloc)?;
     match command.try_get_matches_from(words) {
         Ok(matches) => {
-            let (_, entries) = matches.subcommand().unwrap();
-            label_command(entries)
+            let (name, entries) = matches.subcommand().unwrap();
+            command_of(name, entries)
         }
         Err(error) => Err(fault_of_error(alloc, &error)),
     }

@@ -101,6 +101,72 @@ fn names_each_fault_of_a_map(rt: HostRuntime) -> Result<(), Fail> {
     Ok(())
 }
 
+// Each fault at the byte 20 of a File.
+const FLOWS_FAULTS: [(ReadFaultKind, &str); 10] = [
+    (
+        ReadFaultKind::TruncatedHeader,
+        "flowlabel: flows: F1 TruncatedHeader at 20\n",
+    ),
+    (
+        ReadFaultKind::BadVersion,
+        "flowlabel: flows: F2 BadVersion at 20\n",
+    ),
+    (
+        ReadFaultKind::BadMessageLength,
+        "flowlabel: flows: F3 BadMessageLength at 20\n",
+    ),
+    (
+        ReadFaultKind::TruncatedMessage,
+        "flowlabel: flows: F4 TruncatedMessage at 20\n",
+    ),
+    (
+        ReadFaultKind::BadSetLength,
+        "flowlabel: flows: F5 BadSetLength at 20\n",
+    ),
+    (
+        ReadFaultKind::BadTemplate(TemplateFaultKind::Truncated),
+        "flowlabel: flows: F6 BadTemplate X1 at 20\n",
+    ),
+    (
+        ReadFaultKind::BadTemplate(TemplateFaultKind::BadTemplateId),
+        "flowlabel: flows: F6 BadTemplate X2 at 20\n",
+    ),
+    (
+        ReadFaultKind::BadTemplate(TemplateFaultKind::BadScope),
+        "flowlabel: flows: F6 BadTemplate X3 at 20\n",
+    ),
+    (
+        ReadFaultKind::BadRecord,
+        "flowlabel: flows: F7 BadRecord at 20\n",
+    ),
+    (
+        ReadFaultKind::TooManyMessages,
+        "flowlabel: flows: F9 TooManyMessages at 20\n",
+    ),
+];
+
+fn names_each_of_flows(
+    rt: &impl Abort,
+    alloc: Global,
+    cases: &[(ReadFaultKind, &str)],
+) -> Result<(), AllocError> {
+    for (kind, line) in cases {
+        let fault = ReadFault {
+            kind: *kind,
+            offset: 20,
+        };
+        let file = "flows";
+        tells(rt, alloc, &RunFault::Flows { file, fault }, 1, line)?;
+    }
+    Ok(())
+}
+
+#[test]
+fn names_each_fault_of_a_file(rt: HostRuntime) -> Result<(), Fail> {
+    names_each_of_flows(&rt, rt.alloc(), &FLOWS_FAULTS)?;
+    Ok(())
+}
+
 const USAGE_FAULTS: [(RunFault<'static>, u8, &str); 4] = [
     (
         RunFault::Usage(UsageFault::NotUtf8),
@@ -120,7 +186,7 @@ const USAGE_FAULTS: [(RunFault<'static>, u8, &str); 4] = [
     (RunFault::Usage(UsageFault::NoMemory), 3, OUT_OF_MEMORY),
 ];
 
-const DEVICE_FAULTS: [(RunFault<'static>, u8, &str); 5] = [
+const DEVICE_FAULTS: [(RunFault<'static>, u8, &str); 6] = [
     (RunFault::NoMemory, 3, OUT_OF_MEMORY),
     (
         RunFault::Map {
@@ -128,6 +194,17 @@ const DEVICE_FAULTS: [(RunFault<'static>, u8, &str); 5] = [
             fault: MapFault {
                 kind: MapFaultKind::NoMemory,
                 line: 0,
+            },
+        },
+        3,
+        OUT_OF_MEMORY,
+    ),
+    (
+        RunFault::Flows {
+            file: "flows",
+            fault: ReadFault {
+                kind: ReadFaultKind::NoMemory,
+                offset: 0,
             },
         },
         3,

@@ -6,10 +6,14 @@ ghost use Rattle.flowlabel.specs.declared.command.Needs.{Needs};
 use super::*;
 use crate::command::Files;
 use crate::fault::{fault_line, status};
+use crate::inputs::Source;
 use crate::words::parse;
 use flow_io::{MemoryInput, MemoryOutput};
+use std::alloc::AllocError;
 use std::process::Abort;
 use std::test::Fail;
+
+mod flows;
 
 type MemorySource<'a> = Source<'a, MemoryInput<'a>>;
 
@@ -35,9 +39,14 @@ fn named<'a>(name: Option<&'a str>, reader: MemoryInput<'a>) -> Option<MemorySou
     }
 }
 
-// The files of a command, of which the map has this reader and the others are empty.
-fn files_in_memory<'a>(files: Files<'a>, map: MemoryInput<'a>) -> Inputs<'a, MemoryInput<'a>>
-    requires { map.failed ≡ false }
+// The files of a command, of which the map and the File have these readers and the others are empty.
+fn files_in_memory<'a>(
+    files: Files<'a>,
+    map: MemoryInput<'a>,
+    flows: MemoryInput<'a>,
+) -> Inputs<'a, MemoryInput<'a>>
+    requires map { map.failed ≡ false }
+    requires flows { flows.failed ≡ false }
     ensures named { (needs : Needs) → NamesNeeds needs files.entry → AreNeeded needs result }
     ensures fresh { any_failed (λ reader. reader.failed) result ≡ false }
 {
@@ -45,25 +54,27 @@ fn files_in_memory<'a>(files: Files<'a>, map: MemoryInput<'a>) -> Inputs<'a, Mem
         map: named(files.map, map),
         list: named(files.list, MemoryInput::new(b"", 1, None)),
         certificate: named(files.certificate, MemoryInput::new(b"", 1, None)),
-        flows: named(files.flows, MemoryInput::new(b"", 1, None)),
+        flows: named(files.flows, flows),
     }
 }
 
-// Does what the program does with its words, over a reader and a writer in memory.
+// Does what the program does with its words, over readers and a writer in memory.
 fn execute<'a, const N: usize>(
     alloc: Global,
     words: &'a [&'a str],
     map: MemoryInput<'a>,
+    flows: MemoryInput<'a>,
     writer: &mut MemoryOutput<N>,
 ) -> Result<(), RunFault<'a>>
-    requires reader { map.failed ≡ false }
+    requires map { map.failed ≡ false }
+    requires flows { flows.failed ≡ false }
     requires writer { writer.old.failed ≡ false }
 {
     let command = match parse(alloc, words) {
         Ok(command) => command,
         Err(fault) => return Err(RunFault::Usage(fault)),
     };
-    let mut inputs = files_in_memory(command.files(), map);
+    let mut inputs = files_in_memory(command.files(), map, flows);
     run(alloc, &command, &mut inputs, writer)
 }
 
@@ -72,13 +83,15 @@ fn end_of<'a, const N: usize>(
     alloc: Global,
     line: &str,
     map: MemoryInput<'a>,
+    flows: MemoryInput<'a>,
     writer: &mut MemoryOutput<N>,
 ) -> Result<(u8, Vec<u8>), AllocError>
-    requires reader { map.failed ≡ false }
+    requires map { map.failed ≡ false }
+    requires flows { flows.failed ≡ false }
     requires writer { writer.old.failed ≡ false }
 {
     let words: Vec<&str> = line.split(' ').collect(alloc)?;
-    match execute(alloc, words.as_slice(), map, writer) {
+    match execute(alloc, words.as_slice(), map, flows, writer) {
         Ok(()) => Ok((0, Vec::new(alloc))),
         Err(fault) => Ok((status(&fault), fault_line(alloc, &fault)?)),
     }
@@ -106,7 +119,8 @@ fn ends<const N: usize>(
     requires reader { map.failed ≡ false }
     requires writer { writer.failed ≡ false }
 {
-    let (ended, told) = end_of(alloc, line, map, &mut writer)?;
+    let flows = MemoryInput::new(b"", 1, None);
+    let (ended, told) = end_of(alloc, line, map, flows, &mut writer)?;
     is_wanted(rt, ended, told.as_slice(), writer.taken(), wanted);
     Ok(())
 }
@@ -233,12 +247,9 @@ fn answers_the_fault_of_the_line(rt: HostRuntime) -> Result<(), Fail> {
     // The text of this fault is clap's.
     let reader = MemoryInput::new(MAP.as_bytes(), 64, None);
     let mut writer = MemoryOutput::<64>::new(64, None, false);
-    let (ended, told) = end_of(
-        rt.alloc(),
-        "flowlabel info --colour flows",
-        reader,
-        &mut writer,
-    )?;
+    let flows = MemoryInput::new(b"", 1, None);
+    let line = "flowlabel info --colour flows";
+    let (ended, told) = end_of(rt.alloc(), line, reader, flows, &mut writer)?;
     assert!(rt; ended == 2 && !told.is_empty() && writer.taken().is_empty());
     Ok(())
 }
@@ -307,7 +318,8 @@ fn answers_a_full_writer(rt: HostRuntime) -> Result<(), Fail> {
 fn answers_want_of_memory_as_such(rt: HostRuntime) {
     let reader = MemoryInput::new(MAP.as_bytes(), 64, None);
     let mut writer = MemoryOutput::<64>::new(64, None, false);
-    match end_of(rt.alloc(), LABEL, reader, &mut writer) {
+    let flows = MemoryInput::new(b"", 1, None);
+    match end_of(rt.alloc(), LABEL, reader, flows, &mut writer) {
         Ok((0, told)) => is_wanted(&rt, 0, told.as_slice(), writer.taken(), (0, "", "B\n")),
         Ok((ended, told)) => {
             let wanted = (3, "flowlabel: out of memory\n", "");

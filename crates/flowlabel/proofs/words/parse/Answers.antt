@@ -1,8 +1,9 @@
-use Rattle.std.proofs.Common.{◌∙◌, Err, ap, sym, subst, map}
+use Rattle.std.proofs.Common.{◌∙◌, List, Err, ap, sym, subst, map}
 use Rattle.std.specs.Prelude.{option_map}
-use Rattle.clap.specs.Words.{App, HasKind, fault_of, found_of, is_simple, is_simple_and_free, rows_of, subcommand_of, takes}
-use Rattle.flowlabel.proofs.AnswerLemmas.{answers, fault_at, flowlabel_is_free, flowlabel_is_simple, label_own, own, own_of_memory, subcommand_is}
-use Rattle.flowlabel.proofs.LineLemmas.{reads_bare_line, reads_map_line}
+use Rattle.clap.specs.Words.{App, HasKind, Row, Text, fault_of, found_of, is_simple, is_simple_and_free, rows_of, subcommand_of, takes}
+use Rattle.flowlabel.specs.Answer.{answer_of}
+use Rattle.flowlabel.proofs.AnswerLemmas.{answers, fault_at, flowlabel_is_free, flowlabel_is_simple, answer_own, own, own_of_memory, subcommand_is}
+use Rattle.flowlabel.proofs.LineLemmas.{reads_bare_line, reads_columns_line, reads_info_line, reads_map_line, reads_rows_line}
 use Rattle.flowlabel.proofs.words.parse.Goals as goal
 
 pub returns-in-Ok-clause-answer : goal.returns-in-Ok-clause-answer
@@ -16,16 +17,18 @@ returns-in-Ok-clause-answer c =
     let name = sym c.subcommand.ensures.name ∙ ap (option_map (λ p. p.0.now)) c.unwrap.ensures in
     let rows = sym c.subcommand.ensures.rows ∙ ap (option_map (λ p. rows_of (found_of p.1.now))) c.unwrap.ensures in
     let sub = subcommand_is c.in-Ok.matches _ _ name rows in
-    answers words _ _ none (sym found ∙ sub) c.label_command.ensures
+    answers words _ _ none (sym found ∙ sub) c.command_of.ensures
 
 pub returns-in-Ok-clause-map_line : goal.returns-in-Ok-clause-map_line
-returns-in-Ok-clause-map_line c = reads_map_line _ c.label_command.result (returns-in-Ok-clause-answer c)
+returns-in-Ok-clause-map_line c = reads_map_line _ c.command_of.result (returns-in-Ok-clause-answer c)
 
 pub returns-in-Ok-clause-bare_line : goal.returns-in-Ok-clause-bare_line
-returns-in-Ok-clause-bare_line c = reads_bare_line _ c.label_command.result (returns-in-Ok-clause-answer c)
+returns-in-Ok-clause-bare_line c = reads_bare_line _ c.command_of.result (returns-in-Ok-clause-answer c)
 
 pub returns-in-Ok-clause-taken : goal.returns-in-Ok-clause-taken
-returns-in-Ok-clause-taken c = λ taken. own _ _ (label_own _ _) c.label_command.ensures
+returns-in-Ok-clause-taken c =
+    let found : Text × List Row = (c.unwrap.result.0.now, rows_of (found_of c.unwrap.result.1.now)) in
+    λ taken. own (answer_of found) _ (answer_own found) c.command_of.ensures
 
 pub returns-in-Err-clause-answer : goal.returns-in-Err-clause-answer
 returns-in-Err-clause-answer c =
@@ -46,3 +49,21 @@ returns-in-Err-clause-taken c =
     let app_is = c.in_ok-command.ensures.app in
     let words = map (λ s. s.now) c.args.words.now in
     λ taken. own_of_memory _ _ (c.in-Err.ensures.passes (ap (λ (a : App). takes a words) app_is ∙ taken)) c.fault_of_error.ensures
+
+pub returns-in-Ok-clause-info_line : goal.returns-in-Ok-clause-info_line
+returns-in-Ok-clause-info_line c = reads_info_line _ c.command_of.result (returns-in-Ok-clause-answer c)
+
+pub returns-in-Ok-clause-rows_line : goal.returns-in-Ok-clause-rows_line
+returns-in-Ok-clause-rows_line c = reads_rows_line _ c.command_of.result (returns-in-Ok-clause-answer c)
+
+pub returns-in-Ok-clause-columns_line : goal.returns-in-Ok-clause-columns_line
+returns-in-Ok-clause-columns_line c = reads_columns_line _ c.command_of.result (returns-in-Ok-clause-answer c)
+
+pub returns-in-Err-clause-info_line : goal.returns-in-Err-clause-info_line
+returns-in-Err-clause-info_line c = reads_info_line _ (Err c.fault_of_error.result) (returns-in-Err-clause-answer c)
+
+pub returns-in-Err-clause-rows_line : goal.returns-in-Err-clause-rows_line
+returns-in-Err-clause-rows_line c = reads_rows_line _ (Err c.fault_of_error.result) (returns-in-Err-clause-answer c)
+
+pub returns-in-Err-clause-columns_line : goal.returns-in-Err-clause-columns_line
+returns-in-Err-clause-columns_line c = reads_columns_line _ (Err c.fault_of_error.result) (returns-in-Err-clause-answer c)

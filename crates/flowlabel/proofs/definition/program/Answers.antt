@@ -1,0 +1,16 @@
+use Rattle.std.proofs.Common.{◌≡◌, ◌∙◌, true, ap}
+use Rattle.clap.specs.Words.{App}
+use Rattle.clap.specs.Simple.{app_of_fields}
+use Rattle.flowlabel.proofs.definition.program.Goals as goal
+
+abbrev requiring : App → App
+requiring a = record a { top = record a.top { subcommand_required = true } }
+
+abbrev without_help : App → App
+without_help a = record a { top = record a.top { disable_help_subcommand = true } }
+
+pub returns-clause-app : goal.returns-clause-app
+returns-clause-app c =
+    let named = ap app_of_fields c.about.ensures ∙ c.new.ensures.app in
+    let required = ap app_of_fields c.subcommand_required.ensures ∙ ap requiring named in
+    ap app_of_fields c.disable_help_subcommand.ensures ∙ ap without_help required

@@ -1,0 +1,5 @@
+use Rattle.flowlabel.proofs.OutputLemmas.{one_output}
+use Rattle.flowlabel.proofs.run.laws.one_output.Goals as goal
+
+pub returns : goal.returns
+returns c = one_output c.one_reading.ensures

@@ -1,0 +1,57 @@
+//! What a file holds: its text, or its map.
+ghost use Rattle.std.specs.Prelude.{◌≡◌, false, IfErr, IfOk, IfSome, List, Some, ℕ};
+ghost use Rattle.pmap_text.specs.MapText.{map_of};
+ghost use Rattle.pmap_text.specs.Reading.{ReadsMap};
+ghost use Rattle.flowlabel.specs.Output.{FailsMap};
+ghost use Rattle.flowlabel.specs.Run.{is_read_stop, IsFaultOfMapFile, IsFaultOfReading};
+
+use crate::fault::RunFault;
+use crate::inputs::Source;
+use crate::reading::{ReadStop, read_whole};
+use flow_io::Input;
+use pmap_text::{MapFaultKind, MapText, read_map};
+use std::alloc::Global;
+
+/// The whole text of a file.
+pub fn text_of_file<'a, R: Input>(
+    alloc: Global,
+    source: &mut Source<'a, R>,
+) -> Result<Vec<u8>, RunFault<'a>>
+    requires { R.failed source.old.reader ≡ false }
+    ensures ok { IfOk result (λ text. IfSome (R.bytes_left source.old.reader) (λ left. text.items ≡ left)) }
+    ensures err { IfErr result (IsFaultOfReading R.failed source.old source.new) }
+    ensures name { source.new.name.now ≡ source.old.name.now }
+    ensures failed { R.failed source.new.reader ≡ is_read_stop result }
+{
+    match read_whole(alloc, &mut source.reader) {
+        Ok(text) => Ok(text),
+        Err(ReadStop::ReadFault) => Err(RunFault::CannotRead(source.name)),
+        Err(ReadStop::NoMemory) => Err(RunFault::NoMemory),
+    }
+}
+
+/// The map of a map file.
+pub fn map_of_file<'a, R: Input>(
+    alloc: Global,
+    source: &mut Source<'a, R>,
+) -> Result<MapText, RunFault<'a>>
+    requires { R.failed source.old.reader ≡ false }
+    ensures ok { IfOk result (λ map. (text : List ℕ) → R.bytes_left source.old.reader ≡ Some text → ReadsMap text (map_of map)) }
+    ensures err { IfErr result (IsFaultOfMapFile R.bytes_left R.failed FailsMap source.old source.new) }
+    ensures failed { R.failed source.new.reader ≡ is_read_stop result }
+{
+    let text = text_of_file(alloc, source)?;
+    match read_map(alloc, text.as_slice()) {
+        Ok(map) => Ok(map),
+        Err(fault) => {
+            if fault.kind == MapFaultKind::NoMemory {
+                Err(RunFault::NoMemory)
+            } else {
+                Err(RunFault::Map {
+                    file: source.name,
+                    fault,
+                })
+            }
+        }
+    }
+}
