@@ -1,7 +1,7 @@
 use Rattle.std.proofs.Common.{◌≡◌, ◌∙◌, ap, ap₂}
 use Rattle.std.proofs.lemmas.Result.{IfOk-weaker}
 use Rattle.clap.specs.Words.{App, app_of, with_subcommand}
-use Rattle.flowlabel.specs.Definition.{flowlabel_app, info_app, label_app, program, rows_app}
+use Rattle.flowlabel.specs.Definition.{flowlabel_app, info_app, label_app, program}
 use Rattle.flowlabel.proofs.definition.definition.Goals as goal
 
 pub returns-clause-app : goal.returns-clause-app
