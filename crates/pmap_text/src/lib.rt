@@ -1,7 +1,7 @@
 //! Texts of prefix maps and prefix lists: their lines and labels, and the reading of a text as a map or as a list.
 //!
-//! It stands on `prefix_keys`, which reads addresses and blocks, and on `indexmap` for the tables of labels, of declared
-//! numbers and of the blocks of a list. The layer above may rely on this: `read_map` and `read_list` answer exactly the
+//! It stands on `prefix_keys`, which reads addresses and blocks, and on `indexmap` for the tables of labels and of
+//! declared numbers. The layer above may rely on this: `read_map` and `read_list` answer exactly the
 //! map or the list that the text is read as, or the text's first fault with its line, counted from 1.
 //! Want of memory alone has the line 0. A label's number is its place in the order in which label texts first occur,
 //! so the number and the text determine each other. Each `MapText` keeps in its type that its statements are of its
