@@ -1,17 +1,15 @@
 -- That memory ran out is no fault of the bytes of a File.
-use Rattle.std.proofs.Common.{◌≡◌, ◌≢◌, ℕ, ◌+◌, Bool, true, false, cond, ltb, eqb, List, length, drop, Option, Some, None, ◌⊎◌, inl, inr, refl, sym, ap, ◌∙◌}
+use Rattle.std.proofs.Common.{◌≡◌, ◌≢◌, ℕ, ◌+◌, ltb, eqb, List, length, drop, Some, None, inl, inr, sym, ap, ◌∙◌}
 use Rattle.byteorder.specs.Endian.{big_number}
 use Rattle.ipfix_templates.specs.declared.event.TemplateEvent.{TemplateEvent}
-use Rattle.ipfix_templates.specs.declared.fault.TemplateFault.{TemplateFault}
 use Rattle.ipfix_templates.specs.declared.fault.TemplateFaultKind.{TemplateFaultKind}
 use Rattle.ipfix_templates.specs.declared.fault.TemplateFaultKind.TheVariants.{NoMemory as NoTemplateMemory}
 use Rattle.ipfix_templates.specs.Laws.{MemoryIsNoFault as MemoryIsNoTemplateFault}
 use Rattle.ipfix_read.specs.declared.fault.ReadFault.{ReadFault}
 use Rattle.ipfix_read.specs.declared.fault.ReadFaultKind.{ReadFaultKind}
 use Rattle.ipfix_read.specs.declared.fault.ReadFaultKind.TheVariants.{TruncatedHeader, BadVersion, BadMessageLength, TruncatedMessage, TooManyMessages, BadTemplate, NoMemory}
-use Rattle.ipfix_read.specs.Set.{written_length, HasContentFault, HasSetFault, HasSetsFault}
+use Rattle.ipfix_read.specs.Set.{written_length, HasContentFault, HasSetFault}
 use Rattle.ipfix_read.specs.Message.{header_fault, HasMessageFault}
-use Rattle.ipfix_read.specs.File.{HasFileFault}
 use Rattle.ipfix_read.specs.Laws.{MemoryIsNoFault}
 use Rattle.ipfix_read.proofs.Choice.{chosen}
 

@@ -1,6 +1,6 @@
 -- Reading one thing after the other, as a loop does.
-use Rattle.std.proofs.Common.{◌≡◌, ℕ, suc, ◌+◌, ◌-◌, ◌<◌, ◌≤◌, List, [], ◌∷◌, ◌++◌, length, Option, Some, None, Ok, refl, sym, ap, ◌∙◌, append_assoc, arith}
-use Rattle.std.specs.Prelude.{option_and_then}
+use Rattle.std.proofs.Common.{◌≡◌, ℕ, suc, ◌+◌, ◌-◌, ◌<◌, ◌≤◌, List, [], ◌∷◌, ◌++◌, length, Bool, true, false, Option, Some, None, Ok, refl, sym, ap, ◌∙◌, append_assoc, arith}
+use Rattle.std.specs.Prelude.{is_some, option_and_then}
 use Rattle.std.proofs.lemmas.List.{append-nil}
 use Rattle.ipfix_templates.specs.declared.field.Field.{Field}
 use Rattle.ipfix_templates.specs.declared.kind.Kind.{Kind}
@@ -36,6 +36,34 @@ unfolding fields_at
 is_done front count i bytes total le so_far =
     let k : count - i ≡ 0 = omega arith in
     let one : behind front (fields_at (count - i) bytes) ≡ Some (front, bytes) = rw k (ap (λ (fs : List Field). Some (fs, bytes)) (append-nil front)) in
+    sym one ∙ so_far
+
+-- ---- whether specifiers stand, one after the other
+
+still : (f : Field) (read : Option (List Field × List ℕ)) → is_some {T = List Field × List ℕ} (option_and_then (λ x. Some (f ∷ x.0, x.1)) read) ≡ is_some read
+still f None = refl
+still f (Some x) = refl
+
+pub stands_on : (count i : ℕ) (bytes : List ℕ) (f : Field) (after : List ℕ) (all : Bool) → i < count → field_at bytes ≡ Some (f, after)
+    → is_some (fields_at (count - i) bytes) ≡ all → is_some (fields_at (count - (i + 1)) after) ≡ all
+unfolding fields_at
+stands_on count i bytes f after all lt h so_far =
+    let k : count - i ≡ suc (count - (i + 1)) = omega arith in
+    let one : is_some (fields_at (count - i) bytes) ≡ is_some (fields_at (count - (i + 1)) after) = rw (k, h) (still f (fields_at (count - (i + 1)) after)) in
+    sym one ∙ so_far
+
+pub stands_not : (count i : ℕ) (bytes : List ℕ) (all : Bool) → i < count → field_at bytes ≡ None → is_some (fields_at (count - i) bytes) ≡ all → false ≡ all
+unfolding fields_at
+stands_not count i bytes all lt h so_far =
+    let k : count - i ≡ suc (count - (i + 1)) = omega arith in
+    let one : is_some (fields_at (count - i) bytes) ≡ false = rw (k, h) refl in
+    sym one ∙ so_far
+
+pub stands_all : (count i : ℕ) (bytes : List ℕ) (all : Bool) → count ≤ i → is_some (fields_at (count - i) bytes) ≡ all → true ≡ all
+unfolding fields_at
+stands_all count i bytes all le so_far =
+    let k : count - i ≡ 0 = omega arith in
+    let one : is_some (fields_at (count - i) bytes) ≡ true = rw k refl in
     sym one ∙ so_far
 
 -- one more record

@@ -167,7 +167,7 @@ withdrawal_fault kind id after e =
       | false ↦ elim (ltb id 256) as (λ b. followed_by after (cond b (Err BadTemplateId) (Ok (Withdraw id))) ≡ Err NoMemory → ⊥) [ true ↦ λ p. cc | false ↦ λ p. cc ]
     ] e
 
-record_fault : (kind : Kind) (bytes : List ℕ) → record_at kind bytes ≡ Err NoMemory → ⊥
+pub record_fault : (kind : Kind) (bytes : List ℕ) → record_at kind bytes ≡ Err NoMemory → ⊥
 unfolding record_at
 record_fault kind bytes e =
     let id = big_number 2 bytes in

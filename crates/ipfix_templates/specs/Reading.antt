@@ -1,5 +1,5 @@
 -- Template records, one after the other (RFC 7011 sections 3.2 and 3.4).
-use Rattle.std.specs.Prelude.{◌≡◌, ℕ, zero, suc, ◌+◌, ◌-◌, ◌<◌, ◌≤◌, List, [], ◌∷◌, length, drop, Option, Some, None, Result, Ok, Err, option_and_then, nat_lt, ◌==◌, ◌||◌, if◌then◌else◌}
+use Rattle.std.specs.Prelude.{◌≡◌, ℕ, zero, suc, ◌+◌, ◌-◌, ◌<◌, ◌≤◌, List, [], ◌∷◌, length, drop, Option, Some, None, Result, Ok, Err, IsOk, option_and_then, nat_lt, ◌==◌, ◌||◌, if◌then◌else◌}
 use Rattle.byteorder.specs.Endian.{big_number}
 use Rattle.ipfix_templates.specs.declared.field.Field.{Field}
 use Rattle.ipfix_templates.specs.declared.kind.Kind.{Kind}
@@ -71,6 +71,11 @@ ReadsEvents kind bytes (event ∷ events) rest =
 -- the bytes behind the header of a template set are these records, and then padding of fewer than 4 bytes
 abbrev pub IsTemplateSet : Kind → List ℕ → List TemplateEvent → Type 0
 IsTemplateSet kind bytes events = (padding : List ℕ) × ReadsEvents kind bytes events padding × (length padding < 4)
+
+-- behind some records there is no padding, and a record stands there
+abbrev pub HasTemplateRecord : Kind → List ℕ → Type 0
+HasTemplateRecord kind bytes =
+    (events : List TemplateEvent) × (rest : List ℕ) × ReadsEvents kind bytes events rest × (4 ≤ length rest) × IsOk (record_at kind rest)
 
 -- behind some records there is no padding and no record, and this is the first fault there
 abbrev pub HasTemplateFault : Kind → List ℕ → TemplateFault → Type 0

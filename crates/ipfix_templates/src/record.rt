@@ -1,4 +1,4 @@
-ghost use Rattle.std.specs.Prelude.{◌≡◌, ◌≤◌, ◌<◌, length, IfOk, IfSome, Ok, Err, MatchResult, option_map};
+ghost use Rattle.std.specs.Prelude.{◌≡◌, ◌≤◌, ◌<◌, length, is_some, IfOk, IfSome, IsOk, IsSome, OnErr, Ok, Err, MatchResult, option_map};
 ghost use Rattle.ipfix_templates.specs.Reading.{field_at, fields_at, record_at, definition_at};
 
 use crate::event::TemplateEvent;
@@ -48,7 +48,22 @@ fn read_field(bytes: &[u8]) -> Option<(Field, &[u8])>
     Some((field, &bytes[8..]))
 }
 
-// So many field specifiers from the front, and the bytes after them. None where a part is missing.
+// Whether so many field specifiers stand at the front.
+fn has_fields(count: u16, bytes: &[u8]) -> bool
+    ensures { result ≡ is_some (fields_at count bytes.now) }
+{
+    let mut rest = bytes;
+    for _ in 0..count {
+        let Some(read) = read_field(rest) else {
+            return false;
+        };
+        rest = read.1;
+    }
+    true
+}
+
+// So many field specifiers from the front, and the bytes after them. None where a part is missing; memory is asked for
+// only where none is.
 fn read_fields(
     alloc: Global,
     count: u16,
@@ -56,7 +71,11 @@ fn read_fields(
 ) -> Result<Option<(Fields, &[u8])>, AllocError>
     ensures read { IfOk result (λ read. option_map (λ x. (x.0, x.1.now)) read ≡ fields_at count bytes.now) }
     ensures counted { IfOk result (λ read. IfSome read (λ x. length x.0 ≡ count)) }
+    ensures memory { OnErr result (IsSome (fields_at count bytes.now)) }
 {
+    if !has_fields(count, bytes) {
+        return Ok(None);
+    }
     let mut fields = Vec::new(alloc);
     let mut rest = bytes;
     for _ in 0..count {
@@ -80,8 +99,9 @@ fn read_definition<'a>(
 ) -> Result<Read<'a, TemplateEvent>, AllocError>
     requires numbered { 256 ≤ id }
     requires some_field { 0 < count }
-    ensures { IfOk result (λ read. MatchResult read (λ x. definition_at kind id count bytes.now ≡ Ok (x.0, x.1.now))
+    ensures read { IfOk result (λ read. MatchResult read (λ x. definition_at kind id count bytes.now ≡ Ok (x.0, x.1.now))
         (λ fault. definition_at kind id count bytes.now ≡ Err fault)) }
+    ensures memory { OnErr result (IsOk (definition_at kind id count bytes.now)) }
 {
     let mut rest = bytes;
     let mut scope_count = 0;
@@ -107,7 +127,8 @@ fn read_definition<'a>(
     Ok(Ok((TemplateEvent::Define(template), rest)))
 }
 
-/// The template record at the front (RFC 7011 sections 3.4.1 and 3.4.2), and the bytes after it.
+/// The template record at the front (RFC 7011 sections 3.4.1 and 3.4.2), and the bytes after it. Memory is asked for only
+/// where it has no fault.
 #[tactic(auto, unfolding(crate::specs::Reading::record_at))]
 pub fn read_record<'a>(
     alloc: Global,
@@ -115,8 +136,9 @@ pub fn read_record<'a>(
     bytes: &'a [u8],
 ) -> Result<Read<'a, TemplateEvent>, AllocError>
     requires { 4 ≤ length bytes.now }
-    ensures { IfOk result (λ read. MatchResult read (λ x. record_at kind bytes.now ≡ Ok (x.0, x.1.now))
+    ensures read { IfOk result (λ read. MatchResult read (λ x. record_at kind bytes.now ≡ Ok (x.0, x.1.now))
         (λ fault. record_at kind bytes.now ≡ Err fault)) }
+    ensures memory { OnErr result (IsOk (record_at kind bytes.now)) }
 {
     let id = BigEndian::read_u16(bytes);
     let count = BigEndian::read_u16(&bytes[2..]);

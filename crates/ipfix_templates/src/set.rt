@@ -1,5 +1,5 @@
 ghost use Rattle.std.specs.Prelude.{◌≡◌, IfOk, IfErr, ◌⊎◌};
-ghost use Rattle.ipfix_templates.specs.Reading.{IsTemplateSet, HasTemplateFault};
+ghost use Rattle.ipfix_templates.specs.Reading.{IsTemplateSet, HasTemplateFault, HasTemplateRecord};
 ghost use Rattle.ipfix_templates.specs.Fault.{out_of_memory};
 
 use crate::event::TemplateEvents;
@@ -21,6 +21,9 @@ pub fn read_template_set(
 ) -> Result<TemplateEvents, TemplateFault>
     ensures ok { IfOk result (λ events. IsTemplateSet kind bytes.now events) }
     ensures fault { IfErr result (λ fault. (fault ≡ out_of_memory) ⊎ HasTemplateFault kind bytes.now fault) }
+
+    // Memory runs out only at a record that has no fault, behind others.
+    ensures memory { IfErr result (λ fault. fault ≡ out_of_memory → HasTemplateRecord kind bytes.now) }
 {
     let mut events = TemplateEvents::new(alloc);
     let mut rest = bytes;

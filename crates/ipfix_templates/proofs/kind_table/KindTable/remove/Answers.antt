@@ -1,6 +1,5 @@
-use Rattle.std.proofs.Common.{◌≡◌, ℕ, None, Some, cond, nat_eq, rules, sym, ap, ◌∙◌}
+use Rattle.std.proofs.Common.{◌≡◌, ℕ, None, Some, cond, nat_eq, rules, sym, ◌∙◌}
 use Rattle.std.specs.Map.{lookup}
-use Rattle.ipfix_templates.specs.Template.{TemplateView}
 use Rattle.ipfix_templates.specs.Parts.{entries_of}
 use Rattle.ipfix_templates.proofs.Order.{apart, at_number, by_number}
 use Rattle.ipfix_templates.proofs.Parts.{found, changed, nothing_there, from_view}
