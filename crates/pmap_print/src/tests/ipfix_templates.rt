@@ -1,3 +1,5 @@
+ghost use Rattle.std.specs.Prelude.{◌<◌};
+
 use ipfix_templates::{
     Field, Fields, Kind, Template, TemplateEvent, TemplateFault, TemplateTable, VARIABLE_LENGTH,
     event_after_history, events_fit, memory_is_no_fault, one_reading, read_template_set,
@@ -18,7 +20,9 @@ const REVERSE: [u8; 16] = [
     1, 4, 0, 2, 0x80, 2, 0, 4, 0, 0, 0x72, 0x79, 0, 82, 0xff, 0xff,
 ];
 
-fn plain(number: u16, length: u16) -> Field {
+fn plain(number: u16, length: u16) -> Field
+    requires { number < 32768 }
+{
     Field {
         enterprise: None,
         number,
@@ -26,7 +30,9 @@ fn plain(number: u16, length: u16) -> Field {
     }
 }
 
-fn template(alloc: Global, kind: Kind, id: u16, number: u16) -> Result<Template, Fail> {
+fn template(alloc: Global, kind: Kind, id: u16, number: u16) -> Result<Template, Fail>
+    requires { number < 32768 }
+{
     let mut fields = Vec::new(alloc);
     fields.push(plain(number, 4))?;
     let scope_count = if kind.is(Kind::Options) { 1 } else { 0 };
