@@ -1,5 +1,5 @@
 -- The printed text of counts.
-use Rattle.std.specs.Prelude.{ℕ, List, ◌∷◌, [], ◌++◌, codes, decimal}
+use Rattle.std.specs.Prelude.{ℕ, ◌∷◌, [], ◌++◌, codes, decimal}
 use Rattle.flow_rows.specs.Counts.{CountsView}
 use Rattle.pmap_print.specs.Table.{Text}
 

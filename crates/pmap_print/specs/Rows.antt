@@ -1,5 +1,5 @@
 -- The printed text of flow rows.
-use Rattle.std.specs.Prelude.{ℕ, List, [], ◌∷◌, ◌++◌, map, Option, Some, None, Bool, codes, decimal, unwrap_or, option_map, option_copied}
+use Rattle.std.specs.Prelude.{List, [], ◌∷◌, ◌++◌, map, Option, Some, None, Bool, codes, decimal, unwrap_or, option_map, option_copied}
 use Rattle.std.specs.Borrow.{Bor}
 use Rattle.std.specs.List.{zip}
 use Rattle.prefix_keys.specs.Print.{address_text}

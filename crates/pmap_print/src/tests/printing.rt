@@ -44,8 +44,9 @@ fn prints_labels_behind_rows(rt: HostRuntime) -> Result<(), Fail> {
 #[test]
 fn prints_a_title_alone(rt: HostRuntime) -> Result<(), Fail> {
     let title = "sip|dip|sport|dport|proto|flags|packets|bytes|stime|etime\n";
+    let rows = rows_of(rt.alloc(), "")?;
     for columns in [false, true] {
-        let text = print_rows(rt.alloc(), &[], None, columns)?;
+        let text = print_rows(rt.alloc(), &rows, None, columns)?;
         assert_eq!(rt; text.as_slice(), title.as_bytes());
     }
     Ok(())

@@ -1,4 +1,4 @@
-use Rattle.std.proofs.Common.{ℕ, ◌≡◌, ◌<◌, ◌+◌, ◌∙◌, List, ap, map, replicate, arith}
+use Rattle.std.proofs.Common.{◌+◌, ◌∙◌, List, ap, map, replicate, arith}
 use Rattle.std.specs.Prelude.{slice_index}
 use Rattle.std.proofs.lemmas.List.{length-map}
 use Rattle.flow_rows.specs.Row.{row_view}
