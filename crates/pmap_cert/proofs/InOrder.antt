@@ -12,11 +12,11 @@ use Rattle.pmap_cert.specs.CertificateModel.{CertificateModel, InnerNode, LeafNo
 use Rattle.pmap_cert.specs.ListForm.{HasBlock, HasListForm, IsInOrder, is_before}
 use Rattle.pmap_cert.specs.MinimalPair.{HasItsLabels, IsMinimalPair, StandsFor, entries_of, handed_on, has_inherited, least_label, own_entry}
 use Rattle.pmap_cert.proofs.Alike.{table-node}
-use Rattle.pmap_cert.proofs.Blocks.{address-first, address-last, first_of-below, first_of-lower}
+use Rattle.pmap_text.proofs.Blocks.{address-first, address-last, first_of-below, first_of-lower}
 use Rattle.pmap_cert.proofs.Counts.{is_within}
 use Rattle.pmap_cert.proofs.Entries.{filter-entries_of}
 use Rattle.pmap_cert.proofs.Handed.{has-least_label, inhabited}
-use Rattle.pmap_cert.proofs.Settled.{unsettled-halves}
+use Rattle.pmap_text.proofs.Settled.{unsettled-halves}
 
 -- what holds of two lists holds of both together
 all-append : (P : Prefix → Type 0) (xs ys : List Prefix) → AllByRecursion P xs → AllByRecursion P ys → AllByRecursion P (xs ++ ys)

@@ -1,12 +1,14 @@
-//! Tests of the public calls of the crates below, grouped by the crate that they test. They stand here because a crate
-//! with tests is proved twice, and this one is cheap to prove.
+//! Tests of the public calls of the crates below, in a module for each crate that they test: `keys` for prefix_keys,
+//! `map_texts` for pmap_text, `tries` for label_trie, `certificates` for pmap_cert, `templates` for ipfix_templates,
+//! `messages` for ipfix_read, `rows_and_counts` for flow_rows, and `printing` for this one. They stand here because a crate
+//! with tests is proved twice, and this one is cheap to prove. `files` has the Files that they share.
 
+mod certificates;
 mod files;
-mod ipfix_read;
-mod ipfix_templates;
-mod label_trie;
-mod pmap_cert;
-mod pmap_text;
-mod prefix_keys;
+mod keys;
+mod map_texts;
+mod messages;
 mod printing;
 mod rows_and_counts;
+mod templates;
+mod tries;

@@ -1,5 +1,6 @@
 use super::files::{
-    FIVE_FIELDS, LONG_FORM, OPTIONS, REVERSE, TWO_DOMAINS, TWO_RECORDS, VERSION_SIX, WITHDRAWN, bytes_of,
+    FIVE_FIELDS, LONG_FORM, OPTIONS, REVERSE, TWO_DOMAINS, TWO_RECORDS, VERSION_SIX, WITHDRAWN,
+    bytes_of,
 };
 use ipfix_read::{
     FileEvents, ReadFault, ReadFaultKind, Record, Set, first_message_and_rest, one_reading,

@@ -7,8 +7,11 @@ use std::process::Abort;
 use std::test::Fail;
 
 const ONE_LEAF: &[u8] = b"flowlabel-cert 1 ipv4 1\nUNKNOWN\nl 0\n";
+
 const TWO_HALVES: &[u8] = b"flowlabel-cert 1 ipv4 3\nA\nB\nUNKNOWN\nn 1 0 1\nl 0\nl 1\n";
-const FOUR_QUARTERS: &[u8] = b"flowlabel-cert 1 ipv4 4\nA\nB\nC\nUNKNOWN\nn 2 0\nn 1 0 1\nl 0\nl 1\nn 1 0 2\nl 0\nl 2\n";
+
+const FOUR_QUARTERS: &[u8] =
+    b"flowlabel-cert 1 ipv4 4\nA\nB\nC\nUNKNOWN\nn 2 0\nn 1 0 1\nl 0\nl 1\nn 1 0 2\nl 0\nl 2\n";
 
 fn reads_back(rt: &impl Abort, alloc: Global, text: &[u8]) -> Result<(), Fail> {
     let certificate = read_cert(alloc, text)?;
@@ -80,35 +83,135 @@ fn makes_a_certificate_of_its_parts(rt: HostRuntime) -> Result<(), Fail> {
 fn tells_the_first_fault(rt: HostRuntime) {
     let cases: [(&[u8], CertFaultKind, u64); 30] = [
         (b"", CertFaultKind::BadHeader, 1),
-        (b"flowlabel-cert 1 ipv4 65537\n", CertFaultKind::BadHeader, 1),
-        (b"flowlabel-cert 1 ipv4 01\nA\nl 0\n", CertFaultKind::BadHeader, 1),
-        (b"flowlabel-cert 1 ip 1\nA\nl 0\n", CertFaultKind::BadHeader, 1),
-        (b"flowlabel-cert 2 ipv4 1\nUNKNOWN\nl 0\n", CertFaultKind::BadHeader, 1),
+        (
+            b"flowlabel-cert 1 ipv4 65537\n",
+            CertFaultKind::BadHeader,
+            1,
+        ),
+        (
+            b"flowlabel-cert 1 ipv4 01\nA\nl 0\n",
+            CertFaultKind::BadHeader,
+            1,
+        ),
+        (
+            b"flowlabel-cert 1 ip 1\nA\nl 0\n",
+            CertFaultKind::BadHeader,
+            1,
+        ),
+        (
+            b"flowlabel-cert 2 ipv4 1\nUNKNOWN\nl 0\n",
+            CertFaultKind::BadHeader,
+            1,
+        ),
         (b"flowlabel-cert 1 ipv4 1", CertFaultKind::BadHeader, 1),
-        (b"flowlabel-cert 1 ipv4 1 \nA\nl 0\n", CertFaultKind::BadHeader, 1),
+        (
+            b"flowlabel-cert 1 ipv4 1 \nA\nl 0\n",
+            CertFaultKind::BadHeader,
+            1,
+        ),
         (b"flowlabel-cert 1 ipv4\n", CertFaultKind::BadHeader, 1),
         (b"flowlabel-cert 1 ipv4 0\n", CertFaultKind::NodesMissing, 2),
         (b"flowlabel-cert 1 ipv4 0\nl 0\n", CertFaultKind::BadNode, 2),
-        (b"flowlabel-cert 1 ipv4 1\n", CertFaultKind::BadLabelTable, 2),
-        (b"flowlabel-cert 1 ipv4 1\nA", CertFaultKind::BadLabelTable, 2),
-        (b"flowlabel-cert 1 ipv4 1\n A\nl 0\n", CertFaultKind::BadLabelTable, 2),
-        (b"flowlabel-cert 1 ipv4 1\nA#\nl 0\n", CertFaultKind::BadLabelTable, 2),
-        (b"flowlabel-cert 1 ipv4 3\nA\nA\nUNKNOWN\nn 1 0 1\nl 0\nl 1\n", CertFaultKind::BadLabelTable, 3),
-        (b"flowlabel-cert 1 ipv4 3\nA\nB\nUNKNOWN\nn 4294967296 0 1\nl 0\nl 1\n", CertFaultKind::BadNode, 5),
-        (b"flowlabel-cert 1 ipv4 3\nA\nB\nUNKNOWN\nn 1 1 0\nl 0\nl 1\n", CertFaultKind::BadNode, 5),
-        (b"flowlabel-cert 1 ipv4 3\nA\nB\nUNKNOWN\nn 1 1 1\nl 0\nl 1\n", CertFaultKind::BadNode, 5),
-        (b"flowlabel-cert 1 ipv4 3\nA\nB\nUNKNOWN\nn 1 0 3\nl 0\nl 1\n", CertFaultKind::BadNode, 5),
-        (b"flowlabel-cert 1 ipv4 3\nA\nB\nUNKNOWN\nn  1 0\nl 0\nl 1\n", CertFaultKind::BadNode, 5),
-        (b"flowlabel-cert 1 ipv4 3\nA\nB\nUNKNOWN\nn 1 \nl 0\nl 1\n", CertFaultKind::BadNode, 5),
-        (b"flowlabel-cert 1 ipv4 3\nA\nB\nUNKNOWN\nn\nl 0\nl 1\n", CertFaultKind::BadNode, 5),
-        (b"flowlabel-cert 1 ipv4 3\nA\nB\nUNKNOWN\nn 1 0 1\nl 0\nl 3\n", CertFaultKind::BadNode, 7),
-        (b"flowlabel-cert 1 ipv4 3\nA\nB\nUNKNOWN\nn 1 0 1\nl 00\nl 1\n", CertFaultKind::BadNode, 6),
-        (b"flowlabel-cert 1 ipv4 3\nA\nB\nUNKNOWN\nn 1 0 1\nl 0 1\nl 1\n", CertFaultKind::BadNode, 6),
-        (b"flowlabel-cert 1 ipv4 3\nA\nB\nUNKNOWN\nn 1 0 1\nl 0\nl 1", CertFaultKind::BadNode, 7),
-        (b"flowlabel-cert 1 ipv4 3\nA\nB\nUNKNOWN\nn 1 0 1\n\nl 1\n", CertFaultKind::BadNode, 6),
-        (b"flowlabel-cert 1 ipv4 3\nA\nB\nUNKNOWN\nn 1 0 1\nl 0\n", CertFaultKind::NodesMissing, 7),
-        (b"flowlabel-cert 1 ipv4 3\nA\nB\nUNKNOWN\nn 1 0 1\nl 0\nl 1\nl 0\n", CertFaultKind::NodesLeft, 8),
-        (b"flowlabel-cert 1 ipv4 3\nA\nB\nUNKNOWN\nn 1 0 1\nl 0\nl 1\n ", CertFaultKind::NodesLeft, 8),
+        (
+            b"flowlabel-cert 1 ipv4 1\n",
+            CertFaultKind::BadLabelTable,
+            2,
+        ),
+        (
+            b"flowlabel-cert 1 ipv4 1\nA",
+            CertFaultKind::BadLabelTable,
+            2,
+        ),
+        (
+            b"flowlabel-cert 1 ipv4 1\n A\nl 0\n",
+            CertFaultKind::BadLabelTable,
+            2,
+        ),
+        (
+            b"flowlabel-cert 1 ipv4 1\nA#\nl 0\n",
+            CertFaultKind::BadLabelTable,
+            2,
+        ),
+        (
+            b"flowlabel-cert 1 ipv4 3\nA\nA\nUNKNOWN\nn 1 0 1\nl 0\nl 1\n",
+            CertFaultKind::BadLabelTable,
+            3,
+        ),
+        (
+            b"flowlabel-cert 1 ipv4 3\nA\nB\nUNKNOWN\nn 4294967296 0 1\nl 0\nl 1\n",
+            CertFaultKind::BadNode,
+            5,
+        ),
+        (
+            b"flowlabel-cert 1 ipv4 3\nA\nB\nUNKNOWN\nn 1 1 0\nl 0\nl 1\n",
+            CertFaultKind::BadNode,
+            5,
+        ),
+        (
+            b"flowlabel-cert 1 ipv4 3\nA\nB\nUNKNOWN\nn 1 1 1\nl 0\nl 1\n",
+            CertFaultKind::BadNode,
+            5,
+        ),
+        (
+            b"flowlabel-cert 1 ipv4 3\nA\nB\nUNKNOWN\nn 1 0 3\nl 0\nl 1\n",
+            CertFaultKind::BadNode,
+            5,
+        ),
+        (
+            b"flowlabel-cert 1 ipv4 3\nA\nB\nUNKNOWN\nn  1 0\nl 0\nl 1\n",
+            CertFaultKind::BadNode,
+            5,
+        ),
+        (
+            b"flowlabel-cert 1 ipv4 3\nA\nB\nUNKNOWN\nn 1 \nl 0\nl 1\n",
+            CertFaultKind::BadNode,
+            5,
+        ),
+        (
+            b"flowlabel-cert 1 ipv4 3\nA\nB\nUNKNOWN\nn\nl 0\nl 1\n",
+            CertFaultKind::BadNode,
+            5,
+        ),
+        (
+            b"flowlabel-cert 1 ipv4 3\nA\nB\nUNKNOWN\nn 1 0 1\nl 0\nl 3\n",
+            CertFaultKind::BadNode,
+            7,
+        ),
+        (
+            b"flowlabel-cert 1 ipv4 3\nA\nB\nUNKNOWN\nn 1 0 1\nl 00\nl 1\n",
+            CertFaultKind::BadNode,
+            6,
+        ),
+        (
+            b"flowlabel-cert 1 ipv4 3\nA\nB\nUNKNOWN\nn 1 0 1\nl 0 1\nl 1\n",
+            CertFaultKind::BadNode,
+            6,
+        ),
+        (
+            b"flowlabel-cert 1 ipv4 3\nA\nB\nUNKNOWN\nn 1 0 1\nl 0\nl 1",
+            CertFaultKind::BadNode,
+            7,
+        ),
+        (
+            b"flowlabel-cert 1 ipv4 3\nA\nB\nUNKNOWN\nn 1 0 1\n\nl 1\n",
+            CertFaultKind::BadNode,
+            6,
+        ),
+        (
+            b"flowlabel-cert 1 ipv4 3\nA\nB\nUNKNOWN\nn 1 0 1\nl 0\n",
+            CertFaultKind::NodesMissing,
+            7,
+        ),
+        (
+            b"flowlabel-cert 1 ipv4 3\nA\nB\nUNKNOWN\nn 1 0 1\nl 0\nl 1\nl 0\n",
+            CertFaultKind::NodesLeft,
+            8,
+        ),
+        (
+            b"flowlabel-cert 1 ipv4 3\nA\nB\nUNKNOWN\nn 1 0 1\nl 0\nl 1\n ",
+            CertFaultKind::NodesLeft,
+            8,
+        ),
     ];
     for (text, kind, line) in cases {
         is_fault(&rt, rt.alloc(), text, kind, line);
@@ -118,7 +221,10 @@ fn tells_the_first_fault(rt: HostRuntime) {
 #[test]
 fn refuses_each_front_of_a_certificate(rt: HostRuntime) {
     for end in 0..FOUR_QUARTERS.len() {
-        assert!(rt; read_cert(rt.alloc(), &FOUR_QUARTERS[..end]).is_err(), "at {end}");
+        assert!(rt;
+            read_cert(rt.alloc(), &FOUR_QUARTERS[..end]).is_err(),
+            "at {end}"
+        );
     }
 }
 
