@@ -1,65 +1,72 @@
--- A map text's map as far as its first mappings go.
-use Rattle.std.proofs.Common.{◌≡◌, ℕ, ◌+◌, ◌-◌, ◌*◌, ◌^◌, ◌<◌, ◌≤◌, List, [], ◌∷◌, ◌++◌, map, take, get_or, length, sym, ap, subst, arith}
+-- The trie that is grown of statements, and that of a map text.
+use Rattle.std.proofs.Common.{◌≡◌, ℕ, ◌+◌, ◌-◌, ◌*◌, ◌/◌, ◌^◌, ◌<◌, ◌≤◌, List, [], Option, Some, IsSome, get_or, length, refl, sym, ap, subst, arith}
 use Rattle.std.proofs.Math.Nat.{mul-le-mul_right}
-use Rattle.std.proofs.lemmas.Grind.{take_at_read}
-use Rattle.std.proofs.lemmas.List.{map-append, take_all}
 use Rattle.std.proofs.lemmas.Nat.{pow_pos}
-use Rattle.prefix_keys.specs.Block.{first_of, last_of}
+use Rattle.std.proofs.lemmas.Option.{same_Some}
+use Rattle.prefix_keys.specs.Block.{block_number, first_of, last_of}
 use Rattle.prefix_keys.specs.Version.{width_of}
 use Rattle.prefix_keys.specs.declared.version.Version.{Version}
 use Rattle.prefix_keys.specs.declared.version.Version.TheVariants.{V4, V6}
-use Rattle.pmap_text.specs.MapModel.{Mapping, MapModel}
-use Rattle.pmap_text.specs.MapText.{map_of, mapping_of}
+use Rattle.pmap_text.specs.MapModel.{MapModel}
+use Rattle.pmap_text.specs.MapText.{map_of, text_at}
+use Rattle.pmap_text.specs.declared.label.LabelId.{LabelId}
 use Rattle.pmap_text.specs.declared.map_text.MapText.{MapText}
 use Rattle.pmap_text.specs.declared.statement.Statement.{Statement}
+use Rattle.label_trie.specs.Layers.{AddsTree, IsMapOf, mappings_of, parted_sum}
+use Rattle.label_trie.specs.Nodes.{IsTrie, tree_of}
+use Rattle.label_trie.specs.Tree.{Fits, IsLabelled, leaf_count, leaves_of}
 use Rattle.label_trie.specs.TrieModel.{LeafModel, IsCut}
-use Rattle.label_trie.specs.Node.{leaves_of, leaf_count, HasRoom, Fits}
 use Rattle.label_trie.specs.declared.node.Node.{Node}
-use Rattle.label_trie.proofs.NodeLeaves.{fits_HasRoom, length_leaves, leaves_cut}
-use Rattle.label_trie.specs.Insert.{with_statement, IsBlock}
+use Rattle.label_trie.proofs.Encoded.{built, size_leaves}
+use Rattle.label_trie.proofs.NodeLeaves.{fits_HasRoom, leaves_cut, length_leaves}
+use Rattle.label_trie.proofs.Parted.{parted_two}
+use Rattle.label_trie.proofs.Sums.{sum_most}
 
--- the map of a text's first mappings
-abbrev pub map_so_far : MapText → ℕ → MapModel
-map_so_far text count = record (map_of text) { mappings = map (mapping_of text.labels) (take count text.statements) }
+-- how many blocks statements part at most
+width_most : (v : Version) → width_of v ≤ 128
+width_most V4 = omega arith
+width_most V6 = omega arith
 
--- the whole address space is the block of no bits
-pub whole_space : (m : MapModel) (last : ℕ) → last + 1 ≡ 2 ^ width_of m.version → IsBlock (width_of m.version) 0 last 0 0
-whole_space m last is =
-    let all : width_of m.version - 0 ≡ width_of m.version = omega arith in
-    record { first_is = omega arith; last_is = rw all (omega (arith, is)) }
+pub parted_most : (W : ℕ) (ss : List Statement) → parted_sum W W 0 0 ss ≤ 2 * W * length ss
+parted_most W ss = sum_most W (2 * W) ss (λ k d below. parted_two W W 0 0 (get_or ss k d).span (omega arith))
 
--- one statement more
-more_mappings : (text : MapText) (count : ℕ) (s : Statement) → count < length text.statements → s ≡ get_or text.statements count s
-    → map (mapping_of text.labels) (take count text.statements) ++ mapping_of text.labels s ∷ []
-    ≡ map (mapping_of text.labels) (take (count + 1) text.statements)
-more_mappings text count s within is =
-    let more = (take_at_read text.statements count s within).1 in
-    rw (more, ← is) (sym (map-append (mapping_of text.labels) (take count text.statements) (s ∷ [])))
+few_parted : (v : Version) (ss : List Statement) → length ss ≤ 1000000 → parted_sum (width_of v) (width_of v) 0 0 ss ≤ 256000000
+few_parted v ss few = omega (arith, few, parted_most (width_of v) ss, mul-le-mul_right (length ss) (width_most v))
 
-pub next_statement : (text : MapText) (count : ℕ) (s : Statement) → count < length text.statements → s ≡ get_or text.statements count s
-    → with_statement (map_so_far text count) s ≡ map_so_far text (count + 1)
-next_statement text count s within is =
-    ap (λ (ms : List Mapping). record (map_of text) { mappings = ms }) (more_mappings text count s within is)
+no_number : (P : ℕ) → 0 / P ≡ 0
+no_number P = omega arith
 
--- all statements
-map_at_end : (text : MapText) (count : ℕ) → length text.statements ≤ count → map_so_far text count ≡ map_of text
-map_at_end text count end =
-    ap (λ (ss : List Statement). record (map_of text) { mappings = map (mapping_of text.labels) ss }) (take_all count text.statements end)
+pub room_at_root : (v : Version) (ss : List Statement) (nodes : List Node) → nodes ≡ [] → length ss ≤ 1000000
+    → length nodes + (1 + 2 * parted_sum (width_of v) (width_of v - 0) 0 (block_number (width_of v) 0 0) ss) ≤ 2 ^ 32
+room_at_root v ss nodes none few =
+    let all : width_of v - 0 ≡ width_of v = omega arith in
+    let number : block_number (width_of v) 0 0 ≡ 0 = no_number (2 ^ (width_of v - 0)) in
+    rw (none, number, all) (omega (arith, few_parted v ss few))
 
-pub fits_at_end : (text : MapText) (count : ℕ) (items : List Statement) (root : Node) → items ≡ text.statements → length items ≤ count
-    → Fits (map_so_far text count) root 0 0 → Fits (map_of text) root 0 0
-fits_at_end text count items root same end f =
-    subst (λ (m : MapModel). Fits m root 0 0) (map_at_end text count (rw same at end)) f
+-- what is known of nodes that were grown
+pub record IsGrown (W : ℕ) (ss : List Statement) (default : Option LabelId) (nodes : List Node) : Type 0 where
+  pub trie : IsTrie W nodes
+  pub fits : (m : MapModel) → IsMapOf W ss default m → Fits m (tree_of nodes) 0 0
+  pub labelled : IsSome default → IsLabelled (tree_of nodes)
+  pub few : leaf_count (tree_of nodes) ≤ 1 + parted_sum W W 0 0 ss
 
--- each statement's label is in the label table
-pub label_known : (text : MapText) (count : ℕ) (s : Statement) → count < length text.statements → s ≡ get_or text.statements count s
-    → s.label.0 < length text.labels
-label_known text count s within is = let known = text.numbers_known count s within in rw (← is) at known
+pub grown_trie : (v : Version) (ss : List Statement) (default : Option LabelId) (nodes : List Node) (m : MapModel)
+    → IsMapOf (width_of v) ss default m → AddsTree (width_of v) ss default 0 0 [] nodes → length ss ≤ 1000000
+    → IsGrown (width_of v) ss default nodes
+grown_trie v ss default nodes m is added small =
+    let W = width_of v in
+    let all : W - 0 ≡ W = omega arith in
+    let few : leaf_count added.tree ≤ 1 + parted_sum W W 0 0 ss = rw all at added.few in
+    let room = fits_HasRoom m added.tree 0 0 W (omega (arith, is.width)) (added.fits m is) in
+    let made = built W nodes added.tree added.nodes room (omega (arith, size_leaves added.tree, few, few_parted v ss small)) in
+    record {
+      trie = made.trie;
+      fits = λ m' is'. rw made.tree_is (added.fits m' is');
+      labelled = λ some. rw made.tree_is (added.labelled some);
+      few = rw made.tree_is few;
+    }
 
--- a trie that fits a map has room, and its leaves cut the address space
-pub root_room : (m : MapModel) (node : Node) → Fits m node 0 0 → HasRoom node (width_of m.version)
-root_room m node f = fits_HasRoom m node 0 0 (width_of m.version) (omega arith) f
-
+-- the leaves cut the address space
 root_ends : (W : ℕ) (leaves : List LeafModel) → IsCut W (first_of W 0 0) (last_of W 0 0 + 1) leaves → IsCut W 0 (2 ^ W) leaves
 root_ends W leaves cut =
     let all : W - 0 ≡ W = omega arith in
@@ -68,22 +75,20 @@ root_ends W leaves cut =
     let end : (0 + 1) * 2 ^ W - 1 + 1 ≡ 2 ^ W = omega arith in
     rw (all, from, end) at cut
 
-pub root_cut : (m : MapModel) (node : Node) → Fits m node 0 0 → IsCut (width_of m.version) 0 (2 ^ width_of m.version) (leaves_of node 0 0)
-root_cut m node f =
-    let W = width_of m.version in
-    root_ends W (leaves_of node 0 0) (leaves_cut W node 0 0 W (omega arith) (root_room m node f))
+pub trie_cut : (W : ℕ) (nodes : List Node) → IsTrie W nodes → IsCut W 0 (2 ^ W) (leaves_of (tree_of nodes) 0 0)
+trie_cut W nodes trie = root_ends W (leaves_of (tree_of nodes) 0 0) (leaves_cut W (tree_of nodes) 0 0 W (omega arith) trie.room)
 
--- how many leaves there may be
-width_most : (v : Version) → width_of v ≤ 128
-width_most V4 = omega arith
-width_most V6 = omega arith
+-- a map text's statements are those of its map
+pub map_layers : (text : MapText) (items : List Statement) → items ≡ text.statements
+    → IsMapOf (width_of text.version) items (Some text.default) (map_of text)
+map_layers text items same = record {
+  width = refl;
+  mappings = ap (mappings_of text.labels) (sym same);
+  known = rw same text.numbers_known;
+  fallback = λ id is. subst (λ (i : LabelId). (i.0 < length text.labels) × (text_at text.labels i.0 ≡ text_at text.labels text.default.0))
+      (same_Some text.default id is) (text.default_known, refl);
+}
 
-pub leaves_most : (v : Version) (leaves count : ℕ) → leaves ≤ 1 + 2 * width_of v * count → count ≤ 1000000 → 2 * leaves ≤ 2 ^ 32
-leaves_most v leaves count few within = omega (arith, few, within, mul-le-mul_right count (width_most v))
-
--- one statement more, which adds so many
-pub few_more : (each before more after count : ℕ) → before ≤ 1 + each * count → more ≤ each → after ≤ before + more → after ≤ 1 + each * (count + 1)
-few_more each before more after count few most sum = omega arith
-
-pub root_few : (node : Node) (W count : ℕ) → leaf_count node ≤ 1 + 2 * W * count → 2 * length (leaves_of node 0 0) ≤ 2 + 4 * W * count
-root_few node W count few = omega (arith, few, length_leaves node 0 0)
+pub map_bounded : (W : ℕ) (ss : List Statement) (default : Option LabelId) (nodes : List Node) → IsGrown W ss default nodes
+    → 2 * length (leaves_of (tree_of nodes) 0 0) ≤ 2 + 4 * W * length ss
+map_bounded W ss default nodes grown = omega (arith, length_leaves (tree_of nodes) 0 0, grown.few, parted_most W ss)

@@ -1,19 +1,8 @@
 -- The last mapping that passes a test.
-use Rattle.std.proofs.Common.{◌≡◌, Bool, true, false, cond, List, [], ◌∷◌, ◌++◌, Option, Some, None, refl, ◌∙◌, ap}
+use Rattle.std.proofs.Common.{◌≡◌, Bool, true, false, cond, List, [], ◌∷◌, Option, Some, None, refl, ◌∙◌, ap}
 use Rattle.std.specs.Option.{option_or}
 use Rattle.std.proofs.lemmas.Bool.{both_ways}
 use Rattle.pmap_text.specs.MapModel.{Mapping, last_such}
-
-or_cond : (b : Bool) (m : Mapping) (o e : Option Mapping) → option_or (cond b (Some m) o) e ≡ cond b (Some m) (option_or o e)
-or_cond true m o e = refl
-or_cond false m o e = refl
-
--- the one at the end, if it passes
-pub last_such-push : (p : Mapping → Bool) (ms : List Mapping) (m : Mapping) → last_such p (ms ++ m ∷ []) ≡ cond (p m) (Some m) (last_such p ms)
-last_such-push p [] m = refl
-last_such-push p (x ∷ ms) m =
-    ap (λ o. option_or o (cond (p x) (Some x) None)) (last_such-push p ms m)
-    ∙ or_cond (p m) m (last_such p ms) (cond (p x) (Some x) None)
 
 none_of : (b c : Bool) (o o' : Option Mapping) (m : Mapping) → (c ≡ true → b ≡ true) → (o ≡ None → o' ≡ None)
     → option_or o (cond b (Some m) None) ≡ None → option_or o' (cond c (Some m) None) ≡ None

@@ -1,63 +1,95 @@
--- A prefix list's entries painted, as far as the first of some order go.
-use Rattle.std.proofs.Common.{◌≡◌, ℕ, suc, ◌+◌, ◌-◌, ◌*◌, ◌%◌, ◌^◌, ◌<◌, ◌≤◌, ◌==◌, List, [], ◌∷◌, ◌++◌, option_and_then, map, take, get_or, length, sym, ap, ◌∙◌, subst, arith, All, Contains, slice_get}
+-- A prefix list's entries as statements that lie over one another, the short ones first.
+use Rattle.std.proofs.Common.{◌≡◌, ℕ, suc, ◌+◌, ◌-◌, ◌*◌, ◌%◌, ◌^◌, ◌<◌, ◌≤◌, ◌==◌, List, [], ◌∷◌, None, option_and_then, map, length, refl, sym, ap, ◌∙◌, arith, All, Contains, slice_get}
+use Rattle.std.specs.List.{AllZip}
 use Rattle.std.specs.List.Sorted.{IsNonDecreasingBy, IsPermutation}
 use Rattle.std.proofs.lemmas.Bool.{and_from, eq-eqb}
-use Rattle.std.proofs.lemmas.Grind.{take_at_read}
-use Rattle.std.proofs.lemmas.List.{map-append, take_all}
-use Rattle.std.proofs.lemmas.List.Elements.{All-contains, All-map, All-weaker}
+use Rattle.std.proofs.lemmas.List.Elements.{All-contains, All-cons, All-head, All-map, All-nil, All-tail, All-weaker}
 use Rattle.std.proofs.lemmas.List.Sorted.{All-permutation, IsPermutation-map, IsPermutation-sym, length_permutation}
 use Rattle.std.proofs.lemmas.Nat.{pow_pos}
-use Rattle.prefix_keys.specs.Block.{block_number, first_of, last_of}
+use Rattle.std.proofs.lemmas.Option.{none-some}
+use Rattle.prefix_keys.specs.Block.{block_number}
 use Rattle.prefix_keys.specs.Version.{width_of}
 use Rattle.prefix_keys.specs.declared.version.Version.{Version}
 use Rattle.prefix_keys.proofs.Quotients.{whole}
 use Rattle.pmap_text.specs.ListEntries.{same_block}
 use Rattle.pmap_text.specs.ListModel.{Prefix, list_label}
-use Rattle.pmap_text.specs.MapModel.{Label, Mapping, MapModel}
+use Rattle.pmap_text.specs.MapModel.{Label}
 use Rattle.pmap_text.specs.MapText.{mapping_of}
 use Rattle.pmap_text.specs.PrefixList.{list_of, prefix_of}
 use Rattle.pmap_text.specs.declared.entry.Entry.{Entry}
 use Rattle.pmap_text.specs.declared.prefix_list.PrefixList.{PrefixList}
 use Rattle.pmap_text.specs.declared.statement.Statement.{Statement}
-use Rattle.label_trie.specs.Insert.{with_statement}
-use Rattle.label_trie.specs.Node.{leaves_of, leaf_count, HasRoom, Fits}
-use Rattle.label_trie.specs.TrieModel.{IsCut, IsDecidedLeaf, label_among}
+use Rattle.label_trie.specs.Layers.{AreShortestFirst, HasStatement, IsMapOf, mappings_of, parted_count, parted_sum}
+use Rattle.label_trie.specs.Nodes.{tree_of}
+use Rattle.label_trie.specs.Tree.{Tree, Fits, HasRoom, leaves_of}
+use Rattle.label_trie.specs.TrieModel.{IsDecidedLeaf, label_among}
 use Rattle.label_trie.specs.declared.node.Node.{Node}
-use Rattle.label_trie.proofs.Built.{root_cut, root_room}
+use Rattle.label_trie.proofs.Built.{IsGrown}
 use Rattle.label_trie.proofs.Finds.{Contains-from_map, distinct_same}
 use Rattle.label_trie.proofs.Longest.{AreBlocks, label_seen, leaf_decided}
 use Rattle.label_trie.proofs.Lookup.{leaf_with}
+use Rattle.label_trie.proofs.NodeLeaves.{length_leaves}
 use Rattle.label_trie.proofs.Painted.{IsSeenLeaf, leaves_seen, painted, painting, rising, seen_permuted}
+use Rattle.label_trie.proofs.Parted.{parted_block}
+use Rattle.label_trie.proofs.Sums.{sum_most}
 
--- the painting of the first entries of an order
-abbrev pub painted_so_far : PrefixList → List Entry → ℕ → Label → MapModel
-painted_so_far l sorted count fallback =
-    painting l.version l.labels (map (prefix_of l.labels) (take count sorted)) fallback
+-- what holds of each entry holds of its statement in another form
+zip_all : (P : Entry → Type 0) (Q : Statement → Type 0) → ((e : Entry) (s : Statement) → HasStatement e s → P e → Q s) → (es : List Entry)
+    → (ss : List Statement) → AllZip HasStatement es ss → All P es → All Q ss
+zip_all P Q step [] [] all given = All-nil Q
+zip_all P Q step [] (s ∷ ss) all given = absurd all
+zip_all P Q step (e ∷ es) [] all given = absurd all
+zip_all P Q step (e ∷ es) (s ∷ ss) all given =
+    All-cons Q s ss (step e s all.0 (All-head P e es given)) (zip_all P Q step es ss all.1 (All-tail P e es given))
+
+zip_length : (es : List Entry) (ss : List Statement) → AllZip HasStatement es ss → length es ≡ length ss
+zip_length [] [] all = refl
+zip_length [] (s ∷ ss) all = absurd all
+zip_length (e ∷ es) [] all = absurd all
+zip_length (e ∷ es) (s ∷ ss) all = omega (arith, zip_length es ss all.1)
 
 -- an entry's statement is the mapping of its block
-same_mapping : (v : Version) (table : List Label) (e : Entry) (s : Statement) → e.block.version ≡ v → s.label ≡ e.label
-    → s.span.low.value ≡ first_of (width_of e.block.version) e.block.len (block_number (width_of e.block.version) e.block.len e.block.value)
-    → s.span.high.value ≡ last_of (width_of e.block.version) e.block.len (block_number (width_of e.block.version) e.block.len e.block.value)
-    → mapping_of table s ≡ painted (width_of v) (prefix_of table e)
-same_mapping v table e s same label low high = rw (← same, label, low, high)
+same_mapping : (v : Version) (table : List Label) (e : Entry) (s : Statement) → e.block.version ≡ v → HasStatement e s
+    → painted (width_of v) (prefix_of table e) ≡ mapping_of table s
+same_mapping v table e s same is = let label = is.label in let low = is.low in let high = is.high in rw (← same, label, low, high)
 
--- one entry more
-more_painted : (W : ℕ) (table : List Label) (sorted : List Entry) (count : ℕ) (e : Entry) → count < length sorted → e ≡ get_or sorted count e
-    → map (painted W) (map (prefix_of table) (take count sorted)) ++ painted W (prefix_of table e) ∷ []
-    ≡ map (painted W) (map (prefix_of table) (take (count + 1) sorted))
-more_painted W table sorted count e within is =
-    let more = (take_at_read sorted count e within).1 in
-    let front = sym (map-append (prefix_of table) (take count sorted) (e ∷ [])) in
-    rw (more, ← is) (sym (map-append (painted W) (map (prefix_of table) (take count sorted)) (prefix_of table e ∷ [])) ∙ ap (map (painted W)) front)
+zip_mappings : (v : Version) (table : List Label) (es : List Entry) (ss : List Statement) → AllZip HasStatement es ss
+    → All (λ e. e.block.version ≡ v) es → map (painted (width_of v)) (map (prefix_of table) es) ≡ mappings_of table ss
+zip_mappings v table [] [] all same = refl
+zip_mappings v table [] (s ∷ ss) all same = absurd all
+zip_mappings v table (e ∷ es) [] all same = absurd all
+zip_mappings v table (e ∷ es) (s ∷ ss) all same =
+    let here = same_mapping v table e s (All-head (λ (d : Entry). d.block.version ≡ v) e es same) all.0 in
+    let rest = zip_mappings v table es ss all.1 (All-tail (λ (d : Entry). d.block.version ≡ v) e es same) in
+    rw (here, rest)
 
-pub next_entry : (l : PrefixList) (sorted : List Entry) (count : ℕ) (e : Entry) (s : Statement) (fallback : Label)
-    → count < length sorted → e ≡ get_or sorted count e → mapping_of l.labels s ≡ painted (width_of l.version) (prefix_of l.labels e)
-    → with_statement (painted_so_far l sorted count fallback) s ≡ painted_so_far l sorted (count + 1) fallback
-next_entry l sorted count e s fallback within is same =
+-- the statements of a list's entries
+pub record AreListLayers (l : PrefixList) (sorted : List Entry) (ss : List Statement) : Type 0 where
+  pub version : All (λ s. s.span.low.version ≡ l.version) ss
+  pub count : length ss ≡ length l.entries
+  pub layers : (fallback : Label) → IsMapOf (width_of l.version) ss None (painting l.version l.labels (map (prefix_of l.labels) sorted) fallback)
+  pub parted : parted_sum (width_of l.version) (width_of l.version) 0 0 ss ≤ width_of l.version * length ss
+
+pub list_layers : (l : PrefixList) (sorted : List Entry) (ss : List Statement) → IsPermutation l.entries sorted → AllZip HasStatement sorted ss
+    → AreListLayers l sorted ss
+list_layers l sorted ss moved each =
     let W = width_of l.version in
-    let more : map (painted W) (map (prefix_of l.labels) (take count sorted)) ++ mapping_of l.labels s ∷ []
-    ≡ map (painted W) (map (prefix_of l.labels) (take (count + 1) sorted)) = rw same (more_painted W l.labels sorted count e within is) in
-    ap (λ (ms : List Mapping). record (painted_so_far l sorted count fallback) { mappings = ms }) more
+    let versions = All-permutation (λ (e : Entry). e.block.version ≡ l.version) l.entries sorted moved l.one_version in
+    let known = All-permutation (λ (e : Entry). e.label.0 < length l.labels) l.entries sorted moved l.numbers_known in
+    record {
+      version = zip_all (λ e. e.block.version ≡ l.version) (λ s. s.span.low.version ≡ l.version) (λ e s is same. is.version ∙ same) sorted ss each versions;
+      count = sym (zip_length sorted ss each) ∙ length_permutation l.entries sorted moved;
+      layers = λ fallback. record {
+        width = refl;
+        mappings = zip_mappings l.version l.labels sorted ss each versions;
+        known = zip_all (λ e. e.label.0 < length l.labels) (λ s. s.label.0 < length l.labels)
+            (λ e s is below. let same = ap (λ (id : _). id.0) is.label in omega (arith, same, below)) sorted ss each known;
+        fallback = λ id is. absurd (none-some id is);
+      };
+      parted = sum_most W W ss (zip_all (λ e. e.block.version ≡ l.version) (λ s. parted_count W W 0 0 s.span ≤ W)
+          (λ e s is same. parted_block W W 0 0 s.span e.block.len (block_number W e.block.len e.block.value) (omega arith) (rw (← same) e.block.len_in_range)
+          (rw (← same) is.low) (rw (← same) is.high)) sorted ss each versions);
+    }
 
 -- the entries' blocks are distinct and have no host bits, so entries of one block are one
 block_start : (v : Version) (e : Entry) → e.block.version ≡ v
@@ -100,53 +132,29 @@ list_blocks l =
           sym (ap (λ (s : Prefix). s.label) d.2) ∙ ap (λ (f : Entry). (prefix_of l.labels f).label) same ∙ ap (λ (s : Prefix). s.label) e.2;
     }
 
--- what holds of an entry of the list holds of it in another order
-pub entry_version : (l : PrefixList) (sorted : List Entry) (count : ℕ) (e : Entry) → IsPermutation l.entries sorted → count < length sorted
-    → e ≡ get_or sorted count e → e.block.version ≡ l.version
-entry_version l sorted count e moved within is =
-    let same = All-permutation (λ e. e.block.version ≡ l.version) l.entries sorted moved l.one_version count e within in rw (← is) at same
-
-pub entry_known : (l : PrefixList) (sorted : List Entry) (count : ℕ) (e : Entry) → IsPermutation l.entries sorted → count < length sorted
-    → e ≡ get_or sorted count e → e.label.0 < length l.labels
-entry_known l sorted count e moved within is =
-    let known = All-permutation (λ e. e.label.0 < length l.labels) l.entries sorted moved l.numbers_known count e within in rw (← is) at known
-
--- the step of the loop over the entries
-pub fits_next : (l : PrefixList) (sorted : List Entry) (count : ℕ) (e : Entry) (s : Statement) (node : Node) (fallback : Label)
-    → IsPermutation l.entries sorted → count < length sorted → e ≡ get_or sorted count e → s.label ≡ e.label
-    → s.span.low.value ≡ first_of (width_of e.block.version) e.block.len (block_number (width_of e.block.version) e.block.len e.block.value)
-    → s.span.high.value ≡ last_of (width_of e.block.version) e.block.len (block_number (width_of e.block.version) e.block.len e.block.value)
-    → Fits (with_statement (painted_so_far l sorted count fallback) s) node 0 0
-    → Fits (painted_so_far l sorted (count + 1) fallback) node 0 0
-fits_next l sorted count e s node fallback moved within is label low high f =
-    let version = entry_version l sorted count e moved within is in
-    let same = same_mapping l.version l.labels e s version label low high in
-    subst (λ (m : MapModel). Fits m node 0 0) (next_entry l sorted count e s fallback within is same) f
-
--- all entries painted: what is seen at each leaf
-pub list_seen : (l : PrefixList) (sorted : List Entry) (count : ℕ) (root : Node) → IsPermutation l.entries sorted
-    → IsNonDecreasingBy (λ e. e.block.len) sorted → length sorted ≤ count
-    → ((fallback : Label) → Fits (painted_so_far l sorted count fallback) root 0 0)
+-- what is seen at each leaf
+pub list_seen : (l : PrefixList) (sorted : List Entry) (root : Tree) → IsPermutation l.entries sorted
+    → IsNonDecreasingBy (λ e. e.block.len) sorted
+    → ((fallback : Label) → Fits (painting l.version l.labels (map (prefix_of l.labels) sorted) fallback) root 0 0)
     → All (IsSeenLeaf (width_of l.version) l.labels (map (prefix_of l.labels) l.entries)) (leaves_of root 0 0)
-list_seen l sorted count root moved up end f =
+list_seen l sorted root moved up f =
     let W = width_of l.version in
     let ps = map (prefix_of l.labels) l.entries in
     let rs = map (prefix_of l.labels) sorted in
     let back = IsPermutation-map (prefix_of l.labels) sorted l.entries (IsPermutation-sym l.entries sorted moved) in
-    let whole' = λ (fallback : Label). rw (take_all count sorted end) at (f fallback) in
     All-weaker (IsSeenLeaf W l.labels rs) (IsSeenLeaf W l.labels ps)
     (λ leaf g. seen_permuted W l.labels rs ps back leaf.bits leaf.number leaf.label g)
-    (leaves_of root 0 0) (leaves_seen l.version l.labels rs root 0 0 (rising (prefix_of l.labels) sorted up) whole')
+    (leaves_of root 0 0) (leaves_seen l.version l.labels rs root 0 0 (rising (prefix_of l.labels) sorted up) f)
 
 -- so each leaf is decided by the list, and each address has its label
-pub list_decided : (l : PrefixList) (root : Node)
+pub list_decided : (l : PrefixList) (root : Tree)
     → All (IsSeenLeaf (width_of l.version) l.labels (map (prefix_of l.labels) l.entries)) (leaves_of root 0 0)
     → All (IsDecidedLeaf (list_of l)) (leaves_of root 0 0)
 list_decided l root all =
     All-weaker (IsSeenLeaf (width_of l.version) l.labels (map (prefix_of l.labels) l.entries)) (IsDecidedLeaf (list_of l))
     (λ leaf f. leaf_decided (list_of l) leaf (list_blocks l) f) (leaves_of root 0 0) all
 
-pub list_labels : (l : PrefixList) (root : Node) (a : ℕ) → HasRoom root (width_of l.version)
+pub list_labels : (l : PrefixList) (root : Tree) (a : ℕ) → HasRoom root (width_of l.version)
     → All (IsSeenLeaf (width_of l.version) l.labels (map (prefix_of l.labels) l.entries)) (leaves_of root 0 0)
     → a < 2 ^ width_of l.version
     → option_and_then (slice_get l.labels) (label_among (width_of l.version) (leaves_of root 0 0) a) ≡ list_label (list_of l) a
@@ -158,22 +166,27 @@ list_labels l root a room all below =
     rw here.3 (sym (label_seen W l.labels ps leaf.bits leaf.number a (suc W) leaf.label (list_blocks l) here.2
     (λ bits _ fits. omega (arith, fits)) here.1))
 
--- what is known of the root once all entries are painted
-pub record IsListRoot (l : PrefixList) (root : Node) : Type 0 where
-  pub room : HasRoom root (width_of l.version)
-  pub cut : IsCut (width_of l.version) 0 (2 ^ width_of l.version) (leaves_of root 0 0)
-  pub seen : All (IsSeenLeaf (width_of l.version) l.labels (map (prefix_of l.labels) l.entries)) (leaves_of root 0 0)
-  pub few : leaf_count root ≤ 1 + width_of l.version * length l.entries
+pub list_bounded : (l : PrefixList) (sorted : List Entry) (ss : List Statement) (nodes : List Node) → AreListLayers l sorted ss
+    → IsGrown (width_of l.version) ss None nodes → 2 * length (leaves_of (tree_of nodes) 0 0) ≤ 2 + 2 * width_of l.version * length l.entries
+list_bounded l sorted ss nodes layers grown =
+    let count = layers.count in
+    let most : parted_sum (width_of l.version) (width_of l.version) 0 0 ss ≤ width_of l.version * length l.entries = rw (← count) layers.parted in
+    omega (arith, length_leaves (tree_of nodes) 0 0, grown.few, most)
 
-pub list_root : (l : PrefixList) (sorted : List Entry) (count : ℕ) (root : Node) → IsPermutation l.entries sorted
-    → IsNonDecreasingBy (λ e. e.block.len) sorted → length sorted ≤ count → count ≤ length sorted
-    → ((fallback : Label) → Fits (painted_so_far l sorted count fallback) root 0 0) → leaf_count root ≤ 1 + width_of l.version * count
-    → IsListRoot l root
-list_root l sorted count root moved up end within f few =
-    let all : count ≡ length l.entries = omega (arith, end, within, length_permutation l.entries sorted moved) in
+-- the statements in order, from what the sorting ensures
+pub record IsReady (l : PrefixList) (ss : List Statement) : Type 0 where
+  pub sorted : List Entry
+  pub moved : IsPermutation l.entries sorted
+  pub up : IsNonDecreasingBy (λ e. e.block.len) sorted
+  pub layers : AreListLayers l sorted ss
+
+pub list_ready : (l : PrefixList) (entries : List Entry) (items ss : List Statement) → entries ≡ l.entries → ss ≡ items
+    → AreShortestFirst entries items → IsReady l ss
+list_ready l entries items ss same given first =
+    let moved = rw same at first.moved in
     record {
-      room = root_room (painted_so_far l sorted count []) root (f []);
-      cut = root_cut (painted_so_far l sorted count []) root (f []);
-      seen = list_seen l sorted count root moved up end f;
-      few = rw all at few;
+      sorted = first.sorted;
+      moved = moved;
+      up = first.rising;
+      layers = rw given (list_layers l first.sorted items moved first.each);
     }

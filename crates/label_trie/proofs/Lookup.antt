@@ -11,9 +11,7 @@ use Rattle.prefix_keys.specs.Version.{width_of}
 use Rattle.pmap_text.specs.MapModel.{Label, MapModel, map_label}
 use Rattle.pmap_text.specs.MapText.{text_at}
 use Rattle.label_trie.specs.TrieModel.{LeafModel, IsSettledLeaf, has_address, label_among}
-use Rattle.label_trie.specs.Node.{leaves_of, HasRoom}
-use Rattle.label_trie.specs.declared.node.Node.{Node}
-use Rattle.label_trie.specs.declared.node.Node.TheVariants.{Leaf, Inner'}
+use Rattle.label_trie.specs.Tree.{Tree, Tip, Fork, leaves_of, HasRoom}
 use Rattle.label_trie.proofs.Finds.{find_passes}
 use Rattle.label_trie.proofs.Settled.{settled_address}
 
@@ -28,17 +26,17 @@ or_none None = refl
 or_none (Some leaf) = refl
 
 -- no leaf of a block has an address outside it
-found_outside : (W : ℕ) (node : Node) (n q h a : ℕ) → h + n ≡ W → HasRoom node h → (q ≡ block_number W n a → ⊥)
+found_outside : (W : ℕ) (node : Tree) (n q h a : ℕ) → h + n ≡ W → HasRoom node h → (q ≡ block_number W n a → ⊥)
     → find (has_address W a) (leaves_of node n q) ≡ None
-found_outside W (Leaf label) n q h a e room outside = rw (ne_eqb q (block_number W n a) outside)
-found_outside W (Inner' p low high) n q h a e room outside =
+found_outside W (Tip label) n q h a e room outside = rw (ne_eqb q (block_number W n a) outside)
+found_outside W (Fork low high) n q h a e room outside =
     let outer = outer_block W n a (omega (arith, room.0)) in
     find-append (has_address W a) (leaves_of low (suc n) (2 * q)) (leaves_of high (suc n) (2 * q + 1))
     ∙ rw (found_outside W low (suc n) (2 * q) (h - 1) a (omega (arith, room.0)) room.1 (λ same. outside (omega (arith, outer, same))))
     (found_outside W high (suc n) (2 * q + 1) (h - 1) a (omega (arith, room.0)) room.2 (λ same. outside (omega (arith, outer, same))))
 
 -- among the leaves of both halves, an address is found among those of its half
-found_low : (W : ℕ) (low high : Node) (n q h a : ℕ) → h + n ≡ W → 0 < h → HasRoom high (h - 1) → 2 * q ≡ block_number W (suc n) a
+found_low : (W : ℕ) (low high : Tree) (n q h a : ℕ) → h + n ≡ W → 0 < h → HasRoom high (h - 1) → 2 * q ≡ block_number W (suc n) a
     → find (has_address W a) (leaves_of low (suc n) (2 * q) ++ leaves_of high (suc n) (2 * q + 1))
     ≡ find (has_address W a) (leaves_of low (suc n) (2 * q))
 found_low W low high n q h a e positive room inside =
@@ -46,7 +44,7 @@ found_low W low high n q h a e positive room inside =
     rw (find-append (has_address W a) (leaves_of low (suc n) (2 * q)) (leaves_of high (suc n) (2 * q + 1)), none)
     (or_none (find (has_address W a) (leaves_of low (suc n) (2 * q))))
 
-found_high : (W : ℕ) (low high : Node) (n q h a : ℕ) → h + n ≡ W → 0 < h → HasRoom low (h - 1) → 2 * q + 1 ≡ block_number W (suc n) a
+found_high : (W : ℕ) (low high : Tree) (n q h a : ℕ) → h + n ≡ W → 0 < h → HasRoom low (h - 1) → 2 * q + 1 ≡ block_number W (suc n) a
     → find (has_address W a) (leaves_of low (suc n) (2 * q) ++ leaves_of high (suc n) (2 * q + 1))
     ≡ find (has_address W a) (leaves_of high (suc n) (2 * q + 1))
 found_high W low high n q h a e positive room inside =
@@ -54,18 +52,18 @@ found_high W low high n q h a e positive room inside =
     rw (find-append (has_address W a) (leaves_of low (suc n) (2 * q)) (leaves_of high (suc n) (2 * q + 1)), none)
 
 -- so it has the label that it has among those
-pub label_among_low : (W : ℕ) (low high : Node) (n q h a : ℕ) → h + n ≡ W → 0 < h → HasRoom high (h - 1) → 2 * q ≡ block_number W (suc n) a
+pub label_among_low : (W : ℕ) (low high : Tree) (n q h a : ℕ) → h + n ≡ W → 0 < h → HasRoom high (h - 1) → 2 * q ≡ block_number W (suc n) a
     → label_among W (leaves_of low (suc n) (2 * q) ++ leaves_of high (suc n) (2 * q + 1)) a ≡ label_among W (leaves_of low (suc n) (2 * q)) a
 label_among_low W low high n q h a e positive room inside =
     ap (option_and_then (λ leaf. leaf.label)) (found_low W low high n q h a e positive room inside)
 
-pub label_among_high : (W : ℕ) (low high : Node) (n q h a : ℕ) → h + n ≡ W → 0 < h → HasRoom low (h - 1) → 2 * q + 1 ≡ block_number W (suc n) a
+pub label_among_high : (W : ℕ) (low high : Tree) (n q h a : ℕ) → h + n ≡ W → 0 < h → HasRoom low (h - 1) → 2 * q + 1 ≡ block_number W (suc n) a
     → label_among W (leaves_of low (suc n) (2 * q) ++ leaves_of high (suc n) (2 * q + 1)) a ≡ label_among W (leaves_of high (suc n) (2 * q + 1)) a
 label_among_high W low high n q h a e positive room inside =
     ap (option_and_then (λ leaf. leaf.label)) (found_high W low high n q h a e positive room inside)
 
 -- the same, where a node has so many host bits as the half has and one more
-pub label_below_low : (W : ℕ) (low high : Node) (h a : ℕ) → h ≤ W → 0 < h → HasRoom high (h - 1) → a / 2 ^ (h - 1) % 2 ≡ 0
+pub label_below_low : (W : ℕ) (low high : Tree) (h a : ℕ) → h ≤ W → 0 < h → HasRoom high (h - 1) → a / 2 ^ (h - 1) % 2 ≡ 0
     → label_among W (leaves_of low (W - (h - 1)) (a / 2 ^ (h - 1))) a
     ≡ label_among W (leaves_of low (suc (W - h)) (2 * (a / 2 ^ h)) ++ leaves_of high (suc (W - h)) (2 * (a / 2 ^ h) + 1)) a
 label_below_low W low high h a within positive room even =
@@ -77,7 +75,7 @@ label_below_low W low high h a within positive room even =
     let bits : W - (h - 1) ≡ suc (W - h) = omega arith in
     rw (bits, here) (sym (label_among_low W low high (W - h) (a / 2 ^ h) h a (omega arith) positive room inside))
 
-pub label_below_high : (W : ℕ) (low high : Node) (h a : ℕ) → h ≤ W → 0 < h → HasRoom low (h - 1) → (a / 2 ^ (h - 1) % 2 ≡ 0 → ⊥)
+pub label_below_high : (W : ℕ) (low high : Tree) (h a : ℕ) → h ≤ W → 0 < h → HasRoom low (h - 1) → (a / 2 ^ (h - 1) % 2 ≡ 0 → ⊥)
     → label_among W (leaves_of high (W - (h - 1)) (a / 2 ^ (h - 1))) a
     ≡ label_among W (leaves_of low (suc (W - h)) (2 * (a / 2 ^ h)) ++ leaves_of high (suc (W - h)) (2 * (a / 2 ^ h) + 1)) a
 label_below_high W low high h a within positive room odd =
@@ -106,11 +104,11 @@ known_text table number known =
     e ∙ ap Some (sym (ap (λ (o : Option Label). unwrap_or o []) e))
 
 -- each address of the block is in a leaf
-pub leaf_found : (W : ℕ) (node : Node) (n q h a : ℕ) → h + n ≡ W → HasRoom node h → q ≡ block_number W n a
+pub leaf_found : (W : ℕ) (node : Tree) (n q h a : ℕ) → h + n ≡ W → HasRoom node h → q ≡ block_number W n a
     → (leaf : LeafModel) × (find (has_address W a) (leaves_of node n q) ≡ Some leaf)
-leaf_found W (Leaf label) n q h a e room inside =
+leaf_found W (Tip label) n q h a e room inside =
     (record { bits = n; number = q; label = option_map (λ id. id.0) label }, rw (eq-eqb q (block_number W n a) inside))
-leaf_found W (Inner' p low high) n q h a e room inside =
+leaf_found W (Fork low high) n q h a e room inside =
     let outer = outer_block W n a (omega (arith, room.0)) in
     elim (cases_eq (2 * q) (block_number W (suc n) a)) [
       | inl side ↦
@@ -123,7 +121,7 @@ leaf_found W (Inner' p low high) n q h a e room inside =
     ]
 
 -- what is true of each leaf is true of that with the address
-pub leaf_with : (W : ℕ) (P : LeafModel → Type 0) (node : Node) (a : ℕ) → HasRoom node W → a < 2 ^ W → All P (leaves_of node 0 0)
+pub leaf_with : (W : ℕ) (P : LeafModel → Type 0) (node : Tree) (a : ℕ) → HasRoom node W → a < 2 ^ W → All P (leaves_of node 0 0)
     → (leaf : LeafModel) × P leaf × (leaf.number ≡ block_number W leaf.bits a) × (label_among W (leaves_of node 0 0) a ≡ leaf.label)
 leaf_with W P node a room below all =
     let whole : W - 0 ≡ W = omega arith in
@@ -137,7 +135,7 @@ leaf_with W P node a room below all =
     )
 
 -- so the label of a whole trie is the map's at each address
-pub labels_fit : (m : MapModel) (node : Node) (a : ℕ) → HasRoom node (width_of m.version) → All (IsSettledLeaf m) (leaves_of node 0 0)
+pub labels_fit : (m : MapModel) (node : Tree) (a : ℕ) → HasRoom node (width_of m.version) → All (IsSettledLeaf m) (leaves_of node 0 0)
     → a < 2 ^ width_of m.version
     → option_and_then (slice_get m.table) (label_among (width_of m.version) (leaves_of node 0 0) a) ≡ Some (map_label m a)
 labels_fit m node a room all below =

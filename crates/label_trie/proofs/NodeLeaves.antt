@@ -8,23 +8,21 @@ use Rattle.prefix_keys.specs.Version.{width_of}
 use Rattle.pmap_text.specs.MapModel.{MapModel, settled_label}
 use Rattle.pmap_text.specs.declared.label.LabelId.{LabelId}
 use Rattle.label_trie.specs.TrieModel.{LeafModel, IsCut, IsSettledLeaf, IsUndivided}
-use Rattle.label_trie.specs.Node.{leaves_of, leaf_count, HasRoom, Settles, Fits, IsLabelled}
-use Rattle.label_trie.specs.declared.node.Node.{Node}
-use Rattle.label_trie.specs.declared.node.Node.TheVariants.{Leaf, Inner'}
+use Rattle.label_trie.specs.Tree.{Tree, Tip, Fork, leaves_of, leaf_count, HasRoom, Settles, Fits, IsLabelled}
 use Rattle.label_trie.proofs.Blocks.{size_of_halves}
 
 -- a node that fits has room
-pub fits_HasRoom : (m : MapModel) (node : Node) (n q h : ℕ) → h + n ≡ width_of m.version → Fits m node n q → HasRoom node h
-fits_HasRoom m (Leaf label) n q h e f = tt
-fits_HasRoom m (Inner' p low high) n q h e f = (
+pub fits_HasRoom : (m : MapModel) (node : Tree) (n q h : ℕ) → h + n ≡ width_of m.version → Fits m node n q → HasRoom node h
+fits_HasRoom m (Tip label) n q h e f = tt
+fits_HasRoom m (Fork low high) n q h e f = (
   omega (arith, f.0),
   fits_HasRoom m low (suc n) (2 * q) (h - 1) (omega (arith, f.0)) f.2,
   fits_HasRoom m high (suc n) (2 * q + 1) (h - 1) (omega (arith, f.0)) f.3,
 )
 
-pub length_leaves : (node : Node) (n q : ℕ) → length (leaves_of node n q) ≡ leaf_count node
-length_leaves (Leaf label) n q = refl
-length_leaves (Inner' p low high) n q =
+pub length_leaves : (node : Tree) (n q : ℕ) → length (leaves_of node n q) ≡ leaf_count node
+length_leaves (Tip label) n q = refl
+length_leaves (Fork low high) n q =
     let sum = length-append (leaves_of low (suc n) (2 * q)) (leaves_of high (suc n) (2 * q + 1)) in
     omega (arith, sum, length_leaves low (suc n) (2 * q), length_leaves high (suc n) (2 * q + 1))
 
@@ -44,10 +42,10 @@ meet : (W n q P : ℕ) → 0 < P → 2 ^ (W - n) ≡ P → last_of W n (2 * q) +
 meet W n q P positive whole = rw whole (omega arith)
 
 -- the leaves of a node with room cut the block that it stands for
-pub leaves_cut : (W : ℕ) (node : Node) (n q h : ℕ) → h + n ≡ W → HasRoom node h
+pub leaves_cut : (W : ℕ) (node : Tree) (n q h : ℕ) → h + n ≡ W → HasRoom node h
     → IsCut W (first_of W n q) (last_of W n q + 1) (leaves_of node n q)
-leaves_cut W (Leaf label) n q h e room = (omega arith, refl, refl)
-leaves_cut W (Inner' p low high) n q h e room =
+leaves_cut W (Tip label) n q h e room = (omega arith, refl, refl)
+leaves_cut W (Fork low high) n q h e room =
     let below : n < W = omega (arith, room.0) in
     let P = 2 ^ (W - suc n) in
     let front = leaves_cut W low (suc n) (2 * q) (h - 1) (omega (arith, room.0)) room.1 in
@@ -96,20 +94,20 @@ leaf_further m n q b leaf small open' f =
       ];
     }
 
-leaves_below : (m : MapModel) (node : Node) (n q : ℕ) → Fits m node n q → IsLabelled node → All (IsLeafBelow m n q) (leaves_of node n q)
-leaves_below m (Leaf label) n q f l = All-cons (IsLeafBelow m n q) _ [] (leaf_here m label n q f.1 l) (All-nil (IsLeafBelow m n q))
-leaves_below m (Inner' p low high) n q f l =
+leaves_below : (m : MapModel) (node : Tree) (n q : ℕ) → Fits m node n q → IsLabelled node → All (IsLeafBelow m n q) (leaves_of node n q)
+leaves_below m (Tip label) n q f l = All-cons (IsLeafBelow m n q) _ [] (leaf_here m label n q f.1 l) (All-nil (IsLeafBelow m n q))
+leaves_below m (Fork low high) n q f l =
     let front = All-weaker (IsLeafBelow m (suc n) (2 * q)) (IsLeafBelow m n q) (λ leaf g. leaf_further m n q 0 leaf (omega arith) f.1 (let e : 2 * q ≡ 2 * q + 0 = omega arith in rw e at g))
     (leaves_of low (suc n) (2 * q)) (leaves_below m low (suc n) (2 * q) f.2 l.0) in
     let back = All-weaker (IsLeafBelow m (suc n) (2 * q + 1)) (IsLeafBelow m n q) (λ leaf g. leaf_further m n q 1 leaf (omega arith) f.1 g)
     (leaves_of high (suc n) (2 * q + 1)) (leaves_below m high (suc n) (2 * q + 1) f.3 l.1) in
     All-append (IsLeafBelow m n q) (leaves_of low (suc n) (2 * q)) (leaves_of high (suc n) (2 * q + 1)) front back
 
-pub leaves_settled : (m : MapModel) (node : Node) → Fits m node 0 0 → IsLabelled node → All (IsSettledLeaf m) (leaves_of node 0 0)
+pub leaves_settled : (m : MapModel) (node : Tree) → Fits m node 0 0 → IsLabelled node → All (IsSettledLeaf m) (leaves_of node 0 0)
 leaves_settled m node f l =
     All-weaker (IsLeafBelow m 0 0) (IsSettledLeaf m) (λ leaf g. g.settled) (leaves_of node 0 0) (leaves_below m node 0 0 f l)
 
-pub leaves_undivided : (m : MapModel) (node : Node) → Fits m node 0 0 → IsLabelled node → All (IsUndivided m) (leaves_of node 0 0)
+pub leaves_undivided : (m : MapModel) (node : Tree) → Fits m node 0 0 → IsLabelled node → All (IsUndivided m) (leaves_of node 0 0)
 leaves_undivided m node f l =
     All-weaker (IsLeafBelow m 0 0) (IsUndivided m) (λ leaf g k to. g.undivided k (omega arith) to) (leaves_of node 0 0) (leaves_below m node 0 0 f l)
 
@@ -120,14 +118,14 @@ record HasInside (leaves : List LeafModel) (n q : ℕ) : Type 0 where
   deep : n ≤ leaf.bits
   within : leaf.number / 2 ^ (leaf.bits - n) ≡ q
 
-has_inside : (node : Node) (n q : ℕ) → HasInside (leaves_of node n q) n q
-has_inside (Leaf label) n q = record {
+has_inside : (node : Tree) (n q : ℕ) → HasInside (leaves_of node n q) n q
+has_inside (Tip label) n q = record {
   leaf = record { bits = n; number = q; label = option_map (λ id. id.0) label };
   contained = Contains-push [] _;
   deep = omega arith;
   within = let none : n - n ≡ 0 = omega arith in rw none (omega arith);
 }
-has_inside (Inner' p low high) n q =
+has_inside (Fork low high) n q =
     let f = has_inside low (suc n) (2 * q) in
     let number = outer_number f.leaf.number f.leaf.bits n (omega (arith, f.deep)) in
     record {
@@ -138,7 +136,7 @@ has_inside (Inner' p low high) n q =
     }
 
 -- a divided block is round a leaf
-pub inner_unsettled : (m : MapModel) (low high : Node) (n q : ℕ)
+pub inner_unsettled : (m : MapModel) (low high : Tree) (n q : ℕ)
     → All (IsUndivided m) (leaves_of low (suc n) (2 * q) ++ leaves_of high (suc n) (2 * q + 1)) → settled_label m n q ≡ None
 inner_unsettled m low high n q undivided =
     let f = has_inside low (suc n) (2 * q) in

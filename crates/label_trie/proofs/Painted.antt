@@ -14,9 +14,7 @@ use Rattle.pmap_text.specs.MapModel.{Label, Mapping, MapModel, last_such, meets,
 use Rattle.pmap_text.specs.MapText.{text_at}
 use Rattle.pmap_text.specs.declared.label.LabelId.{LabelId}
 use Rattle.label_trie.specs.TrieModel.{LeafModel}
-use Rattle.label_trie.specs.Node.{leaves_of, Settles, Fits}
-use Rattle.label_trie.specs.declared.node.Node.{Node}
-use Rattle.label_trie.specs.declared.node.Node.TheVariants.{Leaf, Inner'}
+use Rattle.label_trie.specs.Tree.{Tree, Tip, Fork, leaves_of, Settles, Fits}
 use Rattle.label_trie.proofs.Finds.{Contains-first, Contains-later}
 
 -- the mapping of a prefix's block to its label
@@ -143,13 +141,13 @@ seen version table ps (Some id) n q up f =
 abbrev pub IsSeenLeaf : ℕ → List Label → List Prefix → LeafModel → Type 0
 IsSeenLeaf W table ps leaf = IsSeen W table ps leaf.bits leaf.number leaf.label
 
-pub leaves_seen : (version : Version) (table : List Label) (ps : List Prefix) (node : Node) (n q : ℕ) → IsRising ps
+pub leaves_seen : (version : Version) (table : List Label) (ps : List Prefix) (node : Tree) (n q : ℕ) → IsRising ps
     → ((fallback : Label) → Fits (painting version table ps fallback) node n q)
     → All (IsSeenLeaf (width_of version) table ps) (leaves_of node n q)
-leaves_seen version table ps (Leaf label) n q up f =
+leaves_seen version table ps (Tip label) n q up f =
     All-cons (IsSeenLeaf (width_of version) table ps) _ [] (seen version table ps label n q up (λ fallback. (f fallback).1))
     (All-nil (IsSeenLeaf (width_of version) table ps))
-leaves_seen version table ps (Inner' p low high) n q up f =
+leaves_seen version table ps (Fork low high) n q up f =
     All-append (IsSeenLeaf (width_of version) table ps) (leaves_of low (suc n) (2 * q)) (leaves_of high (suc n) (2 * q + 1))
     (leaves_seen version table ps low (suc n) (2 * q) up (λ fallback. (f fallback).2))
     (leaves_seen version table ps high (suc n) (2 * q + 1) up (λ fallback. (f fallback).3))

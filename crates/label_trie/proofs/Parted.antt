@@ -5,7 +5,7 @@ use Rattle.std.proofs.lemmas.Bool.{cases_lt}
 use Rattle.std.proofs.lemmas.Nat.{pow-add, pow_pos}
 use Rattle.prefix_keys.specs.Block.{first_of, last_of}
 use Rattle.prefix_keys.specs.declared.span.Span.{Span}
-use Rattle.label_trie.specs.Insert.{parted_count}
+use Rattle.label_trie.specs.Layers.{parted_count}
 use Rattle.label_trie.proofs.Blocks.{low_lies_in, high_lies_in, halves_ends}
 use Rattle.label_trie.proofs.Settled.{le_both, not_both}
 
@@ -123,7 +123,7 @@ parted_two W (suc h) n q s e =
     ]
 
 -- multiples of a size are a size apart
-next_multiple : (P a b : ℕ) → a * P < b * P → a * P + P ≤ b * P
+pub next_multiple : (P a b : ℕ) → a * P < b * P → a * P + P ≤ b * P
 next_multiple P a b below =
     elim (cases_lt a b) [
       | inl less ↦

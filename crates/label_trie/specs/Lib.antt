@@ -2,5 +2,7 @@ pub mod TrieModel
 pub mod Leaf
 pub mod CursorModel
 pub mod Parts
-pub mod Node
-pub mod Insert
+pub mod Tree
+pub mod Nodes
+pub mod Layers
+pub mod Sweep

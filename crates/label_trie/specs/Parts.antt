@@ -1,4 +1,4 @@
-use Rattle.std.specs.Prelude.{◌≡◌, ℕ, ◌+◌, ◌*◌, [], ◌∷◌, ◌++◌, None, All}
+use Rattle.std.specs.Prelude.{◌≡◌, ℕ, ◌+◌, ◌*◌, [], ◌∷◌, ◌++◌, None, All, length}
 use Rattle.prefix_keys.specs.declared.block.Block.{Block}
 use Rattle.pmap_text.specs.MapModel.{MapModel, settled_label}
 use Rattle.label_trie.specs.TrieModel.{IsUndivided}
@@ -14,12 +14,17 @@ pub record IsHalf (side : ℕ) (whole half : Block) : Type 0 where
   pub number : number_of half ≡ 2 * number_of whole + side
 
 -- A place divided into two, which stand at the halves of its block and together have its leaves. No map that settles no
--- block round a leaf there settles the block.
+-- block round a leaf there settles the block. Of the nodes at and below the place, which are one less than twice its leaves,
+-- its own has the first number, those of the lower half have the next ones in a row, and then come those of the higher half.
 pub record IsDivided (whole low high : CursorModel) : Type 0 where
   pub low_half : IsHalf 0 whole.block low.block
   pub high_half : IsHalf 1 whole.block high.block
   pub leaves : whole.leaves ≡ low.leaves ++ high.leaves
   pub unsettled : (m : MapModel) → All (IsUndivided m) whole.leaves → settled_label m whole.block.len (number_of whole.block) ≡ None
+  pub low_nodes : low.nodes ≡ whole.nodes
+  pub high_nodes : high.nodes ≡ whole.nodes
+  pub low_number : low.number ≡ whole.number + 1
+  pub high_number : high.number + 1 ≡ low.number + 2 * length low.leaves
 
 -- what there is at a place: one leaf with its block and the label, or two places
 abbrev pub ArePartsOf : CursorModel → Parts → Type 0

@@ -7,7 +7,7 @@ use Rattle.pmap_text.specs.ListModel.{ListModel, label_below, lies_inside}
 use Rattle.pmap_text.specs.MapModel.{MapModel, IsSettled, settled_label}
 use Rattle.pmap_text.specs.MapText.{text_at}
 
--- A trie as contracts see it: its leaves, in rising order of their addresses.
+-- A trie as contracts see it: its leaves, in rising order of their addresses, and its nodes.
 
 -- the block of `bits` bits with the number `number`, and the number of its label, if it has one
 pub record LeafModel : Type 0 where
@@ -15,10 +15,17 @@ pub record LeafModel : Type 0 where
   pub number : ℕ
   pub label : Option ℕ
 
--- a trie: the version of its addresses, and its leaves
+-- a node of a trie: the block of `bits` bits with the number `number`, and the leaves at and below it in rising order
+pub record NodeModel : Type 0 where
+  pub bits : ℕ
+  pub number : ℕ
+  pub leaves : List LeafModel
+
+-- a trie: the version of its addresses, its leaves, and its nodes in the order of their numbers
 pub record TrieModel : Type 0 where
   pub version : Version
   pub leaves : List LeafModel
+  pub nodes : List NodeModel
 
 -- The leaves are blocks of addresses of W bits that follow one another, the first beginning at `from` and the last ending
 -- right before `to`: each address between is in one leaf alone.

@@ -1,8 +1,10 @@
-ghost use Rattle.std.specs.Prelude.{◌≡◌, ◌+◌, ◌-◌};
+ghost use Rattle.std.specs.Prelude.{◌≡◌, ◌+◌};
 ghost use Rattle.prefix_keys.specs.Block.{first_of, last_of};
 ghost use Rattle.prefix_keys.specs.Version.{width_of};
+ghost use Rattle.label_trie.specs.CursorModel.{IsNode};
 ghost use Rattle.label_trie.specs.Leaf.{number_of};
-ghost use Rattle.label_trie.specs.Node.{leaves_of, HasRoom};
+ghost use Rattle.label_trie.specs.Nodes.{IsPlace, tree_at, tree_of};
+ghost use Rattle.label_trie.specs.Tree.{leaves_of, nodes_of};
 ghost use Rattle.label_trie.specs.TrieModel.{IsCut};
 
 use crate::node::Node;
@@ -10,10 +12,11 @@ use pmap_text::LabelId;
 use prefix_keys::Block;
 use std::marker::Model;
 
-/// A place in a trie: a block that it divides, or a leaf. A walk begins at `Trie::root`.
+/// A place in a trie: a block that it divides, or a leaf. A walk begins at `Trie::root`, or at any node by `Trie::node`.
 #[derive(Drop)]
 pub struct Cursor<'a> {
-    node: &'a Node,
+    nodes: &'a [Node],
+    number: u32,
     block: Block,
 }
 
@@ -25,11 +28,17 @@ impl<'a> Model for Cursor<'a> {
     ghost Value = { CursorModel };
 
     ghost use Rattle.label_trie.specs.Leaf.{number_of};
-    ghost use Rattle.label_trie.specs.Node.{leaves_of, HasRoom};
+    ghost use Rattle.label_trie.specs.Nodes.{IsPlace, tree_at, tree_of};
+    ghost use Rattle.label_trie.specs.Tree.{leaves_of, nodes_of};
 
-    ghost view = { λ c. record { block = c.block; leaves = leaves_of c.node.now c.block.len (number_of c.block) } };
+    ghost view = { λ c. record {
+      block = c.block;
+      leaves = leaves_of (tree_at c.nodes.now c.number) c.block.len (number_of c.block);
+      number = c.number;
+      nodes = nodes_of (tree_of c.nodes.now) 0 0;
+    } };
 
-    ghost invariant = { λ c. HasRoom c.node.now (width_of c.block.version - c.block.len) };
+    ghost invariant = { λ c. IsPlace c.nodes.now c.number c.block };
 }
 
 /// What a trie has at a place: a leaf's label, or the places of the lower and of the higher half of the block.
@@ -39,13 +48,19 @@ pub enum Parts<'a> {
     Inner(Cursor<'a>, Cursor<'a>),
 }
 
-/// The place of a node that stands for the block.
-pub(crate) fn cursor_at<'a>(node: &'a Node, block: Block) -> Cursor<'a>
-    requires { HasRoom node.now (width_of block.version - block.len) }
+/// The place of the node with this number, which stands for the block.
+pub(crate) fn cursor_at<'a>(nodes: &'a [Node], number: u32, block: Block) -> Cursor<'a>
+    requires { IsPlace nodes.now number block }
     ensures block { result.block ≡ block }
-    ensures leaves { result.leaves ≡ leaves_of node.now block.len (number_of block) }
+    ensures leaves { result.leaves ≡ leaves_of (tree_at nodes.now number) block.len (number_of block) }
+    ensures number { result.number ≡ number }
+    ensures nodes { result.nodes ≡ nodes_of (tree_of nodes.now) 0 0 }
 {
-    Cursor { node, block }
+    Cursor {
+        nodes,
+        number,
+        block,
+    }
 }
 
 impl Cursor<'_> {
@@ -58,6 +73,15 @@ impl Cursor<'_> {
     {
         self.block
     }
+
+    /// The number of the place's node, below `Trie::node_count`: each place of a trie has its own, the root 0, and the
+    /// places of the halves of a block have greater ones than the block.
+    pub fn number(&self) -> u32
+        ensures value { result ≡ self.now.number }
+        ensures node { IsNode self.now }
+    {
+        self.number
+    }
 }
 
 impl<'a> Cursor<'a> {
@@ -67,13 +91,18 @@ impl<'a> Cursor<'a> {
     pub fn parts(&self) -> Parts<'a>
         ensures { ArePartsOf self.now result }
     {
-        match self.node {
-            Node::Leaf(label) => Parts::Leaf(*label),
-            Node::Inner(halves) => {
+        match self.nodes[self.number as usize] {
+            Node::Labelled(label) => Parts::Leaf(Some(label)),
+            Node::Unlabelled => Parts::Leaf(None),
+            Node::Inner(high_number) => {
                 let Some((low, high)) = self.block.halves() else {
                     unreachable!()
                 };
-                Parts::Inner(cursor_at(&halves.low, low), cursor_at(&halves.high, high))
+                let low_number = self.number + 1;
+                Parts::Inner(
+                    cursor_at(self.nodes, low_number, low),
+                    cursor_at(self.nodes, high_number, high),
+                )
             }
         }
     }

@@ -6,15 +6,20 @@
 //! settled by the map and has the label that settles it, no block round a leaf is settled, and so the label that the
 //! trie gives at an address is the map's. In the trie of a prefix list no entry lies strictly inside a leaf, each leaf
 //! has the label of the longest entry that covers it, or none, and so has each address. A walk from the root by
-//! cursors meets these leaves, and in the trie of a map no block that it meets on the way is settled. The nodes number
-//! at most one, and four times the width for each statement or twice the width for each entry. Contracts see a trie as
-//! the list of its leaves; how its nodes are kept is its own affair.
+//! cursors meets these leaves, and in the trie of a map no block that it meets on the way is settled. The nodes are
+//! numbered from 0, a block's before those of its lower half and these before those of its higher one, and number at
+//! most one, and four times the width for each statement or twice the width for each entry. Contracts see a trie as the
+//! lists of its leaves and nodes; how they are kept is its own affair.
 #![tactic(auto)]
 
 pub mod cursor;
+mod growing;
+mod layers;
 pub mod leaf;
 pub mod leaves;
 mod node;
+mod start;
+mod sweep;
 pub mod trie;
 
 pub use cursor::{Cursor, Parts};

@@ -1,16 +1,20 @@
-ghost use Rattle.std.specs.Prelude.{◌≡◌, ℕ, ◌+◌, ◌*◌, ◌^◌, ◌<◌, ◌≤◌, Some, All, IfOk, length, map, option_map, option_and_then, slice_get};
-ghost use Rattle.std.specs.List.Sorted.{IsNonDecreasingBy, IsPermutation};
+ghost use Rattle.std.specs.Prelude.{◌≡◌, ℕ, ◌+◌, ◌*◌, ◌^◌, ◌<◌, ◌≤◌, ◌++◌, [], Some, All, IfOk, OnOk, length, map, option_map, option_and_then, slice_get};
 ghost use Rattle.prefix_keys.specs.Version.{width_of};
 ghost use Rattle.pmap_text.specs.ListModel.{list_label};
 ghost use Rattle.pmap_text.specs.PrefixList.{list_of};
 ghost use Rattle.pmap_text.specs.MapModel.{map_label};
 ghost use Rattle.pmap_text.specs.MapText.{map_of};
+ghost use Rattle.label_trie.specs.Layers.{AddsTree, AreShortestFirst};
 ghost use Rattle.label_trie.specs.Leaf.{model_of};
 ghost use Rattle.label_trie.specs.TrieModel.{IsCut, IsDecidedLeaf, IsSettledLeaf, IsUndivided, label_in};
 
-use crate::cursor::{Cursor, cursor_at};
+use crate::cursor::{Cursor, Parts, cursor_at};
+use crate::growing::push_block;
+use crate::layers::Layers;
+use crate::leaf::Leaf;
 use crate::leaves::Leaves;
-use crate::node::{self, Node};
+use crate::node::Node;
+use crate::sweep::{Sweep, last_address};
 use pmap_text::{Entry, LabelId, MapText, PrefixList, Statement};
 use prefix_keys::{Addr, Block, Version};
 use std::alloc::{AllocError, Global};
@@ -21,21 +25,26 @@ use std::marker::Model;
 #[derive(Drop)]
 pub struct Trie {
     version: Version,
-    root: Node,
+    /// The node of the whole address space, and those of its halves' trees, the lower first; each tree alike.
+    nodes: Vec<Node>,
 }
 
 impl Model for Trie {
-    ghost use Rattle.std.specs.Prelude.{◌*◌, ◌^◌, ◌≤◌};
     ghost use Rattle.prefix_keys.specs.Version.{width_of};
     ghost use Rattle.label_trie.specs.TrieModel.{TrieModel};
 
     ghost Value = { TrieModel };
 
-    ghost use Rattle.label_trie.specs.Node.{leaves_of, leaf_count, HasRoom};
+    ghost use Rattle.label_trie.specs.Nodes.{IsTrie, tree_of};
+    ghost use Rattle.label_trie.specs.Tree.{leaves_of, nodes_of};
 
-    ghost view = { λ t. record { version = t.version; leaves = leaves_of t.root 0 0 } };
+    ghost view = { λ t. record {
+      version = t.version;
+      leaves = leaves_of (tree_of t.nodes.items) 0 0;
+      nodes = nodes_of (tree_of t.nodes.items) 0 0;
+    } };
 
-    ghost invariant = { λ t. HasRoom t.root (width_of t.version) × (2 * leaf_count t.root ≤ 2 ^ 32) };
+    ghost invariant = { λ t. IsTrie (width_of t.version) t.nodes.items };
 }
 
 impl Trie {
@@ -50,14 +59,15 @@ impl Trie {
         ensures bounded { IfOk result (λ t. 2 * length t.leaves
             ≤ 2 + 4 * width_of map.now.version * length map.now.statements) }
     {
-        let mut root = Node::Leaf(Some(map.default));
-        let last = last_address(map.version);
-        for statement in map.statements.as_slice() {
-            node::insert(alloc, &mut root, 0, last, statement)?;
-        }
+        let statements = map.statements.as_slice();
+        let layers = Layers {
+            version: map.version,
+            default: Some(map.default),
+            statements,
+        };
         Ok(Trie {
             version: map.version,
-            root,
+            nodes: grow(alloc, &layers)?,
         })
     }
 
@@ -73,19 +83,15 @@ impl Trie {
         ensures bounded { IfOk result (λ t. 2 * length t.leaves
             ≤ 2 + 2 * width_of list.now.version * length list.now.entries) }
     {
-        let entries = shortest_first(alloc, list.entries.as_slice())?;
-        let mut root = Node::Leaf(None);
-        let last = last_address(list.version);
-        for entry in entries.as_slice() {
-            let statement = Statement {
-                span: entry.block.span(),
-                label: entry.label,
-            };
-            node::insert(alloc, &mut root, 0, last, &statement)?;
-        }
+        let statements = shortest_first(alloc, list.entries.as_slice())?;
+        let layers = Layers {
+            version: list.version,
+            default: None,
+            statements: statements.as_slice(),
+        };
         Ok(Trie {
             version: list.version,
-            root,
+            nodes: grow(alloc, &layers)?,
         })
     }
 
@@ -94,15 +100,30 @@ impl Trie {
         requires { addr.version ≡ self.now.version }
         ensures { option_map (λ id. id.0) result ≡ label_in self.now addr.value }
     {
-        node::label_below(&self.root, self.version.width(), addr.value)
+        let mut number = 0;
+        let mut host_bits = self.version.width();
+        loop {
+            match self.nodes[number as usize] {
+                Node::Labelled(label) => return Some(label),
+                Node::Unlabelled => return None,
+                Node::Inner(high) => {
+                    host_bits -= 1;
+                    number = if (addr.value >> host_bits) % 2 == 0 {
+                        number + 1
+                    } else {
+                        high
+                    };
+                }
+            }
+        }
     }
 
-    /// How many nodes there are: the leaves, and the blocks that are divided, of which there is one less. It goes
-    /// through all of them.
+    /// How many nodes there are: the leaves, and the blocks that are divided, of which there is one less.
     pub fn node_count(&self) -> u32
-        ensures { result + 1 ≡ 2 * length self.now.leaves }
+        ensures leaves { result + 1 ≡ 2 * length self.now.leaves }
+        ensures nodes { result ≡ length self.now.nodes }
     {
-        node::count_nodes(&self.root)
+        self.nodes.len() as u32
     }
 
     /// The leaves in rising order of their blocks.
@@ -111,7 +132,7 @@ impl Trie {
         ensures leaves { IfOk result (λ leaves. map model_of leaves ≡ self.now.leaves) }
     {
         let mut leaves = Leaves::new(alloc);
-        node::push_leaves(&mut leaves, &self.root, whole_space(self.version))?;
+        push_leaves(&mut leaves, &self.root())?;
         Ok(leaves)
     }
 
@@ -121,19 +142,83 @@ impl Trie {
         ensures value { result.block.value ≡ 0 }
         ensures len { result.block.len ≡ 0 }
         ensures leaves { result.leaves ≡ self.now.leaves }
+        ensures number { result.number ≡ 0 }
+        ensures nodes { result.nodes ≡ self.now.nodes }
     {
-        cursor_at(&self.root, whole_space(self.version))
+        cursor_at(self.nodes.as_slice(), 0, whole_space(self.version))
+    }
+
+    /// The place of the node with this number, which is below `node_count`. It goes there from the root, by one step for
+    /// each bit of the block's length.
+    pub fn node(&self, number: u32) -> Cursor
+        requires { number < length self.now.nodes }
+        ensures version { result.block.version ≡ self.now.version }
+        ensures number { result.number ≡ number }
+        ensures nodes { result.nodes ≡ self.now.nodes }
+    {
+        prove!(number < self.node_count());
+        let mut place = self.root();
+        while place.number() < number {
+            let Parts::Inner(low, high) = place.parts() else {
+                unreachable!()
+            };
+            place = if number < high.number() { low } else { high };
+        }
+        place
     }
 }
 
-/// The entries in an order in which the shorter blocks come before the longer ones.
-fn shortest_first(alloc: Global, entries: &[Entry]) -> Result<Vec<Entry>, AllocError>
-    ensures permutation { IfOk result (λ sorted. IsPermutation entries.now sorted.items) }
-    ensures rising { IfOk result (λ sorted. IsNonDecreasingBy (λ e. e.block.len) sorted.items) }
+/// The nodes of the trie of some statements.
+fn grow(alloc: Global, layers: &Layers) -> Result<Vec<Node>, AllocError>
+    requires version { All (λ s. s.span.low.version ≡ layers.now.version) layers.now.statements.now }
+    requires few { length layers.now.statements.now ≤ 1000000 }
+    ensures { IfOk result (λ nodes. AddsTree (width_of layers.now.version) layers.now.statements.now layers.now.default 0 0 [] nodes.items) }
+{
+    let mut nodes = Vec::new(alloc);
+    let mut sweep = Sweep::new(alloc, layers)?;
+    push_block(
+        &mut nodes,
+        &mut sweep,
+        layers,
+        0,
+        0,
+        last_address(layers.version),
+    )?;
+    Ok(nodes)
+}
+
+/// Adds the leaves at and below the place, at the end.
+fn push_leaves(leaves: &mut Leaves, place: &Cursor) -> Result<(), AllocError>
+    ensures version { OnOk result (All (λ leaf. leaf.block.version ≡ place.now.block.version) leaves.old
+        → All (λ leaf. leaf.block.version ≡ place.now.block.version) leaves.new) }
+    ensures leaves { OnOk result (map model_of leaves.new ≡ map model_of leaves.old ++ place.now.leaves) }
+{
+    match place.parts() {
+        Parts::Leaf(label) => leaves.push(Leaf {
+            block: place.block(),
+            label,
+        }),
+        Parts::Inner(low, high) => {
+            push_leaves(leaves, &low)?;
+            push_leaves(leaves, &high)
+        }
+    }
+}
+
+/// The entries as statements, in an order in which those of shorter blocks come before those of longer ones.
+fn shortest_first(alloc: Global, entries: &[Entry]) -> Result<Vec<Statement>, AllocError>
+    ensures { IfOk result (λ statements. AreShortestFirst entries.now statements.items) }
 {
     let mut sorted = Vec::from_slice(alloc, entries)?;
     sorted.sort_by_key(|entry| entry.block.len)?;
-    Ok(sorted)
+    let mut statements = Vec::with_capacity(alloc, sorted.len())?;
+    for entry in sorted.as_slice() {
+        statements.push(Statement {
+            span: entry.block.span(),
+            label: entry.label,
+        })?;
+    }
+    Ok(statements)
 }
 
 /// The block of no bits, which has each address of the version.
@@ -148,16 +233,3 @@ fn whole_space(version: Version) -> Block
         len: 0,
     }
 }
-
-/// The highest address of a version.
-fn last_address(version: Version) -> u128
-    ensures { result + 1 ≡ 2 ^ width_of version }
-{
-    match version {
-        Version::V4 => u128::from(u32::MAX),
-        Version::V6 => u128::MAX,
-    }
-}
-
-#[cfg(test)]
-mod tests;

@@ -1,3 +1,4 @@
+pub mod Carried
 pub mod LineEntries
 pub mod Filed
 pub mod Pairs

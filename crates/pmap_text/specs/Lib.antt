@@ -1,6 +1,7 @@
 pub mod MapModel
 pub mod ListModel
 pub mod Label
+pub mod Carried
 pub mod Declarations
 pub mod MapText
 pub mod ListEntries

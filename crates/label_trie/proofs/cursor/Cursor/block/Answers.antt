@@ -1,6 +1,7 @@
 use Rattle.std.proofs.Common.{◌-◌, arith}
 use Rattle.prefix_keys.specs.Version.{width_of}
 use Rattle.label_trie.specs.Leaf.{number_of}
+use Rattle.label_trie.specs.Nodes.{tree_at}
 use Rattle.label_trie.proofs.NodeLeaves.{leaves_cut}
 use Rattle.label_trie.proofs.cursor.Cursor.block.Goals as goal
 
@@ -10,4 +11,4 @@ returns-clause-cut c =
     let W = width_of inside.block.version in
     let within = inside.block.len_in_range in
     rw (← c.self.view_is)
-    (leaves_cut W inside.node.now inside.block.len (number_of inside.block) (W - inside.block.len) (omega arith) c.self.invariant)
+    (leaves_cut W (tree_at inside.nodes.now inside.number) inside.block.len (number_of inside.block) (W - inside.block.len) (omega arith) c.self.invariant.room)

@@ -1,5 +1,17 @@
+use Rattle.std.proofs.Common.{arith}
+use Rattle.label_trie.specs.Nodes.{tree_of}
+use Rattle.label_trie.proofs.Encoded.{length_nodes, size_leaves}
 use Rattle.label_trie.proofs.NodeLeaves.{length_leaves}
 use Rattle.label_trie.proofs.trie.Trie.node_count.Goals as goal
 
-pub returns : goal.returns
-returns c = rw (← c.self.view_is, length_leaves c.self.inside.root 0 0) c.count_nodes.ensures
+pub overflow_cast-result : goal.overflow_cast-result
+overflow_cast-result c = omega (arith, c.self.invariant.all, c.self.invariant.few, size_leaves (tree_of c.self.inside.nodes.items))
+
+pub returns-clause-leaves : goal.returns-clause-leaves
+returns-clause-leaves c =
+    rw (← c.self.view_is, length_leaves (tree_of c.self.inside.nodes.items) 0 0)
+    (omega (arith, c.self.invariant.all, size_leaves (tree_of c.self.inside.nodes.items)))
+
+pub returns-clause-nodes : goal.returns-clause-nodes
+returns-clause-nodes c =
+    rw (← c.self.view_is, length_nodes (tree_of c.self.inside.nodes.items) 0 0) (omega (arith, c.self.invariant.all))

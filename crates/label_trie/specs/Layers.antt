@@ -1,0 +1,91 @@
+use Rattle.std.specs.Prelude.{◌≡◌, ℕ, zero, suc, ◌+◌, ◌*◌, ◌-◌, ◌<◌, ◌≤◌, ◌^◌, ◌&&◌, List, [], ◌∷◌, ◌++◌, Option, Some, None, All, Contains, IsSome, length, map, nat_le, option_map, if◌then◌else◌}
+use Rattle.std.specs.List.{AllZip}
+use Rattle.std.specs.List.Sorted.{IsNonDecreasingBy, IsPermutation}
+use Rattle.std.specs.Option.{ForSome}
+use Rattle.prefix_keys.specs.Block.{first_of, last_of}
+use Rattle.prefix_keys.specs.Version.{width_of}
+use Rattle.prefix_keys.specs.declared.span.Span.{Span}
+use Rattle.pmap_text.specs.MapModel.{Mapping, MapModel, last_such, spans}
+use Rattle.pmap_text.specs.MapText.{mapping_of, text_at}
+use Rattle.pmap_text.specs.declared.label.LabelId.{LabelId}
+use Rattle.pmap_text.specs.declared.statement.Statement.{Statement}
+use Rattle.pmap_text.specs.declared.entry.Entry.{Entry}
+use Rattle.label_trie.specs.Leaf.{number_of}
+use Rattle.label_trie.specs.Nodes.{encode}
+use Rattle.label_trie.specs.Tree.{Tree, Fits, IsLabelled, leaf_count}
+use Rattle.label_trie.specs.declared.node.Node.{Node}
+
+-- Statements that lie over one another like layers: at each address the last that covers it is seen.
+
+-- the statements as mappings to the texts of a label table
+abbrev pub mappings_of : List (List ℕ) → List Statement → List Mapping
+mappings_of table ss = map (mapping_of table) ss
+
+-- what is seen at an address, as a mapping
+abbrev pub seen_at : List (List ℕ) → List Statement → ℕ → Option Mapping
+seen_at table ss a = last_such (spans a) (mappings_of table ss)
+
+-- the label where the statement is seen, or none
+abbrev pub label_seen : Option LabelId → Option Statement → Option LabelId
+label_seen default None = default
+label_seen default (Some s) = Some s.label
+
+-- Of addresses of W bits, at those from `first` to `last` the statement `top` is seen, or none. At the next address it is not.
+pub record IsStretch (W : ℕ) (ss : List Statement) (first last : ℕ) (top : Option Statement) : Type 0 where
+  pub ordered : first ≤ last
+  pub within : last < 2 ^ W
+  pub same : (table : List (List ℕ)) (a : ℕ) → first ≤ a → a ≤ last → seen_at table ss a ≡ option_map (mapping_of table) top
+  pub beyond : (table : List (List ℕ)) → last + 1 < 2 ^ W → seen_at table ss (last + 1) ≡ option_map (mapping_of table) top → ⊥
+  pub listed : (s : Statement) → top ≡ Some s → Contains ss s
+
+-- of addresses of W bits, those from `first` to `last` are those of the block of n bits with the number q
+pub record IsBlock (W first last n q : ℕ) : Type 0 where
+  pub first_is : first ≡ first_of W n q
+  pub last_is : last ≡ last_of W n q
+
+-- The span parts a block where it has an address of it and lacks one. This is how many blocks it parts of the one of n bits
+-- with the number q, its halves, theirs, and so on: the block has h host bits, and one of a single address isn't parted.
+abbrev pub parted_count : ℕ → ℕ → ℕ → ℕ → Span → ℕ
+parted_count W zero n q s = 0
+parted_count W (suc h) n q s =
+    if nat_le s.low.value (last_of W n q) && nat_le (first_of W n q) s.high.value
+    then (if nat_le s.low.value (first_of W n q) && nat_le (last_of W n q) s.high.value
+    then 0
+    else 1 + (parted_count W h (suc n) (2 * q) s + parted_count W h (suc n) (2 * q + 1) s))
+    else 0
+
+-- the same of each statement, together
+abbrev pub parted_sum : ℕ → ℕ → ℕ → ℕ → List Statement → ℕ
+parted_sum W h n q [] = 0
+parted_sum W h n q (s ∷ ss) = parted_count W h n q s.span + parted_sum W h n q ss
+
+-- the map has these statements, and the label in its label table as its default
+pub record IsMapOf (W : ℕ) (ss : List Statement) (default : Option LabelId) (m : MapModel) : Type 0 where
+  pub width : width_of m.version ≡ W
+  pub mappings : m.mappings ≡ mappings_of m.table ss
+  pub known : All (λ s. s.label.0 < length m.table) ss
+  pub fallback : ForSome default (λ id. (id.0 < length m.table) × (text_at m.table id.0 ≡ m.fallback))
+
+-- The new nodes are the old ones and those of a tree for the block of n bits with the number q. The tree fits each map of
+-- these statements, its leaves are labelled where there is a default, and it has no more leaves than one and one for each
+-- block that a statement parts.
+pub record AddsTree (W : ℕ) (ss : List Statement) (default : Option LabelId) (n q : ℕ) (old new : List Node) : Type 0 where
+  pub tree : Tree
+  pub nodes : new ≡ old ++ encode (length old) tree
+  pub fits : (m : MapModel) → IsMapOf W ss default m → Fits m tree n q
+  pub labelled : IsSome default → IsLabelled tree
+  pub few : leaf_count tree ≤ 1 + parted_sum W (W - n) n q ss
+
+-- a statement has the span and the label of an entry
+pub record HasStatement (e : Entry) (s : Statement) : Type 0 where
+  pub version : s.span.low.version ≡ e.block.version
+  pub low : s.span.low.value ≡ first_of (width_of e.block.version) e.block.len (number_of e.block)
+  pub high : s.span.high.value ≡ last_of (width_of e.block.version) e.block.len (number_of e.block)
+  pub label : s.label ≡ e.label
+
+-- the statements are those of the entries, in an order in which none has a shorter block than an earlier one
+pub record AreShortestFirst (entries : List Entry) (ss : List Statement) : Type 0 where
+  pub sorted : List Entry
+  pub moved : IsPermutation entries sorted
+  pub rising : IsNonDecreasingBy (λ e. e.block.len) sorted
+  pub each : AllZip HasStatement sorted ss
