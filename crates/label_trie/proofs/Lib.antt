@@ -1,6 +1,4 @@
-pub mod Finds
 pub mod Blocks
-pub mod LastSuch
 pub mod Settled
 pub mod Parted
 pub mod NodeLeaves

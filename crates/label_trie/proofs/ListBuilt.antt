@@ -25,7 +25,7 @@ use Rattle.label_trie.specs.Tree.{Tree, Fits, HasRoom, leaves_of}
 use Rattle.label_trie.specs.TrieModel.{IsDecidedLeaf, label_among}
 use Rattle.label_trie.specs.declared.node.Node.{Node}
 use Rattle.label_trie.proofs.Built.{IsGrown}
-use Rattle.label_trie.proofs.Finds.{Contains-from_map, distinct_same}
+use Rattle.pmap_text.proofs.Finds.{Contains-from_map, distinct_same}
 use Rattle.label_trie.proofs.Longest.{AreBlocks, label_seen, leaf_decided}
 use Rattle.label_trie.proofs.Lookup.{leaf_with}
 use Rattle.label_trie.proofs.NodeLeaves.{length_leaves}

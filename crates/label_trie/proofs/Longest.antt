@@ -11,7 +11,7 @@ use Rattle.prefix_keys.proofs.Quotients.{quotient_is}
 use Rattle.pmap_text.specs.ListModel.{ListModel, Prefix, covers, label_at, label_below, lies_inside}
 use Rattle.pmap_text.specs.MapModel.{Label, meets, spans_all}
 use Rattle.label_trie.specs.TrieModel.{LeafModel, IsDecidedLeaf}
-use Rattle.label_trie.proofs.Finds.{filter_none, find_alike, find_none}
+use Rattle.pmap_text.proofs.Finds.{filter_none, find_alike, find_none}
 use Rattle.label_trie.proofs.Lookup.{block_from, block_to, known_text}
 use Rattle.label_trie.proofs.Painted.{painted, IsTop, IsSeen}
 use Rattle.label_trie.proofs.Settled.{both_le, le_both}

@@ -12,8 +12,8 @@ use Rattle.pmap_text.specs.MapModel.{Label, MapModel, map_label}
 use Rattle.pmap_text.specs.MapText.{text_at}
 use Rattle.label_trie.specs.TrieModel.{LeafModel, IsSettledLeaf, has_address, label_among}
 use Rattle.label_trie.specs.Tree.{Tree, Tip, Fork, leaves_of, HasRoom}
-use Rattle.label_trie.proofs.Finds.{find_passes}
-use Rattle.label_trie.proofs.Settled.{settled_address}
+use Rattle.pmap_text.proofs.Finds.{find_passes}
+use Rattle.pmap_text.proofs.Settled.{map_label-settled}
 
 -- an address is in the half whose number, halved, is that of its block
 outer_block : (W n a : ℕ) → n < W → block_number W n a ≡ block_number W (suc n) a / 2
@@ -143,6 +143,5 @@ labels_fit m node a room all below =
     let here = leaf_with W (IsSettledLeaf m) node a room below all in
     let leaf = here.0 in
     let f = here.1 in
-    let same = settled_address m leaf.bits leaf.number a (text_at m.table f.id) (block_from W leaf.bits leaf.number a here.2)
-    (block_to W leaf.bits leaf.number a here.2) f.settled in
+    let same = map_label-settled m leaf.bits leaf.number a (text_at m.table f.id) (sym here.2) f.settled in
     rw (here.3, f.is, same) (known_text m.table f.id f.known)

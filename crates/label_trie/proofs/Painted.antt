@@ -15,7 +15,7 @@ use Rattle.pmap_text.specs.MapText.{text_at}
 use Rattle.pmap_text.specs.declared.label.LabelId.{LabelId}
 use Rattle.label_trie.specs.TrieModel.{LeafModel}
 use Rattle.label_trie.specs.Tree.{Tree, Tip, Fork, leaves_of, Settles, Fits}
-use Rattle.label_trie.proofs.Finds.{Contains-first, Contains-later}
+use Rattle.pmap_text.proofs.Finds.{Contains-first, Contains-later}
 
 -- the mapping of a prefix's block to its label
 abbrev pub painted : ℕ → Prefix → Mapping

@@ -7,7 +7,7 @@ use Rattle.pmap_text.specs.MapModel.{Mapping, last_such, spans}
 use Rattle.pmap_text.specs.MapText.{mapping_of}
 use Rattle.pmap_text.specs.declared.statement.Statement.{Statement}
 use Rattle.label_trie.specs.Layers.{seen_at}
-use Rattle.label_trie.proofs.Finds.{Contains-first, Contains-later}
+use Rattle.pmap_text.proofs.Finds.{Contains-first, Contains-later}
 use Rattle.label_trie.proofs.Settled.{both_le, le_both}
 
 -- the last mapping that passes a test passes it, and is one of the mappings

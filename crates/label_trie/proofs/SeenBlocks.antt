@@ -7,8 +7,8 @@ use Rattle.pmap_text.specs.MapModel.{Label, Mapping, last_such, meets, settled_b
 use Rattle.pmap_text.specs.MapText.{mapping_of}
 use Rattle.pmap_text.specs.declared.statement.Statement.{Statement}
 use Rattle.label_trie.specs.Layers.{IsStretch, mappings_of}
-use Rattle.label_trie.proofs.Finds.{Contains-from_map}
-use Rattle.label_trie.proofs.LastSuch.{last_such-none, last_such-some}
+use Rattle.pmap_text.proofs.Finds.{Contains-from_map}
+use Rattle.pmap_text.proofs.LastSuch.{last_such-none, last_such-some}
 use Rattle.label_trie.proofs.Seen.{last_such-is}
 use Rattle.label_trie.proofs.Settled.{both_le, le_both, meets_around, spans_within}
 
@@ -43,7 +43,7 @@ whole-step W n q ms o ordered seen (Some t) is =
     let found = last_such-is (meets W n q) ms t is in
     let at = met_address W n q t (ordered t found.0) seen.some found.1 in
     let o_is : o ≡ Some t = sym (seen.same at.0 at.1 at.2)
-    ∙ last_such-some (meets W n q) (spans at.0) (meets_around W n q at.0 at.1 at.2) ms t at.3 is in
+    ∙ last_such-some (meets W n q) (spans at.0) (meets_around W n q at.0 at.1 at.2) ms t is at.3 in
     let low = last_such-is (spans (first_of W n q)) ms t (seen.same (first_of W n q) (omega arith) seen.some ∙ o_is) in
     let high = last_such-is (spans (last_of W n q)) ms t (seen.same (last_of W n q) seen.some (omega arith) ∙ o_is) in
     let from = both_le t.low (first_of W n q) (first_of W n q) t.high low.1 in
@@ -83,8 +83,8 @@ split-step W n q a b x ms low high low' high' apart None is c covers =
     ∙ sym (last_such-none (meets W n q) (spans a) (meets_around W n q a low high) ms is)))
 split-step W n q a b x ms low high low' high' apart (Some m) is true covers =
     let all = covers m refl in
-    absurd (apart (last_such-some (meets W n q) (spans b) (meets_around W n q b low' high') ms m (spans_within W n q b low' high' m all) is
-    ∙ sym (last_such-some (meets W n q) (spans a) (meets_around W n q a low high) ms m (spans_within W n q a low high m all) is)))
+    absurd (apart (last_such-some (meets W n q) (spans b) (meets_around W n q b low' high') ms m is (spans_within W n q b low' high' m all)
+    ∙ sym (last_such-some (meets W n q) (spans a) (meets_around W n q a low high) ms m is (spans_within W n q a low high m all))))
 split-step W n q a b x ms low high low' high' apart (Some m) is false covers = let part = covers m refl in rw part
 
 -- whether a mapping, if there is one, covers the block

@@ -1,11 +1,8 @@
--- Settled blocks: the label of one is that of each of its addresses.
-use Rattle.std.proofs.Common.{◌≡◌, ℕ, ◌<◌, ◌≤◌, ◌⊎◌, inl, inr, true, false, nat_le, ◌&&◌, List, Option, Some, None, refl, arith}
+-- What meets a block and what covers it.
+use Rattle.std.proofs.Common.{◌≡◌, ℕ, ◌<◌, ◌≤◌, ◌⊎◌, inl, inr, true, false, nat_le, ◌&&◌, arith}
 use Rattle.std.proofs.lemmas.Bool.{leb-true, le-leb, lt-leb, and_parts, and_from, and_left, and_right}
-use Rattle.std.proofs.lemmas.Option.{cond_some}
 use Rattle.prefix_keys.specs.Block.{first_of, last_of}
-use Rattle.prefix_keys.specs.Version.{width_of}
-use Rattle.pmap_text.specs.MapModel.{Label, Mapping, MapModel, last_such, spans, label_or, map_label, meets, spans_all, settled_by, settled_label}
-use Rattle.label_trie.proofs.LastSuch.{last_such-none, last_such-some}
+use Rattle.pmap_text.specs.MapModel.{Mapping, meets, spans, spans_all}
 
 pub both_le : (a b c d : ℕ) → (nat_le a b && nat_le c d) ≡ true → (a ≤ b) × (c ≤ d)
 both_le a b c d h = let parts = and_parts (nat_le a b) (nat_le c d) h in (leb-true a b parts.0, leb-true c d parts.1)
@@ -28,19 +25,3 @@ pub spans_within : (W n q a : ℕ) → first_of W n q ≤ a → a ≤ last_of W 
 spans_within W n q a from to s h =
     let orders = both_le s.low (first_of W n q) (last_of W n q) s.high h in
     le_both s.low a a s.high (omega (arith, orders.0)) (omega (arith, orders.1))
-
-settled_address_by : (W n q a : ℕ) (x y : Label) → first_of W n q ≤ a → a ≤ last_of W n q → (ms : List Mapping) (last : Option Mapping)
-    → last_such (meets W n q) ms ≡ last → settled_by W n q x last ≡ Some y → label_or (last_such (spans a) ms) x ≡ y
-settled_address_by W n q a x y from to ms None is e =
-    let h : Some x ≡ Some y = e in
-    rw (last_such-none (meets W n q) (spans a) (meets_around W n q a from to) ms is) (let g : x ≡ y = cc in g)
-settled_address_by W n q a x y from to ms (Some s) is e =
-    let parts = cond_some (spans_all W n q s) s.label y e in
-    rw (last_such-some (meets W n q) (spans a) (meets_around W n q a from to) ms s (spans_within W n q a from to s parts.0) is) parts.1
-
--- the label of a settled block is that of each of its addresses
-pub settled_address : (m : MapModel) (n q a : ℕ) (y : Label) → first_of (width_of m.version) n q ≤ a → a ≤ last_of (width_of m.version) n q
-    → settled_label m n q ≡ Some y → map_label m a ≡ y
-settled_address m n q a y from to e =
-    settled_address_by (width_of m.version) n q a m.fallback y from to m.mappings
-    (last_such (meets (width_of m.version) n q) m.mappings) refl e

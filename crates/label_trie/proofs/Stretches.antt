@@ -11,7 +11,7 @@ use Rattle.pmap_text.specs.declared.statement.Statement.{Statement}
 use Rattle.label_trie.specs.Layers.{IsStretch}
 use Rattle.label_trie.specs.Sweep.{start_of, IsStart, AreStarts, HasBegun, IsSwept, IsOver, IsFree}
 use Rattle.label_trie.specs.declared.start.Start.{Start}
-use Rattle.label_trie.proofs.Finds.{Contains-nil}
+use Rattle.pmap_text.proofs.Finds.{Contains-nil}
 use Rattle.label_trie.proofs.Seen.{last_at, none_at, none_covers, seen_last}
 
 -- a start still to come is that of a statement

@@ -11,7 +11,7 @@ use Rattle.std.proofs.lemmas.Option.{same_Some}
 use Rattle.pmap_text.specs.declared.statement.Statement.{Statement}
 use Rattle.label_trie.specs.Sweep.{start_of, IsStart, AreStarts, HasBegun, IsSwept, AreBehind, Closes, IsOver}
 use Rattle.label_trie.specs.declared.start.Start.{Start}
-use Rattle.label_trie.proofs.Finds.{Contains-cases, Contains-first, Contains-later}
+use Rattle.pmap_text.proofs.Finds.{Contains-cases, Contains-first, Contains-later}
 
 -- rising lists
 rising_drop : (starts : List Start) (n : ℕ) → IsNonDecreasingBy (λ start. start.low) starts → IsNonDecreasingBy (λ start. start.low) (drop n starts)

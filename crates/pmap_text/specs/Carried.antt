@@ -1,6 +1,6 @@
 use Rattle.std.specs.Prelude.{ℕ, ◌&&◌, ◌||◌, ◌==◌, Bool, not, List, [], ◌∷◌, filter, nat_le, nat_lt, if◌then◌else◌}
 use Rattle.std.specs.List.{list_any}
-use Rattle.prefix_keys.specs.Block.{block_number, first_of, last_of}
+use Rattle.prefix_keys.specs.Block.{block_number, first_of}
 use Rattle.pmap_text.specs.ListModel.{Prefix, lies_inside}
 use Rattle.pmap_text.specs.MapModel.{Mapping, meets, spans_all}
 use Rattle.pmap_text.specs.MapText.{mapping_of}
