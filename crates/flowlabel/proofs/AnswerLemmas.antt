@@ -8,7 +8,7 @@ use Rattle.clap.specs.declared.error.kind.ErrorKind.TheVariants as kind
 use Rattle.clap.specs.declared.parser.ArgMatches.{ArgMatches}
 use Rattle.clap.proofs.OnLiterals.{clap_on_literals}
 use Rattle.prefix_keys.specs.Text.{AddressOf}
-use Rattle.flowlabel.specs.Request.{Request, Text}
+use Rattle.flowlabel.specs.Request.{Text}
 use Rattle.flowlabel.specs.Definition.{flowlabel_app}
 use Rattle.flowlabel.specs.Answer.{Answer, Answers, IsAnswer, IsFaultAt, IsFaultOfKind, IsOwnAnswer, IsOwnFault, SaysOnly, address_in_rows, answer_of, answer_of_label, is_help, is_mistake, label_answer}
 use Rattle.flowlabel.specs.declared.command.Command.{Command}
