@@ -1,5 +1,5 @@
 -- What a record says of an element is said by a value whose field takes bytes.
-use Rattle.std.proofs.Common.{◌≡◌, ◌∙◌, ℕ, zero, suc, Bool, true, false, not, List, [], ◌∷◌, Option, Some, None, refl, sym, ap, cond}
+use Rattle.std.proofs.Common.{◌≡◌, ◌∙◌, ℕ, zero, suc, Bool, true, false, not, List, [], ◌∷◌, Option, Some, refl, sym, ap, cond}
 use Rattle.std.specs.Prelude.{◌&&◌, ◌==◌, filter, find, is_none, option_map}
 use Rattle.std.specs.List.{list_all}
 use Rattle.std.specs.Map.{lookup}
@@ -66,11 +66,11 @@ element-with_bytes : (values : List FieldValueView) (number : ℕ) → element (
 element-with_bytes values number =
     ap (option_map (λ v. big_endian v.value))
     (
-      find-filter
-      (λ v. (v.field.number == number) && is_usable v.field)
-      (λ v. has_bytes v.field)
-      (λ v. usable_has_bytes (v.field.number == number) (is_none v.field.enterprise) v.field.number v.field.length)
-      values
+    find-filter
+    (λ v. (v.field.number == number) && is_usable v.field)
+    (λ v. has_bytes v.field)
+    (λ v. usable_has_bytes (v.field.number == number) (is_none v.field.enterprise) v.field.number v.field.length)
+    values
     )
 
 pub elements_of-with_bytes : (values : List FieldValueView) → elements_of (values_with_bytes values) ≡ elements_of values
