@@ -24,3 +24,15 @@ fn numbers_texts_in_order_of_first_occurrence(rt: HostRuntime) -> Result<(), All
     assert_eq!(rt; labels.id_of(b"C"), None);
     Ok(())
 }
+
+#[test]
+fn copies_a_table(rt: HostRuntime) -> Result<(), AllocError> {
+    let mut labels = Labels::new(rt.alloc());
+    adds(&rt, &mut labels, b"A", 0)?;
+    adds(&rt, &mut labels, b"B", 1)?;
+    let copy = labels.copy()?;
+    assert_eq!(rt; copy.len(), 2);
+    assert_eq!(rt; copy.text(LabelId(0)), Some(b"A".as_slice()));
+    assert_eq!(rt; copy.text(LabelId(1)), Some(b"B".as_slice()));
+    Ok(())
+}

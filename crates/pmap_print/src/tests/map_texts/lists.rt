@@ -70,7 +70,7 @@ const LISTS: [Reads; 8] = [
 // A list text, the kind of its fault, and the line.
 type Faulty = (&'static [u8], MapFaultKind, u64);
 
-const FAULTS: [Faulty; 13] = [
+const FAULTS: [Faulty; 17] = [
     (b"0.0.0.1 0.0.0.2 x\n", MapFaultKind::NotAList, 1),
     (b"10.0.0.1 10.0.0.2", MapFaultKind::NotAList, 1),
     (b"default x", MapFaultKind::NotAList, 1),
@@ -105,6 +105,27 @@ const FAULTS: [Faulty; 13] = [
     (b"1.0.0.0/8 x\n1.0.0.0/8", MapFaultKind::MissingLabel, 2),
     (b"1.0.0.0/8 x\n1.0.0.0/8 a\x01b", MapFaultKind::BadLabel, 2),
     (b"1.0.0.0/8 x\nmode ipv4", MapFaultKind::ModeLate, 2),
+    // A block that stands there already is told at its line, wherever the first one stands.
+    (
+        b"2.0.0.0/8 A\n1.0.0.0/8 B\n2.1.2.3/8 C\n1.0.0.0/8 D\n",
+        MapFaultKind::DuplicateBlock,
+        3,
+    ),
+    (
+        b"1.0.0.0/8 A\n1.0.0.0/8 B\nnonsense\n",
+        MapFaultKind::DuplicateBlock,
+        2,
+    ),
+    (
+        b"::/0 A\n\n# nothing\n::/0 B\n",
+        MapFaultKind::DuplicateBlock,
+        4,
+    ),
+    (
+        b"1.0.0.0/8 A\nnonsense\n1.0.0.0/8 B\n",
+        MapFaultKind::BadStatement,
+        2,
+    ),
 ];
 
 fn has_rows(rt: &impl Abort, list: &PrefixList, rows: &[Row]) {
