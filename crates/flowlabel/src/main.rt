@@ -1,4 +1,4 @@
-//! `flowlabel`: labels addresses from a prefix map.
+//! `flowlabel`: labels addresses from a prefix map, and prints and counts the flows of IPFIX Files.
 //!
 //! It stands on all the other crates: `parse` reads the command line (clap takes the words apart), `open_all` opens the
 //! files that it names, and `run` reads them, makes the whole output and then writes it. What may be relied on is the
