@@ -4,6 +4,7 @@ use Rattle.flow_io.specs.declared.last_call.LastCall.{LastCall}
 use Rattle.pmap_text.specs.declared.fault.MapFaultKind.TheVariants as kind
 use Rattle.flowlabel.specs.Loops.{IsUntouched, StopsWriting}
 use Rattle.ipfix_read.specs.declared.fault.ReadFaultKind.TheVariants as flows
+use Rattle.ipfix_templates.specs.declared.fault.TemplateFaultKind.TheVariants as template
 use Rattle.flowlabel.specs.Output.{FileTexts, InFlows, InMap, IsOutput, Outcome}
 use Rattle.flowlabel.specs.Request.{Request}
 use Rattle.flowlabel.specs.declared.command.Needs.{Needs}
@@ -69,7 +70,7 @@ module _ {R : Type 0} where
 
   -- the same over an IPFIX File
   abbrev pub IsFaultOfFlowsFile : (R → Option (List ℕ)) → (R → Bool) → (List ℕ → Outcome → Type 0) → Source R → Source R → RunFault → Type 0
-  IsFaultOfFlowsFile left failed over old new (Flows file fault) = (old.name.now ≡ file.now) × (fault.kind ≢ flows.NoMemory)
+  IsFaultOfFlowsFile left failed over old new (Flows file fault) = (old.name.now ≡ file.now) × (fault.kind ≢ flows.NoMemory) × (fault.kind ≢ flows.BadTemplate template.NoMemory)
       × ((text : List ℕ) → left old.reader ≡ Some text → over text (Err (InFlows fault)))
   IsFaultOfFlowsFile left failed over old new other = IsFaultOfReading failed old new other
 
@@ -88,7 +89,7 @@ module _ {R : Type 0} where
       HasName old.map file × (fault.kind ≢ kind.NoMemory)
       × ((texts : FileTexts) → HaveTexts left old texts → IsOutput request texts (Err (InMap fault)))
   IsFaultOfBytes left failed old new request (Flows file fault) =
-      HasName old.flows file × (fault.kind ≢ flows.NoMemory)
+      HasName old.flows file × (fault.kind ≢ flows.NoMemory) × (fault.kind ≢ flows.BadTemplate template.NoMemory)
       × ((texts : FileTexts) → HaveTexts left old texts → IsOutput request texts (Err (InFlows fault)))
 
   -- the inputs are those that a command needs, and no others

@@ -17,6 +17,7 @@ returns-in_default g c = record {
   err = (
     sym c.in_ok-text.ensures.name,
     c.in_default.not-NoMemory,
+    c.in-Err.ensures.template,
     λ text told. inl (c.in-Err.fault, own_fault _ text _ c.in_default.not-NoMemory c.in-Err.ensures.fault (c.as_slice.ensures.value ∙ rw told at c.in_ok-text.ensures.ok), refl),
   );
   failed = c.in_ok-text.ensures.failed;
