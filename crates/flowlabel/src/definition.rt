@@ -68,7 +68,7 @@ fn program<'a>(alloc: Global) -> Command<'a>
     ensures required { (out-Command result).subcommand_required ≡ true }
 {
     Command::new(alloc, "flowlabel")
-        .about("Label flows from a prefix map")
+        .about("Label addresses by a prefix map, and print network flows")
         .subcommand_required(true)
         .disable_help_subcommand(true)
 }

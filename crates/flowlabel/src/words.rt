@@ -1,7 +1,8 @@
-ghost use Rattle.std.specs.Prelude.{◌≡◌, option_map, true};
+ghost use Rattle.std.specs.Prelude.{◌≡◌, IfOk, option_map, true};
 ghost use Rattle.clap.specs.Words.{first_of, found_of, kind_of, rows_of, takes};
 ghost use Rattle.clap.specs.Walk.{texts};
 ghost use Rattle.flowlabel.specs.Definition.{flowlabel_app};
+ghost use Rattle.flowlabel.specs.Request.{IsProper, request_of};
 ghost use Rattle.flowlabel.specs.Answer.{IsAnswer, IsFaultOfKind, IsOwnAnswer, ReadsBareLine, ReadsColumnsLine, ReadsInfoLine, ReadsMapLine, ReadsRowsLine, SaysOnly, address_in_rows, answer_of, answer_of_label, flows_in_rows, is_given, words_fault_of};
 
 use crate::command::Command;
@@ -111,6 +112,7 @@ pub fn words_fault(kind: io::ErrorKind) -> UsageFault
 /// `MapMissing`, `BadAddress`. `NoMemory` where an allocation failed, in place of any other answer.
 pub fn parse<'a>(alloc: Global, words: &'a [&'a str]) -> Result<Command<'a>, UsageFault>
     ensures answer { IsAnswer (texts words.entry.now) result }
+    ensures proper { IfOk result (λ command. IsProper (request_of command)) }
     ensures map_line { ReadsMapLine (texts words.entry.now) result }
     ensures bare_line { ReadsBareLine (texts words.entry.now) result }
     ensures info_line { ReadsInfoLine (texts words.entry.now) result }

@@ -4,6 +4,7 @@ use Rattle.clap.specs.Words.{App, HasKind, Row, Text, fault_of, found_of, is_sim
 use Rattle.flowlabel.specs.Answer.{answer_of}
 use Rattle.flowlabel.proofs.AnswerLemmas.{answers, fault_at, flowlabel_is_free, flowlabel_is_simple, answer_own, own, own_of_memory, subcommand_is}
 use Rattle.flowlabel.proofs.LineLemmas.{reads_bare_line, reads_columns_line, reads_info_line, reads_map_line, reads_rows_line}
+use Rattle.flowlabel.proofs.RequestLemmas.{answer_is_proper}
 use Rattle.flowlabel.proofs.words.parse.Goals as goal
 
 pub returns-in-Ok-clause-answer : goal.returns-in-Ok-clause-answer
@@ -67,3 +68,6 @@ returns-in-Err-clause-rows_line c = reads_rows_line _ (Err c.fault_of_error.resu
 
 pub returns-in-Err-clause-columns_line : goal.returns-in-Err-clause-columns_line
 returns-in-Err-clause-columns_line c = reads_columns_line _ (Err c.fault_of_error.result) (returns-in-Err-clause-answer c)
+
+pub returns-in-Ok-clause-proper : goal.returns-in-Ok-clause-proper
+returns-in-Ok-clause-proper c = answer_is_proper c.command_of.result
