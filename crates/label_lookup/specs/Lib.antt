@@ -1,0 +1,2 @@
+pub mod RowLabel
+pub mod TrieLabels

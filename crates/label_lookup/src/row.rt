@@ -1,0 +1,17 @@
+ghost use Rattle.std.specs.Prelude.{◌≡◌, option_map};
+ghost use Rattle.label_lookup.specs.RowLabel.{label_of_row_address};
+
+use crate::labeller::Labeller;
+use prefix_keys::{Addr, convert};
+
+/// The label of the address of a row, which counts by its place among the addresses of the labeller's version. The answer
+/// is `None` where it has no such place, or no label there.
+pub fn label_row<L: Labeller>(labeller: &L, addr: Addr) -> Option<&[u8]>
+    ensures { option_map (λ t. t.now) result
+        ≡ label_of_row_address (L.version_of labeller.now) (L.label labeller.now) (addr.version, addr.value) }
+{
+    match convert(addr, labeller.version()) {
+        Some(place) => labeller.label_of(place),
+        None => None,
+    }
+}

@@ -1,0 +1,58 @@
+ghost use Rattle.std.specs.Prelude.{◌≡◌};
+ghost use Rattle.pmap_text.specs.MapText.{map_of};
+
+use crate::labeller::Labeller;
+use pmap_text::MapText;
+use prefix_keys::{Addr, Version};
+use std::marker::Model;
+
+/// The labels of a prefix map, found among its statements: from the last on, the first that covers the address counts.
+#[derive(Drop)]
+pub struct Scan<'a> {
+    map: &'a MapText,
+}
+
+impl<'a> Model for Scan<'a> {
+    ghost use Rattle.pmap_text.specs.MapModel.{MapModel};
+
+    ghost Value = { MapModel };
+
+    ghost use Rattle.pmap_text.specs.MapText.{map_of};
+
+    ghost view = { λ s. map_of s.map.now };
+}
+
+impl<'a> Scan<'a> {
+    /// The labels of this map.
+    pub fn new(map: &'a MapText) -> Scan<'a>
+        ensures { result ≡ map_of map.now }
+    {
+        Scan { map }
+    }
+}
+
+impl<'a> Labeller for Scan<'a> {
+    ghost use Rattle.std.specs.Prelude.{Some};
+    ghost use Rattle.pmap_text.specs.MapModel.{map_label};
+
+    ghost version_of = { λ m. m.version };
+
+    ghost label = { λ m a. Some (map_label m a) };
+
+    fn version(&self) -> Version {
+        self.map.version
+    }
+
+    fn label_of(&self, addr: Addr) -> Option<&[u8]> {
+        let statements = self.map.statements.as_slice();
+        let mut left = statements.len();
+        while left > 0 {
+            left -= 1;
+            let statement = statements[left];
+            if statement.span.covers(&addr) {
+                return self.map.labels.text(statement.label);
+            }
+        }
+        self.map.labels.text(self.map.default)
+    }
+}

@@ -1,0 +1,57 @@
+ghost use Rattle.std.specs.Prelude.{◌≡◌, ◌<◌, All, length};
+ghost use Rattle.std.specs.Option.{ForSome};
+
+use crate::labeller::Labeller;
+use label_trie::Trie;
+use pmap_text::Labels;
+use prefix_keys::{Addr, Version};
+use std::marker::Model;
+
+/// The labels of a trie, by their texts in a label table.
+#[derive(Drop)]
+pub struct TrieLabeller<'a> {
+    trie: &'a Trie,
+    labels: &'a Labels,
+}
+
+impl<'a> Model for TrieLabeller<'a> {
+    ghost use Rattle.label_lookup.specs.TrieLabels.{AreNumbersKnown, TrieLabels};
+
+    ghost Value = { TrieLabels };
+
+    ghost view = { λ l. record { trie = l.trie.now; table = l.labels.now } };
+
+    ghost invariant = { λ l. AreNumbersKnown l.trie.now l.labels.now };
+}
+
+impl<'a> TrieLabeller<'a> {
+    ghost use Rattle.label_lookup.specs.TrieLabels.{AreNumbersKnown};
+
+    /// The labels of this trie, whose numbers have texts in the table.
+    pub fn new(trie: &'a Trie, labels: &'a Labels) -> TrieLabeller<'a>
+        requires { AreNumbersKnown trie.now labels.now }
+        ensures trie { result.trie ≡ trie.now }
+        ensures table { result.table ≡ labels.now }
+    {
+        TrieLabeller { trie, labels }
+    }
+}
+
+impl<'a> Labeller for TrieLabeller<'a> {
+    ghost use Rattle.label_lookup.specs.TrieLabels.{trie_label};
+
+    ghost version_of = { λ l. l.trie.version };
+
+    ghost label = { trie_label };
+
+    fn version(&self) -> Version {
+        self.trie.root().block().version
+    }
+
+    fn label_of(&self, addr: Addr) -> Option<&[u8]> {
+        match self.trie.label_at(addr) {
+            Some(id) => self.labels.text(id),
+            None => None,
+        }
+    }
+}
