@@ -2,6 +2,7 @@ ghost use Rattle.std.specs.Prelude.{◌≡◌, ◌<◌, IfOk};
 ghost use Rattle.pmap_text.specs.MapModel.{map_label};
 ghost use Rattle.pmap_text.specs.MapText.{map_of};
 
+use label_lookup::{Scan, label_row};
 use label_trie::{Cursor, Leaf, Leaves, Parts, Trie};
 use pmap_text::{
     Entries, Entry, LabelId, Labels, MapText, PrefixList, Statement, Statements, is_label,
@@ -96,6 +97,7 @@ fn labels_are(
         assert_eq!(rt; trie.label_at(addr), Some(LabelId(label)));
         let text = label_text(alloc, &map, addr)?;
         assert_eq!(rt; map.labels.text(LabelId(label)), Some(text));
+        assert_eq!(rt; label_row(&Scan::new(&map), addr), Some(text));
     }
     Ok(())
 }
