@@ -25,6 +25,10 @@ fn numbers_texts_in_order_of_first_occurrence(rt: HostRuntime) -> Result<(), All
     Ok(())
 }
 
+fn has_text(rt: &impl Abort, labels: &Labels, id: u32, text: &[u8]) {
+    assert_eq!(rt; labels.text(LabelId(id)), Some(text));
+}
+
 #[test]
 fn copies_a_table(rt: HostRuntime) -> Result<(), AllocError> {
     let mut labels = Labels::new(rt.alloc());
@@ -32,7 +36,7 @@ fn copies_a_table(rt: HostRuntime) -> Result<(), AllocError> {
     adds(&rt, &mut labels, b"B", 1)?;
     let copy = labels.copy()?;
     assert_eq!(rt; copy.len(), 2);
-    assert_eq!(rt; copy.text(LabelId(0)), Some(b"A".as_slice()));
-    assert_eq!(rt; copy.text(LabelId(1)), Some(b"B".as_slice()));
+    has_text(&rt, &copy, 0, b"A");
+    has_text(&rt, &copy, 1, b"B");
     Ok(())
 }
