@@ -1,9 +1,10 @@
 -- The first place at which a test passes.
-use Rattle.std.proofs.Common.{◌≡◌, ℕ, ◌+◌, ◌<◌, ◌≤◌, Bool, true, false, not, List, [], ◌∷◌, length, take, drop, Option, refl, arith, unwrap_or, eqb}
+use Rattle.std.proofs.Common.{◌≡◌, ℕ, ◌+◌, ◌<◌, ◌≤◌, ◌||◌, Bool, true, false, not, List, [], ◌∷◌, ◌++◌, length, take, drop, get_or, length-take-le, Option, ap, refl, arith, unwrap_or, eqb, true≢false}
 use Rattle.std.proofs.lemmas.Bool.{ltb-false}
+use Rattle.std.proofs.lemmas.List.{take-append-drop}
 use Rattle.std.proofs.lemmas.List.Sums.{prefix_len-le-length}
 use Rattle.std.proofs.Math.Numerals.{one-add, add-one}
-use Rattle.std.specs.List.{position_or_len}
+use Rattle.std.specs.List.{before_first, list_any, position_or_len}
 use Rattle.std.specs.Prelude.{position, nat_lt}
 use Rattle.pmap_text.specs.Lines.{lines_of}
 
@@ -49,3 +50,45 @@ lines_of-no_feed b (b' ∷ bs) h = by (eqb b 10) refl (lines_of-no_feed b' bs)
         let k : length (b ∷ b' ∷ bs) ≤ 1 + feed_at (b' ∷ bs) = rw e at h in
         let ih' = ih (omega (arith, k)) in
         rw (e, ih') refl
+
+-- where no element of a front passes, the first place is behind it
+place_behind : {X : Type 0} (p : X → Bool) (xs ys : List X) → list_any p xs ≡ false → position_or_len p (xs ++ ys) ≡ length xs + position_or_len p ys
+place_behind p [] ys h = omega arith
+place_behind {X} p (x ∷ xs) ys h = by (p x) refl (place_behind p xs ys)
+  where
+    by : (b : Bool) → p x ≡ b → (list_any p xs ≡ false → position_or_len p (xs ++ ys) ≡ length xs + position_or_len p ys)
+        → position_or_len p ((x ∷ xs) ++ ys) ≡ length (x ∷ xs) + position_or_len p ys
+    by true e ih = let k : true ≡ false = rw e at h in absurd (true≢false k)
+    by false e ih = let k : list_any p xs ≡ false = rw e at h in rw e (omega (arith, ih k))
+
+-- where none of the first n elements passes, the first place is that behind them
+pub place_front : {X : Type 0} (p : X → Bool) (xs : List X) (n : ℕ) → n ≤ length xs → list_any p (take n xs) ≡ false
+    → position_or_len p xs ≡ n + position_or_len p (drop n xs)
+place_front p xs n within none =
+    let long : length (take n xs) ≡ n = length-take-le n xs within in
+    let behind = place_behind p (take n xs) (drop n xs) none in
+    let whole : position_or_len p (take n xs ++ drop n xs) ≡ position_or_len p xs = ap (position_or_len p) (take-append-drop n xs) in
+    omega (arith, behind, whole, long)
+
+-- the place of the first line feed or `#`, or the length
+abbrev pub end_at : List ℕ → ℕ
+end_at text = position_or_len (λ b. eqb b 10 || eqb b 35) text
+
+-- where no comment begins there, it is that of the line feed, and no comment begins before
+pub end_at-feed : (text : List ℕ) → (end_at text < length text → eqb (get_or text (end_at text) 0) 35 ≡ false)
+    → (end_at text ≡ feed_at text) × (before_first (λ b. eqb b 35) (take (end_at text) text) ≡ take (end_at text) text)
+end_at-feed [] h = (refl, refl)
+end_at-feed (b ∷ bs) h = by (eqb b 10) refl (eqb b 35) refl (end_at-feed bs)
+  where
+    by : (s : Bool) → eqb b 10 ≡ s → (t : Bool) → eqb b 35 ≡ t
+        → ((end_at bs < length bs → eqb (get_or bs (end_at bs) 0) 35 ≡ false)
+        → (end_at bs ≡ feed_at bs) × (before_first (λ b. eqb b 35) (take (end_at bs) bs) ≡ take (end_at bs) bs))
+        → (end_at (b ∷ bs) ≡ feed_at (b ∷ bs)) × (before_first (λ b. eqb b 35) (take (end_at (b ∷ bs)) (b ∷ bs)) ≡ take (end_at (b ∷ bs)) (b ∷ bs))
+    by true e t f ih = rw e (refl, refl)
+    by false e true f ih =
+        let k : 0 < length (b ∷ bs) → true ≡ false = rw (e, f, f) at h in
+        absurd (true≢false (k (omega arith)))
+    by false e false f ih =
+        let k : 1 + end_at bs < length (b ∷ bs) → eqb (get_or (b ∷ bs) (1 + end_at bs) 0) 35 ≡ false = rw (e, f) at h in
+        let rest = ih (λ within. rw one-add at (k (omega (arith, within)))) in
+        rw (e, f, one-add) (omega (arith, rest.0), rw (f, one-add) (ap (λ bs'. b ∷ bs') rest.1))

@@ -2,7 +2,7 @@
 ghost use Rattle.std.specs.Prelude.{◌≡◌, ◌⊎◌, ℕ, true, false, if◌then◌else◌, IfErr, OnOk};
 ghost use Rattle.std.specs.Ordering.{is_eq};
 ghost use Rattle.pmap_text.specs.Filed.{AreFiled, has_key, key_cmp};
-ghost use Rattle.pmap_text.specs.Reading.{line_entry};
+ghost use Rattle.pmap_text.specs.Reading.{content_line};
 ghost use Rattle.pmap_text.specs.Steps.{Adds, refusal_of};
 ghost use Rattle.pmap_text.specs.declared.fault.MapFaultKind.TheVariants.{DuplicateBlock, NoMemory};
 
@@ -28,21 +28,21 @@ fn file_key(keys: &mut Keys, key: (u128, u32)) -> Result<(), MapFaultKind>
     }
 }
 
-/// Reads one more line, of which an entry's block must not be among the keys, and adds it to them. After a fault nothing
+/// Reads the content of one more line, of which an entry's block must not be among the keys, and adds it to them. After a fault nothing
 /// is known of the lines so far.
 pub fn read_checked(
     reading: &mut Reading,
     keys: &mut Keys,
     form: Form,
-    line: &[u8],
+    content: &[u8],
 ) -> Result<(), MapFaultKind>
     requires { AreFiled reading.old.prefixes keys.old.keys }
-    ensures ok { OnOk result (Adds reading.old reading.new (line_entry form reading.old line.now)) }
+    ensures ok { OnOk result (Adds reading.old reading.new (content_line form reading.old content.now)) }
     ensures filed { OnOk result (AreFiled reading.new.prefixes keys.new.keys) }
-    ensures err { IfErr result (λ kind. kind ≡ refusal_of (line_entry form reading.old line.now)) }
+    ensures err { IfErr result (λ kind. kind ≡ refusal_of (content_line form reading.old content.now)) }
 {
     let place = reading.entry_count();
-    reading.read_line(form, line)?;
+    reading.read_content(form, content)?;
     match reading.key_at(place) {
         Some(key) => file_key(keys, key),
         None => Ok(()),

@@ -26,6 +26,7 @@ mod placing;
 pub mod prefix_list;
 mod progress;
 mod reading;
+mod recent;
 mod repeats;
 pub mod statement;
 pub mod statements;

@@ -1,10 +1,13 @@
 //! The lines of a text and the words of a line.
-ghost use Rattle.std.specs.Prelude.{◌≡◌, ◌+◌, ◌<◌, ◌≤◌, ◌∷◌, ◌==◌, ℕ, Bool, [], drop, length, not, position};
-ghost use Rattle.std.specs.List.{before_first, position_or_len};
+ghost use Rattle.std.specs.Prelude.{◌≡◌, ◌+◌, ◌<◌, ◌≤◌, ◌∷◌, ◌==◌, ◌||◌, ℕ, Bool, IsTrue, List, [], drop, false, length, not, position, take};
+ghost use Rattle.std.specs.List.{before_first, list_any, position_or_len};
 ghost use Rattle.pmap_text.specs.Label.{is_blank as is_blank_byte};
 ghost use Rattle.pmap_text.specs.Lines.{behind_word, content_of, first_word, lines_of, trim_end, trim_start};
 
 use crate::label::is_blank;
+
+// How many bytes of a line are looked at together.
+const STEP: usize = 16;
 
 fn find_byte(text: &[u8], byte: u8) -> Option<usize>
     ensures { result ≡ position (λ b. b == byte) text.now }
@@ -39,12 +42,74 @@ pub fn split_line(text: &[u8]) -> (&[u8], &[u8])
     ensures line { lines_of text.now ≡ result.0.now ∷ lines_of result.1.now }
     ensures shorter { length result.1.now < length text.now }
 {
-    let end = place_or_end(find_byte(text, b'\n'), text);
+    split_at_feed(text, place_or_end(find_byte(text, b'\n'), text))
+}
+
+// What stands before the first line feed, which is at this place, and what stands behind it.
+fn split_at_feed(text: &[u8], end: usize) -> (&[u8], &[u8])
+    requires some { 0 < length text.now }
+    requires feed { end ≡ position_or_len (λ b. b == 10) text.now }
+    ensures line { lines_of text.now ≡ result.0.now ∷ lines_of result.1.now }
+    ensures shorter { length result.1.now < length text.now }
+    ensures before { result.0.now ≡ take end text.now }
+{
     if end < text.len() {
         (&text[..end], &text[end + 1..])
     } else {
         (text, &[])
     }
+}
+
+// Whether a line feed or a `#` is among the bytes. It looks at all of them, since without a way out of the loop several
+// bytes are compared at a time.
+fn has_end(text: &[u8]) -> bool
+    ensures { result ≡ list_any (λ b. b == 10 || b == 35) text.now }
+{
+    let mut found = false;
+    for byte in text {
+        found |= *byte == b'\n' || *byte == b'#';
+    }
+    found
+}
+
+fn find_end(text: &[u8]) -> Option<usize>
+    ensures { result ≡ position (λ b. b == 10 || b == 35) text.now }
+{
+    text.iter().position(|b| *b == b'\n' || *b == b'#')
+}
+
+// Whether neither is among the first bytes, of which there are enough to look at together.
+fn begins_plain(text: &[u8]) -> bool
+    ensures { IsTrue result → (16 ≤ length text.now) × (list_any (λ b. b == 10 || b == 35) (take 16 text.now) ≡ false) }
+{
+    text.len() >= STEP && !has_end(&text[..STEP])
+}
+
+// Where the first line feed or `#` is, or the length.
+fn content_end(text: &[u8]) -> usize
+    ensures place { result ≡ position_or_len (λ b. b == 10 || b == 35) text.now }
+    ensures within { result ≤ length text.now }
+{
+    let mut rest = text;
+    while begins_plain(rest) {
+        rest = &rest[STEP..];
+    }
+    text.len() - rest.len() + place_or_end(find_end(rest), rest)
+}
+
+/// What the first line of a text says (`content`), and what stands behind its line feed.
+pub fn split_content(text: &[u8]) -> (&[u8], &[u8])
+    requires { 0 < length text.now }
+    ensures line { (line : List ℕ) × (lines_of text.now ≡ line ∷ lines_of result.1.now) × (result.0.now ≡ content_of line) }
+    ensures shorter { length result.1.now < length text.now }
+{
+    let end = content_end(text);
+    if end < text.len() && text[end] == b'#' {
+        let (line, behind) = split_line(text);
+        return (content(line), behind);
+    }
+    let (line, behind) = split_at_feed(text, end);
+    (without_outer_blanks(line), behind)
 }
 
 fn before_comment(line: &[u8]) -> &[u8]
@@ -69,11 +134,17 @@ fn without_trailing_blanks(text: &[u8]) -> &[u8]
     &text[..end]
 }
 
+fn without_outer_blanks(text: &[u8]) -> &[u8]
+    ensures { result.now ≡ trim_end (trim_start text.now) }
+{
+    without_trailing_blanks(without_leading_blanks(text))
+}
+
 /// What a line says: what stands before its comment, without outer blanks.
 pub fn content(line: &[u8]) -> &[u8]
     ensures { result.now ≡ content_of line.now }
 {
-    without_trailing_blanks(without_leading_blanks(before_comment(line)))
+    without_outer_blanks(before_comment(line))
 }
 
 /// The first word of a line's content, and what stands behind it and the blanks after it.

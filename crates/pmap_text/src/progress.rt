@@ -3,7 +3,7 @@ ghost use Rattle.std.specs.Prelude.{◌≡◌, ◌<◌, ◌≤◌, ◌++◌, ◌
 ghost use Rattle.std.specs.Option.{option_or};
 ghost use Rattle.pmap_text.specs.Declarations.{conflicts as conflicts_of, meant_text, with_declared};
 ghost use Rattle.pmap_text.specs.Filed.{HasOncePlaced};
-ghost use Rattle.pmap_text.specs.Label.{has_label, is_label as is_label_text, with_label};
+ghost use Rattle.pmap_text.specs.Label.{is_label as is_label_text, number_of, with_label};
 ghost use Rattle.pmap_text.specs.MapText.{map_of, text_at};
 ghost use Rattle.pmap_text.specs.PrefixList.{list_of};
 ghost use Rattle.pmap_text.specs.Reading.{Earlier, earlier_of, has_mapping as has_mapping_of, has_prefix as has_prefix_of, has_room, list_from, map_from, version_at as version_at_of};
@@ -19,6 +19,7 @@ use crate::labels::Labels;
 use crate::map_text::MapText;
 use crate::name::Name;
 use crate::prefix_list::PrefixList;
+use crate::recent::Recent;
 use crate::repeats::{has_block, have_distinct_blocks};
 use crate::statement::Statement;
 use crate::statements::Statements;
@@ -47,6 +48,7 @@ pub struct Reading {
     statements: Statements,
     entries: Vec<Entry>,
     labels: Labels,
+    recent: Recent,
 }
 
 impl Model for Reading {
@@ -60,21 +62,35 @@ impl Model for Reading {
     ghost invariant = { λ r. IsProgress r.version r.default r.statements r.entries.items r.labels };
 }
 
-fn is_known(labels: &Labels, text: &[u8]) -> bool
-    ensures { result ≡ has_label labels.now text.now }
+// Whether this is the number of the text.
+fn is_number_of(labels: &Labels, id: LabelId, text: &[u8]) -> bool
+    ensures { IsTrue result → number_of labels.now text.now ≡ Some id.0 }
 {
-    labels.id_of(text).is_some()
+    match labels.text(id) {
+        Some(known) => known == text,
+        None => false,
+    }
 }
 
-// Whether the text is in the table, or may be added to it.
-fn has_room(labels: &Labels, text: &[u8]) -> bool
-    ensures { result ≡ has_room labels.now text.now }
+// The number of a text that is in the table. It is looked for first where it was last found.
+fn known_number(labels: &Labels, recent: &mut Recent, text: &[u8]) -> Option<LabelId>
+    ensures { option_map (λ id. id.0) result ≡ number_of labels.now text.now }
 {
-    is_known(labels, text) || labels.len() < LABEL_LIMIT
+    let guess = recent.guess(text);
+    if is_number_of(labels, guess, text) {
+        return Some(guess);
+    }
+    let id = labels.id_of(text)?;
+    recent.remember(text, id);
+    Some(id)
 }
 
 // The number of a text, which is added to the table where it isn't there.
-fn number_for(labels: &mut Labels, text: &[u8]) -> Result<LabelId, MapFaultKind>
+fn number_for(
+    labels: &mut Labels,
+    recent: &mut Recent,
+    text: &[u8],
+) -> Result<LabelId, MapFaultKind>
     requires label { IsTrue (is_label_text text.now) }
     requires limit { length labels.old ≤ LABEL_LIMIT }
     ensures room { OnOk result (has_room labels.old text.now ≡ true) }
@@ -84,7 +100,10 @@ fn number_for(labels: &mut Labels, text: &[u8]) -> Result<LabelId, MapFaultKind>
     ensures same { OnErr result (labels.new ≡ labels.old) }
     ensures err { IfErr result (λ kind. ((kind ≡ NoMemory) × (has_room labels.old text.now ≡ true)) ⊎ ((kind ≡ TooMany) × (has_room labels.old text.now ≡ false))) }
 {
-    if has_room(labels, text) {
+    if let Some(id) = known_number(labels, recent, text) {
+        return Ok(id);
+    }
+    if labels.len() < LABEL_LIMIT {
         labels.add(text).map_err(|_| MapFaultKind::NoMemory)
     } else {
         Err(MapFaultKind::TooMany)
@@ -106,6 +125,7 @@ impl Reading {
             statements: Statements::new(alloc),
             entries: Vec::new(alloc),
             labels: Labels::new(alloc),
+            recent: Recent::new(),
         }
     }
 
@@ -206,7 +226,7 @@ impl Reading {
         ensures kept { OnErr result (self.new.prefixes ≡ self.old.prefixes) }
     {
         let text = self.declared.meant(label);
-        number_for(&mut self.labels, text)
+        number_for(&mut self.labels, &mut self.recent, text)
     }
 
     /// Declares a text for a number.
@@ -217,7 +237,7 @@ impl Reading {
         ensures ok { OnOk result (self.new ≡ record self.old { declared = with_declared self.old.declared (number, text.now); table = with_label self.old.table text.now }) }
         ensures err { IfErr result (λ kind. ((kind ≡ NoMemory) × (has_room self.old.table text.now ≡ true)) ⊎ ((kind ≡ TooMany) × (has_room self.old.table text.now ≡ false))) }
     {
-        number_for(&mut self.labels, text)?;
+        number_for(&mut self.labels, &mut self.recent, text)?;
         let Ok(()) = self.declared.add(number, text) else {
             return Err(MapFaultKind::NoMemory);
         };

@@ -11,7 +11,7 @@ ghost use Rattle.pmap_text.specs.declared.fault.MapFaultKind.TheVariants.{NoMemo
 use crate::checked::{Keys, read_checked};
 use crate::fault::{MapFault, MapFaultKind};
 use crate::form::Form;
-use crate::lines::split_line;
+use crate::lines::split_content;
 use crate::map_text::MapText;
 use crate::prefix_list::PrefixList;
 use crate::progress::Reading;
@@ -45,9 +45,9 @@ fn read_lines(alloc: Global, form: Form, text: &[u8]) -> Result<Reading, MapFaul
     let mut rest = text;
     let mut number = 0;
     while !rest.is_empty() {
-        let (line, after) = split_line(rest);
+        let (content, after) = split_content(rest);
         number += 1;
-        if let Err(kind) = read_checked(&mut reading, &mut keys, form, line) {
+        if let Err(kind) = read_checked(&mut reading, &mut keys, form, content) {
             return Err(fault_at(kind, number));
         }
         rest = after;
@@ -64,8 +64,8 @@ fn read_unchecked(alloc: Global, text: &[u8]) -> Option<Reading>
     let mut reading = Reading::new(alloc);
     let mut rest = text;
     while !rest.is_empty() {
-        let (line, after) = split_line(rest);
-        let Ok(()) = reading.read_line(Form::List, line) else {
+        let (content, after) = split_content(rest);
+        let Ok(()) = reading.read_content(Form::List, content) else {
             return None;
         };
         rest = after;

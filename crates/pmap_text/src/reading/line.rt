@@ -5,7 +5,7 @@ ghost use Rattle.prefix_keys.specs.Text.{address_of, block_of_text, is_digit};
 ghost use Rattle.pmap_text.specs.Declarations.{label_number as number_of_label, meant_text};
 ghost use Rattle.pmap_text.specs.Label.{is_label as is_label_text};
 ghost use Rattle.pmap_text.specs.Lines.{first_word};
-ghost use Rattle.pmap_text.specs.Reading.{Lists, address_line, block_line, decided, declared_line, default_line, label_line, label_of, line_entry, mode_line, mode_version, name_line, one_or_two, other_fault, placed_line, prefix_line, range_line, single_line, span_line, statement_line, version_at as version_at_of};
+ghost use Rattle.pmap_text.specs.Reading.{Lists, address_line, block_line, content_line, decided, declared_line, default_line, label_line, label_of, mode_line, mode_version, name_line, one_or_two, other_fault, placed_line, prefix_line, range_line, single_line, span_line, statement_line, version_at as version_at_of};
 ghost use Rattle.pmap_text.specs.Steps.{Takes, added, has_prefix_room, refusal_of};
 ghost use Rattle.pmap_text.specs.declared.fault.MapFaultKind.TheVariants.{NoMemory, TooMany};
 
@@ -13,7 +13,7 @@ use crate::declarations::label_number;
 use crate::fault::MapFaultKind;
 use crate::form::Form;
 use crate::label::is_label;
-use crate::lines::{content, split_word};
+use crate::lines::split_word;
 use crate::placing::{addr_in, block_in};
 use crate::progress::{MAPPING_LIMIT, Reading};
 use prefix_keys::{Addr, Block, BlockFault, Span, Version, block_of, read_addr, read_block};
@@ -302,13 +302,12 @@ impl Reading {
         }
     }
 
-    /// Reads one more line. An entry for a block that has one already is added too. After a fault nothing is known of the
-    /// lines so far.
-    pub fn read_line(&mut self, form: Form, line: &[u8]) -> Result<(), MapFaultKind>
-        ensures ok { OnOk result (Takes self.old self.new (line_entry form self.old line.now)) }
-        ensures err { IfErr result (λ kind. kind ≡ refusal_of (line_entry form self.old line.now)) }
+    /// Reads the content of one more line. An entry for a block that has one already is added too. After a fault nothing is
+    /// known of the lines so far.
+    pub fn read_content(&mut self, form: Form, content: &[u8]) -> Result<(), MapFaultKind>
+        ensures ok { OnOk result (Takes self.old self.new (content_line form self.old content.now)) }
+        ensures err { IfErr result (λ kind. kind ≡ refusal_of (content_line form self.old content.now)) }
     {
-        let content = content(line);
         if content.is_empty() {
             return Ok(());
         }

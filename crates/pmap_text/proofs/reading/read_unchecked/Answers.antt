@@ -1,5 +1,7 @@
-use Rattle.std.proofs.Common.{[], refl, sym, ◌∙◌}
+use Rattle.std.proofs.Common.{ℕ, List, [], refl, subst, sym, ◌∙◌}
 use Rattle.pmap_text.specs.Lines.{lines_of}
+use Rattle.pmap_text.specs.Reading.{content_line}
+use Rattle.pmap_text.specs.Steps.{Takes}
 use Rattle.pmap_text.specs.declared.form.Form.TheVariants as form
 use Rattle.pmap_text.proofs.Entering.{read-all, read-taken}
 use Rattle.pmap_text.proofs.reading.read_unchecked.Goals as goal
@@ -9,8 +11,10 @@ loop-rest-init c = λ once. (0, [], refl, c.new-reading.ensures)
 
 pub loop-rest-preserved : goal.loop-rest-preserved
 loop-rest-preserved c =
-    read-taken form.List (lines_of c.args.text.now) c.loop-rest.reading c.read_line.new.self c.split_line.result.0.now (lines_of c.loop-rest.rest.now)
-    (lines_of c.split_line.result.1.now) c.split_line.ensures.line c.loop-rest.invariant c.in-Ok.ensures.ok
+    let cut = c.split_content.ensures.line in
+    let taken = subst (λ (t : List ℕ). Takes c.loop-rest.reading c.read_content.new.self (content_line form.List c.loop-rest.reading t)) cut.2 c.in-Ok.ensures.ok in
+    read-taken form.List (lines_of c.args.text.now) c.loop-rest.reading c.read_content.new.self cut.0 (lines_of c.loop-rest.rest.now)
+    (lines_of c.split_content.result.1.now) cut.1 c.loop-rest.invariant taken
 
 pub returns : goal.returns
 returns c =
