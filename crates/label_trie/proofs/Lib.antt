@@ -19,3 +19,4 @@ pub mod Sums
 pub mod Grown
 pub mod Built
 pub mod ListBuilt
+pub mod Runs

@@ -6,3 +6,4 @@ pub mod Tree
 pub mod Nodes
 pub mod Layers
 pub mod Sweep
+pub mod Runs

@@ -14,6 +14,7 @@
 
 pub mod cursor;
 mod growing;
+pub mod laws;
 mod layers;
 pub mod leaf;
 pub mod leaves;

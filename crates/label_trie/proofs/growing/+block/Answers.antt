@@ -4,10 +4,10 @@ use Rattle.prefix_keys.specs.Block.{block_number}
 use Rattle.prefix_keys.specs.Version.{width_of}
 use Rattle.label_trie.specs.declared.node.Node.TheVariants.{Inner}
 use Rattle.label_trie.proofs.Grown.{added_most, block_some, is_split, leaf_added, split_added}
-use Rattle.label_trie.proofs.growing.+push_block.Goals as goal
+use Rattle.label_trie.proofs.growing.+block.Goals as goal
 
-pub returns-then-last-sweep-clause-nodes : goal.returns-then-last-sweep-clause-nodes
-returns-then-last-sweep-clause-nodes t c =
+pub push_block-returns-then-last-sweep-clause-nodes : goal.push_block-returns-then-last-sweep-clause-nodes
+push_block-returns-then-last-sweep-clause-nodes t c =
     let layers = c.args.layers.now in
     let sweep = c.args.sweep.now in
     let W = width_of layers.version in
@@ -18,16 +18,16 @@ returns-then-last-sweep-clause-nodes t c =
     (leaf_added W c.args.len q layers.statements.now layers.default c.args.nodes.now.items sweep.first sweep.last sweep.top stretch c.requires.within
     (block_some W c.args.len q) (omega (arith, block.first_is, c.requires.begun)) (omega (arith, block.last_is, c.if-last-sweep.true)))
 
-pub push_block-requires : goal.push_block-requires
-push_block-requires t c =
+pub push_halves-push_block-requires : goal.push_halves-push_block-requires
+push_halves-push_block-requires t c =
     let layers = c.args.layers.now in
     let ss = layers.statements.now in
     let sweep = c.args.sweep.now in
     let W = width_of layers.version in
     let split = is_split W c.args.len c.args.first c.args.last sweep.first sweep.last ss sweep.top c.requires.sweeping.stretch c.requires.within
-    c.requires.block c.requires.begun c.requires.here c.if-last-sweep.false in
+    c.requires.block c.requires.begun c.requires.here c.requires.beyond in
     let long = length-append c.args.nodes.now.items (Inner 0 ∷ []) in
-    let count : length c.push-2.new.self.items ≡ length c.args.nodes.now.items + 1 = rw c.in_ok-push-2.ensures.items (omega (arith, long)) in (
+    let count : length c.push.new.self.items ≡ length c.args.nodes.now.items + 1 = rw c.in_ok-push.ensures.items (omega (arith, long)) in (
       omega (arith, split.some),
       (
         c.requires.version,
@@ -50,38 +50,38 @@ push_block-requires t c =
       ),
     )
 
-pub overflow_cast-high : goal.overflow_cast-high
-overflow_cast-high t c =
+pub push_halves-overflow_cast-high : goal.push_halves-overflow_cast-high
+push_halves-overflow_cast-high t c =
     let layers = c.args.layers.now in
     let ss = layers.statements.now in
     let sweep = c.args.sweep.now in
     let W = width_of layers.version in
     let split = is_split W c.args.len c.args.first c.args.last sweep.first sweep.last ss sweep.top c.requires.sweeping.stretch c.requires.within
-    c.requires.block c.requires.begun c.requires.here c.if-last-sweep.false in
+    c.requires.block c.requires.begun c.requires.here c.requires.beyond in
     let long = length-append c.args.nodes.now.items (Inner 0 ∷ []) in
-    let count : length c.push-2.new.self.items ≡ length c.args.nodes.now.items + 1 = rw c.in_ok-push-2.ensures.items (omega (arith, long)) in
-    let most = added_most W _ _ ss layers.default c.push-2.new.self.items c.push_block.new.nodes.items c.in_ok-push_block.ensures.nodes in
+    let count : length c.push.new.self.items ≡ length c.args.nodes.now.items + 1 = rw c.in_ok-push.ensures.items (omega (arith, long)) in
+    let most = added_most W _ _ ss layers.default c.push.new.self.items c.push_block.new.nodes.items c.in_ok-push_block.ensures.nodes in
     omega (arith, c.len-high.ensures, c.push_block.new.nodes.ok, most, count, c.requires.room, split.sum)
 
-pub reach-requires-clause-within : goal.reach-requires-clause-within
-reach-requires-clause-within t c =
+pub push_halves-reach-requires-clause-within : goal.push_halves-reach-requires-clause-within
+push_halves-reach-requires-clause-within t c =
     let layers = c.args.layers.now in
     let sweep = c.args.sweep.now in
     let split = is_split (width_of layers.version) c.args.len c.args.first c.args.last sweep.first sweep.last layers.statements.now sweep.top
-    c.requires.sweeping.stretch c.requires.within c.requires.block c.requires.begun c.requires.here c.if-last-sweep.false in
+    c.requires.sweeping.stretch c.requires.within c.requires.block c.requires.begun c.requires.here c.requires.beyond in
     omega (arith, split.some, split.fits)
 
-pub push_block-requires-2 : goal.push_block-requires-2
-push_block-requires-2 t c =
+pub push_halves-push_block-requires-2 : goal.push_halves-push_block-requires-2
+push_halves-push_block-requires-2 t c =
     let layers = c.args.layers.now in
     let ss = layers.statements.now in
     let sweep = c.args.sweep.now in
     let W = width_of layers.version in
     let split = is_split W c.args.len c.args.first c.args.last sweep.first sweep.last ss sweep.top c.requires.sweeping.stretch c.requires.within
-    c.requires.block c.requires.begun c.requires.here c.if-last-sweep.false in
+    c.requires.block c.requires.begun c.requires.here c.requires.beyond in
     let long = length-append c.args.nodes.now.items (Inner 0 ∷ []) in
-    let count : length c.push-2.new.self.items ≡ length c.args.nodes.now.items + 1 = rw c.in_ok-push-2.ensures.items (omega (arith, long)) in
-    let most = added_most W _ _ ss layers.default c.push-2.new.self.items c.push_block.new.nodes.items c.in_ok-push_block.ensures.nodes in
+    let count : length c.push.new.self.items ≡ length c.args.nodes.now.items + 1 = rw c.in_ok-push.ensures.items (omega (arith, long)) in
+    let most = added_most W _ _ ss layers.default c.push.new.self.items c.push_block.new.nodes.items c.in_ok-push_block.ensures.nodes in
     let same : length c.set_high.new.nodes.items ≡ length c.push_block.new.nodes.items = rw c.set_high.ensures (length-set c.push_block.new.nodes.items _ _) in (
       omega (arith, split.some),
       (
@@ -105,18 +105,18 @@ push_block-requires-2 t c =
       ),
     )
 
-pub returns-clause-nodes : goal.returns-clause-nodes
-returns-clause-nodes t c =
+pub push_halves-returns-clause-nodes : goal.push_halves-returns-clause-nodes
+push_halves-returns-clause-nodes t c =
     let layers = c.args.layers.now in
     let ss = layers.statements.now in
     let sweep = c.args.sweep.now in
     let W = width_of layers.version in
     let split = is_split W c.args.len c.args.first c.args.last sweep.first sweep.last ss sweep.top c.requires.sweeping.stretch c.requires.within
-    c.requires.block c.requires.begun c.requires.here c.if-last-sweep.false in
+    c.requires.block c.requires.begun c.requires.here c.requires.beyond in
     let at : c.len-at.result ≡ length c.args.nodes.now.items = omega (arith, c.len-at.ensures, c.args.nodes.now.ok) in
     let number : c.len-high.result ≡ length c.push_block.new.nodes.items = omega (arith, c.len-high.ensures, c.push_block.new.nodes.ok) in
     on_ok_weaker c.push_block-2.result
-    (λ high. split_added W c.args.len c.args.first c.args.last ss layers.default c.args.nodes.now.items c.push-2.new.self.items c.push_block.new.nodes.items
-    c.set_high.new.nodes.items c.push_block-2.new.nodes.items (Inner 0) c.len-at.result c.len-high.result split c.in_ok-push-2.ensures.items
+    (λ high. split_added W c.args.len c.args.first c.args.last ss layers.default c.args.nodes.now.items c.push.new.self.items c.push_block.new.nodes.items
+    c.set_high.new.nodes.items c.push_block-2.new.nodes.items (Inner 0) c.len-at.result c.len-high.result split c.in_ok-push.ensures.items
     c.in_ok-push_block.ensures.nodes at number c.set_high.ensures high)
     c.push_block-2.ensures.nodes

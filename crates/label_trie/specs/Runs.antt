@@ -1,0 +1,33 @@
+use Rattle.std.specs.Prelude.{◌≡◌, ◌≢◌, ℕ, ◌+◌, ◌^◌, ◌≤◌, List, [], ◌∷◌, Option}
+use Rattle.prefix_keys.specs.Version.{width_of}
+use Rattle.prefix_keys.specs.declared.version.Version.{Version}
+use Rattle.pmap_text.specs.MapModel.{Label}
+
+-- Runs: the maximal ranges of consecutive addresses that have one label, or have none.
+
+-- the addresses from low to high, and the label text of each of them, if they have one
+pub record Run : Type 0 where
+  pub low : ℕ
+  pub high : ℕ
+  pub label : Option Label
+
+-- there is an address in the run, and each has the run's label, or none as the run has none
+pub record HasOneLabel (label_of : ℕ → Option Label) (run : Run) : Type 0 where
+  pub some : run.low ≤ run.high
+  pub each : (a : ℕ) → run.low ≤ a → a ≤ run.high → label_of a ≡ run.label
+
+-- the run that follows, if there is one, has another label
+abbrev pub DiffersFromNext : Run → List Run → Type 0
+DiffersFromNext run [] = Unit {0}
+DiffersFromNext run (next ∷ runs) = run.label ≢ next.label
+
+-- The runs follow one another, the first beginning at `from` and the last ending right before `to`, each of one label, and
+-- no two neighbours of the same.
+abbrev pub AreRuns : (ℕ → Option Label) → ℕ → ℕ → List Run → Type 0
+AreRuns label_of from to [] = from ≡ to
+AreRuns label_of from to (run ∷ runs) =
+    (run.low ≡ from) × HasOneLabel label_of run × DiffersFromNext run runs × AreRuns label_of (run.high + 1) to runs
+
+-- the runs of the addresses of a version
+abbrev pub AreRunsOf : Version → (ℕ → Option Label) → List Run → Type 0
+AreRunsOf version label_of runs = AreRuns label_of 0 (2 ^ width_of version) runs
