@@ -1,1 +1,4 @@
 pub mod Scanned
+pub mod SortedEntries
+pub mod Outers
+pub mod Indexed

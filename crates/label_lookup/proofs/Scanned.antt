@@ -1,5 +1,5 @@
 -- The search among a map's statements from the last on.
-use Rattle.std.proofs.Common.{◌≡◌, ℕ, suc, ◌+◌, ◌<◌, ◌≤◌, ◌++◌, ◌∷◌, ◌&&◌, [], Bool, true, false, cond, List, Option, Some, None, arith, Contains, length, sym, refl, ap, ◌∙◌, slice_get, get_or, IsTrue}
+use Rattle.std.proofs.Common.{◌≡◌, ℕ, ◌+◌, ◌<◌, ◌≤◌, ◌++◌, ◌∷◌, ◌&&◌, [], Bool, true, false, cond, List, Option, Some, arith, Contains, length, sym, refl, ap, ◌∙◌, slice_get, get_or, IsTrue}
 use Rattle.std.specs.Prelude.{◌↔◌, map, nat_le, take}
 use Rattle.std.proofs.lemmas.Bool.Decides.{nat_tests}
 use Rattle.std.proofs.lemmas.List.{map-append, take_more}
@@ -8,7 +8,7 @@ use Rattle.prefix_keys.specs.Covers.{SpanCovers}
 use Rattle.prefix_keys.specs.declared.addr.Addr.{Addr}
 use Rattle.pmap_text.proofs.LastSuch.{last_such-push}
 use Rattle.pmap_text.specs.MapModel.{Label, Mapping, label_or, last_such, map_label, spans}
-use Rattle.pmap_text.specs.MapText.{map_of, mapping_of, text_at}
+use Rattle.pmap_text.specs.MapText.{map_of, mapping_of}
 use Rattle.pmap_text.specs.declared.map_text.MapText.{MapText}
 use Rattle.pmap_text.specs.declared.statement.Statement.{Statement}
 use Rattle.label_trie.proofs.Lookup.{known_text}

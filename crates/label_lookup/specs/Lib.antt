@@ -1,2 +1,3 @@
 pub mod RowLabel
 pub mod TrieLabels
+pub mod EntryOrder
