@@ -1,0 +1,14 @@
+use Rattle.std.proofs.Common.{◌≡◌, ◌≤◌, ◌<◌, ◌^◌, true, take, length}
+use Rattle.std.specs.List.{list_all}
+use Rattle.prefix_keys.specs.Text.{is_digit, decimal_value}
+use Rattle.flow_filter.proofs.number.read_number.Given as goal
+
+-- the number of the digits so far
+abbrev pub invariant-loop-b : goal.invariant-loop-b
+invariant-loop-b l = record {
+  value : l.number ≡ decimal_value (take l.b-index l.text);
+  digits : list_all is_digit (take l.b-index l.text) ≡ true;
+  small : l.number < 10 ^ l.b-index;
+  short : length l.text ≤ 20;
+  some : 1 ≤ length l.text;
+}

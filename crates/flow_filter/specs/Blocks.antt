@@ -1,0 +1,32 @@
+use Rattle.std.specs.Prelude.{ℕ, ◌+◌, ◌==◌, Bool, false, List, Option, Some, None}
+use Rattle.std.specs.List.{list_any}
+use Rattle.prefix_keys.specs.Block.{block_number}
+use Rattle.prefix_keys.specs.Conversion.{converted, mapped_prefix}
+use Rattle.prefix_keys.specs.Text.{AddressOf, BlockOf}
+use Rattle.prefix_keys.specs.Version.{width_of}
+use Rattle.prefix_keys.specs.declared.block.Block.{Block}
+use Rattle.prefix_keys.specs.declared.version.Version.TheVariants.{V4, V6}
+
+-- Which addresses the items of an address list cover.
+
+-- the block covers the place that the address has in the block's version
+abbrev pub covers_place : BlockOf → Option AddressOf → Bool
+covers_place (version, value, len) None = false
+covers_place (version, value, len) (Some (v, place)) =
+    block_number (width_of version) len place == block_number (width_of version) len value
+
+abbrev pub item_covers : AddressOf → BlockOf → Bool
+item_covers address block = covers_place block (converted block.0 address)
+
+-- one of the blocks does
+abbrev pub items_cover : List BlockOf → AddressOf → Bool
+items_cover blocks address = list_any (item_covers address) blocks
+
+-- a block without its proof that it is one
+abbrev pub view_of : Block → BlockOf
+view_of block = (block.version, block.value, block.len)
+
+-- the number of the address at its place among the IPv6 addresses
+abbrev pub mapped_number : AddressOf → ℕ
+mapped_number (V4, value) = value + mapped_prefix
+mapped_number (V6, value) = value

@@ -1,0 +1,71 @@
+use Rattle.std.specs.Prelude.{ℕ, ◌&&◌, ◌||◌, Bool, true, false, List, Option, Some, None}
+use Rattle.std.specs.Option.{is_some}
+use Rattle.std.specs.Str.{bytes_eq}
+use Rattle.prefix_keys.specs.Text.{AddressOf}
+use Rattle.prefix_keys.specs.declared.version.Version.{Version}
+use Rattle.flow_rows.specs.Row.{RowView}
+use Rattle.label_lookup.specs.RowLabel.{label_of_row_address}
+
+-- What filters ask of a row.
+
+-- For each option that is given: the numbers or the addresses that it asks for, each set as the test for it, or the label text.
+pub record Condition : Type 0 where
+  pub protocol : Option (ℕ → Bool)
+  pub sport : Option (ℕ → Bool)
+  pub dport : Option (ℕ → Bool)
+  pub saddress : Option (AddressOf → Bool)
+  pub daddress : Option (AddressOf → Bool)
+  pub packets : Option (ℕ → Bool)
+  pub bytes : Option (ℕ → Bool)
+  pub src_label : Option (List ℕ)
+  pub dst_label : Option (List ℕ)
+  pub any_label : Option (List ℕ)
+
+-- the test holds, if one is given
+abbrev pub allows : {X : Type 0} → Option (X → Bool) → X → Bool
+allows None x = true
+allows (Some test) x = test x
+
+-- what is found is this label
+abbrev pub is_label : List ℕ → Option (List ℕ) → Bool
+is_label label None = false
+is_label label (Some found) = bytes_eq found label
+
+-- what is found is the label that is asked for, if one is
+abbrev pub allows_label : Option (List ℕ) → Option (List ℕ) → Bool
+allows_label None found = true
+allows_label (Some label) found = is_label label found
+
+-- one of the two is the label that is asked for, if one is
+abbrev pub allows_either : Option (List ℕ) → Option (List ℕ) → Option (List ℕ) → Bool
+allows_either None source destination = true
+allows_either (Some label) source destination = is_label label source || is_label label destination
+
+abbrev pub allows_ports : Condition → RowView → Bool
+allows_ports c row = allows c.protocol row.protocol && allows c.sport row.sport && allows c.dport row.dport
+
+abbrev pub allows_addresses : Condition → RowView → Bool
+allows_addresses c row = allows c.saddress (row.version, row.src) && allows c.daddress (row.version, row.dst)
+
+abbrev pub allows_counts : Condition → RowView → Bool
+allows_counts c row = allows c.packets row.packets && allows c.bytes row.octets
+
+-- by the labels of the source and the destination
+abbrev pub allows_labels : Condition → Option (List ℕ) → Option (List ℕ) → Bool
+allows_labels c source destination =
+    allows_label c.src_label source && allows_label c.dst_label destination && allows_either c.any_label source destination
+
+-- the row meets each condition that is given, by the labels of addresses
+abbrev pub row_passes : Condition → (AddressOf → Option (List ℕ)) → RowView → Bool
+row_passes c label row =
+    allows_ports c row && allows_addresses c row && allows_counts c row
+    && allows_labels c (label (row.version, row.src)) (label (row.version, row.dst))
+
+-- a condition on labels is given
+abbrev pub needs_map : Condition → Bool
+needs_map c = is_some c.src_label || is_some c.dst_label || is_some c.any_label
+
+-- the label of a row's address by what knows labels, where there is one: without it no address has a label
+abbrev pub label_under : {X : Type 0} → (X → Version) → (X → ℕ → Option (List ℕ)) → Option X → AddressOf → Option (List ℕ)
+label_under version label None address = None
+label_under version label (Some labeller) address = label_of_row_address (version labeller) (label labeller) address

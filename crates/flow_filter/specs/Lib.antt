@@ -1,0 +1,8 @@
+pub mod Ranges
+pub mod Cut
+pub mod Texts
+pub mod Blocks
+pub mod Condition
+pub mod Words
+pub mod Given
+pub mod Filters

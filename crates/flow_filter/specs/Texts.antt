@@ -1,0 +1,70 @@
+use Rattle.std.specs.Prelude.{ℕ, ◌&&◌, ◌==◌, Bool, false, List, [], ◌∷◌, Option, Some, None, Result, Ok, Err, length, map, nat_le, option_map, if◌then◌else◌}
+use Rattle.std.specs.List.{before_first, list_all, list_any, slice_split}
+use Rattle.prefix_keys.specs.Text.{AddressOf, BlockOf, address_of, block_of_text, decimal_value, is_digit}
+use Rattle.prefix_keys.specs.Version.{width_of}
+use Rattle.prefix_keys.specs.declared.text.BlockFault.{BlockFault}
+use Rattle.flow_filter.specs.Cut.{after_byte}
+use Rattle.flow_filter.specs.declared.range.Range.{Range}
+
+-- The written forms of filters.
+
+-- a number of 1 to 20 digits, at most the limit
+abbrev pub bounded_number : ℕ → List ℕ → Option ℕ
+bounded_number limit text =
+    if nat_le 1 (length text) && (nat_le (length text) 20 && (list_all is_digit text && nat_le (decimal_value text) limit))
+    then Some (decimal_value text)
+    else None
+
+-- the numbers from the one to the other, which isn't below it
+abbrev pub range_between : Option ℕ → Option ℕ → Option Range
+range_between (Some low) (Some high) = if nat_le low high then Some (record { low = low; high = high }) else None
+range_between _ _ = None
+
+-- the upper end that what stands behind a `-` writes, which may be left out where the range may be open
+abbrev pub upper_end : Bool → ℕ → List ℕ → Option ℕ
+upper_end may_be_open limit text = if may_be_open && length text == 0 then Some limit else bounded_number limit text
+
+-- the upper end of a range: of a number without a `-` that number
+abbrev pub end_or : Bool → ℕ → Option ℕ → Option (List ℕ) → Option ℕ
+end_or may_be_open limit low None = low
+end_or may_be_open limit low (Some text) = upper_end may_be_open limit text
+
+-- the numbers that a text `N` or `N-M` stands for, where it may be open also `N-`: all from N to the limit
+abbrev pub number_range : Bool → ℕ → List ℕ → Option Range
+number_range may_be_open limit text =
+    let low = bounded_number limit (before_first (λ b. b == 45) text) in
+    range_between low (end_or may_be_open limit low (after_byte 45 text))
+
+-- all of them, where each is there
+abbrev pub onto : {X : Type 0} → Option X → Option (List X) → Option (List X)
+onto (Some x) (Some xs) = Some (x ∷ xs)
+onto _ _ = None
+
+abbrev pub each_some : {X : Type 0} → List (Option X) → Option (List X)
+each_some [] = Some []
+each_some (o ∷ os) = onto o (each_some os)
+
+-- the items of a list with commas between
+abbrev pub items_of : List ℕ → List (List ℕ)
+items_of text = slice_split (λ b. b == 44) text
+
+-- the ranges of a number list: items `N` or `N-M`
+abbrev pub number_list : ℕ → List ℕ → Option (List Range)
+number_list limit text = each_some (map (number_range false limit) (items_of text))
+
+-- the block of one address
+abbrev pub single : AddressOf → BlockOf
+single address = (address.0, address.1, width_of address.0)
+
+abbrev pub block_or_none : Result BlockOf BlockFault → Option BlockOf
+block_or_none (Ok block) = Some block
+block_or_none (Err fault) = None
+
+-- an item of an address list: with a `/` a block, else an address
+abbrev pub address_item : List ℕ → Option BlockOf
+address_item text =
+    if list_any (λ b. b == 47) text then block_or_none (block_of_text text) else option_map single (address_of text)
+
+-- the blocks of an address list
+abbrev pub address_list : List ℕ → Option (List BlockOf)
+address_list text = each_some (map address_item (items_of text))

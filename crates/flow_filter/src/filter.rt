@@ -1,0 +1,147 @@
+ghost use Rattle.std.specs.Prelude.{◌≡◌, ◌&&◌, IfErr, IfOk, Ok, option_map};
+ghost use Rattle.flow_rows.specs.Row.{row_view};
+ghost use Rattle.flow_filter.specs.Condition.{allows, allows_counts, allows_labels, allows_ports, label_under, needs_map, row_passes};
+ghost use Rattle.flow_filter.specs.Filters.{condition_in};
+ghost use Rattle.flow_filter.specs.Given.{by_place, covering};
+ghost use Rattle.flow_filter.specs.Ranges.{in_ranges};
+ghost use Rattle.flow_filter.specs.Words.{IsFault, filter_of_words, words_of};
+
+use crate::blocks::place_of;
+use crate::fault::{FilterFault, FilterOption};
+use crate::labels::{is_allowed, is_either_allowed};
+use crate::range::Range;
+use crate::ranges::Ranges;
+use crate::reading::{addresses, counts, numbers};
+use crate::words::FilterWords;
+use flow_rows::Row;
+use label_lookup::Labeller;
+use prefix_keys::Addr;
+use std::alloc::Global;
+
+/// Conditions on flow rows, one for each option that is given. A row has to meet all of them.
+#[derive(Debug, Drop)]
+pub struct Filter<'a> {
+    protocol: Option<Ranges>,
+    sport: Option<Ranges>,
+    dport: Option<Ranges>,
+    /// The places of the addresses among the IPv6 addresses.
+    saddress: Option<Ranges>,
+    daddress: Option<Ranges>,
+    packets: Option<Range>,
+    bytes: Option<Range>,
+    src_label: Option<&'a str>,
+    dst_label: Option<&'a str>,
+    any_label: Option<&'a str>,
+}
+
+// Whether the number is in the set, if one is asked for.
+fn is_in(set: &Option<Ranges>, number: u128) -> bool
+    ensures { result ≡ allows (option_map in_ranges set.now) number }
+{
+    match set {
+        None => true,
+        Some(set) => set.covers(number),
+    }
+}
+
+// Whether the address is one whose place is in the set, if one is asked for.
+fn is_at(set: &Option<Ranges>, addr: Addr) -> bool
+    ensures { result ≡ allows (option_map by_place set.now) (addr.version, addr.value) }
+{
+    match set {
+        None => true,
+        Some(set) => set.covers(place_of(addr)),
+    }
+}
+
+// Whether the range covers the number, if one is asked for.
+fn is_within(range: Option<Range>, number: u64) -> bool
+    ensures { result ≡ allows (option_map covering range) number }
+{
+    match range {
+        None => true,
+        Some(range) => range.covers(u128::from(number)),
+    }
+}
+
+impl<'a> Filter<'a> {
+    /// The conditions that the texts of the options state.
+    ///
+    /// # Errors
+    ///
+    /// The first option, in their order, whose text has not its form; or want of memory at the option that was being read.
+    pub fn read(alloc: Global, words: &FilterWords<'a>) -> Result<Filter<'a>, FilterFault>
+        ensures ok { IfOk result (λ filter. filter_of_words (words_of words.now) ≡ Ok (condition_in filter)) }
+        ensures err { IfErr result (λ fault. IsFault (words_of words.now) fault) }
+    {
+        let protocol = numbers(alloc, FilterOption::Protocol, 255, words.protocol)?;
+        let sport = numbers(alloc, FilterOption::SourcePort, 65535, words.sport)?;
+        let dport = numbers(alloc, FilterOption::DestinationPort, 65535, words.dport)?;
+        let saddress = addresses(alloc, FilterOption::SourceAddress, words.saddress)?;
+        let daddress = addresses(alloc, FilterOption::DestinationAddress, words.daddress)?;
+        let packets = counts(FilterOption::Packets, words.packets)?;
+        let bytes = counts(FilterOption::Bytes, words.bytes)?;
+        Ok(Filter {
+            protocol,
+            sport,
+            dport,
+            saddress,
+            daddress,
+            packets,
+            bytes,
+            src_label: words.src_label,
+            dst_label: words.dst_label,
+            any_label: words.any_label,
+        })
+    }
+
+    fn allows_ports(&self, row: &Row) -> bool
+        ensures { result ≡ allows_ports (condition_in self.now) (row_view row.now) }
+    {
+        is_in(&self.protocol, u128::from(row.protocol))
+            && is_in(&self.sport, u128::from(row.sport))
+            && is_in(&self.dport, u128::from(row.dport))
+    }
+
+    fn allows_addresses(&self, row: &Row) -> bool
+        ensures { let c = condition_in self.now in
+            result ≡ (allows c.saddress (row.now.src.version, row.now.src.value)
+            && allows c.daddress (row.now.dst.version, row.now.dst.value)) }
+    {
+        is_at(&self.saddress, row.src) && is_at(&self.daddress, row.dst)
+    }
+
+    fn allows_counts(&self, row: &Row) -> bool
+        ensures { result ≡ allows_counts (condition_in self.now) (row_view row.now) }
+    {
+        is_within(self.packets, row.packets) && is_within(self.bytes, row.octets)
+    }
+
+    fn allows_labels<L: Labeller>(&self, row: &Row, labeller: Option<&L>) -> bool
+        ensures { let found = label_under L.version_of L.label (option_map (λ l. l.now) labeller.entry) in
+            result ≡ allows_labels (condition_in self.now) (found (row.now.src.version, row.now.src.value))
+            (found (row.now.dst.version, row.now.dst.value)) }
+    {
+        is_allowed(self.src_label, labeller, row.src)
+            && is_allowed(self.dst_label, labeller, row.dst)
+            && is_either_allowed(self.any_label, labeller, row.src, row.dst)
+    }
+
+    /// Whether the row meets each condition that is given. Without a labeller no address has a label.
+    pub fn passes<L: Labeller>(&self, row: &Row, labeller: Option<&L>) -> bool
+        ensures { result ≡ row_passes (condition_in self.now)
+            (label_under L.version_of L.label (option_map (λ l. l.now) labeller.entry)) (row_view row.now) }
+    {
+        self.allows_ports(row)
+            && self.allows_addresses(row)
+            && self.allows_counts(row)
+            && self.allows_labels(row, labeller)
+    }
+
+    /// Whether a condition on labels is given, which needs a map or a list.
+    pub fn needs_map(&self) -> bool
+        ensures { result ≡ needs_map (condition_in self.now) }
+    {
+        self.src_label.is_some() || self.dst_label.is_some() || self.any_label.is_some()
+    }
+}

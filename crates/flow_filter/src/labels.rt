@@ -1,0 +1,56 @@
+ghost use Rattle.std.specs.Prelude.{◌≡◌, option_map};
+ghost use Rattle.flow_filter.specs.Condition.{allows_either, allows_label, is_label, label_under};
+
+use label_lookup::{Labeller, label_row};
+use prefix_keys::Addr;
+
+/// The label of a row's address, where something knows labels.
+fn label_of_address<'a, L: Labeller>(labeller: Option<&'a L>, addr: Addr) -> Option<&'a [u8]>
+    ensures { option_map (λ t. t.now) result
+        ≡ label_under L.version_of L.label (option_map (λ l. l.now) labeller.entry) (addr.version, addr.value) }
+{
+    match labeller {
+        None => None,
+        Some(labeller) => label_row(labeller, addr),
+    }
+}
+
+/// Whether the row's address has this label.
+fn has_label<L: Labeller>(label: &str, labeller: Option<&L>, addr: Addr) -> bool
+    ensures { result ≡ is_label label.now
+        (label_under L.version_of L.label (option_map (λ l. l.now) labeller.entry) (addr.version, addr.value)) }
+{
+    match label_of_address(labeller, addr) {
+        None => false,
+        Some(found) => found == label.as_bytes(),
+    }
+}
+
+/// Whether the row's address has the label that is asked for, if one is.
+pub fn is_allowed<L: Labeller>(label: Option<&str>, labeller: Option<&L>, addr: Addr) -> bool
+    ensures { result ≡ allows_label (option_map (λ s. s.now) label.entry)
+        (label_under L.version_of L.label (option_map (λ l. l.now) labeller.entry) (addr.version, addr.value)) }
+{
+    match label {
+        None => true,
+        Some(label) => has_label(label, labeller, addr),
+    }
+}
+
+/// Whether one of the row's two addresses has the label that is asked for, if one is.
+pub fn is_either_allowed<L: Labeller>(
+    label: Option<&str>,
+    labeller: Option<&L>,
+    source: Addr,
+    destination: Addr,
+) -> bool
+    ensures { let found = label_under L.version_of L.label (option_map (λ l. l.now) labeller.entry) in
+        result ≡ allows_either (option_map (λ s. s.now) label.entry) (found (source.version, source.value))
+        (found (destination.version, destination.value)) }
+{
+    match label {
+        None => true,
+        Some(label) => has_label(label, labeller, source)
+            || has_label(label, labeller, destination),
+    }
+}

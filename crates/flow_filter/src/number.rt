@@ -1,0 +1,56 @@
+ghost use Rattle.std.specs.Prelude.{◌≡◌};
+ghost use Rattle.flow_filter.specs.Texts.{bounded_number, number_range, upper_end};
+
+use crate::cut::cut;
+use crate::range::Range;
+
+/// The number, at most the limit, that 1 to 20 digits stand for.
+#[tactic(auto, using(crate::proofs::Digits::digits_room))]
+fn read_number(text: &[u8], limit: u64) -> Option<u128>
+    ensures { result ≡ bounded_number limit text.now }
+{
+    if text.is_empty() || text.len() > 20 {
+        return None;
+    }
+    let mut number: u128 = 0;
+    for b in text {
+        if *b < b'0' || *b > b'9' {
+            return None;
+        }
+        number = number * 10 + u128::from(*b - b'0');
+    }
+    if number <= u128::from(limit) {
+        Some(number)
+    } else {
+        None
+    }
+}
+
+/// The upper end that what stands behind a `-` writes. It may be left out where the range may be open.
+fn read_end(text: &[u8], limit: u64, may_be_open: bool) -> Option<u128>
+    ensures { result ≡ upper_end may_be_open limit text.now }
+{
+    if may_be_open && text.len() == 0 {
+        Some(u128::from(limit))
+    } else {
+        read_number(text, limit)
+    }
+}
+
+/// The numbers that a text `N` or `N-M` stands for, and where it may be open also `N-`: all from N to the limit. They are at
+/// most the limit, and M isn't below N.
+pub fn read_range(text: &[u8], limit: u64, may_be_open: bool) -> Option<Range>
+    ensures { result ≡ number_range may_be_open limit text.now }
+{
+    let (front, back) = cut(text, b'-');
+    let low = read_number(front, limit)?;
+    let high = match back {
+        None => low,
+        Some(back) => read_end(back, limit, may_be_open)?,
+    };
+    if low <= high {
+        Some(Range { low, high })
+    } else {
+        None
+    }
+}

@@ -1,0 +1,78 @@
+ghost use Rattle.std.specs.Prelude.{◌≡◌, ◌<◌, ◌≤◌, IfOk};
+ghost use Rattle.std.specs.List.Sorted.{IsNonDecreasingBy};
+ghost use Rattle.flow_filter.specs.Ranges.{AreRising, in_ranges};
+
+use crate::range::Range;
+use std::alloc::{AllocError, Global};
+use std::marker::Model;
+
+/// A set of numbers: those of some ranges, which are kept in an order in which a search finds a number.
+#[derive(Debug, Drop)]
+pub struct Ranges {
+    /// Neither a lower nor an upper end is below that of an earlier range.
+    ranges: Vec<Range>,
+}
+
+impl Model for Ranges {
+    ghost use Rattle.std.specs.Prelude.{List};
+    ghost use Rattle.flow_filter.specs.Ranges.{AreRising};
+    ghost use Rattle.flow_filter.specs.declared.range.Range.{Range};
+
+    ghost Value = { List Range };
+
+    ghost view = { λ r. r.ranges.items };
+
+    ghost invariant = { λ r. AreRising r.ranges.items };
+}
+
+impl Ranges {
+    /// The numbers of these ranges, which may overlap and stand in any order.
+    pub fn new(alloc: Global, mut ranges: Vec<Range>) -> Result<Ranges, AllocError>
+        ensures { IfOk result (λ set. in_ranges set ≡ in_ranges ranges.items) }
+    {
+        ranges.sort_unstable_by_key(|range| range.low);
+        let wide = widened(alloc, ranges.as_slice())?;
+        Ok(Ranges { ranges: wide })
+    }
+
+    /// Whether the number is in the set.
+    pub fn covers(&self, number: u128) -> bool
+        ensures { result ≡ in_ranges self.now number }
+    {
+        let ranges = self.ranges.as_slice();
+        let begun = ranges.partition_point(|range| range.low <= number);
+        if begun == 0 {
+            return false;
+        }
+        number <= ranges[begun - 1].high
+    }
+}
+
+/// The higher of two numbers.
+fn higher_of(a: u128, b: u128) -> u128
+    ensures first { a ≤ result }
+    ensures second { b ≤ result }
+    ensures one { a < b → result ≡ b }
+    ensures other { b ≤ a → result ≡ a }
+{
+    if a < b { b } else { a }
+}
+
+/// The ranges, of which no lower end is below an earlier one, each made to go up to where an earlier one goes. That adds no
+/// number: what is added to a range is in that earlier one.
+fn widened(alloc: Global, ranges: &[Range]) -> Result<Vec<Range>, AllocError>
+    requires { IsNonDecreasingBy (λ r. r.low) ranges.now }
+    ensures rising { IfOk result (λ wide. AreRising wide.items) }
+    ensures same { IfOk result (λ wide. in_ranges wide.items ≡ in_ranges ranges.now) }
+{
+    let mut wide = Vec::with_capacity(alloc, ranges.len())?;
+    let mut high = 0;
+    for range in ranges {
+        high = higher_of(high, range.high);
+        wide.push(Range {
+            low: range.low,
+            high,
+        })?;
+    }
+    Ok(wide)
+}
