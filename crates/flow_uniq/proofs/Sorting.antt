@@ -1,0 +1,173 @@
+-- A list in order is the one list that rises and has elements that tie as they stood.
+use Rattle.std.proofs.Common.{◌≡◌, ℕ, suc, ◌+◌, ◌<◌, Bool, true, false, not, ◌&&◌, cond, if◌then◌else◌, List, [], ◌∷◌, length, map, filter, All, true≢false, refl, sym, ap, subst, ◌∙◌, arith}
+use Rattle.std.proofs.lemmas.List.{get_or-map, length-map}
+use Rattle.std.proofs.lemmas.List.Elements.{All-cons, All-filter, All-from_get_or, All-head, All-nil, All-tail, All-weaker}
+use Rattle.std.proofs.lemmas.List.Sorted.{sorted_far}
+use Rattle.std.specs.Cmp.{IsStrictWeakOrder}
+use Rattle.std.specs.List.Sorted.{IsSortedBy, IsStableBy, ties}
+use Rattle.flow_uniq.specs.Sorted.{in_order, with_in_order}
+
+-- neither holds
+both_not : (a b : Bool) → (not a && not b) ≡ true → (a ≡ false) × (b ≡ false)
+both_not true b e = absurd (true≢false (sym e))
+both_not false true e = absurd (true≢false (sym e))
+both_not false false e = (refl, refl)
+
+-- two elements at the front of a list change places where not both are kept
+swapped : {X : Type 0} (x y : X) (xs : List X) (a b : Bool) → (a ≡ true → b ≡ true → ⊥)
+    → cond b (y ∷ cond a (x ∷ xs) xs) (cond a (x ∷ xs) xs) ≡ cond a (x ∷ cond b (y ∷ xs) xs) (cond b (y ∷ xs) xs)
+swapped x y xs true true h = absurd (h refl refl)
+swapped x y xs true false h = refl
+swapped x y xs false true h = refl
+swapped x y xs false false h = refl
+
+module _ {X : Type 0} (lt : X → X → Bool) (o : IsStrictWeakOrder lt) where
+  irreflexive : (x : X) → lt x x ≡ false
+  irreflexive x = by (lt x x) refl
+    where
+      by : (b : Bool) → lt x x ≡ b → lt x x ≡ false
+      by false e = e
+      by true e = o.one_way x x e
+
+  ties_parts : (x y : X) → ties lt x y ≡ true → (lt x y ≡ false) × (lt y x ≡ false)
+  ties_parts x y e = both_not (lt x y) (lt y x) e
+
+  ties_from : (x y : X) → lt x y ≡ false → lt y x ≡ false → ties lt x y ≡ true
+  ties_from x y p q = ap (λ b. not b && not (lt y x)) p ∙ ap (λ b. not b) q
+
+  -- no element is less than one before it
+  abbrev Rises : List X → Type 0
+  Rises [] = Unit {0}
+  Rises (x ∷ xs) = All (λ y. lt y x ≡ false) xs × Rises xs
+
+  -- what is kept of a list with one more in front
+  kept : (p : X → Bool) (x : X) (xs : List X) (b : Bool) → p x ≡ b → filter p (x ∷ xs) ≡ cond b (x ∷ filter p xs) (filter p xs)
+  kept p x xs b e = ap (λ c. cond c (x ∷ filter p xs) (filter p xs)) e
+
+  -- an element that stands in front of what is kept has what all have
+  front_has : (P : X → Type 0) (p : X → Bool) (x : X) (xs ys : List X) → filter p xs ≡ x ∷ ys → All P xs → P x
+  front_has P p x xs ys e all = All-head P x ys (subst (All P) e (All-filter p P xs all))
+
+  same_tails : (p : X → Bool) (x : X) (xs ys : List X) (b : Bool) → p x ≡ b → filter p (x ∷ xs) ≡ filter p (x ∷ ys) → filter p xs ≡ filter p ys
+  same_tails p x xs ys true e h =
+      let both : x ∷ filter p xs ≡ x ∷ filter p ys = sym (kept p x xs true e) ∙ h ∙ kept p x ys true e in cc
+  same_tails p x xs ys false e h = sym (kept p x xs false e) ∙ h ∙ kept p x ys false e
+
+  same_rising : (xs ys : List X) → Rises xs → Rises ys → ((z : X) → filter (ties lt z) xs ≡ filter (ties lt z) ys) → xs ≡ ys
+  same_rising [] [] r s same = refl
+  same_rising [] (y ∷ ys) r s same =
+      let h : [] ≡ y ∷ filter (ties lt y) ys = same y ∙ kept (ties lt y) y ys true (ties_from y y (irreflexive y) (irreflexive y)) in
+      cc
+  same_rising (x ∷ xs) [] r s same =
+      let h : [] ≡ x ∷ filter (ties lt x) xs = sym (same x) ∙ kept (ties lt x) x xs true (ties_from x x (irreflexive x) (irreflexive x)) in
+      cc
+  same_rising (x ∷ xs) (y ∷ ys) r s same = by (ties lt x y) (ties lt y x) refl refl (same_rising xs ys r.1 s.1)
+    where
+      left : filter (ties lt x) (x ∷ xs) ≡ x ∷ filter (ties lt x) xs
+      left = kept (ties lt x) x xs true (ties_from x x (irreflexive x) (irreflexive x))
+
+      right : filter (ties lt y) (y ∷ ys) ≡ y ∷ filter (ties lt y) ys
+      right = kept (ties lt y) y ys true (ties_from y y (irreflexive y) (irreflexive y))
+
+      joined : x ≡ y → (((z : X) → filter (ties lt z) xs ≡ filter (ties lt z) ys) → xs ≡ ys) → x ∷ xs ≡ y ∷ ys
+      joined e ih =
+          let tails : (z : X) → filter (ties lt z) xs ≡ filter (ties lt z) ys
+          = λ z. same_tails (ties lt z) x xs ys (ties lt z x) refl
+          (same z ∙ ap (λ (w : X). filter (ties lt z) (w ∷ ys)) (sym e)) in
+          let rest : xs ≡ ys = ih tails in
+          cc
+
+      by : (a b : Bool) → ties lt x y ≡ a → ties lt y x ≡ b
+          → (((z : X) → filter (ties lt z) xs ≡ filter (ties lt z) ys) → xs ≡ ys) → x ∷ xs ≡ y ∷ ys
+      by true b e f ih =
+          let both : x ∷ filter (ties lt x) xs ≡ y ∷ filter (ties lt x) ys = sym left ∙ same x ∙ kept (ties lt x) y ys true e in
+          let heads : x ≡ y = cc in
+          joined heads ih
+      by false true e f ih =
+          let p = ties_parts y x f in
+          absurd (true≢false (sym (ties_from x y p.1 p.0) ∙ e))
+      by false false e f ih =
+          let here : filter (ties lt x) ys ≡ x ∷ filter (ties lt x) xs = sym (kept (ties lt x) y ys false e) ∙ sym (same x) ∙ left in
+          let there : filter (ties lt y) xs ≡ y ∷ filter (ties lt y) ys = sym (kept (ties lt y) x xs false f) ∙ same y ∙ right in
+          let p : lt x y ≡ false = front_has (λ w. lt w y ≡ false) (ties lt x) x ys _ here s.0 in
+          let q : lt y x ≡ false = front_has (λ w. lt w x ≡ false) (ties lt y) y xs _ there r.0 in
+          absurd (true≢false (sym (ties_from x y p q) ∙ e))
+
+  rises_from_sorted : (xs : List X) → IsSortedBy lt xs → Rises xs
+  rises_from_sorted [] up = tt
+  rises_from_sorted (x ∷ xs) up = (
+    All-from_get_or (λ y. lt y x ≡ false) xs x (λ i h. sorted_far lt o (x ∷ xs) up 0 (suc i) x (omega arith) (omega arith)),
+    rises_from_sorted xs (λ k d low h. sorted_far lt o (x ∷ xs) up (suc k) (suc (k + 1)) d (omega arith) (omega arith)),
+  )
+
+  All-with_in_order : (P : X → Type 0) (x : X) (ys : List X) → P x → All P ys → All P (with_in_order lt x ys)
+  All-with_in_order P x [] here all = All-cons P x [] here (All-nil P)
+  All-with_in_order P x (y ∷ ys) here all = by (lt y x) (All-with_in_order P x ys here (All-tail P y ys all))
+    where
+      by : (b : Bool) → All P (with_in_order lt x ys) → All P (if b then y ∷ with_in_order lt x ys else x ∷ y ∷ ys)
+      by true ih = All-cons P y (with_in_order lt x ys) (All-head P y ys all) ih
+      by false ih = All-cons P x (y ∷ ys) here all
+
+  rises-with_in_order : (x : X) (ys : List X) → Rises ys → Rises (with_in_order lt x ys)
+  rises-with_in_order x [] r = (All-nil (λ y. lt y x ≡ false), tt)
+  rises-with_in_order x (y ∷ ys) r = by (lt y x) refl (rises-with_in_order x ys r.1)
+    where
+      by : (b : Bool) → lt y x ≡ b → Rises (with_in_order lt x ys) → Rises (if b then y ∷ with_in_order lt x ys else x ∷ y ∷ ys)
+      by true e ih = (All-with_in_order (λ z. lt z y ≡ false) x ys (o.one_way y x e) r.0, ih)
+      by false e ih = (
+        All-cons (λ z. lt z x ≡ false) y ys e
+            (All-weaker (λ z. lt z y ≡ false) (λ z. lt z x ≡ false) (λ z h. o.chain z y x h e) ys r.0),
+        r,
+      )
+
+  stable-with_in_order : (z x : X) (ys : List X) → filter (ties lt z) (with_in_order lt x ys) ≡ filter (ties lt z) (x ∷ ys)
+  stable-with_in_order z x [] = refl
+  stable-with_in_order z x (y ∷ ys) = by (lt y x) refl (stable-with_in_order z x ys)
+    where
+      by : (b : Bool) → lt y x ≡ b → filter (ties lt z) (with_in_order lt x ys) ≡ filter (ties lt z) (x ∷ ys)
+          → filter (ties lt z) (if b then y ∷ with_in_order lt x ys else x ∷ y ∷ ys) ≡ filter (ties lt z) (x ∷ y ∷ ys)
+      by false e ih = refl
+      by true e ih =
+          ap (λ (l : List X). cond (ties lt z y) (y ∷ l) l) ih
+          ∙ swapped x y (filter (ties lt z) ys) (ties lt z x) (ties lt z y)
+          (λ p q. true≢false (sym e ∙ o.chain y z x (ties_parts z y q).1 (ties_parts z x p).0))
+
+  rises-in_order : (xs : List X) → Rises (in_order lt xs)
+  rises-in_order [] = tt
+  rises-in_order (x ∷ xs) = rises-with_in_order x (in_order lt xs) (rises-in_order xs)
+
+  stable-in_order : (z : X) (xs : List X) → filter (ties lt z) (in_order lt xs) ≡ filter (ties lt z) xs
+  stable-in_order z [] = refl
+  stable-in_order z (x ∷ xs) =
+      stable-with_in_order z x (in_order lt xs) ∙ ap (λ (l : List X). cond (ties lt z x) (x ∷ l) l) (stable-in_order z xs)
+
+  -- what a stable sort leaves
+  pub sorted_is : (xs ys : List X) → IsSortedBy lt ys → IsStableBy lt xs ys → ys ≡ in_order lt xs
+  sorted_is xs ys up stable =
+      same_rising ys (in_order lt xs) (rises_from_sorted ys up) (rises-in_order xs)
+      (λ z. stable z ∙ sym (stable-in_order z xs))
+
+-- elements in order by what a function gives of them
+module _ {X Y : Type 0} (f : X → Y) (lt : Y → Y → Bool) where
+  map-with_in_order : (x : X) (ys : List X) → map f (with_in_order (λ a b. lt (f a) (f b)) x ys) ≡ with_in_order lt (f x) (map f ys)
+  map-with_in_order x [] = refl
+  map-with_in_order x (y ∷ ys) = by (lt (f y) (f x)) (map-with_in_order x ys)
+    where
+      by : (b : Bool) → map f (with_in_order (λ a b. lt (f a) (f b)) x ys) ≡ with_in_order lt (f x) (map f ys)
+          → map f (if b then y ∷ with_in_order (λ a b. lt (f a) (f b)) x ys else x ∷ y ∷ ys)
+          ≡ (if b then f y ∷ with_in_order lt (f x) (map f ys) else f x ∷ f y ∷ map f ys)
+      by true ih = ap (λ (l : List Y). f y ∷ l) ih
+      by false ih = refl
+
+  pub map-in_order : (xs : List X) → map f (in_order (λ a b. lt (f a) (f b)) xs) ≡ in_order lt (map f xs)
+  map-in_order [] = refl
+  map-in_order (x ∷ xs) =
+      map-with_in_order x (in_order (λ a b. lt (f a) (f b)) xs) ∙ ap (λ (l : List Y). with_in_order lt (f x) l) (map-in_order xs)
+
+-- what rises by what a function gives of it, rises when that is taken
+pub IsSortedBy-map : {X Y : Type 0} (f : X → Y) (lt : Y → Y → Bool) (xs : List X) → IsSortedBy (λ a b. lt (f a) (f b)) xs → IsSortedBy lt (map f xs)
+IsSortedBy-map f lt [] up = λ k d low h. absurd (omega arith)
+IsSortedBy-map f lt (x ∷ xs) up = λ k d low h.
+    let high : k + 1 < length (x ∷ xs) = omega (arith, length-map xs f) in
+    let here : k < length (x ∷ xs) = omega arith in
+    (λ i. lt (get_or-map f (x ∷ xs) (k + 1) x d high i) (get_or-map f (x ∷ xs) k x d here i)) ∙ up k x low high

@@ -1,0 +1,36 @@
+use Rattle.std.proofs.Common.{Bool, ap, rules, ◌∙◌, map}
+use borrow.Author.Tests.{tests}
+use Rattle.std.proofs.lemmas.Cmp.{lists_total, nat_list_cmp_total, on_total}
+use Rattle.std.proofs.lemmas.List.Sorted.{IsPermutation-map, answers_always, ranks_by}
+use Rattle.std.specs.Cmp.{IsStrictWeakOrder, IsTotalOrder}
+use Rattle.flow_uniq.specs.declared.group.Group.{Group}
+use Rattle.flow_uniq.specs.Key.{part_numbers}
+use Rattle.flow_uniq.specs.Kept.{group_model}
+use Rattle.flow_uniq.specs.Sorted.{is_before, key_order}
+use Rattle.flow_uniq.proofs.Sorting.{IsSortedBy-map, map-in_order, sorted_is}
+use Rattle.flow_uniq.proofs.groups.in_order.Goals as goal
+
+abbrev before : Group → Group → Bool
+before g h = is_before (group_model g) (group_model h)
+
+key_order-total : IsTotalOrder key_order
+key_order-total = lists_total (on_total part_numbers nat_list_cmp_total)
+
+before-order : IsStrictWeakOrder before
+before-order = ranks_by key_order-total (λ (g : Group). (group_model g).key)
+
+pub returns-clause-value : goal.returns-clause-value
+returns-clause-value c =
+    let answers = answers_always _ _ _ (λ f a r f' k. search (rules, tests)) in
+    ap (map group_model)
+    (sorted_is before before-order c.args.groups.items _
+    (c.in_ok-sort_by.ensures.sorted before before-order answers) (c.in_ok-sort_by.ensures.stable before before-order answers))
+    ∙ map-in_order group_model is_before c.args.groups.items
+
+pub returns-clause-permutation : goal.returns-clause-permutation
+returns-clause-permutation c = IsPermutation-map group_model c.args.groups.items _ c.in_ok-sort_by.ensures.permutation
+
+pub returns-clause-rises : goal.returns-clause-rises
+returns-clause-rises c =
+    IsSortedBy-map group_model is_before _
+    (c.in_ok-sort_by.ensures.sorted before before-order (answers_always _ _ _ (λ f a r f' k. search (rules, tests))))

@@ -1,0 +1,11 @@
+use Rattle.std.proofs.Common.{◌≡◌, map, option_map, take}
+use Rattle.flow_rows.specs.Row.{row_view}
+use Rattle.flow_uniq.specs.Key.{key_of, row_label}
+use Rattle.flow_uniq.specs.Parts.{part_model}
+use Rattle.flow_uniq.proofs.key.key_parts.Given as goal
+
+-- the parts so far
+abbrev pub invariant-loop-field : goal.invariant-loop-field
+invariant-loop-field g l =
+    map part_model l.key.items
+    ≡ key_of (row_label (option_map (λ x. (g.L.Labeller.version_of x.now, g.L.Labeller.label x.now)) l.labeller)) (take l.field-index l.fields) (row_view l.row)

@@ -1,0 +1,57 @@
+-- The fields of keys, and the texts that name them.
+use Rattle.std.specs.Prelude.{ℕ, ◌==◌, Bool, true, false, List, [], ◌∷◌, Option, Some, None, Result, Ok, Err, codes, count_by, find, filter_map, is_none, map, nat_lt, if◌then◌else◌}
+use Rattle.std.specs.List.{list_any, slice_split}
+use Rattle.std.specs.Str.{bytes_eq}
+use Rattle.flow_uniq.specs.declared.field.KeyField.{KeyField}
+use Rattle.flow_uniq.specs.declared.field.KeyField.TheVariants.{SourceAddress, DestinationAddress, SourcePort, DestinationPort, Protocol, Flags, SourceLabel, DestinationLabel}
+use Rattle.flow_uniq.specs.declared.fault.KeyFault.{KeyFault}
+use Rattle.flow_uniq.specs.declared.fault.KeyFault.TheVariants.{BadField, FieldRepeated}
+
+-- a field's name
+abbrev pub field_name : KeyField → List ℕ
+field_name SourceAddress = codes "sip"
+field_name DestinationAddress = codes "dip"
+field_name SourcePort = codes "sport"
+field_name DestinationPort = codes "dport"
+field_name Protocol = codes "proto"
+field_name Flags = codes "flags"
+field_name SourceLabel = codes "src-label"
+field_name DestinationLabel = codes "dst-label"
+
+abbrev pub all_fields : List KeyField
+all_fields =
+    SourceAddress ∷ DestinationAddress ∷ SourcePort ∷ DestinationPort ∷ Protocol ∷ Flags ∷ SourceLabel ∷ DestinationLabel
+    ∷ []
+
+-- the field is a label
+abbrev pub is_label_field : KeyField → Bool
+is_label_field SourceLabel = true
+is_label_field DestinationLabel = true
+is_label_field _ = false
+
+-- some field is a label, so that the key of a row can't be told without a map
+abbrev pub need_map : List KeyField → Bool
+need_map fields = list_any is_label_field fields
+
+-- the field with this name
+abbrev pub field_named : List ℕ → Option KeyField
+field_named text = find (λ field. bytes_eq (field_name field) text) all_fields
+
+-- the field that each item of a text names, where it names one. Items have commas between
+abbrev pub named_fields : List ℕ → List (Option KeyField)
+named_fields text = map field_named (slice_split (λ b. b == 44) text)
+
+-- how often a field stands among others
+abbrev pub times_named : List KeyField → KeyField → ℕ
+times_named fields field = count_by (λ other. bytes_eq (field_name other) (field_name field)) fields
+
+-- a field stands more than once
+abbrev pub has_repetition : List KeyField → Bool
+has_repetition fields = list_any (λ field. nat_lt 1 (times_named fields field)) fields
+
+-- what a text is read as: the fields that its items name, or its fault
+abbrev pub keys_reading : List ℕ → Result (List KeyField) KeyFault
+keys_reading text =
+    if list_any is_none (named_fields text) then Err BadField
+    else if has_repetition (filter_map (λ field. field) (named_fields text)) then Err FieldRepeated
+    else Ok (filter_map (λ field. field) (named_fields text))

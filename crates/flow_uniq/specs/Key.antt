@@ -1,0 +1,65 @@
+-- The key of a row.
+use Rattle.std.specs.Prelude.{ℕ, ◌==◌, Bool, List, [], ◌∷◌, Option, Some, None, map}
+use Rattle.std.specs.Cmp.Lexicographic.{pointwise}
+use Rattle.std.specs.Str.{bytes_eq}
+use Rattle.prefix_keys.specs.Text.{AddressOf}
+use Rattle.prefix_keys.specs.declared.version.Version.{Version}
+use Rattle.prefix_keys.specs.declared.version.Version.TheVariants.{V4, V6}
+use Rattle.pmap_text.specs.MapModel.{Label}
+use Rattle.label_lookup.specs.RowLabel.{label_of_row_address}
+use Rattle.flow_rows.specs.Row.{RowView}
+use Rattle.flow_uniq.specs.declared.field.KeyField.{KeyField}
+use Rattle.flow_uniq.specs.declared.field.KeyField.TheVariants.{SourceAddress, DestinationAddress, SourcePort, DestinationPort, Protocol, Flags, SourceLabel, DestinationLabel}
+
+-- a part of a key: an address, a number, or the text of a label or none
+pub data KeyPartModel : Type 0 where
+  AddressPart : (address : AddressOf) → KeyPartModel
+  NumberPart : (number : ℕ) → KeyPartModel
+  LabelPart : (label : Option Label) → KeyPartModel
+
+abbrev pub Key : Type 0
+Key = List KeyPartModel
+
+-- the label of a row's address by the version of what knows labels and the label that it has at each address. Where there
+-- is nothing that knows labels, no address has one
+abbrev pub row_label : Option (Version × (ℕ → Option Label)) → AddressOf → Option Label
+row_label None address = None
+row_label (Some known) address = label_of_row_address known.0 known.1 address
+
+module _ (label : AddressOf → Option Label) where
+  -- what a field of a row is, where each address has this label
+  abbrev pub key_part : RowView → KeyField → KeyPartModel
+  key_part row SourceAddress = AddressPart (row.version, row.src)
+  key_part row DestinationAddress = AddressPart (row.version, row.dst)
+  key_part row SourcePort = NumberPart row.sport
+  key_part row DestinationPort = NumberPart row.dport
+  key_part row Protocol = NumberPart row.protocol
+  key_part row Flags = NumberPart row.flags
+  key_part row SourceLabel = LabelPart (label (row.version, row.src))
+  key_part row DestinationLabel = LabelPart (label (row.version, row.dst))
+
+  -- the key of a row: its fields in the order given
+  abbrev pub key_of : List KeyField → RowView → Key
+  key_of fields row = map (key_part row) fields
+
+-- the numbers by which parts are told apart and put in order, one after the other: behind the number of the kind those of
+-- an address are its version and its value, and those of a label are none, or its bytes behind one number more
+abbrev pub version_number : Version → ℕ
+version_number V4 = 4
+version_number V6 = 6
+
+abbrev pub label_numbers : Option Label → List ℕ
+label_numbers None = []
+label_numbers (Some text) = 0 ∷ text
+
+abbrev pub part_numbers : KeyPartModel → List ℕ
+part_numbers (AddressPart address) = 0 ∷ version_number address.0 ∷ address.1 ∷ []
+part_numbers (NumberPart number) = 1 ∷ number ∷ []
+part_numbers (LabelPart label) = 2 ∷ label_numbers label
+
+-- the parts are equal, and the keys are
+abbrev pub same_part : KeyPartModel → KeyPartModel → Bool
+same_part p q = bytes_eq (part_numbers p) (part_numbers q)
+
+abbrev pub same_key : Key → Key → Bool
+same_key a b = pointwise same_part a b

@@ -1,0 +1,61 @@
+ghost use Rattle.std.specs.Prelude.{◌≡◌};
+
+/// A field of a row that a key may have.
+#[derive(Clone, Copy, Debug, PartialEq, Eq)]
+pub enum KeyField {
+    /// `sip`: where the packets come from.
+    SourceAddress,
+    /// `dip`: where the packets go.
+    DestinationAddress,
+    /// `sport`: the port at the source.
+    SourcePort,
+    /// `dport`: the port at the destination.
+    DestinationPort,
+    /// `proto`: the number of the protocol above IP.
+    Protocol,
+    /// `flags`: the TCP flags of all packets together.
+    Flags,
+    /// `src-label`: the label of the source.
+    SourceLabel,
+    /// `dst-label`: the label of the destination.
+    DestinationLabel,
+}
+
+/// All fields.
+pub const ALL_FIELDS: [KeyField; 8] = [
+    KeyField::SourceAddress,
+    KeyField::DestinationAddress,
+    KeyField::SourcePort,
+    KeyField::DestinationPort,
+    KeyField::Protocol,
+    KeyField::Flags,
+    KeyField::SourceLabel,
+    KeyField::DestinationLabel,
+];
+
+impl KeyField {
+    ghost use Rattle.flow_uniq.specs.Field.{field_name, is_label_field};
+
+    /// The field's name.
+    pub fn name(self) -> &'static str
+        ensures { result.now ≡ field_name self }
+    {
+        match self {
+            KeyField::SourceAddress => "sip",
+            KeyField::DestinationAddress => "dip",
+            KeyField::SourcePort => "sport",
+            KeyField::DestinationPort => "dport",
+            KeyField::Protocol => "proto",
+            KeyField::Flags => "flags",
+            KeyField::SourceLabel => "src-label",
+            KeyField::DestinationLabel => "dst-label",
+        }
+    }
+
+    /// Whether it is a label.
+    pub fn is_label(self) -> bool
+        ensures { result ≡ is_label_field self }
+    {
+        matches!(self, KeyField::SourceLabel | KeyField::DestinationLabel)
+    }
+}

@@ -1,0 +1,148 @@
+ghost use Rattle.std.specs.Prelude.{All, ◌≡◌, ◌++◌, ◌∷◌, [], ◌+◌, ◌-◌, ◌^◌, ◌<◌, List, IfOk, OnOk, OnErr, length, map, option_map, slice_get};
+ghost use Rattle.std.specs.List.Sorted.{IsPermutation, IsSortedBy};
+ghost use Rattle.flow_rows.specs.Row.{row_view};
+ghost use Rattle.flow_uniq.specs.Groups.{KeyedRow, groups_of_keyed, record_count};
+ghost use Rattle.flow_uniq.specs.Key.{key_of, row_label};
+ghost use Rattle.flow_uniq.specs.Kept.{entry_model, group_model};
+ghost use Rattle.flow_uniq.specs.Sorted.{is_before, sorted_groups};
+
+use crate::entry::Entry;
+use crate::field::KeyField;
+use crate::group::Group;
+use crate::kept::{enter, grow, place_of};
+use crate::key::{append_key, key_parts};
+use crate::keys::Keys;
+use crate::order::compare_keys;
+use crate::totals::Totals;
+use flow_rows::Row;
+use indexmap::IndexSet;
+use label_lookup::Labeller;
+use std::alloc::{AllocError, Global};
+use std::marker::Model;
+
+/// The groups of rows by their keys, in the order of the first rows, with their totals.
+#[derive(Debug, Drop)]
+pub struct Groups {
+    alloc: Global,
+    fields: Vec<KeyField>,
+    codes: IndexSet<Vec<u128>>,
+    entries: Vec<Entry>,
+    scratch: Vec<u128>,
+}
+
+impl Model for Groups {
+    ghost use Rattle.std.specs.Prelude.{length, map};
+    ghost use Rattle.flow_uniq.specs.Groups.{GroupsModel};
+
+    ghost Value = { GroupsModel };
+
+    ghost use Rattle.flow_uniq.specs.Kept.{AreKept, entry_model};
+
+    ghost view = { λ g. record { fields = g.fields.items; groups = map entry_model g.entries.items } };
+
+    ghost invariant = { λ g. AreKept (length g.fields.items) (map (λ code. code.items) g.codes.keys)
+        (map entry_model g.entries.items) };
+}
+
+// The groups as they are kept.
+fn groups_of(alloc: Global, entries: &[Entry]) -> Result<Vec<Group<'_>>, AllocError>
+    ensures { IfOk result (λ groups. map group_model groups.items ≡ map entry_model entries.now) }
+{
+    entries.iter().map(|entry| entry.group()).collect(alloc)
+}
+
+// The groups in the order of their keys.
+fn in_order(mut groups: Vec<Group<'_>>) -> Result<Vec<Group<'_>>, AllocError>
+    ensures value { let given = map group_model groups.entry.items in
+        IfOk result (λ sorted. map group_model sorted.items ≡ sorted_groups given) }
+    ensures permutation { let given = map group_model groups.entry.items in
+        IfOk result (λ sorted. IsPermutation given (map group_model sorted.items)) }
+    ensures rises { IfOk result (λ sorted. IsSortedBy is_before (map group_model sorted.items)) }
+{
+    groups.sort_by(|a, b| compare_keys(a.key, b.key))?;
+    Ok(groups)
+}
+
+impl Groups {
+    /// No groups, by the fields of these keys.
+    pub fn new(alloc: Global, keys: &Keys) -> Result<Groups, AllocError>
+        ensures fields { IfOk result (λ g. g.fields ≡ keys.now) }
+        ensures groups { IfOk result (λ g. g.groups ≡ groups_of_keyed []) }
+    {
+        Ok(Groups {
+            alloc,
+            fields: Vec::from_slice(alloc, keys.fields())?,
+            codes: IndexSet::new(alloc),
+            entries: Vec::new(alloc),
+            scratch: Vec::new(alloc),
+        })
+    }
+
+    /// Adds a row to the group with its key, or as a new group that goes last. The labels of its addresses are those of
+    /// the labeller; without one no address has a label. A row whose key is known takes no memory but for scratch, which
+    /// is kept. Where memory is refused, the groups stay as they were.
+    pub fn add<L: Labeller>(&mut self, row: &Row, labeller: Option<&L>) -> Result<(), AllocError>
+        requires { record_count self.old.groups < 2 ^ 64 - 1 }
+        ensures fields { self.new.fields ≡ self.old.fields }
+        // Where these were the groups of rows with their keys, they are those of the rows followed by this one.
+        ensures ok { let label = row_label (option_map (λ l. (L.version_of l.now, L.label l.now)) labeller.entry) in
+            let added = row_view row.now in
+            OnOk result ((rows : List KeyedRow) → self.old.groups ≡ groups_of_keyed rows → self.new.groups
+            ≡ groups_of_keyed (rows ++ (key_of label self.old.fields added, added) ∷ [])) }
+        ensures count { OnOk result (record_count self.new.groups ≡ record_count self.old.groups + 1) }
+        ensures err { OnErr result (self.new ≡ self.old) }
+    {
+        self.scratch.clear();
+        append_key(&mut self.scratch, self.fields.as_slice(), row, labeller)?;
+        match place_of(&self.codes, self.scratch.as_slice()) {
+            Some(place) => grow(&mut self.entries, place, row),
+            None => {
+                let key = key_parts(self.alloc, self.fields.as_slice(), row, labeller)?;
+                let code = Vec::from_slice(self.alloc, self.scratch.as_slice())?;
+                let totals = Totals::of_row(row);
+                enter(
+                    &mut self.codes,
+                    &mut self.entries,
+                    code,
+                    Entry { key, totals },
+                )?;
+            }
+        }
+        Ok(())
+    }
+
+    /// The fields of the keys. Each key has a part for each field.
+    pub fn fields(&self) -> &[KeyField]
+        ensures value { result.now ≡ self.now.fields }
+        ensures parts { All (λ g. length g.key ≡ length self.now.fields) self.now.groups }
+    {
+        self.fields.as_slice()
+    }
+
+    /// How many groups there are.
+    pub fn group_count(&self) -> usize
+        ensures { result ≡ length self.now.groups }
+    {
+        self.entries.len()
+    }
+
+    /// The group at a place, from 0 in the order of the first rows.
+    pub fn group(&self, place: usize) -> Option<Group<'_>>
+        ensures { option_map group_model result ≡ slice_get self.now.groups place }
+    {
+        match self.entries.as_slice().get(place) {
+            Some(entry) => Some(entry.group()),
+            None => None,
+        }
+    }
+
+    /// The groups in the order of their keys.
+    pub fn sorted(&self) -> Result<Vec<Group<'_>>, AllocError>
+        ensures value { IfOk result (λ groups. map group_model groups.items ≡ sorted_groups self.now.groups) }
+        // They are the groups in another order, in which none stands before the one in front of it.
+        ensures permutation { IfOk result (λ groups. IsPermutation self.now.groups (map group_model groups.items)) }
+        ensures rises { IfOk result (λ groups. IsSortedBy is_before (map group_model groups.items)) }
+    {
+        in_order(groups_of(self.alloc, self.entries.as_slice())?)
+    }
+}

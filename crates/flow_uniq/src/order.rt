@@ -1,0 +1,71 @@
+//! The order of keys.
+ghost use Rattle.std.specs.Prelude.{◌≡◌, map, option_copied};
+ghost use Rattle.std.specs.Cmp.Lexicographic.{slice_cmp};
+ghost use Rattle.std.specs.Ordering.{nat_cmp};
+ghost use Rattle.flow_uniq.specs.Key.{AddressPart, label_numbers};
+ghost use Rattle.flow_uniq.specs.Parts.{part_model};
+ghost use Rattle.flow_uniq.specs.Sorted.{key_order, part_order};
+
+use crate::part::KeyPart;
+use crate::value::version_number;
+use prefix_keys::Addr;
+use std::cmp::Ordering;
+
+// How two labels compare: none before any, and texts by their bytes.
+fn compare_labels(a: Option<&[u8]>, b: Option<&[u8]>) -> Ordering
+    ensures { result ≡ slice_cmp nat_cmp (label_numbers (option_copied a.entry)) (label_numbers (option_copied b.entry)) }
+{
+    match (a, b) {
+        (None, None) => Ordering::Equal,
+        (None, Some(_)) => Ordering::Less,
+        (Some(_), None) => Ordering::Greater,
+        (Some(a), Some(b)) => a.cmp(&b),
+    }
+}
+
+// How two addresses compare: those of IPv4 before those of IPv6, and then by their values.
+fn compare_addresses(a: Addr, b: Addr) -> Ordering
+    ensures { result ≡ part_order (AddressPart (a.version, a.value)) (AddressPart (b.version, b.value)) }
+{
+    match version_number(a.version).cmp(&version_number(b.version)) {
+        Ordering::Equal => a.value.cmp(&b.value),
+        order => order,
+    }
+}
+
+// How two parts compare.
+fn compare_parts(a: &KeyPart, b: &KeyPart) -> Ordering
+    ensures { result ≡ part_order (part_model a.now) (part_model b.now) }
+{
+    match (a, b) {
+        (KeyPart::Address(a), KeyPart::Address(b)) => compare_addresses(*a, *b),
+        (KeyPart::Address(_), KeyPart::Number(_)) => Ordering::Less,
+        (KeyPart::Address(_), KeyPart::Label(_)) => Ordering::Less,
+        (KeyPart::Number(_), KeyPart::Address(_)) => Ordering::Greater,
+        (KeyPart::Number(a), KeyPart::Number(b)) => a.cmp(b),
+        (KeyPart::Number(_), KeyPart::Label(_)) => Ordering::Less,
+        (KeyPart::Label(_), KeyPart::Address(_)) => Ordering::Greater,
+        (KeyPart::Label(_), KeyPart::Number(_)) => Ordering::Greater,
+        (KeyPart::Label(a), KeyPart::Label(b)) => compare_labels(a.text(), b.text()),
+    }
+}
+
+/// How two keys compare: by their parts from the left.
+#[tactic(auto, using(crate::proofs::Codes::longer_is_greater))]
+pub fn compare_keys(a: &[KeyPart], b: &[KeyPart]) -> Ordering
+    ensures { result ≡ key_order (map part_model a.now) (map part_model b.now) }
+{
+    match a {
+        [] => match b {
+            [] => Ordering::Equal,
+            [_, ..] => Ordering::Less,
+        },
+        [x, xs @ ..] => match b {
+            [] => Ordering::Greater,
+            [y, ys @ ..] => match compare_parts(x, y) {
+                Ordering::Equal => compare_keys(xs, ys),
+                order => order,
+            },
+        },
+    }
+}

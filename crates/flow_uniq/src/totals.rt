@@ -1,0 +1,45 @@
+ghost use Rattle.std.specs.Prelude.{◌≡◌, ◌<◌, ◌≤◌, ◌-◌, ◌^◌};
+
+use flow_rows::Row;
+
+/// The totals of the rows of a group.
+#[derive(Clone, Copy, Debug, PartialEq, Eq)]
+pub struct Totals {
+    /// How many rows there are.
+    pub records: u64,
+    /// How many packets they have together.
+    pub packets: u128,
+    /// How many bytes these have, IP headers included.
+    pub octets: u128,
+}
+
+impl Totals {
+    ghost use Rattle.flow_rows.specs.Row.{row_view};
+    ghost use Rattle.flow_uniq.specs.Kept.{IsBounded, first_totals, with_row};
+
+    /// The totals of one row.
+    pub fn of_row(row: &Row) -> Totals
+        ensures value { result ≡ first_totals (row_view row.now) }
+        ensures packets { row.now.packets ≤ 2 ^ 64 - 1 }
+        ensures octets { row.now.octets ≤ 2 ^ 64 - 1 }
+    {
+        Totals {
+            records: 1,
+            packets: u128::from(row.packets),
+            octets: u128::from(row.octets),
+        }
+    }
+
+    /// Adds one more row.
+    pub fn add(&mut self, row: &Row)
+        requires bounded { IsBounded self.old }
+        requires few { self.old.records < 2 ^ 64 - 1 }
+        ensures value { self.new ≡ with_row self.old (row_view row.now) }
+        ensures packets { row.now.packets ≤ 2 ^ 64 - 1 }
+        ensures octets { row.now.octets ≤ 2 ^ 64 - 1 }
+    {
+        self.records += 1;
+        self.packets += u128::from(row.packets);
+        self.octets += u128::from(row.octets);
+    }
+}
