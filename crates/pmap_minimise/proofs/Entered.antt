@@ -1,0 +1,190 @@
+-- The entries of a node and of those below it.
+use Rattle.std.proofs.Common.{◌≡◌, ℕ, zero, suc, ◌+◌, ◌-◌, ◌*◌, ◌<◌, ◌≤◌, ◌∙◌, Bool, true, false, cond, List, [], ◌∷◌, ◌++◌, Option, Some, None, All, length, map, slice_get, refl, sym, ap, subst, arith}
+use Rattle.std.specs.Option.{ForSome}
+use Rattle.std.proofs.lemmas.Bool.{cond-true, cond-false}
+use Rattle.std.proofs.lemmas.List.{append-nil, append_assoc, map-append}
+use Rattle.std.proofs.lemmas.List.Elements.{All-push, All-weaker}
+use Rattle.std.proofs.lemmas.Option.{none-some, same_Some}
+use Rattle.prefix_keys.specs.Block.{first_of}
+use Rattle.prefix_keys.specs.Version.{width_of}
+use Rattle.prefix_keys.specs.declared.block.Block.{Block}
+use Rattle.prefix_keys.specs.declared.version.Version.{Version}
+use Rattle.pmap_text.specs.Label.{IsLabelTable}
+use Rattle.pmap_text.specs.ListModel.{Prefix}
+use Rattle.pmap_text.specs.MapModel.{Label}
+use Rattle.pmap_text.specs.MapText.{text_at}
+use Rattle.pmap_text.specs.PrefixList.{prefix_of}
+use Rattle.pmap_text.specs.declared.entry.Entry.{Entry}
+use Rattle.pmap_text.specs.declared.label.LabelId.{LabelId}
+use Rattle.pmap_text.proofs.MovedBlocks.{first_of-whole}
+use Rattle.pmap_cert.specs.CertificateForm.{IsRising}
+use Rattle.pmap_cert.specs.CertificateModel.{Tree}
+use Rattle.pmap_cert.specs.MinimalPair.{entries_of, handed_on, has_inherited, least_label, own_entry}
+use Rattle.pmap_cert.specs.Node.{HasNumberForm, tree_of}
+use Rattle.pmap_cert.specs.declared.node.Node.{Node}
+use Rattle.pmap_cert.specs.declared.node.Node.TheVariants.{Inner', Leaf}
+use Rattle.label_trie.specs.Leaf.{number_of}
+use Rattle.label_trie.specs.Parts.{IsHalf}
+use Rattle.pmap_minimise.specs.Entered.{AddsEntries, IsEntryOf, text_of}
+use Rattle.pmap_minimise.specs.Numbers.{IsOwn, IsOwnBy, IsSound, keeps, numbers_of, set_of, HasHalves}
+use Rattle.pmap_minimise.proofs.Joined.{half-room}
+use Rattle.pmap_minimise.proofs.Texts.{keeps-texts, least-texts}
+
+-- a block begins at its first address
+block-first : (block : Block) → block.value ≡ first_of (width_of block.version) block.len (number_of block)
+block-first block =
+    sym (first_of-whole (width_of block.version) block.len block.value (width_of block.version - block.len) refl block.no_host_bit)
+
+-- the own entry of a node with the set s, and what it hands on
+record IsHanded (table : List Label) (s : List Label) (block : Block) (inherited : Option LabelId) (old new : List Entry) (id : LabelId) : Type 0 where
+  entries : map (prefix_of table) new ≡ map (prefix_of table) old
+      ++ own_entry (width_of block.version) table s (text_of table inherited) block.len (number_of block)
+  label : handed_on table s (text_of table inherited) ≡ Some (text_at table id.0)
+  known : id.0 < length table
+
+module _ (table : List Label) (ok : IsLabelTable table) (ids : List LabelId) (block : Block) (inherited : Option LabelId) (old new : List Entry) (id : LabelId)
+    (rising : IsRising (length table) 0 (numbers_of ids)) (known : ForSome inherited (λ i. i.0 < length table)) where
+  abbrev s : List Label
+  s = map (text_at table) (numbers_of ids)
+
+  abbrev own_prefix : Prefix
+  own_prefix = record { start = first_of (width_of block.version) block.len (number_of block); bits = block.len; label = least_label table s }
+
+  by_test : (b : Bool) → keeps ids inherited ≡ b → IsOwnBy b ids block inherited old new id → (ids' : List LabelId) → ids ≡ ids' → IsHanded table s block inherited old new id
+  by_test true e own ids' same =
+      let test : has_inherited s (text_of table inherited) ≡ true = keeps-texts table ok ids inherited rising known ∙ e in
+      record {
+        entries = ap (λ (es : List Entry). map (prefix_of table) es) own.0 ∙ sym (append-nil (map (prefix_of table) old))
+            ∙ ap (λ (ps : List Prefix). map (prefix_of table) old ++ ps) (sym (cond-true (has_inherited s (text_of table inherited)) [] (own_prefix ∷ []) test));
+        label = cond-true (has_inherited s (text_of table inherited)) (text_of table inherited) (Some (least_label table s)) test ∙ ap (text_of table) own.1;
+        known = known id own.1;
+      }
+  by_test false e own [] same = absurd (none-some id (subst (λ (l : List LabelId). slice_get l 0 ≡ Some id) same own.1))
+  by_test false e own (first ∷ rest) same =
+      let test : has_inherited s (text_of table inherited) ≡ false = keeps-texts table ok ids inherited rising known ∙ e in
+      let is : first ≡ id = same_Some first id (subst (λ (l : List LabelId). slice_get l 0 ≡ Some id) same own.1) in
+      let up : IsRising (length table) 0 (first.0 ∷ numbers_of rest) = subst (λ (l : List LabelId). IsRising (length table) 0 (numbers_of l)) same rising in
+      let least : least_label table s ≡ text_at table id.0 =
+      ap (λ (l : List LabelId). least_label table (map (text_at table) (numbers_of l))) same ∙ least-texts table ok 0 first.0 (numbers_of rest) up
+      ∙ ap (λ (i : LabelId). text_at table i.0) is in
+      let prefix : prefix_of table (record { block = block; label = id }) ≡ own_prefix =
+      λ i. record { start = block-first block i; bits = block.len; label = sym least i } in
+      record {
+        entries = ap (λ (es : List Entry). map (prefix_of table) es) own.0 ∙ map-append (prefix_of table) old (record { block = block; label = id } ∷ [])
+            ∙ ap (λ (p : Prefix). map (prefix_of table) old ++ p ∷ []) prefix
+            ∙ ap (λ (ps : List Prefix). map (prefix_of table) old ++ ps) (sym (cond-false (has_inherited s (text_of table inherited)) [] (own_prefix ∷ []) test));
+        label = cond-false (has_inherited s (text_of table inherited)) (text_of table inherited) (Some (least_label table s)) test ∙ ap (λ (x : Label). Some x) least;
+        known = subst (λ (i : LabelId). i.0 < length table) is up.1;
+      }
+
+  handed : (ns : List ℕ) → numbers_of ids ≡ ns → IsOwn ids block inherited old new id → IsHanded table (map (text_at table) ns) block inherited old new id
+  handed ns is own =
+      subst (λ (l : List ℕ). IsHanded table (map (text_at table) l) block inherited old new id) is (by_test (keeps ids inherited) refl own ids refl)
+
+-- a label that is handed on
+one-known : (count : ℕ) (id : LabelId) → id.0 < count → ForSome (Some id) (λ i. i.0 < count)
+one-known count id known = λ x e. subst (λ (i : LabelId). i.0 < count) (same_Some id x e) known
+
+-- the own entry fits the block, and what is handed on is known
+own-fit : (count : ℕ) (ids : List LabelId) (block : Block) (inherited : Option LabelId) (old new : List Entry) (id : LabelId)
+    → IsRising count 0 (numbers_of ids) → ForSome inherited (λ i. i.0 < count) → IsOwn ids block inherited old new id
+    → All (IsEntryOf block count) old → All (IsEntryOf block count) new × (id.0 < count)
+own-fit count ids block inherited old new id rising known own all = by (keeps ids inherited) own ids refl
+  where
+    by : (b : Bool) → IsOwnBy b ids block inherited old new id → (ids' : List LabelId) → ids ≡ ids' → All (IsEntryOf block count) new × (id.0 < count)
+    by true own ids' same = (
+      subst (λ (es : List Entry). All (IsEntryOf block count) es) (sym own.0) all,
+      known id own.1,
+    )
+    by false own [] same = absurd (none-some id (subst (λ (l : List LabelId). slice_get l 0 ≡ Some id) same own.1))
+    by false own (first ∷ rest) same =
+        let is : first ≡ id = same_Some first id (subst (λ (l : List LabelId). slice_get l 0 ≡ Some id) same own.1) in
+        let up : IsRising count 0 (first.0 ∷ numbers_of rest) = subst (λ (l : List LabelId). IsRising count 0 (numbers_of l)) same rising in
+        let small : id.0 < count = subst (λ (i : LabelId). i.0 < count) is up.1 in (
+          subst (λ (es : List Entry). All (IsEntryOf block count) es) (sym own.0)
+              (All-push (IsEntryOf block count) old (record { block = block; label = id }) all (record { version = refl; known = small })),
+          small,
+        )
+
+pub leaf-adds : (x : LabelId) (block : Block) (inherited : Option LabelId) (old new : List Entry) (ids : List LabelId) (id : LabelId) → numbers_of ids ≡ x.0 ∷ []
+    → IsOwn ids block inherited old new id → AddsEntries (Leaf x) block inherited old new
+leaf-adds x block inherited old new ids id is own = record {
+  texts = λ table ok known form.
+      (handed table ok ids block inherited old new id (subst (λ (l : List ℕ). IsRising (length table) 0 l) (sym is) (omega arith, form, tt)) known (x.0 ∷ []) is own).entries;
+  fit = λ count known form all.
+      (own-fit count ids block inherited old new id (subst (λ (l : List ℕ). IsRising count 0 l) (sym is) (omega arith, form, tt)) known own all).0;
+}
+
+-- entries of a half, as those of the half's number
+pub half-entries : (table : List Label) (t : Tree) (h h' : Option Label) (W W' n n' q q' : ℕ) → W' ≡ W → h' ≡ h → n' ≡ n → q' ≡ q
+    → entries_of W' table t h' n' q' ≡ entries_of W table t h n q
+half-entries table t h h' W W' n n' q q' e f g k =
+    ap (λ (v : ℕ). entries_of v table t h' n' q') e ∙ ap (λ (o : Option Label). entries_of W table t o n' q') f
+    ∙ ap (λ (v : ℕ). entries_of W table t h v q') g ∙ ap (λ (v : ℕ). entries_of W table t h n v) k
+
+joined-entries : (old own lower upper new0 new1 new2 : List Prefix) → new0 ≡ old ++ own → new1 ≡ new0 ++ lower → new2 ≡ new1 ++ upper → new2 ≡ old ++ (own ++ (lower ++ upper))
+joined-entries old own lower upper new0 new1 new2 e f g =
+    g ∙ ap (λ (l : List Prefix). l ++ upper) f ∙ ap (λ (l : List Prefix). (l ++ lower) ++ upper) e
+    ∙ append_assoc (old ++ own) lower upper ∙ append_assoc old own (lower ++ upper)
+
+pub inner-adds : (node left right : Node) (block low high : Block) (inherited : Option LabelId) (old new0 new1 new2 : List Entry) (ids : List LabelId) (id : LabelId)
+    → HasHalves node left right → numbers_of ids ≡ set_of node → IsOwn ids block inherited old new0 id → IsHalf 0 block low → IsHalf 1 block high
+    → AddsEntries left low (Some id) new0 new1 → AddsEntries right high (Some id) new1 new2 → AddsEntries node block inherited old new2
+inner-adds (Leaf x) left right block low high inherited old new0 new1 new2 ids id halves is own low_half high_half lower upper = absurd halves
+inner-adds (Inner' cost set p l q r) left right block low high inherited old new0 new1 new2 ids id halves is own low_half high_half lower upper = record {
+  texts = λ table ok known form.
+      let inner = opened (length table) form in
+      let up = subst (λ (ns : List ℕ). IsRising (length table) 0 ns) (sym is) inner.1 in
+      let hand = handed table ok ids block inherited old new0 id up known set is own in
+      joined-entries _ _ _ _ _ _ _ hand.entries
+      (lower.texts table ok (one-known (length table) id hand.known) (left_form (length table) inner.2)
+      ∙ ap (λ (ps : List Prefix). map (prefix_of table) new0 ++ ps)
+      (ap (λ (n : Node). entries_of (width_of low.version) table (tree_of table n) (Some (text_at table id.0)) low.len (number_of low)) (sym halves.0)
+      ∙ half-entries table (tree_of table l) (handed_on table (map (text_at table) set) (text_of table inherited)) (Some (text_at table id.0)) (width_of block.version) (width_of low.version) (suc block.len) low.len
+      (2 * number_of block) (number_of low) (ap width_of low_half.version) (sym hand.label) (let e = low_half.len in omega arith) (let e = low_half.number in omega arith)))
+      (upper.texts table ok (one-known (length table) id hand.known) (right_form (length table) inner.3)
+      ∙ ap (λ (ps : List Prefix). map (prefix_of table) new1 ++ ps)
+      (ap (λ (n : Node). entries_of (width_of high.version) table (tree_of table n) (Some (text_at table id.0)) high.len (number_of high)) (sym halves.1)
+      ∙ half-entries table (tree_of table r) (handed_on table (map (text_at table) set) (text_of table inherited)) (Some (text_at table id.0)) (width_of block.version) (width_of high.version) (suc block.len) high.len
+      (2 * number_of block + 1) (number_of high) (ap width_of high_half.version) (sym hand.label) (let e = high_half.len in omega arith) (let e = high_half.number in omega arith)));
+  fit = λ count known form all.
+      let inner = opened count form in
+      let own_all = own-fit count ids block inherited old new0 id (subst (λ (ns : List ℕ). IsRising count 0 ns) (sym is) inner.1) known own all in
+      let low_all = lower.fit count (one-known count id own_all.1) (left_form count inner.2)
+      (All-weaker (IsEntryOf block count) (IsEntryOf low count) (λ e fits. record { version = fits.version ∙ sym low_half.version; known = fits.known }) new0 own_all.0) in
+      let high_all = upper.fit count (one-known count id own_all.1) (right_form count inner.3)
+      (All-weaker (IsEntryOf low count) (IsEntryOf high count) (λ e fits. record { version = fits.version ∙ low_half.version ∙ sym high_half.version; known = fits.known }) new1 low_all) in
+      All-weaker (IsEntryOf high count) (IsEntryOf block count) (λ e fits. record { version = fits.version ∙ high_half.version; known = fits.known }) new2 high_all;
+}
+  where
+    opened : (count : ℕ) → HasNumberForm count (Inner' cost set p l q r) (width_of block.version - block.len)
+        → HasNumberForm count (Inner' cost set p l q r) (suc (width_of low.version - low.len))
+    opened count form = subst (λ (k : ℕ). HasNumberForm count (Inner' cost set p l q r) k) (half-room 0 block low low_half) form
+
+    left_form : (count : ℕ) → HasNumberForm count l (width_of low.version - low.len) → HasNumberForm count left (width_of low.version - low.len)
+    left_form count form = subst (λ (n : Node). HasNumberForm count n (width_of low.version - low.len)) halves.0 form
+
+    right_form : (count : ℕ) → HasNumberForm count r (width_of low.version - low.len) → HasNumberForm count right (width_of high.version - high.len)
+    right_form count form =
+        let a = half-room 0 block low low_half in
+        let b = half-room 1 block high high_half in
+        subst (λ (n : Node). HasNumberForm count n (width_of high.version - high.len)) halves.1
+        (subst (λ (k : ℕ). HasNumberForm count r k) (omega arith) form)
+
+-- the two nodes of an inner node with sets that are not empty have host bits
+pub sound-halves : (node left right : Node) (block low high : Block) → HasHalves node left right → IsHalf 0 block low → IsHalf 1 block high
+    → IsSound node (width_of block.version - block.len) → IsSound left (width_of low.version - low.len) × IsSound right (width_of high.version - high.len)
+sound-halves (Leaf x) left right block low high halves low_half high_half sound = absurd halves
+sound-halves (Inner' cost set p l q r) left right block low high halves low_half high_half sound =
+    let a = half-room 0 block low low_half in
+    let b = half-room 1 block high high_half in
+    let inner : IsSound (Inner' cost set p l q r) (suc (width_of low.version - low.len)) = subst (λ (k : ℕ). IsSound (Inner' cost set p l q r) k) a sound in (
+      subst (λ (n : Node). IsSound n (width_of low.version - low.len)) halves.0 inner.1,
+      subst (λ (n : Node). IsSound n (width_of high.version - high.len)) halves.1 (subst (λ (k : ℕ). IsSound r k) (omega arith) inner.2),
+    )
+
+-- an inner node has room
+pub sound-room : (node left right : Node) (room : ℕ) → HasHalves node left right → IsSound node room → 0 < room
+sound-room (Leaf x) left right room halves sound = absurd halves
+sound-room (Inner' cost set p l q r) left right zero halves sound = absurd sound
+sound-room (Inner' cost set p l q r) left right (suc room) halves sound = omega arith

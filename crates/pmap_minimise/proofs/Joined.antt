@@ -1,0 +1,192 @@
+-- The certificate's nodes: a leaf, and the node of two halves.
+use Rattle.std.proofs.Common.{◌≡◌, ℕ, zero, suc, ◌+◌, ◌-◌, ◌*◌, ◌/◌, ◌^◌, ◌<◌, ◌≤◌, ◌∙◌, List, [], ◌∷◌, ◌++◌, Option, Some, None, All, IsSome, length, map, refl, sym, ap, subst, arith, length-append}
+use Rattle.std.specs.List.{AllByRecursion}
+use Rattle.std.proofs.lemmas.List.Elements.{All-from_recursion, All-head, All-weaker, recursion_from_All}
+use Rattle.std.proofs.lemmas.Option.{same_Some}
+use Rattle.prefix_keys.specs.Version.{width_of}
+use Rattle.prefix_keys.specs.declared.block.Block.{Block}
+use Rattle.pmap_text.specs.Label.{IsLabelTable}
+use Rattle.pmap_text.specs.MapModel.{IsSettled, Label, MapModel, settled_label}
+use Rattle.pmap_text.specs.MapText.{text_at}
+use Rattle.pmap_text.specs.declared.label.LabelId.{LabelId}
+use Rattle.pmap_cert.specs.CertificateForm.{IsRising}
+use Rattle.pmap_cert.specs.CertificateModel.{Pair, Tree, claim_of}
+use Rattle.pmap_cert.specs.ExactPair.{IsSamePair, exact_pair}
+use Rattle.pmap_cert.specs.MinimalPair.{StandsFor}
+use Rattle.pmap_cert.specs.Node.{HasNumberForm, tree_of}
+use Rattle.pmap_cert.specs.declared.node.Node.{Node}
+use Rattle.pmap_cert.specs.declared.node.Node.TheVariants.{Inner', Leaf}
+use Rattle.label_trie.specs.Leaf.{model_of, number_of}
+use Rattle.label_trie.specs.Parts.{IsHalf}
+use Rattle.label_trie.specs.TrieModel.{IsSettledLeaf, IsUndivided, LeafModel}
+use Rattle.pmap_minimise.specs.Certified.{IsCertified, IsKnownLeaf}
+use Rattle.pmap_minimise.specs.Numbers.{IsExact, IsJoined, IsSound, cost_of, set_of}
+use Rattle.pmap_minimise.proofs.Texts.{exact-cost, exact-rising, exact-some, same_pair}
+
+-- what holds of two lists together holds of each
+parts-recursion : {X : Type 0} (P : X → Type 0) (xs ys : List X) → AllByRecursion P (xs ++ ys) → AllByRecursion P xs × AllByRecursion P ys
+parts-recursion P [] ys all = (tt, all)
+parts-recursion P (x ∷ xs) ys all = let rest = parts-recursion P xs ys all.1 in ((all.0, rest.0), rest.1)
+
+pub all-left : {X : Type 0} (P : X → Type 0) (all xs ys : List X) → all ≡ xs ++ ys → All P all → All P xs
+all-left {X} P all xs ys is holds =
+    All-from_recursion P xs (parts-recursion P xs ys (recursion_from_All P (xs ++ ys) (subst (λ (l : List X). All P l) is holds))).0
+
+pub all-right : {X : Type 0} (P : X → Type 0) (all xs ys : List X) → all ≡ xs ++ ys → All P all → All P ys
+all-right {X} P all xs ys is holds =
+    All-from_recursion P ys (parts-recursion P xs ys (recursion_from_All P (xs ++ ys) (subst (λ (l : List X). All P l) is holds))).1
+
+-- a node's claim by its numbers
+claim-is : (table : List Label) (node : Node) → claim_of (tree_of table node) ≡ record { cost = cost_of node; labels = map (text_at table) (set_of node) }
+claim-is table (Leaf id) = refl
+claim-is table (Inner' cost set p left q right) = refl
+
+pub claim-cost : (table : List Label) (node : Node) → (claim_of (tree_of table node)).cost ≡ cost_of node
+claim-cost table (Leaf id) = refl
+claim-cost table (Inner' cost set p left q right) = refl
+
+set-rising : (count : ℕ) (node : Node) (room : ℕ) → HasNumberForm count node room → IsRising count 0 (set_of node)
+set-rising count (Leaf id) room form = (omega arith, form, tt)
+set-rising count (Inner' cost set p left q right) zero form = absurd form
+set-rising count (Inner' cost set p left q right) (suc room) form = form.1
+
+pub set-some : (node : Node) (room : ℕ) → IsSound node room → 0 < length (set_of node)
+set-some (Leaf id) room sound = omega arith
+set-some (Inner' cost set p left q right) zero sound = absurd sound
+set-some (Inner' cost set p left q right) (suc room) sound = sound.0
+
+pub moved : (m : MapModel) (t : Tree) (n n' q q' : ℕ) → n ≡ n' → q ≡ q' → StandsFor m t n q → StandsFor m t n' q'
+moved m t n n' q q' e f stands = subst (λ (k : ℕ). StandsFor m t k q') e (subst (λ (k : ℕ). StandsFor m t n k) f stands)
+
+-- a half has one host bit less
+pub half-room : (side : ℕ) (block half : Block) → IsHalf side block half → width_of block.version - block.len ≡ suc (width_of half.version - half.len)
+half-room side block half is =
+    let within = half.len_in_range in
+    let len = is.len in
+    let width : width_of half.version ≡ width_of block.version = ap width_of is.version in
+    omega arith
+
+no_number : (P : ℕ) → 0 / P ≡ 0
+no_number P = omega arith
+
+-- the block of all addresses has the number 0
+pub whole-number : (block : Block) → block.value ≡ 0 → number_of block ≡ 0
+whole-number block value =
+    ap (λ (a : ℕ). a / 2 ^ (width_of block.version - block.len)) value ∙ no_number (2 ^ (width_of block.version - block.len))
+
+pub leaf-certified : (block : Block) (leaves : List LeafModel) (id : LabelId) → leaves ≡ model_of (record { block = block; label = Some id }) ∷ []
+    → IsCertified block leaves (Leaf id)
+leaf-certified block leaves id is = record {
+  stands = λ m ok settled undivided.
+      let own = All-head (IsSettledLeaf m) (model_of (record { block = block; label = Some id })) [] (subst (λ (l : List LeafModel). All (IsSettledLeaf m) l) is settled) in
+      subst (λ (n : ℕ). IsSettled m block.len (number_of block) (text_at m.table n)) (sym (same_Some id.0 own.id own.is)) own.settled;
+  form = λ count known.
+      (All-head (IsKnownLeaf count) (model_of (record { block = block; label = Some id })) [] (subst (λ (l : List LeafModel). All (IsKnownLeaf count) l) is known)) id.0 refl;
+  sound = tt;
+  cost = subst (λ (l : List LeafModel). 0 < length l) (sym is) (omega arith);
+}
+
+settled-known : (m : MapModel) (leaf : LeafModel) → IsSettledLeaf m leaf → IsKnownLeaf (length m.table) leaf
+settled-known m leaf settled = λ x e. subst (λ (n : ℕ). n < length m.table) (same_Some settled.id x (sym settled.is ∙ e)) settled.known
+
+module _ (block low_block high_block : Block) (leaves low_leaves high_leaves : List LeafModel) (low high : Node)
+    (low_half : IsHalf 0 block low_block) (high_half : IsHalf 1 block high_block) (leaves_are : leaves ≡ low_leaves ++ high_leaves)
+    (unsettled : (m : MapModel) → All (IsUndivided m) leaves → settled_label m block.len (number_of block) ≡ None)
+    (few : length leaves < 2 ^ 32) (lower : IsCertified low_block low_leaves low) (upper : IsCertified high_block high_leaves high) where
+  abbrev room : ℕ
+  room = width_of low_block.version - low_block.len
+
+  room_is : width_of block.version - block.len ≡ suc room
+  room_is = half-room 0 block low_block low_half
+
+  same_room : width_of high_block.version - high_block.len ≡ room
+  same_room = let a = half-room 0 block low_block low_half in let b = half-room 1 block high_block high_half in omega arith
+
+  low_form : (count : ℕ) → All (IsKnownLeaf count) leaves → HasNumberForm count low room
+  low_form count known = lower.form count (all-left (IsKnownLeaf count) leaves low_leaves high_leaves leaves_are known)
+
+  high_form : (count : ℕ) → All (IsKnownLeaf count) leaves → HasNumberForm count high room
+  high_form count known =
+      subst (λ (r : ℕ). HasNumberForm count high r) same_room (upper.form count (all-right (IsKnownLeaf count) leaves low_leaves high_leaves leaves_are known))
+
+  low_settled : (m : MapModel) → All (IsSettledLeaf m) leaves → All (IsSettledLeaf m) low_leaves
+  low_settled m settled = all-left (IsSettledLeaf m) leaves low_leaves high_leaves leaves_are settled
+
+  high_settled : (m : MapModel) → All (IsSettledLeaf m) leaves → All (IsSettledLeaf m) high_leaves
+  high_settled m settled = all-right (IsSettledLeaf m) leaves low_leaves high_leaves leaves_are settled
+
+  known_leaves : (m : MapModel) → All (IsSettledLeaf m) leaves → All (IsKnownLeaf (length m.table)) leaves
+  known_leaves m settled = All-weaker (IsSettledLeaf m) (IsKnownLeaf (length m.table)) (settled-known m) leaves settled
+
+  stands_low : (m : MapModel) → IsLabelTable m.table → All (IsSettledLeaf m) leaves → All (IsUndivided m) leaves
+      → StandsFor m (tree_of m.table low) (suc block.len) (2 * number_of block)
+  stands_low m ok settled undivided =
+      let len = low_half.len in
+      let number = low_half.number in
+      moved m (tree_of m.table low) low_block.len (suc block.len) (number_of low_block) (2 * number_of block) (omega arith) (omega arith)
+      (lower.stands m ok (low_settled m settled) (all-left (IsUndivided m) leaves low_leaves high_leaves leaves_are undivided))
+
+  stands_high : (m : MapModel) → IsLabelTable m.table → All (IsSettledLeaf m) leaves → All (IsUndivided m) leaves
+      → StandsFor m (tree_of m.table high) (suc block.len) (2 * number_of block + 1)
+  stands_high m ok settled undivided =
+      let len = high_half.len in
+      let number = high_half.number in
+      moved m (tree_of m.table high) high_block.len (suc block.len) (number_of high_block) (2 * number_of block + 1) (omega arith) (omega arith)
+      (upper.stands m ok (high_settled m settled) (all-right (IsUndivided m) leaves low_leaves high_leaves leaves_are undivided))
+
+  pair : (m : MapModel) (cost : ℕ) (set : List ℕ) → IsLabelTable m.table → All (IsSettledLeaf m) leaves → IsExact low high cost set
+      → IsSamePair (record { cost = cost; labels = map (text_at m.table) set }) (exact_pair (claim_of (tree_of m.table low)) (claim_of (tree_of m.table high)))
+  pair m cost set ok settled exact =
+      let known = known_leaves m settled in
+      let claim : Pair = record { cost = cost; labels = map (text_at m.table) set } in
+      subst (λ (p : Pair). IsSamePair claim (exact_pair p (claim_of (tree_of m.table high)))) (sym (claim-is m.table low))
+      (subst (λ (p : Pair). IsSamePair claim (exact_pair (record { cost = cost_of low; labels = map (text_at m.table) (set_of low) }) p)) (sym (claim-is m.table high))
+      (same_pair m.table ok (cost_of low) (cost_of high) (set_of low) (set_of high) cost set
+      (set-rising (length m.table) low room (low_form (length m.table) known)) (set-rising (length m.table) high room (high_form (length m.table) known)) exact))
+
+  rising : (count : ℕ) (cost : ℕ) (set : List ℕ) → All (IsKnownLeaf count) leaves → IsExact low high cost set → IsRising count 0 set
+  rising count cost set known exact =
+      exact-rising count (cost_of low) (cost_of high) (set_of low) (set_of high) cost set
+      (set-rising count low room (low_form count known)) (set-rising count high room (high_form count known)) exact
+
+  cheap : (cost : ℕ) (set : List ℕ) → IsExact low high cost set → cost < length leaves
+  cheap cost set exact =
+      let most = exact-cost (cost_of low) (cost_of high) (set_of low) (set_of high) cost set exact in
+      let a = lower.cost in
+      let b = upper.cost in
+      let count : length leaves ≡ length low_leaves + length high_leaves = ap length leaves_are ∙ length-append low_leaves high_leaves in
+      omega arith
+
+  pub joined-certified : (node : Node) → IsJoined low high node → IsCertified block leaves node
+  joined-certified (Leaf id) joined = absurd joined
+  joined-certified (Inner' cost set p left q right) joined = record {
+    stands = λ m ok settled undivided. (
+      unsettled m undivided,
+      subst (λ (n : Node). IsSamePair (record { cost = cost; labels = map (text_at m.table) set }) (exact_pair (claim_of (tree_of m.table n)) (claim_of (tree_of m.table right)))) (sym joined.0)
+          (subst (λ (n : Node). IsSamePair (record { cost = cost; labels = map (text_at m.table) set }) (exact_pair (claim_of (tree_of m.table low)) (claim_of (tree_of m.table n)))) (sym joined.1)
+          (pair m cost set ok settled joined.2)),
+      subst (λ (n : Node). StandsFor m (tree_of m.table n) (suc block.len) (2 * number_of block)) (sym joined.0) (stands_low m ok settled undivided),
+      subst (λ (n : Node). StandsFor m (tree_of m.table n) (suc block.len) (2 * number_of block + 1)) (sym joined.1) (stands_high m ok settled undivided),
+    );
+    form = λ count known.
+        subst (λ (r : ℕ). HasNumberForm count (Inner' cost set p left q right) r) (sym room_is) (
+          (let small = cheap cost set joined.2 in omega arith),
+          rising count cost set known joined.2,
+          subst (λ (n : Node). HasNumberForm count n room) (sym joined.0) (low_form count known),
+          subst (λ (n : Node). HasNumberForm count n room) (sym joined.1) (high_form count known),
+        );
+    sound =
+        subst (λ (r : ℕ). IsSound (Inner' cost set p left q right) r) (sym room_is) (
+          exact-some (cost_of low) (cost_of high) (set_of low) (set_of high) cost set (set-some low room lower.sound) joined.2,
+          subst (λ (n : Node). IsSound n room) (sym joined.0) lower.sound,
+          subst (λ (n : Node). IsSound n room) (sym joined.1) (subst (λ (r : ℕ). IsSound high r) same_room upper.sound),
+        );
+    cost = cheap cost set joined.2;
+  }
+
+-- the root's node stands for the address space
+pub root-stands : (m : MapModel) (root : Node) (block : Block) (all leaves : List LeafModel) → IsCertified block leaves root → leaves ≡ all → IsLabelTable m.table
+    → All (IsSettledLeaf m) all → All (IsUndivided m) all → block.len ≡ 0 → block.value ≡ 0 → StandsFor m (tree_of m.table root) 0 0
+root-stands m root block all leaves certified is ok settled undivided len value =
+    moved m (tree_of m.table root) block.len 0 (number_of block) 0 len (whole-number block value)
+    (certified.stands m ok (subst (λ (l : List LeafModel). All (IsSettledLeaf m) l) (sym is) settled) (subst (λ (l : List LeafModel). All (IsUndivided m) l) (sym is) undivided))

@@ -1,0 +1,253 @@
+-- Two sets by rising numbers that are gone through together.
+use Rattle.std.proofs.Common.{◌≡◌, ℕ, zero, suc, ◌+◌, ◌^◌, ◌<◌, ◌≤◌, ◌==◌, ◌||◌, ◌∙◌, Bool, true, false, cond, List, [], ◌∷◌, ◌++◌, filter, length, take, get_or, All, refl, sym, ap, subst, arith}
+use Rattle.std.specs.List.{AllByRecursion, list_any}
+use Rattle.std.proofs.lemmas.Bool.{cond-true, cond-false, eq-eqb, ne_eqb}
+use Rattle.std.proofs.lemmas.List.{append-nil, append_assoc}
+use Rattle.std.proofs.lemmas.List.Elements.{All-from_recursion}
+use Rattle.std.proofs.lemmas.List.Folds.{list_any-append}
+use Rattle.pmap_text.specs.declared.label.LabelId.{LabelId}
+use Rattle.pmap_cert.specs.CertificateForm.{IsRising}
+use Rattle.pmap_minimise.specs.Numbers.{IsUnion, common_numbers, has_number, numbers_of}
+
+pub numbers-append : (xs ys : List LabelId) → numbers_of (xs ++ ys) ≡ numbers_of xs ++ numbers_of ys
+numbers-append [] ys = refl
+numbers-append (x ∷ xs) ys = ap (λ (ns : List ℕ). x.0 ∷ ns) (numbers-append xs ys)
+
+-- rising numbers from k on have none below k
+pub lacks : (b k : ℕ) (ns : List ℕ) (n : ℕ) → IsRising b k ns → n < k → has_number ns n ≡ false
+lacks b k [] n rising less = refl
+lacks b k (m ∷ ns) n rising less =
+    let least = rising.0 in
+    ap (λ (t : Bool). t || has_number ns n) (ne_eqb n m (λ e. omega arith)) ∙ lacks b (m + 1) ns n rising.2 (omega arith)
+
+-- a number below all of a list is none of its common ones with another
+common-above : (b k : ℕ) (ns : List ℕ) (y : ℕ) (s : List ℕ) → IsRising b k ns → y < k → common_numbers ns (y ∷ s) ≡ common_numbers ns s
+common-above b k [] y s rising less = refl
+common-above b k (n ∷ ns) y s rising less =
+    let least = rising.0 in
+    let other : (n == y) ≡ false = ne_eqb n y (λ e. omega arith) in
+    let rest = common-above b (n + 1) ns y s rising.2 (omega arith) in
+    rw (other, rest)
+
+common-first : (b k : ℕ) (x : ℕ) (r : List ℕ) (y : ℕ) (s : List ℕ) → IsRising b k (y ∷ s) → x < y → common_numbers (x ∷ r) (y ∷ s) ≡ common_numbers r (y ∷ s)
+common-first b k x r y s rising less =
+    let none : has_number (y ∷ s) x ≡ false = lacks b y (y ∷ s) x (omega arith, rising.1, rising.2) less in
+    cond-false (has_number (y ∷ s) x) (x ∷ common_numbers r (y ∷ s)) (common_numbers r (y ∷ s)) none
+
+common-same : (b k : ℕ) (x : ℕ) (r s : List ℕ) → IsRising b k (x ∷ r) → common_numbers (x ∷ r) (x ∷ s) ≡ x ∷ common_numbers r s
+common-same b k x r s rising =
+    let own : (x == x) ≡ true = eq-eqb x x refl in
+    let rest = common-above b (x + 1) r x s rising.2 (omega arith) in
+    rw (own, rest)
+
+pub common-none : (ns : List ℕ) → common_numbers ns [] ≡ []
+common-none [] = refl
+common-none (n ∷ ns) = common-none ns
+
+-- the common numbers so far and those of what is left are those of both sets
+pub record IsMerging (low high : List ℕ) (set : List ℕ) (lower higher : List LabelId) : Type 0 where
+  pub low_from : ℕ
+  pub high_from : ℕ
+  pub low_rising : IsRising (2 ^ 32) low_from (numbers_of lower)
+  pub high_rising : IsRising (2 ^ 32) high_from (numbers_of higher)
+  pub all : set ++ common_numbers (numbers_of lower) (numbers_of higher) ≡ common_numbers low high
+
+module _ (low high : List ℕ) (set : List ℕ) (x y : LabelId) (lower higher lower_rest higher_rest : List LabelId)
+    (lower_is : lower ≡ x ∷ lower_rest) (higher_is : higher ≡ y ∷ higher_rest) (merging : IsMerging low high set lower higher) where
+  abbrev low_from : IsRising (2 ^ 32) merging.low_from (x.0 ∷ numbers_of lower_rest)
+  low_from = rw lower_is at merging.low_rising
+
+  abbrev high_from : IsRising (2 ^ 32) merging.high_from (y.0 ∷ numbers_of higher_rest)
+  high_from = rw higher_is at merging.high_rising
+
+  abbrev both : set ++ common_numbers (x.0 ∷ numbers_of lower_rest) (y.0 ∷ numbers_of higher_rest) ≡ common_numbers low high
+  both =
+      subst (λ (ls : List LabelId). set ++ common_numbers (numbers_of ls) (y.0 ∷ numbers_of higher_rest) ≡ common_numbers low high) lower_is
+      (subst (λ (hs : List LabelId). set ++ common_numbers (numbers_of lower) (numbers_of hs) ≡ common_numbers low high) higher_is merging.all)
+
+  pub merging-lower : x.0 < y.0 → IsMerging low high set lower_rest higher
+  merging-lower less = record {
+    low_from = x.0 + 1;
+    high_from = merging.high_from;
+    low_rising = low_from.2;
+    high_rising = merging.high_rising;
+    all = rw higher_is (ap (λ (ns : List ℕ). set ++ ns) (sym (common-first (2 ^ 32) merging.high_from x.0 (numbers_of lower_rest) y.0 (numbers_of higher_rest) high_from less)) ∙ both);
+  }
+
+  pub merging-higher : y.0 < x.0 → IsMerging low high set lower higher_rest
+  merging-higher less = record {
+    low_from = merging.low_from;
+    high_from = y.0 + 1;
+    low_rising = merging.low_rising;
+    high_rising = high_from.2;
+    all =
+        rw lower_is (ap (λ (ns : List ℕ). set ++ ns) (sym (common-above (2 ^ 32) x.0 (x.0 ∷ numbers_of lower_rest) y.0 (numbers_of higher_rest)
+        (omega arith, low_from.1, low_from.2) less)) ∙ both);
+  }
+
+  pub merging-both : (new : List ℕ) → x.0 ≡ y.0 → new ≡ set ++ x.0 ∷ [] → IsMerging low high new lower_rest higher_rest
+  merging-both new same is = record {
+    low_from = x.0 + 1;
+    high_from = y.0 + 1;
+    low_rising = low_from.2;
+    high_rising = high_from.2;
+    all =
+        rw (is, append_assoc set (x.0 ∷ []) (common_numbers (numbers_of lower_rest) (numbers_of higher_rest)))
+        (ap (λ (ns : List ℕ). set ++ ns) (sym (common-same (2 ^ 32) merging.low_from x.0 (numbers_of lower_rest) (numbers_of higher_rest) low_from)
+        ∙ ap (λ (n : ℕ). common_numbers (x.0 ∷ numbers_of lower_rest) (n ∷ numbers_of higher_rest)) same) ∙ both);
+  }
+
+-- rising numbers below k, and others from k on
+rising-weaker : (b k low : ℕ) (ns : List ℕ) → low ≤ k → IsRising b k ns → IsRising b low ns
+rising-weaker b k low [] le rising = tt
+rising-weaker b k low (n ∷ ns) le rising = let least = rising.0 in (omega arith, rising.1, rising.2)
+
+pub rising-append : (b k low : ℕ) (ns ms : List ℕ) → low ≤ k → k ≤ b → IsRising k low ns → IsRising b k ms → IsRising b low (ns ++ ms)
+rising-append b k low [] ms le top rising more = rising-weaker b k low ms le more
+rising-append b k low (n ∷ ns) ms le top rising more =
+    let below = rising.1 in
+    (rising.0, omega arith, rising-append b k (n + 1) ns ms (omega arith) top rising.2 more)
+
+-- the set has the numbers so far, and with what is left those of both sets
+pub record IsUniting (low high : List ℕ) (set : List ℕ) (lower higher : List LabelId) : Type 0 where
+  pub next : ℕ
+  pub top : next ≤ 2 ^ 32
+  pub rising : IsRising next 0 set
+  pub low_rising : IsRising (2 ^ 32) next (numbers_of lower)
+  pub high_rising : IsRising (2 ^ 32) next (numbers_of higher)
+  pub all : (p : ℕ → Bool) → (list_any p set || (list_any p (numbers_of lower) || list_any p (numbers_of higher))) ≡ (list_any p low || list_any p high)
+
+-- one more number at the end
+any-push : (p : ℕ → Bool) (set new : List ℕ) (x : ℕ) → new ≡ set ++ x ∷ [] → list_any p new ≡ (list_any p set || (p x || false))
+any-push p set new x is = rw is (list_any-append p set (x ∷ []))
+
+moved-lower : (s n x l h b : Bool) → n ≡ (s || (x || false)) → (s || ((x || l) || h)) ≡ b → (n || (l || h)) ≡ b
+moved-lower s n x l h b is old = grind arith
+
+moved-higher : (s n y l h b : Bool) → n ≡ (s || (y || false)) → (s || (l || (y || h))) ≡ b → (n || (l || h)) ≡ b
+moved-higher s n y l h b is old = grind arith
+
+moved-both : (s n x l h b : Bool) → n ≡ (s || (x || false)) → (s || ((x || l) || (x || h))) ≡ b → (n || (l || h)) ≡ b
+moved-both s n x l h b is old = grind arith
+
+rising-push : (next x : ℕ) (set new : List ℕ) → next ≤ x → IsRising next 0 set → new ≡ set ++ x ∷ [] → IsRising (x + 1) 0 new
+rising-push next x set new le rising pushed =
+    rw pushed (rising-append (x + 1) next 0 set (x ∷ []) (omega arith) (omega arith) rising (le, omega arith, tt))
+
+module _ (low high : List ℕ) (set new : List ℕ) (x y : LabelId) (lower higher lower_rest higher_rest : List LabelId)
+    (lower_is : lower ≡ x ∷ lower_rest) (higher_is : higher ≡ y ∷ higher_rest) (uniting : IsUniting low high set lower higher) where
+  abbrev from_low : IsRising (2 ^ 32) uniting.next (x.0 ∷ numbers_of lower_rest)
+  from_low = rw lower_is at uniting.low_rising
+
+  abbrev from_high : IsRising (2 ^ 32) uniting.next (y.0 ∷ numbers_of higher_rest)
+  from_high = rw higher_is at uniting.high_rising
+
+  abbrev any : (p : ℕ → Bool) → (list_any p set || ((p x.0 || list_any p (numbers_of lower_rest)) || (p y.0 || list_any p (numbers_of higher_rest)))) ≡ (list_any p low || list_any p high)
+  any = λ p.
+      subst (λ (ls : List LabelId). (list_any p set || (list_any p (numbers_of ls) || list_any p (y.0 ∷ numbers_of higher_rest))) ≡ (list_any p low || list_any p high)) lower_is
+      (subst (λ (hs : List LabelId). (list_any p set || (list_any p (numbers_of lower) || list_any p (numbers_of hs))) ≡ (list_any p low || list_any p high)) higher_is (uniting.all p))
+
+  pub uniting-lower : x.0 < y.0 → new ≡ set ++ x.0 ∷ [] → IsUniting low high new lower_rest higher
+  uniting-lower less is = record {
+    next = x.0 + 1;
+    top = let small = from_low.1 in omega arith;
+    rising = rising-push uniting.next x.0 set new from_low.0 uniting.rising is;
+    low_rising = from_low.2;
+    high_rising = rw higher_is (omega arith, from_high.1, from_high.2);
+    all = λ p. rw higher_is (moved-lower (list_any p set) (list_any p new) (p x.0) (list_any p (numbers_of lower_rest))
+        (list_any p (y.0 ∷ numbers_of higher_rest)) (list_any p low || list_any p high) (any-push p set new x.0 is) (any p));
+  }
+
+  pub uniting-higher : y.0 < x.0 → new ≡ set ++ y.0 ∷ [] → IsUniting low high new lower higher_rest
+  uniting-higher less is = record {
+    next = y.0 + 1;
+    top = let small = from_high.1 in omega arith;
+    rising = rising-push uniting.next y.0 set new from_high.0 uniting.rising is;
+    low_rising = rw lower_is (omega arith, from_low.1, from_low.2);
+    high_rising = from_high.2;
+    all = λ p. rw lower_is (moved-higher (list_any p set) (list_any p new) (p y.0) (list_any p (x.0 ∷ numbers_of lower_rest))
+        (list_any p (numbers_of higher_rest)) (list_any p low || list_any p high) (any-push p set new y.0 is) (any p));
+  }
+
+  pub uniting-both : x.0 ≡ y.0 → new ≡ set ++ x.0 ∷ [] → IsUniting low high new lower_rest higher_rest
+  uniting-both same is = record {
+    next = x.0 + 1;
+    top = let small = from_low.1 in omega arith;
+    rising = rising-push uniting.next x.0 set new from_low.0 uniting.rising is;
+    low_rising = from_low.2;
+    high_rising = rw same from_high.2;
+    all = λ p. moved-both (list_any p set) (list_any p new) (p x.0) (list_any p (numbers_of lower_rest))
+        (list_any p (numbers_of higher_rest)) (list_any p low || list_any p high) (any-push p set new x.0 is)
+        (subst (λ (n : ℕ). (list_any p set || ((p x.0 || list_any p (numbers_of lower_rest)) || (p n || list_any p (numbers_of higher_rest)))) ≡ (list_any p low || list_any p high)) (sym same) (any p));
+  }
+
+-- one of the sets is used up, and the rest of the other goes behind
+rest-lower : (s n l b : Bool) → n ≡ (s || l) → (s || (l || false)) ≡ b → n ≡ b
+rest-lower s n l b is old = grind arith
+
+rest-higher : (s n h b : Bool) → n ≡ (s || h) → (s || (false || h)) ≡ b → n ≡ b
+rest-higher s n h b is old = grind arith
+
+pub record IsUnited (low high : List ℕ) (set : List ℕ) : Type 0 where
+  pub union : IsUnion low high set
+  pub rising : IsRising (2 ^ 32) 0 set
+
+any-joined : (p : ℕ → Bool) (set : List ℕ) (rest : List LabelId) (new : List ℕ) → new ≡ set ++ numbers_of rest → list_any p new ≡ (list_any p set || list_any p (numbers_of rest))
+any-joined p set rest new is = rw is (list_any-append p set (numbers_of rest))
+
+pub united-lower : (low high : List ℕ) (set : List ℕ) (lower higher : List LabelId) (new : List ℕ) → higher ≡ [] → new ≡ set ++ numbers_of lower → IsUniting low high set lower higher → IsUnited low high new
+united-lower low high set lower higher new none is uniting =
+    let all = λ (p : ℕ → Bool). subst (λ (hs : List LabelId). (list_any p set || (list_any p (numbers_of lower) || list_any p (numbers_of hs))) ≡ (list_any p low || list_any p high)) none (uniting.all p) in
+    record {
+      union = λ p. rest-lower (list_any p set) (list_any p new) (list_any p (numbers_of lower)) (list_any p low || list_any p high) (any-joined p set lower new is) (all p);
+      rising = rw is (rising-append (2 ^ 32) uniting.next 0 set (numbers_of lower) (omega arith) uniting.top uniting.rising uniting.low_rising);
+    }
+
+pub united-higher : (low high : List ℕ) (set : List ℕ) (lower higher : List LabelId) (new : List ℕ) → lower ≡ [] → new ≡ set ++ numbers_of higher → IsUniting low high set lower higher → IsUnited low high new
+united-higher low high set lower higher new none is uniting =
+    let all = λ (p : ℕ → Bool). subst (λ (ls : List LabelId). (list_any p set || (list_any p (numbers_of ls) || list_any p (numbers_of higher))) ≡ (list_any p low || list_any p high)) none (uniting.all p) in
+    record {
+      union = λ p. rest-higher (list_any p set) (list_any p new) (list_any p (numbers_of higher)) (list_any p low || list_any p high) (any-joined p set higher new is) (all p);
+      rising = rw is (rising-append (2 ^ 32) uniting.next 0 set (numbers_of higher) (omega arith) uniting.top uniting.rising uniting.high_rising);
+    }
+
+-- what a test keeps of rising numbers is rising
+pub rising-filter : (b low : ℕ) (p : ℕ → Bool) (ns : List ℕ) → IsRising b low ns → IsRising b low (filter p ns)
+rising-filter b low p [] rising = tt
+rising-filter b low p (n ∷ ns) rising =
+    let rest : IsRising b (n + 1) (filter p ns) = rising-filter b (n + 1) p ns rising.2 in
+    by (p n) rest
+  where
+    by : (t : Bool) → IsRising b (n + 1) (filter p ns) → IsRising b low (cond t (n ∷ filter p ns) (filter p ns))
+    by true rest = (rising.0, rising.1, rest)
+    by false rest = let least = rising.0 in rising-weaker b (n + 1) low (filter p ns) (omega arith) rest
+
+-- where one of two sets is gone through, their common numbers are found
+pub merged-lower : (low high set : List ℕ) (lower higher : List LabelId) → higher ≡ [] → IsMerging low high set lower higher → set ≡ common_numbers low high
+merged-lower low high set lower higher none merging =
+    sym (append-nil set) ∙ ap (λ (ns : List ℕ). set ++ ns) (sym (common-none (numbers_of lower)))
+    ∙ subst (λ (hs : List LabelId). set ++ common_numbers (numbers_of lower) (numbers_of hs) ≡ common_numbers low high) none merging.all
+
+pub merged-higher : (low high set : List ℕ) (lower higher : List LabelId) → lower ≡ [] → IsMerging low high set lower higher → set ≡ common_numbers low high
+merged-higher low high set lower higher none merging =
+    sym (append-nil set)
+    ∙ subst (λ (ls : List LabelId). set ++ common_numbers (numbers_of ls) (numbers_of higher) ≡ common_numbers low high) none merging.all
+
+-- a number of a rising list is above those before it
+least-at : (b low : ℕ) (ns : List ℕ) (i d : ℕ) → IsRising b low ns → i < length ns → low ≤ get_or ns i d
+least-at b low [] i d rising inside = absurd (omega arith)
+least-at b low (n ∷ ns) zero d rising inside = rising.0
+least-at b low (n ∷ ns) (suc i) d rising inside = let least = rising.0 in let rest = least-at b (n + 1) ns i d rising.2 (omega arith) in omega arith
+
+before-at : (b low : ℕ) (ns : List ℕ) (i d : ℕ) → IsRising b low ns → i < length ns → AllByRecursion (λ n. n < get_or ns i d) (take i ns)
+before-at b low [] i d rising inside = absurd (omega arith)
+before-at b low (n ∷ ns) zero d rising inside = tt
+before-at b low (n ∷ ns) (suc i) d rising inside =
+    (let least = least-at b (n + 1) ns i d rising.2 (omega arith) in omega arith, before-at b (n + 1) ns i d rising.2 (omega arith))
+
+pub all-before : (b : ℕ) (ns : List ℕ) (i d : ℕ) → IsRising b 0 ns → i < length ns → All (λ n. n < get_or ns i d) (take i ns)
+all-before b ns i d rising inside = All-from_recursion (λ n. n < get_or ns i d) (take i ns) (before-at b 0 ns i d rising inside)
+
+pub no_items : (xs : List LabelId) → length xs ≡ 0 → xs ≡ []
+no_items [] e = refl
+no_items (x ∷ xs) e = absurd (omega arith)

@@ -1,0 +1,176 @@
+-- Numbers of labels and their texts.
+use Rattle.std.proofs.Common.{◌≡◌, ℕ, zero, suc, ◌+◌, ◌^◌, ◌<◌, ◌≤◌, ◌==◌, ◌||◌, ◌∙◌, Bool, true, false, cond, List, [], ◌∷◌, ◌++◌, Option, Some, None, filter, find, map, length, nat_le, get_or, refl, sym, ap, subst, arith, unwrap_or}
+use Rattle.std.specs.List.{list_any}
+use Rattle.std.specs.Option.{ForSome}
+use Rattle.std.specs.Str.{bytes_eq}
+use Rattle.std.proofs.lemmas.Bool.{cond-true, cond-false, eqb-false, eqb-true, false≢true, leb-false, lt-leb, or_from, or_parts}
+use Rattle.std.proofs.lemmas.Option.{unwrap_or-slice_get}
+use Rattle.std.proofs.lemmas.Slice.Eq.{bytes_eq-Decides}
+use Rattle.pmap_text.specs.Label.{IsLabelTable}
+use Rattle.pmap_text.specs.MapModel.{Label}
+use Rattle.pmap_text.specs.MapText.{text_at}
+use Rattle.pmap_text.specs.declared.label.LabelId.{LabelId}
+use Rattle.pmap_cert.specs.CertificateForm.{IsRising}
+use Rattle.pmap_cert.specs.CertificateModel.{Pair, has}
+use Rattle.pmap_cert.specs.CertificateText.{place_of}
+use Rattle.pmap_cert.specs.ExactPair.{IsSamePair, exact_pair, exact_pair_by}
+use Rattle.pmap_cert.specs.MinimalPair.{has_inherited, least_label}
+use Rattle.pmap_cert.proofs.Sets.{bytes_eq-same, has-append}
+use Rattle.pmap_cert.proofs.Tables.{place_of-text_at}
+use Rattle.pmap_minimise.specs.Entered.{text_of}
+use Rattle.pmap_minimise.specs.Numbers.{IsExactBy, IsUnion, common_numbers, has_number, keeps, numbers_of}
+use Rattle.pmap_minimise.proofs.Merged.{lacks, rising-filter}
+
+-- rising numbers that are all below a bound
+rising-bounded : (b count low : ℕ) (ns : List ℕ) → IsRising b low ns → list_any (λ n. nat_le count n) ns ≡ false → IsRising count low ns
+rising-bounded b count low [] rising none = tt
+rising-bounded b count low (n ∷ ns) rising none =
+    let parts = or_parts (nat_le count n) (list_any (λ m. nat_le count m) ns) none in
+    (rising.0, leb-false count n parts.0, rising-bounded b count (n + 1) ns rising.2 parts.1)
+
+rising-within : (count low : ℕ) (ns : List ℕ) → IsRising count low ns → list_any (λ n. nat_le count n) ns ≡ false
+rising-within count low [] rising = refl
+rising-within count low (n ∷ ns) rising =
+    or_from (nat_le count n) (list_any (λ m. nat_le count m) ns) (lt-leb count n rising.1) (rising-within count (n + 1) ns rising.2)
+
+-- the exact set has numbers of the two sets alone, in rising order, and some if one of them has
+pub exact-rising : (count low_cost high_cost : ℕ) (low high : List ℕ) (cost : ℕ) (set : List ℕ) → IsRising count 0 low → IsRising count 0 high
+    → IsExactBy low_cost high_cost low high (common_numbers low high) cost set → IsRising count 0 set
+exact-rising count low_cost high_cost low high cost set low_rising high_rising exact =
+    by (common_numbers low high) (rising-filter count 0 (has_number high) low low_rising) exact
+  where
+    by : (ns : List ℕ) → IsRising count 0 ns → IsExactBy low_cost high_cost low high ns cost set → IsRising count 0 set
+    by [] rising exact =
+        rising-bounded (2 ^ 32) count 0 set exact.2
+        (exact.1 (λ n. nat_le count n)
+        ∙ or_from (list_any (λ n. nat_le count n) low) (list_any (λ n. nat_le count n) high) (rising-within count 0 low low_rising) (rising-within count 0 high high_rising))
+    by (n ∷ ns) rising exact = subst (λ (s : List ℕ). IsRising count 0 s) (sym exact.1) rising
+
+union-some : (m : ℕ) (ms high set : List ℕ) → IsUnion (m ∷ ms) high set → 0 < length set
+union-some m ms high [] union = absurd (false≢true (union (λ n. true)))
+union-some m ms high (n ∷ ns) union = omega arith
+
+pub exact-some : (low_cost high_cost : ℕ) (low high : List ℕ) (cost : ℕ) (set : List ℕ) → 0 < length low
+    → IsExactBy low_cost high_cost low high (common_numbers low high) cost set → 0 < length set
+exact-some low_cost high_cost low high cost set some exact = by (common_numbers low high) low some exact
+  where
+    by : (ns : List ℕ) (low : List ℕ) → 0 < length low → IsExactBy low_cost high_cost low high ns cost set → 0 < length set
+    by [] [] some exact = absurd (omega arith)
+    by [] (m ∷ ms) some exact = union-some m ms high set exact.1
+    by (n ∷ ns) low some exact = subst (λ (s : List ℕ). 0 < length s) (sym exact.1) (omega arith)
+
+pub exact-cost : (low_cost high_cost : ℕ) (low high : List ℕ) (cost : ℕ) (set : List ℕ)
+    → IsExactBy low_cost high_cost low high (common_numbers low high) cost set → cost ≤ low_cost + high_cost + 1
+exact-cost low_cost high_cost low high cost set exact = by (common_numbers low high) exact
+  where
+    by : (ns : List ℕ) → IsExactBy low_cost high_cost low high ns cost set → cost ≤ low_cost + high_cost + 1
+    by [] exact = let e = exact.0 in omega arith
+    by (n ∷ ns) exact = let e = exact.0 in omega arith
+
+-- a test of the texts is one of the numbers
+any-texts : (table : List Label) (p : Label → Bool) (ns : List ℕ) → list_any p (map (text_at table) ns) ≡ list_any (λ n. p (text_at table n)) ns
+any-texts table p [] = refl
+any-texts table p (n ∷ ns) = ap (λ (t : Bool). p (text_at table n) || t) (any-texts table p ns)
+
+any-numbers : (ids : List LabelId) (n : ℕ) → has_number (numbers_of ids) n ≡ list_any (λ label. n == label.0) ids
+any-numbers [] n = refl
+any-numbers (id ∷ ids) n = ap (λ (t : Bool). (n == id.0) || t) (any-numbers ids n)
+
+-- the first of a list that passes
+find-first : (p : Label → Bool) (xs : List Label) (n : ℕ) → n < length xs → ((i : ℕ) → i < n → p (get_or xs i []) ≡ false) → p (get_or xs n []) ≡ true
+    → find p xs ≡ Some (get_or xs n [])
+find-first p [] n inside below here = absurd (omega arith)
+find-first p (x ∷ xs) zero inside below here = cond-true (p x) (Some x) (find p xs) here
+find-first p (x ∷ xs) (suc n) inside below here =
+    cond-false (p x) (Some x) (find p xs) (below 0 (omega arith)) ∙ find-first p xs n (omega arith) (λ i h. below (suc i) (omega arith)) here
+
+module _ (table : List Label) (ok : IsLabelTable table) where
+  -- labels of the table are told apart by their numbers
+  text-same : (n m : ℕ) → n < length table → m < length table → bytes_eq (text_at table n) (text_at table m) ≡ (n == m)
+  text-same n m known also = by (n == m) refl
+    where
+      other : (n == m) ≡ false → (b : Bool) → bytes_eq (text_at table n) (text_at table m) ≡ b → b ≡ false
+      other e false h = refl
+      other e true h =
+          absurd (eqb-false n m e (sym (place_of-text_at table n ok known)
+          ∙ ap (place_of table) ((bytes_eq-Decides (text_at table n) (text_at table m)).0 h) ∙ place_of-text_at table m ok also))
+
+      by : (b : Bool) → (n == m) ≡ b → bytes_eq (text_at table n) (text_at table m) ≡ b
+      by true e = subst (λ (k : ℕ). bytes_eq (text_at table n) (text_at table k) ≡ true) (eqb-true n m e) (bytes_eq-same (text_at table n))
+      by false e = other e (bytes_eq (text_at table n) (text_at table m)) refl
+
+  pub texts-has : (low : ℕ) (ns : List ℕ) (n : ℕ) → IsRising (length table) low ns → n < length table
+      → has (map (text_at table) ns) (text_at table n) ≡ has_number ns n
+  texts-has low [] n rising known = refl
+  texts-has low (m ∷ ns) n rising known =
+      ap (λ (t : Bool). t || has (map (text_at table) ns) (text_at table n)) (text-same n m known rising.1)
+      ∙ ap (λ (t : Bool). (n == m) || t) (texts-has (m + 1) ns n rising.2 known)
+
+  kept : (b c : Bool) → b ≡ c → (n : ℕ) (xs : List Label) (ns : List ℕ) → xs ≡ map (text_at table) ns
+      → cond b (text_at table n ∷ xs) xs ≡ map (text_at table) (cond c (n ∷ ns) ns)
+  kept b true e n xs ns same = cond-true b (text_at table n ∷ xs) xs e ∙ ap (λ (l : List Label). text_at table n ∷ l) same
+  kept b false e n xs ns same = cond-false b (text_at table n ∷ xs) xs e ∙ same
+
+  texts-common : (from low : ℕ) (ls hs : List ℕ) → IsRising (length table) from ls → IsRising (length table) low hs
+      → filter (has (map (text_at table) hs)) (map (text_at table) ls) ≡ map (text_at table) (common_numbers ls hs)
+  texts-common from low [] hs rising also = refl
+  texts-common from low (n ∷ ls) hs rising also =
+      kept (has (map (text_at table) hs) (text_at table n)) (has_number hs n) (texts-has low hs n also rising.1) n
+      (filter (has (map (text_at table) hs)) (map (text_at table) ls)) (common_numbers ls hs)
+      (texts-common (n + 1) low ls hs rising.2 also)
+
+  -- the exact claim by numbers is the exact pair of the texts
+  pub same_pair : (low_cost high_cost : ℕ) (ls hs : List ℕ) (cost : ℕ) (set : List ℕ) → IsRising (length table) 0 ls → IsRising (length table) 0 hs
+      → IsExactBy low_cost high_cost ls hs (common_numbers ls hs) cost set
+      → IsSamePair (record { cost = cost; labels = map (text_at table) set })
+      (exact_pair (record { cost = low_cost; labels = map (text_at table) ls }) (record { cost = high_cost; labels = map (text_at table) hs }))
+  same_pair low_cost high_cost ls hs cost set rising also exact =
+      subst (λ (common : List Label). IsSamePair claim (exact_pair_by lower upper common)) (sym (texts-common 0 0 ls hs rising also)) (by (common_numbers ls hs) exact)
+    where
+      claim : Pair
+      claim = record { cost = cost; labels = map (text_at table) set }
+
+      lower : Pair
+      lower = record { cost = low_cost; labels = map (text_at table) ls }
+
+      upper : Pair
+      upper = record { cost = high_cost; labels = map (text_at table) hs }
+
+      union : (x : Label) → IsUnion ls hs set → has (map (text_at table) set) x ≡ has (map (text_at table) ls ++ map (text_at table) hs) x
+      union x all =
+          any-texts table (bytes_eq x) set ∙ all (λ n. bytes_eq x (text_at table n))
+          ∙ ap (λ (t : Bool). t || list_any (λ n. bytes_eq x (text_at table n)) hs) (sym (any-texts table (bytes_eq x) ls))
+          ∙ ap (λ (t : Bool). has (map (text_at table) ls) x || t) (sym (any-texts table (bytes_eq x) hs))
+          ∙ sym (has-append (map (text_at table) ls) (map (text_at table) hs) x)
+
+      by : (ns : List ℕ) → IsExactBy low_cost high_cost ls hs ns cost set → IsSamePair claim (exact_pair_by lower upper (map (text_at table) ns))
+      by [] exact = record { cost = exact.0; labels = λ x. union x exact.1 }
+      by (n ∷ ns) exact = record { cost = exact.0; labels = λ x. ap (λ (s : List ℕ). has (map (text_at table) s) x) exact.1 }
+
+  -- what is inherited
+  pub keeps-texts : (ids : List LabelId) (inherited : Option LabelId) → IsRising (length table) 0 (numbers_of ids) → ForSome inherited (λ id. id.0 < length table)
+      → has_inherited (map (text_at table) (numbers_of ids)) (text_of table inherited) ≡ keeps ids inherited
+  keeps-texts ids None rising known = refl
+  keeps-texts ids (Some id) rising known = texts-has 0 (numbers_of ids) id.0 rising (known id refl) ∙ any-numbers ids id.0
+
+  -- the first of rising numbers is the least label's
+  pub least-texts : (low n : ℕ) (ns : List ℕ) → IsRising (length table) low (n ∷ ns) → least_label table (map (text_at table) (n ∷ ns)) ≡ text_at table n
+  least-texts low n ns rising =
+      ap (λ (o : Option Label). unwrap_or o (text_at table n))
+      (find-first (has s) table n rising.1 below here)
+      ∙ sym (unwrap_or-slice_get table n [])
+    where
+      s : List Label
+      s = map (text_at table) (n ∷ ns)
+
+      at : (i : ℕ) → i < length table → has s (get_or table i []) ≡ has_number (n ∷ ns) i
+      at i h = ap (has s) (sym (unwrap_or-slice_get table i [])) ∙ texts-has low (n ∷ ns) i rising h
+
+      below : (i : ℕ) → i < n → has s (get_or table i []) ≡ false
+      below i h = at i (let top = rising.1 in omega arith) ∙ lacks (length table) n (n ∷ ns) i (omega arith, rising.1, rising.2) h
+
+      here : has s (get_or table n []) ≡ true
+      here = ap (has s) (sym (unwrap_or-slice_get table n [])) ∙ own
+        where
+          own : has s (text_at table n) ≡ true
+          own = ap (λ (t : Bool). t || has (map (text_at table) ns) (text_at table n)) (bytes_eq-same (text_at table n))

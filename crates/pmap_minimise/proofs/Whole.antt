@@ -1,0 +1,86 @@
+-- The map's label table has the map's labels, and a list and a certificate by numbers that are the map's minimal pair.
+use Rattle.std.proofs.Common.{◌≡◌, ℕ, ◌+◌, ◌-◌, ◌<◌, ◌∙◌, List, [], ◌∷◌, ◌++◌, Option, None, Some, All, IsTrue, length, map, get_or, refl, sym, ap, subst, arith}
+use Rattle.std.proofs.lemmas.List.Elements.{All-map, All-weaker}
+use Rattle.std.proofs.lemmas.List.Folds.{list_any_at}
+use Rattle.std.proofs.lemmas.Option.{none-some, unwrap_or-slice_get}
+use Rattle.std.specs.Str.{bytes_eq}
+use Rattle.prefix_keys.specs.Version.{width_of}
+use Rattle.prefix_keys.specs.declared.block.Block.{Block}
+use Rattle.pmap_text.specs.Label.{IsLabelTable}
+use Rattle.pmap_text.specs.ListModel.{ListModel, Prefix}
+use Rattle.pmap_text.specs.MapModel.{Label, MapModel}
+use Rattle.pmap_text.specs.MapText.{map_of, mapping_of, text_at}
+use Rattle.pmap_text.specs.PrefixList.{prefix_of}
+use Rattle.pmap_text.specs.declared.entry.Entry.{Entry}
+use Rattle.pmap_text.specs.declared.map_text.MapText.{MapText}
+use Rattle.pmap_cert.specs.CertificateModel.{CertificateModel, Tree, has}
+use Rattle.pmap_cert.specs.ListForm.{HasListForm, IsInOrder}
+use Rattle.pmap_cert.specs.Node.{HasNumberForm, tree_of}
+use Rattle.pmap_cert.specs.declared.node.Node.{Node}
+use Rattle.label_trie.specs.Leaf.{number_of}
+use Rattle.pmap_text.specs.ListEntries.{HasDistinctBlocks}
+use Rattle.pmap_cert.specs.MinimalPair.{HasItsLabels, IsMinimalPair, StandsFor, entries_of}
+use Rattle.pmap_cert.proofs.InOrder.{list-form}
+use Rattle.pmap_cert.proofs.Sets.{bytes_eq-same}
+use Rattle.pmap_minimise.specs.Entered.{AddsEntries}
+use Rattle.pmap_minimise.specs.Shortest.{IsWhole, shortest_list}
+use Rattle.pmap_minimise.proofs.Distinct.{order-distinct}
+use Rattle.pmap_minimise.proofs.Entered.{half-entries}
+use Rattle.pmap_minimise.proofs.Joined.{whole-number}
+
+table-has : (table : List Label) (n : ℕ) → n < length table → IsTrue (has table (text_at table n))
+table-has table n known =
+    list_any_at (bytes_eq (text_at table n)) table n [] known
+    (ap (bytes_eq (text_at table n)) (sym (unwrap_or-slice_get table n [])) ∙ bytes_eq-same (text_at table n))
+
+pub own-labels : (map : MapText) → HasItsLabels (map_of map)
+own-labels m = record {
+  fallback = table-has m.labels m.default.0 m.default_known;
+  mappings =
+      All-map (λ p. IsTrue (has m.labels p.label)) (mapping_of m.labels) m.statements
+      (All-weaker (λ s. s.label.0 < length m.labels) (λ s. IsTrue (has m.labels (text_at m.labels s.label.0))) (λ s known. table-has m.labels s.label.0 known)
+      m.statements m.numbers_known);
+}
+
+-- the list of a root that stands for the address space, with a certificate of that root, is the map's minimal one
+pub minimal : (m : MapModel) (l : ListModel) (c : CertificateModel) (root : Tree) → StandsFor m root 0 0 → l ≡ shortest_list m root
+    → c ≡ record { version = m.version; table = m.table; root = root } → IsMinimalPair m l c
+minimal m l c root stands list certificate =
+    subst (λ (k : ListModel). IsMinimalPair m k c) (sym list)
+    (subst (λ (d : CertificateModel). IsMinimalPair m (shortest_list m root) d) (sym certificate) pair)
+  where
+    pair : IsMinimalPair m (shortest_list m root) (record { version = m.version; table = m.table; root = root })
+    pair = record {
+      certificate_version = refl;
+      certificate_table = refl;
+      root = stands;
+      list_version = refl;
+      list_name = refl;
+      list_table = refl;
+      prefixes = refl;
+    }
+
+pub shortest-form : (m : MapModel) (root : Tree) → StandsFor m root 0 0 → HasItsLabels m → HasListForm (shortest_list m root)
+shortest-form m root stands inside =
+    list-form m (shortest_list m root) (record { version = m.version; table = m.table; root = root }) (minimal m _ _ root stands refl refl) inside
+
+-- the entries of the root, from the whole address space down
+pub whole-entries : (m : MapText) (root : Node) (whole : Block) (old new : List Entry) → IsWhole m.version whole → IsLabelTable m.labels
+    → HasNumberForm (length m.labels) root (width_of m.version) → old ≡ [] → AddsEntries root whole None old new
+    → map (prefix_of m.labels) new ≡ entries_of (width_of m.version) m.labels (tree_of m.labels root) None 0 0
+whole-entries m root whole old new is ok form none adds =
+    let version = is.version_is in
+    let bits = is.bits in
+    let width : width_of whole.version ≡ width_of m.version = ap width_of version in
+    let room : width_of m.version ≡ width_of whole.version - whole.len = omega arith in
+    adds.texts m.labels ok (λ x e. absurd (none-some x e)) (subst (λ (r : ℕ). HasNumberForm (length m.labels) root r) room form)
+    ∙ ap (λ (es : List Entry). map (prefix_of m.labels) es ++ entries_of (width_of whole.version) m.labels (tree_of m.labels root) None whole.len (number_of whole)) none
+    ∙ half-entries m.labels (tree_of m.labels root) None None (width_of m.version) (width_of whole.version) 0 whole.len 0 (number_of whole) width refl bits
+    (whole-number whole is.start)
+
+-- so their blocks are distinct
+pub whole-distinct : (m : MapText) (root : Node) (new : List Entry) → StandsFor (map_of m) (tree_of m.labels root) 0 0
+    → map (prefix_of m.labels) new ≡ entries_of (width_of m.version) m.labels (tree_of m.labels root) None 0 0 → HasDistinctBlocks new
+whole-distinct m root new stands is =
+    let form = shortest-form (map_of m) (tree_of m.labels root) stands (own-labels m) in
+    order-distinct m.labels new (subst IsInOrder (sym is) form.order)

@@ -1,0 +1,34 @@
+use Rattle.std.specs.Prelude.{◌≡◌, ℕ, ◌-◌, ◌<◌, ◌++◌, List, Option, All, length, map, option_map}
+use Rattle.std.specs.Option.{ForSome}
+use Rattle.prefix_keys.specs.Version.{width_of}
+use Rattle.prefix_keys.specs.declared.block.Block.{Block}
+use Rattle.pmap_text.specs.Label.{IsLabelTable}
+use Rattle.pmap_text.specs.MapModel.{Label}
+use Rattle.pmap_text.specs.MapText.{text_at}
+use Rattle.pmap_text.specs.PrefixList.{prefix_of}
+use Rattle.pmap_text.specs.declared.entry.Entry.{Entry}
+use Rattle.pmap_text.specs.declared.label.LabelId.{LabelId}
+use Rattle.pmap_cert.specs.MinimalPair.{entries_of}
+use Rattle.pmap_cert.specs.Node.{HasNumberForm, tree_of}
+use Rattle.pmap_cert.specs.declared.node.Node.{Node}
+use Rattle.label_trie.specs.Leaf.{number_of}
+
+-- the text of an inherited label
+abbrev pub text_of : List Label → Option LabelId → Option Label
+text_of table inherited = option_map (λ id. text_at table id.0) inherited
+
+-- the labels of the entry and its block's version
+pub record IsEntryOf (block : Block) (count : ℕ) (e : Entry) : Type 0 where
+  pub version : e.block.version ≡ block.version
+  pub known : e.label.0 < count
+
+-- The new entries are the old ones and those of the node for this block and what it inherits, in each table that has the
+-- numbers of the node and of the inherited label.
+pub record AddsEntries (node : Node) (block : Block) (inherited : Option LabelId) (old new : List Entry) : Type 0 where
+  pub texts : (table : List Label) → IsLabelTable table → ForSome inherited (λ id. id.0 < length table)
+      → HasNumberForm (length table) node (width_of block.version - block.len)
+      → map (prefix_of table) new ≡ map (prefix_of table) old
+      ++ entries_of (width_of block.version) table (tree_of table node) (text_of table inherited) block.len (number_of block)
+  pub fit : (count : ℕ) → ForSome inherited (λ id. id.0 < count)
+      → HasNumberForm count node (width_of block.version - block.len)
+      → All (IsEntryOf block count) old → All (IsEntryOf block count) new

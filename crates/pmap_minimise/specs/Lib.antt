@@ -1,0 +1,5 @@
+pub mod Numbers
+pub mod Certified
+pub mod Entered
+pub mod Shortest
+pub mod Outline

@@ -1,0 +1,77 @@
+use Rattle.std.specs.Prelude.{◌≡◌, ℕ, zero, suc, ◌+◌, ◌^◌, ◌<◌, ◌==◌, ◌||◌, Bool, true, false, List, [], ◌∷◌, ◌++◌, Option, None, Some, filter, length, map, slice_get}
+use Rattle.std.specs.List.{list_any}
+use Rattle.prefix_keys.specs.declared.block.Block.{Block}
+use Rattle.pmap_text.specs.declared.entry.Entry.{Entry}
+use Rattle.pmap_text.specs.declared.label.LabelId.{LabelId}
+use Rattle.pmap_cert.specs.CertificateForm.{IsRising}
+use Rattle.pmap_cert.specs.declared.node.Node.{Node}
+use Rattle.pmap_cert.specs.declared.node.Node.TheVariants.{Inner', Leaf}
+
+-- Sets of labels, claims and entries by the numbers of labels, as the code has them.
+
+abbrev pub numbers_of : List LabelId → List ℕ
+numbers_of ids = map (λ id. id.0) ids
+
+-- one of the numbers is n
+abbrev pub has_number : List ℕ → ℕ → Bool
+has_number ns n = list_any (λ m. n == m) ns
+
+-- the numbers of both lists
+abbrev pub common_numbers : List ℕ → List ℕ → List ℕ
+common_numbers low high = filter (has_number high) low
+
+-- the set has just the numbers of either list
+abbrev pub IsUnion : List ℕ → List ℕ → List ℕ → Type 0
+IsUnion low high set = (p : ℕ → Bool) → list_any p set ≡ (list_any p low || list_any p high)
+
+-- what a node claims: the numbers of its set, and its cost
+abbrev pub set_of : Node → List ℕ
+set_of (Leaf id) = id.0 ∷ []
+set_of (Inner' cost set p left q right) = set
+
+abbrev pub cost_of : Node → ℕ
+cost_of (Leaf id) = 0
+cost_of (Inner' cost set p left q right) = cost
+
+-- The cost and the set are the exact ones of two costs and sets with the common numbers in the fifth place: where some are
+-- common the sum of the costs and just these, else one more and the numbers of either.
+abbrev pub IsExactBy : ℕ → ℕ → List ℕ → List ℕ → List ℕ → ℕ → List ℕ → Type 0
+IsExactBy low_cost high_cost low high [] cost set =
+    (cost ≡ low_cost + high_cost + 1) × IsUnion low high set × IsRising (2 ^ 32) 0 set
+IsExactBy low_cost high_cost low high (n ∷ ns) cost set = (cost ≡ low_cost + high_cost) × (set ≡ n ∷ ns)
+
+-- the cost and the set are the exact ones of what two nodes claim
+abbrev pub IsExact : Node → Node → ℕ → List ℕ → Type 0
+IsExact low high cost set =
+    IsExactBy (cost_of low) (cost_of high) (set_of low) (set_of high) (common_numbers (set_of low) (set_of high)) cost set
+
+-- the node is the one of two halves with the exact claim
+abbrev pub IsJoined : Node → Node → Node → Type 0
+IsJoined low high (Leaf id) = ⊥
+IsJoined low high (Inner' cost set p left q right) = (left ≡ low) × (right ≡ high) × IsExact low high cost set
+
+-- the node is an inner one with these two nodes
+abbrev pub HasHalves : Node → Node → Node → Type 0
+HasHalves (Leaf id) low high = ⊥
+HasHalves (Inner' cost set p left q right) low high = (left ≡ low) × (right ≡ high)
+
+-- each set has a number, and at most so many inner nodes stand one inside the other
+abbrev pub IsSound : Node → ℕ → Type 0
+IsSound (Leaf id) room = Unit {0}
+IsSound (Inner' cost set p left q right) zero = ⊥
+IsSound (Inner' cost set p left q right) (suc room) = (0 < length set) × IsSound left room × IsSound right room
+
+-- the labels have the one that is inherited
+abbrev pub keeps : List LabelId → Option LabelId → Bool
+keeps ids None = false
+keeps ids (Some id) = list_any (λ label. id.0 == label.0) ids
+
+-- A node with these labels hands on the label: the inherited one where it keeps that, and then the entries stay the same,
+-- else the first of its own, and then its block's entry with that label is added.
+abbrev pub IsOwnBy : Bool → List LabelId → Block → Option LabelId → List Entry → List Entry → LabelId → Type 0
+IsOwnBy true ids block inherited old new id = (new ≡ old) × (inherited ≡ Some id)
+IsOwnBy false ids block inherited old new id =
+    (new ≡ old ++ record { block = block; label = id } ∷ []) × (slice_get ids 0 ≡ Some id)
+
+abbrev pub IsOwn : List LabelId → Block → Option LabelId → List Entry → List Entry → LabelId → Type 0
+IsOwn ids block inherited old new id = IsOwnBy (keeps ids inherited) ids block inherited old new id

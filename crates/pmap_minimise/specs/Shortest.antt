@@ -1,0 +1,23 @@
+use Rattle.std.specs.Prelude.{◌≡◌, None}
+use Rattle.prefix_keys.specs.Version.{width_of}
+use Rattle.prefix_keys.specs.declared.block.Block.{Block}
+use Rattle.prefix_keys.specs.declared.version.Version.{Version}
+use Rattle.pmap_text.specs.ListModel.{ListModel}
+use Rattle.pmap_text.specs.MapModel.{MapModel}
+use Rattle.pmap_cert.specs.CertificateModel.{Tree}
+use Rattle.pmap_cert.specs.MinimalPair.{entries_of}
+
+-- the block of all addresses of the version
+pub record IsWhole (version : Version) (block : Block) : Type 0 where
+  pub version_is : block.version ≡ version
+  pub start : block.value ≡ 0
+  pub bits : block.len ≡ 0
+
+-- the map's prefix list with the entries of a certificate's root
+abbrev pub shortest_list : MapModel → Tree → ListModel
+shortest_list m root = record {
+  version = m.version;
+  name = m.name;
+  prefixes = entries_of (width_of m.version) m.table root None 0 0;
+  table = m.table;
+}

@@ -1,0 +1,100 @@
+ghost use Rattle.std.specs.Prelude.{◌≡◌, ◌+◌, All, IfOk, length};
+ghost use Rattle.prefix_keys.specs.Version.{width_of};
+ghost use Rattle.pmap_text.specs.ListModel.{IsEquivalent};
+ghost use Rattle.pmap_text.specs.MapText.{map_of};
+ghost use Rattle.pmap_text.specs.PrefixList.{list_of};
+ghost use Rattle.pmap_cert.specs.Acceptance.{IsAccepted, IsLeast};
+ghost use Rattle.pmap_cert.specs.Certificate.{certificate_of};
+ghost use Rattle.pmap_cert.specs.CertificateModel.{claim_of};
+ghost use Rattle.pmap_cert.specs.ListForm.{HasListForm};
+ghost use Rattle.pmap_cert.specs.MinimalPair.{IsMinimalPair, StandsFor};
+ghost use Rattle.pmap_cert.specs.Node.{HasNumberForm, tree_of};
+ghost use Rattle.label_trie.specs.TrieModel.{IsSettledLeaf, IsUndivided};
+ghost use Rattle.pmap_minimise.specs.Numbers.{IsSound};
+ghost use Rattle.pmap_minimise.specs.Shortest.{IsWhole, shortest_list};
+
+use crate::certifying::{certified, cost_of};
+use crate::entering::{distinct_entries, push_entries};
+use label_trie::Trie;
+use pmap_cert::laws::minimal_pair_is_accepted;
+use pmap_cert::{Certificate, Node};
+use pmap_text::{MapText, Name, PrefixList};
+use prefix_keys::Block;
+use std::alloc::{AllocError, Global};
+
+/// A shortest prefix list for a map, its certificate, and the cost that the certificate's root claims.
+#[derive(Drop)]
+pub struct Minimal {
+    pub list: PrefixList,
+    pub root_cost: u64,
+    pub certificate: Certificate,
+}
+
+/// The shortest prefix list that labels every address as the map does, with its certificate. The list has the map's name,
+/// and both have the map's label table. The trie is the map's, as `Trie::build` makes it.
+pub fn minimise(alloc: Global, map: &MapText, trie: &Trie) -> Result<Minimal, AllocError>
+    requires version { trie.now.version ≡ map.now.version }
+    requires settled { All (IsSettledLeaf (map_of map.now)) trie.now.leaves }
+    requires undivided { All (IsUndivided (map_of map.now)) trie.now.leaves }
+    // They are the map's minimal pair.
+    ensures minimal { IfOk result (λ m. IsMinimalPair (map_of map.now) (list_of m.list) (certificate_of m.certificate)) }
+    ensures cost { IfOk result (λ m. m.root_cost ≡ (claim_of (certificate_of m.certificate).root).cost) }
+    // So the list labels every address as the map does, and none that does so is shorter.
+    ensures equivalent { IfOk result (λ m. IsEquivalent (list_of m.list) (map_of map.now)) }
+    ensures count { IfOk result (λ m. length m.list.entries ≡ m.root_cost + 1) }
+    ensures least { IfOk result (λ m. IsLeast (map_of map.now) (list_of m.list)) }
+    // The certificate is accepted for the map and the list.
+    ensures accepted { IfOk result (λ m. IsAccepted (map_of map.now) (list_of m.list) (certificate_of m.certificate)) }
+    // The entries are blocks by rising first address, of one address the shorter first.
+    ensures order { IfOk result (λ m. HasListForm (list_of m.list)) }
+{
+    minimal_pair_is_accepted();
+    let _labels = map.labels.len();
+    let _nodes = trie.node_count();
+    let place = trie.root();
+    let root = certified(alloc, &place)?;
+    let list = shortest_list(alloc, map, &root, place.block())?;
+    let root_cost = u64::from(cost_of(&root));
+    let certificate = Certificate::new(map.version, map.labels.copy()?, root);
+    Ok(Minimal {
+        list,
+        root_cost,
+        certificate,
+    })
+}
+
+// The list of the map's name and table with the entries of a certificate's root.
+fn shortest_list(
+    alloc: Global,
+    map: &MapText,
+    root: &Node,
+    whole: Block,
+) -> Result<PrefixList, AllocError>
+    requires block { IsWhole map.now.version whole }
+    requires form { HasNumberForm (length map.now.labels) root.now (width_of map.now.version) }
+    requires sound { IsSound root.now (width_of map.now.version) }
+    requires stands { StandsFor (map_of map.now) (tree_of map.now.labels root.now) 0 0 }
+    ensures { IfOk result (λ list. list_of list ≡ shortest_list (map_of map.now) (tree_of map.now.labels root.now)) }
+{
+    let _labels = map.labels.len();
+    let mut items = Vec::new(alloc);
+    push_entries(&mut items, root, whole, None)?;
+    Ok(PrefixList {
+        version: map.version,
+        name: copy_name(alloc, &map.name)?,
+        entries: distinct_entries(alloc, items.as_slice())?,
+        labels: map.labels.copy()?,
+    })
+}
+
+fn copy_name(alloc: Global, name: &Option<Name>) -> Result<Option<Name>, AllocError>
+    ensures { IfOk result (λ copy. copy ≡ name.now) }
+{
+    match name {
+        Some(name) => {
+            let copy = Name::new(alloc, name.as_bytes())?;
+            Ok(Some(copy))
+        }
+        None => Ok(None),
+    }
+}
