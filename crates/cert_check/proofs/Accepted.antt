@@ -1,0 +1,217 @@
+-- A certificate has no fault exactly where it is accepted.
+use Rattle.std.proofs.Common.{◌≡◌, ◌⊎◌, inl, inr, ℕ, zero, suc, ◌+◌, ◌*◌, ◌<◌, ◌≤◌, Bool, true, false, cond, not, ◌&&◌, ◌||◌, ◌==◌, List, [], ◌∷◌, Option, Some, None, IsTrue, filter, length, nat_lt, option_map, refl, sym, ap, ◌∙◌, subst, arith, bytes_eq}
+use Rattle.std.specs.List.{list_all, list_any}
+use Rattle.std.specs.Option.{option_or}
+use Rattle.std.proofs.lemmas.Bool.{and_from, and_parts, both_ways, cases_lt, eq-eqb, eqb-true, false_from_ne_true, false≢true, lt-ltb, ltb-true, not-true, not_from_false, or_cases, or_left, or_right}
+use Rattle.std.proofs.lemmas.Option.{none-some}
+use Rattle.std.proofs.lemmas.Slice.Eq.{bytes_eq-Decides}
+use Rattle.prefix_keys.specs.Block.{first_of}
+use Rattle.prefix_keys.specs.Version.{width_of}
+use Rattle.prefix_keys.specs.declared.version.Version.{Version}
+use Rattle.prefix_keys.specs.declared.version.Version.TheVariants.{V4, V6}
+use Rattle.pmap_text.specs.ListModel.{ListModel, Prefix, label_below, lies_inside}
+use Rattle.pmap_text.specs.MapModel.{IsSettled, Label, MapModel, settled_label}
+use Rattle.pmap_cert.specs.Acceptance.{IsAccepted, IsDecided, IsNodeAccepted, IsWithinExact}
+use Rattle.pmap_cert.specs.CertificateForm.{HasNodeForm, HasTextForm}
+use Rattle.pmap_cert.specs.CertificateModel.{CertificateModel, InnerNode, LeafNode, Pair, Tree, claim_of, has}
+use Rattle.pmap_cert.specs.ExactPair.{exact_pair}
+use Rattle.pmap_cert.proofs.Sets.{bytes_eq-same}
+use Rattle.cert_check.specs.Checking.{claim_fault, fault_at, first_fault, is_decided, is_label_of, leaf_fault, node_count, node_fault, whole_fault}
+use Rattle.cert_check.specs.Sources.{HasRoom}
+use Rattle.cert_check.specs.Versions.{is_same_version}
+use Rattle.cert_check.specs.declared.fault.CheckFault.{CheckFault}
+use Rattle.cert_check.specs.declared.fault.CheckFaultKind.{CheckFaultKind}
+use Rattle.cert_check.specs.declared.fault.CheckFaultKind.TheVariants.{BoundNotMet, CostTooHigh, LeafNotUniform, ListDiffers, SetTooSmall, VersionDiffers}
+use Rattle.cert_check.proofs.Lists.{any-filtered, none_kept}
+
+pub same_version-true : (v w : Version) → is_same_version v w ≡ true → v ≡ w
+same_version-true V4 V4 h = refl
+same_version-true V4 V6 h = absurd (false≢true h)
+same_version-true V6 V4 h = absurd (false≢true h)
+same_version-true V6 V6 h = refl
+
+pub same_version-own : (v : Version) → is_same_version v v ≡ true
+same_version-own V4 = refl
+same_version-own V6 = refl
+
+pub same_version-from : (v w : Version) → v ≡ w → is_same_version v w ≡ true
+same_version-from v w e = subst (λ (u : Version). is_same_version v u ≡ true) e (same_version-own v)
+
+-- there is a label and it is this one
+pub is_label_of-true : (o : Option Label) (x : Label) → is_label_of o x ≡ true → o ≡ Some x
+is_label_of-true None x h = absurd (false≢true h)
+is_label_of-true (Some y) x h = ap Some ((bytes_eq-Decides y x).0 h)
+
+pub is_label_of-from : (o : Option Label) (x : Label) → o ≡ Some x → is_label_of o x ≡ true
+is_label_of-from o x e = subst (λ (p : Option Label). is_label_of p x ≡ true) (sym e) (bytes_eq-same x)
+
+-- of two faults in order neither is there
+or_none-parts : {X : Type 0} (a b : Option X) → option_or a b ≡ None → (a ≡ None) × (b ≡ None)
+or_none-parts None b e = (refl, e)
+or_none-parts (Some x) b e = absurd (none-some x (sym e))
+
+or_none-from : {X : Type 0} (a b : Option X) → a ≡ None → b ≡ None → option_or a b ≡ None
+or_none-from None b e f = f
+or_none-from (Some x) b e f = absurd (none-some x (sym e))
+
+map_none-part : {X Y : Type 0} (f : X → Y) (o : Option X) → option_map f o ≡ None → o ≡ None
+map_none-part f None e = refl
+map_none-part f (Some x) e = absurd (none-some (f x) (sym e))
+
+-- a test whose one outcome is a fault
+cond_none-else : {X : Type 0} (b : Bool) (o : Option X) (x : X) → cond b o (Some x) ≡ None → (b ≡ true) × (o ≡ None)
+cond_none-else true o x e = (refl, e)
+cond_none-else false o x e = absurd (none-some x (sym e))
+
+cond_none-then : {X : Type 0} (b : Bool) (o : Option X) (x : X) → cond b (Some x) o ≡ None → (b ≡ false) × (o ≡ None)
+cond_none-then true o x e = absurd (none-some x (sym e))
+cond_none-then false o x e = (refl, e)
+
+-- a leaf
+leaf-accepted : (m : MapModel) (ps : List Prefix) (n q : ℕ) (x : Label) → leaf_fault m ps n q x ≡ None
+    → IsSettled m n q x × IsDecided (width_of m.version) ps n q x
+leaf-accepted m ps n q x none =
+    let W = width_of m.version in
+    let first = cond_none-else (is_label_of (settled_label m n q) x) (cond (is_decided W ps n q x) None (Some ListDiffers)) LeafNotUniform none in
+    let second = cond_none-else (is_decided W ps n q x) None ListDiffers first.1 in
+    let parts = and_parts (not (list_any (lies_inside W n q) ps)) (is_label_of (label_below W ps (suc n) (first_of W n q)) x) second.0 in (
+      is_label_of-true (settled_label m n q) x first.0,
+      record {
+        inside = none_kept (lies_inside W n q) ps (not-true _ parts.0);
+        longest = is_label_of-true (label_below W ps (suc n) (first_of W n q)) x parts.1;
+      },
+    )
+
+leaf-none : (m : MapModel) (ps : List Prefix) (n q : ℕ) (x : Label) → IsSettled m n q x → IsDecided (width_of m.version) ps n q x
+    → leaf_fault m ps n q x ≡ None
+leaf-none m ps n q x settled decided =
+    let W = width_of m.version in
+    let none : list_any (lies_inside W n q) ps ≡ false =
+    sym (any-filtered (lies_inside W n q) ps) ∙ ap (list_any (lies_inside W n q)) decided.inside in
+    let alike : is_decided W ps n q x ≡ true =
+    and_from (not (list_any (lies_inside W n q) ps)) (is_label_of (label_below W ps (suc n) (first_of W n q)) x)
+    (not_from_false (list_any (lies_inside W n q) ps) none) (is_label_of-from (label_below W ps (suc n) (first_of W n q)) x decided.longest) in
+    ap (λ b. cond b (cond (is_decided W ps n q x) None (Some ListDiffers)) (Some LeafNotUniform)) (is_label_of-from (settled_label m n q) x settled)
+    ∙ ap (λ b. cond b None (Some ListDiffers)) alike
+
+-- a set that has all labels of a list
+all-has : (s xs : List Label) → list_all (has s) xs ≡ true → (x : Label) → has xs x ≡ true → has s x ≡ true
+all-has s [] h x inside = absurd (false≢true inside)
+all-has s (y ∷ ys) h x inside =
+    let parts = and_parts (has s y) (list_all (has s) ys) h in
+    by (bytes_eq x y) refl parts.0 (all-has s ys parts.1 x) inside
+  where
+    by : (b : Bool) → bytes_eq x y ≡ b → has s y ≡ true → (has ys x ≡ true → has s x ≡ true) → (b || has ys x) ≡ true → has s x ≡ true
+    by true e here rest inside = subst (λ (z : Label). has s z ≡ true) (sym ((bytes_eq-Decides x y).0 e)) here
+    by false e here rest inside = rest inside
+
+has-all : (s xs : List Label) → ((x : Label) → has xs x ≡ true → has s x ≡ true) → list_all (has s) xs ≡ true
+has-all s [] h = refl
+has-all s (y ∷ ys) h =
+    and_from (has s y) (list_all (has s) ys) (h y (or_left (bytes_eq y y) (has ys y) (bytes_eq-same y)))
+    (has-all s ys (λ x inside. h x (or_right (bytes_eq x y) (has ys x) inside)))
+
+-- a claim
+claim-within : (p e : Pair) → claim_fault p e ≡ None → IsWithinExact p e
+claim-within p e none =
+    let lacks : Bool = (p.cost == e.cost) && not (list_all (has p.labels) e.labels) in
+    let first = cond_none-then (nat_lt e.cost p.cost) (cond lacks (Some SetTooSmall) None) CostTooHigh none in
+    let second = cond_none-then lacks None SetTooSmall first.1 in
+    record {
+      cost = at_most e.cost p.cost first.0;
+      labels = λ same. all-has p.labels e.labels (full (p.cost == e.cost) (list_all (has p.labels) e.labels) second.0 (eq-eqb p.cost e.cost same));
+    }
+  where
+    at_most : (a b : ℕ) → nat_lt a b ≡ false → b ≤ a
+    at_most a b h = by (cases_lt a b)
+      where
+        by : (a < b) ⊎ (b ≤ a) → b ≤ a
+        by (inl less) = absurd (both_ways (nat_lt a b) h (lt-ltb a b less))
+        by (inr le) = le
+
+    full : (b c : Bool) → (b && not c) ≡ false → b ≡ true → c ≡ true
+    full true true h e = refl
+    full true false h e = absurd (false≢true (sym h))
+    full false c h e = absurd (false≢true e)
+
+claim-none : (p e : Pair) → IsWithinExact p e → claim_fault p e ≡ None
+claim-none p e h =
+    let high : nat_lt e.cost p.cost ≡ false = false_from_ne_true (nat_lt e.cost p.cost) (λ t. absurd (omega (arith, ltb-true e.cost p.cost t, h.cost))) in
+    let lacks : ((p.cost == e.cost) && not (list_all (has p.labels) e.labels)) ≡ false =
+    false_from_ne_true ((p.cost == e.cost) && not (list_all (has p.labels) e.labels))
+    (λ t. let parts = and_parts (p.cost == e.cost) (not (list_all (has p.labels) e.labels)) t in
+    absurd (both_ways (list_all (has p.labels) e.labels) (not-true _ parts.1) (has-all p.labels e.labels (h.labels (eqb-true p.cost e.cost parts.0))))) in
+    ap (λ b. cond b (Some CostTooHigh) (cond ((p.cost == e.cost) && not (list_all (has p.labels) e.labels)) (Some SetTooSmall) None)) high
+    ∙ ap (λ b. cond b (Some SetTooSmall) None) lacks
+
+-- the form of a certificate leaves room for its nodes
+pub room-from_form : (table : List Label) (t : Tree) (room : ℕ) → HasNodeForm table t room → HasRoom t room
+room-from_form table (LeafNode x) room h = tt
+room-from_form table (InnerNode claim lower upper) zero h = absurd h
+room-from_form table (InnerNode claim lower upper) (suc room) h =
+    (room-from_form table lower room h.2, room-from_form table upper room h.3)
+
+-- nodes
+node-accepted : (m : MapModel) (ps : List Prefix) (t : Tree) (room k n q : ℕ) → HasRoom t room → n + room ≡ width_of m.version
+    → node_fault m ps t k n q ≡ None → IsNodeAccepted m ps t n q
+node-accepted m ps (LeafNode x) room k n q fits deep none = leaf-accepted m ps n q x (map_none-part (fault_at k) (leaf_fault m ps n q x) none)
+node-accepted m ps (InnerNode claim lower upper) zero k n q fits deep none = absurd fits
+node-accepted m ps (InnerNode claim lower upper) (suc room) k n q fits deep none =
+    let exact = exact_pair (claim_of lower) (claim_of upper) in
+    let own = option_map (fault_at k) (claim_fault claim exact) in
+    let high = node_fault m ps upper (k + 1 + node_count lower) (suc n) (2 * q + 1) in
+    let first = or_none-parts (node_fault m ps lower (k + 1) (suc n) (2 * q)) (option_or high own) none in
+    let second = or_none-parts high own first.1 in (
+      omega (arith, deep),
+      node-accepted m ps lower room (k + 1) (suc n) (2 * q) fits.0 (omega (arith, deep)) first.0,
+      node-accepted m ps upper room (k + 1 + node_count lower) (suc n) (2 * q + 1) fits.1 (omega (arith, deep)) second.0,
+      claim-within claim exact (map_none-part (fault_at k) (claim_fault claim exact) second.1),
+    )
+
+node-none : (m : MapModel) (ps : List Prefix) (t : Tree) (k n q : ℕ) → IsNodeAccepted m ps t n q → node_fault m ps t k n q ≡ None
+node-none m ps (LeafNode x) k n q h = ap (option_map (fault_at k)) (leaf-none m ps n q x h.0 h.1)
+node-none m ps (InnerNode claim lower upper) k n q h =
+    let exact = exact_pair (claim_of lower) (claim_of upper) in
+    let own = option_map (fault_at k) (claim_fault claim exact) in
+    let high = node_fault m ps upper (k + 1 + node_count lower) (suc n) (2 * q + 1) in
+    or_none-from (node_fault m ps lower (k + 1) (suc n) (2 * q)) (option_or high own) (node-none m ps lower (k + 1) (suc n) (2 * q) h.1)
+    (or_none-from high own (node-none m ps upper (k + 1 + node_count lower) (suc n) (2 * q + 1) h.2)
+    (ap (option_map (fault_at k)) (claim-none claim exact h.3)))
+
+-- the whole
+pub certificate-accepted : (m : MapModel) (l : ListModel) (c : CertificateModel) → HasTextForm c → first_fault m l c ≡ None → IsAccepted m l c
+certificate-accepted m l c form none =
+    let bound = cond (nat_lt ((claim_of c.root).cost + 1) (length l.prefixes)) (Some (whole_fault BoundNotMet)) None in
+    let nodes = node_fault m l.prefixes c.root 1 0 0 in
+    let first = cond_none-else (is_same_version l.version m.version && is_same_version c.version m.version) (option_or nodes bound) (whole_fault VersionDiffers) none in
+    let versions = and_parts (is_same_version l.version m.version) (is_same_version c.version m.version) first.0 in
+    let second = or_none-parts nodes bound first.1 in
+    let third = cond_none-then (nat_lt ((claim_of c.root).cost + 1) (length l.prefixes)) None (whole_fault BoundNotMet) second.1 in
+    let version : c.version ≡ m.version = same_version-true c.version m.version versions.1 in
+    let fits : HasRoom c.root (width_of m.version) =
+    subst (λ (v : Version). HasRoom c.root (width_of v)) version (room-from_form c.table c.root (width_of c.version) form.root) in
+    record {
+      list_version = same_version-true l.version m.version versions.0;
+      certificate_version = version;
+      root = node-accepted m l.prefixes c.root (width_of m.version) 1 0 0 fits (omega arith) second.0;
+      count = at_most ((claim_of c.root).cost + 1) (length l.prefixes) third.0;
+    }
+  where
+    at_most : (a b : ℕ) → nat_lt a b ≡ false → b ≤ a
+    at_most a b h = by (cases_lt a b)
+      where
+        by : (a < b) ⊎ (b ≤ a) → b ≤ a
+        by (inl less) = absurd (both_ways (nat_lt a b) h (lt-ltb a b less))
+        by (inr le) = le
+
+pub certificate-none : (m : MapModel) (l : ListModel) (c : CertificateModel) → IsAccepted m l c → first_fault m l c ≡ None
+certificate-none m l c h =
+    let bound = cond (nat_lt ((claim_of c.root).cost + 1) (length l.prefixes)) (Some (whole_fault BoundNotMet)) None in
+    let nodes = node_fault m l.prefixes c.root 1 0 0 in
+    let few : nat_lt ((claim_of c.root).cost + 1) (length l.prefixes) ≡ false =
+    false_from_ne_true (nat_lt ((claim_of c.root).cost + 1) (length l.prefixes))
+    (λ t. absurd (omega (arith, ltb-true ((claim_of c.root).cost + 1) (length l.prefixes) t, h.count))) in
+    let versions = and_from (is_same_version l.version m.version) (is_same_version c.version m.version)
+    (same_version-from l.version m.version h.list_version) (same_version-from c.version m.version h.certificate_version) in
+    ap (λ b. cond b (option_or nodes bound) (Some (whole_fault VersionDiffers))) versions
+    ∙ or_none-from nodes bound (node-none m l.prefixes c.root 1 0 0 h.root) (ap (λ b. cond b (Some (whole_fault BoundNotMet)) None) few)

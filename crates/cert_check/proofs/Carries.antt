@@ -1,0 +1,194 @@
+-- What is carried down to a block, as the code finds it.
+use Rattle.std.proofs.Common.{◌≡◌, ◌⊎◌, inl, inr, ℕ, zero, suc, ◌+◌, ◌-◌, ◌*◌, ◌^◌, ◌<◌, ◌≤◌, Bool, true, false, cond, not, ◌&&◌, ◌||◌, List, [], ◌∷◌, ◌++◌, Option, Some, None, All, drop, filter, get_or, length, map, nat_le, nat_lt, refl, sym, ap, ◌∙◌, subst, arith}
+use Rattle.std.proofs.Common.{take}
+use Rattle.std.proofs.lemmas.List.{take_more}
+use Rattle.std.specs.List.{list_any}
+use Rattle.std.specs.Option.{option_or}
+use Rattle.std.proofs.lemmas.Bool.{and_from, and_parts, both_ways, cases_lt, false_from_ne_true, false≢true, le-leb, leb-true, or_cases}
+use Rattle.std.proofs.lemmas.Bool.Decides.{nat_tests}
+use Rattle.std.proofs.lemmas.List.Elements.{filter_agree}
+use Rattle.std.proofs.lemmas.List.Folds.{list_any_at}
+use Rattle.std.proofs.lemmas.Nat.{pow_pos}
+use Rattle.prefix_keys.specs.Block.{first_of, last_of}
+use Rattle.prefix_keys.specs.Version.{width_of}
+use Rattle.prefix_keys.specs.declared.block.Block.{Block}
+use Rattle.pmap_text.specs.Carried.{entry_covers, from_last, statement_meets, statement_spans}
+use Rattle.pmap_text.specs.ListModel.{lies_inside}
+use Rattle.pmap_text.specs.MapModel.{Label, Mapping, last_such}
+use Rattle.pmap_text.specs.PrefixList.{prefix_of}
+use Rattle.pmap_text.specs.declared.entry.Entry.{Entry}
+use Rattle.pmap_text.specs.declared.statement.Statement.{Statement}
+use Rattle.cert_check.specs.Carrying.{carried_to, entries_carried_to, number_of}
+use Rattle.cert_check.specs.Sources.{covers_whole, greatest, is_inside, meets_block, spans_block}
+use Rattle.cert_check.specs.Versions.{is_same_version}
+use Rattle.cert_check.proofs.Lists.{any-kept, filter_twice, from_last-filter, from_last-none}
+
+-- a block has a first and a last address
+pub first-last : (W n q : ℕ) → first_of W n q ≤ last_of W n q
+first-last W n q = by (2 ^ (W - n)) (pow_pos (W - n))
+  where
+    by : (p : ℕ) → 0 < p → q * p ≤ (q + 1) * p - 1
+    by p some = omega (arith, some)
+
+-- a span that covers a block meets it
+spans-meets : (W n q : ℕ) (s : Statement) → statement_spans W n q s ≡ true → statement_meets W n q s ≡ true
+spans-meets W n q s h =
+    let parts = and_parts (nat_le s.span.low.value (first_of W n q)) (nat_le (last_of W n q) s.span.high.value) h in
+    let some = first-last W n q in
+    and_from (nat_le s.span.low.value (last_of W n q)) (nat_le (first_of W n q) s.span.high.value)
+    (le-leb _ _ (omega (arith, leb-true s.span.low.value (first_of W n q) parts.0, some)))
+    (le-leb _ _ (omega (arith, leb-true (last_of W n q) s.span.high.value parts.1, some)))
+
+both-tests : (v m s : Bool) → (s ≡ true → m ≡ true) → (v && s) ≡ ((v && m) && s)
+both-tests false m s h = refl
+both-tests true m true h = sym (and_from m true (h refl) refl)
+both-tests true true false h = refl
+both-tests true false false h = refl
+
+-- the statements that are carried to a block
+pub statements-carried : (b : Block) (ss : List Statement) → filter (meets_block b) (from_last (spans_block b) ss) ≡ carried_to b ss
+statements-carried b ss =
+    let W = width_of b.version in
+    let version = λ (s : Statement). is_same_version s.span.low.version b.version in
+    sym (from_last-filter (meets_block b) (statement_spans W b.len (number_of b)) (spans_block b)
+    (λ s. both-tests (version s) (statement_meets W b.len (number_of b) s) (statement_spans W b.len (number_of b) s) (spans-meets W b.len (number_of b) s)) ss)
+    ∙ ap (from_last (statement_spans W b.len (number_of b))) (sym (filter_twice (statement_meets W b.len (number_of b)) version ss))
+
+-- a walk from the end over a list: none behind the place passes
+pub any-drop : {X : Type 0} (p : X → Bool) (xs : List X) (i : ℕ) (d : X) → i < length xs → p (get_or xs i d) ≡ false → list_any p (drop (suc i) xs) ≡ false
+    → list_any p (drop i xs) ≡ false
+any-drop p [] i d less here behind = absurd (omega arith)
+any-drop p (x ∷ xs) zero d less here behind = ap (λ b. b || list_any p xs) here ∙ behind
+any-drop p (x ∷ xs) (suc i) d less here behind = any-drop p xs i d (omega (arith, less)) here behind
+
+-- the last that passes is at the place
+pub from_last-at : {X : Type 0} (p : X → Bool) (xs : List X) (i : ℕ) (d : X) → i < length xs → p (get_or xs i d) ≡ true → list_any p (drop (suc i) xs) ≡ false
+    → drop i xs ≡ from_last p xs
+from_last-at p [] i d less here behind = absurd (omega arith)
+from_last-at p (x ∷ xs) zero d less here behind = sym (ap (λ b. cond b (from_last p xs) (x ∷ xs)) behind)
+from_last-at p (x ∷ xs) (suc i) d less here behind =
+    from_last-at p xs i d (omega (arith, less)) here behind
+    ∙ sym (ap (λ b. cond b (from_last p xs) (x ∷ xs)) (list_any_at p xs i d (omega (arith, less)) here))
+
+-- and it is the last as a mapping
+pub last_such-behind : (f : Statement → Mapping) (p : Mapping → Bool) (ss : List Statement) → list_any (λ s. p (f s)) ss ≡ false → last_such p (map f ss) ≡ None
+last_such-behind f p [] none = refl
+last_such-behind f p (s ∷ ss) none = by (p (f s)) (list_any (λ (t : Statement). p (f t)) ss) refl refl (last_such-behind f p ss) none
+  where
+    by : (a b : Bool) → p (f s) ≡ a → list_any (λ (t : Statement). p (f t)) ss ≡ b → (list_any (λ (t : Statement). p (f t)) ss ≡ false → last_such p (map f ss) ≡ None)
+        → (a || b) ≡ false → last_such p (map f (s ∷ ss)) ≡ None
+    by true b here rest behind e = absurd (false≢true (sym e))
+    by false true here rest behind e = absurd (false≢true (sym e))
+    by false false here rest behind e =
+        ap (λ (o : Option Mapping). option_or o (cond (p (f s)) (Some (f s)) None)) (behind rest)
+        ∙ ap (λ a. cond a (Some (f s)) None) here
+
+pub last_such-at : (f : Statement → Mapping) (p : Mapping → Bool) (ss : List Statement) (i : ℕ) (d : Statement) → i < length ss → p (f (get_or ss i d)) ≡ true
+    → list_any (λ s. p (f s)) (drop (suc i) ss) ≡ false → last_such p (map f ss) ≡ Some (f (get_or ss i d))
+last_such-at f p [] i d less here behind = absurd (omega arith)
+last_such-at f p (s ∷ ss) zero d less here behind =
+    ap (λ (o : Option Mapping). option_or o (cond (p (f s)) (Some (f s)) None)) (last_such-behind f p ss behind)
+    ∙ ap (λ a. cond a (Some (f s)) None) here
+last_such-at f p (s ∷ ss) (suc i) d less here behind =
+    ap (λ (o : Option Mapping). option_or o (cond (p (f s)) (Some (f s)) None)) (last_such-at f p ss i d (omega (arith, less)) here behind)
+
+-- the greatest length among entries with one more at the end
+greatest-step : (tx te : Bool) (g x e : ℕ)
+    → cond (tx && nat_lt (cond (te && nat_lt g e) e g) x) x (cond (te && nat_lt g e) e g)
+    ≡ cond (te && nat_lt (cond (tx && nat_lt g x) x g) e) e (cond (tx && nat_lt g x) x g)
+greatest-step true true g x e = grind (arith, nat_tests)
+greatest-step true false g x e = refl
+greatest-step false true g x e = refl
+greatest-step false false g x e = refl
+
+pub greatest-push : (test : Entry → Bool) (es : List Entry) (e : Entry)
+    → greatest test (es ++ e ∷ []) ≡ cond (test e && nat_lt (greatest test es) e.block.len) e.block.len (greatest test es)
+greatest-push test [] e = refl
+greatest-push test (x ∷ es) e =
+    ap (λ g. cond (test x && nat_lt g x.block.len) x.block.len g) (greatest-push test es e)
+    ∙ greatest-step (test x) (test e) (greatest test es) x.block.len e.block.len
+
+-- some entry that passes is longer exactly where the greatest length is greater
+longer-step : (t : Bool) (k n g : ℕ) → ((t && nat_lt k n) || nat_lt k g) ≡ nat_lt k (cond (t && nat_lt g n) n g)
+longer-step true k n g = grind (arith, nat_tests)
+longer-step false k n g = refl
+
+pub any-longer : (test : Entry → Bool) (k : ℕ) (es : List Entry) → list_any (λ r. test r && nat_lt k r.block.len) es ≡ nat_lt k (greatest test es)
+any-longer test k [] = sym (false_from_ne_true (nat_lt k 0) (λ h. absurd (none k h)))
+  where
+    none : (k : ℕ) → nat_lt k 0 ≡ true → ⊥
+    none k h = grind (arith, nat_tests)
+any-longer test k (e ∷ es) =
+    ap (λ b. (test e && nat_lt k e.block.len) || b) (any-longer test k es) ∙ longer-step (test e) k e.block.len (greatest test es)
+
+-- the entries that are carried to a block
+not-less : (k g : ℕ) → not (nat_lt k g) ≡ nat_le g k
+not-less k g = grind (arith, nat_tests)
+
+same-say : (v c l i : Bool) → (v && ((c && l) || i)) ≡ (((v && c) && l) || (v && i))
+same-say true c l i = refl
+same-say false c l i = refl
+
+and-assoc : (a b c : Bool) → (a && (b && c)) ≡ ((a && b) && c)
+and-assoc true b c = refl
+and-assoc false b c = refl
+
+any-agree : {X : Type 0} (p r : X → Bool) → ((x : X) → p x ≡ r x) → (xs : List X) → list_any p xs ≡ list_any r xs
+any-agree p r same [] = refl
+any-agree p r same (x ∷ xs) = ap (λ a. a || list_any p xs) (same x) ∙ ap (λ a. r x || a) (any-agree p r same xs)
+
+pub entries-carried : (b : Block) (es : List Entry)
+    → filter (λ e. (covers_whole b e && nat_le (greatest (covers_whole b) es) e.block.len) || is_inside b e) es ≡ entries_carried_to b es
+entries-carried b es =
+    let W = width_of b.version in
+    let version : Entry → Bool = λ e. is_same_version e.block.version b.version in
+    let over : Entry → Bool = entry_covers W b.len (number_of b) in
+    let inside : Entry → Bool = λ e. lies_inside W b.len (number_of b) (prefix_of [] e) in
+    let say : Entry → Bool = λ e. (over e && not (list_any (λ (r : Entry). over r && nat_lt e.block.len r.block.len) (filter version es))) || inside e in
+    let longest : (e : Entry) → not (list_any (λ (r : Entry). over r && nat_lt e.block.len r.block.len) (filter version es)) ≡ nat_le (greatest (covers_whole b) es) e.block.len =
+    λ e. ap not (any-kept (λ (r : Entry). over r && nat_lt e.block.len r.block.len) version es
+    ∙ any-agree (λ (r : Entry). version r && (over r && nat_lt e.block.len r.block.len)) (λ (r : Entry). covers_whole b r && nat_lt e.block.len r.block.len)
+    (λ r. and-assoc (version r) (over r) (nat_lt e.block.len r.block.len)) es
+    ∙ any-longer (covers_whole b) e.block.len es)
+    ∙ not-less e.block.len (greatest (covers_whole b) es) in
+    filter_agree (λ e. (covers_whole b e && nat_le (greatest (covers_whole b) es) e.block.len) || is_inside b e) (λ e. version e && say e)
+    (λ e. sym (ap (λ l. version e && ((over e && l) || inside e)) (longest e) ∙ same-say (version e) (over e) (nat_le (greatest (covers_whole b) es) e.block.len) (inside e))) es
+    ∙ sym (filter_twice say version es)
+
+-- a list is at its end where the place is its length
+pub any-end : {X : Type 0} (p : X → Bool) (xs : List X) (i : ℕ) → length xs ≤ i → list_any p (drop i xs) ≡ false
+any-end p [] i le = by i
+  where
+    by : (j : ℕ) → list_any p (drop j []) ≡ false
+    by zero = refl
+    by (suc j) = refl
+any-end p (x ∷ xs) zero le = absurd (omega arith)
+any-end p (x ∷ xs) (suc i) le = any-end p xs i (omega (arith, le))
+
+-- a walk from the end, at the element before the place
+module _ {X : Type 0} (p : X → Bool) (xs : List X) (left : ℕ) (x : X) (some : 0 < left) (few : left ≤ length xs)
+    (is : x ≡ get_or xs (left - 1) x) (behind : list_any p (drop left xs) ≡ false) where
+  next : suc (left - 1) ≡ left
+  next = omega (arith, some)
+
+  pub behind-next : list_any p (drop (suc (left - 1)) xs) ≡ false
+  behind-next = subst (λ (k : ℕ). list_any p (drop k xs) ≡ false) (sym next) behind
+
+  pub walk-back : p x ≡ false → list_any p (drop (left - 1) xs) ≡ false
+  walk-back misses = any-drop p xs (left - 1) x (omega (arith, some, few)) (ap p (sym is) ∙ misses) behind-next
+
+  pub walk-found : p x ≡ true → drop (left - 1) xs ≡ from_last p xs
+  walk-found passes = from_last-at p xs (left - 1) x (omega (arith, some, few)) (ap p (sym is) ∙ passes) behind-next
+
+-- nothing is left of the walk
+pub walk-none : {X : Type 0} (p : X → Bool) (xs : List X) (left : ℕ) → left ≤ 0 → list_any p (drop left xs) ≡ false → list_any p xs ≡ false
+walk-none {X} p xs left none behind =
+    let e : left ≡ 0 = omega (arith, none) in
+    let h : list_any p (drop 0 xs) ≡ false = subst (λ (k : ℕ). list_any p (drop k xs) ≡ false) e behind in
+    h
+
+-- one more entry
+pub greatest-more : (test : Entry → Bool) (es : List Entry) (i : ℕ) (e : Entry) → i < length es → e ≡ get_or es i e
+    → greatest test (take (i + 1) es) ≡ cond (test e && nat_lt (greatest test (take i es)) e.block.len) e.block.len (greatest test (take i es))
+greatest-more test es i e less is =
+    ap (greatest test) (take_more es i e less ∙ ap (λ (d : Entry). take i es ++ d ∷ []) (sym is)) ∙ greatest-push test (take i es) e

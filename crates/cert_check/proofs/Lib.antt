@@ -1,0 +1,10 @@
+pub mod Lists
+pub mod Accepted
+pub mod Carries
+pub mod Longest
+pub mod Parts
+pub mod Sets
+pub mod Numbered
+pub mod BlockLabels
+pub mod Nodes
+pub mod Whole

@@ -1,0 +1,78 @@
+-- The numbers that labels have in another table.
+use Rattle.std.proofs.Common.{◌≡◌, ℕ, zero, suc, ◌+◌, ◌<◌, Bool, true, false, ◌==◌, List, [], ◌∷◌, ◌++◌, Option, Some, None, get_or, length, map, option_map, slice_get, take, refl, sym, ap, ◌∙◌, subst, arith, bytes_eq}
+use Rattle.std.proofs.lemmas.Bool.{both_ways, cases_eq, eq-eqb, eqb-true, false_from_ne_true}
+use Rattle.std.proofs.lemmas.List.{length-map, map-append, take_more}
+use Rattle.std.proofs.lemmas.Option.{get_or_from_slice_get, none-some, same_Some, slice_get-get_or, slice_get_within, unwrap_or-slice_get}
+use Rattle.std.specs.Option.{unwrap_or}
+use Rattle.std.proofs.lemmas.Slice.Eq.{bytes_eq-Decides}
+use Rattle.pmap_text.specs.Label.{IsLabelTable, number_of}
+use Rattle.pmap_text.specs.MapModel.{Label}
+use Rattle.pmap_text.specs.MapText.{text_at}
+use Rattle.pmap_text.specs.declared.label.LabelId.{LabelId}
+use Rattle.pmap_text.proofs.LabelTexts.{slice_get-number}
+use Rattle.cert_check.specs.Sources.{AreNumbers}
+
+-- an item of a mapped list
+slice_get-map : {X Y : Type 0} (f : X → Y) (xs : List X) (i : ℕ) → slice_get (map f xs) i ≡ option_map f (slice_get xs i)
+slice_get-map f [] i = refl
+slice_get-map f (x ∷ xs) zero = refl
+slice_get-map f (x ∷ xs) (suc i) = slice_get-map f xs i
+
+-- a text of a table is at its number
+text-listed : (table : List Label) (n : ℕ) → n < length table → slice_get table n ≡ Some (text_at table n)
+text-listed table n less = slice_get-get_or table n [] less ∙ ap Some (sym (unwrap_or-slice_get table n []))
+
+-- one more number
+pub numbers-more : (from to : List Label) (i : ℕ) (text : Label) (items new : List (Option LabelId)) (o : Option LabelId)
+    → map (option_map (λ id. id.0)) items ≡ map (number_of to) (take i from) → Some text ≡ slice_get from i → option_map (λ id. id.0) o ≡ number_of to text
+    → new ≡ items ++ o ∷ [] → map (option_map (λ id. id.0)) new ≡ map (number_of to) (take (i + 1) from)
+numbers-more from to i text items new o so_far listed found pushed =
+    let f : Option LabelId → Option ℕ = option_map (λ (id : LabelId). id.0) in
+    let less : i < length from = slice_get_within from i text (sym listed) in
+    let taken : take (i + 1) from ≡ take i from ++ text ∷ [] =
+    take_more from i text less ∙ ap (λ (t : Label). take i from ++ t ∷ []) (get_or_from_slice_get from i text text (sym listed)) in
+    ap (map f) pushed ∙ map-append f items (o ∷ [])
+    ∙ (λ j. so_far j ++ found j ∷ [])
+    ∙ sym (ap (map (number_of to)) taken ∙ map-append (number_of to) (take i from) (text ∷ []))
+
+-- the labels are the same where the number is
+module _ (numbers : List (Option LabelId)) (from to : List Label) (are : AreNumbers numbers from to) (own id : ℕ) (known : id < length to) (o : Option LabelId)
+    (listed : slice_get numbers own ≡ Some o) where
+  number : option_map (λ i. i.0) o ≡ number_of to (text_at from own)
+  number =
+      let f : Option LabelId → Option ℕ = option_map (λ (i : LabelId). i.0) in
+      let mapped : option_map (number_of to) (slice_get from own) ≡ Some (f o) =
+      sym (slice_get-map (number_of to) from own) ∙ ap (λ (xs : List (Option ℕ)). slice_get xs own) (sym are.each) ∙ slice_get-map f numbers own ∙ ap (option_map f) listed in
+      by (slice_get from own) refl mapped
+    where
+      by : (t : Option Label) → slice_get from own ≡ t → option_map (number_of to) t ≡ Some (option_map (λ (i : LabelId). i.0) o) → option_map (λ (i : LabelId). i.0) o ≡ number_of to (text_at from own)
+      by None is e = absurd (none-some (option_map (λ (i : LabelId). i.0) o) e)
+      by (Some t) is e =
+          sym (same_Some (number_of to t) (option_map (λ (i : LabelId). i.0) o) e)
+          ∙ ap (number_of to) (sym (ap (λ (x : Option Label). unwrap_or x []) is))
+
+  own-number : number_of to (text_at to id) ≡ Some id
+  own-number = (are.table).places id (text_at to id) (text-listed to id known)
+
+  pub same-some : (n : LabelId) → o ≡ Some n → (n.0 == id) ≡ bytes_eq (text_at from own) (text_at to id)
+  same-some n is = by (bytes_eq (text_at from own) (text_at to id)) refl
+    where
+      found : number_of to (text_at from own) ≡ Some n.0
+      found = sym number ∙ ap (option_map (λ (i : LabelId). i.0)) is
+
+      by : (b : Bool) → bytes_eq (text_at from own) (text_at to id) ≡ b → (n.0 == id) ≡ b
+      by true e =
+          eq-eqb n.0 id (same_Some n.0 id (sym found ∙ ap (number_of to) ((bytes_eq-Decides (text_at from own) (text_at to id)).0 e) ∙ own-number))
+      by false e = false_from_ne_true (n.0 == id) (λ h. both_ways (bytes_eq (text_at from own) (text_at to id)) e
+          ((bytes_eq-Decides (text_at from own) (text_at to id)).1
+          (same_Some (text_at from own) (text_at to id)
+          (sym (slice_get-number to (text_at from own) n.0 found) ∙ ap (slice_get to) (eqb-true n.0 id h) ∙ text-listed to id known))))
+
+  pub same-none : o ≡ None → false ≡ bytes_eq (text_at from own) (text_at to id)
+  same-none is = sym (false_from_ne_true (bytes_eq (text_at from own) (text_at to id)) (λ h.
+      absurd (none-some id (sym (ap (option_map (λ (i : LabelId). i.0)) is) ∙ number ∙ ap (number_of to) ((bytes_eq-Decides (text_at from own) (text_at to id)).0 h) ∙ own-number))))
+
+-- there are as many numbers as labels
+pub numbers-length : (numbers : List (Option LabelId)) (from to : List Label) → AreNumbers numbers from to → length numbers ≡ length from
+numbers-length numbers from to are =
+    sym (length-map numbers (option_map (λ i. i.0))) ∙ ap (λ (xs : List (Option ℕ)). length xs) are.each ∙ length-map from (number_of to)

@@ -1,0 +1,299 @@
+-- Sets of labels by their numbers in rising order.
+use Rattle.std.proofs.Common.{◌≡◌, ◌⊎◌, inl, inr, ℕ, zero, suc, ◌+◌, ◌^◌, ◌<◌, ◌≤◌, Bool, true, false, cond, not, ◌&&◌, ◌||◌, ◌==◌, List, [], ◌∷◌, ◌++◌, Option, Some, None, drop, filter, get_or, length, map, nat_lt, slice_get, take, refl, sym, ap, ap₂, ◌∙◌, subst, arith, bytes_eq}
+use Rattle.std.specs.List.{list_all, list_any}
+use Rattle.std.proofs.lemmas.Bool.{both_ways, cases_eq, cases_lt, eq-eqb, eqb-true, false_from_ne_true, false≢true}
+use Rattle.std.proofs.lemmas.Bool.{and_from}
+use Rattle.std.proofs.lemmas.List.{append-nil, take_more}
+use Rattle.std.proofs.lemmas.List.Elements.{filter-append}
+use Rattle.std.proofs.lemmas.List.Folds.{list_all-append, list_all-map, list_all_at, list_all_more}
+use Rattle.std.proofs.lemmas.Slice.Eq.{bytes_eq-Decides}
+use Rattle.std.proofs.lemmas.Option.{none-some, same_Some}
+use Rattle.pmap_text.specs.Label.{IsLabelTable}
+use Rattle.pmap_text.specs.MapModel.{Label}
+use Rattle.pmap_text.specs.MapText.{text_at}
+use Rattle.pmap_text.specs.declared.label.LabelId.{LabelId}
+use Rattle.pmap_cert.specs.CertificateForm.{IsRising}
+use Rattle.pmap_cert.specs.CertificateModel.{Pair, claim_of, has}
+use Rattle.pmap_cert.specs.Node.{tree_of}
+use Rattle.pmap_cert.specs.declared.node.Node.{Node}
+use Rattle.pmap_cert.specs.declared.node.Node.TheVariants.{Inner', Leaf}
+use Rattle.pmap_cert.specs.CertificateText.{place_of}
+use Rattle.pmap_cert.specs.ExactPair.{common_labels, exact_pair, exact_pair_by}
+use Rattle.pmap_cert.proofs.Tables.{place_of-text_at}
+use Rattle.cert_check.specs.Checking.{claim_fault}
+use Rattle.cert_check.specs.Sources.{cost_of, has_number, set_of}
+use Rattle.cert_check.specs.declared.fault.CheckFaultKind.{CheckFaultKind}
+use Rattle.cert_check.specs.declared.fault.CheckFaultKind.TheVariants.{CostTooHigh, SetTooSmall}
+
+-- the numbers of labels
+abbrev pub numbers : List LabelId → List ℕ
+numbers ids = map (λ i. i.0) ids
+
+pub rising-lower : (bound low less : ℕ) (ns : List ℕ) → less ≤ low → IsRising bound low ns → IsRising bound less ns
+rising-lower bound low less [] le h = tt
+rising-lower bound low less (n ∷ ns) le h = (omega (arith, h.0, le), h.1, h.2)
+
+pub rising-bound : (bound wide low : ℕ) (ns : List ℕ) → bound ≤ wide → IsRising bound low ns → IsRising wide low ns
+rising-bound bound wide low [] le h = tt
+rising-bound bound wide low (n ∷ ns) le h = (h.0, omega (arith, h.1, le), rising-bound bound wide (n + 1) ns le h.2)
+
+ne-eqb : (a b : ℕ) → (a ≡ b → ⊥) → (a == b) ≡ false
+ne-eqb a b ne = false_from_ne_true (a == b) (λ e. ne (eqb-true a b e))
+
+-- a rising list has no number below its first
+pub rising-lacks : (bound low n : ℕ) (ns : List ℕ) → n < low → IsRising bound low ns → has_number ns n ≡ false
+rising-lacks bound low n [] less h = refl
+rising-lacks bound low n (m ∷ ns) less h =
+    ap (λ b. b || has_number ns n) (ne-eqb m n (λ e. absurd (omega (arith, e, h.0, less))))
+    ∙ rising-lacks bound (m + 1) n ns (omega (arith, h.0, less)) h.2
+
+-- one step along a set to a number
+pub step-rising : (bound : ℕ) (rest : List LabelId) (first : LabelId) → slice_get rest 0 ≡ Some first → IsRising bound 0 (numbers rest) → IsRising bound 0 (numbers (drop 1 rest))
+step-rising bound [] first e h = absurd (none-some first e)
+step-rising bound (r ∷ rest) first e h = rising-lower bound (r.0 + 1) 0 (numbers rest) (omega arith) h.2
+
+pub step-kept : (rest : List LabelId) (first : LabelId) (n : ℕ) → slice_get rest 0 ≡ Some first → first.0 < n → has_number (numbers (drop 1 rest)) n ≡ has_number (numbers rest) n
+step-kept [] first n e less = absurd (none-some first e)
+step-kept (r ∷ rest) first n e less =
+    let same : r ≡ first = same_Some r first e in
+    sym (ap (λ b. b || has_number (numbers rest) n) (ne-eqb r.0 n (λ f. absurd (omega (arith, f, less, ap (λ (i : LabelId). i.0) same)))))
+
+pub step-shorter : (rest : List LabelId) (first : LabelId) → slice_get rest 0 ≡ Some first → length (drop 1 rest) < length rest
+step-shorter [] first e = absurd (none-some first e)
+step-shorter (r ∷ rest) first e = omega arith
+
+pub arrived : (bound : ℕ) (rest : List LabelId) (first id : LabelId) → slice_get rest 0 ≡ Some first → id.0 ≤ first.0 → IsRising bound 0 (numbers rest) → IsRising bound id.0 (numbers rest)
+arrived bound [] first id e le h = absurd (none-some first e)
+arrived bound (r ∷ rest) first id e le h =
+    let same : r ≡ first = same_Some r first e in
+    (omega (arith, le, ap (λ (i : LabelId). i.0) same), h.1, h.2)
+
+pub arrived-end : (bound : ℕ) (rest : List LabelId) (id : LabelId) → slice_get rest 0 ≡ None → IsRising bound id.0 (numbers rest)
+arrived-end bound [] id e = tt
+arrived-end bound (r ∷ rest) id e = absurd (none-some r (sym e))
+
+-- whether the first is the number
+pub first-is : (bound : ℕ) (rest : List LabelId) (first id : LabelId) → slice_get rest 0 ≡ Some first → IsRising bound id.0 (numbers rest) → (first.0 == id.0) ≡ has_number (numbers rest) id.0
+first-is bound [] first id e h = absurd (none-some first e)
+first-is bound (r ∷ rest) first id e h =
+    let same : r ≡ first = same_Some r first e in
+    ap (λ (i : LabelId). i.0 == id.0) (sym same)
+    ∙ by (r.0 == id.0) (has_number (numbers rest) id.0) (rising-lacks bound (r.0 + 1) id.0 (numbers rest) (omega (arith, h.0)) h.2)
+  where
+    by : (a b : Bool) → b ≡ false → a ≡ (a || b)
+    by true b none = refl
+    by false b none = sym none
+
+pub first-none : (rest : List LabelId) (id : LabelId) → slice_get rest 0 ≡ None → false ≡ has_number (numbers rest) id.0
+first-none [] id e = refl
+first-none (r ∷ rest) id e = absurd (none-some r (sym e))
+
+-- a walk over two sets: what is left of the other set has of the numbers to come those that the whole has
+pub record IsWalk (set rest other : List LabelId) (i : ℕ) : Type 0 where
+  pub low : ℕ
+  pub coming : IsRising (2 ^ 32) low (numbers (drop i set))
+  pub rising : IsRising (2 ^ 32) 0 (numbers rest)
+  pub kept : (n : ℕ) → low ≤ n → has_number (numbers rest) n ≡ has_number (numbers other) n
+
+pub walk-start : (set other : List LabelId) → IsRising (2 ^ 32) 0 (numbers set) → IsRising (2 ^ 32) 0 (numbers other) → IsWalk set other other 0
+walk-start set other h h' = record { low = 0; coming = h; rising = h'; kept = λ n le. refl }
+
+-- the first of those to come
+coming-first : (low : ℕ) (set : List LabelId) (i : ℕ) (d : LabelId) → i < length set → IsRising (2 ^ 32) low (numbers (drop i set))
+    → (low ≤ (get_or set i d).0) × IsRising (2 ^ 32) ((get_or set i d).0 + 1) (numbers (drop (suc i) set))
+coming-first low [] i d less h = absurd (omega arith)
+coming-first low (s ∷ set) zero d less h = (h.0, h.2)
+coming-first low (s ∷ set) (suc i) d less h = coming-first low set i d (omega (arith, less)) h
+
+module _ (set rest rest' other : List LabelId) (i : ℕ) (d : LabelId) (less : i < length set) (walk : IsWalk set rest other i)
+    (rising : IsRising (2 ^ 32) (get_or set i d).0 (numbers rest'))
+    (kept : (n : ℕ) → (get_or set i d).0 ≤ n → has_number (numbers rest') n ≡ has_number (numbers rest) n) where
+  first-coming : (walk.low ≤ (get_or set i d).0) × IsRising (2 ^ 32) ((get_or set i d).0 + 1) (numbers (drop (suc i) set))
+  first-coming = coming-first walk.low set i d less walk.coming
+
+  pub walk-next : IsWalk set rest' other (suc i)
+  walk-next = record {
+    low = (get_or set i d).0 + 1;
+    coming = first-coming.1;
+    rising = rising-lower (2 ^ 32) (get_or set i d).0 0 (numbers rest') (omega arith) rising;
+    kept = λ n le. kept n (omega (arith, le)) ∙ walk.kept n (omega (arith, le, first-coming.0));
+  }
+
+  pub walk-has : has_number (numbers rest') (get_or set i d).0 ≡ has_number (numbers other) (get_or set i d).0
+  walk-has = kept (get_or set i d).0 (omega arith) ∙ walk.kept (get_or set i d).0 first-coming.0
+
+-- numbers and labels of a table
+module _ (table : List Label) (ok : IsLabelTable table) where
+  same-number : (n m : ℕ) → n < length table → m < length table → bytes_eq (text_at table n) (text_at table m) ≡ (m == n)
+  same-number n m h h' = by (m == n) refl
+    where
+      by : (b : Bool) → (m == n) ≡ b → bytes_eq (text_at table n) (text_at table m) ≡ b
+      by true e = (bytes_eq-Decides (text_at table n) (text_at table m)).1 (ap (text_at table) (sym (eqb-true m n e)))
+      by false e = false_from_ne_true (bytes_eq (text_at table n) (text_at table m))
+          (λ t. both_ways (m == n) e (eq-eqb m n
+          (sym (place_of-text_at table m ok h') ∙ ap (place_of table) (sym ((bytes_eq-Decides (text_at table n) (text_at table m)).0 t)) ∙ place_of-text_at table n ok h)))
+
+  pub has-texts : (low : ℕ) (ns : List ℕ) (n : ℕ) → IsRising (length table) low ns → n < length table → has (map (text_at table) ns) (text_at table n) ≡ has_number ns n
+  has-texts low [] n h less = refl
+  has-texts low (m ∷ ns) n h less = ap₂ ◌||◌ (same-number n m less h.1) (has-texts (m + 1) ns n h.2 less)
+
+  pub common-texts : (low low' : ℕ) (ns ms : List ℕ) → IsRising (length table) low ns → IsRising (length table) low' ms
+      → filter (has (map (text_at table) ms)) (map (text_at table) ns) ≡ map (text_at table) (filter (has_number ms) ns)
+  common-texts low low' [] ms h h' = refl
+  common-texts low low' (n ∷ ns) ms h h' = by (has_number ms n) (has-texts low' ms n h' h.1) (common-texts (n + 1) low' ns ms h.2 h')
+    where
+      by : (b : Bool) → has (map (text_at table) ms) (text_at table n) ≡ b
+          → filter (has (map (text_at table) ms)) (map (text_at table) ns) ≡ map (text_at table) (filter (has_number ms) ns)
+          → filter (has (map (text_at table) ms)) (map (text_at table) (n ∷ ns)) ≡ map (text_at table) (cond b (n ∷ filter (has_number ms) ns) (filter (has_number ms) ns))
+      by true e rest = ap (λ b. cond b (text_at table n ∷ filter (has (map (text_at table) ms)) (map (text_at table) ns)) (filter (has (map (text_at table) ms)) (map (text_at table) ns))) e
+          ∙ ap (λ (xs : List Label). text_at table n ∷ xs) rest
+      by false e rest = ap (λ b. cond b (text_at table n ∷ filter (has (map (text_at table) ms)) (map (text_at table) ns)) (filter (has (map (text_at table) ms)) (map (text_at table) ns))) e
+          ∙ rest
+
+  pub all-texts : (low low' : ℕ) (ns ms : List ℕ) → IsRising (length table) low ns → IsRising (length table) low' ms
+      → list_all (has (map (text_at table) ms)) (map (text_at table) ns) ≡ list_all (has_number ms) ns
+  all-texts low low' [] ms h h' = refl
+  all-texts low low' (n ∷ ns) ms h h' = ap₂ ◌&&◌ (has-texts low' ms n h' h.1) (all-texts (n + 1) low' ns ms h.2 h')
+
+-- those kept of a rising list rise
+pub rising-filter : (bound low : ℕ) (test : ℕ → Bool) (ns : List ℕ) → IsRising bound low ns → IsRising bound low (filter test ns)
+rising-filter bound low test [] h = tt
+rising-filter bound low test (n ∷ ns) h = by (test n) (rising-filter bound (n + 1) test ns h.2)
+  where
+    by : (b : Bool) → IsRising bound (n + 1) (filter test ns) → IsRising bound low (cond b (n ∷ filter test ns) (filter test ns))
+    by true rest = (h.0, h.1, rest)
+    by false rest = rising-lower bound (n + 1) low (filter test ns) (omega (arith, h.0)) rest
+
+-- a pair with the labels of these numbers
+abbrev pub pair_of : List Label → ℕ → List ℕ → Pair
+pair_of table k ns = record { cost = k; labels = map (text_at table) ns }
+
+-- what is wrong with a cost, by the exact cost and whether all labels of the exact set are there
+abbrev pub fault_by : ℕ → ℕ → Bool → Option CheckFaultKind
+fault_by cost exact full = cond (nat_lt exact cost) (Some CostTooHigh) (cond ((cost == exact) && not full) (Some SetTooSmall) None)
+
+-- what is wrong with a claim by its numbers
+pub claim-apart : (table : List Label) → IsLabelTable table → (cost left right : ℕ) (set lower upper : List ℕ)
+    → IsRising (length table) 0 set → IsRising (length table) 0 lower → IsRising (length table) 0 upper → filter (has_number upper) lower ≡ []
+    → claim_fault (pair_of table cost set) (exact_pair (pair_of table left lower) (pair_of table right upper))
+    ≡ fault_by cost (left + right + 1) (list_all (has_number set) lower && list_all (has_number set) upper)
+claim-apart table ok cost left right set lower upper h h' h'' none =
+    let T = text_at table in
+    let common : filter (has (map T upper)) (map T lower) ≡ [] = common-texts table ok 0 0 lower upper h' h'' ∙ ap (map T) none in
+    ap (λ (xs : List Label). claim_fault (pair_of table cost set) (exact_pair_by (pair_of table left lower) (pair_of table right upper) xs)) common
+    ∙ ap (fault_by cost (left + right + 1))
+    (list_all-append (has (map T set)) (map T lower) (map T upper)
+    ∙ ap₂ ◌&&◌ (all-texts table ok 0 0 lower set h' h) (all-texts table ok 0 0 upper set h'' h))
+
+pub claim-common : (table : List Label) → IsLabelTable table → (cost left right : ℕ) (set lower upper : List ℕ)
+    → IsRising (length table) 0 set → IsRising (length table) 0 lower → IsRising (length table) 0 upper → (n : ℕ) (ns : List ℕ) → filter (has_number upper) lower ≡ n ∷ ns
+    → claim_fault (pair_of table cost set) (exact_pair (pair_of table left lower) (pair_of table right upper))
+    ≡ fault_by cost (left + right) (list_all (has_number set) (n ∷ ns))
+claim-common table ok cost left right set lower upper h h' h'' n ns some =
+    let T = text_at table in
+    let common : filter (has (map T upper)) (map T lower) ≡ map T (n ∷ ns) = common-texts table ok 0 0 lower upper h' h'' ∙ ap (map T) some in
+    let rising : IsRising (length table) 0 (n ∷ ns) = subst (IsRising (length table) 0) some (rising-filter (length table) 0 (has_number upper) lower h') in
+    ap (λ (xs : List Label). claim_fault (pair_of table cost set) (exact_pair_by (pair_of table left lower) (pair_of table right upper) xs)) common
+    ∙ ap (fault_by cost (left + right)) (all-texts table ok 0 0 (n ∷ ns) set rising h)
+
+-- the place after
+pub goes-on : (set rest rest' other : List LabelId) (i : ℕ) (d : LabelId) → i < length set → IsWalk set rest other i → IsRising (2 ^ 32) (get_or set i d).0 (numbers rest')
+    → ((n : ℕ) → (get_or set i d).0 ≤ n → has_number (numbers rest') n ≡ has_number (numbers rest) n) → IsWalk set rest' other (i + 1)
+goes-on set rest rest' other i d less walk rising kept =
+    let e : suc i ≡ i + 1 = omega arith in
+    subst (IsWalk set rest' other) e (walk-next set rest rest' other i d less walk rising kept)
+
+-- a filter with one more
+pub filter-more : (p : LabelId → Bool) (set : List LabelId) (i : ℕ) (d : LabelId) (old new : List LabelId) (w : Bool) → i < length set
+    → w ≡ p (get_or set i d) → old ≡ filter p (take i set) → new ≡ cond w (old ++ get_or set i d ∷ []) old → new ≡ filter p (take (i + 1) set)
+filter-more p set i d old new w less test so_far pushed =
+    pushed ∙ by w (p (get_or set i d)) test ∙ ap (λ (ys : List LabelId). ys ++ filter p (get_or set i d ∷ [])) so_far
+    ∙ sym (filter-append p (take i set) (get_or set i d ∷ []))
+    ∙ sym (ap (filter p) (take_more set i d less))
+  where
+    by : (w b : Bool) → w ≡ b → cond w (old ++ get_or set i d ∷ []) old ≡ old ++ cond b (get_or set i d ∷ []) []
+    by true true e = refl
+    by false false e = sym (append-nil old)
+    by true false e = absurd (false≢true (sym e))
+    by false true e = absurd (false≢true e)
+
+-- a test of all with one more
+pub all-more : (p : LabelId → Bool) (set : List LabelId) (i : ℕ) (d : LabelId) → i < length set → p (get_or set i d) ≡ true
+    → list_all p (take i set) ≡ true → list_all p (take (i + 1) set) ≡ true
+all-more p set i d less here so_far = list_all_more p set i d less ∙ and_from (list_all p (take i set)) (p (get_or set i d)) so_far here
+
+pub all-fails : (p : LabelId → Bool) (set : List LabelId) (i : ℕ) (d : LabelId) → i < length set → p (get_or set i d) ≡ false → list_all p set ≡ false
+all-fails p set i d less here = list_all_at p set i d less here
+
+-- the numbers of those that pass
+pub numbers-filter : (p : ℕ → Bool) (ids : List LabelId) → numbers (filter (λ i. p i.0) ids) ≡ filter p (numbers ids)
+numbers-filter p [] = refl
+numbers-filter p (x ∷ ids) = by (p x.0) (numbers-filter p ids)
+  where
+    by : (b : Bool) → numbers (filter (λ (i : LabelId). p i.0) ids) ≡ filter p (numbers ids)
+        → numbers (cond b (x ∷ filter (λ (i : LabelId). p i.0) ids) (filter (λ (i : LabelId). p i.0) ids)) ≡ cond b (x.0 ∷ filter p (numbers ids)) (filter p (numbers ids))
+    by true rest = ap (λ (ns : List ℕ). x.0 ∷ ns) rest
+    by false rest = rest
+
+-- a set of a table rises below 2 ^ 32
+pub set-rising : (count : ℕ) (ids : List LabelId) (ns : List ℕ) → count ≤ 65536 → numbers ids ≡ ns → IsRising count 0 ns → IsRising (2 ^ 32) 0 (numbers ids)
+set-rising count ids ns few e h =
+    subst (IsRising (2 ^ 32) 0) (sym e) (rising-bound count (2 ^ 32) 0 ns (omega (arith, few)) h)
+
+-- the labels of two sets as numbers
+pub both-numbers : (lower upper both : List LabelId) → both ≡ filter (λ i. has_number (numbers upper) i.0) lower → numbers both ≡ filter (has_number (numbers upper)) (numbers lower)
+both-numbers lower upper both e = ap numbers e ∙ numbers-filter (has_number (numbers upper)) lower
+
+pub both-rising : (lower upper both : List LabelId) → both ≡ filter (λ i. has_number (numbers upper) i.0) lower → IsRising (2 ^ 32) 0 (numbers lower) → IsRising (2 ^ 32) 0 (numbers both)
+both-rising lower upper both e h =
+    subst (IsRising (2 ^ 32) 0) (sym (both-numbers lower upper both e)) (rising-filter (2 ^ 32) 0 (has_number (numbers upper)) (numbers lower) h)
+
+-- a node's claim by its numbers
+pub claim-numbers : (table : List Label) (node : Node) → claim_of (tree_of table node) ≡ pair_of table (cost_of node) (set_of node)
+claim-numbers table (Leaf id) = refl
+claim-numbers table (Inner' cost set p left q right) = refl
+
+-- a test of all labels of a set by their numbers
+all-numbers : (set ids : List LabelId) (ns ms : List ℕ) → numbers set ≡ ns → numbers ids ≡ ms → list_all (λ i. has_number (numbers set) i.0) ids ≡ list_all (has_number ns) ms
+all-numbers set ids ns ms e e' =
+    sym (list_all-map (has_number (numbers set)) (λ (j : LabelId). j.0) ids) ∙ (λ i. list_all (has_number (e i)) (e' i))
+
+length-nil : {X : Type 0} (xs : List X) → length xs ≡ 0 → xs ≡ []
+length-nil [] e = refl
+length-nil (x ∷ xs) e = absurd (omega (arith, e))
+
+module _ (table : List Label) (ok : IsLabelTable table) (claim left right : Node) (set lower upper both : List LabelId) (cost below : ℕ) (full : Bool)
+    (h : IsRising (length table) 0 (set_of claim)) (h' : IsRising (length table) 0 (set_of left)) (h'' : IsRising (length table) 0 (set_of right))
+    (e : numbers set ≡ set_of claim) (e' : numbers lower ≡ set_of left) (e'' : numbers upper ≡ set_of right)
+    (are : both ≡ filter (λ i. has_number (numbers upper) i.0) lower) (costs : cost ≡ cost_of claim) (belows : below ≡ cost_of left + cost_of right) where
+  exact-is : claim_fault (pair_of table (cost_of claim) (set_of claim)) (exact_pair (pair_of table (cost_of left) (set_of left)) (pair_of table (cost_of right) (set_of right)))
+      ≡ claim_fault (claim_of (tree_of table claim)) (exact_pair (claim_of (tree_of table left)) (claim_of (tree_of table right)))
+  exact-is = λ i. claim_fault (sym (claim-numbers table claim) i) (exact_pair (sym (claim-numbers table left) i) (sym (claim-numbers table right) i))
+
+  common-is : filter (has_number (set_of right)) (set_of left) ≡ numbers both
+  common-is = (λ i. filter (has_number (sym e'' i)) (sym e' i)) ∙ sym (both-numbers lower upper both are)
+
+  -- the nodes of the halves have no common label
+  pub node-apart : length both ≡ 0 → full ≡ (list_all (λ i. has_number (numbers set) i.0) lower && list_all (λ i. has_number (numbers set) i.0) upper)
+      → fault_by cost (below + 1) full ≡ claim_fault (claim_of (tree_of table claim)) (exact_pair (claim_of (tree_of table left)) (claim_of (tree_of table right)))
+  node-apart none fulls =
+      let nothing : filter (has_number (set_of right)) (set_of left) ≡ [] = common-is ∙ ap numbers (length-nil both none) in
+      (λ i. fault_by (costs i) (belows i + 1) (fulls i))
+      ∙ (λ i. fault_by (cost_of claim) (cost_of left + cost_of right + 1)
+      (all-numbers set lower (set_of claim) (set_of left) e e' i && all-numbers set upper (set_of claim) (set_of right) e e'' i))
+      ∙ sym (claim-apart table ok (cost_of claim) (cost_of left) (cost_of right) (set_of claim) (set_of left) (set_of right) h h' h'' nothing)
+      ∙ exact-is
+
+  -- they have one
+  common-by : (xs : List LabelId) → both ≡ xs → (length xs == 0) ≡ false → full ≡ list_all (λ i. has_number (numbers set) i.0) xs
+      → fault_by cost below full ≡ claim_fault (claim_of (tree_of table claim)) (exact_pair (claim_of (tree_of table left)) (claim_of (tree_of table right)))
+  common-by [] is some fulls = absurd (false≢true (sym some))
+  common-by (x ∷ xs) is some fulls =
+      (λ i. fault_by (costs i) (belows i) (fulls i))
+      ∙ ap (fault_by (cost_of claim) (cost_of left + cost_of right)) (all-numbers set (x ∷ xs) (set_of claim) (x.0 ∷ numbers xs) e refl)
+      ∙ sym (claim-common table ok (cost_of claim) (cost_of left) (cost_of right) (set_of claim) (set_of left) (set_of right) h h' h'' x.0 (numbers xs) (common-is ∙ ap numbers is))
+      ∙ exact-is
+
+  pub node-common : (length both == 0) ≡ false → full ≡ list_all (λ i. has_number (numbers set) i.0) both
+      → fault_by cost below full ≡ claim_fault (claim_of (tree_of table claim)) (exact_pair (claim_of (tree_of table left)) (claim_of (tree_of table right)))
+  node-common some fulls = common-by both refl some fulls

@@ -1,0 +1,318 @@
+use Rattle.std.proofs.Common.{◌≡◌, ◌∙◌, ◌+◌, ◌-◌, ◌*◌, ◌<◌, ℕ, None, Some, ap, arith, length, option_map, refl, subst, suc, sym}
+use Rattle.std.proofs.lemmas.Result.{err_from_is_err_and}
+use Rattle.prefix_keys.specs.Version.{width_of}
+use Rattle.pmap_cert.specs.CertificateModel.{claim_of}
+use Rattle.pmap_cert.specs.ExactPair.{exact_pair}
+use Rattle.pmap_cert.specs.Node.{tree_of}
+use Rattle.pmap_cert.specs.declared.node.Node.{Node}
+use Rattle.cert_check.specs.Carrying.{number_of}
+use Rattle.cert_check.specs.Checking.{claim_fault, fault_at, node_count, told}
+use Rattle.cert_check.specs.Sources.{map_with, prefixes_with}
+use Rattle.cert_check.specs.declared.fault.CheckFault.{CheckFault}
+use Rattle.cert_check.proofs.Nodes.{IsInner, IsPassedOn, at-number, inner-count, inner-form, inner-high, inner-low, inner-own, passed-entries, passed-form, passed-on, passed-statements, told-next}
+use Rattle.cert_check.proofs.checking.+check_node.Goals as goal
+
+pub check_node-requires : goal.check_node-requires
+check_node-requires t c =
+    let labels = c.args.sources.now.certificate.now.labels in
+    let m = c.args.sources.now.map.now in
+    let l = c.args.sources.now.list.now in
+    let ss = c.args.part.statements.items in
+    let es = c.args.part.entries.items in
+    let block = c.args.block in
+    let q = number_of block in
+    let node = c.args.node.now in
+    let left = c.in-Inner.left.value in
+    let right = c.in-Inner.right.value in
+    let inner : IsInner node left right = subst (λ (x : Node). IsInner x left right) (sym c.in-Inner.is) (refl, refl) in
+    let form = inner-form (length labels) (width_of block.version - block.len) node left right inner c.requires.form in
+    let low = c.in-Some-halves.low in
+    let low_ss = c.in_ok-lower-in-Inner.lower.statements.items in
+    let low_es = c.in_ok-lower-in-Inner.lower.entries.items in
+    let low_part : IsPassedOn m l ss es block low (2 * q) low_ss low_es = record {
+      version = c.requires.version;
+      list_version = c.requires.sources.list_version;
+      statements = c.requires.part.statements;
+      entries = c.requires.part.entries;
+      half_version = c.in-Some-halves.ensures.versions.0;
+      len = c.in-Some-halves.ensures.lens.0;
+      number = c.in-Some-halves.ensures.lower_number;
+      statements_are = c.in_ok-lower-in-Inner.ensures.low_statements;
+      entries_are = c.in_ok-lower-in-Inner.ensures.low_entries;
+    } in
+    let width : width_of low.version ≡ width_of block.version = ap width_of low_part.half_version in (
+      omega (arith, width, low_part.len, form.1),
+      (
+        c.requires.sources,
+        (
+          record {
+            statements = passed-statements m l ss es block low (2 * q) low_ss low_es low_part;
+            entries = passed-entries m l ss es block low (2 * q) low_ss low_es low_part;
+          },
+          (
+            low_part.half_version ∙ c.requires.version,
+            passed-form m l ss es block low (2 * q) low_ss low_es low_part (length labels) form.0 c.deref.result.now left c.deref.ensures form.1 form.2,
+          ),
+        ),
+      ),
+    )
+
+pub returns-in_err-next-in-Inner-clause-err : goal.returns-in_err-next-in-Inner-clause-err
+returns-in_err-next-in-Inner-clause-err t c =
+    let labels = c.args.sources.now.certificate.now.labels in
+    let m = c.args.sources.now.map.now in
+    let l = c.args.sources.now.list.now in
+    let ss = c.args.part.statements.items in
+    let es = c.args.part.entries.items in
+    let block = c.args.block in
+    let q = number_of block in
+    let node = c.args.node.now in
+    let left = c.in-Inner.left.value in
+    let right = c.in-Inner.right.value in
+    let inner : IsInner node left right = subst (λ (x : Node). IsInner x left right) (sym c.in-Inner.is) (refl, refl) in
+    let form = inner-form (length labels) (width_of block.version - block.len) node left right inner c.requires.form in
+    let low = c.in-Some-halves.low in
+    let low_ss = c.in_ok-lower-in-Inner.lower.statements.items in
+    let low_es = c.in_ok-lower-in-Inner.lower.entries.items in
+    let low_part : IsPassedOn m l ss es block low (2 * q) low_ss low_es = record {
+      version = c.requires.version;
+      list_version = c.requires.sources.list_version;
+      statements = c.requires.part.statements;
+      entries = c.requires.part.entries;
+      half_version = c.in-Some-halves.ensures.versions.0;
+      len = c.in-Some-halves.ensures.lens.0;
+      number = c.in-Some-halves.ensures.lower_number;
+      statements_are = c.in_ok-lower-in-Inner.ensures.low_statements;
+      entries_are = c.in_ok-lower-in-Inner.ensures.low_entries;
+    } in
+    let p = err_from_is_err_and c.from_residual-in_err-next-in-Inner.result c.from_residual-in_err-next-in-Inner.ensures.1 in
+    let fault = c.in_err-next-in-Inner.field-0.0 in
+    rw (p.1, p.2)
+    (λ some k is.
+    inner-low labels (map_with m ss) (prefixes_with l es) node left right inner k block.len q fault
+    (passed-on m l ss es block low (2 * q) low_ss low_es low_part labels (length labels) form.0 c.deref.result.now left c.deref.ensures form.1 form.2 (k + 1) (Some fault)
+    (c.in_err-next-in-Inner.ensures.err some (k + 1) (told-next k c.args.number is c.saturating_add-in-Inner.result c.saturating_add-in-Inner.ensures))))
+
+pub check_node-requires-in-Inner : goal.check_node-requires-in-Inner
+check_node-requires-in-Inner t c =
+    let labels = c.args.sources.now.certificate.now.labels in
+    let m = c.args.sources.now.map.now in
+    let l = c.args.sources.now.list.now in
+    let ss = c.args.part.statements.items in
+    let es = c.args.part.entries.items in
+    let block = c.args.block in
+    let q = number_of block in
+    let node = c.args.node.now in
+    let left = c.in-Inner.left.value in
+    let right = c.in-Inner.right.value in
+    let inner : IsInner node left right = subst (λ (x : Node). IsInner x left right) (sym c.in-Inner.is) (refl, refl) in
+    let form = inner-form (length labels) (width_of block.version - block.len) node left right inner c.requires.form in
+    let low = c.in-Some-halves.low in
+    let low_ss = c.in_ok-lower-in-Inner.lower.statements.items in
+    let low_es = c.in_ok-lower-in-Inner.lower.entries.items in
+    let low_part : IsPassedOn m l ss es block low (2 * q) low_ss low_es = record {
+      version = c.requires.version;
+      list_version = c.requires.sources.list_version;
+      statements = c.requires.part.statements;
+      entries = c.requires.part.entries;
+      half_version = c.in-Some-halves.ensures.versions.0;
+      len = c.in-Some-halves.ensures.lens.0;
+      number = c.in-Some-halves.ensures.lower_number;
+      statements_are = c.in_ok-lower-in-Inner.ensures.low_statements;
+      entries_are = c.in_ok-lower-in-Inner.ensures.low_entries;
+    } in
+    let high = c.in-Some-halves.high in
+    let high_ss = c.in_ok-lower-in-Inner.upper.statements.items in
+    let high_es = c.in_ok-lower-in-Inner.upper.entries.items in
+    let high_part : IsPassedOn m l ss es block high (2 * q + 1) high_ss high_es = record {
+      version = c.requires.version;
+      list_version = c.requires.sources.list_version;
+      statements = c.requires.part.statements;
+      entries = c.requires.part.entries;
+      half_version = c.in-Some-halves.ensures.versions.1;
+      len = c.in-Some-halves.ensures.lens.1;
+      number = c.in-Some-halves.ensures.upper_number;
+      statements_are = c.in_ok-lower-in-Inner.ensures.high_statements;
+      entries_are = c.in_ok-lower-in-Inner.ensures.high_entries;
+    } in
+    let width : width_of high.version ≡ width_of block.version = ap width_of high_part.half_version in (
+      omega (arith, width, high_part.len, form.1),
+      (
+        c.requires.sources,
+        (
+          record {
+            statements = passed-statements m l ss es block high (2 * q + 1) high_ss high_es high_part;
+            entries = passed-entries m l ss es block high (2 * q + 1) high_ss high_es high_part;
+          },
+          (
+            high_part.half_version ∙ c.requires.version,
+            passed-form m l ss es block high (2 * q + 1) high_ss high_es high_part (length labels) form.0 c.deref-in-Inner.result.now right c.deref-in-Inner.ensures form.1 form.3,
+          ),
+        ),
+      ),
+    )
+
+pub returns-in_err-next-in-Inner-2-clause-err : goal.returns-in_err-next-in-Inner-2-clause-err
+returns-in_err-next-in-Inner-2-clause-err t c =
+    let labels = c.args.sources.now.certificate.now.labels in
+    let m = c.args.sources.now.map.now in
+    let l = c.args.sources.now.list.now in
+    let ss = c.args.part.statements.items in
+    let es = c.args.part.entries.items in
+    let block = c.args.block in
+    let q = number_of block in
+    let node = c.args.node.now in
+    let left = c.in-Inner.left.value in
+    let right = c.in-Inner.right.value in
+    let inner : IsInner node left right = subst (λ (x : Node). IsInner x left right) (sym c.in-Inner.is) (refl, refl) in
+    let form = inner-form (length labels) (width_of block.version - block.len) node left right inner c.requires.form in
+    let low = c.in-Some-halves.low in
+    let low_ss = c.in_ok-lower-in-Inner.lower.statements.items in
+    let low_es = c.in_ok-lower-in-Inner.lower.entries.items in
+    let low_part : IsPassedOn m l ss es block low (2 * q) low_ss low_es = record {
+      version = c.requires.version;
+      list_version = c.requires.sources.list_version;
+      statements = c.requires.part.statements;
+      entries = c.requires.part.entries;
+      half_version = c.in-Some-halves.ensures.versions.0;
+      len = c.in-Some-halves.ensures.lens.0;
+      number = c.in-Some-halves.ensures.lower_number;
+      statements_are = c.in_ok-lower-in-Inner.ensures.low_statements;
+      entries_are = c.in_ok-lower-in-Inner.ensures.low_entries;
+    } in
+    let high = c.in-Some-halves.high in
+    let high_ss = c.in_ok-lower-in-Inner.upper.statements.items in
+    let high_es = c.in_ok-lower-in-Inner.upper.entries.items in
+    let high_part : IsPassedOn m l ss es block high (2 * q + 1) high_ss high_es = record {
+      version = c.requires.version;
+      list_version = c.requires.sources.list_version;
+      statements = c.requires.part.statements;
+      entries = c.requires.part.entries;
+      half_version = c.in-Some-halves.ensures.versions.1;
+      len = c.in-Some-halves.ensures.lens.1;
+      number = c.in-Some-halves.ensures.upper_number;
+      statements_are = c.in_ok-lower-in-Inner.ensures.high_statements;
+      entries_are = c.in_ok-lower-in-Inner.ensures.high_entries;
+    } in
+    let p = err_from_is_err_and c.from_residual-in_err-next-in-Inner-2.result c.from_residual-in_err-next-in-Inner-2.ensures.1 in
+    let fault = c.in_err-next-in-Inner-2.field-0.0 in
+    rw (p.1, p.2)
+    (λ some k is.
+    let first = c.in_ok-next-in-Inner.ensures.ok (k + 1) (told-next k c.args.number is c.saturating_add-in-Inner.result c.saturating_add-in-Inner.ensures) in
+    let low_none = passed-on m l ss es block low (2 * q) low_ss low_es low_part labels (length labels) form.0 c.deref.result.now left c.deref.ensures form.1 form.2 (k + 1) None first.1 in
+    let k2 : ℕ = k + 1 + node_count (tree_of labels left) in
+    let told2 : told k2 ≡ c.in_ok-next-in-Inner.next = sym (first.0 ∙ ap (λ (x : Node). told (k + 1 + node_count (tree_of labels x))) c.deref.ensures) in
+    inner-high labels (map_with m ss) (prefixes_with l es) node left right inner k block.len q fault low_none
+    (passed-on m l ss es block high (2 * q + 1) high_ss high_es high_part labels (length labels) form.0 c.deref-in-Inner.result.now right c.deref-in-Inner.ensures form.1 form.3 k2 (Some fault)
+    (c.in_err-next-in-Inner-2.ensures.err some k2 told2)))
+
+pub returns-in-Some-2-clause-err : goal.returns-in-Some-2-clause-err
+returns-in-Some-2-clause-err t c = λ some k is.
+    let labels = c.args.sources.now.certificate.now.labels in
+    let m = c.args.sources.now.map.now in
+    let l = c.args.sources.now.list.now in
+    let ss = c.args.part.statements.items in
+    let es = c.args.part.entries.items in
+    let block = c.args.block in
+    let q = number_of block in
+    let node = c.args.node.now in
+    let left = c.in-Inner.left.value in
+    let right = c.in-Inner.right.value in
+    let inner : IsInner node left right = subst (λ (x : Node). IsInner x left right) (sym c.in-Inner.is) (refl, refl) in
+    let form = inner-form (length labels) (width_of block.version - block.len) node left right inner c.requires.form in
+    let low = c.in-Some-halves.low in
+    let low_ss = c.in_ok-lower-in-Inner.lower.statements.items in
+    let low_es = c.in_ok-lower-in-Inner.lower.entries.items in
+    let low_part : IsPassedOn m l ss es block low (2 * q) low_ss low_es = record {
+      version = c.requires.version;
+      list_version = c.requires.sources.list_version;
+      statements = c.requires.part.statements;
+      entries = c.requires.part.entries;
+      half_version = c.in-Some-halves.ensures.versions.0;
+      len = c.in-Some-halves.ensures.lens.0;
+      number = c.in-Some-halves.ensures.lower_number;
+      statements_are = c.in_ok-lower-in-Inner.ensures.low_statements;
+      entries_are = c.in_ok-lower-in-Inner.ensures.low_entries;
+    } in
+    let high = c.in-Some-halves.high in
+    let high_ss = c.in_ok-lower-in-Inner.upper.statements.items in
+    let high_es = c.in_ok-lower-in-Inner.upper.entries.items in
+    let high_part : IsPassedOn m l ss es block high (2 * q + 1) high_ss high_es = record {
+      version = c.requires.version;
+      list_version = c.requires.sources.list_version;
+      statements = c.requires.part.statements;
+      entries = c.requires.part.entries;
+      half_version = c.in-Some-halves.ensures.versions.1;
+      len = c.in-Some-halves.ensures.lens.1;
+      number = c.in-Some-halves.ensures.upper_number;
+      statements_are = c.in_ok-lower-in-Inner.ensures.high_statements;
+      entries_are = c.in_ok-lower-in-Inner.ensures.high_entries;
+    } in
+    let first = c.in_ok-next-in-Inner.ensures.ok (k + 1) (told-next k c.args.number is c.saturating_add-in-Inner.result c.saturating_add-in-Inner.ensures) in
+    let low_none = passed-on m l ss es block low (2 * q) low_ss low_es low_part labels (length labels) form.0 c.deref.result.now left c.deref.ensures form.1 form.2 (k + 1) None first.1 in
+    let k2 : ℕ = k + 1 + node_count (tree_of labels left) in
+    let told2 : told k2 ≡ c.in_ok-next-in-Inner.next = sym (first.0 ∙ ap (λ (x : Node). told (k + 1 + node_count (tree_of labels x))) c.deref.ensures) in
+    let second = c.in_ok-next-in-Inner-2.ensures.ok k2 told2 in
+    let high_none = passed-on m l ss es block high (2 * q + 1) high_ss high_es high_part labels (length labels) form.0 c.deref-in-Inner.result.now right c.deref-in-Inner.ensures form.1 form.3 k2 None second.1 in
+    let claim : claim_fault (claim_of (tree_of labels node)) (exact_pair (claim_of (tree_of labels left)) (claim_of (tree_of labels right))) ≡ c.in_ok-kind-in-Inner.field-0 =
+    (λ i. claim_fault (claim_of (tree_of labels node)) (exact_pair (claim_of (tree_of labels (sym c.deref-in-Inner-2.ensures i))) (claim_of (tree_of labels (sym c.deref-in-Inner-3.ensures i)))))
+    ∙ sym c.in_ok-kind-in-Inner.ensures in
+    inner-own labels (map_with m ss) (prefixes_with l es) node left right inner k block.len q (Some c.in-Some-2.kind) low_none high_none (claim ∙ c.in-Some-2.is)
+    ∙ at-number k c.args.number c.in-Some-2.kind is
+
+pub returns-clause-ok : goal.returns-clause-ok
+returns-clause-ok t c = λ k is.
+    let labels = c.args.sources.now.certificate.now.labels in
+    let m = c.args.sources.now.map.now in
+    let l = c.args.sources.now.list.now in
+    let ss = c.args.part.statements.items in
+    let es = c.args.part.entries.items in
+    let block = c.args.block in
+    let q = number_of block in
+    let node = c.args.node.now in
+    let left = c.in-Inner.left.value in
+    let right = c.in-Inner.right.value in
+    let inner : IsInner node left right = subst (λ (x : Node). IsInner x left right) (sym c.in-Inner.is) (refl, refl) in
+    let form = inner-form (length labels) (width_of block.version - block.len) node left right inner c.requires.form in
+    let low = c.in-Some-halves.low in
+    let low_ss = c.in_ok-lower-in-Inner.lower.statements.items in
+    let low_es = c.in_ok-lower-in-Inner.lower.entries.items in
+    let low_part : IsPassedOn m l ss es block low (2 * q) low_ss low_es = record {
+      version = c.requires.version;
+      list_version = c.requires.sources.list_version;
+      statements = c.requires.part.statements;
+      entries = c.requires.part.entries;
+      half_version = c.in-Some-halves.ensures.versions.0;
+      len = c.in-Some-halves.ensures.lens.0;
+      number = c.in-Some-halves.ensures.lower_number;
+      statements_are = c.in_ok-lower-in-Inner.ensures.low_statements;
+      entries_are = c.in_ok-lower-in-Inner.ensures.low_entries;
+    } in
+    let high = c.in-Some-halves.high in
+    let high_ss = c.in_ok-lower-in-Inner.upper.statements.items in
+    let high_es = c.in_ok-lower-in-Inner.upper.entries.items in
+    let high_part : IsPassedOn m l ss es block high (2 * q + 1) high_ss high_es = record {
+      version = c.requires.version;
+      list_version = c.requires.sources.list_version;
+      statements = c.requires.part.statements;
+      entries = c.requires.part.entries;
+      half_version = c.in-Some-halves.ensures.versions.1;
+      len = c.in-Some-halves.ensures.lens.1;
+      number = c.in-Some-halves.ensures.upper_number;
+      statements_are = c.in_ok-lower-in-Inner.ensures.high_statements;
+      entries_are = c.in_ok-lower-in-Inner.ensures.high_entries;
+    } in
+    let first = c.in_ok-next-in-Inner.ensures.ok (k + 1) (told-next k c.args.number is c.saturating_add-in-Inner.result c.saturating_add-in-Inner.ensures) in
+    let low_none = passed-on m l ss es block low (2 * q) low_ss low_es low_part labels (length labels) form.0 c.deref.result.now left c.deref.ensures form.1 form.2 (k + 1) None first.1 in
+    let k2 : ℕ = k + 1 + node_count (tree_of labels left) in
+    let told2 : told k2 ≡ c.in_ok-next-in-Inner.next = sym (first.0 ∙ ap (λ (x : Node). told (k + 1 + node_count (tree_of labels x))) c.deref.ensures) in
+    let second = c.in_ok-next-in-Inner-2.ensures.ok k2 told2 in
+    let high_none = passed-on m l ss es block high (2 * q + 1) high_ss high_es high_part labels (length labels) form.0 c.deref-in-Inner.result.now right c.deref-in-Inner.ensures form.1 form.3 k2 None second.1 in
+    let claim : claim_fault (claim_of (tree_of labels node)) (exact_pair (claim_of (tree_of labels left)) (claim_of (tree_of labels right))) ≡ c.in_ok-kind-in-Inner.field-0 =
+    (λ i. claim_fault (claim_of (tree_of labels node)) (exact_pair (claim_of (tree_of labels (sym c.deref-in-Inner-2.ensures i))) (claim_of (tree_of labels (sym c.deref-in-Inner-3.ensures i)))))
+    ∙ sym c.in_ok-kind-in-Inner.ensures in
+    let last : node_count (tree_of labels c.deref-in-Inner.result.now) ≡ node_count (tree_of labels right) = ap (λ (x : Node). node_count (tree_of labels x)) c.deref-in-Inner.ensures in
+    let all : k2 + node_count (tree_of labels c.deref-in-Inner.result.now) ≡ k + node_count (tree_of labels node) = omega (arith, last, inner-count labels node left right inner) in (
+      second.0 ∙ ap told all,
+      inner-own labels (map_with m ss) (prefixes_with l es) node left right inner k block.len q None low_none high_none (claim ∙ c.in-None-2.is),
+    )

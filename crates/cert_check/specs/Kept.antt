@@ -1,0 +1,23 @@
+use Rattle.std.specs.Prelude.{◌≡◌, ℕ, ◌<◌, length}
+use Rattle.prefix_keys.specs.Version.{width_of}
+use Rattle.prefix_keys.specs.declared.block.Block.{Block}
+use Rattle.pmap_text.specs.ListModel.{Prefix}
+use Rattle.pmap_text.specs.MapModel.{Label}
+use Rattle.pmap_text.specs.MapText.{text_at}
+use Rattle.cert_check.specs.Sources.{AreEntriesOf, AreNumbers, AreStatementsOf}
+use Rattle.cert_check.specs.declared.carried_part.CarriedPart.{CarriedPart}
+use Rattle.cert_check.specs.declared.sources.Sources.{Sources}
+
+-- What holds of the values that the check keeps: no user need read it.
+
+-- the three are of one version, and the numbers are those in the certificate's table
+pub record AreSources (s : Sources) : Type 0 where
+  pub list_version : s.list.now.version ≡ s.map.now.version
+  pub certificate_version : s.certificate.now.version ≡ s.map.now.version
+  pub map_numbers : AreNumbers s.map_numbers.items s.map.now.labels s.certificate.now.labels
+  pub list_numbers : AreNumbers s.list_numbers.items s.list.now.labels s.certificate.now.labels
+
+-- these statements and entries are of the map and the list
+pub record IsPartOf (s : Sources) (part : CarriedPart) : Type 0 where
+  pub statements : AreStatementsOf s.map.now part.statements.items
+  pub entries : AreEntriesOf s.list.now part.entries.items

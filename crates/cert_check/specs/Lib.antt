@@ -1,0 +1,5 @@
+pub mod Versions
+pub mod Carrying
+pub mod Checking
+pub mod Sources
+pub mod Kept

@@ -1,0 +1,93 @@
+use Rattle.std.specs.Prelude.{◌≡◌, ℕ, zero, suc, ◌<◌, ◌&&◌, ◌||◌, ◌==◌, Bool, List, [], ◌∷◌, Option, All, length, map, nat_lt, option_map, if◌then◌else◌}
+use Rattle.std.specs.List.{list_any}
+use Rattle.prefix_keys.specs.Version.{width_of}
+use Rattle.prefix_keys.specs.declared.block.Block.{Block}
+use Rattle.pmap_text.specs.Carried.{entry_covers, statement_meets, statement_spans}
+use Rattle.pmap_text.specs.Label.{IsLabelTable, number_of as number_of_label}
+use Rattle.pmap_text.specs.ListModel.{Prefix, lies_inside}
+use Rattle.pmap_text.specs.MapModel.{Label, MapModel}
+use Rattle.pmap_text.specs.MapText.{mapping_of, text_at}
+use Rattle.pmap_text.specs.PrefixList.{prefix_of}
+use Rattle.pmap_text.specs.declared.entry.Entry.{Entry}
+use Rattle.pmap_text.specs.declared.label.LabelId.{LabelId}
+use Rattle.pmap_text.specs.declared.map_text.MapText.{MapText}
+use Rattle.pmap_text.specs.declared.prefix_list.PrefixList.{PrefixList}
+use Rattle.pmap_text.specs.declared.statement.Statement.{Statement}
+use Rattle.pmap_cert.specs.CertificateModel.{Tree, InnerNode, LeafNode}
+use Rattle.pmap_cert.specs.declared.node.Node.{Node}
+use Rattle.pmap_cert.specs.declared.node.Node.TheVariants.{Inner', Leaf}
+use Rattle.cert_check.specs.Carrying.{number_of}
+use Rattle.cert_check.specs.Versions.{is_same_version}
+
+-- What the code keeps while it checks, for the contracts of its own functions: no user need read it.
+
+-- a statement is of the block's version and meets the block, or covers it whole
+abbrev pub meets_block : Block → Statement → Bool
+meets_block b s =
+    is_same_version s.span.low.version b.version && statement_meets (width_of b.version) b.len (number_of b) s
+
+abbrev pub spans_block : Block → Statement → Bool
+spans_block b s =
+    is_same_version s.span.low.version b.version && statement_spans (width_of b.version) b.len (number_of b) s
+
+-- an entry is of the block's version and covers the block, or lies strictly inside it
+abbrev pub covers_whole : Block → Entry → Bool
+covers_whole b e =
+    is_same_version e.block.version b.version && entry_covers (width_of b.version) b.len (number_of b) e
+
+abbrev pub is_inside : Block → Entry → Bool
+is_inside b e =
+    is_same_version e.block.version b.version && lies_inside (width_of b.version) b.len (number_of b) (prefix_of [] e)
+
+-- the greatest length of an entry that passes the test, 0 where none does
+abbrev pub greatest : (Entry → Bool) → List Entry → ℕ
+greatest test [] = 0
+greatest test (e ∷ es) = if test e && nat_lt (greatest test es) e.block.len then e.block.len else greatest test es
+
+-- the map with these statements in place of its own
+abbrev pub map_with : MapText → List Statement → MapModel
+map_with m ss = record {
+  version = m.version;
+  name = m.name;
+  fallback = text_at m.labels m.default.0;
+  mappings = map (mapping_of m.labels) ss;
+  table = m.labels;
+}
+
+-- these entries of the list as prefixes
+abbrev pub prefixes_with : PrefixList → List Entry → List Prefix
+prefixes_with l es = map (prefix_of l.labels) es
+
+-- the statements are of the map's version, with labels of its table
+pub record AreStatementsOf (m : MapText) (ss : List Statement) : Type 0 where
+  pub versions : All (λ s. s.span.low.version ≡ m.version) ss
+  pub labels : All (λ s. s.label.0 < length m.labels) ss
+
+-- the entries are of the list's version, with labels of its table
+pub record AreEntriesOf (l : PrefixList) (es : List Entry) : Type 0 where
+  pub versions : All (λ e. e.block.version ≡ l.version) es
+  pub labels : All (λ e. e.label.0 < length l.labels) es
+
+-- the numbers that the labels of one table have in another, none for a label that the other hasn't got
+pub record AreNumbers (numbers : List (Option LabelId)) (from to : List Label) : Type 0 where
+  pub each : map (option_map (λ id. id.0)) numbers ≡ map (number_of_label to) from
+  pub table : IsLabelTable to
+
+-- the cost that a node claims, and the numbers of its set
+abbrev pub cost_of : Node → ℕ
+cost_of (Leaf id) = 0
+cost_of (Inner' cost set p left q right) = cost
+
+abbrev pub set_of : Node → List ℕ
+set_of (Leaf id) = id.0 ∷ []
+set_of (Inner' cost set p left q right) = set
+
+-- the set has the number
+abbrev pub has_number : List ℕ → ℕ → Bool
+has_number ns n = list_any (λ i. i == n) ns
+
+-- there are at most so many inner nodes one inside the other
+abbrev pub HasRoom : Tree → ℕ → Type 0
+HasRoom (LeafNode x) room = Unit {0}
+HasRoom (InnerNode claim lower upper) zero = ⊥
+HasRoom (InnerNode claim lower upper) (suc room) = HasRoom lower room × HasRoom upper room

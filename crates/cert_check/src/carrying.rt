@@ -1,0 +1,143 @@
+//! What of a map and of a list has a say in a block.
+ghost use Rattle.std.specs.Prelude.{◌≡◌, ◌≤◌, ◌&&◌, ◌||◌, drop, filter, length, nat_le, nat_lt, IfOk, if◌then◌else◌};
+ghost use Rattle.pmap_text.specs.Carried.{from_last};
+ghost use Rattle.cert_check.specs.Carrying.{carried_to, entries_carried_to};
+ghost use Rattle.cert_check.specs.Sources.{covers_whole as covers_whole_of, greatest, is_inside as is_inside_of, meets_block, spans_block};
+
+use pmap_text::{Entry, Statement};
+use prefix_keys::Block;
+use std::alloc::{AllocError, Global};
+
+/// Whether the statement's span has an address of the block.
+pub fn meets(statement: &Statement, block: &Block) -> bool
+    ensures { result ≡ meets_block block.now statement.now }
+{
+    statement.span.meets(block)
+}
+
+/// Whether it has each address of the block.
+pub fn spans(statement: &Statement, block: &Block) -> bool
+    ensures { result ≡ spans_block block.now statement.now }
+{
+    statement.span.covers_block(block)
+}
+
+/// Whether the entry's block covers the block.
+pub fn covers_whole(entry: &Entry, block: &Block) -> bool
+    ensures { result ≡ covers_whole_of block.now entry.now }
+{
+    entry.block.len <= block.len && entry.block.covers(&block.low())
+}
+
+/// Whether the entry's block lies strictly inside the block.
+pub fn is_inside(entry: &Entry, block: &Block) -> bool
+    ensures { result ≡ is_inside_of block.now entry.now }
+{
+    block.len < entry.block.len && block.covers(&entry.block.low())
+}
+
+// How many statements stand before the last that covers the whole block, 0 where none does.
+fn hidden_count(statements: &[Statement], block: &Block) -> usize
+    ensures within { result ≤ length statements.now }
+    ensures rest { drop result statements.now ≡ from_last (spans_block block.now) statements.now }
+{
+    let mut left = statements.len();
+    while left > 0 {
+        left -= 1;
+        let statement = statements[left];
+        if spans(&statement, block) {
+            return left;
+        }
+    }
+    0
+}
+
+// Those of the statements that meet the block.
+fn all_meeting(
+    alloc: Global,
+    statements: &[Statement],
+    block: &Block,
+) -> Result<Vec<Statement>, AllocError>
+    ensures { IfOk result (λ kept. kept.items ≡ filter (meets_block block.now) statements.now) }
+{
+    statements
+        .iter()
+        .filter(|statement| meets(statement, block))
+        .copied()
+        .collect(alloc)
+}
+
+/// The statements that meet the block, from the last that covers it whole, or all of them where none does, in the order
+/// given. No other statement has a say in the block. One of another version than the block's does not meet it.
+pub fn carried(
+    alloc: Global,
+    statements: &[Statement],
+    block: &Block,
+) -> Result<Vec<Statement>, AllocError>
+    ensures { IfOk result (λ kept. kept.items ≡ carried_to block.now statements.now) }
+{
+    let hidden = hidden_count(statements, block);
+    let kept = all_meeting(alloc, &statements[hidden..], block)?;
+    Ok(kept)
+}
+
+// The greater of a length and that of the entry, where this covers the block.
+fn longer(longest: u32, entry: &Entry, block: &Block) -> u32
+    ensures { result ≡ (if covers_whole_of block.now entry.now && nat_lt longest entry.now.block.len then entry.now.block.len else longest) }
+{
+    if longest < entry.block.len && covers_whole(entry, block) {
+        entry.block.len
+    } else {
+        longest
+    }
+}
+
+/// The greatest length of an entry that covers the block, 0 where none does.
+pub fn longest_covering(entries: &[Entry], block: &Block) -> u32
+    ensures { result ≡ greatest (covers_whole_of block.now) entries.now }
+{
+    let mut longest = 0;
+    for entry in entries {
+        longest = longer(longest, entry, block);
+    }
+    longest
+}
+
+// Whether the entry lies inside the block, or covers it and is no shorter than `longest`.
+fn has_say(entry: &Entry, block: &Block, longest: u32) -> bool
+    ensures { result ≡ (covers_whole_of block.now entry.now && nat_le longest entry.now.block.len || is_inside_of block.now entry.now) }
+{
+    (longest <= entry.block.len && covers_whole(entry, block)) || is_inside(entry, block)
+}
+
+// Those of the entries that lie inside the block, or cover it and are no shorter than `longest`.
+fn all_with_say(
+    alloc: Global,
+    entries: &[Entry],
+    block: &Block,
+    longest: u32,
+) -> Result<Vec<Entry>, AllocError>
+    ensures { IfOk result (λ kept. kept.items
+        ≡ filter (λ e. covers_whole_of block.now e && nat_le longest e.block.len || is_inside_of block.now e) entries.now) }
+{
+    entries
+        .iter()
+        .filter(|entry| has_say(entry, block, longest))
+        .copied()
+        .collect(alloc)
+}
+
+/// The longest entry that covers the block, if there is one, and those strictly inside it, in the order given. Of equal
+/// blocks that cover it all are given; the entries of a `PrefixList` have none. No other entry has a say in the block. One
+/// of another version than the block's has no address of it.
+pub fn carried_entries(
+    alloc: Global,
+    entries: &[Entry],
+    block: &Block,
+) -> Result<Vec<Entry>, AllocError>
+    ensures { IfOk result (λ kept. kept.items ≡ entries_carried_to block.now entries.now) }
+{
+    let longest = longest_covering(entries, block);
+    let kept = all_with_say(alloc, entries, block, longest)?;
+    Ok(kept)
+}

@@ -1,0 +1,206 @@
+//! The check of a certificate: its nodes, and the whole.
+ghost use Rattle.std.specs.Prelude.{◌≡◌, ◌≢◌, ℕ, ◌+◌, ◌-◌, Some, None, length, IfErr, IfOk};
+ghost use Rattle.prefix_keys.specs.Version.{width_of};
+ghost use Rattle.pmap_text.specs.ListModel.{IsEquivalent};
+ghost use Rattle.pmap_text.specs.MapText.{map_of};
+ghost use Rattle.pmap_text.specs.PrefixList.{list_of};
+ghost use Rattle.pmap_cert.specs.Acceptance.{IsAccepted, IsLeast};
+ghost use Rattle.pmap_cert.specs.Certificate.{certificate_of};
+ghost use Rattle.pmap_cert.specs.Node.{HasNumberForm, tree_of};
+ghost use Rattle.cert_check.specs.Carrying.{carried_to, entries_carried_to, number_of};
+ghost use Rattle.cert_check.specs.Checking.{first_fault, node_count, node_fault, told};
+ghost use Rattle.cert_check.specs.Kept.{AreSources, IsPartOf};
+ghost use Rattle.cert_check.specs.Sources.{map_with, prefixes_with};
+ghost use Rattle.cert_check.specs.declared.fault.CheckFaultKind.TheVariants.{NoMemory};
+
+use crate::carried_part::{CarriedPart, part_of};
+use crate::claims::{claim_fault, cost_of};
+use crate::fault::{CheckFault, CheckFaultKind};
+use crate::labels::numbers_in;
+use crate::laws::no_fault_is_acceptance;
+use crate::leaves::leaf_fault;
+use crate::sources::Sources;
+use pmap_cert::laws::acceptance_is_enough;
+use pmap_cert::{Certificate, Node};
+use pmap_text::{MapText, PrefixList};
+use prefix_keys::{Block, Version};
+use std::alloc::{AllocError, Global};
+
+// The parts of what has a say in a block that have a say in its halves. The whole is let go, so that of the parts on the
+// way down only those of the upper halves to come lie at once, and of these no two have one statement's end.
+fn halves_of(
+    alloc: Global,
+    part: CarriedPart,
+    low: &Block,
+    high: &Block,
+) -> Result<(CarriedPart, CarriedPart), AllocError>
+    ensures low_statements { IfOk result (λ halves. halves.0.statements.items ≡ carried_to low.now part.statements.items) }
+    ensures low_entries { IfOk result (λ halves. halves.0.entries.items ≡ entries_carried_to low.now part.entries.items) }
+    ensures high_statements { IfOk result (λ halves. halves.1.statements.items ≡ carried_to high.now part.statements.items) }
+    ensures high_entries { IfOk result (λ halves. halves.1.entries.items ≡ entries_carried_to high.now part.entries.items) }
+{
+    let lower = part_of(alloc, &part.statements, &part.entries, low)?;
+    let upper = part_of(alloc, &part.statements, &part.entries, high)?;
+    Ok((lower, upper))
+}
+
+// Checks the node and those below it, where the node has this number and stands for the block, and the part has a say in
+// it. The answer is the number of the node that comes next.
+fn check_node(
+    alloc: Global,
+    sources: &Sources,
+    part: CarriedPart,
+    node: &Node,
+    block: Block,
+    number: u64,
+) -> Result<u64, CheckFault>
+    requires sources { AreSources sources.now }
+    requires part { IsPartOf sources.now part }
+    requires version { block.version ≡ sources.now.map.now.version }
+    requires form { HasNumberForm (length sources.now.certificate.now.labels) node.now (width_of block.version - block.len) }
+    ensures ok { IfOk result (λ next. (k : ℕ) → told k ≡ number →
+        (next ≡ told (k + node_count (tree_of sources.now.certificate.now.labels node.now)))
+        × (node_fault (map_with sources.now.map.now part.statements.items) (prefixes_with sources.now.list.now part.entries.items)
+        (tree_of sources.now.certificate.now.labels node.now) k block.len (number_of block) ≡ None)) }
+    ensures err { IfErr result (λ fault. fault.kind ≢ NoMemory → (k : ℕ) → told k ≡ number →
+        node_fault (map_with sources.now.map.now part.statements.items) (prefixes_with sources.now.list.now part.entries.items)
+        (tree_of sources.now.certificate.now.labels node.now) k block.len (number_of block) ≡ Some fault) }
+    ensures memory { IfErr result (λ fault. fault.kind ≡ NoMemory → fault.node ≡ 0) }
+{
+    match node {
+        Node::Leaf(id) => match leaf_fault(sources, &part, &block, *id) {
+            Some(kind) => Err(CheckFault { kind, node: number }),
+            None => Ok(number.saturating_add(1)),
+        },
+        Node::Inner { left, right, .. } => {
+            let Some((low, high)) = block.halves() else {
+                unreachable!()
+            };
+            let (lower, upper) = halves_of(alloc, part, &low, &high)?;
+            let next = check_node(alloc, sources, lower, left, low, number.saturating_add(1))?;
+            let next = check_node(alloc, sources, upper, right, high, next)?;
+            match claim_fault(alloc, &sources.certificate.labels, node, left, right)? {
+                Some(kind) => Err(CheckFault { kind, node: number }),
+                None => Ok(next),
+            }
+        }
+    }
+}
+
+// The block of all addresses.
+fn whole_space(version: Version) -> Block
+    ensures version { result.version ≡ version }
+    ensures value { result.value ≡ 0 }
+    ensures len { result.len ≡ 0 }
+{
+    Block {
+        version,
+        value: 0,
+        len: 0,
+    }
+}
+
+// Checks the nodes of a certificate of the same version as the map and the list.
+fn check_nodes(
+    alloc: Global,
+    map: &MapText,
+    list: &PrefixList,
+    certificate: &Certificate,
+) -> Result<(), CheckFault>
+    requires list { list.now.version ≡ map.now.version }
+    requires certificate { certificate.now.version ≡ map.now.version }
+    ensures ok { IfOk result (λ _. node_fault (map_of map.now) (list_of list.now).prefixes (certificate_of certificate.now).root 1 0 0 ≡ None) }
+    ensures err { IfErr result (λ fault. fault.kind ≢ NoMemory →
+        node_fault (map_of map.now) (list_of list.now).prefixes (certificate_of certificate.now).root 1 0 0 ≡ Some fault) }
+    ensures memory { IfErr result (λ fault. fault.kind ≡ NoMemory → fault.node ≡ 0) }
+{
+    let sources = Sources {
+        map,
+        list,
+        certificate,
+        map_numbers: numbers_in(alloc, &map.labels, &certificate.labels)?,
+        list_numbers: numbers_in(alloc, &list.labels, &certificate.labels)?,
+    };
+    let whole = whole_space(map.version);
+    let part = part_of(
+        alloc,
+        map.statements.as_slice(),
+        list.entries.as_slice(),
+        &whole,
+    )?;
+    check_node(alloc, &sources, part, certificate.root(), whole, 1)?;
+    Ok(())
+}
+
+// A fault that no node has.
+fn whole_fault(kind: CheckFaultKind) -> CheckFault
+    ensures { result ≡ record { kind = kind; node = 0 } }
+{
+    CheckFault { kind, node: 0 }
+}
+
+// The number of the list's entries, or the first fault.
+fn count_entries(
+    alloc: Global,
+    map: &MapText,
+    list: &PrefixList,
+    certificate: &Certificate,
+) -> Result<u64, CheckFault>
+    ensures count { IfOk result (λ n. n ≡ length (list_of list.now).prefixes) }
+    ensures ok { IfOk result (λ _. first_fault (map_of map.now) (list_of list.now) (certificate_of certificate.now) ≡ None) }
+    ensures fault { IfErr result (λ fault. fault.kind ≢ NoMemory →
+        first_fault (map_of map.now) (list_of list.now) (certificate_of certificate.now) ≡ Some fault) }
+    ensures memory { IfErr result (λ fault. fault.kind ≡ NoMemory → fault.node ≡ 0) }
+{
+    if list.version != map.version || certificate.version != map.version {
+        return Err(whole_fault(CheckFaultKind::VersionDiffers));
+    }
+    check_nodes(alloc, map, list, certificate)?;
+    let count = list.entries.len() as u64;
+    let root = certificate.root();
+    if count > cost_of(root) + 1 {
+        return Err(whole_fault(CheckFaultKind::BoundNotMet));
+    }
+    Ok(count)
+}
+
+/// Checks that the certificate shows the list to be equivalent to the map and a shortest one, and answers how many entries
+/// the list has. Whoever made them, the list then labels every address as the map does, and no list that does so has
+/// fewer entries. Labels are compared by their texts.
+///
+/// # Errors
+///
+/// The first fault, with the number of its node in the order of the certificate's node lines, from 1; a fault of no single
+/// node has the number 0.
+///
+/// - `VersionDiffers`: the three are not of one version.
+/// - Then the nodes, those of a lower half before those of the upper half and both before their node. `LeafNotUniform`: the
+///   map doesn't settle the leaf's block with its label. `ListDiffers`: an entry lies strictly inside the leaf's block, or
+///   the longest that covers it is absent or has another label. `CostTooHigh`: a cost above that of the exact pair of the
+///   claims of its halves. `SetTooSmall`: the same cost, and a set that lacks a label of that pair.
+/// - `BoundNotMet`: the list has more entries than the root's cost and one.
+/// - `NoMemory`: memory ran out.
+///
+/// A fault doesn't say that the list is wrong or not a shortest one, only that this certificate doesn't show it.
+pub fn check(
+    alloc: Global,
+    map: &MapText,
+    list: &PrefixList,
+    certificate: &Certificate,
+) -> Result<u64, CheckFault>
+    ensures accepted { IfOk result (λ _. IsAccepted (map_of map.now) (list_of list.now) (certificate_of certificate.now)) }
+    ensures count { IfOk result (λ n. n ≡ length (list_of list.now).prefixes) }
+    // What acceptance is for: the list labels every address as the map does, and no list that does so has fewer entries.
+    ensures equivalent { IfOk result (λ _. IsEquivalent (list_of list.now) (map_of map.now)) }
+    ensures least { IfOk result (λ _. IsLeast (map_of map.now) (list_of list.now)) }
+    ensures ok { IfOk result (λ _. first_fault (map_of map.now) (list_of list.now) (certificate_of certificate.now) ≡ None) }
+    ensures fault { IfErr result (λ fault. fault.kind ≢ NoMemory →
+        first_fault (map_of map.now) (list_of list.now) (certificate_of certificate.now) ≡ Some fault) }
+    ensures memory { IfErr result (λ fault. fault.kind ≡ NoMemory → fault.node ≡ 0) }
+{
+    let count = count_entries(alloc, map, list, certificate)?;
+    let _root = certificate.root();
+    no_fault_is_acceptance();
+    acceptance_is_enough();
+    Ok(count)
+}

@@ -1,0 +1,41 @@
+//! The labels of the map and of the list by the numbers of the certificate's table.
+ghost use Rattle.std.specs.Prelude.{◌≡◌, ◌<◌, length, List, IfOk};
+ghost use Rattle.std.specs.Str.{bytes_eq};
+ghost use Rattle.pmap_text.specs.MapModel.{Label};
+ghost use Rattle.pmap_text.specs.MapText.{text_at};
+ghost use Rattle.cert_check.specs.Sources.{AreNumbers};
+
+use pmap_text::{LabelId, Labels};
+use std::alloc::{AllocError, Global};
+
+/// For each label of a table its number in another table, none where that hasn't got it.
+pub fn numbers_in(
+    alloc: Global,
+    from: &Labels,
+    to: &Labels,
+) -> Result<Vec<Option<LabelId>>, AllocError>
+    ensures { IfOk result (λ numbers. AreNumbers numbers.items from.now to.now) }
+{
+    let _count = to.len();
+    let mut numbers = Vec::with_capacity(alloc, from.len())?;
+    for number in 0..from.len() {
+        let Some(text) = from.text(LabelId(number as u32)) else {
+            unreachable!()
+        };
+        numbers.push(to.id_of(text))?;
+    }
+    Ok(numbers)
+}
+
+/// Whether the label with a number of its own table is that with the number `id` of the other.
+pub fn is_same_label(numbers: &[Option<LabelId>], own: LabelId, id: LabelId) -> bool
+    requires { own.0 < length numbers.now }
+    ensures { (from to : List Label) → AreNumbers numbers.now from to → id.0 < length to →
+        result ≡ bytes_eq (text_at from own.0) (text_at to id.0) }
+{
+    let known = numbers[own.0 as usize];
+    match known {
+        Some(number) => number.0 == id.0,
+        None => false,
+    }
+}
