@@ -1,2 +1,11 @@
 pub mod Filled
 pub mod Lines
+pub mod Stretches
+pub mod Order
+pub mod WordLines
+pub mod RunTexts
+pub mod LastMatch
+pub mod ReadLines
+pub mod LeafRuns
+pub mod ReadList
+pub mod Again

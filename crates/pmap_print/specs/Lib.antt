@@ -3,3 +3,9 @@ pub mod Rows
 pub mod Info
 pub mod Cell
 pub mod Parts
+pub mod Runs
+pub mod Stretches
+pub mod Order
+pub mod List
+pub mod Sorting
+pub mod ReadBack

@@ -1,7 +1,7 @@
 //! The printed texts of values.
 //!
-//! It stands on flow_rows and prefix_keys, for what it prints. `print_rows` gives the text of flow rows, with labels or
-//! without, in columns or not, and `print_info` that of counts. The layer above may rely on this: the text is the
+//! It stands on the crates of what it prints. `print_rows` gives the text of flow rows, with labels or without, in columns or
+//! not, `print_info` that of counts, `print_list` that of a prefix list, and `print_runs` that of the runs of leaves. The layer above may rely on this: the text is the
 //! function of the printed list that the definitions say, byte for byte. Nothing else is answered than that text or
 //! want of memory.
 #![tactic(auto)]
@@ -9,12 +9,17 @@
 mod cell;
 mod info;
 mod labels;
+pub mod laws;
+mod list;
 mod rows;
+mod runs;
 mod table;
 
 pub use info::print_info;
 pub use labels::RowLabels;
+pub use list::print_list;
 pub use rows::print_rows;
+pub use runs::print_runs;
 
 #[cfg(test)]
 mod tests;

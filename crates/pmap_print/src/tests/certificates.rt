@@ -1,5 +1,5 @@
 //! Certificates and their text: the worked certificates, and what is wrong with others.
-use pmap_cert::{CertFaultKind, Certificate, LabelSet, Node, read_cert, write_cert};
+use pmap_cert::{CertFault, CertFaultKind, Certificate, LabelSet, Node, read_cert, write_cert};
 use pmap_text::{LabelId, Labels, is_label};
 use prefix_keys::Version;
 use std::alloc::{AllocError, Global};
@@ -13,37 +13,55 @@ const TWO_HALVES: &[u8] = b"flowlabel-cert 1 ipv4 3\nA\nB\nUNKNOWN\nn 1 0 1\nl 0
 const FOUR_QUARTERS: &[u8] =
     b"flowlabel-cert 1 ipv4 4\nA\nB\nC\nUNKNOWN\nn 2 0\nn 1 0 1\nl 0\nl 1\nn 1 0 2\nl 0\nl 2\n";
 
-fn reads_back(rt: &impl Abort, alloc: Global, text: &[u8]) -> Result<(), Fail> {
+// The text of the certificate that this text is.
+fn written_again(alloc: Global, text: &[u8]) -> Result<Vec<u8>, Fail> {
     let certificate = read_cert(alloc, text)?;
-    assert_eq!(rt; write_cert(alloc, &certificate)?.as_slice(), text);
+    Ok(write_cert(alloc, &certificate)?)
+}
+
+fn is_text(rt: &impl Abort, found: &[u8], wanted: &[u8]) {
+    assert!(rt; found == wanted, "{found:?}, not {wanted:?}");
+}
+
+fn read_back(rt: &impl Abort, alloc: Global, texts: &[&[u8]]) -> Result<(), Fail> {
+    for text in texts {
+        is_text(rt, written_again(alloc, text)?.as_slice(), text);
+    }
     Ok(())
 }
 
-fn is_fault(rt: &impl Abort, alloc: Global, text: &[u8], kind: CertFaultKind, line: u64) {
-    match read_cert(alloc, text) {
-        Ok(_) => assert!(rt; false, "{text:?} is read"),
-        Err(fault) => {
-            assert_eq!(rt; fault.kind, kind, "at {text:?}");
-            assert_eq!(rt; fault.line, line, "at {text:?}");
-        }
-    }
+// The fault of a text, where it is no certificate.
+fn fault_of(alloc: Global, text: &[u8]) -> Option<CertFault> {
+    read_cert(alloc, text).err()
 }
+
+fn is_fault(
+    rt: &impl Abort,
+    text: &[u8],
+    found: Option<CertFault>,
+    kind: CertFaultKind,
+    line: u64,
+) {
+    let is_wanted = match found {
+        Some(fault) => fault.kind == kind && fault.line == line,
+        None => false,
+    };
+    assert!(rt; is_wanted, "at {text:?}");
+}
+
+const TEXTS: [&[u8]; 7] = [
+    ONE_LEAF,
+    TWO_HALVES,
+    FOUR_QUARTERS,
+    b"flowlabel-cert 1 ipv6 2\nSome Net\ncaf\xc3\xa9\nn 4294967295\nl 1\nl 0\n",
+    b"flowlabel-cert 1 ipv4 3\nA\nB\nUNKNOWN\nn 4294967295 0 1\nl 0\nl 1\n",
+    b"flowlabel-cert 1 ipv4 1\nl 0\nl 0\n",
+    b"flowlabel-cert 1 ipv4 2\n0\n1\nn 0 0 1\nn 0 1\nl 1\nl 1\nl 0\n",
+];
 
 #[test]
 fn writes_what_was_read(rt: HostRuntime) -> Result<(), Fail> {
-    let texts: [&[u8]; 7] = [
-        ONE_LEAF,
-        TWO_HALVES,
-        FOUR_QUARTERS,
-        b"flowlabel-cert 1 ipv6 2\nSome Net\ncaf\xc3\xa9\nn 4294967295\nl 1\nl 0\n",
-        b"flowlabel-cert 1 ipv4 3\nA\nB\nUNKNOWN\nn 4294967295 0 1\nl 0\nl 1\n",
-        b"flowlabel-cert 1 ipv4 1\nl 0\nl 0\n",
-        b"flowlabel-cert 1 ipv4 2\n0\n1\nn 0 0 1\nn 0 1\nl 1\nl 1\nl 0\n",
-    ];
-    for text in texts {
-        reads_back(&rt, rt.alloc(), text)?;
-    }
-    Ok(())
+    read_back(&rt, rt.alloc(), &TEXTS)
 }
 
 fn labels_of(rt: &impl Abort, alloc: Global, texts: &[&[u8]]) -> Result<Labels, AllocError> {
@@ -75,156 +93,162 @@ fn makes_a_certificate_of_its_parts(rt: HostRuntime) -> Result<(), Fail> {
     };
     let certificate = Certificate::new(Version::V4, labels, root);
     assert!(rt; matches!(certificate.root(), Node::Inner { cost: 1, .. }));
-    assert_eq!(rt; write_cert(alloc, &certificate)?.as_slice(), TWO_HALVES);
+    is_text(&rt, write_cert(alloc, &certificate)?.as_slice(), TWO_HALVES);
     Ok(())
+}
+
+// A text, the kind of its fault, and the line.
+type Faulty = (&'static [u8], CertFaultKind, u64);
+
+const FAULTS: [Faulty; 30] = [
+    (b"", CertFaultKind::BadHeader, 1),
+    (
+        b"flowlabel-cert 1 ipv4 65537\n",
+        CertFaultKind::BadHeader,
+        1,
+    ),
+    (
+        b"flowlabel-cert 1 ipv4 01\nA\nl 0\n",
+        CertFaultKind::BadHeader,
+        1,
+    ),
+    (
+        b"flowlabel-cert 1 ip 1\nA\nl 0\n",
+        CertFaultKind::BadHeader,
+        1,
+    ),
+    (
+        b"flowlabel-cert 2 ipv4 1\nUNKNOWN\nl 0\n",
+        CertFaultKind::BadHeader,
+        1,
+    ),
+    (b"flowlabel-cert 1 ipv4 1", CertFaultKind::BadHeader, 1),
+    (
+        b"flowlabel-cert 1 ipv4 1 \nA\nl 0\n",
+        CertFaultKind::BadHeader,
+        1,
+    ),
+    (b"flowlabel-cert 1 ipv4\n", CertFaultKind::BadHeader, 1),
+    (b"flowlabel-cert 1 ipv4 0\n", CertFaultKind::NodesMissing, 2),
+    (b"flowlabel-cert 1 ipv4 0\nl 0\n", CertFaultKind::BadNode, 2),
+    (
+        b"flowlabel-cert 1 ipv4 1\n",
+        CertFaultKind::BadLabelTable,
+        2,
+    ),
+    (
+        b"flowlabel-cert 1 ipv4 1\nA",
+        CertFaultKind::BadLabelTable,
+        2,
+    ),
+    (
+        b"flowlabel-cert 1 ipv4 1\n A\nl 0\n",
+        CertFaultKind::BadLabelTable,
+        2,
+    ),
+    (
+        b"flowlabel-cert 1 ipv4 1\nA#\nl 0\n",
+        CertFaultKind::BadLabelTable,
+        2,
+    ),
+    (
+        b"flowlabel-cert 1 ipv4 3\nA\nA\nUNKNOWN\nn 1 0 1\nl 0\nl 1\n",
+        CertFaultKind::BadLabelTable,
+        3,
+    ),
+    (
+        b"flowlabel-cert 1 ipv4 3\nA\nB\nUNKNOWN\nn 4294967296 0 1\nl 0\nl 1\n",
+        CertFaultKind::BadNode,
+        5,
+    ),
+    (
+        b"flowlabel-cert 1 ipv4 3\nA\nB\nUNKNOWN\nn 1 1 0\nl 0\nl 1\n",
+        CertFaultKind::BadNode,
+        5,
+    ),
+    (
+        b"flowlabel-cert 1 ipv4 3\nA\nB\nUNKNOWN\nn 1 1 1\nl 0\nl 1\n",
+        CertFaultKind::BadNode,
+        5,
+    ),
+    (
+        b"flowlabel-cert 1 ipv4 3\nA\nB\nUNKNOWN\nn 1 0 3\nl 0\nl 1\n",
+        CertFaultKind::BadNode,
+        5,
+    ),
+    (
+        b"flowlabel-cert 1 ipv4 3\nA\nB\nUNKNOWN\nn  1 0\nl 0\nl 1\n",
+        CertFaultKind::BadNode,
+        5,
+    ),
+    (
+        b"flowlabel-cert 1 ipv4 3\nA\nB\nUNKNOWN\nn 1 \nl 0\nl 1\n",
+        CertFaultKind::BadNode,
+        5,
+    ),
+    (
+        b"flowlabel-cert 1 ipv4 3\nA\nB\nUNKNOWN\nn\nl 0\nl 1\n",
+        CertFaultKind::BadNode,
+        5,
+    ),
+    (
+        b"flowlabel-cert 1 ipv4 3\nA\nB\nUNKNOWN\nn 1 0 1\nl 0\nl 3\n",
+        CertFaultKind::BadNode,
+        7,
+    ),
+    (
+        b"flowlabel-cert 1 ipv4 3\nA\nB\nUNKNOWN\nn 1 0 1\nl 00\nl 1\n",
+        CertFaultKind::BadNode,
+        6,
+    ),
+    (
+        b"flowlabel-cert 1 ipv4 3\nA\nB\nUNKNOWN\nn 1 0 1\nl 0 1\nl 1\n",
+        CertFaultKind::BadNode,
+        6,
+    ),
+    (
+        b"flowlabel-cert 1 ipv4 3\nA\nB\nUNKNOWN\nn 1 0 1\nl 0\nl 1",
+        CertFaultKind::BadNode,
+        7,
+    ),
+    (
+        b"flowlabel-cert 1 ipv4 3\nA\nB\nUNKNOWN\nn 1 0 1\n\nl 1\n",
+        CertFaultKind::BadNode,
+        6,
+    ),
+    (
+        b"flowlabel-cert 1 ipv4 3\nA\nB\nUNKNOWN\nn 1 0 1\nl 0\n",
+        CertFaultKind::NodesMissing,
+        7,
+    ),
+    (
+        b"flowlabel-cert 1 ipv4 3\nA\nB\nUNKNOWN\nn 1 0 1\nl 0\nl 1\nl 0\n",
+        CertFaultKind::NodesLeft,
+        8,
+    ),
+    (
+        b"flowlabel-cert 1 ipv4 3\nA\nB\nUNKNOWN\nn 1 0 1\nl 0\nl 1\n ",
+        CertFaultKind::NodesLeft,
+        8,
+    ),
+];
+
+fn have_faults(rt: &impl Abort, alloc: Global, cases: &[Faulty]) {
+    for (text, kind, line) in cases {
+        is_fault(rt, text, fault_of(alloc, text), *kind, *line);
+    }
 }
 
 #[test]
 fn tells_the_first_fault(rt: HostRuntime) {
-    let cases: [(&[u8], CertFaultKind, u64); 30] = [
-        (b"", CertFaultKind::BadHeader, 1),
-        (
-            b"flowlabel-cert 1 ipv4 65537\n",
-            CertFaultKind::BadHeader,
-            1,
-        ),
-        (
-            b"flowlabel-cert 1 ipv4 01\nA\nl 0\n",
-            CertFaultKind::BadHeader,
-            1,
-        ),
-        (
-            b"flowlabel-cert 1 ip 1\nA\nl 0\n",
-            CertFaultKind::BadHeader,
-            1,
-        ),
-        (
-            b"flowlabel-cert 2 ipv4 1\nUNKNOWN\nl 0\n",
-            CertFaultKind::BadHeader,
-            1,
-        ),
-        (b"flowlabel-cert 1 ipv4 1", CertFaultKind::BadHeader, 1),
-        (
-            b"flowlabel-cert 1 ipv4 1 \nA\nl 0\n",
-            CertFaultKind::BadHeader,
-            1,
-        ),
-        (b"flowlabel-cert 1 ipv4\n", CertFaultKind::BadHeader, 1),
-        (b"flowlabel-cert 1 ipv4 0\n", CertFaultKind::NodesMissing, 2),
-        (b"flowlabel-cert 1 ipv4 0\nl 0\n", CertFaultKind::BadNode, 2),
-        (
-            b"flowlabel-cert 1 ipv4 1\n",
-            CertFaultKind::BadLabelTable,
-            2,
-        ),
-        (
-            b"flowlabel-cert 1 ipv4 1\nA",
-            CertFaultKind::BadLabelTable,
-            2,
-        ),
-        (
-            b"flowlabel-cert 1 ipv4 1\n A\nl 0\n",
-            CertFaultKind::BadLabelTable,
-            2,
-        ),
-        (
-            b"flowlabel-cert 1 ipv4 1\nA#\nl 0\n",
-            CertFaultKind::BadLabelTable,
-            2,
-        ),
-        (
-            b"flowlabel-cert 1 ipv4 3\nA\nA\nUNKNOWN\nn 1 0 1\nl 0\nl 1\n",
-            CertFaultKind::BadLabelTable,
-            3,
-        ),
-        (
-            b"flowlabel-cert 1 ipv4 3\nA\nB\nUNKNOWN\nn 4294967296 0 1\nl 0\nl 1\n",
-            CertFaultKind::BadNode,
-            5,
-        ),
-        (
-            b"flowlabel-cert 1 ipv4 3\nA\nB\nUNKNOWN\nn 1 1 0\nl 0\nl 1\n",
-            CertFaultKind::BadNode,
-            5,
-        ),
-        (
-            b"flowlabel-cert 1 ipv4 3\nA\nB\nUNKNOWN\nn 1 1 1\nl 0\nl 1\n",
-            CertFaultKind::BadNode,
-            5,
-        ),
-        (
-            b"flowlabel-cert 1 ipv4 3\nA\nB\nUNKNOWN\nn 1 0 3\nl 0\nl 1\n",
-            CertFaultKind::BadNode,
-            5,
-        ),
-        (
-            b"flowlabel-cert 1 ipv4 3\nA\nB\nUNKNOWN\nn  1 0\nl 0\nl 1\n",
-            CertFaultKind::BadNode,
-            5,
-        ),
-        (
-            b"flowlabel-cert 1 ipv4 3\nA\nB\nUNKNOWN\nn 1 \nl 0\nl 1\n",
-            CertFaultKind::BadNode,
-            5,
-        ),
-        (
-            b"flowlabel-cert 1 ipv4 3\nA\nB\nUNKNOWN\nn\nl 0\nl 1\n",
-            CertFaultKind::BadNode,
-            5,
-        ),
-        (
-            b"flowlabel-cert 1 ipv4 3\nA\nB\nUNKNOWN\nn 1 0 1\nl 0\nl 3\n",
-            CertFaultKind::BadNode,
-            7,
-        ),
-        (
-            b"flowlabel-cert 1 ipv4 3\nA\nB\nUNKNOWN\nn 1 0 1\nl 00\nl 1\n",
-            CertFaultKind::BadNode,
-            6,
-        ),
-        (
-            b"flowlabel-cert 1 ipv4 3\nA\nB\nUNKNOWN\nn 1 0 1\nl 0 1\nl 1\n",
-            CertFaultKind::BadNode,
-            6,
-        ),
-        (
-            b"flowlabel-cert 1 ipv4 3\nA\nB\nUNKNOWN\nn 1 0 1\nl 0\nl 1",
-            CertFaultKind::BadNode,
-            7,
-        ),
-        (
-            b"flowlabel-cert 1 ipv4 3\nA\nB\nUNKNOWN\nn 1 0 1\n\nl 1\n",
-            CertFaultKind::BadNode,
-            6,
-        ),
-        (
-            b"flowlabel-cert 1 ipv4 3\nA\nB\nUNKNOWN\nn 1 0 1\nl 0\n",
-            CertFaultKind::NodesMissing,
-            7,
-        ),
-        (
-            b"flowlabel-cert 1 ipv4 3\nA\nB\nUNKNOWN\nn 1 0 1\nl 0\nl 1\nl 0\n",
-            CertFaultKind::NodesLeft,
-            8,
-        ),
-        (
-            b"flowlabel-cert 1 ipv4 3\nA\nB\nUNKNOWN\nn 1 0 1\nl 0\nl 1\n ",
-            CertFaultKind::NodesLeft,
-            8,
-        ),
-    ];
-    for (text, kind, line) in cases {
-        is_fault(&rt, rt.alloc(), text, kind, line);
-    }
+    have_faults(&rt, rt.alloc(), &FAULTS);
 }
 
 #[test]
 fn refuses_each_front_of_a_certificate(rt: HostRuntime) {
     for end in 0..FOUR_QUARTERS.len() {
-        assert!(rt;
-            read_cert(rt.alloc(), &FOUR_QUARTERS[..end]).is_err(),
-            "at {end}"
-        );
+        let fault = fault_of(rt.alloc(), &FOUR_QUARTERS[..end]);
+        assert!(rt; fault.is_some(), "at {end}");
     }
 }
 
@@ -236,21 +260,30 @@ fn nested(alloc: Global, header: &[u8], count: u32) -> Result<Vec<u8>, AllocErro
     Ok(text)
 }
 
-#[test]
-fn refuses_what_lies_too_deep(rt: HostRuntime) -> Result<(), Fail> {
-    let alloc = rt.alloc();
-    let four: &[u8] = b"flowlabel-cert 1 ipv4 1\nA\n";
-    let six: &[u8] = b"flowlabel-cert 1 ipv6 1\nA\n";
-    let cases: [(&[u8], u32, CertFaultKind, u64); 5] = [
-        (four, 32, CertFaultKind::NodesMissing, 35),
-        (four, 33, CertFaultKind::TooDeep, 35),
-        (four, 100000, CertFaultKind::TooDeep, 35),
-        (six, 128, CertFaultKind::NodesMissing, 131),
-        (six, 129, CertFaultKind::TooDeep, 131),
-    ];
+const IPV4: &[u8] = b"flowlabel-cert 1 ipv4 1\nA\n";
+
+const IPV6: &[u8] = b"flowlabel-cert 1 ipv6 1\nA\n";
+
+// What stands before inner nodes, how many lie in one another, the kind of the fault, and its line.
+type Deep = (&'static [u8], u32, CertFaultKind, u64);
+
+const DEEP: [Deep; 5] = [
+    (IPV4, 32, CertFaultKind::NodesMissing, 35),
+    (IPV4, 33, CertFaultKind::TooDeep, 35),
+    (IPV4, 100000, CertFaultKind::TooDeep, 35),
+    (IPV6, 128, CertFaultKind::NodesMissing, 131),
+    (IPV6, 129, CertFaultKind::TooDeep, 131),
+];
+
+fn lie_too_deep(rt: &impl Abort, alloc: Global, cases: &[Deep]) -> Result<(), Fail> {
     for (header, count, kind, line) in cases {
-        let text = nested(alloc, header, count)?;
-        is_fault(&rt, alloc, text.as_slice(), kind, line);
+        let text = nested(alloc, header, *count)?;
+        is_fault(rt, header, fault_of(alloc, &text), *kind, *line);
     }
     Ok(())
+}
+
+#[test]
+fn refuses_what_lies_too_deep(rt: HostRuntime) -> Result<(), Fail> {
+    lie_too_deep(&rt, rt.alloc(), &DEEP)
 }

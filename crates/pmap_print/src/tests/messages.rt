@@ -3,11 +3,12 @@ use super::files::{
     bytes_of,
 };
 use ipfix_read::{
-    FileEvents, ReadFault, ReadFaultKind, Record, Set, first_message_and_rest, one_reading,
-    read_file,
+    FieldValue, Message, ReadFault, ReadFaultKind, Record, Set, first_message_and_rest,
+    one_reading, read_file,
 };
-use ipfix_templates::{Kind, TemplateEvent, TemplateFaultKind};
+use ipfix_templates::{Field, Kind, TemplateEvent, TemplateFaultKind};
 use std::alloc::Global;
+use std::process::Abort;
 use std::test::*;
 
 fn kind_name(kind: Kind) -> &'static str {
@@ -17,6 +18,23 @@ fn kind_name(kind: Kind) -> &'static str {
     }
 }
 
+fn describe_field(text: &mut String, field: &Field) -> Result<(), Fail> {
+    let number = field.number;
+    let length = field.length;
+    match field.enterprise {
+        None => write!(text, " {number}:{length}")?,
+        Some(enterprise) => write!(text, " {enterprise}/{number}:{length}")?,
+    }
+    Ok(())
+}
+
+fn describe_fields(text: &mut String, fields: &[Field]) -> Result<(), Fail> {
+    for field in fields {
+        describe_field(text, field)?;
+    }
+    Ok(())
+}
+
 fn describe_event(text: &mut String, event: &TemplateEvent) -> Result<(), Fail> {
     match event {
         TemplateEvent::Define(template) => {
@@ -24,14 +42,7 @@ fn describe_event(text: &mut String, event: &TemplateEvent) -> Result<(), Fail> 
             let kind = kind_name(template.kind());
             let scopes = template.scope_count();
             write!(text, " define {kind} {id} {scopes}")?;
-            for field in template.fields().as_slice() {
-                let number = field.number;
-                let length = field.length;
-                match field.enterprise {
-                    None => write!(text, " {number}:{length}")?,
-                    Some(enterprise) => write!(text, " {enterprise}/{number}:{length}")?,
-                }
-            }
+            describe_fields(text, template.fields().as_slice())?;
         }
         TemplateEvent::Withdraw(id) => write!(text, " withdraw {id}")?,
         TemplateEvent::WithdrawAll(kind) => {
@@ -42,111 +53,139 @@ fn describe_event(text: &mut String, event: &TemplateEvent) -> Result<(), Fail> 
     Ok(())
 }
 
+fn describe_byte(text: &mut String, byte: u8) -> Result<(), Fail> {
+    write!(text, "{byte:02x}")?;
+    Ok(())
+}
+
+fn describe_value(text: &mut String, value: &FieldValue) -> Result<(), Fail> {
+    let number = value.field().number;
+    write!(text, " {number}=")?;
+    for byte in value.value() {
+        describe_byte(text, *byte)?;
+    }
+    Ok(())
+}
+
 fn describe_record(text: &mut String, record: &Record) -> Result<(), Fail> {
     let kind = kind_name(record.kind);
     write!(text, " record {kind}")?;
     for value in record.fields.iter() {
-        let number = value.field().number;
-        write!(text, " {number}=")?;
-        for byte in value.value() {
-            let byte = *byte;
-            write!(text, "{byte:02x}")?;
-        }
+        describe_value(text, &value)?;
+    }
+    Ok(())
+}
+
+fn describe_events(text: &mut String, kind: Kind, events: &[TemplateEvent]) -> Result<(), Fail> {
+    let kind = kind_name(kind);
+    write!(text, "; templates {kind}")?;
+    for event in events {
+        describe_event(text, event)?;
+    }
+    Ok(())
+}
+
+fn describe_records(text: &mut String, kind: Kind, records: &[Record]) -> Result<(), Fail> {
+    let kind = kind_name(kind);
+    write!(text, "; values {kind}")?;
+    for record in records {
+        describe_record(text, record)?;
     }
     Ok(())
 }
 
 fn describe_set(text: &mut String, set: &Set) -> Result<(), Fail> {
     match set {
-        Set::Templates(kind, events) => {
-            let kind = kind_name(*kind);
-            write!(text, "; templates {kind}")?;
-            for event in events.as_slice() {
-                describe_event(text, event)?;
-            }
+        Set::Templates(kind, events) => describe_events(text, *kind, events.as_slice()),
+        Set::Values(kind, records) => describe_records(text, *kind, records.as_slice()),
+        Set::Skipped(id) => {
+            write!(text, "; skipped {id}")?;
+            Ok(())
         }
-        Set::Values(kind, records) => {
-            let kind = kind_name(*kind);
-            write!(text, "; values {kind}")?;
-            for record in records.as_slice() {
-                describe_record(text, record)?;
-            }
-        }
-        Set::Skipped(id) => write!(text, "; skipped {id}")?,
     }
+}
+
+fn describe_message(text: &mut String, message: &Message) -> Result<(), Fail> {
+    let time = message.export_time();
+    let sequence = message.sequence();
+    let domain = message.domain();
+    write!(text, "message {time} {sequence} {domain}")?;
+    for set in message.sets().as_slice() {
+        describe_set(text, set)?;
+    }
+    write!(text, ". ")?;
     Ok(())
 }
 
 // What a File says, as one text.
-fn describe(alloc: Global, file: &FileEvents) -> Result<String, Fail> {
+fn describe(alloc: Global, bytes: &[u8]) -> Result<String, Fail> {
+    let file = read_file(alloc, bytes)?;
     let mut text = String::new(alloc);
     for message in file.messages.as_slice() {
-        let time = message.export_time();
-        let sequence = message.sequence();
-        let domain = message.domain();
-        write!(text, "message {time} {sequence} {domain}")?;
-        for set in message.sets().as_slice() {
-            describe_set(&mut text, set)?;
-        }
-        write!(text, ". ")?;
+        describe_message(&mut text, message)?;
     }
     Ok(text)
 }
 
-fn read_text(alloc: Global, text: &str) -> Result<String, Fail> {
-    let bytes = bytes_of(alloc, text)?;
-    let file = read_file(alloc, &bytes)?;
-    describe(alloc, &file)
+fn is_text(rt: &impl Abort, found: &str, wanted: &str) {
+    assert_eq!(rt; found, wanted);
 }
 
-const FIVE_DEFINED: &str = "; templates flow define flow 256 0 8:4 12:4 4:1 2:4 1:4";
+// A File, and what it says.
+type Said = (&'static str, &'static str);
 
-const FIVE_VALUES: &str = " record flow 8=0a000001 12=08080808 4=06 2=00000003 1=000000b4";
+fn files_say(rt: &impl Abort, alloc: Global, cases: &[Said]) -> Result<(), Fail> {
+    for (file, wanted) in cases {
+        let bytes = bytes_of(alloc, file)?;
+        let found = describe(alloc, &bytes)?;
+        is_text(rt, found.as_str(), wanted);
+    }
+    Ok(())
+}
+
+const WORKED: [Said; 10] = [
+    ("", ""),
+    (
+        "000a0010 60000000 00000007 00000001",
+        "message 1610612736 7 1. ",
+    ),
+    (
+        FIVE_FIELDS,
+        "message 1610612736 0 1; templates flow define flow 256 0 8:4 12:4 4:1 2:4 1:4; values flow record flow 8=0a000001 12=08080808 4=06 2=00000003 1=000000b4. ",
+    ),
+    (
+        TWO_DOMAINS,
+        "message 1610612736 0 1; templates flow define flow 256 0 8:4 12:4 4:1 2:4 1:4; values flow record flow 8=0a000001 12=08080808 4=06 2=00000003 1=000000b4. message 1610612736 0 2; skipped 256. ",
+    ),
+    (
+        LONG_FORM,
+        "message 1610612736 0 1; templates flow define flow 257 0 8:4 12:4 82:65535; values flow record flow 8=0a000001 12=08080808 82=. ",
+    ),
+    (
+        VERSION_SIX,
+        "message 1610612736 0 1; templates flow define flow 258 0 27:16 28:16; values flow record flow 27=20010db8000000000000000000000001 28=20010db8000000000000000000000002. ",
+    ),
+    (
+        WITHDRAWN,
+        "message 1610612736 0 1; templates flow define flow 256 0 8:4 12:4 4:1 2:4 1:4; templates flow withdraw 256; skipped 256. ",
+    ),
+    (
+        OPTIONS,
+        "message 1610612736 0 1; templates options define options 259 1 149:4 41:8; values options record options 149=00000001 41=0000000000000005. ",
+    ),
+    (
+        TWO_RECORDS,
+        "message 1610612736 0 1; templates flow define flow 256 0 8:4 12:4 4:1 2:4 1:4; values flow record flow 8=0a000001 12=08080808 4=06 2=00000003 1=000000b4 record flow 8=09000001 12=08080808 4=11 2=00000001 1=00000064. ",
+    ),
+    (
+        REVERSE,
+        "message 1610612736 0 1; templates flow define flow 256 0 8:4 12:4 4:1 2:4 1:4 29305/2:4 29305/1:4; values flow record flow 8=0a000001 12=08080808 4=06 2=00000003 1=000000b4 2=00000002 1=00000064. ",
+    ),
+];
 
 #[test]
 fn reads_worked_files(rt: HostRuntime) -> Result<(), Fail> {
-    let alloc = rt.alloc();
-    let one = format!(in alloc;
-        "message 1610612736 0 1{FIVE_DEFINED}; values flow{FIVE_VALUES}. "
-    )?;
-    let two = format!(in alloc; "{one}message 1610612736 0 2; skipped 256. ")?;
-    let withdrawn = format!(in alloc;
-        "message 1610612736 0 1{FIVE_DEFINED}; templates flow withdraw 256; skipped 256. "
-    )?;
-    let records = format!(in alloc;
-        "message 1610612736 0 1{FIVE_DEFINED}; values flow{FIVE_VALUES} record flow 8=09000001 12=08080808 4=11 2=00000001 1=00000064. "
-    )?;
-    let cases = [
-        ("", ""),
-        (
-            "000a0010 60000000 00000007 00000001",
-            "message 1610612736 7 1. ",
-        ),
-        (FIVE_FIELDS, one.as_str()),
-        (TWO_DOMAINS, two.as_str()),
-        (
-            LONG_FORM,
-            "message 1610612736 0 1; templates flow define flow 257 0 8:4 12:4 82:65535; values flow record flow 8=0a000001 12=08080808 82=. ",
-        ),
-        (
-            VERSION_SIX,
-            "message 1610612736 0 1; templates flow define flow 258 0 27:16 28:16; values flow record flow 27=20010db8000000000000000000000001 28=20010db8000000000000000000000002. ",
-        ),
-        (WITHDRAWN, withdrawn.as_str()),
-        (
-            OPTIONS,
-            "message 1610612736 0 1; templates options define options 259 1 149:4 41:8; values options record options 149=00000001 41=0000000000000005. ",
-        ),
-        (TWO_RECORDS, records.as_str()),
-        (
-            REVERSE,
-            "message 1610612736 0 1; templates flow define flow 256 0 8:4 12:4 4:1 2:4 1:4 29305/2:4 29305/1:4; values flow record flow 8=0a000001 12=08080808 4=06 2=00000003 1=000000b4 2=00000002 1=00000064. ",
-        ),
-    ];
-    for (i, (text, wanted)) in cases.iter().enumerate() {
-        assert_eq!(rt; read_text(alloc, text)?.as_str(), *wanted, "at {i}");
-    }
-    Ok(())
+    files_say(&rt, rt.alloc(), &WORKED)
 }
 
 // Like what softflowd sends: templates of both versions in one set, an options template with its records, and
@@ -164,26 +203,24 @@ const ENTERPRISE_ELEMENTS: &str =
 const STRUCTURED_LIST: &str =
     "000a00a4 5f5e1003 00000000 00000000 0002003c b0010007 00980008 00990008 00550004 80550004 00007279 00560004 80560004 00007279 0125ffff c0030002 80280004 00001ad7 00040001 00030018 d0000003 0002 00900004 00950004 00290008 0000 b001002c 0000018000000001 0000018000000002 000000b4 00000064 00000003 00000002 ff0003030102 0000 d0000014 00000001 00000000 0000000000000009";
 
+const EXPORTED: [Said; 3] = [
+    (
+        TEMPLATES_IN_ONE_SET,
+        "message 1600000000 0 0; templates flow define flow 1024 0 8:4 12:4 22:4 21:4 1:4 2:4 7:2 11:2 4:1 6:1 60:1 5:1 define flow 2048 0 27:16 28:16 1:4 2:4; templates options define options 256 1 143:4 160:8; values options record options 143=00000001 160=0000017500000000; values flow record flow 8=0a000001 12=0a000002 22=00000010 21=00000020 1=000000b4 2=00000003 7=c001 11=0050 4=06 6=1b 60=04 5=00. ",
+    ),
+    (
+        ENTERPRISE_ELEMENTS,
+        "message 1600000001 0 9; templates flow define flow 1024 0 8:4 12:4 7:2 4:1 43874/1:4 43874/2:65535. message 1600000002 1 9; values flow record flow 8=0a000001 12=0a000002 7=0035 4=11 1=00000007 2=616263. ",
+    ),
+    (
+        STRUCTURED_LIST,
+        "message 1600000003 0 0; templates flow define flow 45057 0 152:8 153:8 85:4 29305/85:4 86:4 29305/86:4 293:65535 define flow 49155 0 6871/40:4 4:1; templates options define options 53248 2 144:4 149:4 41:8; values flow record flow 152=0000018000000001 153=0000018000000002 85=000000b4 85=00000064 86=00000003 86=00000002 293=030102; values options record options 144=00000001 149=00000000 41=0000000000000009. ",
+    ),
+];
+
 #[test]
 fn reads_files_of_usual_exporters(rt: HostRuntime) -> Result<(), Fail> {
-    let cases = [
-        (
-            TEMPLATES_IN_ONE_SET,
-            "message 1600000000 0 0; templates flow define flow 1024 0 8:4 12:4 22:4 21:4 1:4 2:4 7:2 11:2 4:1 6:1 60:1 5:1 define flow 2048 0 27:16 28:16 1:4 2:4; templates options define options 256 1 143:4 160:8; values options record options 143=00000001 160=0000017500000000; values flow record flow 8=0a000001 12=0a000002 22=00000010 21=00000020 1=000000b4 2=00000003 7=c001 11=0050 4=06 6=1b 60=04 5=00. ",
-        ),
-        (
-            ENTERPRISE_ELEMENTS,
-            "message 1600000001 0 9; templates flow define flow 1024 0 8:4 12:4 7:2 4:1 43874/1:4 43874/2:65535. message 1600000002 1 9; values flow record flow 8=0a000001 12=0a000002 7=0035 4=11 1=00000007 2=616263. ",
-        ),
-        (
-            STRUCTURED_LIST,
-            "message 1600000003 0 0; templates flow define flow 45057 0 152:8 153:8 85:4 29305/85:4 86:4 29305/86:4 293:65535 define flow 49155 0 6871/40:4 4:1; templates options define options 53248 2 144:4 149:4 41:8; values flow record flow 152=0000018000000001 153=0000018000000002 85=000000b4 85=00000064 86=00000003 86=00000002 293=030102; values options record options 144=00000001 149=00000000 41=0000000000000009. ",
-        ),
-    ];
-    for (i, (text, wanted)) in cases.iter().enumerate() {
-        assert_eq!(rt; read_text(rt.alloc(), text)?.as_str(), *wanted, "at {i}");
-    }
-    Ok(())
+    files_say(&rt, rt.alloc(), &EXPORTED)
 }
 
 fn fault(kind: ReadFaultKind, offset: u64) -> ReadFault {
@@ -254,83 +291,119 @@ const FIRST_FAULTS: [(&str, ReadFaultKind, u64); 10] = [
     ),
 ];
 
-#[test]
-fn finds_the_first_fault(rt: HostRuntime) -> Result<(), Fail> {
-    for (i, (text, kind, offset)) in FIRST_FAULTS.iter().enumerate() {
-        let bytes = bytes_of(rt.alloc(), text)?;
-        assert_eq!(rt;
-            read_file(rt.alloc(), &bytes).err(),
-            Some(fault(*kind, *offset)),
-            "at {i}"
-        );
+// The fault of these bytes, where they have one.
+fn fault_in(alloc: Global, bytes: &[u8]) -> Option<ReadFault> {
+    read_file(alloc, bytes).err()
+}
+
+fn is_fault(rt: &impl Abort, found: Option<ReadFault>, kind: ReadFaultKind, offset: u64) {
+    assert_eq!(rt; found, Some(fault(kind, offset)));
+}
+
+fn have_faults(
+    rt: &impl Abort,
+    alloc: Global,
+    cases: &[(&str, ReadFaultKind, u64)],
+) -> Result<(), Fail> {
+    for (file, kind, offset) in cases {
+        let bytes = bytes_of(alloc, file)?;
+        is_fault(rt, fault_in(alloc, &bytes), *kind, *offset);
     }
     Ok(())
 }
 
-// The File with these two bytes at this place.
-fn changed(alloc: Global, text: &str, place: usize, high: u8, low: u8) -> Result<Vec<u8>, Fail> {
-    let mut bytes = bytes_of(alloc, text)?;
+#[test]
+fn finds_the_first_fault(rt: HostRuntime) -> Result<(), Fail> {
+    have_faults(&rt, rt.alloc(), &FIRST_FAULTS)
+}
+
+// Puts these two bytes at this place.
+fn change(bytes: &mut Vec<u8>, place: usize, high: u8, low: u8) {
     if place < 1000 && place + 1 < bytes.len() {
         bytes[place] = high;
         bytes[place + 1] = low;
     }
-    Ok(bytes)
 }
 
-#[test]
-fn finds_faults_of_changed_files(rt: HostRuntime) -> Result<(), Fail> {
-    let alloc = rt.alloc();
-    let cases = [
-        (FIVE_FIELDS, 0, 0, 9, ReadFaultKind::BadVersion, 0),
-        (FIVE_FIELDS, 2, 0, 15, ReadFaultKind::BadMessageLength, 0),
-        (FIVE_FIELDS, 20, 0, 255, BAD_ID, 20),
-        (FIVE_FIELDS, 18, 0, 0, ReadFaultKind::BadSetLength, 16),
-        (FIVE_FIELDS, 18, 0, 3, ReadFaultKind::BadSetLength, 16),
-        (FIVE_FIELDS, 18, 0, 0x32, ReadFaultKind::BadSetLength, 16),
-        (FIVE_FIELDS, 18, 0, 0x18, TRUNCATED, 20),
-        (FIVE_FIELDS, 18, 0, 0x31, TRUNCATED, 44),
-    ];
-    for (i, (text, place, high, low, kind, offset)) in cases.iter().enumerate() {
-        let bytes = changed(alloc, text, *place, *high, *low)?;
-        assert_eq!(rt;
-            read_file(alloc, &bytes).err(),
-            Some(fault(*kind, *offset)),
-            "at {i}"
-        );
+// A place, the two bytes that the File of five fields has there instead, its fault and the offset.
+type Changed = (usize, u8, u8, ReadFaultKind, u64);
+
+const CHANGED: [Changed; 8] = [
+    (0, 0, 9, ReadFaultKind::BadVersion, 0),
+    (2, 0, 15, ReadFaultKind::BadMessageLength, 0),
+    (20, 0, 255, BAD_ID, 20),
+    (18, 0, 0, ReadFaultKind::BadSetLength, 16),
+    (18, 0, 3, ReadFaultKind::BadSetLength, 16),
+    (18, 0, 0x32, ReadFaultKind::BadSetLength, 16),
+    (18, 0, 0x18, TRUNCATED, 20),
+    (18, 0, 0x31, TRUNCATED, 44),
+];
+
+fn changes_are_faults(rt: &impl Abort, alloc: Global, cases: &[Changed]) -> Result<(), Fail> {
+    for (place, high, low, kind, offset) in cases {
+        let mut bytes = bytes_of(alloc, FIVE_FIELDS)?;
+        change(&mut bytes, *place, *high, *low);
+        is_fault(rt, fault_in(alloc, &bytes), *kind, *offset);
     }
     Ok(())
 }
 
-// The File of a withdrawn template, with other withdrawals in its second set: of all templates, of all options
-// templates in a set of options templates and in one of templates.
+#[test]
+fn finds_faults_of_changed_files(rt: HostRuntime) -> Result<(), Fail> {
+    changes_are_faults(&rt, rt.alloc(), &CHANGED)
+}
+
+// The File of a withdrawn template, with a withdrawal of all templates in the set with the first ID, of those that
+// the second one stands for.
+fn all_withdrawn(alloc: Global, set: u8, all: u8) -> Result<Vec<u8>, Fail> {
+    let mut bytes = bytes_of(alloc, WITHDRAWN)?;
+    change(&mut bytes, 44, 0, set);
+    change(&mut bytes, 48, 0, all);
+    Ok(bytes)
+}
+
+fn withdraws_all(rt: &impl Abort, alloc: Global, set: u8, wanted: &str) -> Result<(), Fail> {
+    let bytes = all_withdrawn(alloc, set, set)?;
+    let found = describe(alloc, &bytes)?;
+    is_text(rt, found.as_str(), wanted);
+    Ok(())
+}
+
+fn withdraws_no_other(rt: &impl Abort, alloc: Global, set: u8, all: u8) -> Result<(), Fail> {
+    let bytes = all_withdrawn(alloc, set, all)?;
+    is_fault(rt, fault_in(alloc, &bytes), BAD_ID, 48);
+    Ok(())
+}
+
+const ALL_WITHDRAWN: &str =
+    "message 1610612736 0 1; templates flow define flow 256 0 8:4 12:4 4:1 2:4 1:4; templates flow withdraw all flow; skipped 256. ";
+
+const OPTIONS_WITHDRAWN: &str =
+    "message 1610612736 0 1; templates flow define flow 256 0 8:4 12:4 4:1 2:4 1:4; templates options withdraw all options; values flow record flow 8=0a000001 12=08080808 4=06 2=00000003 1=000000b4. ";
+
+// The IDs 2 and 3 are those of the sets of templates and of options templates.
 #[test]
 fn withdraws_all_of_a_kind(rt: HostRuntime) -> Result<(), Fail> {
     let alloc = rt.alloc();
-    let mut bytes = changed(alloc, WITHDRAWN, 48, 0, 2)?;
-    let text = describe(alloc, &read_file(alloc, &bytes)?)?;
-    let wanted = format!(in alloc;
-        "message 1610612736 0 1{FIVE_DEFINED}; templates flow withdraw all flow; skipped 256. "
-    )?;
-    assert_eq!(rt; text.as_str(), wanted.as_str());
+    withdraws_all(&rt, alloc, 2, ALL_WITHDRAWN)?;
+    withdraws_no_other(&rt, alloc, 2, 3)?;
+    withdraws_all(&rt, alloc, 3, OPTIONS_WITHDRAWN)?;
+    withdraws_no_other(&rt, alloc, 3, 2)
+}
 
-    assert_eq!(rt; bytes.len(), 73);
-    bytes[48] = 0;
-    bytes[49] = 3;
-    assert_eq!(rt; read_file(alloc, &bytes).err(), Some(fault(BAD_ID, 48)));
+// The fault of the first bytes of the File of two domains, where there are so many.
+fn fault_of_front(size: usize) -> Option<ReadFault> {
+    match size {
+        0 | 68 | 105 => None,
+        1..=15 => Some(fault(ReadFaultKind::TruncatedHeader, 0)),
+        16..=67 => Some(fault(ReadFaultKind::TruncatedMessage, 0)),
+        69..=83 => Some(fault(ReadFaultKind::TruncatedHeader, 68)),
+        _ => Some(fault(ReadFaultKind::TruncatedMessage, 68)),
+    }
+}
 
-    assert_eq!(rt; bytes.len(), 73);
-    bytes[44] = 0;
-    bytes[45] = 3;
-    let text = describe(alloc, &read_file(alloc, &bytes)?)?;
-    let wanted = format!(in alloc;
-        "message 1610612736 0 1{FIVE_DEFINED}; templates options withdraw all options; values flow{FIVE_VALUES}. "
-    )?;
-    assert_eq!(rt; text.as_str(), wanted.as_str());
-
-    assert_eq!(rt; bytes.len(), 73);
-    bytes[49] = 2;
-    assert_eq!(rt; read_file(alloc, &bytes).err(), Some(fault(BAD_ID, 48)));
-    Ok(())
+fn has_fault_of_front(rt: &impl Abort, alloc: Global, front: &[u8]) {
+    assert_eq!(rt; fault_in(alloc, front), fault_of_front(front.len()));
 }
 
 #[test]
@@ -338,15 +411,7 @@ fn reads_each_prefix(rt: HostRuntime) -> Result<(), Fail> {
     let bytes = bytes_of(rt.alloc(), TWO_DOMAINS)?;
     assert_eq!(rt; bytes.len(), 105);
     for size in 0..106usize {
-        let wanted = match size {
-            0 | 68 | 105 => None,
-            1..=15 => Some(fault(ReadFaultKind::TruncatedHeader, 0)),
-            16..=67 => Some(fault(ReadFaultKind::TruncatedMessage, 0)),
-            69..=83 => Some(fault(ReadFaultKind::TruncatedHeader, 68)),
-            _ => Some(fault(ReadFaultKind::TruncatedMessage, 68)),
-        };
-        let front = &bytes[..size];
-        assert_eq!(rt; read_file(rt.alloc(), front).err(), wanted, "at {size}");
+        has_fault_of_front(&rt, rt.alloc(), &bytes[..size]);
     }
     Ok(())
 }
@@ -370,6 +435,27 @@ fn file_of_empty_fields(alloc: Global) -> Result<Vec<u8>, Fail> {
     Ok(bytes)
 }
 
+// The values of the record at a place: all are empty but the one in the middle, which has the byte that counts up.
+fn has_one_byte(rt: &impl Abort, i: usize, record: &Record) {
+    assert_eq!(rt; record.fields.len(), 2000, "at {i}");
+    let mut found = 0;
+    for (place, value) in record.fields.iter().enumerate() {
+        assert_eq!(rt; usize::from(value.field().number), place, "at {i}");
+        if let [byte] = value.value() {
+            assert_eq!(rt; (place, usize::from(*byte)), (1000, i % 251));
+            found = place;
+        }
+    }
+    assert_eq!(rt; found, 1000, "at {i}");
+}
+
+fn have_one_byte(rt: &impl Abort, records: &[Record]) {
+    assert_eq!(rt; records.len(), 2000);
+    for (i, record) in records.iter().enumerate().step_by(199) {
+        has_one_byte(rt, i, record);
+    }
+}
+
 #[test]
 fn reads_records_of_empty_fields(rt: HostRuntime) -> Result<(), Fail> {
     let alloc = rt.alloc();
@@ -384,19 +470,7 @@ fn reads_records_of_empty_fields(rt: HostRuntime) -> Result<(), Fail> {
     let Set::Values(_kind, records) = values else {
         return Err(Fail::new("values are wanted"));
     };
-    assert_eq!(rt; records.len(), 2000);
-    for (i, record) in records.as_slice().iter().enumerate().step_by(199) {
-        assert_eq!(rt; record.fields.len(), 2000, "at {i}");
-        let mut found = 0;
-        for (place, value) in record.fields.iter().enumerate() {
-            assert_eq!(rt; usize::from(value.field().number), place, "at {i}");
-            if let [byte] = value.value() {
-                assert_eq!(rt; (place, usize::from(*byte)), (1000, i % 251));
-                found = place;
-            }
-        }
-        assert_eq!(rt; found, 1000, "at {i}");
-    }
+    have_one_byte(&rt, records.as_slice());
     Ok(())
 }
 

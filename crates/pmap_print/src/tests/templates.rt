@@ -1,10 +1,13 @@
 ghost use Rattle.std.specs.Prelude.{◌<◌};
 
+use ipfix_templates::TemplateFaultKind::{BadScope, BadTemplateId, Truncated};
 use ipfix_templates::{
-    Field, Fields, Kind, Template, TemplateEvent, TemplateFault, TemplateTable, VARIABLE_LENGTH,
-    event_after_history, events_fit, memory_is_no_fault, one_reading, read_template_set,
+    Field, Fields, Kind, Template, TemplateEvent, TemplateFault, TemplateFaultKind, TemplateTable,
+    VARIABLE_LENGTH, event_after_history, events_fit, memory_is_no_fault, one_reading,
+    read_template_set,
 };
 use std::alloc::Global;
+use std::process::Abort;
 use std::test::*;
 
 // The bytes behind the header of a template set with a template of five fields, and three bytes of padding.
@@ -56,42 +59,52 @@ fn only_definition(alloc: Global, bytes: &[u8], kind: Kind) -> Result<Template, 
     }
 }
 
+const FIVE_DEFINED: [(u16, u16); 5] = [(8, 4), (12, 4), (4, 1), (2, 4), (1, 4)];
+
+const SCOPED_DEFINED: [(u16, u16); 2] = [(149, 4), (41, 8)];
+
+fn has_head(rt: &impl Abort, template: &Template, id: u16, kind: Kind, scope_count: u16) {
+    assert!(rt; template.id() == id);
+    assert!(rt; template.kind().is(kind));
+    assert!(rt; template.scope_count() == scope_count);
+}
+
+fn is_field(rt: &impl Abort, field: &Field, enterprise: Option<u32>, number: u16, length: u16) {
+    assert!(rt; field.enterprise == enterprise, "at {number}");
+    assert!(rt; field.number == number, "at {number}");
+    assert!(rt; field.length == length, "at {number}");
+}
+
+// The fields are these elements of no enterprise: the number and the length of each.
+fn are_plain(rt: &impl Abort, fields: &Fields, wanted: &[(u16, u16)]) {
+    assert!(rt; fields.len() == wanted.len());
+    for (field, (number, length)) in fields.as_slice().iter().zip(wanted) {
+        is_field(rt, field, None, *number, *length);
+    }
+}
+
 #[test]
 fn reads_definitions(rt: HostRuntime) -> Result<(), Fail> {
     let five = only_definition(rt.alloc(), &FIVE_FIELDS, Kind::Flow)?;
-    let fields = [
-        plain(8, 4),
-        plain(12, 4),
-        plain(4, 1),
-        plain(2, 4),
-        plain(1, 4),
-    ];
-    assert_eq!(rt; five.id(), 256);
-    assert_eq!(rt; five.kind(), Kind::Flow);
-    assert_eq!(rt; five.least_length(), 17);
-    assert_eq!(rt; five.fields().len(), 5);
-    assert_eq!(rt; five.fields().as_slice(), fields.as_slice());
+    has_head(&rt, &five, 256, Kind::Flow, 0);
+    are_plain(&rt, five.fields(), &FIVE_DEFINED);
+    assert!(rt; five.least_length() == 17);
 
     let scoped = only_definition(rt.alloc(), &SCOPED, Kind::Options)?;
-    assert_eq!(rt; scoped.id(), 259);
-    assert_eq!(rt; scoped.kind(), Kind::Options);
-    assert_eq!(rt; scoped.scope_count(), 1);
-    assert_eq!(rt;
-        scoped.fields().as_slice(),
-        [plain(149, 4), plain(41, 8)].as_slice()
-    );
+    has_head(&rt, &scoped, 259, Kind::Options, 1);
+    are_plain(&rt, scoped.fields(), &SCOPED_DEFINED);
+    Ok(())
+}
 
+#[test]
+fn reads_reverse_and_variable_fields(rt: HostRuntime) -> Result<(), Fail> {
     let reverse = only_definition(rt.alloc(), &REVERSE, Kind::Flow)?;
-    let fields = [
-        Field {
-            enterprise: Some(29305),
-            number: 2,
-            length: 4,
-        },
-        plain(82, VARIABLE_LENGTH),
-    ];
-    assert_eq!(rt; reverse.fields().as_slice(), fields.as_slice());
-    assert_eq!(rt; reverse.least_length(), 5);
+    let [first, second] = reverse.fields().as_slice() else {
+        return Err(Fail::new("two fields are wanted"));
+    };
+    is_field(&rt, first, Some(29305), 2, 4);
+    is_field(&rt, second, None, 82, VARIABLE_LENGTH);
+    assert!(rt; reverse.least_length() == 5);
     Ok(())
 }
 
@@ -115,30 +128,48 @@ fn reads_withdrawals(rt: HostRuntime) -> Result<(), Fail> {
     Ok(())
 }
 
-#[test]
-fn finds_the_first_fault(rt: HostRuntime) {
-    use ipfix_templates::TemplateFaultKind::{BadScope, BadTemplateId, Truncated};
-    let scope_of_three = [1u8, 3, 0, 2, 0, 3, 0, 149, 0, 4, 0, 41, 0, 8];
-    let behind_a_record = [1u8, 0, 0, 0, 0, 0, 0, 0];
-    let cases = [
-        (Kind::Flow, [1u8, 0, 0, 1, 0, 8].as_slice(), Truncated, 0),
-        (Kind::Flow, &REVERSE[..10], Truncated, 0),
-        (Kind::Options, &[1, 3, 0, 2], Truncated, 0),
-        (Kind::Options, &[1, 0, 0, 1, 0, 0], BadScope, 0),
-        (Kind::Options, &scope_of_three, BadScope, 0),
-        (Kind::Flow, &[0, 255, 0, 1, 0, 8, 0, 4], BadTemplateId, 0),
-        (Kind::Flow, &[0, 3, 0, 0], BadTemplateId, 0),
-        (Kind::Options, &[0, 2, 0, 0], BadTemplateId, 0),
-        (Kind::Flow, &behind_a_record, BadTemplateId, 4),
-    ];
-    for (i, (set_kind, bytes, kind, offset)) in cases.iter().enumerate() {
+// Of which kind a set is, the bytes behind its header, the kind of their fault, and the offset.
+type Faulty = (Kind, &'static [u8], TemplateFaultKind, u64);
+
+const FAULTS: [Faulty; 9] = [
+    (Kind::Flow, &[1, 0, 0, 1, 0, 8], Truncated, 0),
+    (Kind::Flow, &[1, 4, 0, 2, 0x80, 2, 0, 4, 0, 0], Truncated, 0),
+    (Kind::Options, &[1, 3, 0, 2], Truncated, 0),
+    (Kind::Options, &[1, 0, 0, 1, 0, 0], BadScope, 0),
+    // A scope of three fields of two.
+    (
+        Kind::Options,
+        &[1, 3, 0, 2, 0, 3, 0, 149, 0, 4, 0, 41, 0, 8],
+        BadScope,
+        0,
+    ),
+    (Kind::Flow, &[0, 255, 0, 1, 0, 8, 0, 4], BadTemplateId, 0),
+    (Kind::Flow, &[0, 3, 0, 0], BadTemplateId, 0),
+    (Kind::Options, &[0, 2, 0, 0], BadTemplateId, 0),
+    // The second record's.
+    (Kind::Flow, &[1, 0, 0, 0, 0, 0, 0, 0], BadTemplateId, 4),
+];
+
+fn fault_in(alloc: Global, bytes: &[u8], kind: Kind) -> Option<TemplateFault> {
+    read_template_set(alloc, bytes, kind).err()
+}
+
+fn have_faults(rt: &impl Abort, alloc: Global, cases: &[Faulty]) {
+    for (set_kind, bytes, kind, offset) in cases {
         let wanted = TemplateFault {
             kind: *kind,
             offset: *offset,
         };
-        let found = read_template_set(rt.alloc(), bytes, *set_kind).err();
-        assert_eq!(rt; found, Some(wanted), "at {i}");
+        assert!(rt;
+            fault_in(alloc, bytes, *set_kind) == Some(wanted),
+            "at {bytes:?}"
+        );
     }
+}
+
+#[test]
+fn finds_the_first_fault(rt: HostRuntime) {
+    have_faults(&rt, rt.alloc(), &FAULTS);
 }
 
 fn element_at(table: &TemplateTable, domain: u32, id: u16) -> Option<u16> {
@@ -147,27 +178,61 @@ fn element_at(table: &TemplateTable, domain: u32, id: u16) -> Option<u16> {
     Some(field.number)
 }
 
-#[test]
-fn keeps_the_templates_in_force(rt: HostRuntime) -> Result<(), Fail> {
-    let alloc = rt.alloc();
-    let mut table = TemplateTable::new(alloc);
-    table.set(1, template(alloc, Kind::Flow, 256, 8)?)?;
-    table.set(2, template(alloc, Kind::Flow, 256, 12)?)?;
-    assert_eq!(rt; element_at(&table, 1, 256), Some(8));
-    assert_eq!(rt; element_at(&table, 2, 256), Some(12));
-    assert_eq!(rt; element_at(&table, 1, 257), None);
+// A template for the domain, whose first field has this number.
+fn define(
+    alloc: Global,
+    table: &mut TemplateTable,
+    domain: u32,
+    kind: Kind,
+    number: u16,
+) -> Result<(), Fail>
+    requires { number < 32768 }
+{
+    table.set(domain, template(alloc, kind, 256, number)?)?;
+    Ok(())
+}
 
-    table.withdraw(1, 257);
-    table.withdraw(3, 256);
-    table.set(1, template(alloc, Kind::Options, 256, 27)?)?;
-    assert_eq!(rt; element_at(&table, 1, 256), Some(27));
-    table.withdraw_all(1, Kind::Flow);
-    assert_eq!(rt; element_at(&table, 1, 256), Some(27));
-    table.withdraw_all(1, Kind::Options);
-    assert_eq!(rt; element_at(&table, 1, 256), None);
-    assert_eq!(rt; element_at(&table, 2, 256), Some(12));
-    table.withdraw(2, 256);
-    assert_eq!(rt; element_at(&table, 2, 256), None);
+// The number of the first field of the template 256, where one is in force.
+fn has_element(rt: &impl Abort, table: &TemplateTable, domain: u32, number: Option<u16>) {
+    assert!(rt; element_at(table, domain, 256) == number);
+}
+
+#[test]
+fn keeps_the_last_definition(rt: HostRuntime) -> Result<(), Fail> {
+    let mut table = TemplateTable::new(rt.alloc());
+    define(rt.alloc(), &mut table, 1, Kind::Flow, 8)?;
+    define(rt.alloc(), &mut table, 2, Kind::Flow, 12)?;
+    has_element(&rt, &table, 1, Some(8));
+    has_element(&rt, &table, 2, Some(12));
+    assert!(rt; element_at(&table, 1, 257) == None);
+    define(rt.alloc(), &mut table, 1, Kind::Options, 27)?;
+    has_element(&rt, &table, 1, Some(27));
+    Ok(())
+}
+
+fn withdraw(table: &mut TemplateTable, domain: u32, id: u16) {
+    table.withdraw(domain, id);
+}
+
+fn withdraw_all(table: &mut TemplateTable, domain: u32, kind: Kind) {
+    table.withdraw_all(domain, kind);
+}
+
+#[test]
+fn forgets_what_is_withdrawn(rt: HostRuntime) -> Result<(), Fail> {
+    let mut table = TemplateTable::new(rt.alloc());
+    define(rt.alloc(), &mut table, 1, Kind::Flow, 8)?;
+    define(rt.alloc(), &mut table, 2, Kind::Flow, 12)?;
+    define(rt.alloc(), &mut table, 1, Kind::Options, 27)?;
+    withdraw(&mut table, 1, 257);
+    withdraw(&mut table, 3, 256);
+    withdraw_all(&mut table, 1, Kind::Flow);
+    has_element(&rt, &table, 1, Some(27));
+    withdraw_all(&mut table, 1, Kind::Options);
+    has_element(&rt, &table, 1, None);
+    has_element(&rt, &table, 2, Some(12));
+    withdraw(&mut table, 2, 256);
+    has_element(&rt, &table, 2, None);
     Ok(())
 }
 

@@ -82,6 +82,38 @@ fn label_text<'a>(alloc: Global, map: &'a MapText, addr: Addr) -> Result<&'a [u8
     Ok(text)
 }
 
+// The trie of a map, of which no more is said than its version.
+fn trie_of(alloc: Global, map: &MapText) -> Result<Trie, AllocError>
+    ensures { IfOk result (λ trie. trie.version ≡ map.now.version) }
+{
+    Trie::build(alloc, map)
+}
+
+fn addr(rt: &impl Abort, version: Version, value: u128) -> Addr
+    ensures { result.version ≡ version }
+{
+    Addr::new(version, value).expect(rt, "an address")
+}
+
+// The label with the number is that of the address, by the trie and by a scan.
+fn has_label(
+    rt: &impl Abort,
+    alloc: Global,
+    map: &MapText,
+    trie: &Trie,
+    addr: Addr,
+    label: u32,
+) -> Result<(), AllocError>
+    requires trie { addr.version ≡ trie.now.version }
+    requires map { addr.version ≡ map.now.version }
+{
+    assert!(rt; trie.label_at(addr) == Some(LabelId(label)));
+    let text = label_text(alloc, map, addr)?;
+    assert!(rt; map.labels.text(LabelId(label)) == Some(text));
+    assert!(rt; label_row(&Scan::new(map), addr) == Some(text));
+    Ok(())
+}
+
 // The trie of the map has these labels at these addresses.
 fn labels_are(
     rt: &impl Abort,
@@ -91,13 +123,9 @@ fn labels_are(
     wanted: &[(u128, u32)],
 ) -> Result<(), AllocError> {
     let map = map(rt, alloc, version, spans)?;
-    let trie = Trie::build(alloc, &map)?;
+    let trie = trie_of(alloc, &map)?;
     for &(value, label) in wanted {
-        let addr = Addr::new(version, value).expect(rt, "an address");
-        assert_eq!(rt; trie.label_at(addr), Some(LabelId(label)));
-        let text = label_text(alloc, &map, addr)?;
-        assert_eq!(rt; map.labels.text(LabelId(label)), Some(text));
-        assert_eq!(rt; label_row(&Scan::new(&map), addr), Some(text));
+        has_label(rt, alloc, &map, &trie, addr(rt, version, value), label)?;
     }
     Ok(())
 }
@@ -116,6 +144,25 @@ fn walk(leaves: &mut Leaves, place: &Cursor) -> Result<(), AllocError> {
     }
 }
 
+// The leaves that are met from the root.
+fn walked(alloc: Global, trie: &Trie) -> Result<Leaves, AllocError> {
+    let mut met = Leaves::new(alloc);
+    walk(&mut met, &trie.root())?;
+    Ok(met)
+}
+
+fn has_leaves(rt: &impl Abort, found: &Leaves, wanted: &Leaves) {
+    assert!(rt; !found.is_empty());
+    assert!(rt; found.as_slice() == wanted.as_slice(), "{wanted:?}");
+}
+
+// Each node has its number.
+fn counts_nodes(rt: &impl Abort, trie: &Trie) {
+    for number in 0..trie.node_count() {
+        assert!(rt; trie.node(number).number() == number);
+    }
+}
+
 // The trie of the map has leaves with these lowest addresses, lengths and labels, and a walk meets the same.
 fn leaves_are(
     rt: &impl Abort,
@@ -125,25 +172,18 @@ fn leaves_are(
     wanted: &[(u128, u32, u32)],
 ) -> Result<(), AllocError> {
     let map = map(rt, alloc, version, spans)?;
-    let trie = Trie::build(alloc, &map)?;
+    let trie = trie_of(alloc, &map)?;
     let mut leaves = Leaves::new(alloc);
     for &(value, len, label) in wanted {
         let block = Block::new(version, value, len).expect(rt, "a block");
-        leaves.push(Leaf {
-            block,
-            label: Some(LabelId(label)),
-        })?;
+        let label = Some(LabelId(label));
+        leaves.push(Leaf { block, label })?;
     }
-    let given = trie.leaves(alloc)?;
-    assert_eq!(rt; given.as_slice(), leaves.as_slice());
-    let mut met = Leaves::new(alloc);
-    assert!(rt; met.is_empty());
-    walk(&mut met, &trie.root())?;
-    assert_eq!(rt; met.as_slice(), leaves.as_slice());
+    has_leaves(rt, &trie.leaves(alloc)?, &leaves);
+    let met = walked(alloc, &trie)?;
+    has_leaves(rt, &met, &leaves);
     assert_eq!(rt; trie.node_count() as usize + 1, 2 * met.len());
-    for number in 0..trie.node_count() {
-        assert_eq!(rt; trie.node(number).number(), number);
-    }
+    counts_nodes(rt, &trie);
     Ok(())
 }
 

@@ -2,13 +2,17 @@ use pmap_text::{LabelId, Labels, is_label};
 use std::alloc::AllocError;
 use std::process::Abort;
 
+pub(super) fn has_text(rt: &impl Abort, labels: &Labels, id: u32, text: &[u8]) {
+    assert!(rt; labels.text(LabelId(id)) == Some(text));
+    assert!(rt; labels.id_of(text) == Some(LabelId(id)));
+}
+
 fn adds(rt: &impl Abort, labels: &mut Labels, text: &[u8], want: u32) -> Result<(), AllocError> {
     assert!(rt; is_label(text));
     assert!(rt; labels.len() < 65536);
     let id = labels.add(text)?;
-    assert_eq!(rt; id, LabelId(want));
-    assert_eq!(rt; labels.text(id), Some(text));
-    assert_eq!(rt; labels.id_of(text), Some(id));
+    assert!(rt; id == LabelId(want));
+    has_text(rt, labels, want, text);
     Ok(())
 }
 
@@ -23,10 +27,6 @@ fn numbers_texts_in_order_of_first_occurrence(rt: HostRuntime) -> Result<(), All
     assert_eq!(rt; labels.text(LabelId(2)), None);
     assert_eq!(rt; labels.id_of(b"C"), None);
     Ok(())
-}
-
-fn has_text(rt: &impl Abort, labels: &Labels, id: u32, text: &[u8]) {
-    assert_eq!(rt; labels.text(LabelId(id)), Some(text));
 }
 
 #[test]

@@ -1,6 +1,7 @@
-use super::maps::has_table;
-use pmap_text::{LabelId, MapFault, MapFaultKind, PrefixList, read_list};
+use super::maps::{has_table, is_fault};
+use pmap_text::{Entry, LabelId, MapFault, MapFaultKind, PrefixList, read_list};
 use prefix_keys::Version;
+use std::alloc::Global;
 use std::process::Abort;
 use std::test::Fail;
 
@@ -128,45 +129,62 @@ const FAULTS: [Faulty; 17] = [
     ),
 ];
 
-fn has_rows(rt: &impl Abort, list: &PrefixList, rows: &[Row]) {
-    assert_eq!(rt; list.entries.len(), rows.len());
-    for (entry, (start, len, label)) in list.entries.as_slice().iter().zip(rows) {
-        assert_eq!(rt; entry.block.version, list.version);
-        assert_eq!(rt; entry.block.value, *start);
-        assert_eq!(rt; entry.block.len, *len);
-        assert_eq!(rt; entry.label, LabelId(*label));
-    }
+// The list of a text, with nothing said of it.
+pub(super) fn list_in(alloc: Global, text: &[u8]) -> Result<PrefixList, MapFault> {
+    read_list(alloc, text)
 }
 
-#[test]
-fn reads_lists(rt: HostRuntime) -> Result<(), Fail> {
-    for (text, version, rows, table) in &LISTS {
-        let list = read_list(rt.alloc(), text)?;
-        assert_eq!(rt; list.version, *version, "at {text:?}");
-        assert!(rt; list.name.is_none());
-        has_rows(&rt, &list, rows);
-        has_table(&rt, &list.labels, table);
+fn is_row(rt: &impl Abort, entry: &Entry, version: Version, row: &Row) {
+    let (start, len, label) = row;
+    assert!(rt; entry.block.version == version);
+    assert!(rt; entry.block.value == *start);
+    assert!(rt; entry.block.len == *len);
+    assert!(rt; entry.label == LabelId(*label));
+}
+
+fn is_list(rt: &impl Abort, list: &PrefixList, case: &Reads) {
+    let (text, version, rows, table) = case;
+    assert!(rt; list.version == *version, "at {text:?}");
+    assert!(rt; list.name.is_none());
+    assert!(rt; list.entries.len() == rows.len(), "at {text:?}");
+    for (entry, row) in list.entries.as_slice().iter().zip(*rows) {
+        is_row(rt, entry, *version, row);
+    }
+    has_table(rt, &list.labels, table);
+}
+
+fn reads(rt: &impl Abort, alloc: Global, cases: &[Reads]) -> Result<(), Fail> {
+    for case in cases {
+        is_list(rt, &list_in(alloc, case.0)?, case);
     }
     Ok(())
 }
 
 #[test]
+fn reads_lists(rt: HostRuntime) -> Result<(), Fail> {
+    reads(&rt, rt.alloc(), &LISTS)
+}
+
+#[test]
 fn reads_an_empty_list(rt: HostRuntime) -> Result<(), Fail> {
-    let list = read_list(rt.alloc(), b"\n#\n")?;
-    assert_eq!(rt; list.version, Version::V4);
+    let list = list_in(rt.alloc(), b"\n#\n")?;
+    assert!(rt; list.version == Version::V4);
     assert!(rt; list.entries.is_empty());
     assert!(rt; list.labels.is_empty());
     Ok(())
 }
 
+fn fault_in(alloc: Global, text: &[u8]) -> Option<MapFault> {
+    read_list(alloc, text).err()
+}
+
+fn have_faults(rt: &impl Abort, alloc: Global, cases: &[Faulty]) {
+    for (text, kind, line) in cases {
+        is_fault(rt, text, fault_in(alloc, text), *kind, *line);
+    }
+}
+
 #[test]
 fn tells_the_first_fault(rt: HostRuntime) {
-    for (text, kind, line) in &FAULTS {
-        let fault = read_list(rt.alloc(), text).err();
-        let want = MapFault {
-            kind: *kind,
-            line: *line,
-        };
-        assert_eq!(rt; fault, Some(want), "at {text:?}");
-    }
+    have_faults(&rt, rt.alloc(), &FAULTS);
 }

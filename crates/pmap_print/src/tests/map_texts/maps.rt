@@ -1,4 +1,6 @@
-use pmap_text::{LabelId, Labels, MapFault, MapFaultKind, MapText, Name, read_list, read_map};
+use super::labels::has_text;
+use super::lists::list_in;
+use pmap_text::{LabelId, Labels, MapFault, MapFaultKind, MapText, Name, Statement, read_map};
 use prefix_keys::Version;
 use std::alloc::Global;
 use std::process::Abort;
@@ -210,33 +212,62 @@ const LABEL_NUMBERS: [Reads; 6] = [
     ),
 ];
 
+fn is_row(rt: &impl Abort, statement: &Statement, version: Version, row: &Row) {
+    let (low, high, label) = row;
+    assert!(rt; statement.span.low.version == version);
+    assert!(rt; statement.span.low.value == *low);
+    assert!(rt; statement.span.high.value == *high);
+    assert!(rt; statement.label == LabelId(*label));
+}
+
 fn has_rows(rt: &impl Abort, map: &MapText, rows: &[Row]) {
-    assert_eq!(rt; map.statements.len(), rows.len());
-    for (statement, (low, high, label)) in map.statements.as_slice().iter().zip(rows) {
-        assert_eq!(rt; statement.span.low.version, map.version);
-        assert_eq!(rt; statement.span.low.value, *low);
-        assert_eq!(rt; statement.span.high.value, *high);
-        assert_eq!(rt; statement.label, LabelId(*label));
+    assert!(rt; map.statements.len() == rows.len());
+    for (statement, row) in map.statements.as_slice().iter().zip(rows) {
+        is_row(rt, statement, map.version, row);
     }
 }
 
 pub(super) fn has_table(rt: &impl Abort, labels: &Labels, table: &[u8]) {
     let mut count = 0;
     for text in table.split(|byte| *byte == b'|') {
-        assert_eq!(rt; labels.text(LabelId(count)), Some(text));
+        has_text(rt, labels, count, text);
         count = count.wrapping_add(1);
     }
-    assert_eq!(rt; labels.len(), count as usize);
+    assert!(rt; labels.len() == count as usize);
+}
+
+// The map of a text, with nothing said of it.
+fn map_in(alloc: Global, text: &[u8]) -> Result<MapText, MapFault> {
+    read_map(alloc, text)
+}
+
+// The fault of a text, where it is no map.
+fn fault_in(alloc: Global, text: &[u8]) -> Option<MapFault> {
+    read_map(alloc, text).err()
+}
+
+pub(super) fn is_fault(
+    rt: &impl Abort,
+    text: &[u8],
+    found: Option<MapFault>,
+    kind: MapFaultKind,
+    line: u64,
+) {
+    assert!(rt; found == Some(MapFault { kind, line }), "at {text:?}");
+}
+
+fn is_map(rt: &impl Abort, map: &MapText, case: &Reads) {
+    let (text, version, rows, default, table) = case;
+    assert!(rt; map.version == *version, "at {text:?}");
+    assert!(rt; map.name.is_none());
+    assert!(rt; map.default == LabelId(*default), "at {text:?}");
+    has_rows(rt, map, rows);
+    has_table(rt, &map.labels, table);
 }
 
 fn reads(rt: &impl Abort, alloc: Global, cases: &[Reads]) -> Result<(), Fail> {
-    for (text, version, rows, default, table) in cases {
-        let map = read_map(alloc, text)?;
-        assert_eq!(rt; map.version, *version, "at {text:?}");
-        assert!(rt; map.name.is_none());
-        assert_eq!(rt; map.default, LabelId(*default), "at {text:?}");
-        has_rows(rt, &map, rows);
-        has_table(rt, &map.labels, table);
+    for case in cases {
+        is_map(rt, &map_in(alloc, case.0)?, case);
     }
     Ok(())
 }
@@ -256,21 +287,34 @@ fn reads_label_numbers(rt: HostRuntime) -> Result<(), Fail> {
     reads(&rt, rt.alloc(), &LABEL_NUMBERS)
 }
 
-#[test]
-fn reads_names(rt: HostRuntime) -> Result<(), Fail> {
-    let cases: [(&[u8], &[u8]); 4] = [
-        (b"map-name m\n", b"m"),
-        (b"map-name a b # c\r\n", b"a b"),
-        (b"map-name m\nmap-name n\n", b"n"),
-        (b"label 5 red\nmap-name 5\n", b"5"),
-    ];
+// A text, and its name.
+type Named = (&'static [u8], &'static [u8]);
+
+const NAMES: [Named; 4] = [
+    (b"map-name m\n", b"m"),
+    (b"map-name a b # c\r\n", b"a b"),
+    (b"map-name m\nmap-name n\n", b"n"),
+    (b"label 5 red\nmap-name 5\n", b"5"),
+];
+
+fn is_name(rt: &impl Abort, found: Option<&Name>, want: &[u8]) {
+    assert!(rt;
+        found.map(Name::as_bytes) == Some(want),
+        "not named {want:?}"
+    );
+}
+
+fn have_names(rt: &impl Abort, alloc: Global, cases: &[Named]) -> Result<(), Fail> {
     for (text, want) in cases {
-        let map = read_map(rt.alloc(), text)?;
-        assert_eq!(rt; map.name.as_ref().map(Name::as_bytes), Some(want));
-        let list = read_list(rt.alloc(), text)?;
-        assert_eq!(rt; list.name.as_ref().map(Name::as_bytes), Some(want));
+        is_name(rt, map_in(alloc, text)?.name.as_ref(), want);
+        is_name(rt, list_in(alloc, text)?.name.as_ref(), want);
     }
     Ok(())
+}
+
+#[test]
+fn reads_names(rt: HostRuntime) -> Result<(), Fail> {
+    have_names(&rt, rt.alloc(), &NAMES)
 }
 
 // A map text, the kind of its fault, and the line.
@@ -379,12 +423,7 @@ const ORDERED_FAULTS: [Faulty; 10] = [
 
 fn refuses(rt: &impl Abort, alloc: Global, cases: &[Faulty]) {
     for (text, kind, line) in cases {
-        let fault = read_map(alloc, text).err();
-        let want = MapFault {
-            kind: *kind,
-            line: *line,
-        };
-        assert_eq!(rt; fault, Some(want), "at {text:?}");
+        is_fault(rt, text, fault_in(alloc, text), *kind, *line);
     }
 }
 
@@ -395,23 +434,24 @@ fn tells_the_first_fault(rt: HostRuntime) {
     refuses(&rt, rt.alloc(), &ORDERED_FAULTS);
 }
 
+// The fault of the first bytes of the text of two mappings, where there are so many.
+fn fault_of_front(length: usize) -> Option<MapFault> {
+    let kind = match length % 13 {
+        0 | 12 => return None,
+        1..=7 => MapFaultKind::BadAddress,
+        9 => MapFaultKind::BadLength,
+        _ => MapFaultKind::MissingLabel,
+    };
+    let line = if length < 13 { 1 } else { 2 };
+    Some(MapFault { kind, line })
+}
+
 #[test]
 fn tells_the_fault_of_each_prefix(rt: HostRuntime) {
     for length in 0..27 {
         assert!(rt; length <= TWO_MAPPINGS.len());
-        let kind = match length % 13 {
-            0 | 12 => None,
-            1..=7 => Some(MapFaultKind::BadAddress),
-            9 => Some(MapFaultKind::BadLength),
-            _ => Some(MapFaultKind::MissingLabel),
-        };
-        let line = if length < 13 { 1 } else { 2 };
-        let fault = read_map(rt.alloc(), &TWO_MAPPINGS[..length]).err();
-        assert_eq!(rt;
-            fault,
-            kind.map(|kind| MapFault { kind, line }),
-            "at {length}"
-        );
+        let found = fault_in(rt.alloc(), &TWO_MAPPINGS[..length]);
+        assert!(rt; found == fault_of_front(length), "at {length}");
     }
 }
 
@@ -419,16 +459,15 @@ fn tells_the_fault_of_each_prefix(rt: HostRuntime) {
 fn reads_labels_of_255_bytes(rt: HostRuntime) -> Result<(), Fail> {
     let mut text = Vec::from_slice(rt.alloc(), b"default ")?;
     text.extend_from_slice(&[b'x'; 255])?;
-    let map = read_map(rt.alloc(), &text)?;
-    assert_eq!(rt; map.labels.text(map.default), Some([b'x'; 255].as_slice()));
+    let map = map_in(rt.alloc(), &text)?;
+    assert!(rt; map.labels.text(map.default) == Some([b'x'; 255].as_slice()));
     text.push(b'x')?;
-    let fault = read_map(rt.alloc(), &text).err();
-    assert_eq!(rt;
-        fault,
-        Some(MapFault {
-            kind: MapFaultKind::BadLabel,
-            line: 1
-        })
+    is_fault(
+        &rt,
+        b"default",
+        fault_in(rt.alloc(), &text),
+        MapFaultKind::BadLabel,
+        1,
     );
     Ok(())
 }
@@ -439,48 +478,52 @@ fn reads_a_million_mappings(rt: HostRuntime) -> Result<(), Fail> {
     for _ in 0..1_000_000 {
         text.extend_from_slice(b"1.0.0.0/8 A\n")?;
     }
-    let map = read_map(rt.alloc(), &text)?;
-    assert_eq!(rt; map.statements.len(), 1_000_000);
+    let map = map_in(rt.alloc(), &text)?;
+    assert!(rt; map.statements.len() == 1_000_000);
     text.extend_from_slice(b"default B\n1.0.0.0/8 A\n")?;
-    let fault = read_map(rt.alloc(), &text).err();
-    assert_eq!(rt;
-        fault,
-        Some(MapFault {
-            kind: MapFaultKind::TooMany,
-            line: 1_000_002
-        })
+    is_fault(
+        &rt,
+        b"default B",
+        fault_in(rt.alloc(), &text),
+        MapFaultKind::TooMany,
+        1_000_002,
     );
     Ok(())
 }
 
-#[test]
-fn reads_65535_labels(rt: HostRuntime) -> Result<(), Fail> {
-    let mut text = Vec::new(rt.alloc());
+// A text that declares 65,535 labels.
+fn many_labels(alloc: Global) -> Result<Vec<u8>, Fail> {
+    let mut text = Vec::new(alloc);
     for number in 1..65_536 {
-        let line = format!(in rt.alloc(); "label {number} t{number}\n")?;
+        let line = format!(in alloc; "label {number} t{number}\n")?;
         text.extend_from_slice(line.as_bytes())?;
     }
-    let size = text.len();
-    // A known label needs no room, and the `UNKNOWN` of a text without a default may be one more.
+    Ok(text)
+}
+
+// The fault of the text with a last line more.
+fn fault_with(alloc: Global, text: &[u8], line: &[u8]) -> Result<Option<MapFault>, Fail> {
+    let mut longer = Vec::from_slice(alloc, text)?;
+    longer.extend_from_slice(line)?;
+    Ok(fault_in(alloc, &longer))
+}
+
+// A known label needs no room, and the `UNKNOWN` of a text without a default may be one more.
+fn has_unknown_behind_the_limit(rt: &impl Abort, map: &MapText) {
+    assert!(rt; map.statements.len() == 2);
+    assert!(rt; map.labels.len() == 65_536);
+    assert!(rt; map.labels.id_of(b"UNKNOWN") == Some(LabelId(65_535)));
+    assert!(rt; map.default == LabelId(65_535));
+}
+
+#[test]
+fn reads_65535_labels(rt: HostRuntime) -> Result<(), Fail> {
+    let mut text = many_labels(rt.alloc())?;
+    let fault = fault_with(rt.alloc(), &text, b"label 65536 t65536\n")?;
+    is_fault(&rt, b"label", fault, MapFaultKind::TooMany, 65_536);
+    let fault = fault_with(rt.alloc(), &text, b"default UNKNOWN\n")?;
+    is_fault(&rt, b"default", fault, MapFaultKind::TooMany, 65_536);
     text.extend_from_slice(b"2.0.0.0/8 t7\n3.0.0.0/8 7\n")?;
-    let map = read_map(rt.alloc(), &text)?;
-    assert_eq!(rt; map.statements.len(), 2);
-    assert_eq!(rt; map.labels.len(), 65_536);
-    assert_eq!(rt; map.labels.id_of(b"UNKNOWN"), Some(LabelId(65_535)));
-    assert_eq!(rt; map.default, LabelId(65_535));
-    text.truncate(size);
-    text.extend_from_slice(b"label 65536 t65536\n")?;
-    let fault = read_map(rt.alloc(), &text).err();
-    assert_eq!(rt;
-        fault,
-        Some(MapFault {
-            kind: MapFaultKind::TooMany,
-            line: 65_536
-        })
-    );
-    text.truncate(size);
-    text.extend_from_slice(b"default UNKNOWN\n")?;
-    let fault = read_map(rt.alloc(), &text).err();
-    assert_eq!(rt; fault.map(|fault| fault.line), Some(65_536));
+    has_unknown_behind_the_limit(&rt, &map_in(rt.alloc(), &text)?);
     Ok(())
 }

@@ -1,0 +1,232 @@
+-- The printed text of a list is read as the list, and as a map with the same labels.
+use Rattle.std.proofs.Common.{◌≡◌, ℕ, suc, ◌+◌, ◌-◌, ◌%◌, ◌^◌, ◌<◌, ◌≤◌, ◌==◌, ◌&&◌, ◌⊎◌, ◌∙◌, inl, inr, Bool, true, false, not, List, [], ◌∷◌, ◌++◌, All, Contains, MatchOption, Option, Some, None, Result, Ok, Err, codes, get_or, length, map, refl, sym, ap, slice_get, subst, arith, IsTrue, unwrap_or}
+use Rattle.std.specs.List.{IsDistinct, list_all}
+use Rattle.std.specs.List.Sorted.{IsPermutation}
+use Rattle.std.specs.Option.{ForSome}
+use Rattle.std.proofs.lemmas.Bool.{and_from, and_parts, both_ways, eq-eqb, eqb-true, false_from_ne_true, not-true}
+use Rattle.std.proofs.lemmas.List.{length-append, length-map}
+use Rattle.std.proofs.lemmas.List.Elements.{All-append, All-cons, All-contains, All-map, All-nil, All-weaker}
+use Rattle.std.proofs.lemmas.List.Sorted.{All-permutation, length_permutation}
+use Rattle.std.proofs.lemmas.List.Sums.{AllPass-from_list_all}
+use Rattle.std.proofs.lemmas.Map.Keys.{IsDistinct-IsPermutation, IsDistinct-from_apart, apart_from_distinct}
+use Rattle.std.specs.Fmt.{decimal}
+use Rattle.prefix_keys.specs.Block.{block_number}
+use Rattle.prefix_keys.specs.Print.{address_text, block_text}
+use Rattle.prefix_keys.specs.Version.{width_of}
+use Rattle.prefix_keys.specs.declared.version.Version.{Version}
+use Rattle.prefix_keys.specs.declared.version.Version.TheVariants.{V4, V6}
+use Rattle.prefix_keys.proofs.Printed.{Lacks}
+use Rattle.pmap_cert.specs.ListForm.{HasBlock, IsInOrder}
+use Rattle.pmap_text.specs.Label.{IsLabelTable, is_label}
+use Rattle.pmap_text.specs.Lines.{lines_of}
+use Rattle.pmap_text.specs.ListModel.{IsEquivalent, ListModel, Prefix, label_below, list_label}
+use Rattle.pmap_text.specs.LongestMatch.{CoversAddress, IsLongestMatch, is_same_prefix}
+use Rattle.pmap_text.specs.MapModel.{Label, MapModel, Mapping, label_or, last_such, map_label, spans}
+use Rattle.pmap_text.specs.MapText.{text_at}
+use Rattle.pmap_text.specs.PrefixList.{list_of, prefix_of}
+use Rattle.pmap_text.specs.declared.entry.Entry.{Entry as ListEntry}
+use Rattle.pmap_text.specs.declared.prefix_list.PrefixList.{PrefixList}
+use Rattle.pmap_text.specs.Reading.{Entry, ReadsList, ReadsMap, ◌>>=◌, earlier_of, entries_from, label_limit, list_from, list_reading, map_from, map_reading, mapping_limit, unknown}
+use Rattle.pmap_text.specs.declared.fault.MapFault.{MapFault}
+use Rattle.pmap_text.specs.declared.form.Form.{Form}
+use Rattle.pmap_text.specs.declared.form.Form.TheVariants as form
+use Rattle.pmap_text.proofs.ListBlocks.{distinct-list_of}
+use Rattle.label_trie.proofs.Lookup.{known_text}
+use Rattle.pmap_text.proofs.ListLabels.{label-longest, label-same_prefixes, longest-match, once-distinct, same_prefixes-permuted}
+use Rattle.pmap_print.specs.List.{entry_line, list_lines, list_text, mode_line, name_lines}
+use Rattle.pmap_print.specs.Order.{in_order, starts_alike}
+use Rattle.pmap_print.specs.ReadBack.{CanBeReadAgain, IsListAgain, IsMapAgain, IsPrintedEntry, labels_of, mapping_of_prefix}
+use Rattle.pmap_print.specs.Table.{Text}
+use Rattle.pmap_print.proofs.LastMatch.{last-found, match-in}
+use Rattle.pmap_print.proofs.Order.{alike-flips, in_order-moves, in_order-order}
+use Rattle.pmap_print.proofs.ReadLines.{name-high, short}
+use Rattle.pmap_print.proofs.ReadList.{HasRead, lines-read}
+use Rattle.pmap_print.proofs.WordLines.{high-block, line-lacks_feed, lines-text}
+
+-- no printed line has a line feed in it
+mode-feed : (version : Version) → Lacks 10 (mode_line version)
+mode-feed V4 =
+    All-weaker (λ b. not (b == 10) ≡ true) (λ b. (b == 10) ≡ false) (λ b h. not-true (b == 10) h) (mode_line V4)
+    (AllPass-from_list_all (λ b. not (b == 10)) (mode_line V4) refl)
+mode-feed V6 =
+    All-weaker (λ b. not (b == 10) ≡ true) (λ b. (b == 10) ≡ false) (λ b h. not-true (b == 10) h) (mode_line V6)
+    (AllPass-from_list_all (λ b. not (b == 10)) (mode_line V6) refl)
+
+name-feed : (name : Option Label) → ForSome name (λ n. IsTrue (is_label n)) → All (Lacks 10) (name_lines name)
+name-feed None label = All-nil (Lacks 10)
+name-feed (Some name) label =
+    All-cons (Lacks 10) (codes "map-name" ++ 32 ∷ name) []
+    (line-lacks_feed (codes "map-name") name (omega arith) name-high (label name refl)) (All-nil (Lacks 10))
+
+entry-feed : (version : Version) (p : Prefix) → IsPrintedEntry version p → Lacks 10 (entry_line version p)
+entry-feed version p is =
+    line-lacks_feed (block_text version p.start p.bits) p.label
+    (omega (arith, length-append (address_text version p.start) (47 ∷ decimal p.bits)))
+    (high-block version p.start p.bits (short version p.bits is.block.bits)) is.label
+
+lines-feed : (version : Version) (name : Option Label) (ps : List Prefix) → ForSome name (λ n. IsTrue (is_label n)) → All (IsPrintedEntry version) ps
+    → All (Lacks 10) (name_lines name ++ mode_line version ∷ map (entry_line version) ps)
+lines-feed version name ps label each =
+    All-append (Lacks 10) (name_lines name) (mode_line version ∷ map (entry_line version) ps) (name-feed name label)
+    (All-cons (Lacks 10) (mode_line version) (map (entry_line version) ps) (mode-feed version)
+    (All-map (Lacks 10) (entry_line version) ps
+    (All-weaker (IsPrintedEntry version) (λ p. Lacks 10 (entry_line version p)) (entry-feed version) ps each)))
+
+-- other blocks begin elsewhere or have another length
+alike-same : (W : ℕ) (p r : Prefix) → starts_alike p r ≡ true → is_same_prefix W p r ≡ true
+alike-same W p r e =
+    let parts = and_parts (p.start == r.start) (p.bits == r.bits) e in
+    let start : p.start ≡ r.start = eqb-true p.start r.start parts.0 in
+    let bits : p.bits ≡ r.bits = eqb-true p.bits r.bits parts.1 in
+    and_from (p.bits == r.bits) (block_number W p.bits p.start == block_number W r.bits r.start) parts.1
+    (eq-eqb _ _ (ap (λ n. block_number W n p.start) bits ∙ ap (block_number W r.bits) start))
+
+alike-distinct : (W : ℕ) (ps : List Prefix) → IsDistinct (is_same_prefix W) ps → IsDistinct starts_alike ps
+alike-distinct W ps distinct =
+    IsDistinct-from_apart starts_alike ps
+    (λ i j d under within. false_from_ne_true (starts_alike (get_or ps i d) (get_or ps j d))
+    (λ e. both_ways (is_same_prefix W (get_or ps i d) (get_or ps j d)) (apart_from_distinct (is_same_prefix W) ps i j d distinct under within)
+    (alike-same W (get_or ps i d) (get_or ps j d) e)))
+
+-- the label of an address that no entry covers
+none-label : (W a : ℕ) (ps : List Prefix) → All (λ p. ¬ CoversAddress W a p) ps → label_below W ps (suc W) a ≡ None
+none-label W a ps none = by (label_below W ps (suc W) a) refl (longest-match W ps a)
+  where
+    by : (o : Option Label) → label_below W ps (suc W) a ≡ o
+        → MatchOption o (All (λ p. CoversAddress W a p → ⊥) ps) (λ x. (p : Prefix) × IsLongestMatch W ps a p × (p.label ≡ x))
+        → label_below W ps (suc W) a ≡ None
+    by None e match = e
+    by (Some x) e match =
+        absurd (All-contains (λ p. ¬ CoversAddress W a p) ps match.0 none (match-in W a ps match.0 match.1) ((match.1).covers))
+
+-- the last statement has the label of the longest match
+found-label : (W a : ℕ) (ps : List Prefix)
+    → ((last_such (spans a) (map (mapping_of_prefix W) ps) ≡ None) × All (λ p. ¬ CoversAddress W a p) ps)
+    ⊎ ((p : Prefix) × (last_such (spans a) (map (mapping_of_prefix W) ps) ≡ Some (mapping_of_prefix W p)) × IsLongestMatch W ps a p)
+    → label_or (last_such (spans a) (map (mapping_of_prefix W) ps)) unknown ≡ unwrap_or (label_below W ps (suc W) a) unknown
+found-label W a ps (inl none) =
+    ap (λ (o : Option Mapping). label_or o unknown) none.0 ∙ sym (ap (λ (o : Option Label). unwrap_or o unknown) (none-label W a ps none.1))
+found-label W a ps (inr found) =
+    ap (λ (o : Option Mapping). label_or o unknown) found.1
+    ∙ sym (ap (λ (o : Option Label). unwrap_or o unknown) (label-longest W ps a found.0 found.2))
+
+module _ (l : ListModel) (can : CanBeReadAgain l) where
+  distinct : IsDistinct starts_alike l.prefixes
+  distinct = alike-distinct (width_of l.version) l.prefixes can.distinct
+
+  moved : IsPermutation l.prefixes (in_order l.prefixes)
+  moved = in_order-moves l.prefixes
+
+  each : All (IsPrintedEntry l.version) (in_order l.prefixes)
+  each = All-permutation (IsPrintedEntry l.version) l.prefixes (in_order l.prefixes) moved can.entries
+
+  -- what its lines say
+  read : (kind : Form) → (es : List Entry)
+      × (entries_from kind [] 0 (lines_of (list_text l)) ≡ Ok es)
+      × HasRead kind l.version l.name (earlier_of es) (in_order l.prefixes)
+  read kind =
+      let found = lines-read kind l.version l.name (in_order l.prefixes) can.name each
+      (IsDistinct-IsPermutation starts_alike alike-flips l.prefixes (in_order l.prefixes) moved distinct)
+      (omega (arith, can.few_entries, length_permutation l.prefixes (in_order l.prefixes) moved)) can.few_labels in (
+        found.0,
+        ap (entries_from kind [] 0) (lines-text (list_lines l) (lines-feed l.version l.name (in_order l.prefixes) can.name each)) ∙ found.1,
+        found.2,
+      )
+
+  pub list-again : (r : ListModel) × ReadsList (list_text l) r × IsListAgain l r
+  list-again =
+      let found = read form.List in (
+        list_from (earlier_of found.0),
+        ap (λ (r : Result (List Entry) MapFault). r >>= (λ entries. Ok (list_from (earlier_of entries)))) found.1,
+        record {
+          version = ap (λ (o : Option Version). unwrap_or o V4) found.2.version_is;
+          name = found.2.name_is;
+          prefixes = found.2.entries;
+        },
+      )
+
+  -- the entries in order label as the list does
+  pub order-label : (a : ℕ) → list_label l a ≡ label_below (width_of l.version) (in_order l.prefixes) (suc (width_of l.version)) a
+  order-label a =
+      label-same_prefixes (width_of l.version) l.prefixes (in_order l.prefixes) a (once-distinct (width_of l.version) l.prefixes can.distinct)
+      (same_prefixes-permuted l.prefixes (in_order l.prefixes) moved)
+
+  -- the last statement of the text that covers an address has the list's label
+  same-label : (a : ℕ) → label_or (last_such (spans a) (map (mapping_of_prefix (width_of l.version)) (in_order l.prefixes))) unknown
+      ≡ unwrap_or (list_label l a) unknown
+  same-label a =
+      rw (order-label a)
+      (found-label (width_of l.version) a (in_order l.prefixes)
+      (last-found (width_of l.version) a (in_order l.prefixes) (in_order-order l.prefixes distinct)
+      (All-weaker (IsPrintedEntry l.version) (HasBlock (width_of l.version)) (λ p is. is.block) (in_order l.prefixes) each)))
+
+  pub map-again : (m : MapModel) × ReadsMap (list_text l) m × IsMapAgain l m
+  map-again =
+      let found = read form.Map in (
+        map_from (earlier_of found.0),
+        ap (λ (r : Result (List Entry) MapFault). r >>= (λ entries. Ok (map_from (earlier_of entries)))) found.1,
+        record {
+          version = ap (λ (o : Option Version). unwrap_or o V4) found.2.version_is;
+          name = found.2.name_is;
+          labels = λ a _. ap (λ (ms : List Mapping). label_or (last_such (spans a) ms) (unwrap_or (earlier_of found.0).fallback unknown)) found.2.entries
+              ∙ ap (λ (o : Option Label). label_or (last_such (spans a) (map (mapping_of_prefix (width_of l.version)) (in_order l.prefixes))) (unwrap_or o unknown)) found.2.fallback
+              ∙ same-label a;
+        },
+      )
+
+-- where the list labels each address as a map does, so do both readings of its text
+pub map-equivalent : (l : ListModel) (m : MapModel) → CanBeReadAgain l → IsEquivalent l m
+    → (again : MapModel) × ReadsMap (list_text l) again × (again.version ≡ m.version)
+    × ((a : ℕ) → a < 2 ^ width_of m.version → map_label again a ≡ map_label m a)
+map-equivalent l m can alike =
+    let found = map-again l can in (
+      found.0,
+      found.1,
+      (found.2).version ∙ alike.version,
+      λ a below. (found.2).labels a (subst (λ (v : Version). a < 2 ^ width_of v) (sym alike.version) below)
+          ∙ ap (λ (o : Option Label). unwrap_or o unknown) (alike.labels a below),
+    )
+
+again-label : (l r : ListModel) → CanBeReadAgain l → IsListAgain l r → (a : ℕ) → list_label r a ≡ list_label l a
+again-label l r can is a =
+    ap (λ (v : Version). label_below (width_of v) r.prefixes (suc (width_of v)) a) is.version
+    ∙ ap (λ (ps : List Prefix). label_below (width_of l.version) ps (suc (width_of l.version)) a) is.prefixes
+    ∙ sym (order-label l can a)
+
+pub list-equivalent : (l : ListModel) (m : MapModel) → CanBeReadAgain l → IsEquivalent l m
+    → (again : ListModel) × ReadsList (list_text l) again × IsEquivalent again m
+list-equivalent l m can alike =
+    let found = list-again l can in (
+      found.0,
+      found.1,
+      record {
+        version = (found.2).version ∙ alike.version;
+        labels = λ a below. again-label l found.0 can found.2 a ∙ alike.labels a below;
+      },
+    )
+
+-- a prefix list can be read again
+entry-printed : (l : PrefixList) → IsLabelTable l.labels → (k : ℕ) (d : ListEntry) → k < length l.entries
+    → IsPrintedEntry l.version (prefix_of l.labels (get_or l.entries k d))
+entry-printed l is k d below =
+    let e : ListEntry = get_or l.entries k d in
+    let same : e.block.version ≡ l.version = l.one_version k d below in
+    let known : slice_get l.labels e.label.0 ≡ Some (text_at l.labels e.label.0) = known_text l.labels e.label.0 (l.numbers_known k d below) in
+    record {
+      block = record {
+        bits = subst (λ (v : Version). e.block.len ≤ width_of v) same e.block.len_in_range;
+        start = subst (λ (v : Version). e.block.value < 2 ^ width_of v) same e.block.in_range;
+        no_host_bit = subst (λ (v : Version). e.block.value % 2 ^ (width_of v - e.block.len) ≡ 0) same e.block.no_host_bit;
+      };
+      label = is.labels e.label.0 (text_at l.labels e.label.0) known;
+    }
+
+pub list-printable : (l : PrefixList) → IsLabelTable l.labels → ForSome l.name (λ n. IsTrue (is_label n)) → length l.entries ≤ mapping_limit
+    → length (labels_of (in_order (list_of l).prefixes)) ≤ label_limit → CanBeReadAgain (list_of l)
+list-printable l is name few few_labels = record {
+  entries = All-map (IsPrintedEntry l.version) (prefix_of l.labels) l.entries (entry-printed l is);
+  distinct = distinct-list_of l;
+  name = name;
+  few_entries = omega (arith, few, length-map l.entries (prefix_of l.labels));
+  few_labels = few_labels;
+}

@@ -1,0 +1,175 @@
+-- What the printed lines of a list say, read as a list and read as a map.
+use Rattle.std.proofs.Common.{◌≡◌, ℕ, zero, suc, ◌+◌, ◌-◌, ◌%◌, ◌^◌, ◌<◌, ◌≤◌, ◌==◌, ◌&&◌, ◌||◌, ◌∙◌, Bool, true, false, cond, List, [], ◌∷◌, ◌++◌, All, Option, Some, None, Result, Ok, Err, codes, fold, length, map, nat_le, nat_lt, refl, sym, ap, subst, arith, IsTrue}
+use Rattle.std.specs.Fmt.{decimal}
+use Rattle.std.specs.List.{flat_map, list_any}
+use Rattle.std.specs.Option.{option_or}
+use Rattle.std.specs.Str.{bytes_eq}
+use Rattle.std.proofs.lemmas.Bool.{both_ways, false_from_ne_true, leb-true, lt-ltb}
+use Rattle.std.proofs.lemmas.List.Elements.{All-weaker}
+use Rattle.std.proofs.lemmas.List.Sums.{AllPass-from_list_all}
+use Rattle.std.proofs.lemmas.List.{append_assoc, append-nil, length-append}
+use Rattle.std.proofs.lemmas.Slice.Eq.{bytes_eq-Decides}
+use Rattle.prefix_keys.specs.Block.{block_number, last_of}
+use Rattle.prefix_keys.specs.Print.{address_text, block_text}
+use Rattle.prefix_keys.specs.Text.{BlockOf, block_of_text}
+use Rattle.prefix_keys.specs.Version.{width_of}
+use Rattle.prefix_keys.specs.declared.block.Block.{Block}
+use Rattle.prefix_keys.specs.declared.text.BlockFault.{BlockFault}
+use Rattle.prefix_keys.specs.declared.version.Version.{Version}
+use Rattle.prefix_keys.specs.declared.version.Version.TheVariants.{V4, V6}
+use Rattle.prefix_keys.proofs.ReadBack.{block_is_read_back}
+use Rattle.pmap_cert.specs.CertificateText.{version_word}
+use Rattle.pmap_cert.specs.ListForm.{HasBlock}
+use Rattle.pmap_text.specs.Declarations.{label_number, meant_text, text_of_number}
+use Rattle.pmap_text.specs.Label.{is_label, with_label}
+use Rattle.pmap_text.specs.Lines.{behind_word, content_of, first_word}
+use Rattle.pmap_text.specs.ListModel.{Prefix}
+use Rattle.pmap_text.specs.MapModel.{Label, Mapping}
+use Rattle.pmap_text.specs.Reading.{Decides, Earlier, Entry, Lists, Maps, Names, block_line, content_line, earlier_of, has_prefix, has_room, label_of, line_entry, mapping_limit, name_line, number_in, placed_line, statement_line}
+use Rattle.pmap_text.specs.declared.fault.MapFaultKind.{MapFaultKind}
+use Rattle.pmap_text.specs.declared.form.Form.{Form}
+use Rattle.pmap_text.specs.declared.form.Form.TheVariants as form
+use Rattle.pmap_print.specs.List.{entry_line, mode_line}
+use Rattle.pmap_print.specs.ReadBack.{IsPrintedEntry, mapping_of_prefix}
+use Rattle.pmap_print.specs.Table.{Text}
+use Rattle.pmap_print.proofs.WordLines.{high-block, label-parts, line-behind_word, line-content, line-first_word}
+
+-- a line of a word and a label is read by its words
+content-word : (kind : Form) (earlier : Earlier) (text : Text) → 0 < length text
+    → content_line kind earlier text ≡ statement_line kind earlier (first_word text) (behind_word text)
+content-word kind earlier [] some = absurd (omega (arith, some))
+content-word kind earlier (b ∷ bs) some = refl
+
+pub word-line : (kind : Form) (earlier : Earlier) (word label : Text) → 0 < length word → All (λ b. 45 ≤ b) word → is_label label ≡ true
+    → line_entry kind earlier (word ++ 32 ∷ label) ≡ statement_line kind earlier word label
+word-line kind earlier word label some high is =
+    ap (content_line kind earlier) (line-content word label some high is)
+    ∙ content-word kind earlier (word ++ 32 ∷ label) (omega (arith, some, length-append word (32 ∷ label)))
+    ∙ ap (λ w. statement_line kind earlier w (behind_word (word ++ 32 ∷ label))) (line-first_word word label some high is)
+    ∙ ap (statement_line kind earlier word) (line-behind_word word label some high is)
+
+-- a label is read as itself where no number is declared
+label_of-label : (label : Label) → is_label label ≡ true → label_of label ≡ Ok label
+label_of-label [] is = absurd (both_ways false refl is)
+label_of-label (b ∷ bs) is = rw is refl
+
+meant-number : (label : Label) (number : Option ℕ) → text_of_number [] label number ≡ label
+meant-number label None = refl
+meant-number label (Some number) = refl
+
+meant-label : (label : Label) → meant_text [] label ≡ label
+meant-label label = meant-number label (label_number label)
+
+-- the name
+pub name-high : All (λ b. 45 ≤ b) (codes "map-name")
+name-high =
+    All-weaker (λ b. nat_le 45 b ≡ true) (λ b. 45 ≤ b) (λ b h. leb-true 45 b h) (codes "map-name")
+    (AllPass-from_list_all (nat_le 45) (codes "map-name") refl)
+
+pub name-entry : (kind : Form) (earlier : Earlier) (name : Label) → is_label name ≡ true
+    → line_entry kind earlier (codes "map-name" ++ 32 ∷ name) ≡ Ok (Names name)
+name-entry kind earlier name is =
+    word-line kind earlier (codes "map-name") name (omega arith) name-high is ∙ rw (label_of-label name is) refl
+
+-- the version
+pub mode-entry : (kind : Form) (version : Version) → line_entry kind (earlier_of []) (mode_line version) ≡ Ok (Decides version)
+mode-entry form.Map V4 = refl
+mode-entry form.Map V6 = refl
+mode-entry form.List V4 = refl
+mode-entry form.List V6 = refl
+
+pub mode-entry-named : (kind : Form) (name : Label) (version : Version) → line_entry kind (earlier_of (Names name ∷ [])) (mode_line version) ≡ Ok (Decides version)
+mode-entry-named form.Map name V4 = refl
+mode-entry-named form.Map name V6 = refl
+mode-entry-named form.List name V4 = refl
+mode-entry-named form.List name V6 = refl
+
+-- an entry's block
+slash-in : (front back : Text) → list_any (λ b. b == 47) (front ++ 47 ∷ back) ≡ true
+slash-in [] back = refl
+slash-in (b ∷ bs) back = by (b == 47) (slash-in bs back)
+  where
+    by : (t : Bool) → list_any (λ b. b == 47) (bs ++ 47 ∷ back) ≡ true → (t || list_any (λ b. b == 47) (bs ++ 47 ∷ back)) ≡ true
+    by true rest = refl
+    by false rest = rest
+
+other-word : (word other : Text) → list_any (λ b. b == 47) word ≡ true → list_any (λ b. b == 47) other ≡ false → bytes_eq word other ≡ false
+other-word word other has lacks =
+    false_from_ne_true (bytes_eq word other)
+    (λ same. let e : word ≡ other = (bytes_eq-Decides word other).0 same in
+    both_ways (list_any (λ b. b == 47) other) lacks (subst (λ (w : Text). list_any (λ b. b == 47) w ≡ true) e has))
+
+block-statement : (kind : Form) (earlier : Earlier) (word label : Text) → list_any (λ b. b == 47) word ≡ true
+    → statement_line kind earlier word label ≡ block_line kind earlier (block_of_text word) label
+block-statement kind earlier word label has =
+    rw (
+      other-word word (codes "map-name") has refl,
+      other-word word (codes "mode") has refl,
+      other-word word (codes "label") has refl,
+      other-word word (codes "default") has refl,
+      has,
+    ) refl
+
+module _ (version : Version) (p : Prefix) (is : IsPrintedEntry version p) where
+  abbrev block : Block
+  block = record {
+    version = version;
+    value = p.start;
+    len = p.bits;
+    len_in_range = is.block.bits;
+    in_range = is.block.start;
+    no_host_bit = is.block.no_host_bit;
+  }
+
+  read-block : block_of_text (block_text version p.start p.bits) ≡ Ok (version, p.start, p.bits)
+  read-block = block_is_read_back block
+
+own-number : (version : Version) (start : ℕ) → number_in version (version, start) ≡ Ok start
+own-number V4 start = refl
+own-number V6 start = refl
+
+own-block : (kind : Form) (earlier : Earlier) (version : Version) (start bits : ℕ) (rest : Text) → earlier.version ≡ Some version
+    → block_line kind earlier (Ok (version, start, bits)) rest ≡ placed_line kind earlier version start bits rest
+own-block kind earlier version start bits rest decided =
+    let same : bits + (width_of version - width_of version) ≡ bits = omega arith in
+    rw (decided, own-number version start, same) refl
+
+-- where there is room, the line of an entry is read as that entry
+placed-list : (earlier : Earlier) (version : Version) (p : Prefix) → is_label p.label ≡ true → earlier.declared ≡ []
+    → has_prefix earlier.prefixes p.start p.bits ≡ false → length earlier.prefixes < mapping_limit → has_room earlier.table p.label ≡ true
+    → placed_line form.List earlier version p.start p.bits p.label ≡ Ok (Lists version p)
+placed-list earlier version p is none new few room =
+    rw (label_of-label p.label is, none, meant-label p.label, new, lt-ltb _ _ few, room) refl
+
+placed-map : (earlier : Earlier) (version : Version) (p : Prefix) → is_label p.label ≡ true → earlier.declared ≡ []
+    → length earlier.mappings < mapping_limit → has_room earlier.table p.label ≡ true
+    → placed_line form.Map earlier version p.start p.bits p.label ≡ Ok (Maps version (mapping_of_prefix (width_of version) p))
+placed-map earlier version p is none few room =
+    rw (label_of-label p.label is, none, meant-label p.label, lt-ltb _ _ few, room) refl
+
+pub short : (version : Version) (bits : ℕ) → bits ≤ width_of version → bits < 2 ^ 63
+short V4 bits le = omega (arith, le)
+short V6 bits le = omega (arith, le)
+
+placed-entry : (kind : Form) (earlier : Earlier) (version : Version) (p : Prefix) → IsPrintedEntry version p → earlier.version ≡ Some version
+    → line_entry kind earlier (entry_line version p) ≡ placed_line kind earlier version p.start p.bits p.label
+placed-entry kind earlier version p is decided =
+    let word = block_text version p.start p.bits in
+    word-line kind earlier word p.label
+    (omega (arith, length-append (address_text version p.start) (47 ∷ decimal p.bits)))
+    (high-block version p.start p.bits (short version p.bits is.block.bits)) is.label
+    ∙ block-statement kind earlier word p.label (slash-in (address_text version p.start) (decimal p.bits))
+    ∙ ap (λ (r : Result BlockOf BlockFault). block_line kind earlier r p.label) (read-block version p is)
+    ∙ own-block kind earlier version p.start p.bits p.label decided
+
+pub list-entry : (earlier : Earlier) (version : Version) (p : Prefix) → IsPrintedEntry version p → earlier.version ≡ Some version
+    → earlier.declared ≡ [] → has_prefix earlier.prefixes p.start p.bits ≡ false → length earlier.prefixes < mapping_limit
+    → has_room earlier.table p.label ≡ true → line_entry form.List earlier (entry_line version p) ≡ Ok (Lists version p)
+list-entry earlier version p is decided none new few room =
+    placed-entry form.List earlier version p is decided ∙ placed-list earlier version p is.label none new few room
+
+pub map-entry : (earlier : Earlier) (version : Version) (p : Prefix) → IsPrintedEntry version p → earlier.version ≡ Some version
+    → earlier.declared ≡ [] → length earlier.mappings < mapping_limit → has_room earlier.table p.label ≡ true
+    → line_entry form.Map earlier (entry_line version p) ≡ Ok (Maps version (mapping_of_prefix (width_of version) p))
+map-entry earlier version p is decided none few room =
+    placed-entry form.Map earlier version p is decided ∙ placed-map earlier version p is.label none few room

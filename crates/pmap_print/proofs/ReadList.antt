@@ -1,0 +1,190 @@
+-- The printed text of a list, read as a list and as a map.
+use Rattle.std.proofs.Common.{◌≡◌, ℕ, zero, suc, ◌+◌, ◌-◌, ◌^◌, ◌<◌, ◌≤◌, ◌==◌, ◌&&◌, ◌||◌, ◌⊎◌, ◌∙◌, inl, inr, Bool, true, false, cond, List, [], ◌∷◌, ◌++◌, All, Contains, Option, Some, None, Result, Ok, Err, codes, fold, get_or, length, map, nat_lt, option_map, refl, sym, ap, subst, arith, IsTrue, unwrap_or}
+use Rattle.std.specs.List.{AllByRecursion, IsDistinct, list_any}
+use Rattle.std.specs.Option.{ForSome, option_or}
+use Rattle.std.proofs.lemmas.Bool.{and_from, and_parts, both_ways, eq-eqb, eqb-true, false_from_ne_true, lt-ltb, or_left, or_right}
+use Rattle.std.proofs.lemmas.List.{append_assoc, append-nil, get_or_append_left, get_or_at, length-append, length-map, map-append}
+use Rattle.std.proofs.lemmas.List.Elements.{All-cons, All-head, All-map, All-nil, All-tail, All-weaker, recursion_from_All}
+use Rattle.std.proofs.lemmas.List.Folds.{list_any_none}
+use Rattle.std.proofs.lemmas.List.Sorted.{All-permutation, length_permutation}
+use Rattle.std.proofs.lemmas.List.Sums.{fold-append}
+use Rattle.std.proofs.lemmas.Map.Keys.{IsDistinct-IsPermutation, IsDistinct-from_apart, apart_from_distinct}
+use Rattle.prefix_keys.specs.Block.{block_number}
+use Rattle.prefix_keys.specs.Version.{width_of}
+use Rattle.prefix_keys.specs.declared.version.Version.{Version}
+use Rattle.pmap_text.specs.Label.{has_label, is_label, with_label}
+use Rattle.pmap_text.specs.ListModel.{ListModel, Prefix}
+use Rattle.pmap_text.specs.LongestMatch.{HasDistinctPrefixes, is_same_prefix}
+use Rattle.pmap_text.specs.MapModel.{Label, Mapping}
+use Rattle.pmap_text.specs.Reading.{Decides, Earlier, Entry, Lists, Maps, Names, earlier_of, entries_from, has_prefix, has_room, label_limit, line_entry, mapping_limit}
+use Rattle.pmap_text.specs.Steps.{added}
+use Rattle.pmap_text.specs.declared.fault.MapFaultKind.{MapFaultKind}
+use Rattle.pmap_text.specs.declared.form.Form.{Form}
+use Rattle.pmap_text.specs.declared.form.Form.TheVariants as form
+use Rattle.pmap_text.proofs.LineEntries.{earlier_of-push}
+use Rattle.pmap_text.proofs.ProgressSteps.{length-with_label}
+use Rattle.pmap_print.specs.List.{entry_line, mode_line, name_lines}
+use Rattle.pmap_print.specs.Order.{in_order, starts_alike}
+use Rattle.pmap_print.specs.ReadBack.{IsPrintedEntry, labels_of, mapping_of_prefix}
+use Rattle.pmap_print.specs.Table.{Text}
+use Rattle.pmap_print.proofs.ReadLines.{list-entry, map-entry, mode-entry, mode-entry-named, name-entry}
+
+-- what the line of an entry says
+abbrev pub said : Form → Version → Prefix → Entry
+said form.List version p = Lists version p
+said form.Map version p = Maps version (mapping_of_prefix (width_of version) p)
+
+-- what was read is these entries
+abbrev pub AreEntries : Form → Version → Earlier → List Prefix → Type 0
+AreEntries form.List version earlier done = earlier.prefixes ≡ done
+AreEntries form.Map version earlier done = earlier.mappings ≡ map (mapping_of_prefix (width_of version)) done
+
+-- what the lines so far say: the name, the version, and these entries
+pub record HasRead (kind : Form) (version : Version) (name : Option Label) (earlier : Earlier) (done : List Prefix) : Type 0 where
+  pub version_is : earlier.version ≡ Some version
+  pub name_is : earlier.name ≡ name
+  pub declared : earlier.declared ≡ []
+  pub fallback : earlier.fallback ≡ None
+  pub entries : AreEntries kind version earlier done
+  pub table : earlier.table ≡ labels_of done
+
+-- the labels of one entry more
+labels-push : (done : List Prefix) (p : Prefix) → labels_of (done ++ p ∷ []) ≡ with_label (labels_of done) p.label
+labels-push done p =
+    ap (fold with_label []) (map-append (λ (r : Prefix). r.label) done (p ∷ []))
+    ∙ fold-append with_label [] (map (λ (r : Prefix). r.label) done) (p.label ∷ [])
+
+-- one entry more was read
+has_read-added : (kind : Form) (version : Version) (name : Option Label) (earlier : Earlier) (done : List Prefix) (p : Prefix)
+    → HasRead kind version name earlier done → HasRead kind version name (added earlier (said kind version p)) (done ++ p ∷ [])
+has_read-added form.List version name earlier done p has = record {
+  version_is = rw has.version_is refl;
+  name_is = has.name_is;
+  declared = has.declared;
+  fallback = has.fallback;
+  entries = ap (λ (ps : List Prefix). ps ++ p ∷ []) has.entries;
+  table = ap (λ (t : List Label). with_label t p.label) has.table ∙ sym (labels-push done p);
+}
+has_read-added form.Map version name earlier done p has = record {
+  version_is = rw has.version_is refl;
+  name_is = has.name_is;
+  declared = has.declared;
+  fallback = has.fallback;
+  entries = ap (λ (ms : List Mapping). ms ++ mapping_of_prefix (width_of version) p ∷ []) has.entries
+      ∙ sym (map-append (mapping_of_prefix (width_of version)) done (p ∷ []));
+  table = ap (λ (t : List Label). with_label t p.label) has.table ∙ sym (labels-push done p);
+}
+
+has_read-push : (kind : Form) (version : Version) (name : Option Label) (es : List Entry) (done : List Prefix) (p : Prefix)
+    → HasRead kind version name (earlier_of es) done → HasRead kind version name (earlier_of (es ++ said kind version p ∷ [])) (done ++ p ∷ [])
+has_read-push kind version name es done p has =
+    subst (λ (e : Earlier). HasRead kind version name e (done ++ p ∷ [])) (sym (earlier_of-push es (said kind version p)))
+    (has_read-added kind version name (earlier_of es) done p has)
+
+-- the block of an entry is none of those before it
+block-new : (done : List Prefix) (p : Prefix) (ps : List Prefix) → IsDistinct starts_alike (done ++ p ∷ ps)
+    → list_any (λ (r : Prefix). r.start == p.start && r.bits == p.bits) done ≡ false
+block-new done p ps distinct =
+    list_any_none (λ (r : Prefix). r.start == p.start && r.bits == p.bits) done
+    (λ k d below.
+    let apart : starts_alike (get_or (done ++ p ∷ ps) k d) (get_or (done ++ p ∷ ps) (length done) d) ≡ false =
+    apart_from_distinct starts_alike (done ++ p ∷ ps) k (length done) d distinct below (omega (arith, length-append done (p ∷ ps))) in
+    ap (λ (r : Prefix). starts_alike r p) (sym (get_or_append_left done (p ∷ ps) d k below))
+    ∙ ap (starts_alike (get_or (done ++ p ∷ ps) k d)) (sym (get_or_at done p ps d (length done) refl)) ∙ apart)
+
+-- there is room for its label
+fold-length : (table : List Label) (xs : List Label) → length table ≤ length (fold with_label table xs)
+fold-length table [] = omega arith
+fold-length table (x ∷ xs) = omega (arith, length-with_label table x, fold-length (with_label table x) xs)
+
+label-room : (table : List Label) (x : Label) → length (with_label table x) ≤ label_limit → has_room table x ≡ true
+label-room table x few = by (has_label table x) refl
+  where
+    by : (b : Bool) → has_label table x ≡ b → has_room table x ≡ true
+    by true e = rw e refl
+    by false e =
+        let more : length (table ++ x ∷ []) ≤ label_limit = subst (λ b. length (cond b table (table ++ x ∷ [])) ≤ label_limit) e few in
+        rw e (lt-ltb (length table) label_limit (omega (arith, more, length-append table (x ∷ []))))
+
+labels-split : (done : List Prefix) (p : Prefix) (ps : List Prefix)
+    → labels_of (done ++ p ∷ ps) ≡ fold with_label (with_label (labels_of done) p.label) (map (λ (r : Prefix). r.label) ps)
+labels-split done p ps =
+    ap (fold with_label []) (map-append (λ (r : Prefix). r.label) done (p ∷ ps))
+    ∙ fold-append with_label [] (map (λ (r : Prefix). r.label) done) (p.label ∷ map (λ (r : Prefix). r.label) ps)
+
+entry-room : (done : List Prefix) (p : Prefix) (ps : List Prefix) → length (labels_of (done ++ p ∷ ps)) ≤ label_limit → has_room (labels_of done) p.label ≡ true
+entry-room done p ps few =
+    let all = subst (λ (t : List Label). length t ≤ label_limit) (labels-split done p ps) few in
+    label-room (labels_of done) p.label
+    (omega (arith, all, fold-length (with_label (labels_of done) p.label) (map (λ (r : Prefix). r.label) ps)))
+
+-- the line of the next entry is read as it
+next-entry : (kind : Form) (version : Version) (name : Option Label) (earlier : Earlier) (done : List Prefix) (p : Prefix) (ps : List Prefix)
+    → HasRead kind version name earlier done → IsPrintedEntry version p → IsDistinct starts_alike (done ++ p ∷ ps)
+    → length (done ++ p ∷ ps) ≤ mapping_limit → length (labels_of (done ++ p ∷ ps)) ≤ label_limit
+    → line_entry kind earlier (entry_line version p) ≡ Ok (said kind version p)
+next-entry form.List version name earlier done p ps has is distinct few few_labels =
+    list-entry earlier version p is has.version_is has.declared (rw has.entries (block-new done p ps distinct))
+    (rw has.entries (omega (arith, few, length-append done (p ∷ ps)))) (rw has.table (entry-room done p ps few_labels))
+next-entry form.Map version name earlier done p ps has is distinct few few_labels =
+    map-entry earlier version p is has.version_is has.declared
+    (rw has.entries (omega (arith, few, length-append done (p ∷ ps), length-map done (mapping_of_prefix (width_of version)))))
+    (rw has.table (entry-room done p ps few_labels))
+
+-- all lines are read
+abbrev AllRead : Form → Version → Option Label → List Entry → ℕ → List Prefix → List Prefix → Type 0
+AllRead kind version name es number ps all =
+    (read : List Entry) × (entries_from kind es number (map (entry_line version) ps) ≡ Ok read) × HasRead kind version name (earlier_of read) all
+
+entries-more : (kind : Form) (es : List Entry) (number : ℕ) (line : Text) (lines : List Text) (entry : Entry)
+    → line_entry kind (earlier_of es) line ≡ Ok entry
+    → entries_from kind es number (line ∷ lines) ≡ entries_from kind (es ++ entry ∷ []) (number + 1) lines
+entries-more kind es number line lines entry e = rw e refl
+
+read-entries : (kind : Form) (version : Version) (name : Option Label) (es : List Entry) (number : ℕ) (done ps : List Prefix)
+    → HasRead kind version name (earlier_of es) done → AllByRecursion (IsPrintedEntry version) ps → IsDistinct starts_alike (done ++ ps)
+    → length (done ++ ps) ≤ mapping_limit → length (labels_of (done ++ ps)) ≤ label_limit
+    → AllRead kind version name es number ps (done ++ ps)
+read-entries kind version name es number done [] has each distinct few few_labels =
+    (es, refl, subst (λ (ps : List Prefix). HasRead kind version name (earlier_of es) ps) (sym (append-nil done)) has)
+read-entries kind version name es number done (p ∷ ps) has each distinct few few_labels =
+    let same : (done ++ p ∷ []) ++ ps ≡ done ++ p ∷ ps = append_assoc done (p ∷ []) ps in
+    let rest = read-entries kind version name (es ++ said kind version p ∷ []) (number + 1) (done ++ p ∷ []) ps
+    (has_read-push kind version name es done p has) each.1
+    (subst (λ (rs : List Prefix). IsDistinct starts_alike rs) (sym same) distinct)
+    (subst (λ (rs : List Prefix). length rs ≤ mapping_limit) (sym same) few)
+    (subst (λ (rs : List Prefix). length (labels_of rs) ≤ label_limit) (sym same) few_labels) in (
+      rest.0,
+      entries-more kind es number (entry_line version p) (map (entry_line version) ps) (said kind version p)
+          (next-entry kind version name (earlier_of es) done p ps has each.0 distinct few few_labels) ∙ rest.1,
+      subst (λ (rs : List Prefix). HasRead kind version name (earlier_of rest.0) rs) same rest.2,
+    )
+
+-- with the lines of the name and the version before them
+head-read : (kind : Form) (version : Version) → HasRead kind version None (earlier_of (Decides version ∷ [])) []
+head-read form.List version = record { version_is = refl; name_is = refl; declared = refl; fallback = refl; entries = refl; table = refl }
+head-read form.Map version = record { version_is = refl; name_is = refl; declared = refl; fallback = refl; entries = refl; table = refl }
+
+head-read-named : (kind : Form) (version : Version) (name : Label)
+    → HasRead kind version (Some name) (earlier_of (Names name ∷ Decides version ∷ [])) []
+head-read-named form.List version name = record { version_is = refl; name_is = refl; declared = refl; fallback = refl; entries = refl; table = refl }
+head-read-named form.Map version name = record { version_is = refl; name_is = refl; declared = refl; fallback = refl; entries = refl; table = refl }
+
+pub lines-read : (kind : Form) (version : Version) (name : Option Label) (ps : List Prefix) → ForSome name (λ n. IsTrue (is_label n))
+    → All (IsPrintedEntry version) ps → IsDistinct starts_alike ps → length ps ≤ mapping_limit → length (labels_of ps) ≤ label_limit
+    → (read : List Entry) × (entries_from kind [] 0 (name_lines name ++ mode_line version ∷ map (entry_line version) ps) ≡ Ok read)
+    × HasRead kind version name (earlier_of read) ps
+lines-read kind version None ps label each distinct few few_labels =
+    let rest = read-entries kind version None (Decides version ∷ []) 1 [] ps (head-read kind version)
+    (recursion_from_All (IsPrintedEntry version) ps each) distinct few few_labels in
+    (rest.0, entries-more kind [] 0 (mode_line version) (map (entry_line version) ps) (Decides version) (mode-entry kind version) ∙ rest.1, rest.2)
+lines-read kind version (Some name) ps label each distinct few few_labels =
+    let rest = read-entries kind version (Some name) (Names name ∷ Decides version ∷ []) 2 [] ps (head-read-named kind version name)
+    (recursion_from_All (IsPrintedEntry version) ps each) distinct few few_labels in (
+      rest.0,
+      entries-more kind [] 0 (codes "map-name" ++ 32 ∷ name) (mode_line version ∷ map (entry_line version) ps) (Names name)
+          (name-entry kind (earlier_of []) name (label name refl))
+          ∙ entries-more kind (Names name ∷ []) 1 (mode_line version) (map (entry_line version) ps) (Decides version) (mode-entry-named kind name version)
+          ∙ rest.1,
+      rest.2,
+    )

@@ -1,0 +1,196 @@
+-- A printed line of a word and a label, as it is read: its content is itself, and its words are these two.
+use Rattle.std.proofs.Common.{◌≡◌, ℕ, zero, suc, ◌+◌, ◌-◌, ◌^◌, ◌<◌, ◌≤◌, ◌==◌, ◌&&◌, ◌||◌, ◌∙◌, Bool, true, false, not, cond, List, [], ◌∷◌, ◌++◌, All, drop, length, get_or, take, nat_le, nat_lt, refl, sym, ap, subst, arith, eq-eqb, one-add}
+use Rattle.std.specs.Fmt.{decimal, digit_glyph, digits}
+use Rattle.std.specs.List.{before_first, flat_map, join_with_byte, list_all, position_or_len, suffix_len}
+use Rattle.std.proofs.lemmas.Bool.{and_parts, both_ways, leb-true, ne_eqb, not-true}
+use Rattle.std.proofs.lemmas.List.{append_assoc, drop_at, get_or-append-add, get_or_append_left, get_or_at, length-append, take_all, take_at}
+use Rattle.std.proofs.lemmas.List.Elements.{All-append, All-cons, All-drop, All-get_or, All-head, All-nil, All-same, All-tail, All-take, All-weaker}
+use Rattle.std.proofs.lemmas.List.Sums.{AllPass-from_list_all, position_or_len_is, suffix_len-take_no}
+use Rattle.prefix_keys.specs.Print.{address_bytes, address_groups, address_text, block_text, groups_text, joined_text, longest_run, shortened_text}
+use Rattle.prefix_keys.specs.declared.version.Version.{Version}
+use Rattle.prefix_keys.specs.declared.version.Version.TheVariants.{V4, V6}
+use Rattle.prefix_keys.proofs.Digits.{All-digits, digits_some}
+use Rattle.prefix_keys.proofs.Groups.{bytes-below, groups-below}
+use Rattle.prefix_keys.proofs.Printed.{Lacks}
+use Rattle.pmap_cert.specs.CertificateText.{text_of_lines}
+use Rattle.pmap_text.specs.Label.{is_blank, is_label, is_label_byte}
+use Rattle.pmap_text.specs.Lines.{behind_word, content_of, first_word, lines_of, trim_end, trim_start}
+use Rattle.pmap_print.specs.Table.{Text}
+
+-- each printed line is read as one
+one-line : (line rest : Text) → Lacks 10 line → lines_of ((line ++ 10 ∷ []) ++ rest) ≡ line ∷ lines_of rest
+one-line [] rest lacks = refl
+one-line (b ∷ bs) rest lacks =
+    rw (All-head (λ b. (b == 10) ≡ false) b bs lacks, one-line bs rest (All-tail (λ b. (b == 10) ≡ false) b bs lacks)) refl
+
+pub lines-text : (lines : List Text) → All (Lacks 10) lines → lines_of (text_of_lines lines) ≡ lines
+lines-text [] lacks = refl
+lines-text (line ∷ lines) lacks =
+    one-line line (text_of_lines lines) (All-head (Lacks 10) line lines lacks)
+    ∙ ap (λ (ls : List Text). line ∷ ls) (lines-text lines (All-tail (Lacks 10) line lines lacks))
+
+-- where the first byte that passes a test stands behind a text
+first_behind : (test : ℕ → Bool) (front back : Text) (b : ℕ) → All (λ c. test c ≡ false) front → test b ≡ true
+    → position_or_len test (front ++ b ∷ back) ≡ length front
+first_behind test front back b none is =
+    position_or_len_is test (front ++ b ∷ back) (length front) 0 (omega (arith, length-append front (b ∷ back)))
+    (λ k below. ap test (get_or_append_left front (b ∷ back) 0 k below) ∙ none k 0 below)
+    (λ _. ap test (get_or_at front b back 0 (length front) refl) ∙ is)
+
+no_first : (test : ℕ → Bool) (text : Text) → All (λ c. test c ≡ false) text → position_or_len test text ≡ length text
+no_first test text none = position_or_len_is test text (length text) 0 (omega arith) (λ k below. none k 0 below) (λ h. absurd (omega (arith, h)))
+
+-- a text that neither begins nor ends with a blank has no outer blanks
+trim_start-same : (b : ℕ) (bs : Text) → is_blank b ≡ false → trim_start (b ∷ bs) ≡ b ∷ bs
+trim_start-same b bs e =
+    ap (λ n. drop n (b ∷ bs)) (position_or_len_is (λ c. not (is_blank c)) (b ∷ bs) 0 0 (omega arith) (λ k below. absurd (omega (arith, below))) (λ _. rw e refl))
+
+trim_end-same : (text : Text) → 0 < length text → is_blank (get_or text (length text - 1) 0) ≡ false → trim_end text ≡ text
+trim_end-same text some e =
+    let whole : take (length text) text ≡ text = take_all (length text) text (omega arith) in
+    let none : suffix_len is_blank text ≡ 0 =
+    ap (suffix_len is_blank) (sym whole) ∙ suffix_len-take_no is_blank text (length text) 0 some (omega arith) e in
+    take_all (length text - suffix_len is_blank text) text (omega arith)
+
+-- the parts of a label's form
+pub record LabelParts (label : Text) : Type 0 where
+  pub some : 0 < length label
+  pub bytes : All (λ b. is_label_byte b ≡ true) label
+  pub first : is_blank (get_or label 0 0) ≡ false
+  pub last : is_blank (get_or label (length label - 1) 0) ≡ false
+
+pub label-parts : (label : Text) → is_label label ≡ true → LabelParts label
+label-parts label is =
+    let a = and_parts (nat_le 1 (length label)) (nat_le (length label) 255 && (list_all is_label_byte label && (not (is_blank (get_or label 0 0)) && not (is_blank (get_or label (length label - 1) 0))))) is in
+    let b = and_parts (nat_le (length label) 255) (list_all is_label_byte label && (not (is_blank (get_or label 0 0)) && not (is_blank (get_or label (length label - 1) 0)))) a.1 in
+    let c = and_parts (list_all is_label_byte label) (not (is_blank (get_or label 0 0)) && not (is_blank (get_or label (length label - 1) 0))) b.1 in
+    let d = and_parts (not (is_blank (get_or label 0 0))) (not (is_blank (get_or label (length label - 1) 0))) c.1 in
+    record {
+      some = omega (arith, leb-true 1 (length label) a.0);
+      bytes = AllPass-from_list_all is_label_byte label c.0;
+      first = not-true _ d.0;
+      last = not-true _ d.1;
+    }
+
+-- a byte of a label is no line feed and begins no comment
+label_byte-feed : (b : ℕ) → is_label_byte b ≡ true → (b == 10) ≡ false
+label_byte-feed b is = ne_eqb b 10 (λ e. both_ways false refl (subst (λ x. is_label_byte x ≡ true) e is))
+
+label_byte-hash : (b : ℕ) → is_label_byte b ≡ true → (b == 35) ≡ false
+label_byte-hash b is = ne_eqb b 35 (λ e. both_ways false refl (subst (λ x. is_label_byte x ≡ true) e is))
+
+pub label-lacks_feed : (label : Text) → is_label label ≡ true → Lacks 10 label
+label-lacks_feed label is = All-weaker (λ b. is_label_byte b ≡ true) (λ b. (b == 10) ≡ false) label_byte-feed label (label-parts label is).bytes
+
+label-lacks_hash : (label : Text) → is_label label ≡ true → Lacks 35 label
+label-lacks_hash label is = All-weaker (λ b. is_label_byte b ≡ true) (λ b. (b == 35) ≡ false) label_byte-hash label (label-parts label is).bytes
+
+-- the words of a printed line: no byte in them is below the hyphen, so none ends a word or a line or begins a comment
+pub high-other : (c b : ℕ) → c < 45 → 45 ≤ b → (b == c) ≡ false
+high-other c b low high = ne_eqb b c (λ e. omega (arith, low, high, e))
+
+high-blank : (b : ℕ) → 45 ≤ b → is_blank b ≡ false
+high-blank b high = rw (high-other 32 b (omega arith) high, high-other 9 b (omega arith) high, high-other 13 b (omega arith) high) refl
+
+-- of a word, a space and a label the first word is the word, and the label stands behind it
+module _ (word label : Text) (some : 0 < length word) (high : All (λ b. 45 ≤ b) word) (is : is_label label ≡ true) where
+  no_blank : All (λ b. is_blank b ≡ false) word
+  no_blank = All-weaker (λ b. 45 ≤ b) (λ b. is_blank b ≡ false) high-blank word high
+
+  pub line-lacks_feed : Lacks 10 (word ++ 32 ∷ label)
+  line-lacks_feed =
+      All-append (λ b. (b == 10) ≡ false) word (32 ∷ label)
+      (All-weaker (λ b. 45 ≤ b) (λ b. (b == 10) ≡ false) (λ b h. high-other 10 b (omega arith) h) word high)
+      (All-cons (λ b. (b == 10) ≡ false) 32 label refl (label-lacks_feed label is))
+
+  line-lacks_hash : Lacks 35 (word ++ 32 ∷ label)
+  line-lacks_hash =
+      All-append (λ b. (b == 35) ≡ false) word (32 ∷ label)
+      (All-weaker (λ b. 45 ≤ b) (λ b. (b == 35) ≡ false) (λ b h. high-other 35 b (omega arith) h) word high)
+      (All-cons (λ b. (b == 35) ≡ false) 32 label refl (label-lacks_hash label is))
+
+  word_at : position_or_len is_blank (word ++ 32 ∷ label) ≡ length word
+  word_at = first_behind is_blank word label 32 no_blank refl
+
+  pub line-first_word : first_word (word ++ 32 ∷ label) ≡ word
+  line-first_word = ap (λ n. take n (word ++ 32 ∷ label)) word_at ∙ take_at word (32 ∷ label) (length word) refl
+
+  label-trimmed : (text : Text) → 0 < length text → is_blank (get_or text 0 0) ≡ false → trim_start (32 ∷ text) ≡ text
+  label-trimmed [] more first = absurd (omega (arith, more))
+  label-trimmed (b ∷ bs) more first =
+      ap (λ n. drop n (32 ∷ b ∷ bs)) (position_or_len_is (λ c. not (is_blank c)) (32 ∷ b ∷ bs) 1 0 (omega arith)
+      (λ k below. let e : k ≡ 0 = omega (arith, below) in rw e refl) (λ _. rw first refl))
+
+  pub line-behind_word : behind_word (word ++ 32 ∷ label) ≡ label
+  line-behind_word =
+      ap (λ n. trim_start (drop n (word ++ 32 ∷ label))) word_at ∙ ap trim_start (drop_at word (32 ∷ label) (length word) refl)
+      ∙ label-trimmed label (label-parts label is).some (label-parts label is).first
+
+  begins : (text : Text) (rest : Text) → 0 < length text → All (λ b. 45 ≤ b) text → trim_start (text ++ rest) ≡ text ++ rest
+  begins [] rest more all = absurd (omega (arith, more))
+  begins (b ∷ bs) rest more all = trim_start-same b (bs ++ rest) (high-blank b (All-head (λ b. 45 ≤ b) b bs all))
+
+  ends : is_blank (get_or (word ++ 32 ∷ label) (length (word ++ 32 ∷ label) - 1) 0) ≡ false
+  ends =
+      let parts = label-parts label is in
+      let place : length (word ++ 32 ∷ label) - 1 ≡ length word + (1 + (length label - 1)) = omega (arith, parts.some, length-append word (32 ∷ label)) in
+      rw place (ap is_blank (get_or-append-add word (32 ∷ label) (1 + (length label - 1)) 0) ∙ last-label parts.some parts.last)
+    where
+      last-label : 0 < length label → is_blank (get_or label (length label - 1) 0) ≡ false → is_blank (get_or (32 ∷ label) (1 + (length label - 1)) 0) ≡ false
+      last-label more e = rw one-add e
+
+  pub line-content : content_of (word ++ 32 ∷ label) ≡ word ++ 32 ∷ label
+  line-content =
+      let whole : before_first (λ b. b == 35) (word ++ 32 ∷ label) ≡ word ++ 32 ∷ label =
+      ap (λ n. take n (word ++ 32 ∷ label)) (no_first (λ b. b == 35) (word ++ 32 ∷ label) line-lacks_hash)
+      ∙ take_all (length (word ++ 32 ∷ label)) (word ++ 32 ∷ label) (omega arith) in
+      ap (λ t. trim_end (trim_start t)) whole ∙ ap trim_end (begins word (32 ∷ label) some high)
+      ∙ trim_end-same (word ++ 32 ∷ label) (omega (arith, some, length-append word (32 ∷ label))) ends
+
+-- the bytes of blocks
+glyph-high : (d : ℕ) → 45 ≤ digit_glyph false d
+glyph-high d = by (nat_lt d 10)
+  where
+    by : (b : Bool) → 45 ≤ cond b (48 + d) (87 + d)
+    by true = omega arith
+    by false = omega arith
+
+high-digits : (base n : ℕ) → 2 ≤ base → n < 2 ^ 63 → All (λ b. 45 ≤ b) (digits base false n)
+high-digits base n low small = All-digits base low (λ b. 45 ≤ b) (λ d h. glyph-high d) n small
+
+high-joined : (base separator : ℕ) → 2 ≤ base → 45 ≤ separator → (numbers : List ℕ) → All (λ n. n < 65536) numbers
+    → All (λ b. 45 ≤ b) (joined_text base separator numbers)
+high-joined base separator low high [] all = All-nil (λ b. 45 ≤ b)
+high-joined base separator low high (n ∷ []) all = high-digits base n low (omega (arith, All-head (λ n. n < 65536) n [] all))
+high-joined base separator low high (n ∷ m ∷ numbers) all =
+    All-append (λ b. 45 ≤ b) (digits base false n) (separator ∷ joined_text base separator (m ∷ numbers))
+    (high-digits base n low (omega (arith, All-head (λ n. n < 65536) n (m ∷ numbers) all)))
+    (All-cons (λ b. 45 ≤ b) separator (joined_text base separator (m ∷ numbers)) high
+    (high-joined base separator low high (m ∷ numbers) (All-tail (λ n. n < 65536) n (m ∷ numbers) all)))
+
+high-shortened : (groups : List ℕ) (start len : ℕ) → All (λ n. n < 65536) groups → All (λ b. 45 ≤ b) (shortened_text groups (start, len))
+high-shortened groups start len all = by (nat_le 2 len)
+  where
+    colons : (groups : List ℕ) → All (λ n. n < 65536) groups → All (λ b. 45 ≤ b) (groups_text groups)
+    colons = high-joined 16 58 (omega arith) (omega arith)
+
+    by : (b : Bool) → All (λ b. 45 ≤ b) (cond b (groups_text (take start groups) ++ 58 ∷ 58 ∷ groups_text (drop (start + len) groups)) (groups_text groups))
+    by true =
+        All-append (λ b. 45 ≤ b) (groups_text (take start groups)) (58 ∷ 58 ∷ groups_text (drop (start + len) groups))
+        (colons (take start groups) (All-take (λ n. n < 65536) start groups all))
+        (All-cons (λ b. 45 ≤ b) 58 (58 ∷ groups_text (drop (start + len) groups)) (omega arith)
+        (All-cons (λ b. 45 ≤ b) 58 (groups_text (drop (start + len) groups)) (omega arith)
+        (colons (drop (start + len) groups) (All-drop (λ n. n < 65536) (start + len) groups all))))
+    by false = colons groups all
+
+high-address : (version : Version) (number : ℕ) → All (λ b. 45 ≤ b) (address_text version number)
+high-address V4 number =
+    high-joined 10 46 (omega arith) (omega arith) (address_bytes number)
+    (All-weaker (λ byte. byte < 256) (λ n. n < 65536) (λ byte h. omega (arith, h)) (address_bytes number) (bytes-below number))
+high-address V6 number =
+    high-shortened (address_groups number) (longest_run (address_groups number)).0 (longest_run (address_groups number)).1 (groups-below number)
+
+pub high-block : (version : Version) (number len : ℕ) → len < 2 ^ 63 → All (λ b. 45 ≤ b) (block_text version number len)
+high-block version number len small =
+    All-append (λ b. 45 ≤ b) (address_text version number) (47 ∷ decimal len) (high-address version number)
+    (All-cons (λ b. 45 ≤ b) 47 (decimal len) (omega arith) (high-digits 10 len (omega arith) small))

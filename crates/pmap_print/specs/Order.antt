@@ -1,0 +1,18 @@
+-- The order in which a prefix list is printed.
+use Rattle.std.specs.Prelude.{◌&&◌, ◌==◌, Bool, List, [], ◌∷◌, if◌then◌else◌}
+use Rattle.pmap_text.specs.ListModel.{Prefix}
+use Rattle.pmap_cert.specs.ListForm.{is_before}
+
+-- an entry among entries in order: in front of the first that it stands before
+abbrev pub placed : Prefix → List Prefix → List Prefix
+placed p [] = p ∷ []
+placed p (r ∷ rs) = if is_before p r then p ∷ r ∷ rs else r ∷ placed p rs
+
+-- the entries by rising first address, of one address the shorter block first
+abbrev pub in_order : List Prefix → List Prefix
+in_order [] = []
+in_order (p ∷ ps) = placed p (in_order ps)
+
+-- both begin at one address and have one length
+abbrev pub starts_alike : Prefix → Prefix → Bool
+starts_alike p r = p.start == r.start && p.bits == r.bits

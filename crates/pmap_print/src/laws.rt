@@ -1,0 +1,95 @@
+//! The laws on printed texts.
+
+ghost use Rattle.std.specs.Prelude.{◌≡◌, ◌<◌, ◌≤◌, ◌^◌, ℕ, All, IsTrue, List, Option, Some, length, map, option_and_then, slice_get};
+ghost use Rattle.std.specs.List.{IsDistinct};
+ghost use Rattle.std.specs.List.Sorted.{IsPermutation};
+ghost use Rattle.std.specs.Option.{ForSome};
+ghost use Rattle.prefix_keys.specs.Version.{width_of};
+ghost use Rattle.prefix_keys.specs.declared.version.Version.{Version};
+ghost use Rattle.pmap_cert.specs.ListForm.{IsInOrder};
+ghost use Rattle.pmap_text.specs.Label.{IsLabelTable, is_label};
+ghost use Rattle.pmap_text.specs.ListModel.{IsEquivalent, ListModel, Prefix, list_label};
+ghost use Rattle.pmap_text.specs.MapModel.{Label, MapModel, map_label};
+ghost use Rattle.pmap_text.specs.MapText.{map_of};
+ghost use Rattle.pmap_text.specs.PrefixList.{list_of};
+ghost use Rattle.pmap_text.specs.Reading.{ReadsList, ReadsMap, label_limit, mapping_limit};
+ghost use Rattle.pmap_text.specs.declared.map_text.MapText.{MapText};
+ghost use Rattle.pmap_text.specs.declared.prefix_list.PrefixList.{PrefixList};
+ghost use Rattle.label_trie.specs.Leaf.{model_of};
+ghost use Rattle.label_trie.specs.TrieModel.{IsCut, IsDecidedLeaf, IsSettledLeaf, TrieModel, label_in};
+ghost use Rattle.label_trie.specs.declared.leaf.Leaf.{Leaf};
+ghost use Rattle.pmap_print.specs.List.{list_text};
+ghost use Rattle.pmap_print.specs.Order.{in_order, starts_alike};
+ghost use Rattle.pmap_print.specs.ReadBack.{CanBeReadAgain, IsListAgain, IsMapAgain, labels_of};
+ghost use Rattle.pmap_print.specs.Runs.{HaveRunsOf, IsRunsText};
+ghost use Rattle.pmap_print.specs.Table.{Text};
+
+/// A labelling of a version's addresses has one text of its runs, and labellings that agree on each address have the same. So a
+/// list that labels each address as a map does has the map's.
+pub fn labelling_has_one_runs_text()
+    ensures one { (v : Version) (f : ℕ → Option Label) (text other : Text) →
+        IsRunsText v f text → IsRunsText v f other → text ≡ other }
+    ensures alike { (v : Version) (f g : ℕ → Option Label) (text : Text) →
+        ((a : ℕ) → a < 2 ^ width_of v → f a ≡ g a) → IsRunsText v f text → IsRunsText v g text }
+    ensures equivalent { (l : ListModel) (m : MapModel) (text other : Text) → IsEquivalent l m →
+        IsRunsText l.version (list_label l) text →
+        IsRunsText m.version (λ a. Some (map_label m a)) other → text ≡ other }
+{}
+
+/// The leaves of the trie of a map have the runs of the map's labels: what is said of the trie and of its leaves where they are
+/// made is what it takes to print them.
+pub fn map_leaves_have_its_runs()
+    ensures { (m : MapText) (t : TrieModel) (leaves : List Leaf) → t.version ≡ m.version →
+        IsCut (width_of m.version) 0 (2 ^ width_of m.version) t.leaves → All (IsSettledLeaf (map_of m)) t.leaves →
+        ((a : ℕ) → a < 2 ^ width_of m.version →
+        option_and_then (slice_get m.labels) (label_in t a) ≡ Some (map_label (map_of m) a)) →
+        All (λ leaf. leaf.block.version ≡ t.version) leaves → map model_of leaves ≡ t.leaves →
+        HaveRunsOf m.version (λ a. Some (map_label (map_of m) a)) leaves m.labels }
+{}
+
+/// The leaves of the trie of a prefix list have the runs of the list's labels.
+pub fn list_leaves_have_its_runs()
+    ensures { (l : PrefixList) (t : TrieModel) (leaves : List Leaf) → t.version ≡ l.version →
+        IsCut (width_of l.version) 0 (2 ^ width_of l.version) t.leaves → All (IsDecidedLeaf (list_of l)) t.leaves →
+        ((a : ℕ) → a < 2 ^ width_of l.version →
+        option_and_then (slice_get l.labels) (label_in t a) ≡ list_label (list_of l) a) →
+        All (λ leaf. leaf.block.version ≡ t.version) leaves → map model_of leaves ≡ t.leaves →
+        HaveRunsOf l.version (list_label (list_of l)) leaves l.labels }
+{}
+
+/// A list is printed in the one order in which each entry stands before all that follow it. Entries that are in order keep
+/// theirs.
+pub fn printed_order_is_one()
+    ensures entries { (ps : List Prefix) → IsPermutation ps (in_order ps) }
+    ensures order { (ps : List Prefix) → IsDistinct starts_alike ps → IsInOrder (in_order ps) }
+    ensures one { (ps rs : List Prefix) → IsDistinct starts_alike ps → IsPermutation ps rs → IsInOrder rs →
+        rs ≡ in_order ps }
+    ensures kept { (ps : List Prefix) → IsInOrder ps → in_order ps ≡ ps }
+{}
+
+/// The printed text of a list is read back: as a list it has the same name, version and entries, and as a map the same label
+/// at each address that the list gives one. So it is for each list of blocks that no two are equal, of labels, and within
+/// the limits of a text.
+pub fn printed_list_is_read_back()
+    ensures list { (l : ListModel) → CanBeReadAgain l →
+        (r : ListModel) × ReadsList (list_text l) r × IsListAgain l r }
+    ensures map { (l : ListModel) → CanBeReadAgain l →
+        (m : MapModel) × ReadsMap (list_text l) m × IsMapAgain l m }
+{}
+
+/// Where a list labels each address as a map does, so do both readings of its printed text.
+pub fn printed_list_is_equivalent()
+    ensures list { (l : ListModel) (m : MapModel) → CanBeReadAgain l → IsEquivalent l m →
+        (again : ListModel) × ReadsList (list_text l) again × IsEquivalent again m }
+    ensures map { (l : ListModel) (m : MapModel) → CanBeReadAgain l → IsEquivalent l m →
+        (again : MapModel) × ReadsMap (list_text l) again × (again.version ≡ m.version)
+        × ((a : ℕ) → a < 2 ^ width_of m.version → map_label again a ≡ map_label m a) }
+{}
+
+/// The printed text of a prefix list is within the limits of a text where the list has at most 1,000,000 entries and they have
+/// at most 65,535 label texts. That its table and its name are of labels is said by `Labels::len` and `Name::as_bytes`.
+pub fn prefix_list_can_be_read_again()
+    ensures { (l : PrefixList) → IsLabelTable l.labels → ForSome l.name (λ name. IsTrue (is_label name)) →
+        length l.entries ≤ mapping_limit → length (labels_of (in_order (list_of l).prefixes)) ≤ label_limit →
+        CanBeReadAgain (list_of l) }
+{}

@@ -1,0 +1,104 @@
+ghost use Rattle.std.specs.Prelude.{◌≡◌, ◌++◌, ◌∷◌, [], All, IfOk, List, OnOk, map};
+ghost use Rattle.std.specs.List.Sorted.{IsNonDecreasingBy, IsPermutation};
+ghost use Rattle.std.specs.Ordering.{nat_cmp};
+ghost use Rattle.pmap_cert.specs.CertificateText.{text_of_lines};
+ghost use Rattle.pmap_print.specs.List.{entry_line, list_text, mode_line, name_lines};
+ghost use Rattle.pmap_print.specs.Order.{in_order};
+ghost use Rattle.pmap_print.specs.Sorting.{place_of};
+ghost use Rattle.pmap_text.specs.ListEntries.{HasDistinctBlocks};
+ghost use Rattle.pmap_text.specs.MapModel.{Label};
+ghost use Rattle.pmap_text.specs.PrefixList.{list_of, prefix_of};
+
+use pmap_text::{Entry, Labels, PrefixList};
+use prefix_keys::{Version, print_block};
+use std::alloc::{AllocError, Global};
+use std::cmp::Ordering;
+
+// Appends the lines that say what the list is called, if it has a name, and its version.
+fn print_head(out: &mut Vec<u8>, list: &PrefixList) -> Result<(), AllocError>
+    ensures { OnOk result (out.new.items
+        ≡ out.old.items ++ text_of_lines (name_lines list.now.name ++ mode_line list.now.version ∷ [])) }
+{
+    if let Some(name) = &list.name {
+        out.extend_from_slice(b"map-name ")?;
+        out.extend_from_slice(name.as_bytes())?;
+        out.push(b'\n')?;
+    }
+    out.extend_from_slice(match list.version {
+        Version::V4 => b"mode ipv4\n",
+        Version::V6 => b"mode ipv6\n",
+    })
+}
+
+// Appends the line of an entry.
+fn print_entry(out: &mut Vec<u8>, entry: &Entry, labels: &Labels) -> Result<(), AllocError>
+    ensures { OnOk result (out.new.items
+        ≡ out.old.items ++ (entry_line entry.now.block.version (prefix_of labels.now entry.now) ++ 10 ∷ [])) }
+{
+    print_block(out, &entry.block)?;
+    out.push(b' ')?;
+    out.extend_from_slice(labels.text(entry.label).unwrap_or(b""))?;
+    out.push(b'\n')?;
+    Ok(())
+}
+
+// Appends the lines of entries.
+fn print_entries(
+    out: &mut Vec<u8>,
+    entries: &[Entry],
+    version: Version,
+    labels: &Labels,
+) -> Result<(), AllocError>
+    requires { All (λ e. e.block.version ≡ version) entries.now }
+    ensures { OnOk result (out.new.items
+        ≡ out.old.items ++ text_of_lines (map (entry_line version) (map (prefix_of labels.now) entries.now))) }
+{
+    for entry in entries {
+        print_entry(out, entry, labels)?;
+    }
+    Ok(())
+}
+
+// Which of two entries is printed first: that with the lower first address, of one address that of the shorter block.
+fn by_place(entry: &Entry, other: &Entry) -> Ordering
+    ensures { result ≡ nat_cmp (place_of entry.now) (place_of other.now) }
+{
+    if entry.block.value == other.block.value {
+        entry.block.len.cmp(&other.block.len)
+    } else {
+        entry.block.value.cmp(&other.block.value)
+    }
+}
+
+// Sorts entries into the order in which they are printed.
+fn sort_by_place(entries: &mut Vec<Entry>) -> Result<(), AllocError>
+    ensures same { IsPermutation entries.old.items entries.new.items }
+    ensures rising { OnOk result (IsNonDecreasingBy place_of entries.new.items) }
+{
+    entries.sort_by(|entry, other| by_place(entry, other))?;
+    Ok(())
+}
+
+// The entries in the order in which they are printed.
+fn sorted_entries(alloc: Global, entries: &[Entry]) -> Result<Vec<Entry>, AllocError>
+    requires { HasDistinctBlocks entries.now }
+    ensures same { IfOk result (λ sorted. IsPermutation entries.now sorted.items) }
+    ensures order { IfOk result (λ sorted. (table : List Label) →
+        map (prefix_of table) sorted.items ≡ in_order (map (prefix_of table) entries.now)) }
+{
+    let mut sorted = Vec::from_slice(alloc, entries)?;
+    sort_by_place(&mut sorted)?;
+    Ok(sorted)
+}
+
+/// The text of a prefix list: a line with its name, if it has one, a line with its version, and a line for each entry,
+/// by rising first address, of one address the shorter block first.
+pub fn print_list(alloc: Global, list: &PrefixList) -> Result<Vec<u8>, AllocError>
+    ensures { IfOk result (λ out. out.items ≡ list_text (list_of list.now)) }
+{
+    let mut out = Vec::new(alloc);
+    print_head(&mut out, list)?;
+    let sorted = sorted_entries(alloc, list.entries.as_slice())?;
+    print_entries(&mut out, sorted.as_slice(), list.version, &list.labels)?;
+    Ok(out)
+}
