@@ -9,12 +9,13 @@ use Rattle.clap.specs.declared.error.kind.ErrorKind.TheVariants as kind
 use Rattle.clap.specs.declared.parser.ArgMatches.{ArgMatches}
 use Rattle.clap.proofs.OnLiterals.{clap_on_literals}
 use Rattle.prefix_keys.specs.Text.{AddressOf}
-use Rattle.flowlabel.specs.Request.{Text}
+use Rattle.pmap_text.specs.Reading.{◌>>=◌}
+use Rattle.flowlabel.specs.Request.{LabelSource, Text}
 use Rattle.flowlabel.specs.Definition.{flowlabel_app}
-use Rattle.flowlabel.specs.Answer.{Answer, Answers, IsAnswer, IsFaultAt, IsFaultOfKind, IsOwnAnswer, IsOwnFault, SaysOnly, address_in_rows, answer_of, answer_of_info, answer_of_label, answer_of_rows, is_help, is_mistake, label_answer}
+use Rattle.flowlabel.specs.Answer.{Answer, Answers, IsAnswer, IsFaultAt, IsFaultOfKind, IsOwnAnswer, IsOwnFault, SaysOnly, address_answer, address_in_rows, answer_of, answer_of_info, answer_of_label, answer_of_rows, is_help, is_mistake, needed_source, source_answer, sources_in_rows}
 use Rattle.flowlabel.specs.declared.command.Command.{Command}
 use Rattle.flowlabel.specs.declared.usage.UsageFault.{UsageFault}
-use Rattle.flowlabel.specs.declared.usage.UsageFault.TheVariants.{Refused, NotUtf8, Help, MapMissing, BadAddress, NoMemory}
+use Rattle.flowlabel.specs.declared.usage.UsageFault.TheVariants.{Refused, NotUtf8, Help, MapTwice, MapMissing, BadAddress, NoMemory}
 
 -- the definition is one of those that clap's theorems are about
 pub flowlabel_is_simple : is_simple flowlabel_app ≡ true
@@ -47,6 +48,7 @@ fault_at words k (Help text) (inl e) h =
     cc
 fault_at words k (Help text) (inr among) h = among_passes is_help k _ among h
 fault_at words k NotUtf8 from h = absurd h
+fault_at words k MapTwice from h = absurd h
 fault_at words k MapMissing from h = absurd h
 fault_at words k BadAddress from h = absurd h
 fault_at words k NoMemory from h = tt
@@ -56,15 +58,39 @@ fault_of_answer : (words : List Text) (f : UsageFault) → IsOwnFault f → Answ
 fault_of_answer words (Refused text) own is = absurd own
 fault_of_answer words NotUtf8 own is = absurd own
 fault_of_answer words (Help text) own is = absurd own
+fault_of_answer words MapTwice own is = is
 fault_of_answer words MapMissing own is = is
 fault_of_answer words BadAddress own is = is
 fault_of_answer words NoMemory own is = tt
 
--- the label command answers by no refusal of clap's and no help
-label_own : (map : Option Text) (address : Option AddressOf) → IsOwnAnswer (label_answer map address)
-label_own None address = tt
-label_own (Some map) None = tt
-label_own (Some map) (Some address) = tt
+-- steps that answer by no refusal of clap's and no help do so one after the other
+then_own : {A B : Type 0} (r : Result A UsageFault) (f : A → Result B UsageFault) → IsOwnAnswer r → ((x : A) → IsOwnAnswer (f x))
+    → IsOwnAnswer (r >>= f)
+then_own (Ok x) f own all = all x
+then_own (Err fault) f own all = own
+
+source_own : (map list : Option Text) → IsOwnAnswer (source_answer map list)
+source_own (Some map) (Some list) = tt
+source_own (Some map) None = tt
+source_own None (Some list) = tt
+source_own None None = tt
+
+needed_own : (source : Option LabelSource) → IsOwnAnswer (needed_source source)
+needed_own None = tt
+needed_own (Some source) = tt
+
+address_own : (source : LabelSource) (address : Option AddressOf) → IsOwnAnswer (address_answer source address)
+address_own source None = tt
+address_own source (Some address) = tt
+
+-- the label command answers so
+label_own : (rows : List Row) → IsOwnAnswer (answer_of_label rows)
+label_own rows =
+    then_own (sources_in_rows rows) _ (source_own _ _)
+    (λ found. then_own (needed_source found) _ (needed_own found) (λ labels. address_own labels (address_in_rows rows)))
+
+rows_own : (rows : List Row) → IsOwnAnswer (answer_of_rows rows)
+rows_own rows = then_own (sources_in_rows rows) _ (source_own _ _) (λ source. tt)
 
 -- each command answers so
 pub answer_own : (p : Text × List Row) → IsOwnAnswer (answer_of p)
@@ -72,8 +98,8 @@ answer_own p =
     elim (bytes_eq p.0 (codes "info")) as (λ b. IsOwnAnswer (if b then answer_of_info p.1 else if bytes_eq p.0 (codes "rows") then answer_of_rows p.1 else answer_of_label p.1)) [
       | true ↦ tt
       | false ↦ elim (bytes_eq p.0 (codes "rows")) as (λ b. IsOwnAnswer (if b then answer_of_rows p.1 else answer_of_label p.1)) [
-        | true ↦ tt
-        | false ↦ label_own _ _
+        | true ↦ rows_own p.1
+        | false ↦ label_own p.1
       ]
     ]
 
@@ -113,14 +139,7 @@ own_of_memory k (Help text) e h =
     let bad : false ≡ true = rw e at h in
     cc
 own_of_memory k NotUtf8 e h = absurd h
+own_of_memory k MapTwice e h = tt
 own_of_memory k MapMissing e h = tt
 own_of_memory k BadAddress e h = tt
 own_of_memory k NoMemory e h = tt
-
--- the answer of `label` by what its entries hold
-pub label_missing : (rows : List Row) → first_of (codes "pmap") rows ≡ None → answer_of_label rows ≡ Err MapMissing
-label_missing rows e = ap (λ (m : Option Text). label_answer m (address_in_rows rows)) e
-
-pub label_is : (rows : List Row) (map : Text) (a : Option AddressOf) → first_of (codes "pmap") rows ≡ Some map → a ≡ address_in_rows rows
-    → answer_of_label rows ≡ label_answer (Some map) a
-label_is rows map a e f = ap₂ label_answer e (sym f)

@@ -6,11 +6,11 @@ use Rattle.clap.specs.Words.{Text, fault_of}
 use Rattle.clap.proofs.OnLiterals.{clap_on_literals}
 use Rattle.prefix_keys.specs.Text.{address_of}
 use Rattle.flowlabel.specs.Definition.{flowlabel_app}
-use Rattle.flowlabel.specs.Request.{info, rows}
-use Rattle.flowlabel.specs.Answer.{Answer, Answers, IsAnswer, IsUnlessMemory, ReadsBareLine, ReadsColumnsLine, ReadsInfoLine, ReadsMapLine, ReadsRowsLine, is_plain_word, label_answer, own_answer}
+use Rattle.flowlabel.specs.Request.{FromList, FromMap, info, rows}
+use Rattle.flowlabel.specs.Answer.{Answer, Answers, IsAnswer, IsUnlessMemory, ReadsBareLine, ReadsColumnsLine, ReadsInfoLine, ReadsListLine, ReadsMapLine, ReadsRowsLine, address_answer, is_plain_word, own_answer}
 use Rattle.flowlabel.specs.declared.command.Command.{Command}
 use Rattle.flowlabel.specs.declared.usage.UsageFault.{UsageFault}
-use Rattle.flowlabel.specs.declared.usage.UsageFault.TheVariants.{Refused, NotUtf8, Help, MapMissing, BadAddress, NoMemory}
+use Rattle.flowlabel.specs.declared.usage.UsageFault.TheVariants.{Refused, NotUtf8, Help, MapTwice, MapMissing, BadAddress, NoMemory}
 
 not_true : (b : Bool) → not b ≡ true → b ≡ false
 not_true true e = sym e
@@ -22,6 +22,7 @@ not_short x xs h = rw h refl
 -- where the words have an answer of the program's own, the result is that one
 pub own_only : (words : List Text) (answer : Answer) (r : Result Command UsageFault) → Answers words answer → IsAnswer words r → IsUnlessMemory answer r
 own_only words answer (Ok command) own is = ap (λ (o : Option Answer). unwrap_or o answer) (sym own.1 ∙ is.1)
+own_only words answer (Err MapTwice) own is = ap (λ (o : Option Answer). unwrap_or o answer) (sym own.1 ∙ is.1)
 own_only words answer (Err MapMissing) own is = ap (λ (o : Option Answer). unwrap_or o answer) (sym own.1 ∙ is.1)
 own_only words answer (Err BadAddress) own is = ap (λ (o : Option Answer). unwrap_or o answer) (sym own.1 ∙ is.1)
 own_only words answer (Err NoMemory) own is = tt
@@ -35,7 +36,7 @@ own_only words answer (Err (Help text)) own is =
 
 module _ (program : Text) where
   map_found : (map address : Text) → is_plain_word map ≡ true → is_plain_word address ≡ true
-      → own_answer (program ∷ codes "label" ∷ codes "--pmap" ∷ map ∷ address ∷ []) ≡ Some (label_answer (Some map) (address_of address))
+      → own_answer (program ∷ codes "label" ∷ codes "--pmap" ∷ map ∷ address ∷ []) ≡ Some (address_answer (FromMap map) (address_of address))
   unfolding flowlabel_app clap_on_literals
   map_found [] [] h k = refl
   map_found (x ∷ xs) [] h k = let e = not_true (x == 45) h in rw (e, not_short x xs e) refl
@@ -54,8 +55,31 @@ module _ (program : Text) where
 
   -- a line with a map and an address
   pub map_line : (map address : Text) → is_plain_word map ≡ true → is_plain_word address ≡ true
-      → Answers (program ∷ codes "label" ∷ codes "--pmap" ∷ map ∷ address ∷ []) (label_answer (Some map) (address_of address))
+      → Answers (program ∷ codes "label" ∷ codes "--pmap" ∷ map ∷ address ∷ []) (address_answer (FromMap map) (address_of address))
   map_line map address h k = (map_taken map address h k, map_found map address h k)
+
+  list_found : (list address : Text) → is_plain_word list ≡ true → is_plain_word address ≡ true
+      → own_answer (program ∷ codes "label" ∷ codes "--list" ∷ list ∷ address ∷ []) ≡ Some (address_answer (FromList list) (address_of address))
+  unfolding flowlabel_app clap_on_literals
+  list_found [] [] h k = refl
+  list_found (x ∷ xs) [] h k = let e = not_true (x == 45) h in rw (e, not_short x xs e) refl
+  list_found [] (y ∷ ys) h k = let f = not_true (y == 45) k in rw (f, not_short y ys f) refl
+  list_found (x ∷ xs) (y ∷ ys) h k =
+      let e = not_true (x == 45) h in let f = not_true (y == 45) k in rw (e, not_short x xs e, f, not_short y ys f) refl
+
+  list_taken : (list address : Text) → is_plain_word list ≡ true → is_plain_word address ≡ true
+      → fault_of flowlabel_app (program ∷ codes "label" ∷ codes "--list" ∷ list ∷ address ∷ []) ≡ []
+  unfolding flowlabel_app clap_on_literals
+  list_taken [] [] h k = refl
+  list_taken (x ∷ xs) [] h k = let e = not_true (x == 45) h in rw (e, not_short x xs e) refl
+  list_taken [] (y ∷ ys) h k = let f = not_true (y == 45) k in rw (f, not_short y ys f) refl
+  list_taken (x ∷ xs) (y ∷ ys) h k =
+      let e = not_true (x == 45) h in let f = not_true (y == 45) k in rw (e, not_short x xs e, f, not_short y ys f) refl
+
+  -- a line with a list and an address
+  pub list_line : (list address : Text) → is_plain_word list ≡ true → is_plain_word address ≡ true
+      → Answers (program ∷ codes "label" ∷ codes "--list" ∷ list ∷ address ∷ []) (address_answer (FromList list) (address_of address))
+  list_line list address h k = (list_taken list address h k, list_found list address h k)
 
   -- a line without a map
   pub bare_line : (address : Text) → is_plain_word address ≡ true → Answers (program ∷ codes "label" ∷ address ∷ []) (Err MapMissing)
@@ -70,12 +94,12 @@ module _ (program : Text) where
   info_line (x ∷ xs) h = let e = not_true (x == 45) h in (rw (e, not_short x xs e) refl, rw (e, not_short x xs e) refl)
 
   -- lines of `rows`, without columns and with them
-  pub rows_line : (file : Text) → is_plain_word file ≡ true → Answers (program ∷ codes "rows" ∷ file ∷ []) (Ok (rows false file))
+  pub rows_line : (file : Text) → is_plain_word file ≡ true → Answers (program ∷ codes "rows" ∷ file ∷ []) (Ok (rows None false file))
   unfolding flowlabel_app clap_on_literals
   rows_line [] h = (refl, refl)
   rows_line (x ∷ xs) h = let e = not_true (x == 45) h in (rw (e, not_short x xs e) refl, rw (e, not_short x xs e) refl)
 
-  pub columns_line : (file : Text) → is_plain_word file ≡ true → Answers (program ∷ codes "rows" ∷ codes "--columns" ∷ file ∷ []) (Ok (rows true file))
+  pub columns_line : (file : Text) → is_plain_word file ≡ true → Answers (program ∷ codes "rows" ∷ codes "--columns" ∷ file ∷ []) (Ok (rows None true file))
   unfolding flowlabel_app clap_on_literals
   columns_line [] h = (refl, refl)
   columns_line (x ∷ xs) h = let e = not_true (x == 45) h in (rw (e, not_short x xs e) refl, rw (e, not_short x xs e) refl)
@@ -83,6 +107,9 @@ module _ (program : Text) where
 -- such a line is read so, whatever answers what the words ask for
 pub reads_map_line : (words : List Text) (r : Result Command UsageFault) → IsAnswer words r → ReadsMapLine words r
 reads_map_line words r is program map address h k e = own_only _ _ r (map_line program map address h k) (rw e at is)
+
+pub reads_list_line : (words : List Text) (r : Result Command UsageFault) → IsAnswer words r → ReadsListLine words r
+reads_list_line words r is program list address h k e = own_only _ _ r (list_line program list address h k) (rw e at is)
 
 pub reads_bare_line : (words : List Text) (r : Result Command UsageFault) → IsAnswer words r → ReadsBareLine words r
 reads_bare_line words r is program address h e = own_only _ _ r (bare_line program address h) (rw e at is)

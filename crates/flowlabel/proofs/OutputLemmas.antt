@@ -1,12 +1,16 @@
 -- A request has one output at most: a map text and a File have one reading, and what comes of it is one text.
-use Rattle.std.proofs.Common.{◌≡◌, ◌∙◌, ℕ, List, [], Err, ap, sym, subst, inl, inr}
+use Rattle.std.proofs.Common.{◌≡◌, ◌∙◌, ℕ, List, [], Option, Some, None, Err, ap, sym, subst, inl, inr}
+use Rattle.pmap_text.specs.ListModel.{ListModel}
 use Rattle.pmap_text.specs.MapModel.{MapModel}
 use Rattle.pmap_text.specs.declared.fault.MapFault.{MapFault}
 use Rattle.ipfix_read.specs.Laws.{OneReading}
 use Rattle.ipfix_read.specs.Message.{MessageView}
 use Rattle.ipfix_read.specs.declared.fault.ReadFault.{ReadFault}
-use Rattle.flowlabel.specs.Output.{FlowsThen, InFlows, InMap, MapThen, OneOutput, Outcome, Prints}
-use Rattle.flowlabel.specs.Request.{label, info, rows}
+use Rattle.flow_rows.specs.Counts.{counts_of}
+use Rattle.pmap_print.specs.Info.{info_text}
+use Rattle.flowlabel.specs.Labelling.{Labelling, labelling_of_list, labelling_of_map}
+use Rattle.flowlabel.specs.Output.{FileTexts, FlowsThen, InFlows, InList, InMap, LabelsThen, ListThen, MapThen, OneOutput, Outcome, Prints, ReportsThen, SourceThen, label_text, report_of_rows}
+use Rattle.flowlabel.specs.Request.{FromList, FromMap, LabelSource, label, info, rows}
 
 -- what comes of a value is one outcome at most
 abbrev IsOne : {A : Type 0} → (A → Outcome → Type 0) → Type 0
@@ -24,6 +28,22 @@ map_then_one rest one text outcome other (inr p) (inl q) = cc
 map_then_one rest one text outcome other (inr p) (inr q) =
     let same : q.0 ≡ p.0 = cc in one p.0 outcome other p.2 (subst (λ (m : MapModel). rest m other) same q.2)
 
+list_then_one : (rest : ListModel → Outcome → Type 0) → IsOne rest → (text : List ℕ) (outcome other : Outcome)
+    → ListThen rest text outcome → ListThen rest text other → outcome ≡ other
+list_then_one rest one text outcome other (inl p) (inl q) =
+    let same : p.0 ≡ q.0 = cc in p.2 ∙ ap (λ (f : MapFault). Err (InList f)) same ∙ sym q.2
+list_then_one rest one text outcome other (inl p) (inr q) = cc
+list_then_one rest one text outcome other (inr p) (inl q) = cc
+list_then_one rest one text outcome other (inr p) (inr q) =
+    let same : q.0 ≡ p.0 = cc in one p.0 outcome other p.2 (subst (λ (l : ListModel). rest l other) same q.2)
+
+labels_then_one : (source : LabelSource) (rest : Labelling → Outcome → Type 0) → IsOne rest → (texts : FileTexts) (outcome other : Outcome)
+    → LabelsThen source rest texts outcome → LabelsThen source rest texts other → outcome ≡ other
+labels_then_one (FromMap file) rest one texts outcome other p q =
+    map_then_one (λ m. rest (labelling_of_map m)) (λ m. one (labelling_of_map m)) texts.map outcome other p q
+labels_then_one (FromList file) rest one texts outcome other p q =
+    list_then_one (λ l. rest (labelling_of_list l)) (λ l. one (labelling_of_list l)) texts.list outcome other p q
+
 flows_then_one : OneReading → (rest : List MessageView → Outcome → Type 0) → IsOne rest → (bytes : List ℕ) (outcome other : Outcome)
     → FlowsThen rest bytes outcome → FlowsThen rest bytes other → outcome ≡ other
 flows_then_one law rest one bytes outcome other (inl p) (inl q) =
@@ -35,7 +55,23 @@ flows_then_one law rest one bytes outcome other (inr p) (inr q) =
     let same : q.0 ≡ p.0 = (law [] 0 0 bytes).0 q.0 p.0 q.1 p.1 in
     one p.0 outcome other p.2 (subst (λ (ms : List MessageView). rest ms other) same q.2)
 
+source_then_one : (source : Option LabelSource) (rest : Option Labelling → Outcome → Type 0) → IsOne rest → (texts : FileTexts) (outcome other : Outcome)
+    → SourceThen source rest texts outcome → SourceThen source rest texts other → outcome ≡ other
+source_then_one None rest one texts outcome other p q = one None outcome other p q
+source_then_one (Some source) rest one texts outcome other p q =
+    labels_then_one source (λ l. rest (Some l)) (λ l. one (Some l)) texts outcome other p q
+
+reports_then_one : OneReading → (text : Option Labelling → List MessageView → List ℕ) (source : Option LabelSource) (texts : FileTexts) (outcome other : Outcome)
+    → ReportsThen text source texts outcome → ReportsThen text source texts other → outcome ≡ other
+reports_then_one law text source texts outcome other p q =
+    source_then_one source (λ labels. FlowsThen (λ messages. Prints (text labels messages)) texts.flows)
+    (λ labels. flows_then_one law (λ messages. Prints (text labels messages)) (prints_one (text labels)) texts.flows)
+    texts outcome other p q
+
 pub one_output : OneReading → OneOutput
-one_output law (label map address) texts outcome other p q = map_then_one _ (prints_one _) texts.map outcome other p q
-one_output law (info flows) texts outcome other p q = flows_then_one law _ (prints_one _) texts.flows outcome other p q
-one_output law (rows columns flows) texts outcome other p q = flows_then_one law _ (prints_one _) texts.flows outcome other p q
+one_output law (label source address) texts outcome other p q =
+    labels_then_one source _ (prints_one (label_text address)) texts outcome other p q
+one_output law (info flows) texts outcome other p q =
+    reports_then_one law (λ labels messages. info_text (counts_of messages)) None texts outcome other p q
+one_output law (rows source columns flows) texts outcome other p q =
+    reports_then_one law (report_of_rows columns) source texts outcome other p q

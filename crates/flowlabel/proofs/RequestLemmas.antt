@@ -7,9 +7,9 @@ use Rattle.flowlabel.specs.declared.usage.UsageFault.{UsageFault}
 
 -- its addresses are addresses of their versions, as `Addr` keeps them
 pub request_is_proper : (c : Command) → IsProper (request_of c)
-request_is_proper (Label map addr) = addr.in_range
+request_is_proper (Label labels addr) = addr.in_range
 request_is_proper (Info flows) = tt
-request_is_proper (Rows columns flows) = tt
+request_is_proper (Rows labels columns flows) = tt
 
 -- so are those of each answer
 pub answer_is_proper : (r : Result Command UsageFault) → IfOk r (λ c. IsProper (request_of c))

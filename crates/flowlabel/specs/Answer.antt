@@ -4,14 +4,15 @@ use Rattle.std.specs.Str.{bytes_eq}
 use Rattle.std.specs.declared.io.ErrorKind.TheVariants as io
 use Rattle.std.specs.declared.io.ErrorKind.{ErrorKind as IoErrorKind}
 use Rattle.prefix_keys.specs.Text.{AddressOf, address_of}
+use Rattle.pmap_text.specs.Reading.{◌>>=◌}
 use Rattle.clap.specs.Words.{Row, fault_of, first_of, subcommand_of}
 use Rattle.clap.specs.declared.error.kind.ErrorKind.{ErrorKind}
 use Rattle.clap.specs.declared.error.kind.ErrorKind.TheVariants as kind
 use Rattle.flowlabel.specs.Definition.{flowlabel_app}
-use Rattle.flowlabel.specs.Request.{Request, Text, info, label, request_of, rows}
+use Rattle.flowlabel.specs.Request.{FromList, FromMap, LabelSource, Request, Text, info, label, request_of, rows}
 use Rattle.flowlabel.specs.declared.command.Command.{Command}
 use Rattle.flowlabel.specs.declared.usage.UsageFault.{UsageFault}
-use Rattle.flowlabel.specs.declared.usage.UsageFault.TheVariants.{Refused, NotUtf8, Help, MapMissing, BadAddress, NoMemory}
+use Rattle.flowlabel.specs.declared.usage.UsageFault.TheVariants.{Refused, NotUtf8, Help, MapTwice, MapMissing, BadAddress, NoMemory}
 
 -- What a command line is answered with.
 
@@ -19,11 +20,30 @@ use Rattle.flowlabel.specs.declared.usage.UsageFault.TheVariants.{Refused, NotUt
 abbrev pub Answer : Type 0
 Answer = Result Request UsageFault
 
--- `label`, by its map and what its address stands for: the map is missed first
-abbrev pub label_answer : Option Text → Option AddressOf → Answer
-label_answer None address = Err MapMissing
-label_answer (Some map) None = Err BadAddress
-label_answer (Some map) (Some address) = Ok (label map address)
+-- the source of labels, by the map and the list that are named: both are too many
+abbrev pub source_answer : Option Text → Option Text → Result (Option LabelSource) UsageFault
+source_answer (Some map) (Some list) = Err MapTwice
+source_answer (Some map) None = Ok (Some (FromMap map))
+source_answer None (Some list) = Ok (Some (FromList list))
+source_answer None None = Ok None
+
+-- a source that there has to be
+abbrev pub needed_source : Option LabelSource → Result LabelSource UsageFault
+needed_source None = Err MapMissing
+needed_source (Some source) = Ok source
+
+-- `label` under a source, by what its address stands for
+abbrev pub address_answer : LabelSource → Option AddressOf → Answer
+address_answer source None = Err BadAddress
+address_answer source (Some address) = Ok (label source address)
+
+-- `label`, by its sources and what its address stands for: two sources come first, and then a missing one
+abbrev pub label_answer : Result (Option LabelSource) UsageFault → Option AddressOf → Answer
+label_answer source address = source >>= (λ found. needed_source found >>= (λ labels. address_answer labels address))
+
+-- the source of labels that entries name
+abbrev pub sources_in_rows : List Row → Result (Option LabelSource) UsageFault
+sources_in_rows entries = source_answer (first_of (codes "pmap") entries) (first_of (codes "list") entries)
 
 -- what the word ADDR of an entry stands for
 abbrev pub address_in_rows : List Row → Option AddressOf
@@ -31,7 +51,7 @@ address_in_rows entries = option_and_then address_of (first_of (codes "address")
 
 -- `label`, by the entries that clap finds for it
 abbrev pub answer_of_label : List Row → Answer
-answer_of_label entries = label_answer (first_of (codes "pmap") entries) (address_in_rows entries)
+answer_of_label entries = label_answer (sources_in_rows entries) (address_in_rows entries)
 
 -- the file that the word FILE of entries names: clap takes no line of `info` or `rows` without one
 abbrev pub flows_in_rows : List Row → Text
@@ -46,7 +66,8 @@ abbrev pub answer_of_info : List Row → Answer
 answer_of_info entries = Ok (info (flows_in_rows entries))
 
 abbrev pub answer_of_rows : List Row → Answer
-answer_of_rows entries = Ok (rows (is_given (codes "columns") entries) (flows_in_rows entries))
+answer_of_rows entries =
+    sources_in_rows entries >>= (λ source. Ok (rows source (is_given (codes "columns") entries) (flows_in_rows entries)))
 
 -- the answer to a subcommand, by its name and its entries
 abbrev pub answer_of : Text × List Row → Answer
@@ -84,6 +105,7 @@ abbrev pub IsFaultAt : List Text → UsageFault → Type 0
 IsFaultAt words (Refused text) = list_any is_mistake (fault_of flowlabel_app words) ≡ true
 IsFaultAt words NotUtf8 = ⊥
 IsFaultAt words (Help text) = list_any is_help (fault_of flowlabel_app words) ≡ true
+IsFaultAt words MapTwice = Answers words (Err MapTwice)
 IsFaultAt words MapMissing = Answers words (Err MapMissing)
 IsFaultAt words BadAddress = Answers words (Err BadAddress)
 IsFaultAt words NoMemory = Unit {0}
@@ -98,6 +120,7 @@ abbrev pub IsOwnFault : UsageFault → Type 0
 IsOwnFault (Refused text) = ⊥
 IsOwnFault NotUtf8 = ⊥
 IsOwnFault (Help text) = ⊥
+IsOwnFault MapTwice = Unit {0}
 IsOwnFault MapMissing = Unit {0}
 IsOwnFault BadAddress = Unit {0}
 IsOwnFault NoMemory = Unit {0}
@@ -121,7 +144,13 @@ is_plain_word (x ∷ xs) = not (x == 45)
 abbrev pub ReadsMapLine : List Text → Result Command UsageFault → Type 0
 ReadsMapLine words result = (program map address : Text) → is_plain_word map ≡ true → is_plain_word address ≡ true
     → words ≡ program ∷ codes "label" ∷ codes "--pmap" ∷ map ∷ address ∷ []
-    → IsUnlessMemory (label_answer (Some map) (address_of address)) result
+    → IsUnlessMemory (address_answer (FromMap map) (address_of address)) result
+
+-- and `label --list LIST ADDRESS` by its list and its address
+abbrev pub ReadsListLine : List Text → Result Command UsageFault → Type 0
+ReadsListLine words result = (program list address : Text) → is_plain_word list ≡ true → is_plain_word address ≡ true
+    → words ≡ program ∷ codes "label" ∷ codes "--list" ∷ list ∷ address ∷ []
+    → IsUnlessMemory (address_answer (FromList list) (address_of address)) result
 
 -- `label ADDRESS` misses its map
 abbrev pub ReadsBareLine : List Text → Result Command UsageFault → Type 0
@@ -136,18 +165,19 @@ ReadsInfoLine words result = (program file : Text) → is_plain_word file ≡ tr
 -- `rows FILE` is answered by its file
 abbrev pub ReadsRowsLine : List Text → Result Command UsageFault → Type 0
 ReadsRowsLine words result = (program file : Text) → is_plain_word file ≡ true
-    → words ≡ program ∷ codes "rows" ∷ file ∷ [] → IsUnlessMemory (Ok (rows false file)) result
+    → words ≡ program ∷ codes "rows" ∷ file ∷ [] → IsUnlessMemory (Ok (rows None false file)) result
 
 -- `rows --columns FILE` asks for columns
 abbrev pub ReadsColumnsLine : List Text → Result Command UsageFault → Type 0
 ReadsColumnsLine words result = (program file : Text) → is_plain_word file ≡ true
-    → words ≡ program ∷ codes "rows" ∷ codes "--columns" ∷ file ∷ [] → IsUnlessMemory (Ok (rows true file)) result
+    → words ≡ program ∷ codes "rows" ∷ codes "--columns" ∷ file ∷ [] → IsUnlessMemory (Ok (rows None true file)) result
 
 -- the fault comes of an error of this kind
 abbrev pub IsFaultOfKind : ErrorKind → UsageFault → Type 0
 IsFaultOfKind k (Refused text) = is_mistake k ≡ true
 IsFaultOfKind k NotUtf8 = ⊥
 IsFaultOfKind k (Help text) = is_help k ≡ true
+IsFaultOfKind k MapTwice = ⊥
 IsFaultOfKind k MapMissing = ⊥
 IsFaultOfKind k BadAddress = ⊥
 IsFaultOfKind k NoMemory = Unit {0}

@@ -8,13 +8,17 @@ use Rattle.clap.specs.Words.{App, Rule, new_app, new_rule, with_rule, with_subco
 abbrev pub pmap_rule : Rule
 pmap_rule = record (new_rule (codes "pmap")) { long = Some (codes "pmap"); value_names = 1 }
 
+-- `--list FILE`
+abbrev pub list_rule : Rule
+list_rule = record (new_rule (codes "list")) { long = Some (codes "list"); value_names = 1 }
+
 -- `ADDR`
 abbrev pub address_rule : Rule
 address_rule = record (new_rule (codes "address")) { value_names = 1; required = true }
 
--- `label --pmap FILE ADDR`
+-- `label [--pmap FILE] [--list FILE] ADDR`
 abbrev pub label_app : App
-label_app = with_rule (with_rule (new_app (codes "label")) pmap_rule) address_rule
+label_app = with_rule (with_rule (with_rule (new_app (codes "label")) pmap_rule) list_rule) address_rule
 
 -- `FILE`, an IPFIX File
 abbrev pub flows_rule : Rule
@@ -28,9 +32,10 @@ columns_rule = record (new_rule (codes "columns")) { long = Some (codes "columns
 abbrev pub info_app : App
 info_app = with_rule (new_app (codes "info")) flows_rule
 
--- `rows [--columns] FILE`
+-- `rows [--pmap FILE] [--list FILE] [--columns] FILE`
 abbrev pub rows_app : App
-rows_app = with_rule (with_rule (new_app (codes "rows")) columns_rule) flows_rule
+rows_app =
+    with_rule (with_rule (with_rule (with_rule (new_app (codes "rows")) pmap_rule) list_rule) columns_rule) flows_rule
 
 -- the program before its subcommands: one of them is required, and `help` is none
 abbrev pub program : App

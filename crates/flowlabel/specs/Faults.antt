@@ -8,7 +8,7 @@ use Rattle.pmap_text.specs.declared.fault.MapFault.{MapFault}
 use Rattle.pmap_text.specs.declared.fault.MapFaultKind.{MapFaultKind}
 use Rattle.pmap_text.specs.declared.fault.MapFaultKind.TheVariants as kind
 use Rattle.flowlabel.specs.declared.fault.RunFault.{RunFault}
-use Rattle.flowlabel.specs.declared.fault.RunFault.TheVariants.{Usage, CannotOpen, CannotRead, CannotWrite, NoMemory, Map, Flows}
+use Rattle.flowlabel.specs.declared.fault.RunFault.TheVariants.{Usage, CannotOpen, CannotRead, CannotWrite, NoMemory, Map, List as ListFile, Flows}
 use Rattle.flowlabel.specs.declared.usage.UsageFault.{UsageFault}
 use Rattle.flowlabel.specs.declared.usage.UsageFault.TheVariants as usage
 
@@ -67,7 +67,7 @@ abbrev pub place_text : List ℕ → List ℕ → ℕ → List ℕ
 place_text file name place =
     codes "flowlabel: " ++ file ++ codes ": " ++ name ++ codes " at " ++ decimal place ++ codes "\n"
 
--- the fault of a line of a map file
+-- the fault of a line of a map file or a list file
 abbrev pub map_fault_line_text : List ℕ → MapFault → List ℕ
 map_fault_line_text file fault =
     if is_want_of_memory fault.kind then out_of_memory
@@ -83,6 +83,7 @@ abbrev pub usage_fault_text : UsageFault → List ℕ
 usage_fault_text (usage.Refused text) = text
 usage_fault_text usage.NotUtf8 = codes "flowlabel: usage: P1 NotUtf8\n"
 usage_fault_text (usage.Help text) = []
+usage_fault_text usage.MapTwice = codes "flowlabel: usage: P3 MapTwice\n"
 usage_fault_text usage.MapMissing = codes "flowlabel: usage: P2 MapMissing\n"
 usage_fault_text usage.BadAddress = codes "flowlabel: usage: P4 BadAddress\n"
 usage_fault_text usage.NoMemory = out_of_memory
@@ -94,6 +95,7 @@ fault_text (CannotRead file) = codes "flowlabel: " ++ file.now ++ codes ": canno
 fault_text CannotWrite = codes "flowlabel: output: cannot write\n"
 fault_text NoMemory = out_of_memory
 fault_text (Map file fault) = map_fault_line_text file.now fault
+fault_text (ListFile file fault) = map_fault_line_text file.now fault
 fault_text (Flows file fault) = flows_fault_line_text file.now fault
 
 -- what is printed on standard output: the text of help, and nothing for a fault
@@ -105,6 +107,7 @@ abbrev pub usage_status_of : UsageFault → ℕ
 usage_status_of (usage.Refused text) = 2
 usage_status_of usage.NotUtf8 = 2
 usage_status_of (usage.Help text) = 0
+usage_status_of usage.MapTwice = 2
 usage_status_of usage.MapMissing = 2
 usage_status_of usage.BadAddress = 2
 usage_status_of usage.NoMemory = 3
@@ -120,6 +123,7 @@ status_of (CannotRead file) = 4
 status_of CannotWrite = 4
 status_of NoMemory = 3
 status_of (Map file fault) = bytes_status_of (is_want_of_memory fault.kind)
+status_of (ListFile file fault) = bytes_status_of (is_want_of_memory fault.kind)
 status_of (Flows file fault) = bytes_status_of (is_flows_want_of_memory fault.kind)
 
 -- the status of a run that ended so

@@ -3,7 +3,7 @@ pub mod Definition
 pub mod Answer
 pub mod Loops
 pub mod Faults
+pub mod Labelling
 pub mod Output
-pub mod Report
 pub mod Run
 pub mod Opening

@@ -1,22 +1,12 @@
 use Rattle.std.specs.Prelude.{◌≡◌, ◌⊎◌, List, Option, Some, Result, Ok, Err, option_map}
 use Rattle.flowlabel.specs.Answer.{Answers, IsFaultAt}
 use Rattle.flowlabel.specs.Request.{FileNames, Request, Text, files_of}
-use Rattle.flowlabel.specs.declared.command.Files.{Files}
 use Rattle.flowlabel.specs.declared.fault.RunFault.{RunFault}
 use Rattle.flowlabel.specs.declared.fault.RunFault.TheVariants.{Usage, CannotOpen}
 use Rattle.flowlabel.specs.declared.inputs.Inputs.{Inputs}
 use Rattle.flowlabel.specs.declared.inputs.Source.{Source}
 
 -- What the program does round a run: it opens the files of the command line's request.
-
--- the names of files, as texts
-abbrev pub names_of : Files → FileNames
-names_of files = record {
-  map = option_map (λ s. s.now) files.map;
-  list = option_map (λ s. s.now) files.list;
-  certificate = option_map (λ s. s.now) files.certificate;
-  flows = option_map (λ s. s.now) files.flows;
-}
 
 module _ {R : Type 0} where
   -- the name of an input, where it is there

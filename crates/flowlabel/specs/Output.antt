@@ -1,8 +1,8 @@
-use Rattle.std.specs.Prelude.{◌≡◌, ◌⊎◌, ℕ, List, [], ◌∷◌, ◌++◌, Option, None, Result, Ok, Err, option_map, unwrap_or}
-use Rattle.prefix_keys.specs.Conversion.{converted}
+use Rattle.std.specs.Prelude.{◌≡◌, ◌⊎◌, ◌↔◌, ℕ, List, [], ◌∷◌, ◌++◌, Bool, Option, Some, None, Result, Ok, Err, map, option_map, unwrap_or}
 use Rattle.prefix_keys.specs.Text.{AddressOf}
-use Rattle.pmap_text.specs.MapModel.{Label, MapModel, map_label}
-use Rattle.pmap_text.specs.Reading.{ReadsMap, map_reading}
+use Rattle.pmap_text.specs.ListModel.{IsEquivalent, ListModel}
+use Rattle.pmap_text.specs.MapModel.{MapModel}
+use Rattle.pmap_text.specs.Reading.{ReadsList, ReadsMap, list_reading, map_reading}
 use Rattle.pmap_text.specs.declared.fault.MapFault.{MapFault}
 use Rattle.ipfix_read.specs.File.{HasFileFault, ReadsFile}
 use Rattle.ipfix_read.specs.Message.{MessageView}
@@ -11,7 +11,8 @@ use Rattle.flow_rows.specs.Content.{rows_of_messages}
 use Rattle.flow_rows.specs.Counts.{counts_of}
 use Rattle.pmap_print.specs.Info.{info_text}
 use Rattle.pmap_print.specs.Rows.{rows_text}
-use Rattle.flowlabel.specs.Request.{Request, label, info, rows}
+use Rattle.flowlabel.specs.Labelling.{Labelling, label_by, labelling_of_list, labelling_of_map, row_labels}
+use Rattle.flowlabel.specs.Request.{FromList, FromMap, LabelSource, Request, label, info, rows}
 
 -- The output of a request: the text that it prints, or the first fault of its files' bytes.
 
@@ -25,6 +26,7 @@ pub record FileTexts : Type 0 where
 -- a fault of the bytes of one of the files
 pub data TextFault : Type 0 where
   InMap : (fault : MapFault) → TextFault
+  InList : (fault : MapFault) → TextFault
   InFlows : (fault : ReadFault) → TextFault
 
 -- a text, or the first fault
@@ -35,9 +37,12 @@ Outcome = Result (List ℕ) TextFault
 abbrev pub Prints : List ℕ → Outcome → Type 0
 Prints text outcome = outcome ≡ Ok text
 
--- the outcome is the first fault of a map file's text, or of a File's bytes
+-- the outcome is the first fault of a map file's text, of a list file's text, or of a File's bytes
 abbrev pub FailsMap : List ℕ → Outcome → Type 0
 FailsMap text outcome = (fault : MapFault) × (map_reading text ≡ Err fault) × (outcome ≡ Err (InMap fault))
+
+abbrev pub FailsList : List ℕ → Outcome → Type 0
+FailsList text outcome = (fault : MapFault) × (list_reading text ≡ Err fault) × (outcome ≡ Err (InList fault))
 
 abbrev pub FailsFlows : List ℕ → Outcome → Type 0
 FailsFlows bytes outcome = (fault : ReadFault) × HasFileFault [] 0 0 bytes fault × (outcome ≡ Err (InFlows fault))
@@ -46,29 +51,63 @@ FailsFlows bytes outcome = (fault : ReadFault) × HasFileFault [] 0 0 bytes faul
 abbrev pub MapThen : (MapModel → Outcome → Type 0) → List ℕ → Outcome → Type 0
 MapThen rest text outcome = FailsMap text outcome ⊎ ((map : MapModel) × ReadsMap text map × rest map outcome)
 
+-- the outcome over the text of a list file: its first fault, or what comes of the list
+abbrev pub ListThen : (ListModel → Outcome → Type 0) → List ℕ → Outcome → Type 0
+ListThen rest text outcome = FailsList text outcome ⊎ ((list : ListModel) × ReadsList text list × rest list outcome)
+
+-- the outcome over the text of a source of labels: its first fault, or what comes of its labelling
+abbrev pub LabelsThen : LabelSource → (Labelling → Outcome → Type 0) → FileTexts → Outcome → Type 0
+LabelsThen (FromMap file) rest texts = MapThen (λ m. rest (labelling_of_map m)) texts.map
+LabelsThen (FromList file) rest texts = ListThen (λ l. rest (labelling_of_list l)) texts.list
+
 -- the outcome over the bytes of an IPFIX File: their first fault, or what comes of the messages
 abbrev pub FlowsThen : (List MessageView → Outcome → Type 0) → List ℕ → Outcome → Type 0
 FlowsThen rest bytes outcome =
     FailsFlows bytes outcome ⊎ ((messages : List MessageView) × ReadsFile [] 0 bytes messages × rest messages outcome)
 
--- the label that a map gives an address, which counts by its place in the map's version: none where it has no such place
-abbrev pub label_of_address : MapModel → AddressOf → Option Label
-label_of_address m address = option_map (λ place. map_label m place.1) (converted m.version address)
+-- the same where there may be no source: then there is no labelling
+abbrev pub SourceThen : Option LabelSource → (Option Labelling → Outcome → Type 0) → FileTexts → Outcome → Type 0
+SourceThen None rest texts = rest None
+SourceThen (Some source) rest texts = LabelsThen source (λ labels. rest (Some labels)) texts
 
 -- a line is a text and a line feed
 abbrev pub line_of : List ℕ → List ℕ
 line_of text = text ++ 10 ∷ []
 
--- the line of the label that a map gives an address: the line feed alone where there is none
-abbrev pub label_text : AddressOf → MapModel → List ℕ
-label_text address m = line_of (unwrap_or (label_of_address m address) [])
+-- the line of the label that a labelling gives an address: the line feed alone where there is none
+abbrev pub label_text : AddressOf → Labelling → List ℕ
+label_text address labels = line_of (unwrap_or (label_by labels address) [])
+
+-- the rows of messages, with the labels of their addresses where there is a labelling
+abbrev pub report_of_rows : Bool → Option Labelling → List MessageView → List ℕ
+report_of_rows columns labels messages =
+    rows_text (rows_of_messages messages) (option_map (λ l. map (row_labels l) (rows_of_messages messages)) labels) columns
+
+-- what comes of a File under a labelling, or without one: the text of its messages
+abbrev pub ReportsThen : (Option Labelling → List MessageView → List ℕ) → Option LabelSource → FileTexts → Outcome → Type 0
+ReportsThen text source texts =
+    SourceThen source (λ labels. FlowsThen (λ messages. Prints (text labels messages)) texts.flows) texts
 
 -- this is an output of the request by the texts of its files, which are read in the order map, list, certificate, flows
 abbrev pub IsOutput : Request → FileTexts → Outcome → Type 0
-IsOutput (label map address) texts = MapThen (λ m. Prints (label_text address m)) texts.map
-IsOutput (info flows) texts = FlowsThen (λ messages. Prints (info_text (counts_of messages))) texts.flows
-IsOutput (rows columns flows) texts = FlowsThen (λ messages. Prints (rows_text (rows_of_messages messages) None columns)) texts.flows
+IsOutput (label source address) texts = LabelsThen source (λ labels. Prints (label_text address labels)) texts
+IsOutput (info flows) texts = ReportsThen (λ labels messages. info_text (counts_of messages)) None texts
+IsOutput (rows source columns flows) texts = ReportsThen (report_of_rows columns) source texts
 
 -- a request has one output at most
 abbrev pub OneOutput : Type 0
 OneOutput = (request : Request) (texts : FileTexts) (outcome other : Outcome) → IsOutput request texts outcome → IsOutput request texts other → outcome ≡ other
+
+-- the request with the labels of this source, where it has labels
+abbrev pub under : LabelSource → Request → Request
+under source (label old address) = label source address
+under source (info flows) = info flows
+under source (rows None columns flows) = rows None columns flows
+under source (rows (Some old) columns flows) = rows (Some source) columns flows
+
+-- Over one File, a request has the outputs under a map text that it has under each list text whose list labels every
+-- address as the map does
+abbrev pub SameUnderEquivalents : Type 0
+SameUnderEquivalents = (request : Request) (file other : List ℕ) (texts others : FileTexts) (m : MapModel) (l : ListModel) (outcome : Outcome)
+    → ReadsMap texts.map m → ReadsList others.list l → IsEquivalent l m → texts.flows ≡ others.flows
+    → IsOutput (under (FromMap file) request) texts outcome ↔ IsOutput (under (FromList other) request) others outcome

@@ -1,9 +1,11 @@
-use Rattle.std.specs.Prelude.{◌≡◌, ◌^◌, ◌<◌, ℕ, Bool, true, false, List, Option, Some, None, is_some}
+use Rattle.std.specs.Prelude.{◌≡◌, ◌^◌, ◌<◌, ℕ, Bool, List, Option, Some, None, is_some, option_and_then, option_map}
 use Rattle.prefix_keys.specs.Text.{AddressOf}
 use Rattle.prefix_keys.specs.Version.{width_of}
 use Rattle.flowlabel.specs.declared.command.Command.{Command}
 use Rattle.flowlabel.specs.declared.command.Command.TheVariants.{Label, Info, Rows}
 use Rattle.flowlabel.specs.declared.command.Files.{Files}
+use Rattle.flowlabel.specs.declared.command.LabelFile.{LabelFile}
+use Rattle.flowlabel.specs.declared.command.LabelFile.TheVariants.{Map, List as Prefixes}
 use Rattle.flowlabel.specs.declared.command.Needs.{Needs}
 
 -- What a command line may ask for, apart from how the program keeps it.
@@ -12,12 +14,17 @@ use Rattle.flowlabel.specs.declared.command.Needs.{Needs}
 abbrev pub Text : Type 0
 Text = List ℕ
 
--- label: the label that the map in a file gives an address; info: the counts of the messages of a File; rows: the rows
--- of its records, in columns of even width or not
+-- where labels come from: the map in a file, or the prefix list in a file
+pub data LabelSource : Type 0 where
+  FromMap : (file : Text) → LabelSource
+  FromList : (file : Text) → LabelSource
+
+-- label: the label that the labels of a file give an address; info: the counts of the messages of a File; rows: the rows
+-- of its records, with the labels of their addresses where there is a source of labels, in columns of even width or not
 pub data Request : Type 0 where
-  label : (map : Text) (address : AddressOf) → Request
+  label : (source : LabelSource) (address : AddressOf) → Request
   info : (flows : Text) → Request
-  rows : (columns : Bool) (flows : Text) → Request
+  rows : (source : Option LabelSource) (columns : Bool) (flows : Text) → Request
 
 -- the number is that of an address of the version
 abbrev pub IsAddress : AddressOf → Type 0
@@ -25,21 +32,20 @@ IsAddress address = address.1 < 2 ^ width_of address.0
 
 -- the addresses of a request are addresses of their versions
 abbrev pub IsProper : Request → Type 0
-IsProper (label map address) = IsAddress address
+IsProper (label source address) = IsAddress address
 IsProper (info flows) = Unit {0}
-IsProper (rows columns flows) = Unit {0}
+IsProper (rows source columns flows) = Unit {0}
+
+-- the source that a file of labels stands for
+abbrev pub source_of : LabelFile → LabelSource
+source_of (Map file) = FromMap file.now
+source_of (Prefixes file) = FromList file.now
 
 -- the request that a command stands for
 abbrev pub request_of : Command → Request
-request_of (Label map addr) = label map.now (addr.version, addr.value)
+request_of (Label labels addr) = label (source_of labels) (addr.version, addr.value)
 request_of (Info flows) = info flows.now
-request_of (Rows columns flows) = rows columns flows.now
-
--- which of the four inputs a request reads
-abbrev pub needs_of : Request → Needs
-needs_of (label map address) = record { map = true; list = false; certificate = false; flows = false }
-needs_of (info flows) = record { map = false; list = false; certificate = false; flows = true }
-needs_of (rows columns flows) = record { map = false; list = false; certificate = false; flows = true }
+request_of (Rows labels columns flows) = rows (option_map source_of labels) columns flows.now
 
 -- the names of the files that a request reads
 pub record FileNames : Type 0 where
@@ -48,10 +54,48 @@ pub record FileNames : Type 0 where
   pub certificate : Option Text
   pub flows : Option Text
 
+-- the names that a program keeps, as texts
+abbrev pub names_of : Files → FileNames
+names_of files = record {
+  map = option_map (λ s. s.now) files.map;
+  list = option_map (λ s. s.now) files.list;
+  certificate = option_map (λ s. s.now) files.certificate;
+  flows = option_map (λ s. s.now) files.flows;
+}
+
+-- the file of labels, if there is one, and the File, if there is one
+abbrev pub map_in : LabelSource → Option Text
+map_in (FromMap file) = Some file
+map_in (FromList file) = None
+
+abbrev pub list_in : LabelSource → Option Text
+list_in (FromMap file) = None
+list_in (FromList file) = Some file
+
+abbrev pub files_named : Option LabelSource → Option Text → FileNames
+files_named source flows = record {
+  map = option_and_then map_in source;
+  list = option_and_then list_in source;
+  certificate = None;
+  flows = flows;
+}
+
 abbrev pub files_of : Request → FileNames
-files_of (label map address) = record { map = Some map; list = None; certificate = None; flows = None }
-files_of (info flows) = record { map = None; list = None; certificate = None; flows = Some flows }
-files_of (rows columns flows) = record { map = None; list = None; certificate = None; flows = Some flows }
+files_of (label source address) = files_named (Some source) None
+files_of (info flows) = files_named None (Some flows)
+files_of (rows source columns flows) = files_named source (Some flows)
+
+-- which of the four inputs are read: those that there are names for
+abbrev pub needs_named : FileNames → Needs
+needs_named names = record {
+  map = is_some names.map;
+  list = is_some names.list;
+  certificate = is_some names.certificate;
+  flows = is_some names.flows;
+}
+
+abbrev pub needs_of : Request → Needs
+needs_of request = needs_named (files_of request)
 
 -- there is a file name for each input that is read, and no other
 abbrev pub NamesNeeds : Needs → Files → Type 0

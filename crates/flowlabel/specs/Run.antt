@@ -5,11 +5,11 @@ use Rattle.pmap_text.specs.declared.fault.MapFaultKind.TheVariants as kind
 use Rattle.flowlabel.specs.Loops.{IsUntouched, StopsWriting}
 use Rattle.ipfix_read.specs.declared.fault.ReadFaultKind.TheVariants as flows
 use Rattle.ipfix_templates.specs.declared.fault.TemplateFaultKind.TheVariants as template
-use Rattle.flowlabel.specs.Output.{FileTexts, InFlows, InMap, IsOutput, Outcome}
+use Rattle.flowlabel.specs.Output.{FileTexts, InFlows, InList, InMap, IsOutput, Outcome}
 use Rattle.flowlabel.specs.Request.{Request}
 use Rattle.flowlabel.specs.declared.command.Needs.{Needs}
 use Rattle.flowlabel.specs.declared.fault.RunFault.{RunFault}
-use Rattle.flowlabel.specs.declared.fault.RunFault.TheVariants.{Usage, CannotOpen, CannotRead, CannotWrite, NoMemory, Map, Flows}
+use Rattle.flowlabel.specs.declared.fault.RunFault.TheVariants.{Usage, CannotOpen, CannotRead, CannotWrite, NoMemory, Map, List as ListFile, Flows}
 use Rattle.flowlabel.specs.declared.inputs.Inputs.{Inputs}
 use Rattle.flowlabel.specs.declared.inputs.Source.{Source}
 
@@ -59,6 +59,7 @@ module _ {R : Type 0} where
   IsFaultOfReading failed old new CannotWrite = ⊥
   IsFaultOfReading failed old new NoMemory = Unit {0}
   IsFaultOfReading failed old new (Map file fault) = ⊥
+  IsFaultOfReading failed old new (ListFile file fault) = ⊥
   IsFaultOfReading failed old new (Flows file fault) = ⊥
 
   -- what a fault of a run over a map file says, by the relation that its text has to the outcome: a fault of the text is the
@@ -68,29 +69,38 @@ module _ {R : Type 0} where
       × ((text : List ℕ) → left old.reader ≡ Some text → over text (Err (InMap fault)))
   IsFaultOfMapFile left failed over old new other = IsFaultOfReading failed old new other
 
-  -- the same over an IPFIX File
+  -- the same over a list file
+  abbrev pub IsFaultOfListFile : (R → Option (List ℕ)) → (R → Bool) → (List ℕ → Outcome → Type 0) → Source R → Source R → RunFault → Type 0
+  IsFaultOfListFile left failed over old new (ListFile file fault) = (old.name.now ≡ file.now) × (fault.kind ≢ kind.NoMemory)
+      × ((text : List ℕ) → left old.reader ≡ Some text → over text (Err (InList fault)))
+  IsFaultOfListFile left failed over old new other = IsFaultOfReading failed old new other
+
+  -- and over an IPFIX File
   abbrev pub IsFaultOfFlowsFile : (R → Option (List ℕ)) → (R → Bool) → (List ℕ → Outcome → Type 0) → Source R → Source R → RunFault → Type 0
   IsFaultOfFlowsFile left failed over old new (Flows file fault) = (old.name.now ≡ file.now) × (fault.kind ≢ flows.NoMemory) × (fault.kind ≢ flows.BadTemplate template.NoMemory)
       × ((text : List ℕ) → left old.reader ≡ Some text → over text (Err (InFlows fault)))
   IsFaultOfFlowsFile left failed over old new other = IsFaultOfReading failed old new other
 
-  -- what a fault that comes before anything is written says, names being those before the call: a fault of a file's bytes
-  -- is the request's first fault, and a reader that is named has failed
-  abbrev pub IsFaultOfBytes : (R → Option (List ℕ)) → (R → Bool) → Inputs R → Inputs R → Request → RunFault → Type 0
-  IsFaultOfBytes left failed old new request (Usage fault) = ⊥
-  IsFaultOfBytes left failed old new request (CannotOpen file) = ⊥
-  IsFaultOfBytes left failed old new request (CannotRead file) =
+  -- what a fault that comes before anything is written says, by the relation of the files' texts to the outcome, names being
+  -- those before the call: a fault of a file's bytes is the outcome, and a reader that is named has failed
+  abbrev pub IsFaultOfBytes : (R → Option (List ℕ)) → (R → Bool) → Inputs R → Inputs R → (FileTexts → Outcome → Type 0) → RunFault → Type 0
+  IsFaultOfBytes left failed old new over (Usage fault) = ⊥
+  IsFaultOfBytes left failed old new over (CannotOpen file) = ⊥
+  IsFaultOfBytes left failed old new over (CannotRead file) =
       HasFailed failed old.map new.map file
       ⊎ (HasFailed failed old.list new.list file
       ⊎ (HasFailed failed old.certificate new.certificate file ⊎ HasFailed failed old.flows new.flows file))
-  IsFaultOfBytes left failed old new request CannotWrite = ⊥
-  IsFaultOfBytes left failed old new request NoMemory = Unit {0}
-  IsFaultOfBytes left failed old new request (Map file fault) =
+  IsFaultOfBytes left failed old new over CannotWrite = ⊥
+  IsFaultOfBytes left failed old new over NoMemory = Unit {0}
+  IsFaultOfBytes left failed old new over (Map file fault) =
       HasName old.map file × (fault.kind ≢ kind.NoMemory)
-      × ((texts : FileTexts) → HaveTexts left old texts → IsOutput request texts (Err (InMap fault)))
-  IsFaultOfBytes left failed old new request (Flows file fault) =
+      × ((texts : FileTexts) → HaveTexts left old texts → over texts (Err (InMap fault)))
+  IsFaultOfBytes left failed old new over (ListFile file fault) =
+      HasName old.list file × (fault.kind ≢ kind.NoMemory)
+      × ((texts : FileTexts) → HaveTexts left old texts → over texts (Err (InList fault)))
+  IsFaultOfBytes left failed old new over (Flows file fault) =
       HasName old.flows file × (fault.kind ≢ flows.NoMemory) × (fault.kind ≢ flows.BadTemplate template.NoMemory)
-      × ((texts : FileTexts) → HaveTexts left old texts → IsOutput request texts (Err (InFlows fault)))
+      × ((texts : FileTexts) → HaveTexts left old texts → over texts (Err (InFlows fault)))
 
   -- the inputs are those that a command needs, and no others
   pub record AreNeeded (needs : Needs) (inputs : Inputs R) : Type 0 where
@@ -107,12 +117,14 @@ module _ {R W : Type 0} (left : R → Option (List ℕ)) (failed : R → Bool) (
   IsFaultOfRun old new writer writer' request (Usage fault) = ⊥
   IsFaultOfRun old new writer writer' request (CannotOpen file) = ⊥
   IsFaultOfRun old new writer writer' request (CannotRead file) =
-      IsFaultOfBytes left failed old new request (CannotRead file) × IsUntouched taken last writer writer'
+      IsFaultOfBytes left failed old new (IsOutput request) (CannotRead file) × IsUntouched taken last writer writer'
   IsFaultOfRun old new writer writer' request NoMemory = IsUntouched taken last writer writer'
   IsFaultOfRun old new writer writer' request (Map file fault) =
-      IsFaultOfBytes left failed old new request (Map file fault) × IsUntouched taken last writer writer'
+      IsFaultOfBytes left failed old new (IsOutput request) (Map file fault) × IsUntouched taken last writer writer'
+  IsFaultOfRun old new writer writer' request (ListFile file fault) =
+      IsFaultOfBytes left failed old new (IsOutput request) (ListFile file fault) × IsUntouched taken last writer writer'
   IsFaultOfRun old new writer writer' request (Flows file fault) =
-      IsFaultOfBytes left failed old new request (Flows file fault) × IsUntouched taken last writer writer'
+      IsFaultOfBytes left failed old new (IsOutput request) (Flows file fault) × IsUntouched taken last writer writer'
 
 -- the run ended for a reader that failed, or for the writer
 abbrev pub is_read_stop : {A : Type 0} → Result A RunFault → Bool

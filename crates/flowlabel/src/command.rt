@@ -1,17 +1,36 @@
 ghost use Rattle.std.specs.Prelude.{◌≡◌, option_map};
-ghost use Rattle.flowlabel.specs.Request.{NamesNeeds, files_of, needs_of, request_of};
+ghost use Rattle.flowlabel.specs.Request.{NamesNeeds, files_named, files_of, names_of, needs_of, request_of, source_of};
 
 use prefix_keys::Addr;
+
+/// A file that labels come from, by its name.
+#[derive(Clone, Copy, Debug)]
+pub enum LabelFile<'a> {
+    /// `--pmap FILE`: a prefix map.
+    Map(&'a str),
+    /// `--list FILE`: a prefix list.
+    List(&'a str),
+}
 
 /// What a command line asks for, its file names and texts lent from the words.
 #[derive(Clone, Copy, Debug)]
 pub enum Command<'a> {
-    /// `label --pmap FILE ADDR`: the label that a map gives an address.
-    Label { map: &'a str, addr: Addr },
+    /// `label (--pmap FILE | --list FILE) ADDR`: the label of an address.
+    Label {
+        labels: LabelFile<'a>,
+        addr: Addr,
+    },
     /// `info FILE`: how many messages, sets and records an IPFIX File has.
-    Info { flows: &'a str },
-    /// `rows [--columns] FILE`: the rows of an IPFIX File, padded to columns where that is asked for.
-    Rows { columns: bool, flows: &'a str },
+    Info {
+        flows: &'a str,
+    },
+    /// `rows [--pmap FILE | --list FILE] [--columns] FILE`: the rows of an IPFIX File, with labels where a file of them is
+    /// named, padded to columns where that is asked for.
+    Rows {
+        labels: Option<LabelFile<'a>>,
+        columns: bool,
+        flows: &'a str,
+    },
 }
 
 /// Which of the four inputs a command reads.
@@ -32,24 +51,36 @@ pub struct Files<'a> {
     pub flows: Option<&'a str>,
 }
 
+impl<'a> Files<'a> {
+    // The file of labels, and the File, where they are there.
+    fn named(labels: Option<LabelFile<'a>>, flows: Option<&'a str>) -> Files<'a>
+        ensures { names_of result ≡ files_named (option_map source_of labels.entry) (option_map (λ s. s.now) flows.entry) }
+    {
+        let (map, list) = match labels {
+            None => (None, None),
+            Some(LabelFile::Map(file)) => (Some(file), None),
+            Some(LabelFile::List(file)) => (None, Some(file)),
+        };
+        Files {
+            map,
+            list,
+            certificate: None,
+            flows,
+        }
+    }
+}
+
 impl<'a> Command<'a> {
     /// Which inputs the command reads.
     pub fn needs(&self) -> Needs
         ensures { result ≡ needs_of (request_of self.now) }
     {
-        match self {
-            Command::Label { .. } => Needs {
-                map: true,
-                list: false,
-                certificate: false,
-                flows: false,
-            },
-            Command::Info { .. } | Command::Rows { .. } => Needs {
-                map: false,
-                list: false,
-                certificate: false,
-                flows: true,
-            },
+        let files = self.files();
+        Needs {
+            map: files.map.is_some(),
+            list: files.list.is_some(),
+            certificate: files.certificate.is_some(),
+            flows: files.flows.is_some(),
         }
     }
 
@@ -63,18 +94,9 @@ impl<'a> Command<'a> {
         ensures needed { NamesNeeds (needs_of (request_of self.now)) result }
     {
         match self {
-            Command::Label { map, .. } => Files {
-                map: Some(map),
-                list: None,
-                certificate: None,
-                flows: None,
-            },
-            Command::Info { flows } | Command::Rows { flows, .. } => Files {
-                map: None,
-                list: None,
-                certificate: None,
-                flows: Some(flows),
-            },
+            Command::Label { labels, .. } => Files::named(Some(*labels), None),
+            Command::Info { flows } => Files::named(None, Some(flows)),
+            Command::Rows { labels, flows, .. } => Files::named(*labels, Some(flows)),
         }
     }
 }

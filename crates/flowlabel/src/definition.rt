@@ -1,27 +1,46 @@
 ghost use Rattle.std.specs.Prelude.{◌≡◌, IfOk, false, true};
 ghost use Rattle.clap.specs.Words.{app_of, rule_of};
 ghost use Rattle.clap.specs.declared.builder.command.Command.TheViews.{out-Command};
-ghost use Rattle.flowlabel.specs.Definition.{flowlabel_app, flows_rule, info_app, label_app, program, rows_app};
+ghost use Rattle.flowlabel.specs.Definition.{columns_rule, flowlabel_app, flows_rule, info_app, label_app, list_rule, pmap_rule, program, rows_app};
 
 use clap::{Arg, ArgAction, Command};
 use std::alloc::{AllocError, Global};
 
-/// `label --pmap FILE ADDR`.
+/// `--pmap FILE`, a prefix map.
+fn map_argument<'a>(alloc: Global) -> Arg<'a>
+    ensures rule { rule_of result ≡ pmap_rule }
+    ensures local { result.global ≡ false }
+{
+    Arg::new(alloc, "pmap")
+        .long("pmap")
+        .value_name("FILE")
+        .help("The prefix map")
+}
+
+/// `--list FILE`, a prefix list.
+fn list_argument<'a>(alloc: Global) -> Arg<'a>
+    ensures rule { rule_of result ≡ list_rule }
+    ensures local { result.global ≡ false }
+{
+    Arg::new(alloc, "list")
+        .long("list")
+        .value_name("FILE")
+        .help("The prefix list")
+}
+
+/// `label [--pmap FILE] [--list FILE] ADDR`.
 fn label<'a>(alloc: Global) -> Result<Command<'a>, AllocError>
     ensures app { IfOk result (λ c. app_of c ≡ label_app) }
     ensures local { IfOk result (λ c. (out-Command c).has_globals ≡ false) }
 {
-    let map = Arg::new(alloc, "pmap")
-        .long("pmap")
-        .value_name("FILE")
-        .help("The prefix map");
     let address = Arg::new(alloc, "address")
         .value_name("ADDR")
         .required(true)
         .help("The address to label");
     Command::new(alloc, "label")
         .about("Print the label of an address")
-        .arg(map)?
+        .arg(map_argument(alloc))?
+        .arg(list_argument(alloc))?
         .arg(address)
 }
 
@@ -46,18 +65,27 @@ fn info<'a>(alloc: Global) -> Result<Command<'a>, AllocError>
         .arg(flows_argument(alloc))
 }
 
-/// `rows [--columns] FILE`.
+/// `--columns`.
+fn columns_argument<'a>(alloc: Global) -> Arg<'a>
+    ensures rule { rule_of result ≡ columns_rule }
+    ensures local { result.global ≡ false }
+{
+    Arg::new(alloc, "columns")
+        .long("columns")
+        .action(ArgAction::SetTrue)
+        .help("Pad the values to columns")
+}
+
+/// `rows [--pmap FILE] [--list FILE] [--columns] FILE`.
 fn rows<'a>(alloc: Global) -> Result<Command<'a>, AllocError>
     ensures app { IfOk result (λ c. app_of c ≡ rows_app) }
     ensures local { IfOk result (λ c. (out-Command c).has_globals ≡ false) }
 {
-    let columns = Arg::new(alloc, "columns")
-        .long("columns")
-        .action(ArgAction::SetTrue)
-        .help("Pad the values to columns");
     Command::new(alloc, "rows")
         .about("Print the rows of an IPFIX File")
-        .arg(columns)?
+        .arg(map_argument(alloc))?
+        .arg(list_argument(alloc))?
+        .arg(columns_argument(alloc))?
         .arg(flows_argument(alloc))
 }
 

@@ -23,6 +23,8 @@ pub enum RunFault<'a> {
     NoMemory,
     /// The text of a map file has this fault.
     Map { file: &'a str, fault: MapFault },
+    /// The text of a list file has this fault.
+    List { file: &'a str, fault: MapFault },
     /// The bytes of an IPFIX File have this fault.
     Flows { file: &'a str, fault: ReadFault },
 }
@@ -86,6 +88,7 @@ fn usage_line(alloc: Global, fault: &UsageFault) -> Result<String, AllocError>
         UsageFault::Refused(text) => String::from_str(alloc, text.as_str()),
         UsageFault::NotUtf8 => String::from_str(alloc, "flowlabel: usage: P1 NotUtf8\n"),
         UsageFault::Help(_) => String::from_str(alloc, ""),
+        UsageFault::MapTwice => String::from_str(alloc, "flowlabel: usage: P3 MapTwice\n"),
         UsageFault::MapMissing => String::from_str(alloc, "flowlabel: usage: P2 MapMissing\n"),
         UsageFault::BadAddress => String::from_str(alloc, "flowlabel: usage: P4 BadAddress\n"),
         UsageFault::NoMemory => String::from_str(alloc, "flowlabel: out of memory\n"),
@@ -126,7 +129,9 @@ fn text_of_fault(alloc: Global, fault: &RunFault<'_>) -> Result<String, AllocErr
         RunFault::CannotRead(file) => format!(in alloc; "flowlabel: {file}: cannot read\n"),
         RunFault::CannotWrite => String::from_str(alloc, "flowlabel: output: cannot write\n"),
         RunFault::NoMemory => String::from_str(alloc, "flowlabel: out of memory\n"),
-        RunFault::Map { file, fault } => map_fault_line(alloc, file, fault),
+        RunFault::Map { file, fault } | RunFault::List { file, fault } => {
+            map_fault_line(alloc, file, fault)
+        }
         RunFault::Flows { file, fault } => flows_fault_line(alloc, file, fault),
     }
 }
@@ -156,6 +161,7 @@ fn usage_status(fault: &UsageFault) -> u8
         UsageFault::NoMemory => 3,
         UsageFault::Refused(_)
         | UsageFault::NotUtf8
+        | UsageFault::MapTwice
         | UsageFault::MapMissing
         | UsageFault::BadAddress => 2,
     }
@@ -177,7 +183,9 @@ pub fn status(fault: &RunFault<'_>) -> u8
         RunFault::Usage(fault) => usage_status(fault),
         RunFault::CannotOpen(_) | RunFault::CannotRead(_) | RunFault::CannotWrite => 4,
         RunFault::NoMemory => 3,
-        RunFault::Map { fault, .. } => bytes_status(fault.kind == MapFaultKind::NoMemory),
+        RunFault::Map { fault, .. } | RunFault::List { fault, .. } => {
+            bytes_status(fault.kind == MapFaultKind::NoMemory)
+        }
         RunFault::Flows { fault, .. } => bytes_status(fault.kind == ReadFaultKind::NoMemory),
     }
 }

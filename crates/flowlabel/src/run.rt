@@ -5,20 +5,27 @@ ghost use Rattle.flowlabel.specs.Output.{FileTexts, IsOutput};
 ghost use Rattle.flowlabel.specs.Request.{needs_of, request_of};
 ghost use Rattle.flowlabel.specs.Run.{any_failed, is_read_stop, is_write_stop, AreNeeded, HaveTexts, IsFaultOfBytes, IsFaultOfRun, PrintsThen};
 
-use crate::command::Command;
+use crate::command::{Command, LabelFile};
 use crate::fault::RunFault;
 use crate::inputs::Inputs;
 use crate::writing::{WriteFault, write_whole};
 use flow_io::{Input, Output};
 use std::alloc::Global;
 
+pub mod address_labels;
+pub mod info;
 mod label;
+mod labelled;
 pub mod laws;
+pub mod map_labels;
 pub mod report;
+pub mod rows;
 mod source;
 
-use label::label_of_file;
-use report::{Report, report_of_file};
+use info::InfoReport;
+use label::{label_by_list, label_by_map};
+use labelled::report_under;
+use rows::RowsReport;
 
 // The whole output of a command.
 fn output<'a, R: Input>(
@@ -30,28 +37,34 @@ fn output<'a, R: Input>(
     requires readers { any_failed R.failed inputs.old ≡ false }
     ensures ok { IfOk result (λ out. (texts : FileTexts) → HaveTexts R.bytes_left inputs.old texts
         → IsOutput (request_of command.now) texts (Ok out.items)) }
-    ensures err { IfErr result (IsFaultOfBytes R.bytes_left R.failed inputs.old inputs.new (request_of command.now)) }
+    ensures err { IfErr result (IsFaultOfBytes R.bytes_left R.failed inputs.old inputs.new (IsOutput (request_of command.now))) }
     ensures failed { any_failed R.failed inputs.new ≡ is_read_stop result }
 {
     match command {
-        Command::Label { addr, .. } => {
+        Command::Label {
+            labels: LabelFile::Map(_),
+            addr,
+        } => {
             let Some(source) = &mut inputs.map else {
                 unreachable!()
             };
-            label_of_file(alloc, source, *addr)
+            label_by_map(alloc, source, *addr)
         }
-        Command::Info { .. } => {
-            let Some(source) = &mut inputs.flows else {
+        Command::Label {
+            labels: LabelFile::List(_),
+            addr,
+        } => {
+            let Some(source) = &mut inputs.list else {
                 unreachable!()
             };
-            report_of_file(alloc, source, Report::Info)
+            label_by_list(alloc, source, *addr)
         }
-        Command::Rows { columns, .. } => {
-            let Some(source) = &mut inputs.flows else {
-                unreachable!()
-            };
-            report_of_file(alloc, source, Report::Rows { columns: *columns })
-        }
+        Command::Info { .. } => report_under(alloc, None, inputs, &InfoReport),
+        Command::Rows {
+            labels,
+            columns,
+            ..
+        } => report_under(alloc, *labels, inputs, &RowsReport { columns: *columns }),
     }
 }
 

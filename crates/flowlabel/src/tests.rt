@@ -1,4 +1,4 @@
-use crate::command::{Command, Needs};
+use crate::command::{Command, LabelFile, Needs};
 use crate::usage::{ClapText, UsageFault};
 use crate::words::parse;
 use prefix_keys::Version;
@@ -8,7 +8,18 @@ use std::test::Fail;
 
 fn name_of(answer: &Result<Command<'_>, UsageFault>) -> &'static str {
     match answer {
-        Ok(Command::Label { .. }) => "label",
+        Ok(
+            Command::Label {
+                labels: LabelFile::Map(_),
+                ..
+            },
+        ) => "label",
+        Ok(
+            Command::Label {
+                labels: LabelFile::List(_),
+                ..
+            },
+        ) => "label by list",
         Ok(Command::Info { .. }) => "info",
         Ok(Command::Rows { columns: false, .. }) => "rows",
         Ok(Command::Rows { columns: true, .. }) => "rows in columns",
@@ -16,6 +27,7 @@ fn name_of(answer: &Result<Command<'_>, UsageFault>) -> &'static str {
         Err(UsageFault::NotUtf8) => "P1",
         Err(UsageFault::Help(_)) => "help",
         Err(UsageFault::MapMissing) => "P2",
+        Err(UsageFault::MapTwice) => "P3",
         Err(UsageFault::BadAddress) => "P4",
         Err(UsageFault::NoMemory) => "out of memory",
     }
@@ -26,7 +38,7 @@ fn outcome(alloc: Global, line: &str) -> Result<&'static str, AllocError> {
     Ok(name_of(&parse(alloc, words.as_slice())))
 }
 
-const LINES: [(&str, &str); 30] = [
+const LINES: [(&str, &str); 36] = [
     ("flowlabel label --pmap map.txt 10.1.1.1", "label"),
     ("flowlabel label --pmap=map.txt 10.1.1.1", "label"),
     ("flowlabel label 10.1.1.1 --pmap map.txt", "label"),
@@ -46,7 +58,16 @@ const LINES: [(&str, &str); 30] = [
     ("flowlabel rows --columns=yes flows", "refused"),
     ("flowlabel rows flows flows", "refused"),
     ("flowlabel info --columns flows", "refused"),
-    ("flowlabel rows --pmap map.txt flows", "refused"),
+    ("flowlabel label --list list.txt 10.1.1.1", "label by list"),
+    ("flowlabel label --pmap map.txt --list list.txt 1.2.3", "P3"),
+    ("flowlabel rows --pmap map.txt flows", "rows"),
+    (
+        "flowlabel rows --list list.txt --columns flows",
+        "rows in columns",
+    ),
+    ("flowlabel rows --pmap map.txt --list list.txt flows", "P3"),
+    ("flowlabel info --pmap map.txt flows", "refused"),
+    ("flowlabel label --list list.txt 1.2.3", "P4"),
     ("flowlabel rows --help", "help"),
     ("flowlabel info --colour flows", "refused"),
     ("flowlabel label --pmap map.txt", "refused"),
@@ -103,7 +124,11 @@ fn names_flows_alone(rt: &impl Abort, command: &Command<'_>) {
 }
 
 fn is_label_command(rt: &impl Abort, command: &Command<'_>) {
-    let Command::Label { map, addr } = command else {
+    let Command::Label {
+        labels: LabelFile::Map(map),
+        addr,
+    } = command
+    else {
         panic!(rt; "another command");
     };
     assert_eq!(rt; *map, "map.txt");

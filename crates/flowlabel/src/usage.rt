@@ -56,7 +56,10 @@ pub enum UsageFault {
     /// The line asks for help, which is this text.
     #[error("{0}")]
     Help(ClapText),
-    /// P2: the command reads a map, and none is named.
+    /// P3: both a map and a list are named.
+    #[error("P3 MapTwice")]
+    MapTwice,
+    /// P2: the command reads a map or a list, and none is named.
     #[error("P2 MapMissing")]
     MapMissing,
     /// P4: the word is no address.

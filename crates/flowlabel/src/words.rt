@@ -1,11 +1,12 @@
 ghost use Rattle.std.specs.Prelude.{◌≡◌, IfOk, option_map, true};
+ghost use Rattle.std.specs.Result.{result_map_both};
 ghost use Rattle.clap.specs.Words.{first_of, found_of, kind_of, rows_of, takes};
 ghost use Rattle.clap.specs.Walk.{texts};
 ghost use Rattle.flowlabel.specs.Definition.{flowlabel_app};
-ghost use Rattle.flowlabel.specs.Request.{IsProper, request_of};
-ghost use Rattle.flowlabel.specs.Answer.{IsAnswer, IsFaultOfKind, IsOwnAnswer, ReadsBareLine, ReadsColumnsLine, ReadsInfoLine, ReadsMapLine, ReadsRowsLine, SaysOnly, address_in_rows, answer_of, answer_of_label, flows_in_rows, is_given, words_fault_of};
+ghost use Rattle.flowlabel.specs.Request.{IsProper, request_of, source_of};
+ghost use Rattle.flowlabel.specs.Answer.{IsAnswer, IsFaultOfKind, IsOwnAnswer, ReadsBareLine, ReadsColumnsLine, ReadsInfoLine, ReadsListLine, ReadsMapLine, ReadsRowsLine, SaysOnly, address_in_rows, answer_of, answer_of_label, answer_of_rows, flows_in_rows, is_given, sources_in_rows, words_fault_of};
 
-use crate::command::Command;
+use crate::command::{Command, LabelFile};
 use crate::definition::definition;
 use crate::usage::{ClapText, UsageFault};
 use clap::ArgMatches;
@@ -50,17 +51,29 @@ fn address_in(entries: &ArgMatches<'_>) -> Option<Addr>
     read_addr(text.as_bytes())
 }
 
+/// The file of labels that the line names, if it names one: two are too many.
+fn labels_in<'a>(entries: &ArgMatches<'a>) -> Result<Option<LabelFile<'a>>, UsageFault>
+    ensures { result_map_both (option_map source_of) (λ fault. fault) result ≡ sources_in_rows (rows_of (found_of entries.now)) }
+{
+    match (text_of(entries, "pmap"), text_of(entries, "list")) {
+        (Some(_), Some(_)) => Err(UsageFault::MapTwice),
+        (Some(map), None) => Ok(Some(LabelFile::Map(map))),
+        (None, Some(list)) => Ok(Some(LabelFile::List(list))),
+        (None, None) => Ok(None),
+    }
+}
+
 /// The command `label`, or its first usage fault, by the entries that clap found for it.
 fn label_command<'a>(entries: &ArgMatches<'a>) -> Result<Command<'a>, UsageFault>
     ensures { SaysOnly (answer_of_label (rows_of (found_of entries.now))) result }
 {
-    let Some(map) = text_of(entries, "pmap") else {
+    let Some(labels) = labels_in(entries)? else {
         return Err(UsageFault::MapMissing);
     };
     let Some(addr) = address_in(entries) else {
         return Err(UsageFault::BadAddress);
     };
-    Ok(Command::Label { map, addr })
+    Ok(Command::Label { labels, addr })
 }
 
 /// The file of flows that the word FILE names: clap takes no line of `info` or `rows` without one.
@@ -77,6 +90,20 @@ fn is_given(entries: &ArgMatches<'_>, flag: &str) -> bool
     text_of(entries, flag).unwrap_or("") == "true"
 }
 
+/// The command `rows`, or its first usage fault, by the entries that clap found for it.
+fn rows_command<'a>(entries: &ArgMatches<'a>) -> Result<Command<'a>, UsageFault>
+    ensures { SaysOnly (answer_of_rows (rows_of (found_of entries.now))) result }
+{
+    let labels = labels_in(entries)?;
+    let columns = is_given(entries, "columns");
+    let flows = flows_in(entries);
+    Ok(Command::Rows {
+        labels,
+        columns,
+        flows,
+    })
+}
+
 /// The command of a subcommand, or its first usage fault, by its name and the entries that clap found for it.
 fn command_of<'a>(name: &str, entries: &ArgMatches<'a>) -> Result<Command<'a>, UsageFault>
     ensures { SaysOnly (answer_of (name.now, rows_of (found_of entries.now))) result }
@@ -86,9 +113,7 @@ fn command_of<'a>(name: &str, entries: &ArgMatches<'a>) -> Result<Command<'a>, U
         return Ok(Command::Info { flows });
     }
     if name == "rows" {
-        let columns = is_given(entries, "columns");
-        let flows = flows_in(entries);
-        return Ok(Command::Rows { columns, flows });
+        return rows_command(entries);
     }
     label_command(entries)
 }
@@ -109,11 +134,12 @@ pub fn words_fault(kind: io::ErrorKind) -> UsageFault
 /// # Errors
 ///
 /// `Refused` or `Help` where clap refuses the line or is asked for help. Where clap takes it, the first of these:
-/// `MapMissing`, `BadAddress`. `NoMemory` where an allocation failed, in place of any other answer.
+/// `MapTwice`, `MapMissing`, `BadAddress`. `NoMemory` where an allocation failed, in place of any other answer.
 pub fn parse<'a>(alloc: Global, words: &'a [&'a str]) -> Result<Command<'a>, UsageFault>
     ensures answer { IsAnswer (texts words.entry.now) result }
     ensures proper { IfOk result (λ command. IsProper (request_of command)) }
     ensures map_line { ReadsMapLine (texts words.entry.now) result }
+    ensures list_line { ReadsListLine (texts words.entry.now) result }
     ensures bare_line { ReadsBareLine (texts words.entry.now) result }
     ensures info_line { ReadsInfoLine (texts words.entry.now) result }
     ensures rows_line { ReadsRowsLine (texts words.entry.now) result }

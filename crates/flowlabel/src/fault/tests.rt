@@ -167,7 +167,7 @@ fn names_each_fault_of_a_file(rt: HostRuntime) -> Result<(), Fail> {
     Ok(())
 }
 
-const USAGE_FAULTS: [(RunFault<'static>, u8, &str); 4] = [
+const USAGE_FAULTS: [(RunFault<'static>, u8, &str); 5] = [
     (
         RunFault::Usage(UsageFault::NotUtf8),
         2,
@@ -179,6 +179,11 @@ const USAGE_FAULTS: [(RunFault<'static>, u8, &str); 4] = [
         "flowlabel: usage: P2 MapMissing\n",
     ),
     (
+        RunFault::Usage(UsageFault::MapTwice),
+        2,
+        "flowlabel: usage: P3 MapTwice\n",
+    ),
+    (
         RunFault::Usage(UsageFault::BadAddress),
         2,
         "flowlabel: usage: P4 BadAddress\n",
@@ -186,7 +191,7 @@ const USAGE_FAULTS: [(RunFault<'static>, u8, &str); 4] = [
     (RunFault::Usage(UsageFault::NoMemory), 3, OUT_OF_MEMORY),
 ];
 
-const DEVICE_FAULTS: [(RunFault<'static>, u8, &str); 6] = [
+const DEVICE_FAULTS: [(RunFault<'static>, u8, &str); 7] = [
     (RunFault::NoMemory, 3, OUT_OF_MEMORY),
     (
         RunFault::Map {
@@ -198,6 +203,17 @@ const DEVICE_FAULTS: [(RunFault<'static>, u8, &str); 6] = [
         },
         3,
         OUT_OF_MEMORY,
+    ),
+    (
+        RunFault::List {
+            file: "list.txt",
+            fault: MapFault {
+                kind: MapFaultKind::NotAList,
+                line: 3,
+            },
+        },
+        1,
+        "flowlabel: list.txt: M13 NotAList at 3\n",
     ),
     (
         RunFault::Flows {

@@ -1,33 +1,21 @@
 //! What `label` prints.
-ghost use Rattle.std.specs.Prelude.{◌≡◌, ◌^◌, ◌<◌, ℕ, List, [], Ok, Some, false, IfErr, IfOk, option_and_then, option_map, slice_get, unwrap_or};
-ghost use Rattle.prefix_keys.specs.Version.{width_of};
-ghost use Rattle.pmap_text.specs.MapModel.{map_label};
+ghost use Rattle.std.specs.Prelude.{◌≡◌, ℕ, List, [], Ok, Some, false, IfErr, IfOk, option_map, unwrap_or};
 ghost use Rattle.pmap_text.specs.MapText.{map_of};
-ghost use Rattle.label_trie.specs.TrieModel.{label_in};
-ghost use Rattle.flowlabel.specs.Output.{MapThen, Prints, label_of_address, label_text, line_of};
-ghost use Rattle.flowlabel.specs.Run.{is_read_stop, IsFaultOfMapFile};
+ghost use Rattle.pmap_text.specs.PrefixList.{list_of};
+ghost use Rattle.flowlabel.specs.Labelling.{labelling, labelling_of_list, labelling_of_map};
+ghost use Rattle.flowlabel.specs.Output.{ListThen, MapThen, Prints, label_text, line_of};
+ghost use Rattle.flowlabel.specs.Run.{is_read_stop, IsFaultOfListFile, IsFaultOfMapFile};
 
 use crate::fault::RunFault;
 use crate::inputs::Source;
-use crate::run::source::map_of_file;
+use crate::run::address_labels::AddressLabels;
+use crate::run::map_labels::{MapLabels, trie_of};
+use crate::run::source::{list_of_file, map_of_file};
 use flow_io::Input;
-use label_trie::Trie;
-use pmap_text::MapText;
-use prefix_keys::{Addr, convert};
+use label_lookup::{Labeller, ListIndex, label_row};
+use pmap_text::{MapText, PrefixList};
+use prefix_keys::Addr;
 use std::alloc::{AllocError, Global};
-
-// The label of an address, by the trie of the map: none where the address has no place in the map's version.
-fn label_of<'m>(map: &'m MapText, trie: &Trie, addr: Addr) -> Option<&'m [u8]>
-    requires version { trie.now.version ≡ map.now.version }
-    requires labels { (a : ℕ) → a < 2 ^ width_of map.now.version
-        → option_and_then (slice_get map.now.labels) (label_in trie.now a) ≡ Some (map_label (map_of map.now) a) }
-    ensures { option_map (λ t. t.now) result ≡ label_of_address (map_of map.now) (addr.version, addr.value) }
-{
-    match trie.label_at(convert(addr, map.version)?) {
-        Some(id) => map.labels.text(id),
-        None => None,
-    }
-}
 
 // The line of a label: the line feed alone where there is none.
 fn label_line(alloc: Global, label: Option<&[u8]>) -> Result<Vec<u8>, AllocError>
@@ -41,29 +29,64 @@ fn label_line(alloc: Global, label: Option<&[u8]>) -> Result<Vec<u8>, AllocError
     Ok(out)
 }
 
-// The line of the label that a map gives an address.
-fn line_of_label(alloc: Global, map: &MapText, addr: Addr) -> Result<Vec<u8>, AllocError>
-    ensures { IfOk result (λ out. out.items ≡ label_text (addr.version, addr.value) (map_of map.now)) }
+// The line of the label of an address.
+fn line_by<L: Labeller>(alloc: Global, labels: &L, addr: Addr) -> Result<Vec<u8>, AllocError>
+    ensures { IfOk result (λ out. out.items
+        ≡ label_text (addr.version, addr.value) (labelling (L.version_of labels.now) (L.label labels.now))) }
 {
-    let trie = Trie::build(alloc, map)?;
-    label_line(alloc, label_of(map, &trie, addr))
+    label_line(alloc, label_row(&AddressLabels::new(labels), addr))
+}
+
+// The line of the label that a map gives an address.
+fn line_by_map(alloc: Global, map: &MapText, addr: Addr) -> Result<Vec<u8>, AllocError>
+    ensures { IfOk result (λ out. out.items ≡ label_text (addr.version, addr.value) (labelling_of_map (map_of map.now))) }
+{
+    let trie = trie_of(alloc, map)?;
+    line_by(alloc, &MapLabels::new(map, &trie), addr)
+}
+
+// The line of the label that a prefix list gives an address.
+fn line_by_list(alloc: Global, list: &PrefixList, addr: Addr) -> Result<Vec<u8>, AllocError>
+    ensures { IfOk result (λ out. out.items ≡ label_text (addr.version, addr.value) (labelling_of_list (list_of list.now))) }
+{
+    line_by(alloc, &ListIndex::build(alloc, list)?, addr)
 }
 
 /// The line of the label that the map of a file gives an address.
-pub fn label_of_file<'a, R: Input>(
+pub fn label_by_map<'a, R: Input>(
     alloc: Global,
     source: &mut Source<'a, R>,
     addr: Addr,
 ) -> Result<Vec<u8>, RunFault<'a>>
     requires { R.failed source.old.reader ≡ false }
     ensures ok { IfOk result (λ out. (text : List ℕ) → R.bytes_left source.old.reader ≡ Some text
-        → MapThen (λ m. Prints (label_text (addr.version, addr.value) m)) text (Ok out.items)) }
+        → MapThen (λ m. Prints (label_text (addr.version, addr.value) (labelling_of_map m))) text (Ok out.items)) }
     ensures err { IfErr result (IsFaultOfMapFile R.bytes_left R.failed
-        (MapThen (λ m. Prints (label_text (addr.version, addr.value) m))) source.old source.new) }
+        (MapThen (λ m. Prints (label_text (addr.version, addr.value) (labelling_of_map m)))) source.old source.new) }
     ensures failed { R.failed source.new.reader ≡ is_read_stop result }
 {
     let map = map_of_file(alloc, source)?;
-    match line_of_label(alloc, &map, addr) {
+    match line_by_map(alloc, &map, addr) {
+        Ok(out) => Ok(out),
+        Err(_) => Err(RunFault::NoMemory),
+    }
+}
+
+/// The line of the label that the prefix list of a file gives an address.
+pub fn label_by_list<'a, R: Input>(
+    alloc: Global,
+    source: &mut Source<'a, R>,
+    addr: Addr,
+) -> Result<Vec<u8>, RunFault<'a>>
+    requires { R.failed source.old.reader ≡ false }
+    ensures ok { IfOk result (λ out. (text : List ℕ) → R.bytes_left source.old.reader ≡ Some text
+        → ListThen (λ l. Prints (label_text (addr.version, addr.value) (labelling_of_list l))) text (Ok out.items)) }
+    ensures err { IfErr result (IsFaultOfListFile R.bytes_left R.failed
+        (ListThen (λ l. Prints (label_text (addr.version, addr.value) (labelling_of_list l)))) source.old source.new) }
+    ensures failed { R.failed source.new.reader ≡ is_read_stop result }
+{
+    let list = list_of_file(alloc, source)?;
+    match line_by_list(alloc, &list, addr) {
         Ok(out) => Ok(out),
         Err(_) => Err(RunFault::NoMemory),
     }

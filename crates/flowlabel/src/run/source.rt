@@ -1,15 +1,16 @@
-//! What a file holds: its text, or its map.
+//! What a file holds: its text, its map, or its prefix list.
 ghost use Rattle.std.specs.Prelude.{◌≡◌, false, IfErr, IfOk, IfSome, List, Some, ℕ};
 ghost use Rattle.pmap_text.specs.MapText.{map_of};
-ghost use Rattle.pmap_text.specs.Reading.{ReadsMap};
-ghost use Rattle.flowlabel.specs.Output.{FailsMap};
-ghost use Rattle.flowlabel.specs.Run.{is_read_stop, IsFaultOfMapFile, IsFaultOfReading};
+ghost use Rattle.pmap_text.specs.PrefixList.{list_of};
+ghost use Rattle.pmap_text.specs.Reading.{ReadsList, ReadsMap};
+ghost use Rattle.flowlabel.specs.Output.{FailsList, FailsMap};
+ghost use Rattle.flowlabel.specs.Run.{is_read_stop, IsFaultOfListFile, IsFaultOfMapFile, IsFaultOfReading};
 
 use crate::fault::RunFault;
 use crate::inputs::Source;
 use crate::reading::{ReadStop, read_whole};
 use flow_io::Input;
-use pmap_text::{MapFaultKind, MapText, read_map};
+use pmap_text::{MapFaultKind, MapText, PrefixList, read_list, read_map};
 use std::alloc::Global;
 
 /// The whole text of a file.
@@ -48,6 +49,32 @@ pub fn map_of_file<'a, R: Input>(
                 Err(RunFault::NoMemory)
             } else {
                 Err(RunFault::Map {
+                    file: source.name,
+                    fault,
+                })
+            }
+        }
+    }
+}
+
+/// The prefix list of a list file.
+pub fn list_of_file<'a, R: Input>(
+    alloc: Global,
+    source: &mut Source<'a, R>,
+) -> Result<PrefixList, RunFault<'a>>
+    requires { R.failed source.old.reader ≡ false }
+    ensures ok { IfOk result (λ list. (text : List ℕ) → R.bytes_left source.old.reader ≡ Some text → ReadsList text (list_of list)) }
+    ensures err { IfErr result (IsFaultOfListFile R.bytes_left R.failed FailsList source.old source.new) }
+    ensures failed { R.failed source.new.reader ≡ is_read_stop result }
+{
+    let text = text_of_file(alloc, source)?;
+    match read_list(alloc, text.as_slice()) {
+        Ok(list) => Ok(list),
+        Err(fault) => {
+            if fault.kind == MapFaultKind::NoMemory {
+                Err(RunFault::NoMemory)
+            } else {
+                Err(RunFault::List {
                     file: source.name,
                     fault,
                 })

@@ -39,20 +39,26 @@ fn named<'a>(name: Option<&'a str>, reader: MemoryInput<'a>) -> Option<MemorySou
     }
 }
 
-// The files of a command, of which the map and the File have these readers and the others are empty.
+// The files of a command, of which the map or the list, and the File, have these readers and the others are empty.
 fn files_in_memory<'a>(
     files: Files<'a>,
-    map: MemoryInput<'a>,
+    labels: MemoryInput<'a>,
     flows: MemoryInput<'a>,
 ) -> Inputs<'a, MemoryInput<'a>>
-    requires map { map.failed ≡ false }
+    requires labels { labels.failed ≡ false }
     requires flows { flows.failed ≡ false }
     ensures named { (needs : Needs) → NamesNeeds needs files.entry → AreNeeded needs result }
     ensures fresh { any_failed (λ reader. reader.failed) result ≡ false }
 {
+    let empty = MemoryInput::new(b"", 1, None);
+    let (map, list) = if files.list.is_some() {
+        (empty, labels)
+    } else {
+        (labels, empty)
+    };
     Inputs {
         map: named(files.map, map),
-        list: named(files.list, MemoryInput::new(b"", 1, None)),
+        list: named(files.list, list),
         certificate: named(files.certificate, MemoryInput::new(b"", 1, None)),
         flows: named(files.flows, flows),
     }
@@ -168,6 +174,17 @@ fn prints_the_label(rt: HostRuntime) -> Result<(), Fail> {
             "255.255.255.255 X\n",
             "UNKNOWN\n",
         ),
+        // A list gives the label of the longest block, and some addresses none.
+        (
+            "flowlabel label --list list.txt 128.0.0.1",
+            "0.0.0.0/1 A\n",
+            "\n",
+        ),
+        (
+            "flowlabel label --list list.txt 10.1.1.1",
+            "0.0.0.0/0 UNKNOWN\n10.0.0.0/7 B\n",
+            "B\n",
+        ),
         // A declared number means its text, and any other is a text.
         ("flowlabel label --pmap map.txt 1.2.3.4", NUMBERS, "red\n"),
         ("flowlabel label --pmap map.txt 2.0.0.1", NUMBERS, "6\n"),
@@ -231,6 +248,24 @@ fn answers_the_first_fault_of_the_map(rt: HostRuntime) -> Result<(), Fail> {
 }
 
 #[test]
+fn answers_the_first_fault_of_the_list(rt: HostRuntime) -> Result<(), Fail> {
+    let line = "flowlabel label --list list.txt 10.1.1.1";
+    for (list, fault) in [
+        (
+            "10.0.0.0/8 A\ndefault x\n",
+            "flowlabel: list.txt: M13 NotAList at 2\n",
+        ),
+        (
+            "1.0.0.0/8 x\n1.2.3.4/8 y\n",
+            "flowlabel: list.txt: M14 DuplicateBlock at 2\n",
+        ),
+    ] {
+        ends_over(&rt, rt.alloc(), line, list, (1, fault, ""))?;
+    }
+    Ok(())
+}
+
+#[test]
 fn answers_the_fault_of_the_line(rt: HostRuntime) -> Result<(), Fail> {
     for (line, fault) in [
         (
@@ -240,6 +275,10 @@ fn answers_the_fault_of_the_line(rt: HostRuntime) -> Result<(), Fail> {
         (
             "flowlabel label --pmap map.txt 1.2.3",
             "flowlabel: usage: P4 BadAddress\n",
+        ),
+        (
+            "flowlabel rows --pmap map.txt --list list.txt flows",
+            "flowlabel: usage: P3 MapTwice\n",
         ),
     ] {
         ends_over(&rt, rt.alloc(), line, MAP, (2, fault, ""))?;

@@ -1,18 +1,21 @@
 use Rattle.std.proofs.Common.{◌≡◌, ◌∙◌, ap, ap₂, rules, codes}
 use Rattle.std.proofs.lemmas.Result.{IfOk-weaker}
-use Rattle.clap.specs.Words.{app_of, new_app, rule_of, with_rule}
+use Rattle.clap.specs.Words.{App, app_of, new_app, with_rule}
 use Rattle.clap.specs.Simple.{app_of_fields}
-use Rattle.flowlabel.specs.Definition.{columns_rule}
+use Rattle.flowlabel.specs.Definition.{columns_rule, list_rule, pmap_rule}
 use Rattle.flowlabel.proofs.definition.rows.Goals as goal
 
 pub returns-clause-app : goal.returns-clause-app
 returns-clause-app c =
-    let columns_is : rule_of c.help-columns.result ≡ columns_rule = search rules in
-    let empty : app_of c.about.result ≡ new_app (codes "rows") = ap app_of_fields c.about.ensures ∙ c.new-2.ensures.app in
-    let one : app_of c.in_ok-arg.field-0 ≡ with_rule (new_app (codes "rows")) columns_rule =
-    c.in_ok-arg.ensures.shape (search rules) ∙ ap₂ with_rule empty columns_is in
-    IfOk-weaker c.arg-2.result _ _ (λ r added. added.shape c.flows_argument.ensures.local ∙ ap₂ with_rule one c.flows_argument.ensures.rule) c.arg-2.ensures
+    let empty : app_of c.about.result ≡ new_app (codes "rows") = ap app_of_fields c.about.ensures ∙ c.new.ensures.app in
+    let one : app_of c.in_ok-arg.field-0 ≡ with_rule (new_app (codes "rows")) pmap_rule =
+    c.in_ok-arg.ensures.shape c.map_argument.ensures.local ∙ ap₂ with_rule empty c.map_argument.ensures.rule in
+    let two : app_of c.in_ok-arg-2.field-0 ≡ with_rule (with_rule (new_app (codes "rows")) pmap_rule) list_rule =
+    c.in_ok-arg-2.ensures.shape c.list_argument.ensures.local ∙ ap₂ with_rule one c.list_argument.ensures.rule in
+    let three : app_of c.in_ok-arg-3.field-0 ≡ with_rule (with_rule (with_rule (new_app (codes "rows")) pmap_rule) list_rule) columns_rule =
+    c.in_ok-arg-3.ensures.shape c.columns_argument.ensures.local ∙ ap₂ with_rule two c.columns_argument.ensures.rule in
+    IfOk-weaker c.arg-4.result _ _ (λ r added. added.shape c.flows_argument.ensures.local ∙ ap₂ with_rule three c.flows_argument.ensures.rule) c.arg-4.ensures
 
 pub returns-clause-local : goal.returns-clause-local
 returns-clause-local c =
-    IfOk-weaker c.arg-2.result _ _ (λ r added. added.globals ∙ search rules) c.arg-2.ensures
+    IfOk-weaker c.arg-4.result _ _ (λ r added. added.globals ∙ search rules) c.arg-4.ensures

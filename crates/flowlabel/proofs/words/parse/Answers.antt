@@ -3,7 +3,7 @@ use Rattle.std.specs.Prelude.{option_map}
 use Rattle.clap.specs.Words.{App, HasKind, Row, Text, fault_of, found_of, is_simple, is_simple_and_free, rows_of, subcommand_of, takes}
 use Rattle.flowlabel.specs.Answer.{answer_of}
 use Rattle.flowlabel.proofs.AnswerLemmas.{answers, fault_at, flowlabel_is_free, flowlabel_is_simple, answer_own, own, own_of_memory, subcommand_is}
-use Rattle.flowlabel.proofs.LineLemmas.{reads_bare_line, reads_columns_line, reads_info_line, reads_map_line, reads_rows_line}
+use Rattle.flowlabel.proofs.LineLemmas.{reads_bare_line, reads_columns_line, reads_info_line, reads_list_line, reads_map_line, reads_rows_line}
 use Rattle.flowlabel.proofs.RequestLemmas.{answer_is_proper}
 use Rattle.flowlabel.proofs.words.parse.Goals as goal
 
@@ -23,6 +23,9 @@ returns-in-Ok-clause-answer c =
 pub returns-in-Ok-clause-map_line : goal.returns-in-Ok-clause-map_line
 returns-in-Ok-clause-map_line c = reads_map_line _ c.command_of.result (returns-in-Ok-clause-answer c)
 
+pub returns-in-Ok-clause-list_line : goal.returns-in-Ok-clause-list_line
+returns-in-Ok-clause-list_line c = reads_list_line _ c.command_of.result (returns-in-Ok-clause-answer c)
+
 pub returns-in-Ok-clause-bare_line : goal.returns-in-Ok-clause-bare_line
 returns-in-Ok-clause-bare_line c = reads_bare_line _ c.command_of.result (returns-in-Ok-clause-answer c)
 
@@ -41,6 +44,9 @@ returns-in-Err-clause-answer c =
 
 pub returns-in-Err-clause-map_line : goal.returns-in-Err-clause-map_line
 returns-in-Err-clause-map_line c = reads_map_line _ (Err c.fault_of_error.result) (returns-in-Err-clause-answer c)
+
+pub returns-in-Err-clause-list_line : goal.returns-in-Err-clause-list_line
+returns-in-Err-clause-list_line c = reads_list_line _ (Err c.fault_of_error.result) (returns-in-Err-clause-answer c)
 
 pub returns-in-Err-clause-bare_line : goal.returns-in-Err-clause-bare_line
 returns-in-Err-clause-bare_line c = reads_bare_line _ (Err c.fault_of_error.result) (returns-in-Err-clause-answer c)

@@ -35,6 +35,10 @@ const OPTIONS: &str =
 const TWO_RECORDS: &str =
     "000a0052 60000000 00000000 00000001 0002001c 01000005 00080004 000c0004 00040001 00020004 00010004 01000026 0a000001 08080808 06 00000003 000000b4 09000001 08080808 11 00000001 00000064";
 
+// A record between IPv6 addresses.
+const IPV6: &str =
+    "000a0044 60000000 00000000 00000001 00020010 01020002 001b0010 001c0010 01020024 20010db8 00000000 00000000 00000001 20010db8 00000000 00000000 00000002";
+
 // Counters of both directions.
 const BIFLOW: &str =
     "000a0059 60000000 00000000 00000001 0002002c 01000007 00080004 000c0004 00040001 00020004 00010004 80020004 00007279 80010004 00007279 0100001d 0a000001 08080808 06 00000003 000000b4 00000002 00000064";
@@ -91,7 +95,25 @@ fn ends_over_flows<const N: usize>(
     Ok(())
 }
 
-// The same where the readers and the writer move a few bytes a call and nothing fails.
+// The same under the labels of a map or a list, where the readers and the writer move a few bytes a call and nothing fails.
+fn shows_under(
+    rt: &impl Abort,
+    alloc: Global,
+    line: &str,
+    labels: &str,
+    file: &str,
+    printed: &str,
+) -> Result<(), Fail> {
+    let bytes = bytes_of(alloc, file)?;
+    let flows = MemoryInput::new(bytes.as_slice(), 7, None);
+    let labels = MemoryInput::new(labels.as_bytes(), 7, None);
+    let mut writer = MemoryOutput::<512>::new(5, None, false);
+    let (ended, told) = end_of(alloc, line, labels, flows, &mut writer)?;
+    is_wanted(rt, ended, told.as_slice(), writer.taken(), (0, "", printed));
+    Ok(())
+}
+
+// The same without labels.
 fn shows(
     rt: &impl Abort,
     alloc: Global,
@@ -130,6 +152,25 @@ fn prints_rows(rt: HostRuntime) -> Result<(), Fail> {
         shows(&rt, rt.alloc(), line, file, (0, "", printed))?;
     }
     Ok(())
+}
+
+// The list that labels as the map does.
+const LIST: &str = "mode ipv4\n0.0.0.0/0 UNKNOWN\n10.0.0.0/7 B\n";
+
+const UNDER_MAP: &str = "flowlabel rows --pmap map.txt flows";
+
+const UNDER_LIST: &str = "flowlabel rows --list list.txt flows";
+
+#[test]
+fn prints_rows_with_labels(rt: HostRuntime) -> Result<(), Fail> {
+    let labelled =
+        "sip|dip|sport|dport|proto|flags|packets|bytes|stime|etime|src-label|dst-label\n10.0.0.1|8.8.8.8|0|0|6|0|3|180|0|0|B|UNKNOWN\n";
+    shows_under(&rt, rt.alloc(), UNDER_MAP, MAP, ONE_RECORD, labelled)?;
+    shows_under(&rt, rt.alloc(), UNDER_LIST, LIST, ONE_RECORD, labelled)?;
+    // Addresses that have no place among those of the map.
+    let unlabelled =
+        "sip|dip|sport|dport|proto|flags|packets|bytes|stime|etime|src-label|dst-label\n2001:db8::1|2001:db8::2|0|0|0|0|0|0|0|0||\n";
+    shows_under(&rt, rt.alloc(), UNDER_MAP, MAP, IPV6, unlabelled)
 }
 
 #[test]

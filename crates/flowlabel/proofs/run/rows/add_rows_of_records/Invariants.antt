@@ -3,7 +3,7 @@ use Rattle.std.proofs.Common.{◌≡◌, ◌++◌, map, take}
 use Rattle.std.specs.List.{flat_map}
 use Rattle.flow_rows.specs.Elements.{rows_of_record}
 use Rattle.flow_rows.specs.Row.{row_view}
-use Rattle.flowlabel.proofs.run.report.add_rows_of_records.Given as goal
+use Rattle.flowlabel.proofs.run.rows.add_rows_of_records.Given as goal
 
 abbrev pub invariant-loop-record : goal.invariant-loop-record
 invariant-loop-record l =
