@@ -1,12 +1,14 @@
 //! The laws on certificates.
 
-ghost use Rattle.std.specs.Prelude.{◌≡◌, ◌+◌, ◌≤◌, ◌&&◌, ◌||◌, ℕ, List, false, length, IsTrue};
+ghost use Rattle.std.specs.Prelude.{◌≡◌, ◌+◌, ◌≤◌, ◌&&◌, ◌||◌, ℕ, List, Ok, false, length, IsTrue};
 ghost use Rattle.pmap_text.specs.ListModel.{IsEquivalent, ListModel};
 ghost use Rattle.pmap_text.specs.MapModel.{Label, MapModel};
 ghost use Rattle.pmap_text.specs.Reading.{ReadsMap};
 ghost use Rattle.pmap_cert.specs.Acceptance.{IsAccepted, IsLeast};
 ghost use Rattle.pmap_cert.specs.CertificateForm.{HasTextForm};
 ghost use Rattle.pmap_cert.specs.CertificateModel.{CertificateModel, Pair, claim_of, has};
+ghost use Rattle.pmap_cert.specs.CertificateReading.{certificate_reading};
+ghost use Rattle.pmap_cert.specs.CertificateText.{certificate_text};
 ghost use Rattle.pmap_cert.specs.ExactPair.{IsPairOf, IsSamePair, exact_pair};
 ghost use Rattle.pmap_cert.specs.FourQuarters.{four_quarters_certificate, four_quarters_list, four_quarters_map};
 ghost use Rattle.pmap_cert.specs.ListForm.{HasListForm};
@@ -56,6 +58,12 @@ pub fn minimal_pair_is_unique()
 pub fn minimal_certificate_is_one()
     ensures { (m : MapModel) (l l' : ListModel) (c c' : CertificateModel) →
         IsMinimalPair m l c → IsMinimalPair m l' c' → HasTextForm c → HasTextForm c' → c ≡ c' }
+{}
+
+/// The text of a certificate in the form of its text is read as that certificate. Each `Certificate` has this form
+/// (`Certificate::root`).
+pub fn certificate_is_read_back()
+    ensures { (c : CertificateModel) → HasTextForm c → certificate_reading (certificate_text c) ≡ Ok c }
 {}
 
 /// The label table of a map that a text is read as has the map's labels, so that the map has one minimal list.
