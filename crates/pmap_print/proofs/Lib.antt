@@ -9,3 +9,5 @@ pub mod ReadLines
 pub mod LeafRuns
 pub mod ReadList
 pub mod Again
+pub mod MapTexts
+pub mod MinimalLists

@@ -6,7 +6,10 @@ ghost use Rattle.std.specs.List.Sorted.{IsPermutation};
 ghost use Rattle.std.specs.Option.{ForSome};
 ghost use Rattle.prefix_keys.specs.Version.{width_of};
 ghost use Rattle.prefix_keys.specs.declared.version.Version.{Version};
+ghost use Rattle.pmap_cert.specs.Acceptance.{IsAccepted};
+ghost use Rattle.pmap_cert.specs.CertificateModel.{CertificateModel};
 ghost use Rattle.pmap_cert.specs.ListForm.{IsInOrder};
+ghost use Rattle.pmap_cert.specs.MinimalPair.{IsMinimalPair};
 ghost use Rattle.pmap_text.specs.Label.{IsLabelTable, is_label};
 ghost use Rattle.pmap_text.specs.ListModel.{IsEquivalent, ListModel, Prefix, list_label};
 ghost use Rattle.pmap_text.specs.MapModel.{Label, MapModel, map_label};
@@ -92,4 +95,21 @@ pub fn prefix_list_can_be_read_again()
     ensures { (l : PrefixList) → IsLabelTable l.labels → ForSome l.name (λ name. IsTrue (is_label name)) →
         length l.entries ≤ mapping_limit → length (labels_of (in_order (list_of l).prefixes)) ≤ label_limit →
         CanBeReadAgain (list_of l) }
+{}
+
+/// The list of a minimal pair of a map text can be printed and read again where it has at most 1,000,000 entries and they have at
+/// most 65,535 label texts: its blocks are distinct, and its labels and its name are the text's own.
+pub fn minimal_list_can_be_read_again()
+    ensures { (text : List ℕ) (m : MapModel) (l : ListModel) (c : CertificateModel) → ReadsMap text m →
+        IsMinimalPair m l c → length l.prefixes ≤ mapping_limit → length (labels_of l.prefixes) ≤ label_limit →
+        CanBeReadAgain l }
+{}
+
+/// The printed list of a minimal pair of a map text, within these limits, is read as a list of as many entries for which the
+/// pair's certificate is accepted.
+pub fn minimal_list_is_accepted_again()
+    ensures { (text : List ℕ) (m : MapModel) (l : ListModel) (c : CertificateModel) → ReadsMap text m →
+        IsMinimalPair m l c → length l.prefixes ≤ mapping_limit → length (labels_of l.prefixes) ≤ label_limit →
+        (again : ListModel) × ReadsList (list_text l) again × IsAccepted m again c
+        × (length again.prefixes ≡ length l.prefixes) }
 {}

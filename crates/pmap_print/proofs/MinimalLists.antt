@@ -1,0 +1,116 @@
+-- The list of a minimal pair of a map text can be printed and read again, and is accepted as it is read.
+use Rattle.std.proofs.Common.{◌≡◌, ℕ, ◌+◌, ◌-◌, ◌*◌, ◌^◌, ◌<◌, ◌≤◌, ◌==◌, ◌⊎◌, ◌∙◌, inl, inr, true, false, List, [], ◌∷◌, All, IsTrue, length, sym, ap, subst, arith, bytes_eq, pow_pos}
+use Rattle.std.specs.List.{AllByRecursion, IsDistinct}
+use Rattle.std.proofs.lemmas.Bool.{and_parts, eqb-true, false_from_ne_true, or_cases}
+use Rattle.std.proofs.lemmas.List.Elements.{recursion_from_All}
+use Rattle.std.proofs.lemmas.Map.Keys.{IsDistinct-cons}
+use Rattle.std.proofs.lemmas.Slice.Eq.{bytes_eq-Decides}
+use Rattle.prefix_keys.specs.Block.{block_number}
+use Rattle.prefix_keys.specs.Version.{width_of}
+use Rattle.prefix_keys.proofs.Quotients.{whole}
+use Rattle.pmap_cert.specs.Acceptance.{IsAccepted, IsNodeAccepted}
+use Rattle.pmap_cert.specs.CertificateModel.{CertificateModel, claim_of, has}
+use Rattle.pmap_cert.specs.ListForm.{HasBlock, HasListForm, IsInOrder, is_before}
+use Rattle.pmap_cert.specs.MinimalPair.{IsMinimalPair}
+use Rattle.pmap_cert.proofs.InOrder.{list-form}
+use Rattle.pmap_cert.proofs.MapLabels.{labels-read}
+use Rattle.pmap_cert.proofs.Minimal.{accepted-minimal}
+use Rattle.pmap_text.specs.Label.{is_label}
+use Rattle.pmap_text.specs.ListModel.{ListModel, Prefix}
+use Rattle.pmap_text.specs.LongestMatch.{HasDistinctPrefixes, is_same_prefix}
+use Rattle.pmap_text.specs.MapModel.{Label, MapModel}
+use Rattle.pmap_text.specs.Reading.{ReadsList, ReadsMap, label_limit, mapping_limit}
+use Rattle.pmap_print.specs.List.{list_text}
+use Rattle.pmap_print.specs.ReadBack.{CanBeReadAgain, IsPrintedEntry, labels_of}
+use Rattle.pmap_print.proofs.Again.{list-again}
+use Rattle.pmap_print.proofs.MapTexts.{HasLabelForms, map-forms}
+use Rattle.pmap_print.proofs.Order.{before-start, in_order-kept}
+
+-- blocks in order are distinct
+start-is : (W : ℕ) (p : Prefix) → HasBlock W p → block_number W p.bits p.start * 2 ^ (W - p.bits) ≡ p.start
+start-is W p has = whole p.start (2 ^ (W - p.bits)) (pow_pos (W - p.bits)) has.no_host_bit
+
+same-start : (W : ℕ) (p r : Prefix) → HasBlock W p → HasBlock W r → p.bits ≡ r.bits
+    → block_number W p.bits p.start ≡ block_number W r.bits r.start → p.start ≡ r.start
+same-start W p r hp hr bits number =
+    sym (start-is W p hp) ∙ ap (λ (k : ℕ). k * 2 ^ (W - p.bits)) number
+    ∙ ap (λ (n : ℕ). block_number W r.bits r.start * 2 ^ (W - n)) bits ∙ start-is W r hr
+
+before-apart : (W : ℕ) (p r : Prefix) → HasBlock W p → HasBlock W r → is_before p r ≡ true → is_same_prefix W p r ≡ false
+before-apart W p r hp hr before =
+    false_from_ne_true (is_same_prefix W p r)
+    (λ e.
+    let parts = and_parts (p.bits == r.bits) (block_number W p.bits p.start == block_number W r.bits r.start) e in
+    let bits : p.bits ≡ r.bits = eqb-true p.bits r.bits parts.0 in
+    let start : p.start ≡ r.start =
+    same-start W p r hp hr bits (eqb-true (block_number W p.bits p.start) (block_number W r.bits r.start) parts.1) in
+    never bits start (before-start p r before))
+  where
+    never : p.bits ≡ r.bits → p.start ≡ r.start → (p.start < r.start) ⊎ ((p.start ≡ r.start) × (p.bits < r.bits)) → ⊥
+    never bits start (inl lower) = omega (arith, start, lower)
+    never bits start (inr shorter) = omega (arith, bits, shorter.1)
+
+all-apart : (W : ℕ) (p : Prefix) (ps : List Prefix) → HasBlock W p → AllByRecursion (HasBlock W) ps → AllByRecursion (λ r. IsTrue (is_before p r)) ps
+    → AllByRecursion (λ r. is_same_prefix W p r ≡ false) ps
+all-apart W p [] has blocks before = tt
+all-apart W p (r ∷ rs) has blocks before = (before-apart W p r has blocks.0 before.0, all-apart W p rs has blocks.1 before.1)
+
+order-distinct : (W : ℕ) (ps : List Prefix) → IsInOrder ps → AllByRecursion (HasBlock W) ps → HasDistinctPrefixes W ps
+unfolding IsDistinct
+order-distinct W [] ordered blocks = tt
+order-distinct W (p ∷ ps) ordered blocks =
+    IsDistinct-cons (is_same_prefix W) p ps (all-apart W p ps blocks.0 blocks.1 ordered.0) (order-distinct W ps ordered.1 blocks.1)
+
+-- a label of a table of labels has the form of one
+label-known : (table : List Label) (x : Label) → AllByRecursion (λ y. IsTrue (is_label y)) table → has table x ≡ true → IsTrue (is_label x)
+label-known [] x all h = absurd cc
+label-known (y ∷ ys) x all h = by (or_cases (bytes_eq x y) (has ys x) h) (λ inside. label-known ys x all.1 inside)
+  where
+    by : (bytes_eq x y ≡ true) ⊎ (has ys x ≡ true) → (has ys x ≡ true → IsTrue (is_label x)) → IsTrue (is_label x)
+    by (inl same) rest = subst (λ (z : Label). IsTrue (is_label z)) (sym ((bytes_eq-Decides x y).0 same)) all.0
+    by (inr inside) rest = rest inside
+
+module _ (text : List ℕ) (m : MapModel) (l : ListModel) (c : CertificateModel) (reads : ReadsMap text m) (pair : IsMinimalPair m l c) where
+  list-has_form : HasListForm l
+  list-has_form = list-form m l c pair (labels-read text m reads)
+
+  forms : HasLabelForms m
+  forms = map-forms text m reads
+
+  table-texts : AllByRecursion (λ y. IsTrue (is_label y)) l.table
+  table-texts =
+      subst (λ (t : List Label). AllByRecursion (λ y. IsTrue (is_label y)) t) (sym pair.list_table)
+      (recursion_from_All (λ y. IsTrue (is_label y)) m.table forms.table)
+
+  printed : All (IsPrintedEntry l.version) l.prefixes
+  printed k d below = record {
+    block = list-has_form.blocks k d below;
+    label = label-known l.table _ table-texts (list-has_form.labels k d below);
+  }
+
+  module _ (few : length l.prefixes ≤ mapping_limit) (few_labels : length (labels_of l.prefixes) ≤ label_limit) where
+    pub can-read_again : CanBeReadAgain l
+    can-read_again = record {
+      entries = printed;
+      distinct = order-distinct (width_of l.version) l.prefixes list-has_form.order
+          (recursion_from_All (HasBlock (width_of l.version)) l.prefixes list-has_form.blocks);
+      name = λ x e. forms.name x (sym pair.list_name ∙ e);
+      few_entries = few;
+      few_labels = subst (λ (ps : List Prefix). length (labels_of ps) ≤ label_limit) (sym (in_order-kept l.prefixes list-has_form.order)) few_labels;
+    }
+
+    pub accepted-again : (again : ListModel) × ReadsList (list_text l) again × IsAccepted m again c × (length again.prefixes ≡ length l.prefixes)
+    accepted-again =
+        let found = list-again l can-read_again in
+        let same : found.0.prefixes ≡ l.prefixes = (found.2).prefixes ∙ in_order-kept l.prefixes list-has_form.order in
+        let accepted = accepted-minimal m l c pair in (
+          found.0,
+          found.1,
+          record {
+            list_version = (found.2).version ∙ accepted.list_version;
+            certificate_version = accepted.certificate_version;
+            root = subst (λ (ps : List Prefix). IsNodeAccepted m ps c.root 0 0) (sym same) accepted.root;
+            count = subst (λ (ps : List Prefix). length ps ≤ (claim_of c.root).cost + 1) (sym same) accepted.count;
+          },
+          ap length same,
+        )
