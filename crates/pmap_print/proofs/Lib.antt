@@ -10,4 +10,5 @@ pub mod LeafRuns
 pub mod ReadList
 pub mod Again
 pub mod MapTexts
+pub mod FewLabels
 pub mod MinimalLists

@@ -9,7 +9,7 @@ ghost use Rattle.prefix_keys.specs.declared.version.Version.{Version};
 ghost use Rattle.pmap_cert.specs.Acceptance.{IsAccepted};
 ghost use Rattle.pmap_cert.specs.CertificateModel.{CertificateModel};
 ghost use Rattle.pmap_cert.specs.ListForm.{IsInOrder};
-ghost use Rattle.pmap_cert.specs.MinimalPair.{IsMinimalPair};
+ghost use Rattle.pmap_cert.specs.MinimalPair.{HasItsLabels, IsMinimalPair};
 ghost use Rattle.pmap_text.specs.Label.{IsLabelTable, is_label};
 ghost use Rattle.pmap_text.specs.ListModel.{IsEquivalent, ListModel, Prefix, list_label};
 ghost use Rattle.pmap_text.specs.MapModel.{Label, MapModel, map_label};
@@ -98,11 +98,19 @@ pub fn prefix_list_can_be_read_again()
 {}
 
 /// The list of a minimal pair of a map text can be printed and read again where it has at most 1,000,000 entries and they have at
-/// most 65,535 label texts: its blocks are distinct, and its labels and its name are the text's own.
+/// most 65,535 label texts: its blocks are distinct, and its labels and its name have the form of labels. The limits are no
+/// consequence of the map text, since a range can take several blocks, and a text of 65,535 labels may leave `UNKNOWN` unstated.
 pub fn minimal_list_can_be_read_again()
     ensures { (text : List ℕ) (m : MapModel) (l : ListModel) (c : CertificateModel) → ReadsMap text m →
         IsMinimalPair m l c → length l.prefixes ≤ mapping_limit → length (labels_of l.prefixes) ≤ label_limit →
         CanBeReadAgain l }
+{}
+
+/// The entries of a minimal pair's list have no more label texts than the map's table, where that has the map's labels, as that
+/// of a map text does. So a map text of at most 65,535 labels, `UNKNOWN` counted where it has no default, keeps that limit.
+pub fn minimal_list_has_few_labels()
+    ensures { (m : MapModel) (l : ListModel) (c : CertificateModel) → IsMinimalPair m l c → HasItsLabels m →
+        length (labels_of l.prefixes) ≤ length m.table }
 {}
 
 /// The printed list of a minimal pair of a map text, within these limits, is read as a list of as many entries for which the

@@ -3,7 +3,8 @@
 //! It stands on the crates of what it prints. `print_rows` gives the text of flow rows, with labels or without, in columns or
 //! not, `print_info` that of counts, `print_list` that of a prefix list, and `print_runs` that of the runs of leaves. The layer above may rely on this: the text is the
 //! function of the printed list that the definitions say, byte for byte. Nothing else is answered than that text or
-//! want of memory.
+//! want of memory. By the laws in `laws` the printed text of a list is read back, and that of a minimal pair's list as one for
+//! which the pair's certificate is accepted.
 #![tactic(auto)]
 
 mod cell;
