@@ -10,8 +10,8 @@ use Rattle.pmap_text.specs.ListModel.{IsEquivalent, ListModel, list_label}
 use Rattle.pmap_text.specs.MapModel.{Label, MapModel, map_label}
 use Rattle.pmap_text.specs.Reading.{ReadsList, ReadsMap}
 use Rattle.flowlabel.specs.Labelling.{Labelling, at_addresses, labelling, labelling_of_list, labelling_of_map}
-use Rattle.flowlabel.specs.Output.{FileTexts, FlowsThen, IsOutput, ListThen, MapThen, Outcome, Prints, ReportsThen, SameUnderEquivalents, label_text, report_of_rows, under}
-use Rattle.flowlabel.specs.Request.{FromList, FromMap, label, info, rows}
+use Rattle.flowlabel.specs.Output.{FileTexts, FlowsThen, IsOutput, ListThen, MapThen, Outcome, Prints, PrintsRuns, ReportsThen, SameUnderEquivalents, label_text, report_of_rows, under}
+use Rattle.flowlabel.specs.Request.{FromList, FromMap, label, info, rows, cat}
 
 guarded : (b : Bool) (x y : Option Label) → (b ≡ true → x ≡ y) → (if b then x else None) ≡ (if b then y else None)
 guarded true x y h = h refl
@@ -68,3 +68,5 @@ same_under_equivalents (rows (Some old) columns name) file other texts others m 
     both
     (swap (λ labels. FlowsThen (λ messages. Prints (report_of_rows columns (Some labels) messages)) texts.flows) texts.map others.list m l outcome reads_map reads_list is)
     (over_file (λ bytes. IsOutput (rows (Some (FromList other)) columns name) (record others { flows = bytes }) outcome) texts.flows others.flows flows)
+same_under_equivalents (cat old) file other texts others m l outcome reads_map reads_list is flows =
+    swap PrintsRuns texts.map others.list m l outcome reads_map reads_list is

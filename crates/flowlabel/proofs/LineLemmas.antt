@@ -6,8 +6,8 @@ use Rattle.clap.specs.Words.{Text, fault_of}
 use Rattle.clap.proofs.OnLiterals.{clap_on_literals}
 use Rattle.prefix_keys.specs.Text.{address_of}
 use Rattle.flowlabel.specs.Definition.{flowlabel_app}
-use Rattle.flowlabel.specs.Request.{FromList, FromMap, info, rows}
-use Rattle.flowlabel.specs.Answer.{Answer, Answers, IsAnswer, IsUnlessMemory, ReadsBareLine, ReadsColumnsLine, ReadsInfoLine, ReadsListLine, ReadsMapLine, ReadsRowsLine, address_answer, is_plain_word, own_answer}
+use Rattle.flowlabel.specs.Request.{FromList, FromMap, cat, info, rows}
+use Rattle.flowlabel.specs.Answer.{Answer, Answers, IsAnswer, IsUnlessMemory, ReadsBareLine, ReadsCatLine, ReadsColumnsLine, ReadsInfoLine, ReadsListLine, ReadsMapLine, ReadsRowsLine, address_answer, is_plain_word, own_answer}
 use Rattle.flowlabel.specs.declared.command.Command.{Command}
 use Rattle.flowlabel.specs.declared.usage.UsageFault.{UsageFault}
 use Rattle.flowlabel.specs.declared.usage.UsageFault.TheVariants.{Refused, NotUtf8, Help, MapTwice, MapMissing, BadAddress, NoMemory}
@@ -104,6 +104,12 @@ module _ (program : Text) where
   columns_line [] h = (refl, refl)
   columns_line (x ∷ xs) h = let e = not_true (x == 45) h in (rw (e, not_short x xs e) refl, rw (e, not_short x xs e) refl)
 
+  -- a line of `cat`
+  pub cat_line : (file : Text) → is_plain_word file ≡ true → Answers (program ∷ codes "cat" ∷ codes "--pmap" ∷ file ∷ []) (Ok (cat (FromMap file)))
+  unfolding flowlabel_app clap_on_literals
+  cat_line [] h = (refl, refl)
+  cat_line (x ∷ xs) h = let e = not_true (x == 45) h in (rw (e, not_short x xs e) refl, rw (e, not_short x xs e) refl)
+
 -- such a line is read so, whatever answers what the words ask for
 pub reads_map_line : (words : List Text) (r : Result Command UsageFault) → IsAnswer words r → ReadsMapLine words r
 reads_map_line words r is program map address h k e = own_only _ _ r (map_line program map address h k) (rw e at is)
@@ -122,3 +128,6 @@ reads_rows_line words r is program file h e = own_only _ _ r (rows_line program 
 
 pub reads_columns_line : (words : List Text) (r : Result Command UsageFault) → IsAnswer words r → ReadsColumnsLine words r
 reads_columns_line words r is program file h e = own_only _ _ r (columns_line program file h) (rw e at is)
+
+pub reads_cat_line : (words : List Text) (r : Result Command UsageFault) → IsAnswer words r → ReadsCatLine words r
+reads_cat_line words r is program file h e = own_only _ _ r (cat_line program file h) (rw e at is)

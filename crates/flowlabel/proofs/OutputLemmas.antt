@@ -1,16 +1,18 @@
 -- A request has one output at most: a map text and a File have one reading, and what comes of it is one text.
-use Rattle.std.proofs.Common.{◌≡◌, ◌∙◌, ℕ, List, [], Option, Some, None, Err, ap, sym, subst, inl, inr}
+use Rattle.std.proofs.Common.{◌≡◌, ◌∙◌, ℕ, List, [], Option, Some, None, Ok, Err, ap, sym, subst, inl, inr}
+use Rattle.prefix_keys.specs.declared.version.Version.{Version}
 use Rattle.pmap_text.specs.ListModel.{ListModel}
-use Rattle.pmap_text.specs.MapModel.{MapModel}
+use Rattle.pmap_text.specs.MapModel.{Label, MapModel}
 use Rattle.pmap_text.specs.declared.fault.MapFault.{MapFault}
 use Rattle.ipfix_read.specs.Laws.{OneReading}
 use Rattle.ipfix_read.specs.Message.{MessageView}
 use Rattle.ipfix_read.specs.declared.fault.ReadFault.{ReadFault}
 use Rattle.flow_rows.specs.Counts.{counts_of}
 use Rattle.pmap_print.specs.Info.{info_text}
+use Rattle.pmap_print.specs.Runs.{IsRunsText}
 use Rattle.flowlabel.specs.Labelling.{Labelling, labelling_of_list, labelling_of_map}
-use Rattle.flowlabel.specs.Output.{FileTexts, FlowsThen, InFlows, InList, InMap, LabelsThen, ListThen, MapThen, OneOutput, Outcome, Prints, ReportsThen, SourceThen, label_text, report_of_rows}
-use Rattle.flowlabel.specs.Request.{FromList, FromMap, LabelSource, label, info, rows}
+use Rattle.flowlabel.specs.Output.{FileTexts, FlowsThen, InFlows, InList, InMap, LabelsThen, ListThen, MapThen, OneOutput, Outcome, Prints, PrintsRuns, ReportsThen, SourceThen, label_text, report_of_rows}
+use Rattle.flowlabel.specs.Request.{FromList, FromMap, LabelSource, label, info, rows, cat}
 
 -- what comes of a value is one outcome at most
 abbrev IsOne : {A : Type 0} → (A → Outcome → Type 0) → Type 0
@@ -68,10 +70,20 @@ reports_then_one law text source texts outcome other p q =
     (λ labels. flows_then_one law (λ messages. Prints (text labels messages)) (prints_one (text labels)) texts.flows)
     texts outcome other p q
 
-pub one_output : OneReading → OneOutput
-one_output law (label source address) texts outcome other p q =
+-- a labelling has one text of its runs
+abbrev OneRunsText : Type 0
+OneRunsText = (v : Version) (f : ℕ → Option Label) (text other : List ℕ) → IsRunsText v f text → IsRunsText v f other → text ≡ other
+
+runs_one : OneRunsText → IsOne PrintsRuns
+runs_one law labels outcome other (text, is, p) (text', is', q) =
+    p ∙ ap Ok (law labels.version labels.label text text' is is') ∙ sym q
+
+pub one_output : OneReading → OneRunsText → OneOutput
+one_output law runs (label source address) texts outcome other p q =
     labels_then_one source _ (prints_one (label_text address)) texts outcome other p q
-one_output law (info flows) texts outcome other p q =
+one_output law runs (info flows) texts outcome other p q =
     reports_then_one law (λ labels messages. info_text (counts_of messages)) None texts outcome other p q
-one_output law (rows source columns flows) texts outcome other p q =
+one_output law runs (rows source columns flows) texts outcome other p q =
     reports_then_one law (report_of_rows columns) source texts outcome other p q
+one_output law runs (cat source) texts outcome other p q =
+    labels_then_one source PrintsRuns (runs_one runs) texts outcome other p q

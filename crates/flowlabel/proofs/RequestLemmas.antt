@@ -2,7 +2,7 @@
 use Rattle.std.specs.Prelude.{Result, Ok, Err, IfOk}
 use Rattle.flowlabel.specs.Request.{IsProper, request_of}
 use Rattle.flowlabel.specs.declared.command.Command.{Command}
-use Rattle.flowlabel.specs.declared.command.Command.TheVariants.{Label, Info, Rows}
+use Rattle.flowlabel.specs.declared.command.Command.TheVariants.{Label, Info, Rows, Cat}
 use Rattle.flowlabel.specs.declared.usage.UsageFault.{UsageFault}
 
 -- its addresses are addresses of their versions, as `Addr` keeps them
@@ -10,6 +10,7 @@ pub request_is_proper : (c : Command) → IsProper (request_of c)
 request_is_proper (Label labels addr) = addr.in_range
 request_is_proper (Info flows) = tt
 request_is_proper (Rows labels columns flows) = tt
+request_is_proper (Cat labels) = tt
 
 -- so are those of each answer
 pub answer_is_proper : (r : Result Command UsageFault) → IfOk r (λ c. IsProper (request_of c))

@@ -9,7 +9,7 @@ use Rattle.clap.specs.Words.{Row, fault_of, first_of, subcommand_of}
 use Rattle.clap.specs.declared.error.kind.ErrorKind.{ErrorKind}
 use Rattle.clap.specs.declared.error.kind.ErrorKind.TheVariants as kind
 use Rattle.flowlabel.specs.Definition.{flowlabel_app}
-use Rattle.flowlabel.specs.Request.{FromList, FromMap, LabelSource, Request, Text, info, label, request_of, rows}
+use Rattle.flowlabel.specs.Request.{FromList, FromMap, LabelSource, Request, Text, cat, info, label, request_of, rows}
 use Rattle.flowlabel.specs.declared.command.Command.{Command}
 use Rattle.flowlabel.specs.declared.usage.UsageFault.{UsageFault}
 use Rattle.flowlabel.specs.declared.usage.UsageFault.TheVariants.{Refused, NotUtf8, Help, MapTwice, MapMissing, BadAddress, NoMemory}
@@ -69,11 +69,20 @@ abbrev pub answer_of_rows : List Row → Answer
 answer_of_rows entries =
     sources_in_rows entries >>= (λ source. Ok (rows source (is_given (codes "columns") entries) (flows_in_rows entries)))
 
+-- `cat`, by its sources: two come first, and then a missing one
+abbrev pub cat_answer : Result (Option LabelSource) UsageFault → Answer
+cat_answer source = source >>= (λ found. needed_source found >>= (λ labels. Ok (cat labels)))
+
+-- `cat`, by the entries that clap finds for it
+abbrev pub answer_of_cat : List Row → Answer
+answer_of_cat entries = cat_answer (sources_in_rows entries)
+
 -- the answer to a subcommand, by its name and its entries
 abbrev pub answer_of : Text × List Row → Answer
 answer_of found =
     if bytes_eq found.0 (codes "info") then answer_of_info found.1
     else if bytes_eq found.0 (codes "rows") then answer_of_rows found.1
+    else if bytes_eq found.0 (codes "cat") then answer_of_cat found.1
     else answer_of_label found.1
 
 -- the answer to the words that clap takes, by the subcommand and the entries that it finds in them
@@ -171,6 +180,11 @@ ReadsRowsLine words result = (program file : Text) → is_plain_word file ≡ tr
 abbrev pub ReadsColumnsLine : List Text → Result Command UsageFault → Type 0
 ReadsColumnsLine words result = (program file : Text) → is_plain_word file ≡ true
     → words ≡ program ∷ codes "rows" ∷ codes "--columns" ∷ file ∷ [] → IsUnlessMemory (Ok (rows None true file)) result
+
+-- `cat --pmap FILE` is answered by its map
+abbrev pub ReadsCatLine : List Text → Result Command UsageFault → Type 0
+ReadsCatLine words result = (program file : Text) → is_plain_word file ≡ true
+    → words ≡ program ∷ codes "cat" ∷ codes "--pmap" ∷ file ∷ [] → IsUnlessMemory (Ok (cat (FromMap file))) result
 
 -- the fault comes of an error of this kind
 abbrev pub IsFaultOfKind : ErrorKind → UsageFault → Type 0

@@ -37,6 +37,10 @@ abbrev pub rows_app : App
 rows_app =
     with_rule (with_rule (with_rule (with_rule (new_app (codes "rows")) pmap_rule) list_rule) columns_rule) flows_rule
 
+-- `cat [--pmap FILE] [--list FILE]`
+abbrev pub cat_app : App
+cat_app = with_rule (with_rule (new_app (codes "cat")) pmap_rule) list_rule
+
 -- the program before its subcommands: one of them is required, and `help` is none
 abbrev pub program : App
 program = record (new_app (codes "flowlabel")) {
@@ -45,4 +49,5 @@ program = record (new_app (codes "flowlabel")) {
 
 -- the command line
 unfoldable pub flowlabel_app : App
-flowlabel_app = with_subcommand (with_subcommand (with_subcommand program label_app.top) info_app.top) rows_app.top
+flowlabel_app =
+    with_subcommand (with_subcommand (with_subcommand (with_subcommand program label_app.top) info_app.top) rows_app.top) cat_app.top

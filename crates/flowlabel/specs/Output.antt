@@ -11,8 +11,9 @@ use Rattle.flow_rows.specs.Content.{rows_of_messages}
 use Rattle.flow_rows.specs.Counts.{counts_of}
 use Rattle.pmap_print.specs.Info.{info_text}
 use Rattle.pmap_print.specs.Rows.{rows_text}
+use Rattle.pmap_print.specs.Runs.{IsRunsText}
 use Rattle.flowlabel.specs.Labelling.{Labelling, label_by, labelling_of_list, labelling_of_map, row_labels}
-use Rattle.flowlabel.specs.Request.{FromList, FromMap, LabelSource, Request, label, info, rows}
+use Rattle.flowlabel.specs.Request.{FromList, FromMap, LabelSource, Request, label, info, rows, cat}
 
 -- The output of a request: the text that it prints, or the first fault of its files' bytes.
 
@@ -78,6 +79,14 @@ line_of text = text ++ 10 ∷ []
 abbrev pub label_text : AddressOf → Labelling → List ℕ
 label_text address labels = line_of (unwrap_or (label_by labels address) [])
 
+-- the text is that of the runs of a labelling's addresses
+abbrev pub HasRunsText : Labelling → List ℕ → Type 0
+HasRunsText labels text = IsRunsText labels.version labels.label text
+
+-- the outcome is the text of the runs of a labelling
+abbrev pub PrintsRuns : Labelling → Outcome → Type 0
+PrintsRuns labels outcome = (text : List ℕ) × HasRunsText labels text × Prints text outcome
+
 -- the rows of messages, with the labels of their addresses where there is a labelling
 abbrev pub report_of_rows : Bool → Option Labelling → List MessageView → List ℕ
 report_of_rows columns labels messages =
@@ -93,6 +102,7 @@ abbrev pub IsOutput : Request → FileTexts → Outcome → Type 0
 IsOutput (label source address) texts = LabelsThen source (λ labels. Prints (label_text address labels)) texts
 IsOutput (info flows) texts = ReportsThen (λ labels messages. info_text (counts_of messages)) None texts
 IsOutput (rows source columns flows) texts = ReportsThen (report_of_rows columns) source texts
+IsOutput (cat source) texts = LabelsThen source PrintsRuns texts
 
 -- a request has one output at most
 abbrev pub OneOutput : Type 0
@@ -104,6 +114,7 @@ under source (label old address) = label source address
 under source (info flows) = info flows
 under source (rows None columns flows) = rows None columns flows
 under source (rows (Some old) columns flows) = rows (Some source) columns flows
+under source (cat old) = cat source
 
 -- Over one File, a request has the outputs under a map text that it has under each list text whose list labels every
 -- address as the map does

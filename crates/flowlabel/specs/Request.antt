@@ -2,7 +2,7 @@ use Rattle.std.specs.Prelude.{◌≡◌, ◌^◌, ◌<◌, ℕ, Bool, List, Opti
 use Rattle.prefix_keys.specs.Text.{AddressOf}
 use Rattle.prefix_keys.specs.Version.{width_of}
 use Rattle.flowlabel.specs.declared.command.Command.{Command}
-use Rattle.flowlabel.specs.declared.command.Command.TheVariants.{Label, Info, Rows}
+use Rattle.flowlabel.specs.declared.command.Command.TheVariants.{Label, Info, Rows, Cat}
 use Rattle.flowlabel.specs.declared.command.Files.{Files}
 use Rattle.flowlabel.specs.declared.command.LabelFile.{LabelFile}
 use Rattle.flowlabel.specs.declared.command.LabelFile.TheVariants.{Map, List as Prefixes}
@@ -20,11 +20,13 @@ pub data LabelSource : Type 0 where
   FromList : (file : Text) → LabelSource
 
 -- label: the label that the labels of a file give an address; info: the counts of the messages of a File; rows: the rows
--- of its records, with the labels of their addresses where there is a source of labels, in columns of even width or not
+-- of its records, with the labels of their addresses where there is a source of labels, in columns of even width or not; cat: the
+-- runs of the labels of a file
 pub data Request : Type 0 where
   label : (source : LabelSource) (address : AddressOf) → Request
   info : (flows : Text) → Request
   rows : (source : Option LabelSource) (columns : Bool) (flows : Text) → Request
+  cat : (source : LabelSource) → Request
 
 -- the number is that of an address of the version
 abbrev pub IsAddress : AddressOf → Type 0
@@ -35,6 +37,7 @@ abbrev pub IsProper : Request → Type 0
 IsProper (label source address) = IsAddress address
 IsProper (info flows) = Unit {0}
 IsProper (rows source columns flows) = Unit {0}
+IsProper (cat source) = Unit {0}
 
 -- the source that a file of labels stands for
 abbrev pub source_of : LabelFile → LabelSource
@@ -46,6 +49,7 @@ abbrev pub request_of : Command → Request
 request_of (Label labels addr) = label (source_of labels) (addr.version, addr.value)
 request_of (Info flows) = info flows.now
 request_of (Rows labels columns flows) = rows (option_map source_of labels) columns flows.now
+request_of (Cat labels) = cat (source_of labels)
 
 -- the names of the files that a request reads
 pub record FileNames : Type 0 where
@@ -84,6 +88,7 @@ abbrev pub files_of : Request → FileNames
 files_of (label source address) = files_named (Some source) None
 files_of (info flows) = files_named None (Some flows)
 files_of (rows source columns flows) = files_named source (Some flows)
+files_of (cat source) = files_named (Some source) None
 
 -- which of the four inputs are read: those that there are names for
 abbrev pub needs_named : FileNames → Needs

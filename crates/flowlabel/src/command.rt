@@ -31,6 +31,10 @@ pub enum Command<'a> {
         columns: bool,
         flows: &'a str,
     },
+    /// `cat (--pmap FILE | --list FILE)`: the ranges of addresses with one label.
+    Cat {
+        labels: LabelFile<'a>,
+    },
 }
 
 /// Which of the four inputs a command reads.
@@ -97,6 +101,7 @@ impl<'a> Command<'a> {
             Command::Label { labels, .. } => Files::named(Some(*labels), None),
             Command::Info { flows } => Files::named(None, Some(flows)),
             Command::Rows { labels, flows, .. } => Files::named(*labels, Some(flows)),
+            Command::Cat { labels } => Files::named(Some(*labels), None),
         }
     }
 }

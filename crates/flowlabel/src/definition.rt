@@ -1,7 +1,7 @@
 ghost use Rattle.std.specs.Prelude.{◌≡◌, IfOk, false, true};
 ghost use Rattle.clap.specs.Words.{app_of, rule_of};
 ghost use Rattle.clap.specs.declared.builder.command.Command.TheViews.{out-Command};
-ghost use Rattle.flowlabel.specs.Definition.{columns_rule, flowlabel_app, flows_rule, info_app, label_app, list_rule, pmap_rule, program, rows_app};
+ghost use Rattle.flowlabel.specs.Definition.{cat_app, columns_rule, flowlabel_app, flows_rule, info_app, label_app, list_rule, pmap_rule, program, rows_app};
 
 use clap::{Arg, ArgAction, Command};
 use std::alloc::{AllocError, Global};
@@ -89,6 +89,17 @@ fn rows<'a>(alloc: Global) -> Result<Command<'a>, AllocError>
         .arg(flows_argument(alloc))
 }
 
+/// `cat [--pmap FILE] [--list FILE]`.
+fn cat<'a>(alloc: Global) -> Result<Command<'a>, AllocError>
+    ensures app { IfOk result (λ c. app_of c ≡ cat_app) }
+    ensures local { IfOk result (λ c. (out-Command c).has_globals ≡ false) }
+{
+    Command::new(alloc, "cat")
+        .about("Print the ranges of a map or a list")
+        .arg(map_argument(alloc))?
+        .arg(list_argument(alloc))
+}
+
 /// The program before its subcommands.
 fn program<'a>(alloc: Global) -> Command<'a>
     ensures app { app_of result ≡ program }
@@ -110,5 +121,6 @@ pub fn definition<'a>(alloc: Global) -> Result<Command<'a>, AllocError>
     program(alloc)
         .subcommand(label(alloc)?)?
         .subcommand(info(alloc)?)?
-        .subcommand(rows(alloc)?)
+        .subcommand(rows(alloc)?)?
+        .subcommand(cat(alloc)?)
 }

@@ -13,6 +13,7 @@ use flow_io::{Input, Output};
 use std::alloc::Global;
 
 pub mod address_labels;
+mod cat;
 pub mod info;
 mod label;
 mod labelled;
@@ -22,6 +23,7 @@ pub mod report;
 pub mod rows;
 mod source;
 
+use cat::runs_under;
 use info::InfoReport;
 use label::{label_by_list, label_by_map};
 use labelled::report_under;
@@ -65,6 +67,7 @@ fn output<'a, R: Input>(
             columns,
             ..
         } => report_under(alloc, *labels, inputs, &RowsReport { columns: *columns }),
+        Command::Cat { labels } => runs_under(alloc, *labels, inputs),
     }
 }
 

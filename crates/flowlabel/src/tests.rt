@@ -23,6 +23,16 @@ fn name_of(answer: &Result<Command<'_>, UsageFault>) -> &'static str {
         Ok(Command::Info { .. }) => "info",
         Ok(Command::Rows { columns: false, .. }) => "rows",
         Ok(Command::Rows { columns: true, .. }) => "rows in columns",
+        Ok(
+            Command::Cat {
+                labels: LabelFile::Map(_),
+            },
+        ) => "cat",
+        Ok(
+            Command::Cat {
+                labels: LabelFile::List(_),
+            },
+        ) => "cat by list",
         Err(UsageFault::Refused(_)) => "refused",
         Err(UsageFault::NotUtf8) => "P1",
         Err(UsageFault::Help(_)) => "help",
@@ -83,6 +93,16 @@ const LINES: [(&str, &str); 36] = [
     ("flowlabel label --help", "help"),
 ];
 
+// Lines of the commands that print maps.
+const MAP_LINES: [(&str, &str); 6] = [
+    ("flowlabel cat --pmap map.txt", "cat"),
+    ("flowlabel cat --list=list.txt", "cat by list"),
+    ("flowlabel cat", "P2"),
+    ("flowlabel cat --pmap map.txt --list list.txt", "P3"),
+    ("flowlabel cat --pmap map.txt flows", "refused"),
+    ("flowlabel cat --help", "help"),
+];
+
 fn answers_each(rt: &impl Abort, alloc: Global, lines: &[(&str, &str)]) -> Result<(), AllocError> {
     for (line, want) in lines {
         assert_eq!(rt; outcome(alloc, line)?, *want, "at {line}");
@@ -93,6 +113,7 @@ fn answers_each(rt: &impl Abort, alloc: Global, lines: &[(&str, &str)]) -> Resul
 #[test]
 fn answers_lines(rt: HostRuntime) -> Result<(), Fail> {
     answers_each(&rt, rt.alloc(), &LINES)?;
+    answers_each(&rt, rt.alloc(), &MAP_LINES)?;
     assert_eq!(rt; name_of(&parse(rt.alloc(), &[])), "refused");
     Ok(())
 }

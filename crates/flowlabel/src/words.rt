@@ -4,7 +4,7 @@ ghost use Rattle.clap.specs.Words.{first_of, found_of, kind_of, rows_of, takes};
 ghost use Rattle.clap.specs.Walk.{texts};
 ghost use Rattle.flowlabel.specs.Definition.{flowlabel_app};
 ghost use Rattle.flowlabel.specs.Request.{IsProper, request_of, source_of};
-ghost use Rattle.flowlabel.specs.Answer.{IsAnswer, IsFaultOfKind, IsOwnAnswer, ReadsBareLine, ReadsColumnsLine, ReadsInfoLine, ReadsListLine, ReadsMapLine, ReadsRowsLine, SaysOnly, address_in_rows, answer_of, answer_of_label, answer_of_rows, flows_in_rows, is_given, sources_in_rows, words_fault_of};
+ghost use Rattle.flowlabel.specs.Answer.{IsAnswer, IsFaultOfKind, IsOwnAnswer, ReadsBareLine, ReadsCatLine, ReadsColumnsLine, ReadsInfoLine, ReadsListLine, ReadsMapLine, ReadsRowsLine, SaysOnly, address_in_rows, answer_of, answer_of_cat, answer_of_label, answer_of_rows, flows_in_rows, is_given, sources_in_rows, words_fault_of};
 
 use crate::command::{Command, LabelFile};
 use crate::definition::definition;
@@ -104,6 +104,16 @@ fn rows_command<'a>(entries: &ArgMatches<'a>) -> Result<Command<'a>, UsageFault>
     })
 }
 
+/// The command `cat`, or its first usage fault, by the entries that clap found for it.
+fn cat_command<'a>(entries: &ArgMatches<'a>) -> Result<Command<'a>, UsageFault>
+    ensures { SaysOnly (answer_of_cat (rows_of (found_of entries.now))) result }
+{
+    match labels_in(entries)? {
+        Some(labels) => Ok(Command::Cat { labels }),
+        None => Err(UsageFault::MapMissing),
+    }
+}
+
 /// The command of a subcommand, or its first usage fault, by its name and the entries that clap found for it.
 fn command_of<'a>(name: &str, entries: &ArgMatches<'a>) -> Result<Command<'a>, UsageFault>
     ensures { SaysOnly (answer_of (name.now, rows_of (found_of entries.now))) result }
@@ -114,6 +124,9 @@ fn command_of<'a>(name: &str, entries: &ArgMatches<'a>) -> Result<Command<'a>, U
     }
     if name == "rows" {
         return rows_command(entries);
+    }
+    if name == "cat" {
+        return cat_command(entries);
     }
     label_command(entries)
 }
@@ -144,6 +157,7 @@ pub fn parse<'a>(alloc: Global, words: &'a [&'a str]) -> Result<Command<'a>, Usa
     ensures info_line { ReadsInfoLine (texts words.entry.now) result }
     ensures rows_line { ReadsRowsLine (texts words.entry.now) result }
     ensures columns_line { ReadsColumnsLine (texts words.entry.now) result }
+    ensures cat_line { ReadsCatLine (texts words.entry.now) result }
     ensures taken { takes flowlabel_app (texts words.entry.now) ≡ true → IsOwnAnswer result }
 {
     let command = definition(alloc)?;

@@ -1,5 +1,5 @@
 //! What a file holds: its text, its map, or its prefix list.
-ghost use Rattle.std.specs.Prelude.{◌≡◌, false, IfErr, IfOk, IfSome, List, Some, ℕ};
+ghost use Rattle.std.specs.Prelude.{◌≡◌, ◌≤◌, false, length, IfErr, IfOk, IfSome, List, Some, ℕ};
 ghost use Rattle.pmap_text.specs.MapText.{map_of};
 ghost use Rattle.pmap_text.specs.PrefixList.{list_of};
 ghost use Rattle.pmap_text.specs.Reading.{ReadsList, ReadsMap};
@@ -64,6 +64,7 @@ pub fn list_of_file<'a, R: Input>(
 ) -> Result<PrefixList, RunFault<'a>>
     requires { R.failed source.old.reader ≡ false }
     ensures ok { IfOk result (λ list. (text : List ℕ) → R.bytes_left source.old.reader ≡ Some text → ReadsList text (list_of list)) }
+    ensures limit { IfOk result (λ list. length list.entries ≤ 1000000) }
     ensures err { IfErr result (IsFaultOfListFile R.bytes_left R.failed FailsList source.old source.new) }
     ensures failed { R.failed source.new.reader ≡ is_read_stop result }
 {

@@ -14,6 +14,7 @@ use std::process::Abort;
 use std::test::Fail;
 
 mod flows;
+mod prefix_maps;
 
 type MemorySource<'a> = Source<'a, MemoryInput<'a>>;
 
@@ -280,6 +281,7 @@ fn answers_the_fault_of_the_line(rt: HostRuntime) -> Result<(), Fail> {
             "flowlabel rows --pmap map.txt --list list.txt flows",
             "flowlabel: usage: P3 MapTwice\n",
         ),
+        ("flowlabel cat", "flowlabel: usage: P2 MapMissing\n"),
     ] {
         ends_over(&rt, rt.alloc(), line, MAP, (2, fault, ""))?;
     }

@@ -1,0 +1,33 @@
+use Rattle.std.proofs.Common.{List, sym, subst}
+use Rattle.std.proofs.lemmas.Result.{IfOk-weaker}
+use Rattle.pmap_text.specs.ListModel.{list_label}
+use Rattle.pmap_text.specs.PrefixList.{list_of}
+use Rattle.label_trie.specs.declared.leaf.Leaf.{Leaf}
+use Rattle.pmap_print.specs.Runs.{HaveRunsOf}
+use Rattle.flowlabel.proofs.LabellingLemmas.{same_at_addresses}
+use Rattle.flowlabel.proofs.run.cat.runs_of_list.Goals as goal
+
+have : (c : goal.After-as_slice) → HaveRunsOf c.args.list.now.version (list_label (list_of c.args.list.now)) c.as_slice.result.now c.args.list.now.labels
+have c =
+    subst (λ (leaves : List Leaf). HaveRunsOf c.args.list.now.version (list_label (list_of c.args.list.now)) leaves c.args.list.now.labels)
+    (sym c.as_slice.ensures)
+    (c.list_leaves_have_its_runs.ensures c.args.list.now c.in_ok-trie.trie c.in_ok-leaves.leaves c.in_ok-trie.ensures.version
+    c.in_ok-trie.ensures.cut c.in_ok-trie.ensures.decided c.in_ok-trie.ensures.labels c.in_ok-leaves.ensures.version c.in_ok-leaves.ensures.leaves)
+
+pub print_runs-requires-clause-space : goal.print_runs-requires-clause-space
+print_runs-requires-clause-space c = (have c).space
+
+pub print_runs-requires-clause-known : goal.print_runs-requires-clause-known
+print_runs-requires-clause-known c = (have c).known
+
+pub returns : goal.returns
+returns c =
+    let version = c.args.list.now.version in
+    let have : HaveRunsOf version (list_label (list_of c.args.list.now)) c.as_slice.result.now c.args.list.now.labels =
+    subst (λ (leaves : List Leaf). HaveRunsOf c.args.list.now.version (list_label (list_of c.args.list.now)) leaves c.args.list.now.labels)
+    (sym c.as_slice.ensures)
+    (c.list_leaves_have_its_runs.ensures c.args.list.now c.in_ok-trie.trie c.in_ok-leaves.leaves c.in_ok-trie.ensures.version
+    c.in_ok-trie.ensures.cut c.in_ok-trie.ensures.decided c.in_ok-trie.ensures.labels c.in_ok-leaves.ensures.version c.in_ok-leaves.ensures.leaves) in
+    IfOk-weaker c.print_runs.result _ _
+    (λ out is. c.labelling_has_one_runs_text.ensures.alike version (list_label (list_of c.args.list.now)) _ out.items (same_at_addresses version (list_label (list_of c.args.list.now))) (have.text out.items is))
+    c.print_runs.ensures

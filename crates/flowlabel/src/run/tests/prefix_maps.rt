@@ -1,0 +1,58 @@
+//! `cat` over map texts and list texts.
+
+use super::*;
+
+// A command line, the text of its map or its list, and what is printed.
+const PRINTED: [(&str, &str, &str); 5] = [
+    (
+        "flowlabel cat --pmap map.txt",
+        "",
+        "low|high|label\n0.0.0.0|255.255.255.255|UNKNOWN\n",
+    ),
+    (
+        "flowlabel cat --pmap map.txt",
+        "mode ipv6\n10.0.0.0/8 In\n",
+        "low|high|label\n::|::ffff:9ff:ffff|UNKNOWN\n::ffff:a00:0|::ffff:aff:ffff|In\n::ffff:b00:0|ffff:ffff:ffff:ffff:ffff:ffff:ffff:ffff|UNKNOWN\n",
+    ),
+    (
+        "flowlabel cat --pmap map.txt",
+        "label 5 red\n1.0.0.0/8 5\n2.0.0.0/8 6\n",
+        "low|high|label\n0.0.0.0|0.255.255.255|UNKNOWN\n1.0.0.0|1.255.255.255|red\n2.0.0.0|2.255.255.255|6\n3.0.0.0|255.255.255.255|UNKNOWN\n",
+    ),
+    (
+        "flowlabel cat --list list.txt",
+        "0.0.0.0/1 A\n",
+        "low|high|label\n0.0.0.0|127.255.255.255|A\n128.0.0.0|255.255.255.255|\n",
+    ),
+    // The list that labels as the map of the numbers does.
+    (
+        "flowlabel cat --list list.txt",
+        "2.0.0.0/8 6\n0.0.0.0/0 UNKNOWN\n1.0.0.0/8 red\n",
+        "low|high|label\n0.0.0.0|0.255.255.255|UNKNOWN\n1.0.0.0|1.255.255.255|red\n2.0.0.0|2.255.255.255|6\n3.0.0.0|255.255.255.255|UNKNOWN\n",
+    ),
+];
+
+// Such a command line prints this where the reader and the writer move some bytes a call and nothing fails.
+fn prints_text(
+    rt: &impl Abort,
+    alloc: Global,
+    line: &str,
+    labels: &str,
+    printed: &str,
+) -> Result<(), Fail> {
+    let reader = MemoryInput::new(labels.as_bytes(), 16, None);
+    let writer = MemoryOutput::<256>::new(32, None, false);
+    ends(rt, alloc, line, reader, writer, (0, "", printed))
+}
+
+fn prints_each(rt: &impl Abort, alloc: Global, cases: &[(&str, &str, &str)]) -> Result<(), Fail> {
+    for (line, labels, printed) in cases {
+        prints_text(rt, alloc, line, labels, printed)?;
+    }
+    Ok(())
+}
+
+#[test]
+fn prints_prefix_maps(rt: HostRuntime) -> Result<(), Fail> {
+    prints_each(&rt, rt.alloc(), &PRINTED)
+}
