@@ -12,7 +12,7 @@ use Rattle.prefix_keys.specs.Text.{AddressOf}
 use Rattle.pmap_text.specs.Reading.{◌>>=◌}
 use Rattle.flowlabel.specs.Request.{LabelSource, Text}
 use Rattle.flowlabel.specs.Definition.{flowlabel_app}
-use Rattle.flowlabel.specs.Answer.{Answer, Answers, IsAnswer, IsFaultAt, IsFaultOfKind, IsOwnAnswer, IsOwnFault, SaysOnly, address_answer, address_in_rows, answer_of, answer_of_cat, answer_of_info, answer_of_label, answer_of_rows, is_help, is_mistake, needed_source, source_answer, sources_in_rows}
+use Rattle.flowlabel.specs.Answer.{Answer, Answers, IsAnswer, IsFaultAt, IsFaultOfKind, IsOwnAnswer, IsOwnFault, SaysOnly, address_answer, address_in_rows, answer_of, answer_of_cat, answer_of_info, answer_of_label, answer_of_rows, answer_of_shrink, is_help, is_mistake, needed_source, source_answer, sources_in_rows}
 use Rattle.flowlabel.specs.declared.command.Command.{Command}
 use Rattle.flowlabel.specs.declared.usage.UsageFault.{UsageFault}
 use Rattle.flowlabel.specs.declared.usage.UsageFault.TheVariants.{Refused, NotUtf8, Help, MapTwice, MapMissing, BadAddress, NoMemory}
@@ -100,13 +100,16 @@ cat_own rows =
 -- each command answers so
 pub answer_own : (p : Text × List Row) → IsOwnAnswer (answer_of p)
 answer_own p =
-    elim (bytes_eq p.0 (codes "info")) as (λ b. IsOwnAnswer (if b then answer_of_info p.1 else if bytes_eq p.0 (codes "rows") then answer_of_rows p.1 else if bytes_eq p.0 (codes "cat") then answer_of_cat p.1 else answer_of_label p.1)) [
+    elim (bytes_eq p.0 (codes "info")) as (λ b. IsOwnAnswer (if b then answer_of_info p.1 else if bytes_eq p.0 (codes "rows") then answer_of_rows p.1 else if bytes_eq p.0 (codes "cat") then answer_of_cat p.1 else if bytes_eq p.0 (codes "shrink") then answer_of_shrink p.1 else answer_of_label p.1)) [
       | true ↦ tt
-      | false ↦ elim (bytes_eq p.0 (codes "rows")) as (λ b. IsOwnAnswer (if b then answer_of_rows p.1 else if bytes_eq p.0 (codes "cat") then answer_of_cat p.1 else answer_of_label p.1)) [
+      | false ↦ elim (bytes_eq p.0 (codes "rows")) as (λ b. IsOwnAnswer (if b then answer_of_rows p.1 else if bytes_eq p.0 (codes "cat") then answer_of_cat p.1 else if bytes_eq p.0 (codes "shrink") then answer_of_shrink p.1 else answer_of_label p.1)) [
         | true ↦ rows_own p.1
-        | false ↦ elim (bytes_eq p.0 (codes "cat")) as (λ b. IsOwnAnswer (if b then answer_of_cat p.1 else answer_of_label p.1)) [
+        | false ↦ elim (bytes_eq p.0 (codes "cat")) as (λ b. IsOwnAnswer (if b then answer_of_cat p.1 else if bytes_eq p.0 (codes "shrink") then answer_of_shrink p.1 else answer_of_label p.1)) [
           | true ↦ cat_own p.1
-          | false ↦ label_own p.1
+          | false ↦ elim (bytes_eq p.0 (codes "shrink")) as (λ b. IsOwnAnswer (if b then answer_of_shrink p.1 else answer_of_label p.1)) [
+            | true ↦ tt
+            | false ↦ label_own p.1
+          ]
         ]
       ]
     ]

@@ -11,7 +11,7 @@ use Rattle.pmap_text.specs.MapModel.{Label, MapModel, map_label}
 use Rattle.pmap_text.specs.Reading.{ReadsList, ReadsMap}
 use Rattle.flowlabel.specs.Labelling.{Labelling, at_addresses, labelling, labelling_of_list, labelling_of_map}
 use Rattle.flowlabel.specs.Output.{FileTexts, FlowsThen, IsOutput, ListThen, MapThen, Outcome, Prints, PrintsRuns, ReportsThen, SameUnderEquivalents, label_text, report_of_rows, under}
-use Rattle.flowlabel.specs.Request.{FromList, FromMap, label, info, rows, cat}
+use Rattle.flowlabel.specs.Request.{FromList, FromMap, label, info, rows, cat, shrink}
 
 guarded : (b : Bool) (x y : Option Label) → (b ≡ true → x ≡ y) → (if b then x else None) ≡ (if b then y else None)
 guarded true x y h = h refl
@@ -58,15 +58,16 @@ both : {A B C : Type 0} → A ↔ B → B ↔ C → A ↔ C
 both p q = ((λ x. q.0 (p.0 x)), (λ x. p.1 (q.1 x)))
 
 pub same_under_equivalents : SameUnderEquivalents
-same_under_equivalents (label old address) file other texts others m l outcome reads_map reads_list is flows =
+same_under_equivalents (label old address) file other texts others m l outcome either reads_map reads_list is flows =
     swap (λ labels. Prints (label_text address labels)) texts.map others.list m l outcome reads_map reads_list is
-same_under_equivalents (info name) file other texts others m l outcome reads_map reads_list is flows =
+same_under_equivalents (info name) file other texts others m l outcome either reads_map reads_list is flows =
     over_file (λ bytes. IsOutput (info name) (record texts { flows = bytes }) outcome) texts.flows others.flows flows
-same_under_equivalents (rows None columns name) file other texts others m l outcome reads_map reads_list is flows =
+same_under_equivalents (rows None columns name) file other texts others m l outcome either reads_map reads_list is flows =
     over_file (λ bytes. IsOutput (rows None columns name) (record texts { flows = bytes }) outcome) texts.flows others.flows flows
-same_under_equivalents (rows (Some old) columns name) file other texts others m l outcome reads_map reads_list is flows =
+same_under_equivalents (rows (Some old) columns name) file other texts others m l outcome either reads_map reads_list is flows =
     both
     (swap (λ labels. FlowsThen (λ messages. Prints (report_of_rows columns (Some labels) messages)) texts.flows) texts.map others.list m l outcome reads_map reads_list is)
     (over_file (λ bytes. IsOutput (rows (Some (FromList other)) columns name) (record others { flows = bytes }) outcome) texts.flows others.flows flows)
-same_under_equivalents (cat old) file other texts others m l outcome reads_map reads_list is flows =
+same_under_equivalents (cat old) file other texts others m l outcome either reads_map reads_list is flows =
     swap PrintsRuns texts.map others.list m l outcome reads_map reads_list is
+same_under_equivalents (shrink map certificate) file other texts others m l outcome either reads_map reads_list is flows = absurd either

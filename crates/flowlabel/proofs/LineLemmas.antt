@@ -6,8 +6,8 @@ use Rattle.clap.specs.Words.{Text, fault_of}
 use Rattle.clap.proofs.OnLiterals.{clap_on_literals}
 use Rattle.prefix_keys.specs.Text.{address_of}
 use Rattle.flowlabel.specs.Definition.{flowlabel_app}
-use Rattle.flowlabel.specs.Request.{FromList, FromMap, cat, info, rows}
-use Rattle.flowlabel.specs.Answer.{Answer, Answers, IsAnswer, IsUnlessMemory, ReadsBareLine, ReadsCatLine, ReadsColumnsLine, ReadsInfoLine, ReadsListLine, ReadsMapLine, ReadsRowsLine, address_answer, is_plain_word, own_answer}
+use Rattle.flowlabel.specs.Request.{FromList, FromMap, cat, info, rows, shrink}
+use Rattle.flowlabel.specs.Answer.{Answer, Answers, IsAnswer, IsUnlessMemory, ReadsBareLine, ReadsCatLine, ReadsCertificateLine, ReadsColumnsLine, ReadsInfoLine, ReadsListLine, ReadsMapLine, ReadsRowsLine, ReadsShrinkLine, address_answer, is_plain_word, own_answer}
 use Rattle.flowlabel.specs.declared.command.Command.{Command}
 use Rattle.flowlabel.specs.declared.usage.UsageFault.{UsageFault}
 use Rattle.flowlabel.specs.declared.usage.UsageFault.TheVariants.{Refused, NotUtf8, Help, MapTwice, MapMissing, BadAddress, NoMemory}
@@ -110,6 +110,18 @@ module _ (program : Text) where
   cat_line [] h = (refl, refl)
   cat_line (x ∷ xs) h = let e = not_true (x == 45) h in (rw (e, not_short x xs e) refl, rw (e, not_short x xs e) refl)
 
+  -- lines of `shrink`, without its certificate and with it
+  pub shrink_line : (file : Text) → is_plain_word file ≡ true → Answers (program ∷ codes "shrink" ∷ codes "--pmap" ∷ file ∷ []) (Ok (shrink file false))
+  unfolding flowlabel_app clap_on_literals
+  shrink_line [] h = (refl, refl)
+  shrink_line (x ∷ xs) h = let e = not_true (x == 45) h in (rw (e, not_short x xs e) refl, rw (e, not_short x xs e) refl)
+
+  pub certificate_line : (file : Text) → is_plain_word file ≡ true
+      → Answers (program ∷ codes "shrink" ∷ codes "--pmap" ∷ file ∷ codes "--certificate" ∷ []) (Ok (shrink file true))
+  unfolding flowlabel_app clap_on_literals
+  certificate_line [] h = (refl, refl)
+  certificate_line (x ∷ xs) h = let e = not_true (x == 45) h in (rw (e, not_short x xs e) refl, rw (e, not_short x xs e) refl)
+
 -- such a line is read so, whatever answers what the words ask for
 pub reads_map_line : (words : List Text) (r : Result Command UsageFault) → IsAnswer words r → ReadsMapLine words r
 reads_map_line words r is program map address h k e = own_only _ _ r (map_line program map address h k) (rw e at is)
@@ -131,3 +143,9 @@ reads_columns_line words r is program file h e = own_only _ _ r (columns_line pr
 
 pub reads_cat_line : (words : List Text) (r : Result Command UsageFault) → IsAnswer words r → ReadsCatLine words r
 reads_cat_line words r is program file h e = own_only _ _ r (cat_line program file h) (rw e at is)
+
+pub reads_shrink_line : (words : List Text) (r : Result Command UsageFault) → IsAnswer words r → ReadsShrinkLine words r
+reads_shrink_line words r is program file h e = own_only _ _ r (shrink_line program file h) (rw e at is)
+
+pub reads_certificate_line : (words : List Text) (r : Result Command UsageFault) → IsAnswer words r → ReadsCertificateLine words r
+reads_certificate_line words r is program file h e = own_only _ _ r (certificate_line program file h) (rw e at is)

@@ -1,18 +1,24 @@
 -- A request has one output at most: a map text and a File have one reading, and what comes of it is one text.
-use Rattle.std.proofs.Common.{◌≡◌, ◌∙◌, ℕ, List, [], Option, Some, None, Ok, Err, ap, sym, subst, inl, inr}
+use Rattle.std.proofs.Common.{◌≡◌, ◌∙◌, ℕ, Bool, true, false, List, [], Option, Some, None, Ok, Err, ap, sym, subst, inl, inr}
 use Rattle.prefix_keys.specs.declared.version.Version.{Version}
 use Rattle.pmap_text.specs.ListModel.{ListModel}
 use Rattle.pmap_text.specs.MapModel.{Label, MapModel}
+use Rattle.pmap_text.specs.Reading.{ReadsMap}
 use Rattle.pmap_text.specs.declared.fault.MapFault.{MapFault}
 use Rattle.ipfix_read.specs.Laws.{OneReading}
 use Rattle.ipfix_read.specs.Message.{MessageView}
 use Rattle.ipfix_read.specs.declared.fault.ReadFault.{ReadFault}
 use Rattle.flow_rows.specs.Counts.{counts_of}
+use Rattle.pmap_cert.specs.CertificateForm.{HasTextForm}
+use Rattle.pmap_cert.specs.CertificateModel.{CertificateModel}
+use Rattle.pmap_cert.specs.CertificateText.{certificate_text}
+use Rattle.pmap_cert.specs.MinimalPair.{HasItsLabels, IsMinimalPair}
 use Rattle.pmap_print.specs.Info.{info_text}
+use Rattle.pmap_print.specs.List.{list_text}
 use Rattle.pmap_print.specs.Runs.{IsRunsText}
 use Rattle.flowlabel.specs.Labelling.{Labelling, labelling_of_list, labelling_of_map}
-use Rattle.flowlabel.specs.Output.{FileTexts, FlowsThen, InFlows, InList, InMap, LabelsThen, ListThen, MapThen, OneOutput, Outcome, Prints, PrintsRuns, ReportsThen, SourceThen, label_text, report_of_rows}
-use Rattle.flowlabel.specs.Request.{FromList, FromMap, LabelSource, label, info, rows, cat}
+use Rattle.flowlabel.specs.Output.{FileTexts, FlowsThen, InFlows, InList, InMap, LabelsThen, ListThen, MapThen, OneOutput, Outcome, Prints, PrintsMinimal, PrintsRuns, ReportsThen, SourceThen, label_text, report_of_rows}
+use Rattle.flowlabel.specs.Request.{FromList, FromMap, LabelSource, label, info, rows, cat, shrink}
 
 -- what comes of a value is one outcome at most
 abbrev IsOne : {A : Type 0} → (A → Outcome → Type 0) → Type 0
@@ -21,14 +27,15 @@ IsOne {A} rest = (x : A) (outcome other : Outcome) → rest x outcome → rest x
 prints_one : {A : Type 0} (text : A → List ℕ) → IsOne (λ (x : A). Prints (text x))
 prints_one text x outcome other p q = p ∙ sym q
 
-map_then_one : (rest : MapModel → Outcome → Type 0) → IsOne rest → (text : List ℕ) (outcome other : Outcome)
+map_then_one : (rest : MapModel → Outcome → Type 0) (text : List ℕ)
+    → ((m : MapModel) → ReadsMap text m → (outcome other : Outcome) → rest m outcome → rest m other → outcome ≡ other) → (outcome other : Outcome)
     → MapThen rest text outcome → MapThen rest text other → outcome ≡ other
-map_then_one rest one text outcome other (inl p) (inl q) =
+map_then_one rest text one outcome other (inl p) (inl q) =
     let same : p.0 ≡ q.0 = cc in p.2 ∙ ap (λ (f : MapFault). Err (InMap f)) same ∙ sym q.2
-map_then_one rest one text outcome other (inl p) (inr q) = cc
-map_then_one rest one text outcome other (inr p) (inl q) = cc
-map_then_one rest one text outcome other (inr p) (inr q) =
-    let same : q.0 ≡ p.0 = cc in one p.0 outcome other p.2 (subst (λ (m : MapModel). rest m other) same q.2)
+map_then_one rest text one outcome other (inl p) (inr q) = cc
+map_then_one rest text one outcome other (inr p) (inl q) = cc
+map_then_one rest text one outcome other (inr p) (inr q) =
+    let same : q.0 ≡ p.0 = cc in one p.0 p.1 outcome other p.2 (subst (λ (m : MapModel). rest m other) same q.2)
 
 list_then_one : (rest : ListModel → Outcome → Type 0) → IsOne rest → (text : List ℕ) (outcome other : Outcome)
     → ListThen rest text outcome → ListThen rest text other → outcome ≡ other
@@ -42,7 +49,7 @@ list_then_one rest one text outcome other (inr p) (inr q) =
 labels_then_one : (source : LabelSource) (rest : Labelling → Outcome → Type 0) → IsOne rest → (texts : FileTexts) (outcome other : Outcome)
     → LabelsThen source rest texts outcome → LabelsThen source rest texts other → outcome ≡ other
 labels_then_one (FromMap file) rest one texts outcome other p q =
-    map_then_one (λ m. rest (labelling_of_map m)) (λ m. one (labelling_of_map m)) texts.map outcome other p q
+    map_then_one (λ m. rest (labelling_of_map m)) texts.map (λ m reads. one (labelling_of_map m)) outcome other p q
 labels_then_one (FromList file) rest one texts outcome other p q =
     list_then_one (λ l. rest (labelling_of_list l)) (λ l. one (labelling_of_list l)) texts.list outcome other p q
 
@@ -78,12 +85,29 @@ runs_one : OneRunsText → IsOne PrintsRuns
 runs_one law labels outcome other (text, is, p) (text', is', q) =
     p ∙ ap Ok (law labels.version labels.label text text' is is') ∙ sym q
 
-pub one_output : OneReading → OneRunsText → OneOutput
-one_output law runs (label source address) texts outcome other p q =
+-- a map text has one text of its shortest list, and one of its certificate
+abbrev OneMinimalText : Type 0
+OneMinimalText = (certificate : Bool) (text : List ℕ) (m : MapModel) → ReadsMap text m
+    → (outcome other : Outcome) → PrintsMinimal certificate m outcome → PrintsMinimal certificate m other → outcome ≡ other
+
+-- so it is where map texts have their labels, such a map has one minimal list, and a map one minimal certificate with a text
+pub minimal_one : ((text : List ℕ) (m : MapModel) → ReadsMap text m → HasItsLabels m)
+    → ((m : MapModel) (l l' : ListModel) (c c' : CertificateModel) → IsMinimalPair m l c → IsMinimalPair m l' c' → HasItsLabels m → l ≡ l')
+    → ((m : MapModel) (l l' : ListModel) (c c' : CertificateModel) → IsMinimalPair m l c → IsMinimalPair m l' c' → HasTextForm c → HasTextForm c' → c ≡ c')
+    → OneMinimalText
+minimal_one own lists certificates false text m reads outcome other (l, c, is, form, p) (l', c', is', form', q) =
+    p ∙ ap (λ (k : ListModel). Ok (list_text k)) (lists m l l' c c' is is' (own text m reads)) ∙ sym q
+minimal_one own lists certificates true text m reads outcome other (l, c, is, form, p) (l', c', is', form', q) =
+    p ∙ ap (λ (k : CertificateModel). Ok (certificate_text k)) (certificates m l l' c c' is is' form form') ∙ sym q
+
+pub one_output : OneReading → OneRunsText → OneMinimalText → OneOutput
+one_output law runs minimal (label source address) texts outcome other p q =
     labels_then_one source _ (prints_one (label_text address)) texts outcome other p q
-one_output law runs (info flows) texts outcome other p q =
+one_output law runs minimal (info flows) texts outcome other p q =
     reports_then_one law (λ labels messages. info_text (counts_of messages)) None texts outcome other p q
-one_output law runs (rows source columns flows) texts outcome other p q =
+one_output law runs minimal (rows source columns flows) texts outcome other p q =
     reports_then_one law (report_of_rows columns) source texts outcome other p q
-one_output law runs (cat source) texts outcome other p q =
+one_output law runs minimal (cat source) texts outcome other p q =
     labels_then_one source PrintsRuns (runs_one runs) texts outcome other p q
+one_output law runs minimal (shrink map certificate) texts outcome other p q =
+    map_then_one (PrintsMinimal certificate) texts.map (minimal certificate texts.map) outcome other p q

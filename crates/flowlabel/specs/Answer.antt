@@ -9,7 +9,7 @@ use Rattle.clap.specs.Words.{Row, fault_of, first_of, subcommand_of}
 use Rattle.clap.specs.declared.error.kind.ErrorKind.{ErrorKind}
 use Rattle.clap.specs.declared.error.kind.ErrorKind.TheVariants as kind
 use Rattle.flowlabel.specs.Definition.{flowlabel_app}
-use Rattle.flowlabel.specs.Request.{FromList, FromMap, LabelSource, Request, Text, cat, info, label, request_of, rows}
+use Rattle.flowlabel.specs.Request.{FromList, FromMap, LabelSource, Request, Text, cat, info, label, request_of, rows, shrink}
 use Rattle.flowlabel.specs.declared.command.Command.{Command}
 use Rattle.flowlabel.specs.declared.usage.UsageFault.{UsageFault}
 use Rattle.flowlabel.specs.declared.usage.UsageFault.TheVariants.{Refused, NotUtf8, Help, MapTwice, MapMissing, BadAddress, NoMemory}
@@ -77,12 +77,21 @@ cat_answer source = source >>= (λ found. needed_source found >>= (λ labels. Ok
 abbrev pub answer_of_cat : List Row → Answer
 answer_of_cat entries = cat_answer (sources_in_rows entries)
 
+-- the file that an entry names: clap takes no line of `shrink` without its map
+abbrev pub file_in_rows : Text → List Row → Text
+file_in_rows id entries = unwrap_or (first_of id entries) []
+
+-- `shrink`, by the entries that clap finds for it
+abbrev pub answer_of_shrink : List Row → Answer
+answer_of_shrink entries = Ok (shrink (file_in_rows (codes "pmap") entries) (is_given (codes "certificate") entries))
+
 -- the answer to a subcommand, by its name and its entries
 abbrev pub answer_of : Text × List Row → Answer
 answer_of found =
     if bytes_eq found.0 (codes "info") then answer_of_info found.1
     else if bytes_eq found.0 (codes "rows") then answer_of_rows found.1
     else if bytes_eq found.0 (codes "cat") then answer_of_cat found.1
+    else if bytes_eq found.0 (codes "shrink") then answer_of_shrink found.1
     else answer_of_label found.1
 
 -- the answer to the words that clap takes, by the subcommand and the entries that it finds in them
@@ -185,6 +194,17 @@ ReadsColumnsLine words result = (program file : Text) → is_plain_word file ≡
 abbrev pub ReadsCatLine : List Text → Result Command UsageFault → Type 0
 ReadsCatLine words result = (program file : Text) → is_plain_word file ≡ true
     → words ≡ program ∷ codes "cat" ∷ codes "--pmap" ∷ file ∷ [] → IsUnlessMemory (Ok (cat (FromMap file))) result
+
+-- `shrink --pmap FILE` is answered by its map
+abbrev pub ReadsShrinkLine : List Text → Result Command UsageFault → Type 0
+ReadsShrinkLine words result = (program file : Text) → is_plain_word file ≡ true
+    → words ≡ program ∷ codes "shrink" ∷ codes "--pmap" ∷ file ∷ [] → IsUnlessMemory (Ok (shrink file false)) result
+
+-- `shrink --pmap FILE --certificate` asks for the certificate
+abbrev pub ReadsCertificateLine : List Text → Result Command UsageFault → Type 0
+ReadsCertificateLine words result = (program file : Text) → is_plain_word file ≡ true
+    → words ≡ program ∷ codes "shrink" ∷ codes "--pmap" ∷ file ∷ codes "--certificate" ∷ []
+    → IsUnlessMemory (Ok (shrink file true)) result
 
 -- the fault comes of an error of this kind
 abbrev pub IsFaultOfKind : ErrorKind → UsageFault → Type 0

@@ -41,6 +41,18 @@ rows_app =
 abbrev pub cat_app : App
 cat_app = with_rule (with_rule (new_app (codes "cat")) pmap_rule) list_rule
 
+-- `--pmap FILE` where it has to be there
+abbrev pub needed_pmap_rule : Rule
+needed_pmap_rule = record pmap_rule { required = true }
+
+-- `--certificate`
+abbrev pub certificate_rule : Rule
+certificate_rule = record (new_rule (codes "certificate")) { long = Some (codes "certificate"); action = Some SetTrue }
+
+-- `shrink --pmap FILE [--certificate]`
+abbrev pub shrink_app : App
+shrink_app = with_rule (with_rule (new_app (codes "shrink")) needed_pmap_rule) certificate_rule
+
 -- the program before its subcommands: one of them is required, and `help` is none
 abbrev pub program : App
 program = record (new_app (codes "flowlabel")) {
@@ -50,4 +62,5 @@ program = record (new_app (codes "flowlabel")) {
 -- the command line
 unfoldable pub flowlabel_app : App
 flowlabel_app =
-    with_subcommand (with_subcommand (with_subcommand (with_subcommand program label_app.top) info_app.top) rows_app.top) cat_app.top
+    with_subcommand (with_subcommand (with_subcommand (with_subcommand (with_subcommand program label_app.top) info_app.top) rows_app.top) cat_app.top)
+    shrink_app.top

@@ -1,4 +1,4 @@
-use Rattle.std.specs.Prelude.{◌≡◌, ◌⊎◌, ◌↔◌, ℕ, List, [], ◌∷◌, ◌++◌, Bool, Option, Some, None, Result, Ok, Err, map, option_map, unwrap_or}
+use Rattle.std.specs.Prelude.{◌≡◌, ◌⊎◌, ◌↔◌, ℕ, List, [], ◌∷◌, ◌++◌, Bool, true, false, Option, Some, None, Result, Ok, Err, map, option_map, unwrap_or}
 use Rattle.prefix_keys.specs.Text.{AddressOf}
 use Rattle.pmap_text.specs.ListModel.{IsEquivalent, ListModel}
 use Rattle.pmap_text.specs.MapModel.{MapModel}
@@ -10,10 +10,15 @@ use Rattle.ipfix_read.specs.declared.fault.ReadFault.{ReadFault}
 use Rattle.flow_rows.specs.Content.{rows_of_messages}
 use Rattle.flow_rows.specs.Counts.{counts_of}
 use Rattle.pmap_print.specs.Info.{info_text}
+use Rattle.pmap_cert.specs.CertificateForm.{HasTextForm}
+use Rattle.pmap_cert.specs.CertificateModel.{CertificateModel}
+use Rattle.pmap_cert.specs.CertificateText.{certificate_text}
+use Rattle.pmap_cert.specs.MinimalPair.{IsMinimalPair}
+use Rattle.pmap_print.specs.List.{list_text}
 use Rattle.pmap_print.specs.Rows.{rows_text}
 use Rattle.pmap_print.specs.Runs.{IsRunsText}
 use Rattle.flowlabel.specs.Labelling.{Labelling, label_by, labelling_of_list, labelling_of_map, row_labels}
-use Rattle.flowlabel.specs.Request.{FromList, FromMap, LabelSource, Request, label, info, rows, cat}
+use Rattle.flowlabel.specs.Request.{FromList, FromMap, LabelSource, Request, label, info, rows, cat, shrink}
 
 -- The output of a request: the text that it prints, or the first fault of its files' bytes.
 
@@ -87,6 +92,16 @@ HasRunsText labels text = IsRunsText labels.version labels.label text
 abbrev pub PrintsRuns : Labelling → Outcome → Type 0
 PrintsRuns labels outcome = (text : List ℕ) × HasRunsText labels text × Prints text outcome
 
+-- what is printed of a list and its certificate: one of them
+abbrev pub shrunk_text : Bool → ListModel → CertificateModel → List ℕ
+shrunk_text false l c = list_text l
+shrunk_text true l c = certificate_text c
+
+-- the outcome is the text of the list of the map's minimal pair, or of its certificate
+abbrev pub PrintsMinimal : Bool → MapModel → Outcome → Type 0
+PrintsMinimal certificate m outcome =
+    (l : ListModel) × (c : CertificateModel) × IsMinimalPair m l c × HasTextForm c × Prints (shrunk_text certificate l c) outcome
+
 -- the rows of messages, with the labels of their addresses where there is a labelling
 abbrev pub report_of_rows : Bool → Option Labelling → List MessageView → List ℕ
 report_of_rows columns labels messages =
@@ -103,6 +118,7 @@ IsOutput (label source address) texts = LabelsThen source (λ labels. Prints (la
 IsOutput (info flows) texts = ReportsThen (λ labels messages. info_text (counts_of messages)) None texts
 IsOutput (rows source columns flows) texts = ReportsThen (report_of_rows columns) source texts
 IsOutput (cat source) texts = LabelsThen source PrintsRuns texts
+IsOutput (shrink map certificate) texts = MapThen (PrintsMinimal certificate) texts.map
 
 -- a request has one output at most
 abbrev pub OneOutput : Type 0
@@ -115,10 +131,19 @@ under source (info flows) = info flows
 under source (rows None columns flows) = rows None columns flows
 under source (rows (Some old) columns flows) = rows (Some source) columns flows
 under source (cat old) = cat source
+under source (shrink map certificate) = shrink map certificate
 
--- Over one File, a request has the outputs under a map text that it has under each list text whose list labels every
--- address as the map does
+-- the request takes labels from a map or a list alike, if it takes any
+abbrev pub TakesEither : Request → Type 0
+TakesEither (label source address) = Unit {0}
+TakesEither (info flows) = Unit {0}
+TakesEither (rows source columns flows) = Unit {0}
+TakesEither (cat source) = Unit {0}
+TakesEither (shrink map certificate) = ⊥
+
+-- Over one File, a request that takes labels from either has the outputs under a map text that it has under each list text
+-- whose list labels every address as the map does
 abbrev pub SameUnderEquivalents : Type 0
 SameUnderEquivalents = (request : Request) (file other : List ℕ) (texts others : FileTexts) (m : MapModel) (l : ListModel) (outcome : Outcome)
-    → ReadsMap texts.map m → ReadsList others.list l → IsEquivalent l m → texts.flows ≡ others.flows
+    → TakesEither request → ReadsMap texts.map m → ReadsList others.list l → IsEquivalent l m → texts.flows ≡ others.flows
     → IsOutput (under (FromMap file) request) texts outcome ↔ IsOutput (under (FromList other) request) others outcome

@@ -2,7 +2,7 @@ use Rattle.std.specs.Prelude.{◌≡◌, ◌^◌, ◌<◌, ℕ, Bool, List, Opti
 use Rattle.prefix_keys.specs.Text.{AddressOf}
 use Rattle.prefix_keys.specs.Version.{width_of}
 use Rattle.flowlabel.specs.declared.command.Command.{Command}
-use Rattle.flowlabel.specs.declared.command.Command.TheVariants.{Label, Info, Rows, Cat}
+use Rattle.flowlabel.specs.declared.command.Command.TheVariants.{Label, Info, Rows, Cat, Shrink}
 use Rattle.flowlabel.specs.declared.command.Files.{Files}
 use Rattle.flowlabel.specs.declared.command.LabelFile.{LabelFile}
 use Rattle.flowlabel.specs.declared.command.LabelFile.TheVariants.{Map, List as Prefixes}
@@ -21,12 +21,13 @@ pub data LabelSource : Type 0 where
 
 -- label: the label that the labels of a file give an address; info: the counts of the messages of a File; rows: the rows
 -- of its records, with the labels of their addresses where there is a source of labels, in columns of even width or not; cat: the
--- runs of the labels of a file
+-- runs of the labels of a file; shrink: the shortest list of a map, or in its place the certificate of that
 pub data Request : Type 0 where
   label : (source : LabelSource) (address : AddressOf) → Request
   info : (flows : Text) → Request
   rows : (source : Option LabelSource) (columns : Bool) (flows : Text) → Request
   cat : (source : LabelSource) → Request
+  shrink : (map : Text) (certificate : Bool) → Request
 
 -- the number is that of an address of the version
 abbrev pub IsAddress : AddressOf → Type 0
@@ -38,6 +39,7 @@ IsProper (label source address) = IsAddress address
 IsProper (info flows) = Unit {0}
 IsProper (rows source columns flows) = Unit {0}
 IsProper (cat source) = Unit {0}
+IsProper (shrink map certificate) = Unit {0}
 
 -- the source that a file of labels stands for
 abbrev pub source_of : LabelFile → LabelSource
@@ -50,6 +52,7 @@ request_of (Label labels addr) = label (source_of labels) (addr.version, addr.va
 request_of (Info flows) = info flows.now
 request_of (Rows labels columns flows) = rows (option_map source_of labels) columns flows.now
 request_of (Cat labels) = cat (source_of labels)
+request_of (Shrink map certificate) = shrink map.now certificate
 
 -- the names of the files that a request reads
 pub record FileNames : Type 0 where
@@ -89,6 +92,7 @@ files_of (label source address) = files_named (Some source) None
 files_of (info flows) = files_named None (Some flows)
 files_of (rows source columns flows) = files_named source (Some flows)
 files_of (cat source) = files_named (Some source) None
+files_of (shrink map certificate) = files_named (Some (FromMap map)) None
 
 -- which of the four inputs are read: those that there are names for
 abbrev pub needs_named : FileNames → Needs

@@ -35,6 +35,12 @@ pub enum Command<'a> {
     Cat {
         labels: LabelFile<'a>,
     },
+    /// `shrink --pmap FILE [--certificate]`: the shortest prefix list that labels every address as the map does, or in its
+    /// place the certificate of that.
+    Shrink {
+        map: &'a str,
+        certificate: bool,
+    },
 }
 
 /// Which of the four inputs a command reads.
@@ -102,6 +108,7 @@ impl<'a> Command<'a> {
             Command::Info { flows } => Files::named(None, Some(flows)),
             Command::Rows { labels, flows, .. } => Files::named(*labels, Some(flows)),
             Command::Cat { labels } => Files::named(Some(*labels), None),
+            Command::Shrink { map, .. } => Files::named(Some(LabelFile::Map(map)), None),
         }
     }
 }

@@ -1,7 +1,7 @@
 ghost use Rattle.std.specs.Prelude.{◌≡◌, IfOk, false, true};
 ghost use Rattle.clap.specs.Words.{app_of, rule_of};
 ghost use Rattle.clap.specs.declared.builder.command.Command.TheViews.{out-Command};
-ghost use Rattle.flowlabel.specs.Definition.{cat_app, columns_rule, flowlabel_app, flows_rule, info_app, label_app, list_rule, pmap_rule, program, rows_app};
+ghost use Rattle.flowlabel.specs.Definition.{cat_app, certificate_rule, columns_rule, flowlabel_app, flows_rule, info_app, label_app, list_rule, needed_pmap_rule, pmap_rule, program, rows_app, shrink_app};
 
 use clap::{Arg, ArgAction, Command};
 use std::alloc::{AllocError, Global};
@@ -100,6 +100,36 @@ fn cat<'a>(alloc: Global) -> Result<Command<'a>, AllocError>
         .arg(list_argument(alloc))
 }
 
+/// `--pmap FILE` where it has to be there.
+fn needed_map_argument<'a>(alloc: Global) -> Arg<'a>
+    ensures rule { rule_of result ≡ needed_pmap_rule }
+    ensures local { result.global ≡ false }
+{
+    map_argument(alloc).required(true)
+}
+
+/// `--certificate`.
+fn certificate_flag<'a>(alloc: Global) -> Arg<'a>
+    ensures rule { rule_of result ≡ certificate_rule }
+    ensures local { result.global ≡ false }
+{
+    Arg::new(alloc, "certificate")
+        .long("certificate")
+        .action(ArgAction::SetTrue)
+        .help("Print the certificate in place of the list")
+}
+
+/// `shrink --pmap FILE [--certificate]`.
+fn shrink<'a>(alloc: Global) -> Result<Command<'a>, AllocError>
+    ensures app { IfOk result (λ c. app_of c ≡ shrink_app) }
+    ensures local { IfOk result (λ c. (out-Command c).has_globals ≡ false) }
+{
+    Command::new(alloc, "shrink")
+        .about("Print the shortest list that labels as a map does")
+        .arg(needed_map_argument(alloc))?
+        .arg(certificate_flag(alloc))
+}
+
 /// The program before its subcommands.
 fn program<'a>(alloc: Global) -> Command<'a>
     ensures app { app_of result ≡ program }
@@ -122,5 +152,6 @@ pub fn definition<'a>(alloc: Global) -> Result<Command<'a>, AllocError>
         .subcommand(label(alloc)?)?
         .subcommand(info(alloc)?)?
         .subcommand(rows(alloc)?)?
-        .subcommand(cat(alloc)?)
+        .subcommand(cat(alloc)?)?
+        .subcommand(shrink(alloc)?)
 }

@@ -21,6 +21,7 @@ pub mod laws;
 pub mod map_labels;
 pub mod report;
 pub mod rows;
+mod shrink;
 mod source;
 
 use cat::runs_under;
@@ -28,6 +29,7 @@ use info::InfoReport;
 use label::{label_by_list, label_by_map};
 use labelled::report_under;
 use rows::RowsReport;
+use shrink::shrunk_by_map;
 
 // The whole output of a command.
 fn output<'a, R: Input>(
@@ -68,6 +70,12 @@ fn output<'a, R: Input>(
             ..
         } => report_under(alloc, *labels, inputs, &RowsReport { columns: *columns }),
         Command::Cat { labels } => runs_under(alloc, *labels, inputs),
+        Command::Shrink { certificate, .. } => {
+            let Some(source) = &mut inputs.map else {
+                unreachable!()
+            };
+            shrunk_by_map(alloc, source, *certificate)
+        }
     }
 }
 

@@ -33,6 +33,18 @@ fn name_of(answer: &Result<Command<'_>, UsageFault>) -> &'static str {
                 labels: LabelFile::List(_),
             },
         ) => "cat by list",
+        Ok(
+            Command::Shrink {
+                certificate: false,
+                ..
+            },
+        ) => "shrink",
+        Ok(
+            Command::Shrink {
+                certificate: true,
+                ..
+            },
+        ) => "certificate",
         Err(UsageFault::Refused(_)) => "refused",
         Err(UsageFault::NotUtf8) => "P1",
         Err(UsageFault::Help(_)) => "help",
@@ -94,13 +106,24 @@ const LINES: [(&str, &str); 36] = [
 ];
 
 // Lines of the commands that print maps.
-const MAP_LINES: [(&str, &str); 6] = [
+const MAP_LINES: [(&str, &str); 14] = [
     ("flowlabel cat --pmap map.txt", "cat"),
     ("flowlabel cat --list=list.txt", "cat by list"),
     ("flowlabel cat", "P2"),
     ("flowlabel cat --pmap map.txt --list list.txt", "P3"),
     ("flowlabel cat --pmap map.txt flows", "refused"),
     ("flowlabel cat --help", "help"),
+    ("flowlabel shrink --pmap map.txt", "shrink"),
+    (
+        "flowlabel shrink --certificate --pmap=map.txt",
+        "certificate",
+    ),
+    ("flowlabel shrink", "refused"),
+    ("flowlabel shrink --certificate", "refused"),
+    ("flowlabel shrink --list list.txt", "refused"),
+    ("flowlabel shrink --pmap map.txt --list list.txt", "refused"),
+    ("flowlabel shrink --pmap map.txt map.txt", "refused"),
+    ("flowlabel shrink --help", "help"),
 ];
 
 fn answers_each(rt: &impl Abort, alloc: Global, lines: &[(&str, &str)]) -> Result<(), AllocError> {

@@ -2,7 +2,7 @@ use Rattle.std.proofs.Common.{◌≡◌, ◌∙◌, ◌||◌, Bool, false, ap, a
 use Rattle.std.proofs.lemmas.Result.{IfOk-weaker}
 use Rattle.clap.specs.Words.{App, app_of, with_subcommand}
 use Rattle.clap.specs.declared.builder.command.Command.TheViews.{out-Command}
-use Rattle.flowlabel.specs.Definition.{flowlabel_app, info_app, label_app, program, rows_app}
+use Rattle.flowlabel.specs.Definition.{cat_app, flowlabel_app, info_app, label_app, program, rows_app}
 use Rattle.flowlabel.proofs.definition.definition.Goals as goal
 
 pub returns-clause-app : goal.returns-clause-app
@@ -15,8 +15,11 @@ returns-clause-app c =
     c.in_ok-subcommand-2.ensures.shape c.in_ok-info.ensures.local ∙ ap₂ with_subcommand one (ap top c.in_ok-info.ensures.app) in
     let three : app_of c.in_ok-subcommand-3.field-0 ≡ with_subcommand (with_subcommand (with_subcommand program label_app.top) info_app.top) rows_app.top =
     c.in_ok-subcommand-3.ensures.shape c.in_ok-rows.ensures.local ∙ ap₂ with_subcommand two (ap top c.in_ok-rows.ensures.app) in
-    IfOk-weaker c.subcommand-4.result _ _
-    (λ r added. added.shape c.in_ok-cat.ensures.local ∙ ap₂ with_subcommand three (ap top c.in_ok-cat.ensures.app)) c.subcommand-4.ensures
+    let four : app_of c.in_ok-subcommand-4.field-0
+    ≡ with_subcommand (with_subcommand (with_subcommand (with_subcommand program label_app.top) info_app.top) rows_app.top) cat_app.top =
+    c.in_ok-subcommand-4.ensures.shape c.in_ok-cat.ensures.local ∙ ap₂ with_subcommand three (ap top c.in_ok-cat.ensures.app) in
+    IfOk-weaker c.subcommand-5.result _ _
+    (λ r added. added.shape c.in_ok-shrink.ensures.local ∙ ap₂ with_subcommand four (ap top c.in_ok-shrink.ensures.app)) c.subcommand-5.ensures
 
 pub returns-clause-local : goal.returns-clause-local
 returns-clause-local c =
@@ -27,10 +30,12 @@ returns-clause-local c =
     c.in_ok-subcommand-2.ensures.globals ∙ ap₂ either one c.in_ok-info.ensures.local in
     let three : (out-Command c.in_ok-subcommand-3.field-0).has_globals ≡ false =
     c.in_ok-subcommand-3.ensures.globals ∙ ap₂ either two c.in_ok-rows.ensures.local in
-    IfOk-weaker c.subcommand-4.result _ _
-    (λ r added. added.globals ∙ ap₂ either three c.in_ok-cat.ensures.local) c.subcommand-4.ensures
+    let four : (out-Command c.in_ok-subcommand-4.field-0).has_globals ≡ false =
+    c.in_ok-subcommand-4.ensures.globals ∙ ap₂ either three c.in_ok-cat.ensures.local in
+    IfOk-weaker c.subcommand-5.result _ _
+    (λ r added. added.globals ∙ ap₂ either four c.in_ok-shrink.ensures.local) c.subcommand-5.ensures
 
 pub returns-clause-required : goal.returns-clause-required
 unfolding flowlabel_app
 returns-clause-required c =
-    IfOk-weaker c.subcommand-4.result _ _ (λ r is. ap (λ (a : App). a.top.subcommand_required) is) (returns-clause-app c)
+    IfOk-weaker c.subcommand-5.result _ _ (λ r is. ap (λ (a : App). a.top.subcommand_required) is) (returns-clause-app c)
