@@ -12,7 +12,7 @@ use Rattle.prefix_keys.specs.Text.{AddressOf}
 use Rattle.pmap_text.specs.Reading.{◌>>=◌}
 use Rattle.flowlabel.specs.Request.{LabelSource, Text}
 use Rattle.flowlabel.specs.Definition.{flowlabel_app}
-use Rattle.flowlabel.specs.Answer.{Answer, Answers, IsAnswer, IsFaultAt, IsFaultOfKind, IsOwnAnswer, IsOwnFault, SaysOnly, address_answer, address_in_rows, answer_of, answer_of_cat, answer_of_info, answer_of_label, answer_of_rows, answer_of_shrink, is_help, is_mistake, needed_source, source_answer, sources_in_rows}
+use Rattle.flowlabel.specs.Answer.{Answer, Answers, IsAnswer, IsFaultAt, IsFaultOfKind, IsOwnAnswer, IsOwnFault, SaysOnly, address_answer, address_in_rows, answer_of, answer_of_cat, answer_of_info, answer_of_label, answer_of_rows, answer_of_shrink, is_help, is_mistake, needed_source, source_answer, sources_in_rows, answer_of_check}
 use Rattle.flowlabel.specs.declared.command.Command.{Command}
 use Rattle.flowlabel.specs.declared.usage.UsageFault.{UsageFault}
 use Rattle.flowlabel.specs.declared.usage.UsageFault.TheVariants.{Refused, NotUtf8, Help, MapTwice, MapMissing, BadAddress, NoMemory}
@@ -97,22 +97,18 @@ cat_own rows =
     then_own (sources_in_rows rows) _ (source_own _ _)
     (λ found. then_own (needed_source found) _ (needed_own found) (λ labels. tt))
 
+either_own : (b : Bool) (answer other : Answer) → IsOwnAnswer answer → IsOwnAnswer other → IsOwnAnswer (if b then answer else other)
+either_own true answer other p q = p
+either_own false answer other p q = q
+
 -- each command answers so
 pub answer_own : (p : Text × List Row) → IsOwnAnswer (answer_of p)
 answer_own p =
-    elim (bytes_eq p.0 (codes "info")) as (λ b. IsOwnAnswer (if b then answer_of_info p.1 else if bytes_eq p.0 (codes "rows") then answer_of_rows p.1 else if bytes_eq p.0 (codes "cat") then answer_of_cat p.1 else if bytes_eq p.0 (codes "shrink") then answer_of_shrink p.1 else answer_of_label p.1)) [
-      | true ↦ tt
-      | false ↦ elim (bytes_eq p.0 (codes "rows")) as (λ b. IsOwnAnswer (if b then answer_of_rows p.1 else if bytes_eq p.0 (codes "cat") then answer_of_cat p.1 else if bytes_eq p.0 (codes "shrink") then answer_of_shrink p.1 else answer_of_label p.1)) [
-        | true ↦ rows_own p.1
-        | false ↦ elim (bytes_eq p.0 (codes "cat")) as (λ b. IsOwnAnswer (if b then answer_of_cat p.1 else if bytes_eq p.0 (codes "shrink") then answer_of_shrink p.1 else answer_of_label p.1)) [
-          | true ↦ cat_own p.1
-          | false ↦ elim (bytes_eq p.0 (codes "shrink")) as (λ b. IsOwnAnswer (if b then answer_of_shrink p.1 else answer_of_label p.1)) [
-            | true ↦ tt
-            | false ↦ label_own p.1
-          ]
-        ]
-      ]
-    ]
+    either_own (bytes_eq p.0 (codes "info")) (answer_of_info p.1) _ tt
+    (either_own (bytes_eq p.0 (codes "rows")) (answer_of_rows p.1) _ (rows_own p.1)
+    (either_own (bytes_eq p.0 (codes "cat")) (answer_of_cat p.1) _ (cat_own p.1)
+    (either_own (bytes_eq p.0 (codes "shrink")) (answer_of_shrink p.1) _ tt
+    (either_own (bytes_eq p.0 (codes "check")) (answer_of_check p.1) _ tt (label_own p.1)))))
 
 -- and so does a result that says the same
 pub own : (answer : Answer) (r : Result Command UsageFault) → IsOwnAnswer answer → SaysOnly answer r → IsOwnAnswer r

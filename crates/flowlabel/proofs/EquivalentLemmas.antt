@@ -11,7 +11,7 @@ use Rattle.pmap_text.specs.MapModel.{Label, MapModel, map_label}
 use Rattle.pmap_text.specs.Reading.{ReadsList, ReadsMap}
 use Rattle.flowlabel.specs.Labelling.{Labelling, at_addresses, labelling, labelling_of_list, labelling_of_map}
 use Rattle.flowlabel.specs.Output.{FileTexts, FlowsThen, IsOutput, ListThen, MapThen, Outcome, Prints, PrintsRuns, ReportsThen, SameUnderEquivalents, label_text, report_of_rows, under}
-use Rattle.flowlabel.specs.Request.{FromList, FromMap, label, info, rows, cat, shrink}
+use Rattle.flowlabel.specs.Request.{FromList, FromMap, label, info, rows, cat, shrink, check}
 
 guarded : (b : Bool) (x y : Option Label) → (b ≡ true → x ≡ y) → (if b then x else None) ≡ (if b then y else None)
 guarded true x y h = h refl
@@ -71,3 +71,4 @@ same_under_equivalents (rows (Some old) columns name) file other texts others m 
 same_under_equivalents (cat old) file other texts others m l outcome either reads_map reads_list is flows =
     swap PrintsRuns texts.map others.list m l outcome reads_map reads_list is
 same_under_equivalents (shrink map certificate) file other texts others m l outcome either reads_map reads_list is flows = absurd either
+same_under_equivalents (check map list certificate) file other texts others m l outcome either reads_map reads_list is flows = absurd either

@@ -1,4 +1,5 @@
 pub mod AnswerLemmas
+pub mod CheckLemmas
 pub mod EquivalentLemmas
 pub mod LabelLemmas
 pub mod LabellingLemmas

@@ -1,10 +1,17 @@
--- A request has one output at most: a map text and a File have one reading, and what comes of it is one text.
-use Rattle.std.proofs.Common.{◌≡◌, ◌∙◌, ℕ, Bool, true, false, List, [], Option, Some, None, Ok, Err, ap, sym, subst, inl, inr}
+-- A request has one output at most: a map text, a certificate's text and a File have one reading, and what comes of it is one
+-- text or the first fault.
+use Rattle.std.proofs.Common.{◌≡◌, ◌∙◌, ℕ, Bool, true, false, List, [], Option, Some, None, Ok, Err, ap, sym, subst, inl, inr, Result}
 use Rattle.prefix_keys.specs.declared.version.Version.{Version}
 use Rattle.pmap_text.specs.ListModel.{ListModel}
 use Rattle.pmap_text.specs.MapModel.{Label, MapModel}
 use Rattle.pmap_text.specs.Reading.{ReadsMap}
 use Rattle.pmap_text.specs.declared.fault.MapFault.{MapFault}
+use Rattle.pmap_cert.specs.Acceptance.{IsAccepted}
+use Rattle.pmap_cert.specs.CertificateReading.{certificate_reading}
+use Rattle.pmap_cert.specs.declared.fault.CertFault.{CertFault}
+use Rattle.pmap_cert.proofs.Whole.{reading-again}
+use Rattle.cert_check.specs.Checking.{first_fault}
+use Rattle.cert_check.specs.declared.fault.CheckFault.{CheckFault}
 use Rattle.ipfix_read.specs.Laws.{OneReading}
 use Rattle.ipfix_read.specs.Message.{MessageView}
 use Rattle.ipfix_read.specs.declared.fault.ReadFault.{ReadFault}
@@ -17,8 +24,8 @@ use Rattle.pmap_print.specs.Info.{info_text}
 use Rattle.pmap_print.specs.List.{list_text}
 use Rattle.pmap_print.specs.Runs.{IsRunsText}
 use Rattle.flowlabel.specs.Labelling.{Labelling, labelling_of_list, labelling_of_map}
-use Rattle.flowlabel.specs.Output.{FileTexts, FlowsThen, InFlows, InList, InMap, LabelsThen, ListThen, MapThen, OneOutput, Outcome, Prints, PrintsMinimal, PrintsRuns, ReportsThen, SourceThen, label_text, report_of_rows}
-use Rattle.flowlabel.specs.Request.{FromList, FromMap, LabelSource, label, info, rows, cat, shrink}
+use Rattle.flowlabel.specs.Output.{FileTexts, FlowsThen, InFlows, InList, InMap, LabelsThen, ListThen, MapThen, OneOutput, Outcome, Prints, PrintsMinimal, PrintsRuns, ReportsThen, SourceThen, label_text, report_of_rows, CertificateThen, Checks, InCertificate, InCheck, ReadsCertificate}
+use Rattle.flowlabel.specs.Request.{FromList, FromMap, LabelSource, label, info, rows, cat, shrink, check}
 
 -- what comes of a value is one outcome at most
 abbrev IsOne : {A : Type 0} → (A → Outcome → Type 0) → Type 0
@@ -100,14 +107,49 @@ minimal_one own lists certificates false text m reads outcome other (l, c, is, f
 minimal_one own lists certificates true text m reads outcome other (l, c, is, form, p) (l', c', is', form', q) =
     p ∙ ap (λ (k : CertificateModel). Ok (certificate_text k)) (certificates m l l' c c' is is' form form') ∙ sym q
 
-pub one_output : OneReading → OneRunsText → OneMinimalText → OneOutput
-one_output law runs minimal (label source address) texts outcome other p q =
+-- the text of a certificate is read as that one, and so is of one certificate and has no fault
+reads_so : (text : List ℕ) (c : CertificateModel) → ReadsCertificate text c → certificate_reading text ≡ Ok c
+reads_so text c reads = ap certificate_reading reads.1 ∙ reading-again c reads.0
+
+certificate_then_one : (rest : CertificateModel → Outcome → Type 0) → IsOne rest → (text : List ℕ) (outcome other : Outcome)
+    → CertificateThen rest text outcome → CertificateThen rest text other → outcome ≡ other
+certificate_then_one rest one text outcome other (inl p) (inl q) =
+    let same : p.0 ≡ q.0 = cc in p.2 ∙ ap (λ (f : CertFault). Err (InCertificate f)) same ∙ sym q.2
+certificate_then_one rest one text outcome other (inl p) (inr q) =
+    let read : certificate_reading text ≡ Ok q.0 = reads_so text q.0 q.1 in cc
+certificate_then_one rest one text outcome other (inr p) (inl q) =
+    let read : certificate_reading text ≡ Ok p.0 = reads_so text p.0 p.1 in cc
+certificate_then_one rest one text outcome other (inr p) (inr q) =
+    let read : certificate_reading text ≡ Ok p.0 = reads_so text p.0 p.1 in
+    let read' : certificate_reading text ≡ Ok q.0 = reads_so text q.0 q.1 in
+    let same : q.0 ≡ p.0 = cc in one p.0 outcome other p.2 (subst (λ (c : CertificateModel). rest c other) same q.2)
+
+-- an accepted certificate has no fault
+abbrev pub NoFault : Type 0
+NoFault = (m : MapModel) (l : ListModel) (c : CertificateModel) → IsAccepted m l c → first_fault m l c ≡ None
+
+checks_one : NoFault → (m : MapModel) (l : ListModel) → IsOne (Checks m l)
+checks_one none m l c outcome other (inl p) (inl q) = p.1 ∙ sym q.1
+checks_one none m l c outcome other (inl p) (inr q) =
+    let no : first_fault m l c ≡ None = none m l c p.0 in cc
+checks_one none m l c outcome other (inr p) (inl q) =
+    let no : first_fault m l c ≡ None = none m l c q.0 in cc
+checks_one none m l c outcome other (inr p) (inr q) =
+    let same : p.0 ≡ q.0 = cc in p.2 ∙ ap (λ (f : CheckFault). Err (InCheck f)) same ∙ sym q.2
+
+pub one_output : OneReading → OneRunsText → OneMinimalText → NoFault → OneOutput
+one_output law runs minimal none (label source address) texts outcome other p q =
     labels_then_one source _ (prints_one (label_text address)) texts outcome other p q
-one_output law runs minimal (info flows) texts outcome other p q =
+one_output law runs minimal none (info flows) texts outcome other p q =
     reports_then_one law (λ labels messages. info_text (counts_of messages)) None texts outcome other p q
-one_output law runs minimal (rows source columns flows) texts outcome other p q =
+one_output law runs minimal none (rows source columns flows) texts outcome other p q =
     reports_then_one law (report_of_rows columns) source texts outcome other p q
-one_output law runs minimal (cat source) texts outcome other p q =
+one_output law runs minimal none (cat source) texts outcome other p q =
     labels_then_one source PrintsRuns (runs_one runs) texts outcome other p q
-one_output law runs minimal (shrink map certificate) texts outcome other p q =
+one_output law runs minimal none (shrink map certificate) texts outcome other p q =
     map_then_one (PrintsMinimal certificate) texts.map (minimal certificate texts.map) outcome other p q
+one_output law runs minimal none (check map list certificate) texts outcome other p q =
+    map_then_one (λ m. ListThen (λ l. CertificateThen (Checks m l) texts.certificate) texts.list) texts.map
+    (λ m reads. list_then_one (λ l. CertificateThen (Checks m l) texts.certificate)
+    (λ l. certificate_then_one (Checks m l) (checks_one none m l) texts.certificate) texts.list)
+    outcome other p q

@@ -12,7 +12,7 @@ use Rattle.flowlabel.specs.Output.{FileTexts, FlowsThen, InFlows, Outcome, Print
 use Rattle.flowlabel.specs.Request.{FromList, FromMap, LabelSource}
 use Rattle.flowlabel.specs.Run.{HasFailed, HasName, HasText, HaveTexts, IsFaultOfBytes, IsFaultOfFlowsFile, source_failed}
 use Rattle.flowlabel.specs.declared.fault.RunFault.{RunFault}
-use Rattle.flowlabel.specs.declared.fault.RunFault.TheVariants.{Usage, CannotOpen, CannotRead, CannotWrite, NoMemory, Map, List as ListFile, Flows}
+use Rattle.flowlabel.specs.declared.fault.RunFault.TheVariants.{Usage, CannotOpen, CannotRead, CannotWrite, NoMemory, Map, List as ListFile, Flows, Certificate, Check}
 use Rattle.flowlabel.specs.declared.inputs.Inputs.{Inputs}
 use Rattle.flowlabel.specs.declared.inputs.Source.{Source}
 
@@ -69,6 +69,8 @@ module _ {R : Type 0} (left : R → Option (List ℕ)) where
   fault_joins failed old new text source labels s s' joins e e' NoMemory is = tt
   fault_joins failed old new text source labels s s' joins e e' (Map file fault) is = absurd is
   fault_joins failed old new text source labels s s' joins e e' (ListFile file fault) is = absurd is
+  fault_joins failed old new text source labels s s' joins e e' (Certificate file fault) is = absurd is
+  fault_joins failed old new text source labels s s' joins e e' (Check file fault) is = absurd is
   fault_joins failed old new text source labels s s' joins e e' (Flows file fault) is = (
     subst (λ (o : Option (Source R)). HasName o file) (sym e) is.0,
     is.1,

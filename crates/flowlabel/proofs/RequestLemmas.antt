@@ -2,7 +2,7 @@
 use Rattle.std.specs.Prelude.{Result, Ok, Err, IfOk}
 use Rattle.flowlabel.specs.Request.{IsProper, request_of}
 use Rattle.flowlabel.specs.declared.command.Command.{Command}
-use Rattle.flowlabel.specs.declared.command.Command.TheVariants.{Label, Info, Rows, Cat, Shrink}
+use Rattle.flowlabel.specs.declared.command.Command.TheVariants.{Label, Info, Rows, Cat, Shrink, Check}
 use Rattle.flowlabel.specs.declared.usage.UsageFault.{UsageFault}
 
 -- its addresses are addresses of their versions, as `Addr` keeps them
@@ -12,6 +12,7 @@ request_is_proper (Info flows) = tt
 request_is_proper (Rows labels columns flows) = tt
 request_is_proper (Cat labels) = tt
 request_is_proper (Shrink map certificate) = tt
+request_is_proper (Check map list certificate) = tt
 
 -- so are those of each answer
 pub answer_is_proper : (r : Result Command UsageFault) → IfOk r (λ c. IsProper (request_of c))

@@ -9,7 +9,7 @@ use Rattle.clap.specs.Words.{Row, fault_of, first_of, subcommand_of}
 use Rattle.clap.specs.declared.error.kind.ErrorKind.{ErrorKind}
 use Rattle.clap.specs.declared.error.kind.ErrorKind.TheVariants as kind
 use Rattle.flowlabel.specs.Definition.{flowlabel_app}
-use Rattle.flowlabel.specs.Request.{FromList, FromMap, LabelSource, Request, Text, cat, info, label, request_of, rows, shrink}
+use Rattle.flowlabel.specs.Request.{FromList, FromMap, LabelSource, Request, Text, cat, info, label, request_of, rows, shrink, check}
 use Rattle.flowlabel.specs.declared.command.Command.{Command}
 use Rattle.flowlabel.specs.declared.usage.UsageFault.{UsageFault}
 use Rattle.flowlabel.specs.declared.usage.UsageFault.TheVariants.{Refused, NotUtf8, Help, MapTwice, MapMissing, BadAddress, NoMemory}
@@ -77,13 +77,18 @@ cat_answer source = source >>= (λ found. needed_source found >>= (λ labels. Ok
 abbrev pub answer_of_cat : List Row → Answer
 answer_of_cat entries = cat_answer (sources_in_rows entries)
 
--- the file that an entry names: clap takes no line of `shrink` without its map
+-- the file that an entry names: clap takes no line of `shrink` or `check` without those that it needs
 abbrev pub file_in_rows : Text → List Row → Text
 file_in_rows id entries = unwrap_or (first_of id entries) []
 
 -- `shrink`, by the entries that clap finds for it
 abbrev pub answer_of_shrink : List Row → Answer
 answer_of_shrink entries = Ok (shrink (file_in_rows (codes "pmap") entries) (is_given (codes "certificate") entries))
+
+-- `check`, by the entries that clap finds for it
+abbrev pub answer_of_check : List Row → Answer
+answer_of_check entries =
+    Ok (check (file_in_rows (codes "pmap") entries) (file_in_rows (codes "list") entries) (file_in_rows (codes "cert") entries))
 
 -- the answer to a subcommand, by its name and its entries
 abbrev pub answer_of : Text × List Row → Answer
@@ -92,6 +97,7 @@ answer_of found =
     else if bytes_eq found.0 (codes "rows") then answer_of_rows found.1
     else if bytes_eq found.0 (codes "cat") then answer_of_cat found.1
     else if bytes_eq found.0 (codes "shrink") then answer_of_shrink found.1
+    else if bytes_eq found.0 (codes "check") then answer_of_check found.1
     else answer_of_label found.1
 
 -- the answer to the words that clap takes, by the subcommand and the entries that it finds in them
@@ -205,6 +211,13 @@ abbrev pub ReadsCertificateLine : List Text → Result Command UsageFault → Ty
 ReadsCertificateLine words result = (program file : Text) → is_plain_word file ≡ true
     → words ≡ program ∷ codes "shrink" ∷ codes "--pmap" ∷ file ∷ codes "--certificate" ∷ []
     → IsUnlessMemory (Ok (shrink file true)) result
+
+-- `check --pmap MAP --list LIST --cert CERTIFICATE` is answered by its files
+abbrev pub ReadsCheckLine : List Text → Result Command UsageFault → Type 0
+ReadsCheckLine words result = (program map list certificate : Text)
+    → is_plain_word map ≡ true → is_plain_word list ≡ true → is_plain_word certificate ≡ true
+    → words ≡ program ∷ codes "check" ∷ codes "--pmap" ∷ map ∷ codes "--list" ∷ list ∷ codes "--cert" ∷ certificate ∷ []
+    → IsUnlessMemory (Ok (check map list certificate)) result
 
 -- the fault comes of an error of this kind
 abbrev pub IsFaultOfKind : ErrorKind → UsageFault → Type 0

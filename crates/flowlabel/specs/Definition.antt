@@ -53,6 +53,17 @@ certificate_rule = record (new_rule (codes "certificate")) { long = Some (codes 
 abbrev pub shrink_app : App
 shrink_app = with_rule (with_rule (new_app (codes "shrink")) needed_pmap_rule) certificate_rule
 
+-- `--cert FILE`, and `--list FILE` where it has to be there
+abbrev pub cert_rule : Rule
+cert_rule = record (new_rule (codes "cert")) { long = Some (codes "cert"); value_names = 1; required = true }
+
+abbrev pub needed_list_rule : Rule
+needed_list_rule = record list_rule { required = true }
+
+-- `check --pmap FILE --list FILE --cert FILE`
+abbrev pub check_app : App
+check_app = with_rule (with_rule (with_rule (new_app (codes "check")) needed_pmap_rule) needed_list_rule) cert_rule
+
 -- the program before its subcommands: one of them is required, and `help` is none
 abbrev pub program : App
 program = record (new_app (codes "flowlabel")) {
@@ -62,5 +73,5 @@ program = record (new_app (codes "flowlabel")) {
 -- the command line
 unfoldable pub flowlabel_app : App
 flowlabel_app =
-    with_subcommand (with_subcommand (with_subcommand (with_subcommand (with_subcommand program label_app.top) info_app.top) rows_app.top) cat_app.top)
-    shrink_app.top
+    with_subcommand (with_subcommand (with_subcommand (with_subcommand (with_subcommand (with_subcommand program label_app.top) info_app.top) rows_app.top) cat_app.top)
+    shrink_app.top) check_app.top

@@ -7,8 +7,14 @@ use Rattle.ipfix_templates.specs.declared.fault.TemplateFaultKind.TheVariants as
 use Rattle.pmap_text.specs.declared.fault.MapFault.{MapFault}
 use Rattle.pmap_text.specs.declared.fault.MapFaultKind.{MapFaultKind}
 use Rattle.pmap_text.specs.declared.fault.MapFaultKind.TheVariants as kind
+use Rattle.pmap_cert.specs.declared.fault.CertFault.{CertFault}
+use Rattle.pmap_cert.specs.declared.fault.CertFaultKind.{CertFaultKind}
+use Rattle.pmap_cert.specs.declared.fault.CertFaultKind.TheVariants as certificate
+use Rattle.cert_check.specs.declared.fault.CheckFault.{CheckFault}
+use Rattle.cert_check.specs.declared.fault.CheckFaultKind.{CheckFaultKind}
+use Rattle.cert_check.specs.declared.fault.CheckFaultKind.TheVariants as check
 use Rattle.flowlabel.specs.declared.fault.RunFault.{RunFault}
-use Rattle.flowlabel.specs.declared.fault.RunFault.TheVariants.{Usage, CannotOpen, CannotRead, CannotWrite, NoMemory, Map, List as ListFile, Flows}
+use Rattle.flowlabel.specs.declared.fault.RunFault.TheVariants.{Usage, CannotOpen, CannotRead, CannotWrite, NoMemory, Map, List as ListFile, Flows, Certificate, Check}
 use Rattle.flowlabel.specs.declared.usage.UsageFault.{UsageFault}
 use Rattle.flowlabel.specs.declared.usage.UsageFault.TheVariants as usage
 
@@ -51,6 +57,26 @@ flows_fault_text flows.BadRecord = codes "F7 BadRecord"
 flows_fault_text flows.TooManyMessages = codes "F9 TooManyMessages"
 flows_fault_text flows.NoMemory = codes "F10 NoMemory"
 
+-- the code and the name of a fault of a certificate's text
+abbrev pub certificate_fault_text : CertFaultKind → List ℕ
+certificate_fault_text certificate.BadHeader = codes "C1 BadHeader"
+certificate_fault_text certificate.BadLabelTable = codes "C2 BadLabelTable"
+certificate_fault_text certificate.BadNode = codes "C3 BadNode"
+certificate_fault_text certificate.TooDeep = codes "C4 TooDeep"
+certificate_fault_text certificate.NodesMissing = codes "C5 NodesMissing"
+certificate_fault_text certificate.NodesLeft = codes "C6 NodesLeft"
+certificate_fault_text certificate.NoMemory = codes "C7 NoMemory"
+
+-- the code and the name of what is wrong with a certificate for a map and a list
+abbrev pub check_fault_text : CheckFaultKind → List ℕ
+check_fault_text check.VersionDiffers = codes "K1 VersionDiffers"
+check_fault_text check.LeafNotUniform = codes "K2 LeafNotUniform"
+check_fault_text check.ListDiffers = codes "K3 ListDiffers"
+check_fault_text check.SetTooSmall = codes "K4 SetTooSmall"
+check_fault_text check.CostTooHigh = codes "K5 CostTooHigh"
+check_fault_text check.BoundNotMet = codes "K6 BoundNotMet"
+check_fault_text check.NoMemory = codes "K7 NoMemory"
+
 abbrev pub out_of_memory : List ℕ
 out_of_memory = codes "flowlabel: out of memory\n"
 
@@ -61,6 +87,14 @@ is_want_of_memory k = false
 abbrev pub is_flows_want_of_memory : ReadFaultKind → Bool
 is_flows_want_of_memory flows.NoMemory = true
 is_flows_want_of_memory k = false
+
+abbrev pub is_certificate_want_of_memory : CertFaultKind → Bool
+is_certificate_want_of_memory certificate.NoMemory = true
+is_certificate_want_of_memory k = false
+
+abbrev pub is_check_want_of_memory : CheckFaultKind → Bool
+is_check_want_of_memory check.NoMemory = true
+is_check_want_of_memory k = false
 
 -- a fault at a place of a file
 abbrev pub place_text : List ℕ → List ℕ → ℕ → List ℕ
@@ -78,6 +112,18 @@ abbrev pub flows_fault_line_text : List ℕ → ReadFault → List ℕ
 flows_fault_line_text file fault =
     if is_flows_want_of_memory fault.kind then out_of_memory
     else place_text file (flows_fault_text fault.kind) fault.offset
+
+-- the fault of a line of a certificate's file
+abbrev pub certificate_fault_line_text : List ℕ → CertFault → List ℕ
+certificate_fault_line_text file fault =
+    if is_certificate_want_of_memory fault.kind then out_of_memory
+    else place_text file (certificate_fault_text fault.kind) fault.line
+
+-- the fault of a node of the certificate in a file
+abbrev pub check_fault_line_text : List ℕ → CheckFault → List ℕ
+check_fault_line_text file fault =
+    if is_check_want_of_memory fault.kind then out_of_memory
+    else place_text file (check_fault_text fault.kind) fault.node
 
 abbrev pub usage_fault_text : UsageFault → List ℕ
 usage_fault_text (usage.Refused text) = text
@@ -97,6 +143,8 @@ fault_text NoMemory = out_of_memory
 fault_text (Map file fault) = map_fault_line_text file.now fault
 fault_text (ListFile file fault) = map_fault_line_text file.now fault
 fault_text (Flows file fault) = flows_fault_line_text file.now fault
+fault_text (Certificate file fault) = certificate_fault_line_text file.now fault
+fault_text (Check file fault) = check_fault_line_text file.now fault
 
 -- what is printed on standard output: the text of help, and nothing for a fault
 abbrev pub help_text_of : RunFault → List ℕ
@@ -125,6 +173,8 @@ status_of NoMemory = 3
 status_of (Map file fault) = bytes_status_of (is_want_of_memory fault.kind)
 status_of (ListFile file fault) = bytes_status_of (is_want_of_memory fault.kind)
 status_of (Flows file fault) = bytes_status_of (is_flows_want_of_memory fault.kind)
+status_of (Certificate file fault) = bytes_status_of (is_certificate_want_of_memory fault.kind)
+status_of (Check file fault) = bytes_status_of (is_check_want_of_memory fault.kind)
 
 -- the status of a run that ended so
 abbrev pub exit_status_of : {A : Type 0} → Result A RunFault → ℕ

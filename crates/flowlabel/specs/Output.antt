@@ -1,9 +1,17 @@
-use Rattle.std.specs.Prelude.{◌≡◌, ◌⊎◌, ◌↔◌, ℕ, List, [], ◌∷◌, ◌++◌, Bool, true, false, Option, Some, None, Result, Ok, Err, map, option_map, unwrap_or}
+use Rattle.std.specs.Prelude.{◌≡◌, ◌⊎◌, ◌↔◌, ℕ, List, [], ◌∷◌, ◌++◌, Bool, true, false, Option, Some, None, Result, Ok, Err, map, option_map, unwrap_or, codes, decimal, length}
 use Rattle.prefix_keys.specs.Text.{AddressOf}
 use Rattle.pmap_text.specs.ListModel.{IsEquivalent, ListModel}
 use Rattle.pmap_text.specs.MapModel.{MapModel}
 use Rattle.pmap_text.specs.Reading.{ReadsList, ReadsMap, list_reading, map_reading}
 use Rattle.pmap_text.specs.declared.fault.MapFault.{MapFault}
+use Rattle.pmap_cert.specs.Acceptance.{IsAccepted, IsLeast}
+use Rattle.pmap_cert.specs.CertificateForm.{HasTextForm}
+use Rattle.pmap_cert.specs.CertificateModel.{CertificateModel}
+use Rattle.pmap_cert.specs.CertificateReading.{certificate_reading}
+use Rattle.pmap_cert.specs.CertificateText.{certificate_text}
+use Rattle.pmap_cert.specs.declared.fault.CertFault.{CertFault}
+use Rattle.cert_check.specs.Checking.{first_fault}
+use Rattle.cert_check.specs.declared.fault.CheckFault.{CheckFault}
 use Rattle.ipfix_read.specs.File.{HasFileFault, ReadsFile}
 use Rattle.ipfix_read.specs.Message.{MessageView}
 use Rattle.ipfix_read.specs.declared.fault.ReadFault.{ReadFault}
@@ -18,7 +26,7 @@ use Rattle.pmap_print.specs.List.{list_text}
 use Rattle.pmap_print.specs.Rows.{rows_text}
 use Rattle.pmap_print.specs.Runs.{IsRunsText}
 use Rattle.flowlabel.specs.Labelling.{Labelling, label_by, labelling_of_list, labelling_of_map, row_labels}
-use Rattle.flowlabel.specs.Request.{FromList, FromMap, LabelSource, Request, label, info, rows, cat, shrink}
+use Rattle.flowlabel.specs.Request.{FromList, FromMap, LabelSource, Request, label, info, rows, cat, shrink, check}
 
 -- The output of a request: the text that it prints, or the first fault of its files' bytes.
 
@@ -29,11 +37,13 @@ pub record FileTexts : Type 0 where
   pub certificate : List ℕ
   pub flows : List ℕ
 
--- a fault of the bytes of one of the files
+-- a fault of the bytes of one of the files, or of what a certificate says of a map and a list
 pub data TextFault : Type 0 where
   InMap : (fault : MapFault) → TextFault
   InList : (fault : MapFault) → TextFault
   InFlows : (fault : ReadFault) → TextFault
+  InCertificate : (fault : CertFault) → TextFault
+  InCheck : (fault : CheckFault) → TextFault
 
 -- a text, or the first fault
 abbrev pub Outcome : Type 0
@@ -43,7 +53,7 @@ Outcome = Result (List ℕ) TextFault
 abbrev pub Prints : List ℕ → Outcome → Type 0
 Prints text outcome = outcome ≡ Ok text
 
--- the outcome is the first fault of a map file's text, of a list file's text, or of a File's bytes
+-- the outcome is the first fault of a map file's text, of a list file's text, of a File's bytes, or of a certificate's text
 abbrev pub FailsMap : List ℕ → Outcome → Type 0
 FailsMap text outcome = (fault : MapFault) × (map_reading text ≡ Err fault) × (outcome ≡ Err (InMap fault))
 
@@ -53,6 +63,10 @@ FailsList text outcome = (fault : MapFault) × (list_reading text ≡ Err fault)
 abbrev pub FailsFlows : List ℕ → Outcome → Type 0
 FailsFlows bytes outcome = (fault : ReadFault) × HasFileFault [] 0 0 bytes fault × (outcome ≡ Err (InFlows fault))
 
+abbrev pub FailsCertificate : List ℕ → Outcome → Type 0
+FailsCertificate text outcome =
+    (fault : CertFault) × (certificate_reading text ≡ Err fault) × (outcome ≡ Err (InCertificate fault))
+
 -- the outcome over the text of a map file: its first fault, or what comes of the map
 abbrev pub MapThen : (MapModel → Outcome → Type 0) → List ℕ → Outcome → Type 0
 MapThen rest text outcome = FailsMap text outcome ⊎ ((map : MapModel) × ReadsMap text map × rest map outcome)
@@ -60,6 +74,16 @@ MapThen rest text outcome = FailsMap text outcome ⊎ ((map : MapModel) × Reads
 -- the outcome over the text of a list file: its first fault, or what comes of the list
 abbrev pub ListThen : (ListModel → Outcome → Type 0) → List ℕ → Outcome → Type 0
 ListThen rest text outcome = FailsList text outcome ⊎ ((list : ListModel) × ReadsList text list × rest list outcome)
+
+-- a text is read as a certificate: it is the text of it
+abbrev pub ReadsCertificate : List ℕ → CertificateModel → Type 0
+ReadsCertificate text certificate = HasTextForm certificate × (text ≡ certificate_text certificate)
+
+-- the outcome over the text of a certificate's file: its first fault, or what comes of the certificate
+abbrev pub CertificateThen : (CertificateModel → Outcome → Type 0) → List ℕ → Outcome → Type 0
+CertificateThen rest text outcome =
+    FailsCertificate text outcome
+    ⊎ ((certificate : CertificateModel) × ReadsCertificate text certificate × rest certificate outcome)
 
 -- the outcome over the text of a source of labels: its first fault, or what comes of its labelling
 abbrev pub LabelsThen : LabelSource → (Labelling → Outcome → Type 0) → FileTexts → Outcome → Type 0
@@ -112,6 +136,21 @@ abbrev pub ReportsThen : (Option Labelling → List MessageView → List ℕ) �
 ReportsThen text source texts =
     SourceThen source (λ labels. FlowsThen (λ messages. Prints (text labels messages)) texts.flows) texts
 
+-- `minimal N`, the number of a shortest list's entries
+abbrev pub minimal_text : ℕ → List ℕ
+minimal_text count = codes "minimal " ++ decimal count ++ codes "\n"
+
+-- what comes of a map, a list and a certificate: the number of the list's entries where the certificate is accepted for the
+-- two, else the first fault
+abbrev pub Checks : MapModel → ListModel → CertificateModel → Outcome → Type 0
+Checks m l c outcome =
+    (IsAccepted m l c × Prints (minimal_text (length l.prefixes)) outcome)
+    ⊎ ((fault : CheckFault) × (first_fault m l c ≡ Some fault) × (outcome ≡ Err (InCheck fault)))
+
+-- the same over the texts of the three
+abbrev pub ChecksThen : FileTexts → Outcome → Type 0
+ChecksThen texts = MapThen (λ m. ListThen (λ l. CertificateThen (Checks m l) texts.certificate) texts.list) texts.map
+
 -- this is an output of the request by the texts of its files, which are read in the order map, list, certificate, flows
 abbrev pub IsOutput : Request → FileTexts → Outcome → Type 0
 IsOutput (label source address) texts = LabelsThen source (λ labels. Prints (label_text address labels)) texts
@@ -119,6 +158,7 @@ IsOutput (info flows) texts = ReportsThen (λ labels messages. info_text (counts
 IsOutput (rows source columns flows) texts = ReportsThen (report_of_rows columns) source texts
 IsOutput (cat source) texts = LabelsThen source PrintsRuns texts
 IsOutput (shrink map certificate) texts = MapThen (PrintsMinimal certificate) texts.map
+IsOutput (check map list certificate) texts = ChecksThen texts
 
 -- a request has one output at most
 abbrev pub OneOutput : Type 0
@@ -132,14 +172,16 @@ under source (rows None columns flows) = rows None columns flows
 under source (rows (Some old) columns flows) = rows (Some source) columns flows
 under source (cat old) = cat source
 under source (shrink map certificate) = shrink map certificate
+under source (check map list certificate) = check map list certificate
 
--- the request takes labels from a map or a list alike, if it takes any
+-- the request takes labels from a map or a list alike, if it takes any: it reads no other file but a File
 abbrev pub TakesEither : Request → Type 0
 TakesEither (label source address) = Unit {0}
 TakesEither (info flows) = Unit {0}
 TakesEither (rows source columns flows) = Unit {0}
 TakesEither (cat source) = Unit {0}
 TakesEither (shrink map certificate) = ⊥
+TakesEither (check map list certificate) = ⊥
 
 -- Over one File, a request that takes labels from either has the outputs under a map text that it has under each list text
 -- whose list labels every address as the map does
@@ -147,3 +189,10 @@ abbrev pub SameUnderEquivalents : Type 0
 SameUnderEquivalents = (request : Request) (file other : List ℕ) (texts others : FileTexts) (m : MapModel) (l : ListModel) (outcome : Outcome)
     → TakesEither request → ReadsMap texts.map m → ReadsList others.list l → IsEquivalent l m → texts.flows ≡ others.flows
     → IsOutput (under (FromMap file) request) texts outcome ↔ IsOutput (under (FromList other) request) others outcome
+
+-- Where `check` prints, it prints the number of the list's entries, the list labels every address as the map does, and no
+-- list that does so has fewer entries, whoever made the three texts
+abbrev pub CheckIsEnough : Type 0
+CheckIsEnough = (map list certificate : List ℕ) (texts : FileTexts) (out : List ℕ) → IsOutput (check map list certificate) texts (Ok out)
+    → (m : MapModel) × (l : ListModel) × ReadsMap texts.map m × ReadsList texts.list l
+    × IsEquivalent l m × IsLeast m l × (out ≡ minimal_text (length l.prefixes))

@@ -2,7 +2,7 @@ use Rattle.std.specs.Prelude.{◌≡◌, ◌^◌, ◌<◌, ℕ, Bool, List, Opti
 use Rattle.prefix_keys.specs.Text.{AddressOf}
 use Rattle.prefix_keys.specs.Version.{width_of}
 use Rattle.flowlabel.specs.declared.command.Command.{Command}
-use Rattle.flowlabel.specs.declared.command.Command.TheVariants.{Label, Info, Rows, Cat, Shrink}
+use Rattle.flowlabel.specs.declared.command.Command.TheVariants.{Label, Info, Rows, Cat, Shrink, Check}
 use Rattle.flowlabel.specs.declared.command.Files.{Files}
 use Rattle.flowlabel.specs.declared.command.LabelFile.{LabelFile}
 use Rattle.flowlabel.specs.declared.command.LabelFile.TheVariants.{Map, List as Prefixes}
@@ -21,13 +21,14 @@ pub data LabelSource : Type 0 where
 
 -- label: the label that the labels of a file give an address; info: the counts of the messages of a File; rows: the rows
 -- of its records, with the labels of their addresses where there is a source of labels, in columns of even width or not; cat: the
--- runs of the labels of a file; shrink: the shortest list of a map, or in its place the certificate of that
+-- runs of the labels of a file; shrink: the shortest list of a map, or in its place the certificate of that; check: whether a certificate shows that a list is a shortest one for a map
 pub data Request : Type 0 where
   label : (source : LabelSource) (address : AddressOf) → Request
   info : (flows : Text) → Request
   rows : (source : Option LabelSource) (columns : Bool) (flows : Text) → Request
   cat : (source : LabelSource) → Request
   shrink : (map : Text) (certificate : Bool) → Request
+  check : (map list certificate : Text) → Request
 
 -- the number is that of an address of the version
 abbrev pub IsAddress : AddressOf → Type 0
@@ -40,6 +41,7 @@ IsProper (info flows) = Unit {0}
 IsProper (rows source columns flows) = Unit {0}
 IsProper (cat source) = Unit {0}
 IsProper (shrink map certificate) = Unit {0}
+IsProper (check map list certificate) = Unit {0}
 
 -- the source that a file of labels stands for
 abbrev pub source_of : LabelFile → LabelSource
@@ -53,6 +55,7 @@ request_of (Info flows) = info flows.now
 request_of (Rows labels columns flows) = rows (option_map source_of labels) columns flows.now
 request_of (Cat labels) = cat (source_of labels)
 request_of (Shrink map certificate) = shrink map.now certificate
+request_of (Check map list certificate) = check map.now list.now certificate.now
 
 -- the names of the files that a request reads
 pub record FileNames : Type 0 where
@@ -87,12 +90,22 @@ files_named source flows = record {
   flows = flows;
 }
 
+-- the three files of `check`
+abbrev pub files_checked : Text → Text → Text → FileNames
+files_checked map list certificate = record {
+  map = Some map;
+  list = Some list;
+  certificate = Some certificate;
+  flows = None;
+}
+
 abbrev pub files_of : Request → FileNames
 files_of (label source address) = files_named (Some source) None
 files_of (info flows) = files_named None (Some flows)
 files_of (rows source columns flows) = files_named source (Some flows)
 files_of (cat source) = files_named (Some source) None
 files_of (shrink map certificate) = files_named (Some (FromMap map)) None
+files_of (check map list certificate) = files_checked map list certificate
 
 -- which of the four inputs are read: those that there are names for
 abbrev pub needs_named : FileNames → Needs

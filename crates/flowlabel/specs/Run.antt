@@ -5,11 +5,13 @@ use Rattle.pmap_text.specs.declared.fault.MapFaultKind.TheVariants as kind
 use Rattle.flowlabel.specs.Loops.{IsUntouched, StopsWriting}
 use Rattle.ipfix_read.specs.declared.fault.ReadFaultKind.TheVariants as flows
 use Rattle.ipfix_templates.specs.declared.fault.TemplateFaultKind.TheVariants as template
-use Rattle.flowlabel.specs.Output.{FileTexts, InFlows, InList, InMap, IsOutput, Outcome}
+use Rattle.pmap_cert.specs.declared.fault.CertFaultKind.TheVariants as certificate
+use Rattle.cert_check.specs.declared.fault.CheckFaultKind.TheVariants as check
+use Rattle.flowlabel.specs.Output.{FileTexts, InCertificate, InCheck, InFlows, InList, InMap, IsOutput, Outcome}
 use Rattle.flowlabel.specs.Request.{Request}
 use Rattle.flowlabel.specs.declared.command.Needs.{Needs}
 use Rattle.flowlabel.specs.declared.fault.RunFault.{RunFault}
-use Rattle.flowlabel.specs.declared.fault.RunFault.TheVariants.{Usage, CannotOpen, CannotRead, CannotWrite, NoMemory, Map, List as ListFile, Flows}
+use Rattle.flowlabel.specs.declared.fault.RunFault.TheVariants.{Usage, CannotOpen, CannotRead, CannotWrite, NoMemory, Map, List as ListFile, Flows, Certificate, Check}
 use Rattle.flowlabel.specs.declared.inputs.Inputs.{Inputs}
 use Rattle.flowlabel.specs.declared.inputs.Source.{Source}
 
@@ -61,6 +63,8 @@ module _ {R : Type 0} where
   IsFaultOfReading failed old new (Map file fault) = ⊥
   IsFaultOfReading failed old new (ListFile file fault) = ⊥
   IsFaultOfReading failed old new (Flows file fault) = ⊥
+  IsFaultOfReading failed old new (Certificate file fault) = ⊥
+  IsFaultOfReading failed old new (Check file fault) = ⊥
 
   -- what a fault of a run over a map file says, by the relation that its text has to the outcome: a fault of the text is the
   -- outcome
@@ -80,6 +84,14 @@ module _ {R : Type 0} where
   IsFaultOfFlowsFile left failed over old new (Flows file fault) = (old.name.now ≡ file.now) × (fault.kind ≢ flows.NoMemory) × (fault.kind ≢ flows.BadTemplate template.NoMemory)
       × ((text : List ℕ) → left old.reader ≡ Some text → over text (Err (InFlows fault)))
   IsFaultOfFlowsFile left failed over old new other = IsFaultOfReading failed old new other
+
+  -- and over a certificate's file, where a fault of the check names it too
+  abbrev pub IsFaultOfCertificateFile : (R → Option (List ℕ)) → (R → Bool) → (List ℕ → Outcome → Type 0) → Source R → Source R → RunFault → Type 0
+  IsFaultOfCertificateFile left failed over old new (Certificate file fault) = (old.name.now ≡ file.now) × (fault.kind ≢ certificate.NoMemory)
+      × ((text : List ℕ) → left old.reader ≡ Some text → over text (Err (InCertificate fault)))
+  IsFaultOfCertificateFile left failed over old new (Check file fault) = (old.name.now ≡ file.now) × (fault.kind ≢ check.NoMemory)
+      × ((text : List ℕ) → left old.reader ≡ Some text → over text (Err (InCheck fault)))
+  IsFaultOfCertificateFile left failed over old new other = IsFaultOfReading failed old new other
 
   -- what a fault that comes before anything is written says, by the relation of the files' texts to the outcome, names being
   -- those before the call: a fault of a file's bytes is the outcome, and a reader that is named has failed
@@ -101,6 +113,12 @@ module _ {R : Type 0} where
   IsFaultOfBytes left failed old new over (Flows file fault) =
       HasName old.flows file × (fault.kind ≢ flows.NoMemory) × (fault.kind ≢ flows.BadTemplate template.NoMemory)
       × ((texts : FileTexts) → HaveTexts left old texts → over texts (Err (InFlows fault)))
+  IsFaultOfBytes left failed old new over (Certificate file fault) =
+      HasName old.certificate file × (fault.kind ≢ certificate.NoMemory)
+      × ((texts : FileTexts) → HaveTexts left old texts → over texts (Err (InCertificate fault)))
+  IsFaultOfBytes left failed old new over (Check file fault) =
+      HasName old.certificate file × (fault.kind ≢ check.NoMemory)
+      × ((texts : FileTexts) → HaveTexts left old texts → over texts (Err (InCheck fault)))
 
   -- the inputs are those that a command needs, and no others
   pub record AreNeeded (needs : Needs) (inputs : Inputs R) : Type 0 where
@@ -125,6 +143,10 @@ module _ {R W : Type 0} (left : R → Option (List ℕ)) (failed : R → Bool) (
       IsFaultOfBytes left failed old new (IsOutput request) (ListFile file fault) × IsUntouched taken last writer writer'
   IsFaultOfRun old new writer writer' request (Flows file fault) =
       IsFaultOfBytes left failed old new (IsOutput request) (Flows file fault) × IsUntouched taken last writer writer'
+  IsFaultOfRun old new writer writer' request (Certificate file fault) =
+      IsFaultOfBytes left failed old new (IsOutput request) (Certificate file fault) × IsUntouched taken last writer writer'
+  IsFaultOfRun old new writer writer' request (Check file fault) =
+      IsFaultOfBytes left failed old new (IsOutput request) (Check file fault) × IsUntouched taken last writer writer'
 
 -- the run ended for a reader that failed, or for the writer
 abbrev pub is_read_stop : {A : Type 0} → Result A RunFault → Bool

@@ -41,6 +41,12 @@ pub enum Command<'a> {
         map: &'a str,
         certificate: bool,
     },
+    /// `check --pmap FILE --list FILE --cert FILE`: whether a certificate shows that a list is a shortest one for a map.
+    Check {
+        map: &'a str,
+        list: &'a str,
+        certificate: &'a str,
+    },
 }
 
 /// Which of the four inputs a command reads.
@@ -109,6 +115,16 @@ impl<'a> Command<'a> {
             Command::Rows { labels, flows, .. } => Files::named(*labels, Some(flows)),
             Command::Cat { labels } => Files::named(Some(*labels), None),
             Command::Shrink { map, .. } => Files::named(Some(LabelFile::Map(map)), None),
+            Command::Check {
+                map,
+                list,
+                certificate,
+            } => Files {
+                map: Some(map),
+                list: Some(list),
+                certificate: Some(certificate),
+                flows: None,
+            },
         }
     }
 }

@@ -1,7 +1,7 @@
 ghost use Rattle.std.specs.Prelude.{◌≡◌, IfOk, false, true};
 ghost use Rattle.clap.specs.Words.{app_of, rule_of};
 ghost use Rattle.clap.specs.declared.builder.command.Command.TheViews.{out-Command};
-ghost use Rattle.flowlabel.specs.Definition.{cat_app, certificate_rule, columns_rule, flowlabel_app, flows_rule, info_app, label_app, list_rule, needed_pmap_rule, pmap_rule, program, rows_app, shrink_app};
+ghost use Rattle.flowlabel.specs.Definition.{cat_app, certificate_rule, columns_rule, flowlabel_app, flows_rule, info_app, label_app, list_rule, needed_pmap_rule, pmap_rule, program, rows_app, shrink_app, cert_rule, check_app, needed_list_rule};
 
 use clap::{Arg, ArgAction, Command};
 use std::alloc::{AllocError, Global};
@@ -130,6 +130,38 @@ fn shrink<'a>(alloc: Global) -> Result<Command<'a>, AllocError>
         .arg(certificate_flag(alloc))
 }
 
+/// `--list FILE` where it has to be there.
+fn needed_list_argument<'a>(alloc: Global) -> Arg<'a>
+    ensures rule { rule_of result ≡ needed_list_rule }
+    ensures local { result.global ≡ false }
+{
+    list_argument(alloc).required(true)
+}
+
+/// `--cert FILE`, a certificate.
+fn certificate_argument<'a>(alloc: Global) -> Arg<'a>
+    ensures rule { rule_of result ≡ cert_rule }
+    ensures local { result.global ≡ false }
+{
+    Arg::new(alloc, "cert")
+        .long("cert")
+        .value_name("FILE")
+        .required(true)
+        .help("The certificate")
+}
+
+/// `check --pmap FILE --list FILE --cert FILE`.
+fn check<'a>(alloc: Global) -> Result<Command<'a>, AllocError>
+    ensures app { IfOk result (λ c. app_of c ≡ check_app) }
+    ensures local { IfOk result (λ c. (out-Command c).has_globals ≡ false) }
+{
+    Command::new(alloc, "check")
+        .about("Check that a list is a shortest one for a map, by a certificate")
+        .arg(needed_map_argument(alloc))?
+        .arg(needed_list_argument(alloc))?
+        .arg(certificate_argument(alloc))
+}
+
 /// The program before its subcommands.
 fn program<'a>(alloc: Global) -> Command<'a>
     ensures app { app_of result ≡ program }
@@ -153,5 +185,6 @@ pub fn definition<'a>(alloc: Global) -> Result<Command<'a>, AllocError>
         .subcommand(info(alloc)?)?
         .subcommand(rows(alloc)?)?
         .subcommand(cat(alloc)?)?
-        .subcommand(shrink(alloc)?)
+        .subcommand(shrink(alloc)?)?
+        .subcommand(check(alloc)?)
 }

@@ -1,10 +1,12 @@
 ghost use Rattle.std.specs.Prelude.{◌≡◌, IfOk};
 ghost use Rattle.std.specs.String.{string_bytes};
-ghost use Rattle.flowlabel.specs.Faults.{bytes_status_of, exit_status_of, fault_text, flows_fault_line_text, flows_fault_text, help_text_of, map_fault_line_text, map_fault_text, place_text, status_of, template_fault_text, usage_fault_text, usage_status_of};
+ghost use Rattle.flowlabel.specs.Faults.{bytes_status_of, certificate_fault_line_text, certificate_fault_text, check_fault_line_text, check_fault_text, exit_status_of, fault_text, flows_fault_line_text, flows_fault_text, help_text_of, map_fault_line_text, map_fault_text, place_text, status_of, template_fault_text, usage_fault_text, usage_status_of};
 
 use crate::usage::UsageFault;
+use cert_check::{CheckFault, CheckFaultKind};
 use ipfix_read::{ReadFault, ReadFaultKind};
 use ipfix_templates::TemplateFaultKind;
+use pmap_cert::{CertFault, CertFaultKind};
 use pmap_text::{MapFault, MapFaultKind};
 use std::alloc::{AllocError, Global};
 
@@ -27,6 +29,10 @@ pub enum RunFault<'a> {
     List { file: &'a str, fault: MapFault },
     /// The bytes of an IPFIX File have this fault.
     Flows { file: &'a str, fault: ReadFault },
+    /// The text of a certificate's file has this fault.
+    Certificate { file: &'a str, fault: CertFault },
+    /// The certificate of a file has this fault for the map and the list.
+    Check { file: &'a str, fault: CheckFault },
 }
 
 /// The code and the name of a fault of a map text or a list text.
@@ -81,6 +87,36 @@ fn flows_fault_name(kind: ReadFaultKind) -> &'static str
     }
 }
 
+/// The code and the name of a fault of a certificate's text.
+fn certificate_fault_name(kind: CertFaultKind) -> &'static str
+    ensures { result.now ≡ certificate_fault_text kind }
+{
+    match kind {
+        CertFaultKind::BadHeader => "C1 BadHeader",
+        CertFaultKind::BadLabelTable => "C2 BadLabelTable",
+        CertFaultKind::BadNode => "C3 BadNode",
+        CertFaultKind::TooDeep => "C4 TooDeep",
+        CertFaultKind::NodesMissing => "C5 NodesMissing",
+        CertFaultKind::NodesLeft => "C6 NodesLeft",
+        CertFaultKind::NoMemory => "C7 NoMemory",
+    }
+}
+
+/// The code and the name of what is wrong with a certificate for a map and a list.
+fn check_fault_name(kind: CheckFaultKind) -> &'static str
+    ensures { result.now ≡ check_fault_text kind }
+{
+    match kind {
+        CheckFaultKind::VersionDiffers => "K1 VersionDiffers",
+        CheckFaultKind::LeafNotUniform => "K2 LeafNotUniform",
+        CheckFaultKind::ListDiffers => "K3 ListDiffers",
+        CheckFaultKind::SetTooSmall => "K4 SetTooSmall",
+        CheckFaultKind::CostTooHigh => "K5 CostTooHigh",
+        CheckFaultKind::BoundNotMet => "K6 BoundNotMet",
+        CheckFaultKind::NoMemory => "K7 NoMemory",
+    }
+}
+
 fn usage_line(alloc: Global, fault: &UsageFault) -> Result<String, AllocError>
     ensures { IfOk result (λ line. string_bytes line ≡ usage_fault_text fault.now) }
 {
@@ -120,6 +156,28 @@ fn flows_fault_line(alloc: Global, file: &str, fault: &ReadFault) -> Result<Stri
     place_line(alloc, file, flows_fault_name(fault.kind), fault.offset)
 }
 
+fn certificate_fault_line(
+    alloc: Global,
+    file: &str,
+    fault: &CertFault,
+) -> Result<String, AllocError>
+    ensures { IfOk result (λ line. string_bytes line ≡ certificate_fault_line_text file.now fault.now) }
+{
+    if fault.kind == CertFaultKind::NoMemory {
+        return String::from_str(alloc, "flowlabel: out of memory\n");
+    }
+    place_line(alloc, file, certificate_fault_name(fault.kind), fault.line)
+}
+
+fn check_fault_line(alloc: Global, file: &str, fault: &CheckFault) -> Result<String, AllocError>
+    ensures { IfOk result (λ line. string_bytes line ≡ check_fault_line_text file.now fault.now) }
+{
+    if fault.kind == CheckFaultKind::NoMemory {
+        return String::from_str(alloc, "flowlabel: out of memory\n");
+    }
+    place_line(alloc, file, check_fault_name(fault.kind), fault.node)
+}
+
 fn text_of_fault(alloc: Global, fault: &RunFault<'_>) -> Result<String, AllocError>
     ensures { IfOk result (λ line. string_bytes line ≡ fault_text fault.now) }
 {
@@ -133,6 +191,8 @@ fn text_of_fault(alloc: Global, fault: &RunFault<'_>) -> Result<String, AllocErr
             map_fault_line(alloc, file, fault)
         }
         RunFault::Flows { file, fault } => flows_fault_line(alloc, file, fault),
+        RunFault::Certificate { file, fault } => certificate_fault_line(alloc, file, fault),
+        RunFault::Check { file, fault } => check_fault_line(alloc, file, fault),
     }
 }
 
@@ -174,7 +234,7 @@ fn bytes_status(is_want_of_memory: bool) -> u8
     if is_want_of_memory { 3 } else { 1 }
 }
 
-/// The exit status: 1 for a fault of a file's bytes, 2 for one of the command line, 3 for want of memory, 4 for a file
+/// The exit status: 1 for a fault of a file's bytes or of a certificate, 2 for one of the command line, 3 for want of memory, 4 for a file
 /// or an output that fails. Help is no failure.
 pub fn status(fault: &RunFault<'_>) -> u8
     ensures { result ≡ status_of fault.now }
@@ -187,6 +247,8 @@ pub fn status(fault: &RunFault<'_>) -> u8
             bytes_status(fault.kind == MapFaultKind::NoMemory)
         }
         RunFault::Flows { fault, .. } => bytes_status(fault.kind == ReadFaultKind::NoMemory),
+        RunFault::Certificate { fault, .. } => bytes_status(fault.kind == CertFaultKind::NoMemory),
+        RunFault::Check { fault, .. } => bytes_status(fault.kind == CheckFaultKind::NoMemory),
     }
 }
 

@@ -14,6 +14,7 @@ use std::alloc::Global;
 
 pub mod address_labels;
 mod cat;
+mod check;
 pub mod info;
 mod label;
 mod labelled;
@@ -25,6 +26,7 @@ mod shrink;
 mod source;
 
 use cat::runs_under;
+use check::check_files;
 use info::InfoReport;
 use label::{label_by_list, label_by_map};
 use labelled::report_under;
@@ -76,6 +78,7 @@ fn output<'a, R: Input>(
             };
             shrunk_by_map(alloc, source, *certificate)
         }
+        Command::Check { .. } => check_files(alloc, inputs),
     }
 }
 

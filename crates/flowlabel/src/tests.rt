@@ -45,6 +45,7 @@ fn name_of(answer: &Result<Command<'_>, UsageFault>) -> &'static str {
                 ..
             },
         ) => "certificate",
+        Ok(Command::Check { .. }) => "check",
         Err(UsageFault::Refused(_)) => "refused",
         Err(UsageFault::NotUtf8) => "P1",
         Err(UsageFault::Help(_)) => "help",
@@ -60,7 +61,7 @@ fn outcome(alloc: Global, line: &str) -> Result<&'static str, AllocError> {
     Ok(name_of(&parse(alloc, words.as_slice())))
 }
 
-const LINES: [(&str, &str); 36] = [
+const LINES: [(&str, &str); 42] = [
     ("flowlabel label --pmap map.txt 10.1.1.1", "label"),
     ("flowlabel label --pmap=map.txt 10.1.1.1", "label"),
     ("flowlabel label 10.1.1.1 --pmap map.txt", "label"),
@@ -90,6 +91,21 @@ const LINES: [(&str, &str); 36] = [
     ("flowlabel rows --pmap map.txt --list list.txt flows", "P3"),
     ("flowlabel info --pmap map.txt flows", "refused"),
     ("flowlabel label --list list.txt 1.2.3", "P4"),
+    (
+        "flowlabel check --pmap map.txt --list list.txt --cert cert.txt",
+        "check",
+    ),
+    (
+        "flowlabel check --cert cert.txt --list=list.txt --pmap map.txt",
+        "check",
+    ),
+    ("flowlabel check --pmap map.txt --list list.txt", "refused"),
+    ("flowlabel check --pmap map.txt --cert cert.txt", "refused"),
+    ("flowlabel check --list list.txt --cert cert.txt", "refused"),
+    (
+        "flowlabel check --pmap map.txt --list list.txt --cert cert.txt flows",
+        "refused",
+    ),
     ("flowlabel rows --help", "help"),
     ("flowlabel info --colour flows", "refused"),
     ("flowlabel label --pmap map.txt", "refused"),

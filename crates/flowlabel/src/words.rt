@@ -4,7 +4,7 @@ ghost use Rattle.clap.specs.Words.{first_of, found_of, kind_of, rows_of, takes};
 ghost use Rattle.clap.specs.Walk.{texts};
 ghost use Rattle.flowlabel.specs.Definition.{flowlabel_app};
 ghost use Rattle.flowlabel.specs.Request.{IsProper, request_of, source_of};
-ghost use Rattle.flowlabel.specs.Answer.{IsAnswer, IsFaultOfKind, IsOwnAnswer, ReadsBareLine, ReadsCatLine, ReadsCertificateLine, ReadsColumnsLine, ReadsInfoLine, ReadsListLine, ReadsMapLine, ReadsRowsLine, ReadsShrinkLine, SaysOnly, address_in_rows, answer_of, answer_of_cat, answer_of_label, answer_of_rows, answer_of_shrink, file_in_rows, flows_in_rows, is_given, sources_in_rows, words_fault_of};
+ghost use Rattle.flowlabel.specs.Answer.{IsAnswer, IsFaultOfKind, IsOwnAnswer, ReadsBareLine, ReadsCatLine, ReadsCertificateLine, ReadsColumnsLine, ReadsInfoLine, ReadsListLine, ReadsMapLine, ReadsRowsLine, ReadsShrinkLine, SaysOnly, address_in_rows, answer_of, answer_of_cat, answer_of_label, answer_of_rows, answer_of_shrink, file_in_rows, flows_in_rows, is_given, sources_in_rows, words_fault_of, ReadsCheckLine, answer_of_check};
 
 use crate::command::{Command, LabelFile};
 use crate::definition::definition;
@@ -114,7 +114,7 @@ fn cat_command<'a>(entries: &ArgMatches<'a>) -> Result<Command<'a>, UsageFault>
     }
 }
 
-/// The file that an entry names: clap takes no line of `shrink` without its map.
+/// The file that an entry names: clap takes no line of `shrink` or `check` without those that it needs.
 fn file_in<'a>(entries: &ArgMatches<'a>, id: &str) -> &'a str
     ensures { result.now ≡ file_in_rows id.now (rows_of (found_of entries.now)) }
 {
@@ -128,6 +128,17 @@ fn shrink_command<'a>(entries: &ArgMatches<'a>) -> Result<Command<'a>, UsageFaul
     let map = file_in(entries, "pmap");
     let certificate = is_given(entries, "certificate");
     Ok(Command::Shrink { map, certificate })
+}
+
+/// The command `check`, by the entries that clap found for it.
+fn check_command<'a>(entries: &ArgMatches<'a>) -> Result<Command<'a>, UsageFault>
+    ensures { SaysOnly (answer_of_check (rows_of (found_of entries.now))) result }
+{
+    Ok(Command::Check {
+        map: file_in(entries, "pmap"),
+        list: file_in(entries, "list"),
+        certificate: file_in(entries, "cert"),
+    })
 }
 
 /// The command of a subcommand, or its first usage fault, by its name and the entries that clap found for it.
@@ -146,6 +157,9 @@ fn command_of<'a>(name: &str, entries: &ArgMatches<'a>) -> Result<Command<'a>, U
     }
     if name == "shrink" {
         return shrink_command(entries);
+    }
+    if name == "check" {
+        return check_command(entries);
     }
     label_command(entries)
 }
@@ -179,6 +193,7 @@ pub fn parse<'a>(alloc: Global, words: &'a [&'a str]) -> Result<Command<'a>, Usa
     ensures cat_line { ReadsCatLine (texts words.entry.now) result }
     ensures shrink_line { ReadsShrinkLine (texts words.entry.now) result }
     ensures certificate_line { ReadsCertificateLine (texts words.entry.now) result }
+    ensures check_line { ReadsCheckLine (texts words.entry.now) result }
     ensures taken { takes flowlabel_app (texts words.entry.now) ≡ true → IsOwnAnswer result }
 {
     let command = definition(alloc)?;

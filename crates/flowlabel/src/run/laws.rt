@@ -1,7 +1,9 @@
-ghost use Rattle.flowlabel.specs.Output.{OneOutput, SameUnderEquivalents};
+ghost use Rattle.flowlabel.specs.Output.{CheckIsEnough, OneOutput, SameUnderEquivalents};
 
+use cert_check::laws::no_fault_is_acceptance;
 use pmap_cert::laws::{
-    map_text_has_its_labels, minimal_certificate_is_one, minimal_pair_is_unique,
+    acceptance_is_enough, map_text_has_its_labels, minimal_certificate_is_one,
+    minimal_pair_is_unique,
 };
 use pmap_print::laws::labelling_has_one_runs_text;
 
@@ -14,10 +16,19 @@ pub fn one_output()
     map_text_has_its_labels();
     minimal_pair_is_unique();
     minimal_certificate_is_one();
+    no_fault_is_acceptance();
 }
 
-/// A request that takes labels from either has the same outputs under a map text and under each list text whose list labels every address as the map
-/// does. So reports are the same bytes under both.
+/// A request that takes labels from a map or a list alike has the same outputs under a map text and under each list text
+/// whose list labels every address as the map does. So reports are the same bytes under both.
 pub fn same_under_equivalents()
     ensures { SameUnderEquivalents }
 {}
+
+/// Where `check` prints a number for a map text, a list text and a certificate, whoever made them, it is the number of the
+/// list's entries, the list labels every address as the map does, and no list that does so has fewer entries.
+pub fn check_is_enough()
+    ensures { CheckIsEnough }
+{
+    acceptance_is_enough();
+}

@@ -1,15 +1,17 @@
-//! What a file holds: its text, its map, or its prefix list.
+//! What a file holds: its text, its map, its prefix list, or its certificate.
 ghost use Rattle.std.specs.Prelude.{◌≡◌, ◌≤◌, false, length, IfErr, IfOk, IfSome, List, Some, ℕ};
 ghost use Rattle.pmap_text.specs.MapText.{map_of};
 ghost use Rattle.pmap_text.specs.PrefixList.{list_of};
 ghost use Rattle.pmap_text.specs.Reading.{ReadsList, ReadsMap};
-ghost use Rattle.flowlabel.specs.Output.{FailsList, FailsMap};
-ghost use Rattle.flowlabel.specs.Run.{is_read_stop, IsFaultOfListFile, IsFaultOfMapFile, IsFaultOfReading};
+ghost use Rattle.pmap_cert.specs.Certificate.{certificate_of};
+ghost use Rattle.flowlabel.specs.Output.{FailsCertificate, FailsList, FailsMap, ReadsCertificate};
+ghost use Rattle.flowlabel.specs.Run.{is_read_stop, IsFaultOfCertificateFile, IsFaultOfListFile, IsFaultOfMapFile, IsFaultOfReading};
 
 use crate::fault::RunFault;
 use crate::inputs::Source;
 use crate::reading::{ReadStop, read_whole};
 use flow_io::Input;
+use pmap_cert::{CertFaultKind, Certificate, read_cert};
 use pmap_text::{MapFaultKind, MapText, PrefixList, read_list, read_map};
 use std::alloc::Global;
 
@@ -76,6 +78,36 @@ pub fn list_of_file<'a, R: Input>(
                 Err(RunFault::NoMemory)
             } else {
                 Err(RunFault::List {
+                    file: source.name,
+                    fault,
+                })
+            }
+        }
+    }
+}
+
+/// The certificate of a file.
+pub fn certificate_of_file<'a, R: Input>(
+    alloc: Global,
+    source: &mut Source<'a, R>,
+) -> Result<Certificate, RunFault<'a>>
+    requires { R.failed source.old.reader ≡ false }
+    ensures ok { IfOk result (λ c. (text : List ℕ) → R.bytes_left source.old.reader ≡ Some text → ReadsCertificate text (certificate_of c)) }
+    ensures err { IfErr result (IsFaultOfCertificateFile R.bytes_left R.failed FailsCertificate source.old source.new) }
+    ensures name { source.new.name.now ≡ source.old.name.now }
+    ensures failed { R.failed source.new.reader ≡ is_read_stop result }
+{
+    let text = text_of_file(alloc, source)?;
+    match read_cert(alloc, text.as_slice()) {
+        Ok(certificate) => {
+            let _root = certificate.root();
+            Ok(certificate)
+        }
+        Err(fault) => {
+            if fault.kind == CertFaultKind::NoMemory {
+                Err(RunFault::NoMemory)
+            } else {
+                Err(RunFault::Certificate {
                     file: source.name,
                     fault,
                 })

@@ -13,6 +13,7 @@ use std::alloc::AllocError;
 use std::process::Abort;
 use std::test::Fail;
 
+mod check;
 mod flows;
 mod prefix_maps;
 

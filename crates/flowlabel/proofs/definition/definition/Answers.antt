@@ -2,7 +2,7 @@ use Rattle.std.proofs.Common.{◌≡◌, ◌∙◌, ◌||◌, Bool, false, ap, a
 use Rattle.std.proofs.lemmas.Result.{IfOk-weaker}
 use Rattle.clap.specs.Words.{App, app_of, with_subcommand}
 use Rattle.clap.specs.declared.builder.command.Command.TheViews.{out-Command}
-use Rattle.flowlabel.specs.Definition.{cat_app, flowlabel_app, info_app, label_app, program, rows_app}
+use Rattle.flowlabel.specs.Definition.{cat_app, flowlabel_app, info_app, label_app, program, rows_app, shrink_app}
 use Rattle.flowlabel.proofs.definition.definition.Goals as goal
 
 pub returns-clause-app : goal.returns-clause-app
@@ -18,8 +18,11 @@ returns-clause-app c =
     let four : app_of c.in_ok-subcommand-4.field-0
     ≡ with_subcommand (with_subcommand (with_subcommand (with_subcommand program label_app.top) info_app.top) rows_app.top) cat_app.top =
     c.in_ok-subcommand-4.ensures.shape c.in_ok-cat.ensures.local ∙ ap₂ with_subcommand three (ap top c.in_ok-cat.ensures.app) in
-    IfOk-weaker c.subcommand-5.result _ _
-    (λ r added. added.shape c.in_ok-shrink.ensures.local ∙ ap₂ with_subcommand four (ap top c.in_ok-shrink.ensures.app)) c.subcommand-5.ensures
+    let five : app_of c.in_ok-subcommand-5.field-0
+    ≡ with_subcommand (with_subcommand (with_subcommand (with_subcommand (with_subcommand program label_app.top) info_app.top) rows_app.top) cat_app.top) shrink_app.top =
+    c.in_ok-subcommand-5.ensures.shape c.in_ok-shrink.ensures.local ∙ ap₂ with_subcommand four (ap top c.in_ok-shrink.ensures.app) in
+    IfOk-weaker c.subcommand-6.result _ _
+    (λ r added. added.shape c.in_ok-check.ensures.local ∙ ap₂ with_subcommand five (ap top c.in_ok-check.ensures.app)) c.subcommand-6.ensures
 
 pub returns-clause-local : goal.returns-clause-local
 returns-clause-local c =
@@ -32,10 +35,12 @@ returns-clause-local c =
     c.in_ok-subcommand-3.ensures.globals ∙ ap₂ either two c.in_ok-rows.ensures.local in
     let four : (out-Command c.in_ok-subcommand-4.field-0).has_globals ≡ false =
     c.in_ok-subcommand-4.ensures.globals ∙ ap₂ either three c.in_ok-cat.ensures.local in
-    IfOk-weaker c.subcommand-5.result _ _
-    (λ r added. added.globals ∙ ap₂ either four c.in_ok-shrink.ensures.local) c.subcommand-5.ensures
+    let five : (out-Command c.in_ok-subcommand-5.field-0).has_globals ≡ false =
+    c.in_ok-subcommand-5.ensures.globals ∙ ap₂ either four c.in_ok-shrink.ensures.local in
+    IfOk-weaker c.subcommand-6.result _ _
+    (λ r added. added.globals ∙ ap₂ either five c.in_ok-check.ensures.local) c.subcommand-6.ensures
 
 pub returns-clause-required : goal.returns-clause-required
 unfolding flowlabel_app
 returns-clause-required c =
-    IfOk-weaker c.subcommand-5.result _ _ (λ r is. ap (λ (a : App). a.top.subcommand_required) is) (returns-clause-app c)
+    IfOk-weaker c.subcommand-6.result _ _ (λ r is. ap (λ (a : App). a.top.subcommand_required) is) (returns-clause-app c)
