@@ -1,6 +1,6 @@
 -- What the answer of `parse` follows from: the kind of clap's error, or the entries of its matches.
-use Rattle.std.proofs.Common.{◌≡◌, ◌⊎◌, ◌∙◌, ◌||◌, Bool, true, false, List, [], ◌∷◌, Option, Some, None, Result, Ok, Err, refl, sym, ap, ap₂, inl, inr, codes}
-use Rattle.std.specs.Prelude.{option_map, unwrap_or, if◌then◌else◌}
+use Rattle.std.proofs.Common.{◌≡◌, ◌≢◌, ◌⊎◌, ◌∙◌, ◌||◌, Bool, true, false, List, [], ◌∷◌, Option, Some, None, Result, Ok, Err, refl, sym, ap, ap₂, inl, inr, codes}
+use Rattle.std.specs.Prelude.{IfErr, IfOk, option_map, unwrap_or, if◌then◌else◌}
 use Rattle.std.specs.List.{list_any}
 use Rattle.std.specs.Str.{bytes_eq}
 use Rattle.clap.specs.Words.{IsAmong, Kinds, Row, fault_of, first_of, is_simple, is_simple_and_free, subcommand_name_of, subcommand_of, subcommand_rows_of}
@@ -10,12 +10,15 @@ use Rattle.clap.specs.declared.parser.ArgMatches.{ArgMatches}
 use Rattle.clap.proofs.OnLiterals.{clap_on_literals}
 use Rattle.prefix_keys.specs.Text.{AddressOf}
 use Rattle.pmap_text.specs.Reading.{◌>>=◌}
-use Rattle.flowlabel.specs.Request.{LabelSource, Text}
+use Rattle.flow_filter.specs.Condition.{Condition, needs_map}
+use Rattle.flow_filter.specs.Words.{filter_of_words}
+use Rattle.flow_filter.specs.declared.fault.FilterFault.{FilterFault}
+use Rattle.flowlabel.specs.Request.{LabelSource, Request, Text, request_of}
 use Rattle.flowlabel.specs.Definition.{flowlabel_app}
-use Rattle.flowlabel.specs.Answer.{Answer, Answers, IsAnswer, IsFaultAt, IsFaultOfKind, IsOwnAnswer, IsOwnFault, SaysOnly, address_answer, address_in_rows, answer_of, answer_of_cat, answer_of_info, answer_of_label, answer_of_rows, answer_of_shrink, is_help, is_mistake, needed_source, source_answer, sources_in_rows, answer_of_check}
+use Rattle.flowlabel.specs.Answer.{Answer, Answers, IsAnswer, IsFaultAt, IsFaultOfKind, IsOwnAnswer, IsOwnFault, SaysOnly, address_answer, address_in_rows, answer_of, answer_of_cat, answer_of_info, answer_of_label, answer_of_rows, answer_of_shrink, is_help, is_mistake, needed_source, source_answer, sources_in_rows, answer_of_check, IsUnlessMemory, condition_answer, condition_in_rows, with_labels, words_in_rows}
 use Rattle.flowlabel.specs.declared.command.Command.{Command}
 use Rattle.flowlabel.specs.declared.usage.UsageFault.{UsageFault}
-use Rattle.flowlabel.specs.declared.usage.UsageFault.TheVariants.{Refused, NotUtf8, Help, MapTwice, MapMissing, BadAddress, NoMemory}
+use Rattle.flowlabel.specs.declared.usage.UsageFault.TheVariants.{Refused, NotUtf8, Help, MapTwice, MapMissing, BadAddress, Filter, LabelNeedsMap, NoMemory}
 
 -- the definition is one of those that clap's theorems are about
 pub flowlabel_is_simple : is_simple flowlabel_app ≡ true
@@ -51,6 +54,8 @@ fault_at words k NotUtf8 from h = absurd h
 fault_at words k MapTwice from h = absurd h
 fault_at words k MapMissing from h = absurd h
 fault_at words k BadAddress from h = absurd h
+fault_at words k (Filter fault) from h = absurd h
+fault_at words k LabelNeedsMap from h = absurd h
 fault_at words k NoMemory from h = tt
 
 -- a fault of the program's own that is the answer to the words comes of them
@@ -61,6 +66,8 @@ fault_of_answer words (Help text) own is = absurd own
 fault_of_answer words MapTwice own is = is
 fault_of_answer words MapMissing own is = is
 fault_of_answer words BadAddress own is = is
+fault_of_answer words (Filter fault) own is = is
+fault_of_answer words LabelNeedsMap own is = is
 fault_of_answer words NoMemory own is = tt
 
 -- steps that answer by no refusal of clap's and no help do so one after the other
@@ -89,8 +96,20 @@ label_own rows =
     then_own (sources_in_rows rows) _ (source_own _ _)
     (λ found. then_own (needed_source found) _ (needed_own found) (λ labels. address_own labels (address_in_rows rows)))
 
+-- and so do `rows` and its parts
+condition_own : (r : Result Condition FilterFault) → IsOwnAnswer (condition_answer r)
+condition_own (Ok condition) = tt
+condition_own (Err fault) = tt
+
+with_labels_own : (needed : Bool) (source : Option LabelSource) (request : Request) → IsOwnAnswer (with_labels needed source request)
+with_labels_own true None request = tt
+with_labels_own true (Some source) request = tt
+with_labels_own false source request = tt
+
 rows_own : (rows : List Row) → IsOwnAnswer (answer_of_rows rows)
-rows_own rows = then_own (sources_in_rows rows) _ (source_own _ _) (λ source. tt)
+rows_own rows =
+    then_own (sources_in_rows rows) _ (source_own _ _)
+    (λ source. then_own (condition_in_rows rows) _ (condition_own (filter_of_words (words_in_rows rows))) (λ condition. with_labels_own (needs_map condition) source _))
 
 cat_own : (rows : List Row) → IsOwnAnswer (answer_of_cat rows)
 cat_own rows =
@@ -110,10 +129,43 @@ answer_own p =
     (either_own (bytes_eq p.0 (codes "shrink")) (answer_of_shrink p.1) _ tt
     (either_own (bytes_eq p.0 (codes "check")) (answer_of_check p.1) _ tt (label_own p.1)))))
 
--- and so does a result that says the same
-pub own : (answer : Answer) (r : Result Command UsageFault) → IsOwnAnswer answer → SaysOnly answer r → IsOwnAnswer r
+-- memory aside, the result is that of the answer
+fault_unless_memory : (answer : Answer) (fault : UsageFault) → (fault ≢ NoMemory → answer ≡ Err fault) → IsUnlessMemory answer (Err fault)
+fault_unless_memory answer NoMemory says = tt
+fault_unless_memory answer (Refused text) says = says (λ e. cc)
+fault_unless_memory answer NotUtf8 says = says (λ e. cc)
+fault_unless_memory answer (Help text) says = says (λ e. cc)
+fault_unless_memory answer MapTwice says = says (λ e. cc)
+fault_unless_memory answer MapMissing says = says (λ e. cc)
+fault_unless_memory answer BadAddress says = says (λ e. cc)
+fault_unless_memory answer (Filter fault) says = says (λ e. cc)
+fault_unless_memory answer LabelNeedsMap says = says (λ e. cc)
+
+pub unless_memory : (answer : Answer) (r : Result Command UsageFault) → IfOk r (λ command. answer ≡ Ok (request_of command))
+    → IfErr r (λ fault. fault ≢ NoMemory → answer ≡ Err fault) → IsUnlessMemory answer r
+unless_memory answer (Ok command) ok err = ok
+unless_memory answer (Err fault) ok err = fault_unless_memory answer fault err
+
+-- and the answer's own, or want of memory
+said_or_memory : (answer : Answer) (fault : UsageFault) → IsUnlessMemory answer (Err fault) → (fault ≡ NoMemory) ⊎ (answer ≡ Err fault)
+said_or_memory answer NoMemory says = inl refl
+said_or_memory answer (Refused text) says = inr says
+said_or_memory answer NotUtf8 says = inr says
+said_or_memory answer (Help text) says = inr says
+said_or_memory answer MapTwice says = inr says
+said_or_memory answer MapMissing says = inr says
+said_or_memory answer BadAddress says = inr says
+said_or_memory answer (Filter fault) says = inr says
+said_or_memory answer LabelNeedsMap says = inr says
+
+own_or_memory : (answer : Answer) (fault : UsageFault) → IsOwnAnswer answer → (fault ≡ NoMemory) ⊎ (answer ≡ Err fault) → IsOwnFault fault
+own_or_memory answer fault is (inl none) = rw none tt
+own_or_memory answer fault is (inr says) = rw says at is
+
+-- and so does a result that says the same, memory aside
+pub own : (answer : Answer) (r : Result Command UsageFault) → IsOwnAnswer answer → IsUnlessMemory answer r → IsOwnAnswer r
 own answer (Ok command) is says = tt
-own answer (Err fault) is says = rw says at is
+own answer (Err fault) is says = own_or_memory answer fault is (said_or_memory answer fault says)
 
 -- a pair in an option, by its parts
 pair_is : {A B : Type 0} (o : Option (A × B)) (a : A) (b : B) → option_map (λ p. p.0) o ≡ Some a → option_map (λ p. p.1) o ≡ Some b → o ≡ Some (a, b)
@@ -131,11 +183,14 @@ subcommand_is m name rows e f = pair_is (subcommand_rows_of m) name rows (map_tw
 
 -- the subcommand that clap found is that of its specification, so its answer is that of the words
 pub answers : (words : List Text) (p : Text × List Row) (r : Result Command UsageFault) → fault_of flowlabel_app words ≡ []
-    → subcommand_of flowlabel_app words ≡ Some p → SaysOnly (answer_of p) r → IsAnswer words r
+    → subcommand_of flowlabel_app words ≡ Some p → IsUnlessMemory (answer_of p) r → IsAnswer words r
 answers words p (Ok command) none found says = (none, ap (option_map answer_of) found ∙ ap Some says)
-answers words p (Err fault) none found says =
-    let own_fault : IsOwnFault fault = own (answer_of p) (Err fault) (answer_own p) says in
-    fault_of_answer words fault own_fault (none, ap (option_map answer_of) found ∙ ap Some says)
+answers words p (Err fault) none found says = elim (said_or_memory (answer_of p) fault says) [
+  | inl memory ↦ rw memory tt
+  | inr said ↦
+      let own_fault : IsOwnFault fault = own (answer_of p) (Err fault) (answer_own p) says in
+      fault_of_answer words fault own_fault (none, ap (option_map answer_of) found ∙ ap Some said)
+]
 
 -- a fault that comes of want of memory is no refusal of clap's and no help
 pub own_of_memory : (k : ErrorKind) (f : UsageFault) → k ≡ kind.OutOfMemory → IsFaultOfKind k f → IsOwnFault f
@@ -149,4 +204,6 @@ own_of_memory k NotUtf8 e h = absurd h
 own_of_memory k MapTwice e h = tt
 own_of_memory k MapMissing e h = tt
 own_of_memory k BadAddress e h = tt
+own_of_memory k (Filter fault) e h = tt
+own_of_memory k LabelNeedsMap e h = tt
 own_of_memory k NoMemory e h = tt

@@ -62,12 +62,12 @@ same_under_equivalents (label old address) file other texts others m l outcome e
     swap (λ labels. Prints (label_text address labels)) texts.map others.list m l outcome reads_map reads_list is
 same_under_equivalents (info name) file other texts others m l outcome either reads_map reads_list is flows =
     over_file (λ bytes. IsOutput (info name) (record texts { flows = bytes }) outcome) texts.flows others.flows flows
-same_under_equivalents (rows None columns name) file other texts others m l outcome either reads_map reads_list is flows =
-    over_file (λ bytes. IsOutput (rows None columns name) (record texts { flows = bytes }) outcome) texts.flows others.flows flows
-same_under_equivalents (rows (Some old) columns name) file other texts others m l outcome either reads_map reads_list is flows =
+same_under_equivalents (rows None condition columns name) file other texts others m l outcome either reads_map reads_list is flows =
+    over_file (λ bytes. IsOutput (rows None condition columns name) (record texts { flows = bytes }) outcome) texts.flows others.flows flows
+same_under_equivalents (rows (Some old) condition columns name) file other texts others m l outcome either reads_map reads_list is flows =
     both
-    (swap (λ labels. FlowsThen (λ messages. Prints (report_of_rows columns (Some labels) messages)) texts.flows) texts.map others.list m l outcome reads_map reads_list is)
-    (over_file (λ bytes. IsOutput (rows (Some (FromList other)) columns name) (record others { flows = bytes }) outcome) texts.flows others.flows flows)
+    (swap (λ labels. FlowsThen (λ messages. Prints (report_of_rows condition columns (Some labels) messages)) texts.flows) texts.map others.list m l outcome reads_map reads_list is)
+    (over_file (λ bytes. IsOutput (rows (Some (FromList other)) condition columns name) (record others { flows = bytes }) outcome) texts.flows others.flows flows)
 same_under_equivalents (cat old) file other texts others m l outcome either reads_map reads_list is flows =
     swap PrintsRuns texts.map others.list m l outcome reads_map reads_list is
 same_under_equivalents (shrink map certificate) file other texts others m l outcome either reads_map reads_list is flows = absurd either

@@ -1,9 +1,12 @@
 pub mod AnswerLemmas
 pub mod CheckLemmas
+pub mod DefinitionLemmas
+pub mod EndLemmas
 pub mod EquivalentLemmas
 pub mod LabelLemmas
 pub mod LabellingLemmas
 pub mod LineLemmas
 pub mod OutputLemmas
+pub mod PassingLemmas
 pub mod ReportLemmas
 pub mod RequestLemmas

@@ -7,10 +7,10 @@ use Rattle.clap.proofs.OnLiterals.{clap_on_literals}
 use Rattle.prefix_keys.specs.Text.{address_of}
 use Rattle.flowlabel.specs.Definition.{flowlabel_app}
 use Rattle.flowlabel.specs.Request.{FromList, FromMap, cat, info, rows, shrink, check}
-use Rattle.flowlabel.specs.Answer.{Answer, Answers, IsAnswer, IsUnlessMemory, ReadsBareLine, ReadsCatLine, ReadsCertificateLine, ReadsColumnsLine, ReadsInfoLine, ReadsListLine, ReadsMapLine, ReadsRowsLine, ReadsShrinkLine, address_answer, is_plain_word, own_answer, ReadsCheckLine}
+use Rattle.flowlabel.specs.Answer.{Answer, Answers, IsAnswer, IsUnlessMemory, ReadsBareLine, ReadsCatLine, ReadsCertificateLine, ReadsColumnsLine, ReadsInfoLine, ReadsListLine, ReadsMapLine, ReadsRowsLine, ReadsShrinkLine, address_answer, is_plain_word, own_answer, ReadsCheckLine, no_condition}
 use Rattle.flowlabel.specs.declared.command.Command.{Command}
 use Rattle.flowlabel.specs.declared.usage.UsageFault.{UsageFault}
-use Rattle.flowlabel.specs.declared.usage.UsageFault.TheVariants.{Refused, NotUtf8, Help, MapTwice, MapMissing, BadAddress, NoMemory}
+use Rattle.flowlabel.specs.declared.usage.UsageFault.TheVariants.{Refused, NotUtf8, Help, MapTwice, MapMissing, BadAddress, Filter, LabelNeedsMap, NoMemory}
 
 not_true : (b : Bool) → not b ≡ true → b ≡ false
 not_true true e = sym e
@@ -25,6 +25,8 @@ own_only words answer (Ok command) own is = ap (λ (o : Option Answer). unwrap_o
 own_only words answer (Err MapTwice) own is = ap (λ (o : Option Answer). unwrap_or o answer) (sym own.1 ∙ is.1)
 own_only words answer (Err MapMissing) own is = ap (λ (o : Option Answer). unwrap_or o answer) (sym own.1 ∙ is.1)
 own_only words answer (Err BadAddress) own is = ap (λ (o : Option Answer). unwrap_or o answer) (sym own.1 ∙ is.1)
+own_only words answer (Err (Filter fault)) own is = ap (λ (o : Option Answer). unwrap_or o answer) (sym own.1 ∙ is.1)
+own_only words answer (Err LabelNeedsMap) own is = ap (λ (o : Option Answer). unwrap_or o answer) (sym own.1 ∙ is.1)
 own_only words answer (Err NoMemory) own is = tt
 own_only words answer (Err NotUtf8) own is = absurd is
 own_only words answer (Err (Refused text)) own is =
@@ -94,15 +96,19 @@ module _ (program : Text) where
   info_line (x ∷ xs) h = let e = not_true (x == 45) h in (rw (e, not_short x xs e) refl, rw (e, not_short x xs e) refl)
 
   -- lines of `rows`, without columns and with them
-  pub rows_line : (file : Text) → is_plain_word file ≡ true → Answers (program ∷ codes "rows" ∷ file ∷ []) (Ok (rows None false file))
+  pub rows_line : (file : Text) → is_plain_word file ≡ true → Answers (program ∷ codes "rows" ∷ file ∷ []) (Ok (rows None no_condition false file))
   unfolding flowlabel_app clap_on_literals
-  rows_line [] h = (refl, refl)
-  rows_line (x ∷ xs) h = let e = not_true (x == 45) h in (rw (e, not_short x xs e) refl, rw (e, not_short x xs e) refl)
+  rows_line [] h = (refl {a = []}, refl {a = Some (Ok (rows None no_condition false []))})
+  rows_line (x ∷ xs) h =
+      let e = not_true (x == 45) h in
+      (rw (e, not_short x xs e) (refl {a = []}), rw (e, not_short x xs e) (refl {a = Some (Ok (rows None no_condition false (x ∷ xs)))}))
 
-  pub columns_line : (file : Text) → is_plain_word file ≡ true → Answers (program ∷ codes "rows" ∷ codes "--columns" ∷ file ∷ []) (Ok (rows None true file))
+  pub columns_line : (file : Text) → is_plain_word file ≡ true → Answers (program ∷ codes "rows" ∷ codes "--columns" ∷ file ∷ []) (Ok (rows None no_condition true file))
   unfolding flowlabel_app clap_on_literals
-  columns_line [] h = (refl, refl)
-  columns_line (x ∷ xs) h = let e = not_true (x == 45) h in (rw (e, not_short x xs e) refl, rw (e, not_short x xs e) refl)
+  columns_line [] h = (refl {a = []}, refl {a = Some (Ok (rows None no_condition true []))})
+  columns_line (x ∷ xs) h =
+      let e = not_true (x == 45) h in
+      (rw (e, not_short x xs e) (refl {a = []}), rw (e, not_short x xs e) (refl {a = Some (Ok (rows None no_condition true (x ∷ xs)))}))
 
   -- a line of `cat`
   pub cat_line : (file : Text) → is_plain_word file ≡ true → Answers (program ∷ codes "cat" ∷ codes "--pmap" ∷ file ∷ []) (Ok (cat (FromMap file)))

@@ -142,8 +142,8 @@ one_output law runs minimal none (label source address) texts outcome other p q 
     labels_then_one source _ (prints_one (label_text address)) texts outcome other p q
 one_output law runs minimal none (info flows) texts outcome other p q =
     reports_then_one law (λ labels messages. info_text (counts_of messages)) None texts outcome other p q
-one_output law runs minimal none (rows source columns flows) texts outcome other p q =
-    reports_then_one law (report_of_rows columns) source texts outcome other p q
+one_output law runs minimal none (rows source condition columns flows) texts outcome other p q =
+    reports_then_one law (report_of_rows condition columns) source texts outcome other p q
 one_output law runs minimal none (cat source) texts outcome other p q =
     labels_then_one source PrintsRuns (runs_one runs) texts outcome other p q
 one_output law runs minimal none (shrink map certificate) texts outcome other p q =

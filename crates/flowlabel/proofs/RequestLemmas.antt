@@ -9,7 +9,7 @@ use Rattle.flowlabel.specs.declared.usage.UsageFault.{UsageFault}
 pub request_is_proper : (c : Command) → IsProper (request_of c)
 request_is_proper (Label labels addr) = addr.in_range
 request_is_proper (Info flows) = tt
-request_is_proper (Rows labels columns flows) = tt
+request_is_proper (Rows labels filter columns flows) = tt
 request_is_proper (Cat labels) = tt
 request_is_proper (Shrink map certificate) = tt
 request_is_proper (Check map list certificate) = tt

@@ -1,10 +1,13 @@
-use Rattle.std.specs.Prelude.{◌≡◌, ◌==◌, Bool, not, true, false, List, [], ◌∷◌, Option, Some, None, Result, Ok, Err, codes, option_and_then, option_map, unwrap_or, if◌then◌else◌}
+use Rattle.std.specs.Prelude.{◌≡◌, ◌==◌, ◌&&◌, Bool, not, true, false, List, [], ◌∷◌, Option, Some, None, Result, Ok, Err, codes, option_and_then, option_map, unwrap_or, is_none, if◌then◌else◌}
 use Rattle.std.specs.List.{list_any}
 use Rattle.std.specs.Str.{bytes_eq}
 use Rattle.std.specs.declared.io.ErrorKind.TheVariants as io
 use Rattle.std.specs.declared.io.ErrorKind.{ErrorKind as IoErrorKind}
 use Rattle.prefix_keys.specs.Text.{AddressOf, address_of}
 use Rattle.pmap_text.specs.Reading.{◌>>=◌}
+use Rattle.flow_filter.specs.Condition.{Condition, needs_map}
+use Rattle.flow_filter.specs.Words.{Words, filter_of_words}
+use Rattle.flow_filter.specs.declared.fault.FilterFault.{FilterFault}
 use Rattle.clap.specs.Words.{Row, fault_of, first_of, subcommand_of}
 use Rattle.clap.specs.declared.error.kind.ErrorKind.{ErrorKind}
 use Rattle.clap.specs.declared.error.kind.ErrorKind.TheVariants as kind
@@ -12,7 +15,7 @@ use Rattle.flowlabel.specs.Definition.{flowlabel_app}
 use Rattle.flowlabel.specs.Request.{FromList, FromMap, LabelSource, Request, Text, cat, info, label, request_of, rows, shrink, check}
 use Rattle.flowlabel.specs.declared.command.Command.{Command}
 use Rattle.flowlabel.specs.declared.usage.UsageFault.{UsageFault}
-use Rattle.flowlabel.specs.declared.usage.UsageFault.TheVariants.{Refused, NotUtf8, Help, MapTwice, MapMissing, BadAddress, NoMemory}
+use Rattle.flowlabel.specs.declared.usage.UsageFault.TheVariants.{Refused, NotUtf8, Help, MapTwice, MapMissing, BadAddress, Filter, LabelNeedsMap, NoMemory}
 
 -- What a command line is answered with.
 
@@ -61,13 +64,42 @@ flows_in_rows entries = unwrap_or (first_of (codes "flows") entries) []
 abbrev pub is_given : Text → List Row → Bool
 is_given flag entries = bytes_eq (unwrap_or (first_of flag entries) []) (codes "true")
 
+-- the texts of the filters that entries name
+abbrev pub words_in_rows : List Row → Words
+words_in_rows entries = record {
+  protocol = first_of (codes "protocol") entries;
+  sport = first_of (codes "sport") entries;
+  dport = first_of (codes "dport") entries;
+  saddress = first_of (codes "saddress") entries;
+  daddress = first_of (codes "daddress") entries;
+  packets = first_of (codes "packets") entries;
+  bytes = first_of (codes "bytes") entries;
+  src_label = first_of (codes "src-label") entries;
+  dst_label = first_of (codes "dst-label") entries;
+  any_label = first_of (codes "any-label") entries;
+}
+
+-- a condition, or the usage fault that the fault of a filter's text is
+abbrev pub condition_answer : Result Condition FilterFault → Result Condition UsageFault
+condition_answer (Ok condition) = Ok condition
+condition_answer (Err fault) = Err (Filter fault)
+
+-- the condition that the filters of entries state, or the fault of the first of them that has not its form
+abbrev pub condition_in_rows : List Row → Result Condition UsageFault
+condition_in_rows entries = condition_answer (filter_of_words (words_in_rows entries))
+
+-- the request, where labels that it needs have a source
+abbrev pub with_labels : Bool → Option LabelSource → Request → Answer
+with_labels needed source request = if needed && is_none source then Err LabelNeedsMap else Ok request
+
 -- `info` and `rows`, by the entries that clap finds for them
 abbrev pub answer_of_info : List Row → Answer
 answer_of_info entries = Ok (info (flows_in_rows entries))
 
 abbrev pub answer_of_rows : List Row → Answer
 answer_of_rows entries =
-    sources_in_rows entries >>= (λ source. Ok (rows source (is_given (codes "columns") entries) (flows_in_rows entries)))
+    sources_in_rows entries >>= (λ source. condition_in_rows entries >>= (λ condition.
+    with_labels (needs_map condition) source (rows source condition (is_given (codes "columns") entries) (flows_in_rows entries))))
 
 -- `cat`, by its sources: two come first, and then a missing one
 abbrev pub cat_answer : Result (Option LabelSource) UsageFault → Answer
@@ -132,6 +164,8 @@ IsFaultAt words (Help text) = list_any is_help (fault_of flowlabel_app words) �
 IsFaultAt words MapTwice = Answers words (Err MapTwice)
 IsFaultAt words MapMissing = Answers words (Err MapMissing)
 IsFaultAt words BadAddress = Answers words (Err BadAddress)
+IsFaultAt words (Filter fault) = Answers words (Err (Filter fault))
+IsFaultAt words LabelNeedsMap = Answers words (Err LabelNeedsMap)
 IsFaultAt words NoMemory = Unit {0}
 
 -- the result is what the words ask for
@@ -147,6 +181,8 @@ IsOwnFault (Help text) = ⊥
 IsOwnFault MapTwice = Unit {0}
 IsOwnFault MapMissing = Unit {0}
 IsOwnFault BadAddress = Unit {0}
+IsOwnFault (Filter fault) = Unit {0}
+IsOwnFault LabelNeedsMap = Unit {0}
 IsOwnFault NoMemory = Unit {0}
 
 -- the result is no such fault
@@ -186,15 +222,30 @@ abbrev pub ReadsInfoLine : List Text → Result Command UsageFault → Type 0
 ReadsInfoLine words result = (program file : Text) → is_plain_word file ≡ true
     → words ≡ program ∷ codes "info" ∷ file ∷ [] → IsUnlessMemory (Ok (info file)) result
 
+-- no filter is given
+abbrev pub no_condition : Condition
+no_condition = record {
+  protocol = None;
+  sport = None;
+  dport = None;
+  saddress = None;
+  daddress = None;
+  packets = None;
+  bytes = None;
+  src_label = None;
+  dst_label = None;
+  any_label = None;
+}
+
 -- `rows FILE` is answered by its file
 abbrev pub ReadsRowsLine : List Text → Result Command UsageFault → Type 0
 ReadsRowsLine words result = (program file : Text) → is_plain_word file ≡ true
-    → words ≡ program ∷ codes "rows" ∷ file ∷ [] → IsUnlessMemory (Ok (rows None false file)) result
+    → words ≡ program ∷ codes "rows" ∷ file ∷ [] → IsUnlessMemory (Ok (rows None no_condition false file)) result
 
 -- `rows --columns FILE` asks for columns
 abbrev pub ReadsColumnsLine : List Text → Result Command UsageFault → Type 0
 ReadsColumnsLine words result = (program file : Text) → is_plain_word file ≡ true
-    → words ≡ program ∷ codes "rows" ∷ codes "--columns" ∷ file ∷ [] → IsUnlessMemory (Ok (rows None true file)) result
+    → words ≡ program ∷ codes "rows" ∷ codes "--columns" ∷ file ∷ [] → IsUnlessMemory (Ok (rows None no_condition true file)) result
 
 -- `cat --pmap FILE` is answered by its map
 abbrev pub ReadsCatLine : List Text → Result Command UsageFault → Type 0
@@ -227,6 +278,8 @@ IsFaultOfKind k (Help text) = is_help k ≡ true
 IsFaultOfKind k MapTwice = ⊥
 IsFaultOfKind k MapMissing = ⊥
 IsFaultOfKind k BadAddress = ⊥
+IsFaultOfKind k (Filter fault) = ⊥
+IsFaultOfKind k LabelNeedsMap = ⊥
 IsFaultOfKind k NoMemory = Unit {0}
 
 -- the fault of a command line whose words can't be had, by the kind of the system's error: one of them is no text, or

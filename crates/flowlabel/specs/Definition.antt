@@ -1,6 +1,6 @@
 use Rattle.std.specs.Prelude.{true, Some, codes}
 use Rattle.clap.specs.declared.builder.action.ArgAction.TheVariants.{SetTrue}
-use Rattle.clap.specs.Words.{App, Rule, new_app, new_rule, with_rule, with_subcommand}
+use Rattle.clap.specs.Words.{App, Rule, Text, new_app, new_rule, with_rule, with_subcommand}
 
 -- What clap reads of the definition of the command line: each subcommand with its options and words.
 
@@ -28,14 +28,33 @@ flows_rule = record (new_rule (codes "flows")) { value_names = 1; required = tru
 abbrev pub columns_rule : Rule
 columns_rule = record (new_rule (codes "columns")) { long = Some (codes "columns"); action = Some SetTrue }
 
+-- an option of one value, under its name
+abbrev pub value_rule : Text → Rule
+value_rule name = record (new_rule name) { long = Some name; value_names = 1 }
+
+-- the filters, behind other options: those on what a row has
+abbrev pub with_value_filters : App → App
+with_value_filters app =
+    let ports = with_rule (with_rule (with_rule app (value_rule (codes "protocol"))) (value_rule (codes "sport"))) (value_rule (codes "dport")) in
+    let addresses = with_rule (with_rule ports (value_rule (codes "saddress"))) (value_rule (codes "daddress")) in
+    with_rule (with_rule addresses (value_rule (codes "packets"))) (value_rule (codes "bytes"))
+
+-- and those on its labels
+abbrev pub with_label_filters : App → App
+with_label_filters app =
+    with_rule (with_rule (with_rule app (value_rule (codes "src-label"))) (value_rule (codes "dst-label"))) (value_rule (codes "any-label"))
+
+abbrev pub with_filters : App → App
+with_filters app = with_label_filters (with_value_filters app)
+
 -- `info FILE`
 abbrev pub info_app : App
 info_app = with_rule (new_app (codes "info")) flows_rule
 
--- `rows [--pmap FILE] [--list FILE] [--columns] FILE`
+-- `rows [--pmap FILE] [--list FILE] [filters] [--columns] FILE`
 abbrev pub rows_app : App
 rows_app =
-    with_rule (with_rule (with_rule (with_rule (new_app (codes "rows")) pmap_rule) list_rule) columns_rule) flows_rule
+    with_rule (with_rule (with_filters (with_rule (with_rule (new_app (codes "rows")) pmap_rule) list_rule)) columns_rule) flows_rule
 
 -- `cat [--pmap FILE] [--list FILE]`
 abbrev pub cat_app : App

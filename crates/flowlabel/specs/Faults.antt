@@ -1,4 +1,9 @@
 use Rattle.std.specs.Prelude.{ℕ, Bool, true, false, List, [], ◌++◌, Result, Ok, Err, codes, decimal, if◌then◌else◌}
+use Rattle.flow_filter.specs.declared.fault.FilterFault.{FilterFault}
+use Rattle.flow_filter.specs.declared.fault.FilterFaultKind.{FilterFaultKind}
+use Rattle.flow_filter.specs.declared.fault.FilterFaultKind.TheVariants as filters
+use Rattle.flow_filter.specs.declared.fault.FilterOption.{FilterOption}
+use Rattle.flow_filter.specs.declared.fault.FilterOption.TheVariants as option
 use Rattle.ipfix_read.specs.declared.fault.ReadFault.{ReadFault}
 use Rattle.ipfix_read.specs.declared.fault.ReadFaultKind.{ReadFaultKind}
 use Rattle.ipfix_read.specs.declared.fault.ReadFaultKind.TheVariants as flows
@@ -125,6 +130,39 @@ check_fault_line_text file fault =
     if is_check_want_of_memory fault.kind then out_of_memory
     else place_text file (check_fault_text fault.kind) fault.node
 
+-- an option that filters rows
+abbrev pub filter_option_text : FilterOption → List ℕ
+filter_option_text option.Protocol = codes "--protocol"
+filter_option_text option.SourcePort = codes "--sport"
+filter_option_text option.DestinationPort = codes "--dport"
+filter_option_text option.SourceAddress = codes "--saddress"
+filter_option_text option.DestinationAddress = codes "--daddress"
+filter_option_text option.Packets = codes "--packets"
+filter_option_text option.Bytes = codes "--bytes"
+filter_option_text option.SourceLabel = codes "--src-label"
+filter_option_text option.DestinationLabel = codes "--dst-label"
+filter_option_text option.AnyLabel = codes "--any-label"
+
+-- the code and the name of a fault of a filter's text
+abbrev pub filter_fault_text : FilterFaultKind → List ℕ
+filter_fault_text filters.BadNumberList = codes "L1 BadNumberList"
+filter_fault_text filters.BadRange = codes "L2 BadRange"
+filter_fault_text filters.BadBlock = codes "L3 BadBlock"
+filter_fault_text filters.NoMemory = codes "L4 NoMemory"
+
+abbrev pub is_filter_want_of_memory : FilterFaultKind → Bool
+is_filter_want_of_memory filters.NoMemory = true
+is_filter_want_of_memory k = false
+
+-- the fault of the text of an option
+abbrev pub option_text : List ℕ → List ℕ → List ℕ
+option_text option name = codes "flowlabel: usage: " ++ option ++ codes " " ++ name ++ codes "\n"
+
+abbrev pub filter_fault_line_text : FilterFault → List ℕ
+filter_fault_line_text fault =
+    if is_filter_want_of_memory fault.kind then out_of_memory
+    else option_text (filter_option_text fault.option) (filter_fault_text fault.kind)
+
 abbrev pub usage_fault_text : UsageFault → List ℕ
 usage_fault_text (usage.Refused text) = text
 usage_fault_text usage.NotUtf8 = codes "flowlabel: usage: P1 NotUtf8\n"
@@ -132,6 +170,8 @@ usage_fault_text (usage.Help text) = []
 usage_fault_text usage.MapTwice = codes "flowlabel: usage: P3 MapTwice\n"
 usage_fault_text usage.MapMissing = codes "flowlabel: usage: P2 MapMissing\n"
 usage_fault_text usage.BadAddress = codes "flowlabel: usage: P4 BadAddress\n"
+usage_fault_text (usage.Filter fault) = filter_fault_line_text fault
+usage_fault_text usage.LabelNeedsMap = codes "flowlabel: usage: P5 LabelNeedsMap\n"
 usage_fault_text usage.NoMemory = out_of_memory
 
 abbrev pub fault_text : RunFault → List ℕ
@@ -158,6 +198,8 @@ usage_status_of (usage.Help text) = 0
 usage_status_of usage.MapTwice = 2
 usage_status_of usage.MapMissing = 2
 usage_status_of usage.BadAddress = 2
+usage_status_of (usage.Filter fault) = if is_filter_want_of_memory fault.kind then 3 else 2
+usage_status_of usage.LabelNeedsMap = 2
 usage_status_of usage.NoMemory = 3
 
 -- the status of a fault of a file's bytes, or of want of memory while they were read

@@ -39,6 +39,11 @@ labelling_of_list l = labelling l.version (list_label l)
 abbrev pub label_by : Labelling → AddressOf → Option Label
 label_by l address = label_of_row_address l.version l.label address
 
+-- the same where there may be no labelling: then no address has a label
+abbrev pub label_where : Option Labelling → AddressOf → Option Label
+label_where None address = None
+label_where (Some l) address = label_by l address
+
 -- the labels of a row's source and destination
 abbrev pub row_labels : Labelling → RowView → LabelTexts
 row_labels l row = (label_by l (row.version, row.src), label_by l (row.version, row.dst))

@@ -1,4 +1,4 @@
-use Rattle.std.specs.Prelude.{◌≡◌, ◌⊎◌, ◌↔◌, ℕ, List, [], ◌∷◌, ◌++◌, Bool, true, false, Option, Some, None, Result, Ok, Err, map, option_map, unwrap_or, codes, decimal, length}
+use Rattle.std.specs.Prelude.{◌≡◌, ◌⊎◌, ◌↔◌, ℕ, List, [], ◌∷◌, ◌++◌, Bool, true, false, Option, Some, None, Result, Ok, Err, map, option_map, unwrap_or, codes, decimal, length, filter}
 use Rattle.prefix_keys.specs.Text.{AddressOf}
 use Rattle.pmap_text.specs.ListModel.{IsEquivalent, ListModel}
 use Rattle.pmap_text.specs.MapModel.{MapModel}
@@ -17,6 +17,8 @@ use Rattle.ipfix_read.specs.Message.{MessageView}
 use Rattle.ipfix_read.specs.declared.fault.ReadFault.{ReadFault}
 use Rattle.flow_rows.specs.Content.{rows_of_messages}
 use Rattle.flow_rows.specs.Counts.{counts_of}
+use Rattle.flow_rows.specs.Row.{RowView}
+use Rattle.flow_filter.specs.Condition.{Condition, row_passes}
 use Rattle.pmap_print.specs.Info.{info_text}
 use Rattle.pmap_cert.specs.CertificateForm.{HasTextForm}
 use Rattle.pmap_cert.specs.CertificateModel.{CertificateModel}
@@ -25,7 +27,7 @@ use Rattle.pmap_cert.specs.MinimalPair.{IsMinimalPair}
 use Rattle.pmap_print.specs.List.{list_text}
 use Rattle.pmap_print.specs.Rows.{rows_text}
 use Rattle.pmap_print.specs.Runs.{IsRunsText}
-use Rattle.flowlabel.specs.Labelling.{Labelling, label_by, labelling_of_list, labelling_of_map, row_labels}
+use Rattle.flowlabel.specs.Labelling.{Labelling, label_by, labelling_of_list, labelling_of_map, row_labels, label_where}
 use Rattle.flowlabel.specs.Request.{FromList, FromMap, LabelSource, Request, label, info, rows, cat, shrink, check}
 
 -- The output of a request: the text that it prints, or the first fault of its files' bytes.
@@ -126,10 +128,22 @@ abbrev pub PrintsMinimal : Bool → MapModel → Outcome → Type 0
 PrintsMinimal certificate m outcome =
     (l : ListModel) × (c : CertificateModel) × IsMinimalPair m l c × HasTextForm c × Prints (shrunk_text certificate l c) outcome
 
--- the rows of messages, with the labels of their addresses where there is a labelling
-abbrev pub report_of_rows : Bool → Option Labelling → List MessageView → List ℕ
-report_of_rows columns labels messages =
-    rows_text (rows_of_messages messages) (option_map (λ l. map (row_labels l) (rows_of_messages messages)) labels) columns
+-- the row meets a condition under a labelling, or without one
+abbrev pub passes : Condition → Option Labelling → RowView → Bool
+passes condition labels row = row_passes condition (label_where labels) row
+
+-- those of rows that do, and those of the rows of messages
+abbrev pub passing : Condition → Option Labelling → List RowView → List RowView
+passing condition labels all = filter (passes condition labels) all
+
+abbrev pub passing_rows : Condition → Option Labelling → List MessageView → List RowView
+passing_rows condition labels messages = passing condition labels (rows_of_messages messages)
+
+-- the rows that meet a condition, with the labels of their addresses where there is a labelling
+abbrev pub report_of_rows : Condition → Bool → Option Labelling → List MessageView → List ℕ
+report_of_rows condition columns labels messages =
+    let rows = passing_rows condition labels messages in
+    rows_text rows (option_map (λ l. map (row_labels l) rows) labels) columns
 
 -- what comes of a File under a labelling, or without one: the text of its messages
 abbrev pub ReportsThen : (Option Labelling → List MessageView → List ℕ) → Option LabelSource → FileTexts → Outcome → Type 0
@@ -155,7 +169,7 @@ ChecksThen texts = MapThen (λ m. ListThen (λ l. CertificateThen (Checks m l) t
 abbrev pub IsOutput : Request → FileTexts → Outcome → Type 0
 IsOutput (label source address) texts = LabelsThen source (λ labels. Prints (label_text address labels)) texts
 IsOutput (info flows) texts = ReportsThen (λ labels messages. info_text (counts_of messages)) None texts
-IsOutput (rows source columns flows) texts = ReportsThen (report_of_rows columns) source texts
+IsOutput (rows source condition columns flows) texts = ReportsThen (report_of_rows condition columns) source texts
 IsOutput (cat source) texts = LabelsThen source PrintsRuns texts
 IsOutput (shrink map certificate) texts = MapThen (PrintsMinimal certificate) texts.map
 IsOutput (check map list certificate) texts = ChecksThen texts
@@ -168,8 +182,8 @@ OneOutput = (request : Request) (texts : FileTexts) (outcome other : Outcome) �
 abbrev pub under : LabelSource → Request → Request
 under source (label old address) = label source address
 under source (info flows) = info flows
-under source (rows None columns flows) = rows None columns flows
-under source (rows (Some old) columns flows) = rows (Some source) columns flows
+under source (rows None condition columns flows) = rows None condition columns flows
+under source (rows (Some old) condition columns flows) = rows (Some source) condition columns flows
 under source (cat old) = cat source
 under source (shrink map certificate) = shrink map certificate
 under source (check map list certificate) = check map list certificate
@@ -178,7 +192,7 @@ under source (check map list certificate) = check map list certificate
 abbrev pub TakesEither : Request → Type 0
 TakesEither (label source address) = Unit {0}
 TakesEither (info flows) = Unit {0}
-TakesEither (rows source columns flows) = Unit {0}
+TakesEither (rows source condition columns flows) = Unit {0}
 TakesEither (cat source) = Unit {0}
 TakesEither (shrink map certificate) = ⊥
 TakesEither (check map list certificate) = ⊥

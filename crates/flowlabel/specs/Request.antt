@@ -1,6 +1,8 @@
 use Rattle.std.specs.Prelude.{◌≡◌, ◌^◌, ◌<◌, ℕ, Bool, List, Option, Some, None, is_some, option_and_then, option_map}
 use Rattle.prefix_keys.specs.Text.{AddressOf}
 use Rattle.prefix_keys.specs.Version.{width_of}
+use Rattle.flow_filter.specs.Condition.{Condition}
+use Rattle.flow_filter.specs.Filters.{condition_in}
 use Rattle.flowlabel.specs.declared.command.Command.{Command}
 use Rattle.flowlabel.specs.declared.command.Command.TheVariants.{Label, Info, Rows, Cat, Shrink, Check}
 use Rattle.flowlabel.specs.declared.command.Files.{Files}
@@ -20,12 +22,13 @@ pub data LabelSource : Type 0 where
   FromList : (file : Text) → LabelSource
 
 -- label: the label that the labels of a file give an address; info: the counts of the messages of a File; rows: the rows
--- of its records, with the labels of their addresses where there is a source of labels, in columns of even width or not; cat: the
--- runs of the labels of a file; shrink: the shortest list of a map, or in its place the certificate of that; check: whether a certificate shows that a list is a shortest one for a map
+-- of its records that meet a condition, with the labels of their addresses where there is a source of labels, in columns of
+-- even width or not; cat: the runs of the labels of a file; shrink: the shortest list of a map, or in its place the certificate
+-- of that; check: whether a certificate shows that a list is a shortest one for a map
 pub data Request : Type 0 where
   label : (source : LabelSource) (address : AddressOf) → Request
   info : (flows : Text) → Request
-  rows : (source : Option LabelSource) (columns : Bool) (flows : Text) → Request
+  rows : (source : Option LabelSource) (condition : Condition) (columns : Bool) (flows : Text) → Request
   cat : (source : LabelSource) → Request
   shrink : (map : Text) (certificate : Bool) → Request
   check : (map list certificate : Text) → Request
@@ -38,7 +41,7 @@ IsAddress address = address.1 < 2 ^ width_of address.0
 abbrev pub IsProper : Request → Type 0
 IsProper (label source address) = IsAddress address
 IsProper (info flows) = Unit {0}
-IsProper (rows source columns flows) = Unit {0}
+IsProper (rows source condition columns flows) = Unit {0}
 IsProper (cat source) = Unit {0}
 IsProper (shrink map certificate) = Unit {0}
 IsProper (check map list certificate) = Unit {0}
@@ -52,7 +55,7 @@ source_of (Prefixes file) = FromList file.now
 abbrev pub request_of : Command → Request
 request_of (Label labels addr) = label (source_of labels) (addr.version, addr.value)
 request_of (Info flows) = info flows.now
-request_of (Rows labels columns flows) = rows (option_map source_of labels) columns flows.now
+request_of (Rows labels filter columns flows) = rows (option_map source_of labels) (condition_in filter) columns flows.now
 request_of (Cat labels) = cat (source_of labels)
 request_of (Shrink map certificate) = shrink map.now certificate
 request_of (Check map list certificate) = check map.now list.now certificate.now
@@ -102,7 +105,7 @@ files_checked map list certificate = record {
 abbrev pub files_of : Request → FileNames
 files_of (label source address) = files_named (Some source) None
 files_of (info flows) = files_named None (Some flows)
-files_of (rows source columns flows) = files_named source (Some flows)
+files_of (rows source condition columns flows) = files_named source (Some flows)
 files_of (cat source) = files_named (Some source) None
 files_of (shrink map certificate) = files_named (Some (FromMap map)) None
 files_of (check map list certificate) = files_checked map list certificate

@@ -1,6 +1,7 @@
 ghost use Rattle.std.specs.Prelude.{◌≡◌, option_map};
 ghost use Rattle.flowlabel.specs.Request.{NamesNeeds, files_named, files_of, names_of, needs_of, request_of, source_of};
 
+use flow_filter::Filter;
 use prefix_keys::Addr;
 
 /// A file that labels come from, by its name.
@@ -13,7 +14,7 @@ pub enum LabelFile<'a> {
 }
 
 /// What a command line asks for, its file names and texts lent from the words.
-#[derive(Clone, Copy, Debug)]
+#[derive(Debug, Drop)]
 pub enum Command<'a> {
     /// `label (--pmap FILE | --list FILE) ADDR`: the label of an address.
     Label {
@@ -24,10 +25,11 @@ pub enum Command<'a> {
     Info {
         flows: &'a str,
     },
-    /// `rows [--pmap FILE | --list FILE] [--columns] FILE`: the rows of an IPFIX File, with labels where a file of them is
-    /// named, padded to columns where that is asked for.
+    /// `rows [--pmap FILE | --list FILE] [filters] [--columns] FILE`: the rows of an IPFIX File that pass the filter, with
+    /// labels where a file of them is named, padded to columns where that is asked for.
     Rows {
         labels: Option<LabelFile<'a>>,
+        filter: Filter<'a>,
         columns: bool,
         flows: &'a str,
     },

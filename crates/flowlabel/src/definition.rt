@@ -1,7 +1,7 @@
 ghost use Rattle.std.specs.Prelude.{◌≡◌, IfOk, false, true};
 ghost use Rattle.clap.specs.Words.{app_of, rule_of};
 ghost use Rattle.clap.specs.declared.builder.command.Command.TheViews.{out-Command};
-ghost use Rattle.flowlabel.specs.Definition.{cat_app, certificate_rule, columns_rule, flowlabel_app, flows_rule, info_app, label_app, list_rule, needed_pmap_rule, pmap_rule, program, rows_app, shrink_app, cert_rule, check_app, needed_list_rule};
+ghost use Rattle.flowlabel.specs.Definition.{cat_app, certificate_rule, columns_rule, flowlabel_app, flows_rule, info_app, label_app, list_rule, needed_pmap_rule, pmap_rule, program, rows_app, shrink_app, cert_rule, check_app, needed_list_rule, value_rule, with_filters, with_label_filters, with_value_filters};
 
 use clap::{Arg, ArgAction, Command};
 use std::alloc::{AllocError, Global};
@@ -76,15 +76,91 @@ fn columns_argument<'a>(alloc: Global) -> Arg<'a>
         .help("Pad the values to columns")
 }
 
-/// `rows [--pmap FILE] [--list FILE] [--columns] FILE`.
+// An option of one value, under its name.
+fn value_argument<'a>(alloc: Global, name: &'a str, value: &'a str, help: &'a str) -> Arg<'a>
+    ensures rule { rule_of result ≡ value_rule name.entry.now }
+    ensures local { result.global ≡ false }
+{
+    Arg::new(alloc, name)
+        .long(name)
+        .value_name(value)
+        .help(help)
+}
+
+// The command with the filters on what a row has.
+fn with_value_filters<'a>(alloc: Global, command: Command<'a>) -> Result<Command<'a>, AllocError>
+    ensures app { IfOk result (λ c. app_of c ≡ with_value_filters (app_of command.entry)) }
+    ensures local { IfOk result (λ c. (out-Command c).has_globals ≡ (out-Command command.entry).has_globals) }
+{
+    command
+        .arg(value_argument(
+            alloc,
+            "protocol",
+            "NUMBERS",
+            "Rows of these protocols, as 6,17 or 1-16",
+        ))?
+        .arg(value_argument(alloc, "sport", "NUMBERS", "Rows from these ports"))?
+        .arg(value_argument(alloc, "dport", "NUMBERS", "Rows to these ports"))?
+        .arg(value_argument(
+            alloc,
+            "saddress",
+            "BLOCKS",
+            "Rows from these addresses, as 10.0.0.1,2001:db8::/32",
+        ))?
+        .arg(value_argument(alloc, "daddress", "BLOCKS", "Rows to these addresses"))?
+        .arg(value_argument(
+            alloc,
+            "packets",
+            "RANGE",
+            "Rows of so many packets, as 5, 5- or 5-9",
+        ))?
+        .arg(value_argument(alloc, "bytes", "RANGE", "Rows of so many bytes"))
+}
+
+// The command with the filters on labels.
+fn with_label_filters<'a>(alloc: Global, command: Command<'a>) -> Result<Command<'a>, AllocError>
+    ensures app { IfOk result (λ c. app_of c ≡ with_label_filters (app_of command.entry)) }
+    ensures local { IfOk result (λ c. (out-Command c).has_globals ≡ (out-Command command.entry).has_globals) }
+{
+    command
+        .arg(value_argument(
+            alloc,
+            "src-label",
+            "LABEL",
+            "Rows whose source has this label",
+        ))?
+        .arg(value_argument(
+            alloc,
+            "dst-label",
+            "LABEL",
+            "Rows whose destination has this label",
+        ))?
+        .arg(value_argument(
+            alloc,
+            "any-label",
+            "LABEL",
+            "Rows of which one address has this label",
+        ))
+}
+
+// The command with all filters.
+fn with_filters<'a>(alloc: Global, command: Command<'a>) -> Result<Command<'a>, AllocError>
+    ensures app { IfOk result (λ c. app_of c ≡ with_filters (app_of command.entry)) }
+    ensures local { IfOk result (λ c. (out-Command c).has_globals ≡ (out-Command command.entry).has_globals) }
+{
+    with_label_filters(alloc, with_value_filters(alloc, command)?)
+}
+
+/// `rows [--pmap FILE] [--list FILE] [filters] [--columns] FILE`.
 fn rows<'a>(alloc: Global) -> Result<Command<'a>, AllocError>
     ensures app { IfOk result (λ c. app_of c ≡ rows_app) }
     ensures local { IfOk result (λ c. (out-Command c).has_globals ≡ false) }
 {
-    Command::new(alloc, "rows")
+    let labelled = Command::new(alloc, "rows")
         .about("Print the rows of an IPFIX File")
         .arg(map_argument(alloc))?
-        .arg(list_argument(alloc))?
+        .arg(list_argument(alloc))?;
+    with_filters(alloc, labelled)?
         .arg(columns_argument(alloc))?
         .arg(flows_argument(alloc))
 }

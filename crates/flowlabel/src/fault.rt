@@ -1,9 +1,10 @@
 ghost use Rattle.std.specs.Prelude.{◌≡◌, IfOk};
 ghost use Rattle.std.specs.String.{string_bytes};
-ghost use Rattle.flowlabel.specs.Faults.{bytes_status_of, certificate_fault_line_text, certificate_fault_text, check_fault_line_text, check_fault_text, exit_status_of, fault_text, flows_fault_line_text, flows_fault_text, help_text_of, map_fault_line_text, map_fault_text, place_text, status_of, template_fault_text, usage_fault_text, usage_status_of};
+ghost use Rattle.flowlabel.specs.Faults.{bytes_status_of, certificate_fault_line_text, certificate_fault_text, check_fault_line_text, check_fault_text, exit_status_of, fault_text, flows_fault_line_text, flows_fault_text, help_text_of, map_fault_line_text, map_fault_text, place_text, status_of, template_fault_text, usage_fault_text, usage_status_of, filter_fault_line_text, filter_fault_text, filter_option_text, option_text};
 
 use crate::usage::UsageFault;
 use cert_check::{CheckFault, CheckFaultKind};
+use flow_filter::{FilterFault, FilterFaultKind, FilterOption};
 use ipfix_read::{ReadFault, ReadFaultKind};
 use ipfix_templates::TemplateFaultKind;
 use pmap_cert::{CertFault, CertFaultKind};
@@ -117,6 +118,56 @@ fn check_fault_name(kind: CheckFaultKind) -> &'static str
     }
 }
 
+/// An option that filters rows.
+fn filter_option_name(option: FilterOption) -> &'static str
+    ensures { result.now ≡ filter_option_text option }
+{
+    match option {
+        FilterOption::Protocol => "--protocol",
+        FilterOption::SourcePort => "--sport",
+        FilterOption::DestinationPort => "--dport",
+        FilterOption::SourceAddress => "--saddress",
+        FilterOption::DestinationAddress => "--daddress",
+        FilterOption::Packets => "--packets",
+        FilterOption::Bytes => "--bytes",
+        FilterOption::SourceLabel => "--src-label",
+        FilterOption::DestinationLabel => "--dst-label",
+        FilterOption::AnyLabel => "--any-label",
+    }
+}
+
+/// The code and the name of a fault of a filter's text.
+fn filter_fault_name(kind: FilterFaultKind) -> &'static str
+    ensures { result.now ≡ filter_fault_text kind }
+{
+    match kind {
+        FilterFaultKind::BadNumberList => "L1 BadNumberList",
+        FilterFaultKind::BadRange => "L2 BadRange",
+        FilterFaultKind::BadBlock => "L3 BadBlock",
+        FilterFaultKind::NoMemory => "L4 NoMemory",
+    }
+}
+
+// The line of a fault of an option's text.
+fn option_line(alloc: Global, option: &str, name: &str) -> Result<String, AllocError>
+    ensures { IfOk result (λ line. string_bytes line ≡ option_text option.now name.now) }
+{
+    format!(in alloc; "flowlabel: usage: {option} {name}\n")
+}
+
+fn filter_line(alloc: Global, fault: &FilterFault) -> Result<String, AllocError>
+    ensures { IfOk result (λ line. string_bytes line ≡ filter_fault_line_text fault.now) }
+{
+    if fault.kind == FilterFaultKind::NoMemory {
+        return String::from_str(alloc, "flowlabel: out of memory\n");
+    }
+    option_line(
+        alloc,
+        filter_option_name(fault.option),
+        filter_fault_name(fault.kind),
+    )
+}
+
 fn usage_line(alloc: Global, fault: &UsageFault) -> Result<String, AllocError>
     ensures { IfOk result (λ line. string_bytes line ≡ usage_fault_text fault.now) }
 {
@@ -127,6 +178,11 @@ fn usage_line(alloc: Global, fault: &UsageFault) -> Result<String, AllocError>
         UsageFault::MapTwice => String::from_str(alloc, "flowlabel: usage: P3 MapTwice\n"),
         UsageFault::MapMissing => String::from_str(alloc, "flowlabel: usage: P2 MapMissing\n"),
         UsageFault::BadAddress => String::from_str(alloc, "flowlabel: usage: P4 BadAddress\n"),
+        UsageFault::Filter(fault) => filter_line(alloc, fault),
+        UsageFault::LabelNeedsMap => String::from_str(
+            alloc,
+            "flowlabel: usage: P5 LabelNeedsMap\n",
+        ),
         UsageFault::NoMemory => String::from_str(alloc, "flowlabel: out of memory\n"),
     }
 }
@@ -219,11 +275,14 @@ fn usage_status(fault: &UsageFault) -> u8
     match fault {
         UsageFault::Help(_) => 0,
         UsageFault::NoMemory => 3,
+        UsageFault::Filter(fault) if fault.kind == FilterFaultKind::NoMemory => 3,
         UsageFault::Refused(_)
         | UsageFault::NotUtf8
         | UsageFault::MapTwice
         | UsageFault::MapMissing
-        | UsageFault::BadAddress => 2,
+        | UsageFault::BadAddress
+        | UsageFault::Filter(_)
+        | UsageFault::LabelNeedsMap => 2,
     }
 }
 

@@ -20,6 +20,7 @@ mod label;
 mod labelled;
 pub mod laws;
 pub mod map_labels;
+mod passing;
 pub mod report;
 pub mod rows;
 mod shrink;
@@ -68,9 +69,13 @@ fn output<'a, R: Input>(
         Command::Info { .. } => report_under(alloc, None, inputs, &InfoReport),
         Command::Rows {
             labels,
+            filter,
             columns,
             ..
-        } => report_under(alloc, *labels, inputs, &RowsReport { columns: *columns }),
+        } => {
+            let columns = *columns;
+            report_under(alloc, *labels, inputs, &RowsReport { filter, columns })
+        }
         Command::Cat { labels } => runs_under(alloc, *labels, inputs),
         Command::Shrink { certificate, .. } => {
             let Some(source) = &mut inputs.map else {

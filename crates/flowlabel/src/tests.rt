@@ -1,10 +1,20 @@
 use crate::command::{Command, LabelFile, Needs};
 use crate::usage::{ClapText, UsageFault};
 use crate::words::parse;
+use flow_filter::FilterFaultKind;
 use prefix_keys::Version;
 use std::alloc::{AllocError, Global};
 use std::process::Abort;
 use std::test::Fail;
+
+fn name_of_fault(kind: FilterFaultKind) -> &'static str {
+    match kind {
+        FilterFaultKind::BadNumberList => "L1",
+        FilterFaultKind::BadRange => "L2",
+        FilterFaultKind::BadBlock => "L3",
+        FilterFaultKind::NoMemory => "L4",
+    }
+}
 
 fn name_of(answer: &Result<Command<'_>, UsageFault>) -> &'static str {
     match answer {
@@ -52,6 +62,8 @@ fn name_of(answer: &Result<Command<'_>, UsageFault>) -> &'static str {
         Err(UsageFault::MapMissing) => "P2",
         Err(UsageFault::MapTwice) => "P3",
         Err(UsageFault::BadAddress) => "P4",
+        Err(UsageFault::Filter(fault)) => name_of_fault(fault.kind),
+        Err(UsageFault::LabelNeedsMap) => "P5",
         Err(UsageFault::NoMemory) => "out of memory",
     }
 }
@@ -61,7 +73,7 @@ fn outcome(alloc: Global, line: &str) -> Result<&'static str, AllocError> {
     Ok(name_of(&parse(alloc, words.as_slice())))
 }
 
-const LINES: [(&str, &str); 42] = [
+const LINES: [(&str, &str); 54] = [
     ("flowlabel label --pmap map.txt 10.1.1.1", "label"),
     ("flowlabel label --pmap=map.txt 10.1.1.1", "label"),
     ("flowlabel label 10.1.1.1 --pmap map.txt", "label"),
@@ -90,6 +102,28 @@ const LINES: [(&str, &str); 42] = [
     ),
     ("flowlabel rows --pmap map.txt --list list.txt flows", "P3"),
     ("flowlabel info --pmap map.txt flows", "refused"),
+    ("flowlabel rows --protocol 6,17 flows", "rows"),
+    (
+        "flowlabel rows --columns flows --bytes 0-",
+        "rows in columns",
+    ),
+    ("flowlabel rows --protocol 6,256 flows", "L1"),
+    ("flowlabel rows --sport 70000 flows", "L1"),
+    ("flowlabel rows --packets 5-4 flows", "L2"),
+    ("flowlabel rows --saddress 10.0.0 flows", "L3"),
+    ("flowlabel rows --src-label B flows", "P5"),
+    ("flowlabel rows --list list.txt --any-label B flows", "rows"),
+    // The first fault is named.
+    (
+        "flowlabel rows --dst-label B --bytes x --dport x flows",
+        "L1",
+    ),
+    (
+        "flowlabel rows --pmap map.txt --list list.txt --sport x flows",
+        "P3",
+    ),
+    ("flowlabel rows --sport 1 --sport", "refused"),
+    ("flowlabel info --protocol 6 flows", "refused"),
     ("flowlabel label --list list.txt 1.2.3", "P4"),
     (
         "flowlabel check --pmap map.txt --list list.txt --cert cert.txt",

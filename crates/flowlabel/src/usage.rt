@@ -1,6 +1,7 @@
 ghost use Rattle.std.specs.Prelude.{◌≡◌, IfOk, List, ℕ};
 ghost use Rattle.std.specs.String.{string_bytes};
 
+use flow_filter::FilterFault;
 use std::alloc::AllocError;
 use std::fmt;
 use std::marker::Model;
@@ -65,6 +66,12 @@ pub enum UsageFault {
     /// P4: the word is no address.
     #[error("P4 BadAddress")]
     BadAddress,
+    /// L1 to L3: the text of a filter has not its form. L4, want of memory, is `NoMemory`.
+    #[error("a filter that can't be read")]
+    Filter(FilterFault),
+    /// P5: a filter asks for a label, and no map or list is named.
+    #[error("P5 LabelNeedsMap")]
+    LabelNeedsMap,
     /// Memory ran out.
     #[error("out of memory")]
     NoMemory,

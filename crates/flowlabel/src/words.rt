@@ -1,16 +1,20 @@
-ghost use Rattle.std.specs.Prelude.{◌≡◌, IfOk, option_map, true};
+ghost use Rattle.std.specs.Prelude.{◌≡◌, ◌≢◌, Err, IfErr, IfOk, Ok, option_map, true};
 ghost use Rattle.std.specs.Result.{result_map_both};
+ghost use Rattle.flow_filter.specs.Filters.{condition_in};
+ghost use Rattle.flow_filter.specs.Words.{words_of};
 ghost use Rattle.clap.specs.Words.{first_of, found_of, kind_of, rows_of, takes};
 ghost use Rattle.clap.specs.Walk.{texts};
 ghost use Rattle.flowlabel.specs.Definition.{flowlabel_app};
 ghost use Rattle.flowlabel.specs.Request.{IsProper, request_of, source_of};
-ghost use Rattle.flowlabel.specs.Answer.{IsAnswer, IsFaultOfKind, IsOwnAnswer, ReadsBareLine, ReadsCatLine, ReadsCertificateLine, ReadsColumnsLine, ReadsInfoLine, ReadsListLine, ReadsMapLine, ReadsRowsLine, ReadsShrinkLine, SaysOnly, address_in_rows, answer_of, answer_of_cat, answer_of_label, answer_of_rows, answer_of_shrink, file_in_rows, flows_in_rows, is_given, sources_in_rows, words_fault_of, ReadsCheckLine, answer_of_check};
+ghost use Rattle.flowlabel.specs.Answer.{IsAnswer, IsFaultOfKind, IsOwnAnswer, ReadsBareLine, ReadsCatLine, ReadsCertificateLine, ReadsColumnsLine, ReadsInfoLine, ReadsListLine, ReadsMapLine, ReadsRowsLine, ReadsShrinkLine, address_in_rows, answer_of, answer_of_cat, answer_of_label, answer_of_rows, answer_of_shrink, file_in_rows, flows_in_rows, is_given, sources_in_rows, words_fault_of, ReadsCheckLine, answer_of_check, IsUnlessMemory, condition_in_rows, words_in_rows};
+ghost use Rattle.flowlabel.specs.declared.usage.UsageFault.TheVariants.{NoMemory};
 
 use crate::command::{Command, LabelFile};
 use crate::definition::definition;
 use crate::usage::{ClapText, UsageFault};
 use clap::ArgMatches;
 use clap::error::ErrorKind;
+use flow_filter::{Filter, FilterFaultKind, FilterWords};
 use prefix_keys::{Addr, read_addr};
 use std::alloc::Global;
 use std::io;
@@ -65,7 +69,8 @@ fn labels_in<'a>(entries: &ArgMatches<'a>) -> Result<Option<LabelFile<'a>>, Usag
 
 /// The command `label`, or its first usage fault, by the entries that clap found for it.
 fn label_command<'a>(entries: &ArgMatches<'a>) -> Result<Command<'a>, UsageFault>
-    ensures { SaysOnly (answer_of_label (rows_of (found_of entries.now))) result }
+    ensures ok { IfOk result (λ command. answer_of_label (rows_of (found_of entries.now)) ≡ Ok (request_of command)) }
+    ensures err { IfErr result (λ fault. answer_of_label (rows_of (found_of entries.now)) ≡ Err fault) }
 {
     let Some(labels) = labels_in(entries)? else {
         return Err(UsageFault::MapMissing);
@@ -90,15 +95,56 @@ fn is_given(entries: &ArgMatches<'_>, flag: &str) -> bool
     text_of(entries, flag).unwrap_or("") == "true"
 }
 
+/// The texts of the filters that the line names.
+fn filter_words_in<'a>(entries: &ArgMatches<'a>) -> FilterWords<'a>
+    ensures { words_of result ≡ words_in_rows (rows_of (found_of entries.now)) }
+{
+    FilterWords {
+        protocol: text_of(entries, "protocol"),
+        sport: text_of(entries, "sport"),
+        dport: text_of(entries, "dport"),
+        saddress: text_of(entries, "saddress"),
+        daddress: text_of(entries, "daddress"),
+        packets: text_of(entries, "packets"),
+        bytes: text_of(entries, "bytes"),
+        src_label: text_of(entries, "src-label"),
+        dst_label: text_of(entries, "dst-label"),
+        any_label: text_of(entries, "any-label"),
+    }
+}
+
+/// The filter that the line states, or the fault of the first text that has not its form.
+fn filter_in<'a>(alloc: Global, entries: &ArgMatches<'a>) -> Result<Filter<'a>, UsageFault>
+    ensures ok { IfOk result (λ filter. condition_in_rows (rows_of (found_of entries.now)) ≡ Ok (condition_in filter)) }
+    ensures err { IfErr result (λ fault. fault ≢ NoMemory → condition_in_rows (rows_of (found_of entries.now)) ≡ Err fault) }
+{
+    match Filter::read(alloc, &filter_words_in(entries)) {
+        Ok(filter) => Ok(filter),
+        Err(fault) => {
+            if fault.kind == FilterFaultKind::NoMemory {
+                Err(UsageFault::NoMemory)
+            } else {
+                Err(UsageFault::Filter(fault))
+            }
+        }
+    }
+}
+
 /// The command `rows`, or its first usage fault, by the entries that clap found for it.
-fn rows_command<'a>(entries: &ArgMatches<'a>) -> Result<Command<'a>, UsageFault>
-    ensures { SaysOnly (answer_of_rows (rows_of (found_of entries.now))) result }
+fn rows_command<'a>(alloc: Global, entries: &ArgMatches<'a>) -> Result<Command<'a>, UsageFault>
+    ensures ok { IfOk result (λ command. answer_of_rows (rows_of (found_of entries.now)) ≡ Ok (request_of command)) }
+    ensures err { IfErr result (λ fault. fault ≢ NoMemory → answer_of_rows (rows_of (found_of entries.now)) ≡ Err fault) }
 {
     let labels = labels_in(entries)?;
+    let filter = filter_in(alloc, entries)?;
+    if filter.needs_map() && labels.is_none() {
+        return Err(UsageFault::LabelNeedsMap);
+    }
     let columns = is_given(entries, "columns");
     let flows = flows_in(entries);
     Ok(Command::Rows {
         labels,
+        filter,
         columns,
         flows,
     })
@@ -106,7 +152,8 @@ fn rows_command<'a>(entries: &ArgMatches<'a>) -> Result<Command<'a>, UsageFault>
 
 /// The command `cat`, or its first usage fault, by the entries that clap found for it.
 fn cat_command<'a>(entries: &ArgMatches<'a>) -> Result<Command<'a>, UsageFault>
-    ensures { SaysOnly (answer_of_cat (rows_of (found_of entries.now))) result }
+    ensures ok { IfOk result (λ command. answer_of_cat (rows_of (found_of entries.now)) ≡ Ok (request_of command)) }
+    ensures err { IfErr result (λ fault. answer_of_cat (rows_of (found_of entries.now)) ≡ Err fault) }
 {
     match labels_in(entries)? {
         Some(labels) => Ok(Command::Cat { labels }),
@@ -122,44 +169,49 @@ fn file_in<'a>(entries: &ArgMatches<'a>, id: &str) -> &'a str
 }
 
 /// The command `shrink`, by the entries that clap found for it.
-fn shrink_command<'a>(entries: &ArgMatches<'a>) -> Result<Command<'a>, UsageFault>
-    ensures { SaysOnly (answer_of_shrink (rows_of (found_of entries.now))) result }
+fn shrink_command<'a>(entries: &ArgMatches<'a>) -> Command<'a>
+    ensures { answer_of_shrink (rows_of (found_of entries.now)) ≡ Ok (request_of result) }
 {
     let map = file_in(entries, "pmap");
     let certificate = is_given(entries, "certificate");
-    Ok(Command::Shrink { map, certificate })
+    Command::Shrink { map, certificate }
 }
 
 /// The command `check`, by the entries that clap found for it.
-fn check_command<'a>(entries: &ArgMatches<'a>) -> Result<Command<'a>, UsageFault>
-    ensures { SaysOnly (answer_of_check (rows_of (found_of entries.now))) result }
+fn check_command<'a>(entries: &ArgMatches<'a>) -> Command<'a>
+    ensures { answer_of_check (rows_of (found_of entries.now)) ≡ Ok (request_of result) }
 {
-    Ok(Command::Check {
+    Command::Check {
         map: file_in(entries, "pmap"),
         list: file_in(entries, "list"),
         certificate: file_in(entries, "cert"),
-    })
+    }
 }
 
 /// The command of a subcommand, or its first usage fault, by its name and the entries that clap found for it.
-fn command_of<'a>(name: &str, entries: &ArgMatches<'a>) -> Result<Command<'a>, UsageFault>
-    ensures { SaysOnly (answer_of (name.now, rows_of (found_of entries.now))) result }
+fn command_of<'a>(
+    alloc: Global,
+    name: &str,
+    entries: &ArgMatches<'a>,
+) -> Result<Command<'a>, UsageFault>
+    ensures ok { IfOk result (λ command. answer_of (name.now, rows_of (found_of entries.now)) ≡ Ok (request_of command)) }
+    ensures err { IfErr result (λ fault. fault ≢ NoMemory → answer_of (name.now, rows_of (found_of entries.now)) ≡ Err fault) }
 {
     if name == "info" {
         let flows = flows_in(entries);
         return Ok(Command::Info { flows });
     }
     if name == "rows" {
-        return rows_command(entries);
+        return rows_command(alloc, entries);
     }
     if name == "cat" {
         return cat_command(entries);
     }
     if name == "shrink" {
-        return shrink_command(entries);
+        return Ok(shrink_command(entries));
     }
     if name == "check" {
-        return check_command(entries);
+        return Ok(check_command(entries));
     }
     label_command(entries)
 }
@@ -180,7 +232,7 @@ pub fn words_fault(kind: io::ErrorKind) -> UsageFault
 /// # Errors
 ///
 /// `Refused` or `Help` where clap refuses the line or is asked for help. Where clap takes it, the first of these:
-/// `MapTwice`, `MapMissing`, `BadAddress`. `NoMemory` where an allocation failed, in place of any other answer.
+/// `MapTwice`, `MapMissing`, `BadAddress`, `Filter` of the first filter that can't be read, `LabelNeedsMap`. `NoMemory` where an allocation failed, in place of any other answer.
 pub fn parse<'a>(alloc: Global, words: &'a [&'a str]) -> Result<Command<'a>, UsageFault>
     ensures answer { IsAnswer (texts words.entry.now) result }
     ensures proper { IfOk result (λ command. IsProper (request_of command)) }
@@ -200,7 +252,7 @@ pub fn parse<'a>(alloc: Global, words: &'a [&'a str]) -> Result<Command<'a>, Usa
     match command.try_get_matches_from(words) {
         Ok(matches) => {
             let (name, entries) = matches.subcommand().unwrap();
-            command_of(name, entries)
+            command_of(alloc, name, entries)
         }
         Err(error) => Err(fault_of_error(alloc, &error)),
     }

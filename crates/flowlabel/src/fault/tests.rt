@@ -167,7 +167,7 @@ fn names_each_fault_of_a_file(rt: HostRuntime) -> Result<(), Fail> {
     Ok(())
 }
 
-const USAGE_FAULTS: [(RunFault<'static>, u8, &str); 5] = [
+const USAGE_FAULTS: [(RunFault<'static>, u8, &str); 10] = [
     (
         RunFault::Usage(UsageFault::NotUtf8),
         2,
@@ -187,6 +187,43 @@ const USAGE_FAULTS: [(RunFault<'static>, u8, &str); 5] = [
         RunFault::Usage(UsageFault::BadAddress),
         2,
         "flowlabel: usage: P4 BadAddress\n",
+    ),
+    (
+        RunFault::Usage(UsageFault::Filter(FilterFault {
+            option: FilterOption::SourcePort,
+            kind: FilterFaultKind::BadNumberList,
+        })),
+        2,
+        "flowlabel: usage: --sport L1 BadNumberList\n",
+    ),
+    (
+        RunFault::Usage(UsageFault::Filter(FilterFault {
+            option: FilterOption::Packets,
+            kind: FilterFaultKind::BadRange,
+        })),
+        2,
+        "flowlabel: usage: --packets L2 BadRange\n",
+    ),
+    (
+        RunFault::Usage(UsageFault::Filter(FilterFault {
+            option: FilterOption::DestinationAddress,
+            kind: FilterFaultKind::BadBlock,
+        })),
+        2,
+        "flowlabel: usage: --daddress L3 BadBlock\n",
+    ),
+    (
+        RunFault::Usage(UsageFault::Filter(FilterFault {
+            option: FilterOption::Protocol,
+            kind: FilterFaultKind::NoMemory,
+        })),
+        3,
+        OUT_OF_MEMORY,
+    ),
+    (
+        RunFault::Usage(UsageFault::LabelNeedsMap),
+        2,
+        "flowlabel: usage: P5 LabelNeedsMap\n",
     ),
     (RunFault::Usage(UsageFault::NoMemory), 3, OUT_OF_MEMORY),
 ];

@@ -3,6 +3,8 @@ ghost use Rattle.std.specs.Prelude.{◌≡◌, false};
 
 use super::*;
 
+mod filters;
+
 // A template of five fields and a record.
 const ONE_RECORD: &str =
     "000a0041 60000000 00000000 00000001 0002001c 01000005 00080004 000c0004 00040001 00020004 00010004 01000015 0a000001 08080808 06 00000003 000000b4";

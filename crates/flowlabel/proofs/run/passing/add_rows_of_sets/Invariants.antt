@@ -1,0 +1,14 @@
+-- The rows of the sets before the index that pass are added.
+use Rattle.std.proofs.Common.{◌≡◌, ◌++◌, map, take}
+use Rattle.flow_filter.specs.Filters.{condition_in}
+use Rattle.flow_rows.specs.Content.{rows_of}
+use Rattle.flow_rows.specs.Row.{row_view}
+use Rattle.flowlabel.specs.Labelling.{labelling_lent}
+use Rattle.flowlabel.specs.Output.{passing}
+use Rattle.flowlabel.proofs.run.passing.add_rows_of_sets.Given as goal
+
+abbrev pub invariant-loop-set : goal.invariant-loop-set
+invariant-loop-set g l =
+    map row_view l.rows.items
+    ≡ map row_view l.initial.rows.items
+    ++ passing (condition_in l.filter) (labelling_lent g.L.Labeller.version_of g.L.Labeller.label l.fn.labels) (rows_of (take l.set-index l.sets))

@@ -1,0 +1,12 @@
+-- The rows are those of the messages before the index that pass.
+use Rattle.std.proofs.Common.{◌≡◌, map, take}
+use Rattle.flow_filter.specs.Filters.{condition_in}
+use Rattle.flow_rows.specs.Row.{row_view}
+use Rattle.flowlabel.specs.Labelling.{labelling_lent}
+use Rattle.flowlabel.specs.Output.{passing_rows}
+use Rattle.flowlabel.proofs.run.passing.passing_rows.Given as goal
+
+abbrev pub invariant-loop-message : goal.invariant-loop-message
+invariant-loop-message g l =
+    map row_view l.rows.items
+    ≡ passing_rows (condition_in l.filter) (labelling_lent g.L.Labeller.version_of g.L.Labeller.label l.fn.labels) (take l.message-index l.messages)

@@ -1,8 +1,0 @@
--- The rows of the sets before the index are added.
-use Rattle.std.proofs.Common.{◌≡◌, ◌++◌, map, take}
-use Rattle.flow_rows.specs.Content.{rows_of}
-use Rattle.flow_rows.specs.Row.{row_view}
-use Rattle.flowlabel.proofs.run.rows.add_rows_of_sets.Given as goal
-
-abbrev pub invariant-loop-set : goal.invariant-loop-set
-invariant-loop-set l = map row_view l.rows.items ≡ map row_view l.initial.rows.items ++ rows_of (take l.set-index l.sets)
