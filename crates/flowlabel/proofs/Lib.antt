@@ -6,6 +6,7 @@ pub mod EquivalentLemmas
 pub mod LabelLemmas
 pub mod LabellingLemmas
 pub mod LineLemmas
+pub mod MinimalLemmas
 pub mod OutputLemmas
 pub mod PassingLemmas
 pub mod ReportLemmas

@@ -6,8 +6,8 @@ use Rattle.clap.specs.Words.{Text, fault_of}
 use Rattle.clap.proofs.OnLiterals.{clap_on_literals}
 use Rattle.prefix_keys.specs.Text.{address_of}
 use Rattle.flowlabel.specs.Definition.{flowlabel_app}
-use Rattle.flowlabel.specs.Request.{FromList, FromMap, cat, info, rows, shrink, check}
-use Rattle.flowlabel.specs.Answer.{Answer, Answers, IsAnswer, IsUnlessMemory, ReadsBareLine, ReadsCatLine, ReadsCertificateLine, ReadsColumnsLine, ReadsInfoLine, ReadsListLine, ReadsMapLine, ReadsRowsLine, ReadsShrinkLine, address_answer, is_plain_word, own_answer, ReadsCheckLine, no_condition}
+use Rattle.flowlabel.specs.Request.{FromList, FromMap, cat, info, rows, shrink}
+use Rattle.flowlabel.specs.Answer.{Answer, Answers, IsAnswer, IsUnlessMemory, ReadsBareLine, ReadsCatLine, ReadsCertificateLine, ReadsColumnsLine, ReadsInfoLine, ReadsListLine, ReadsMapLine, ReadsRowsLine, ReadsShrinkLine, address_answer, is_plain_word, own_answer, no_condition}
 use Rattle.flowlabel.specs.declared.command.Command.{Command}
 use Rattle.flowlabel.specs.declared.usage.UsageFault.{UsageFault}
 use Rattle.flowlabel.specs.declared.usage.UsageFault.TheVariants.{Refused, NotUtf8, Help, MapTwice, MapMissing, BadAddress, Filter, LabelNeedsMap, NoMemory}
@@ -128,26 +128,6 @@ module _ (program : Text) where
   certificate_line [] h = (refl, refl)
   certificate_line (x ∷ xs) h = let e = not_true (x == 45) h in (rw (e, not_short x xs e) refl, rw (e, not_short x xs e) refl)
 
-  -- a line of `check`
-  pub check_line : (map list certificate : Text) → is_plain_word map ≡ true → is_plain_word list ≡ true → is_plain_word certificate ≡ true
-      → Answers (program ∷ codes "check" ∷ codes "--pmap" ∷ map ∷ codes "--list" ∷ list ∷ codes "--cert" ∷ certificate ∷ []) (Ok (check map list certificate))
-  unfolding flowlabel_app clap_on_literals
-  check_line [] [] [] h k l = (refl, refl)
-  check_line (x ∷ xs) [] [] h k l =
-      let e = not_true (x == 45) h in (rw (e, not_short x xs e) refl, rw (e, not_short x xs e) refl)
-  check_line [] (y ∷ ys) [] h k l =
-      let f = not_true (y == 45) k in (rw (f, not_short y ys f) refl, rw (f, not_short y ys f) refl)
-  check_line (x ∷ xs) (y ∷ ys) [] h k l =
-      let e = not_true (x == 45) h in let f = not_true (y == 45) k in (rw (e, not_short x xs e, f, not_short y ys f) refl, rw (e, not_short x xs e, f, not_short y ys f) refl)
-  check_line [] [] (z ∷ zs) h k l =
-      let g = not_true (z == 45) l in (rw (g, not_short z zs g) refl, rw (g, not_short z zs g) refl)
-  check_line (x ∷ xs) [] (z ∷ zs) h k l =
-      let e = not_true (x == 45) h in let g = not_true (z == 45) l in (rw (e, not_short x xs e, g, not_short z zs g) refl, rw (e, not_short x xs e, g, not_short z zs g) refl)
-  check_line [] (y ∷ ys) (z ∷ zs) h k l =
-      let f = not_true (y == 45) k in let g = not_true (z == 45) l in (rw (f, not_short y ys f, g, not_short z zs g) refl, rw (f, not_short y ys f, g, not_short z zs g) refl)
-  check_line (x ∷ xs) (y ∷ ys) (z ∷ zs) h k l =
-      let e = not_true (x == 45) h in let f = not_true (y == 45) k in let g = not_true (z == 45) l in (rw (e, not_short x xs e, f, not_short y ys f, g, not_short z zs g) refl, rw (e, not_short x xs e, f, not_short y ys f, g, not_short z zs g) refl)
-
 -- such a line is read so, whatever answers what the words ask for
 pub reads_map_line : (words : List Text) (r : Result Command UsageFault) → IsAnswer words r → ReadsMapLine words r
 reads_map_line words r is program map address h k e = own_only _ _ r (map_line program map address h k) (rw e at is)
@@ -175,7 +155,3 @@ reads_shrink_line words r is program file h e = own_only _ _ r (shrink_line prog
 
 pub reads_certificate_line : (words : List Text) (r : Result Command UsageFault) → IsAnswer words r → ReadsCertificateLine words r
 reads_certificate_line words r is program file h e = own_only _ _ r (certificate_line program file h) (rw e at is)
-
-pub reads_check_line : (words : List Text) (r : Result Command UsageFault) → IsAnswer words r → ReadsCheckLine words r
-reads_check_line words r is program map list certificate h k l e =
-    own_only _ _ r (check_line program map list certificate h k l) (rw e at is)

@@ -263,13 +263,6 @@ ReadsCertificateLine words result = (program file : Text) → is_plain_word file
     → words ≡ program ∷ codes "shrink" ∷ codes "--pmap" ∷ file ∷ codes "--certificate" ∷ []
     → IsUnlessMemory (Ok (shrink file true)) result
 
--- `check --pmap MAP --list LIST --cert CERTIFICATE` is answered by its files
-abbrev pub ReadsCheckLine : List Text → Result Command UsageFault → Type 0
-ReadsCheckLine words result = (program map list certificate : Text)
-    → is_plain_word map ≡ true → is_plain_word list ≡ true → is_plain_word certificate ≡ true
-    → words ≡ program ∷ codes "check" ∷ codes "--pmap" ∷ map ∷ codes "--list" ∷ list ∷ codes "--cert" ∷ certificate ∷ []
-    → IsUnlessMemory (Ok (check map list certificate)) result
-
 -- the fault comes of an error of this kind
 abbrev pub IsFaultOfKind : ErrorKind → UsageFault → Type 0
 IsFaultOfKind k (Refused text) = is_mistake k ≡ true

@@ -9,6 +9,7 @@ use Rattle.pmap_cert.specs.CertificateForm.{HasTextForm}
 use Rattle.pmap_cert.specs.CertificateModel.{CertificateModel}
 use Rattle.pmap_cert.specs.CertificateReading.{certificate_reading}
 use Rattle.pmap_cert.specs.CertificateText.{certificate_text}
+use Rattle.pmap_cert.specs.MinimalPair.{IsMinimalPair}
 use Rattle.pmap_cert.specs.declared.fault.CertFault.{CertFault}
 use Rattle.cert_check.specs.Checking.{first_fault}
 use Rattle.cert_check.specs.declared.fault.CheckFault.{CheckFault}
@@ -20,11 +21,8 @@ use Rattle.flow_rows.specs.Counts.{counts_of}
 use Rattle.flow_rows.specs.Row.{RowView}
 use Rattle.flow_filter.specs.Condition.{Condition, row_passes}
 use Rattle.pmap_print.specs.Info.{info_text}
-use Rattle.pmap_cert.specs.CertificateForm.{HasTextForm}
-use Rattle.pmap_cert.specs.CertificateModel.{CertificateModel}
-use Rattle.pmap_cert.specs.CertificateText.{certificate_text}
-use Rattle.pmap_cert.specs.MinimalPair.{IsMinimalPair}
 use Rattle.pmap_print.specs.List.{list_text}
+use Rattle.pmap_print.specs.ReadBack.{CanBeReadAgain}
 use Rattle.pmap_print.specs.Rows.{rows_text}
 use Rattle.pmap_print.specs.Runs.{IsRunsText}
 use Rattle.flowlabel.specs.Labelling.{Labelling, label_by, labelling_of_list, labelling_of_map, row_labels, label_where}
@@ -188,7 +186,7 @@ under source (cat old) = cat source
 under source (shrink map certificate) = shrink map certificate
 under source (check map list certificate) = check map list certificate
 
--- the request takes labels from a map or a list alike, if it takes any: it reads no other file but a File
+-- the request takes labels from a map or a list alike, if it takes any
 abbrev pub TakesEither : Request → Type 0
 TakesEither (label source address) = Unit {0}
 TakesEither (info flows) = Unit {0}
@@ -210,3 +208,11 @@ abbrev pub CheckIsEnough : Type 0
 CheckIsEnough = (map list certificate : List ℕ) (texts : FileTexts) (out : List ℕ) → IsOutput (check map list certificate) texts (Ok out)
     → (m : MapModel) × (l : ListModel) × ReadsMap texts.map m × ReadsList texts.list l
     × IsEquivalent l m × IsLeast m l × (out ≡ minimal_text (length l.prefixes))
+
+-- Over a map text, the printed list of its minimal pair, within the limits of a text, and the printed certificate, `check`
+-- prints the number of the list's entries
+abbrev pub CheckAcceptsMinimal : Type 0
+CheckAcceptsMinimal = (map list certificate : List ℕ) (texts : FileTexts) (m : MapModel) (l : ListModel) (c : CertificateModel)
+    → ReadsMap texts.map m → IsMinimalPair m l c → HasTextForm c → CanBeReadAgain l
+    → texts.list ≡ list_text l → texts.certificate ≡ certificate_text c
+    → IsOutput (check map list certificate) texts (Ok (minimal_text (length l.prefixes)))

@@ -6,7 +6,7 @@ ghost use Rattle.clap.specs.Words.{first_of, found_of, kind_of, rows_of, takes};
 ghost use Rattle.clap.specs.Walk.{texts};
 ghost use Rattle.flowlabel.specs.Definition.{flowlabel_app};
 ghost use Rattle.flowlabel.specs.Request.{IsProper, request_of, source_of};
-ghost use Rattle.flowlabel.specs.Answer.{IsAnswer, IsFaultOfKind, IsOwnAnswer, ReadsBareLine, ReadsCatLine, ReadsCertificateLine, ReadsColumnsLine, ReadsInfoLine, ReadsListLine, ReadsMapLine, ReadsRowsLine, ReadsShrinkLine, address_in_rows, answer_of, answer_of_cat, answer_of_label, answer_of_rows, answer_of_shrink, file_in_rows, flows_in_rows, is_given, sources_in_rows, words_fault_of, ReadsCheckLine, answer_of_check, IsUnlessMemory, condition_in_rows, words_in_rows};
+ghost use Rattle.flowlabel.specs.Answer.{IsAnswer, IsFaultOfKind, IsOwnAnswer, ReadsBareLine, ReadsCatLine, ReadsCertificateLine, ReadsColumnsLine, ReadsInfoLine, ReadsListLine, ReadsMapLine, ReadsRowsLine, ReadsShrinkLine, address_in_rows, answer_of, answer_of_cat, answer_of_label, answer_of_rows, answer_of_shrink, file_in_rows, flows_in_rows, is_given, sources_in_rows, words_fault_of, answer_of_check, condition_in_rows, words_in_rows};
 ghost use Rattle.flowlabel.specs.declared.usage.UsageFault.TheVariants.{NoMemory};
 
 use crate::command::{Command, LabelFile};
@@ -245,7 +245,6 @@ pub fn parse<'a>(alloc: Global, words: &'a [&'a str]) -> Result<Command<'a>, Usa
     ensures cat_line { ReadsCatLine (texts words.entry.now) result }
     ensures shrink_line { ReadsShrinkLine (texts words.entry.now) result }
     ensures certificate_line { ReadsCertificateLine (texts words.entry.now) result }
-    ensures check_line { ReadsCheckLine (texts words.entry.now) result }
     ensures taken { takes flowlabel_app (texts words.entry.now) ≡ true → IsOwnAnswer result }
 {
     let command = definition(alloc)?;

@@ -1,4 +1,4 @@
-ghost use Rattle.flowlabel.specs.Output.{CheckIsEnough, OneOutput, SameUnderEquivalents};
+ghost use Rattle.flowlabel.specs.Output.{CheckAcceptsMinimal, CheckIsEnough, OneOutput, SameUnderEquivalents};
 
 use cert_check::laws::no_fault_is_acceptance;
 use pmap_cert::laws::{
@@ -31,4 +31,16 @@ pub fn check_is_enough()
     ensures { CheckIsEnough }
 {
     acceptance_is_enough();
+}
+
+/// `check` accepts what is minimal: over a map text, the printed list of the map's minimal pair and its printed certificate it
+/// prints the number of the list's entries, where the list is within the limits of a text.
+pub fn check_accepts_minimal()
+    ensures { CheckAcceptsMinimal }
+{
+    pmap_cert::laws::map_text_has_its_labels();
+    pmap_cert::laws::minimal_list_is_in_order();
+    pmap_cert::laws::minimal_pair_is_accepted();
+    pmap_print::laws::printed_order_is_one();
+    pmap_print::laws::printed_list_is_read_back();
 }

@@ -3,7 +3,7 @@ use Rattle.std.specs.Prelude.{option_map}
 use Rattle.clap.specs.Words.{App, HasKind, Row, Text, fault_of, found_of, is_simple, is_simple_and_free, rows_of, subcommand_of, takes}
 use Rattle.flowlabel.specs.Answer.{answer_of}
 use Rattle.flowlabel.proofs.AnswerLemmas.{answers, fault_at, flowlabel_is_free, flowlabel_is_simple, answer_own, own, own_of_memory, subcommand_is, unless_memory}
-use Rattle.flowlabel.proofs.LineLemmas.{reads_bare_line, reads_cat_line, reads_certificate_line, reads_columns_line, reads_info_line, reads_list_line, reads_map_line, reads_rows_line, reads_shrink_line, reads_check_line}
+use Rattle.flowlabel.proofs.LineLemmas.{reads_bare_line, reads_cat_line, reads_certificate_line, reads_columns_line, reads_info_line, reads_list_line, reads_map_line, reads_rows_line, reads_shrink_line}
 use Rattle.flowlabel.proofs.RequestLemmas.{answer_is_proper}
 use Rattle.flowlabel.proofs.words.parse.Goals as goal
 
@@ -74,12 +74,6 @@ returns-in-Err-clause-rows_line c = reads_rows_line _ (Err c.fault_of_error.resu
 
 pub returns-in-Err-clause-columns_line : goal.returns-in-Err-clause-columns_line
 returns-in-Err-clause-columns_line c = reads_columns_line _ (Err c.fault_of_error.result) (returns-in-Err-clause-answer c)
-
-pub returns-in-Ok-clause-check_line : goal.returns-in-Ok-clause-check_line
-returns-in-Ok-clause-check_line c = reads_check_line _ c.command_of.result (returns-in-Ok-clause-answer c)
-
-pub returns-in-Err-clause-check_line : goal.returns-in-Err-clause-check_line
-returns-in-Err-clause-check_line c = reads_check_line _ (Err c.fault_of_error.result) (returns-in-Err-clause-answer c)
 
 pub returns-in-Ok-clause-proper : goal.returns-in-Ok-clause-proper
 returns-in-Ok-clause-proper c = answer_is_proper c.command_of.result
