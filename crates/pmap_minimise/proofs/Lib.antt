@@ -5,3 +5,4 @@ pub mod Entered
 pub mod Distinct
 pub mod Whole
 pub mod Outlined
+pub mod Pended

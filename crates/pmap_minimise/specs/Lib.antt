@@ -3,3 +3,4 @@ pub mod Certified
 pub mod Entered
 pub mod Shortest
 pub mod Outline
+pub mod Pending

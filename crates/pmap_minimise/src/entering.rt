@@ -13,6 +13,7 @@ ghost use Rattle.pmap_cert.specs.Node.{HasNumberForm, tree_of};
 ghost use Rattle.label_trie.specs.Leaf.{number_of};
 ghost use Rattle.pmap_minimise.specs.Entered.{AddsEntries};
 ghost use Rattle.pmap_minimise.specs.Numbers.{IsOwn, IsSound, keeps};
+ghost use Rattle.pmap_minimise.specs.Pending.{IsEntered, IsSoundAt};
 
 use crate::certifying::labels_of;
 use pmap_cert::Node;
@@ -58,9 +59,53 @@ fn push_own(
     Ok(least)
 }
 
-/// Adds the entries of a node of this block and of those below it, by rising first address. The label is what the node
+/// A node whose entries, with those of the nodes below it, are still to be added: its block, and the label that it
 /// inherits from above.
+#[derive(Clone, Copy)]
+pub struct Pending<'a> {
+    node: &'a Node,
+    block: Block,
+    inherited: Option<LabelId>,
+}
+
+// Adds the own entry of a node, and puts the nodes of its halves onto the stack, the lower one last.
+fn enter<'a>(
+    entries: &mut Vec<Entry>,
+    pending: &mut Vec<Pending<'a>>,
+    place: Pending<'a>,
+) -> Result<(), AllocError>
+    requires sound { IsSoundAt place }
+    ensures { OnOk result (IsEntered place.entry pending.old.items pending.new.items entries.old.items entries.new.items) }
+{
+    let Pending {
+        node,
+        block,
+        inherited,
+    } = place;
+    let label = push_own(entries, labels_of(node), block, inherited)?;
+    if let Node::Inner { left, right, .. } = node {
+        let Some((low, high)) = block.halves() else {
+            unreachable!()
+        };
+        pending.push(Pending {
+            node: right,
+            block: high,
+            inherited: Some(label),
+        })?;
+        pending.push(Pending {
+            node: left,
+            block: low,
+            inherited: Some(label),
+        })?;
+    }
+    Ok(())
+}
+
+/// Adds the entries of a node of this block and of those below it, by rising first address. The label is what the node
+/// inherits from above. The nodes are met in the order of the certificate's lines, from the first to the last; at most one
+/// upper half for each bit of the address waits on the stack.
 pub fn push_entries(
+    alloc: Global,
     entries: &mut Vec<Entry>,
     node: &Node,
     block: Block,
@@ -69,13 +114,14 @@ pub fn push_entries(
     requires sound { IsSound node.now (width_of block.version - block.len) }
     ensures { OnOk result (AddsEntries node.now block inherited entries.old.items entries.new.items) }
 {
-    let label = push_own(entries, labels_of(node), block, inherited)?;
-    if let Node::Inner { left, right, .. } = node {
-        let Some((low, high)) = block.halves() else {
-            unreachable!()
-        };
-        push_entries(entries, left, low, Some(label))?;
-        push_entries(entries, right, high, Some(label))?;
+    let mut pending = Vec::new(alloc);
+    pending.push(Pending {
+        node,
+        block,
+        inherited,
+    })?;
+    while let Some(place) = pending.pop() {
+        enter(entries, &mut pending, place)?;
     }
     Ok(())
 }

@@ -78,7 +78,7 @@ fn shortest_list(
 {
     let _labels = map.labels.len();
     let mut items = Vec::new(alloc);
-    push_entries(&mut items, root, whole, None)?;
+    push_entries(alloc, &mut items, root, whole, None)?;
     Ok(PrefixList {
         version: map.version,
         name: copy_name(alloc, &map.name)?,
