@@ -5,4 +5,5 @@ pub mod Entered
 pub mod Distinct
 pub mod Whole
 pub mod Outlined
+pub mod Walked
 pub mod Pended

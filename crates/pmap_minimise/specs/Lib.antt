@@ -3,4 +3,5 @@ pub mod Certified
 pub mod Entered
 pub mod Shortest
 pub mod Outline
+pub mod Walk
 pub mod Pending
