@@ -182,9 +182,3 @@ sound-halves (Inner' cost set p l q r) left right block low high halves low_half
       subst (λ (n : Node). IsSound n (width_of low.version - low.len)) halves.0 inner.1,
       subst (λ (n : Node). IsSound n (width_of high.version - high.len)) halves.1 (subst (λ (k : ℕ). IsSound r k) (omega arith) inner.2),
     )
-
--- an inner node has room
-pub sound-room : (node left right : Node) (room : ℕ) → HasHalves node left right → IsSound node room → 0 < room
-sound-room (Leaf x) left right room halves sound = absurd halves
-sound-room (Inner' cost set p l q r) left right zero halves sound = absurd sound
-sound-room (Inner' cost set p l q r) left right (suc room) halves sound = omega arith

@@ -7,3 +7,4 @@ pub mod Whole
 pub mod Outlined
 pub mod Walked
 pub mod Pended
+pub mod Laid

@@ -5,3 +5,4 @@ pub mod Shortest
 pub mod Outline
 pub mod Walk
 pub mod Pending
+pub mod Laid

@@ -123,6 +123,6 @@ pub fn certified(alloc: Global, place: &Cursor) -> Result<Node, AllocError>
     ensures { IfOk result (IsCertified place.now.block place.now.leaves) }
 {
     let mut parts = Vec::new(alloc);
-    push_parts(&mut parts, place)?;
+    push_parts(alloc, &mut parts, place)?;
     assembled(alloc, parts.as_slice())
 }
