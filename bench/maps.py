@@ -4,7 +4,17 @@ The orders sorted and shuffled are like a dump of a routing table. Prefixes have
 Internet: most are /24, then come /16 to /23, and few are shorter. A sorted text has them by address and then by length, so
 that the longer of two nested prefixes stands later and counts. A shuffled one has the same lines in no order.
 
+So are those with labels as neighbours share them, for which a shorter list is worth while:
+
+- routes: sorted, with some thousand labels, of which a prefix mostly has that of the one before;
+- regions: the same with 250 labels;
+- single: the same with one label;
+- distinct: sorted, each prefix with a label of its own;
+- striped: neighbouring ranges of 1 to 64 addresses with two labels in turn.
+
 The others are over IPv6:
+
+- chains: round each of some random addresses blocks of 100 lengths, one inside the other, with three labels in turn;
 
 - ranges: each line has the first and the last address of some neighbouring /48 prefixes out of 2000::/3, in no order;
 - equal: each line has the same address;
@@ -27,6 +37,12 @@ SHARES = {
     8: 1, 9: 1, 10: 1, 11: 1, 12: 1, 13: 1, 14: 2, 15: 2,
     16: 14, 17: 9, 18: 15, 19: 26, 20: 45, 21: 52, 22: 110, 23: 103, 24: 616,
 }
+# How many labels the orders have whose neighbours share labels.
+SHARED_LABELS = {"routes": 4000, "regions": 250, "single": 1}
+# How many of a hundred prefixes have the label of the one before.
+SHARING = 70
+# The lengths of the blocks round one address.
+CHAIN = range(29, 129)
 # 2001:db8:0:0:8000::, of the block that is kept for documents (RFC 3849).
 MIDDLE = 0x2001_0DB8_0000_0000_8000_0000_0000_0000
 # The hash multiplies the exclusive or of a key's first 64 bits and this number, which here is 0.
@@ -38,9 +54,9 @@ def text_of(value):
     return str(ipaddress.IPv6Address(value))
 
 
-def labels(rng):
-    """Some hundred names of networks, each with a number that is kept for private use (RFC 6996)."""
-    return [f"{rng.choice(COUNTRIES)} AS{64512 + number}" for number in range(LABELS)]
+def labels(rng, count=LABELS):
+    """Names of networks. Of some hundred each has a number that is kept for private use (RFC 6996)."""
+    return [f"{rng.choice(COUNTRIES)} AS{64512 + number}" for number in range(count)]
 
 
 def prefixes(rng, count):
@@ -85,6 +101,54 @@ def addresses(rng, names, first_half):
         yield f"{text_of(first_half() << 64 | rng.getrandbits(64))}/128 {rng.choice(names)}"
 
 
+def chains(rng, names, count):
+    """The lines of so many blocks, many of them round one address, the longer ones later."""
+    while True:
+        address = 1 << 125 | rng.getrandbits(125)
+        for length in CHAIN:
+            if count == 0:
+                return
+            count -= 1
+            host_bits = 128 - length
+            yield f"{text_of(address >> host_bits << host_bits)}/{length} {names[length % 3]}"
+
+
+def dotted(value):
+    """The text of an IPv4 address."""
+    return f"{value >> 24}.{value >> 16 & 255}.{value >> 8 & 255}.{value & 255}"
+
+
+def shared(rng, names, count):
+    """The lines of so many prefixes, each mostly with the label of the one before."""
+    name = names[0]
+    for value, length in prefixes(rng, count):
+        if rng.randrange(100) >= SHARING:
+            name = rng.choice(names)
+        yield f"{dotted(value)}/{length} {name}"
+
+
+def striped(rng, names, count):
+    """The lines of so many neighbouring ranges with two labels in turn."""
+    low = 1 << 24
+    for number in range(count):
+        high = low + rng.randrange(64)
+        yield f"{dotted(low)} {dotted(high)} {names[number % 2]}"
+        low = high + 1
+
+
+def distinct(rng, count):
+    """The lines of so many prefixes, each with a label of its own."""
+    for number, (value, length) in enumerate(prefixes(rng, count)):
+        yield f"{dotted(value)}/{length} network {number}"
+
+
+def lines_with_labels(rng, count, order):
+    """The lines of a text over IPv4 for a shorter list."""
+    if order == "striped":
+        return striped(rng, labels(rng), count)
+    return shared(rng, labels(rng, SHARED_LABELS[order]), count)
+
+
 def ipv6_lines(rng, names, count, order):
     """The lines of a text over IPv6 below its mode."""
     match order:
@@ -96,6 +160,8 @@ def ipv6_lines(rng, names, count, order):
             return nested(names, count)
         case "alternating":
             return alternating(names, count)
+        case "chains":
+            return chains(rng, names, count)
         case "list":
             return itertools.islice(addresses(rng, names, lambda: 1 << 61 | rng.getrandbits(61)), count)
         case "colliding":
@@ -110,13 +176,22 @@ def ipv4_lines(rng, names, count, order):
     if order == "shuffled":
         rng.shuffle(found)
     for value, length in found:
-        dotted = f"{value >> 24}.{value >> 16 & 255}.{value >> 8 & 255}.{value & 255}"
-        yield f"{dotted}/{length} {rng.choice(names)}"
+        yield f"{dotted(value)}/{length} {rng.choice(names)}"
 
 
 def lines(count, order):
     """The lines of a text."""
     rng = random.Random(SEED)
+    if order == "distinct":
+        # With a default there would be a label more than a text may have.
+        yield "# made by bench/maps.py"
+        yield from distinct(rng, count - 1)
+        return
+    if order in ("striped", *SHARED_LABELS):
+        yield "# made by bench/maps.py"
+        yield "default unassigned"
+        yield from lines_with_labels(rng, count - 2, order)
+        return
     names = labels(rng)
     if order in ("sorted", "shuffled"):
         yield "# made by bench/maps.py"

@@ -1,5 +1,5 @@
 -- The places of a trie whose parts are still to be added.
-use Rattle.std.proofs.Common.{◌≡◌, ℕ, zero, suc, ◌+◌, ◌*◌, ◌-◌, ◌<◌, ◌∙◌, List, [], ◌∷◌, ◌++◌, IsSome, Some, sym, ap, subst, arith}
+use Rattle.std.proofs.Common.{◌≡◌, ℕ, zero, suc, ◌+◌, ◌-◌, ◌<◌, List, [], ◌∷◌, ◌++◌, IsSome, Some, ap, arith}
 use Rattle.prefix_keys.specs.Version.{width_of}
 use Rattle.pmap_text.specs.declared.label.LabelId.{LabelId}
 use Rattle.label_trie.specs.CursorModel.{CursorModel}

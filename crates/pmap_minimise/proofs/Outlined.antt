@@ -11,7 +11,7 @@ use Rattle.label_trie.specs.Parts.{IsDivided}
 use Rattle.label_trie.specs.TrieModel.{LeafModel}
 use Rattle.pmap_minimise.specs.Certified.{IsCertified}
 use Rattle.pmap_minimise.specs.Numbers.{IsJoined, cost_of, set_of}
-use Rattle.pmap_minimise.specs.Outline.{AddsOutline, AreNodesFrom, AreStacked, AreWhole, Fork, HasTwoNodes, IsAdded, IsNodeFor, IsOutline, IsPlanOf, IsReady, Plan, Tip, forked, parts_of, plans_of, tips}
+use Rattle.pmap_minimise.specs.Outline.{AddsOutline, AreNodesFrom, AreStacked, AreWhole, Fork, IsAdded, IsNodeFor, IsOutline, IsPlanOf, IsReady, Plan, Tip, forked, parts_of, plans_of, tips}
 use Rattle.pmap_minimise.specs.declared.outline.Part.{Part}
 use Rattle.pmap_minimise.specs.declared.outline.Part.TheVariants.{Divided, Labelled}
 use Rattle.pmap_minimise.proofs.Joined.{joined-certified, leaf-certified}

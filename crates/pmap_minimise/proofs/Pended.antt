@@ -39,7 +39,7 @@ inner-entered place low high before between after old new ids id halves is own l
     let sounds = sound-halves place.node.now low.node.now high.node.now place.block low.block high.block halves low_half high_half sound_place in
     halves-visited AddsPending IsSoundAt nodes_at place low high before between after old new
     (λ middle final lower upper.
-        inner-adds place.node.now low.node.now high.node.now place.block low.block high.block place.inherited old new middle final ids id halves is own low_half high_half
-        (subst (λ (i : Option LabelId). AddsEntries low.node.now low.block i new middle) low_label lower)
-        (subst (λ (i : Option LabelId). AddsEntries high.node.now high.block i middle final) high_label upper))
+    inner-adds place.node.now low.node.now high.node.now place.block low.block high.block place.inherited old new middle final ids id halves is own low_half high_half
+    (subst (λ (i : Option LabelId). AddsEntries low.node.now low.block i new middle) low_label lower)
+    (subst (λ (i : Option LabelId). AddsEntries high.node.now high.block i middle final) high_label upper))
     sounds.0 sounds.1 (halves-nodes place.node.now low.node.now high.node.now halves) put_high put_low

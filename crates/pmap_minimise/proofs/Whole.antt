@@ -1,5 +1,5 @@
 -- The map's label table has the map's labels, and a list and a certificate by numbers that are the map's minimal pair.
-use Rattle.std.proofs.Common.{◌≡◌, ℕ, ◌+◌, ◌-◌, ◌<◌, ◌∙◌, List, [], ◌∷◌, ◌++◌, Option, None, Some, All, IsTrue, length, map, get_or, refl, sym, ap, subst, arith}
+use Rattle.std.proofs.Common.{◌≡◌, ℕ, ◌-◌, ◌<◌, ◌∙◌, List, [], ◌++◌, None, IsTrue, length, map, refl, sym, ap, subst, arith}
 use Rattle.std.proofs.lemmas.List.Elements.{All-map, All-weaker}
 use Rattle.std.proofs.lemmas.List.Folds.{list_any_at}
 use Rattle.std.proofs.lemmas.Option.{none-some, unwrap_or-slice_get}
@@ -7,7 +7,7 @@ use Rattle.std.specs.Str.{bytes_eq}
 use Rattle.prefix_keys.specs.Version.{width_of}
 use Rattle.prefix_keys.specs.declared.block.Block.{Block}
 use Rattle.pmap_text.specs.Label.{IsLabelTable}
-use Rattle.pmap_text.specs.ListModel.{ListModel, Prefix}
+use Rattle.pmap_text.specs.ListModel.{ListModel}
 use Rattle.pmap_text.specs.MapModel.{Label, MapModel}
 use Rattle.pmap_text.specs.MapText.{map_of, mapping_of, text_at}
 use Rattle.pmap_text.specs.PrefixList.{prefix_of}

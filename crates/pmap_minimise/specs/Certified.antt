@@ -1,4 +1,4 @@
-use Rattle.std.specs.Prelude.{◌≡◌, ℕ, ◌-◌, ◌<◌, List, All, length}
+use Rattle.std.specs.Prelude.{ℕ, ◌-◌, ◌<◌, List, All, length}
 use Rattle.std.specs.Option.{ForSome}
 use Rattle.prefix_keys.specs.Version.{width_of}
 use Rattle.prefix_keys.specs.declared.block.Block.{Block}

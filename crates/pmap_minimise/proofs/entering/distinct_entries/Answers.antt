@@ -1,4 +1,4 @@
-use Rattle.std.proofs.Common.{◌≡◌, ◌∙◌, List, ap, take, arith}
+use Rattle.std.proofs.Common.{◌∙◌, List, ap, take, arith}
 use Rattle.pmap_text.specs.ListEntries.{has_entry}
 use Rattle.pmap_text.specs.declared.entry.Entry.{Entry}
 use Rattle.pmap_minimise.proofs.Distinct.{new-block}

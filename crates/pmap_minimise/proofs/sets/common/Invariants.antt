@@ -1,4 +1,4 @@
-use Rattle.std.proofs.Common.{ℕ, ◌+◌, length}
+use Rattle.std.proofs.Common.{◌+◌, length}
 use Rattle.pmap_minimise.specs.Numbers.{numbers_of}
 use Rattle.pmap_minimise.proofs.Merged.{IsMerging}
 use Rattle.pmap_minimise.proofs.sets.common.Given as goal
