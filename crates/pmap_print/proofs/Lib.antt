@@ -12,3 +12,4 @@ pub mod Again
 pub mod MapTexts
 pub mod FewLabels
 pub mod MinimalLists
+pub mod GroupLines

@@ -9,3 +9,4 @@ pub mod Order
 pub mod List
 pub mod Sorting
 pub mod ReadBack
+pub mod Groups

@@ -12,6 +12,8 @@ pub enum Cell<'a> {
     Address(Addr),
     /// A number, in decimal.
     Number(u64),
+    /// A number that may have more than 64 bits, in decimal.
+    Total(u128),
     /// A text as it is.
     Bytes(&'a [u8]),
 }
@@ -25,6 +27,14 @@ pub fn print_number(out: &mut Vec<u8>, number: u64) -> Result<(), AllocError>
     out.extend_from_slice(buffer.format(number).as_bytes())
 }
 
+// Appends a number that may have more than 64 bits, in decimal.
+fn print_total(out: &mut Vec<u8>, total: u128) -> Result<(), AllocError>
+    ensures { OnOk result (out.new.items ≡ out.old.items ++ decimal total) }
+{
+    let mut buffer = Buffer::new();
+    out.extend_from_slice(buffer.format(total).as_bytes())
+}
+
 /// Appends the text of a cell.
 #[inline]
 pub fn print_cell(out: &mut Vec<u8>, cell: &Cell<'_>) -> Result<(), AllocError>
@@ -33,6 +43,7 @@ pub fn print_cell(out: &mut Vec<u8>, cell: &Cell<'_>) -> Result<(), AllocError>
     match cell {
         Cell::Address(addr) => print_addr(out, *addr),
         Cell::Number(number) => print_number(out, *number),
+        Cell::Total(total) => print_total(out, *total),
         Cell::Bytes(bytes) => out.extend_from_slice(bytes),
     }
 }

@@ -1,13 +1,14 @@
 //! The printed texts of values.
 //!
 //! It stands on the crates of what it prints. `print_rows` gives the text of flow rows, with labels or without, in columns or
-//! not, `print_info` that of counts, `print_list` that of a prefix list, and `print_runs` that of the runs of leaves. The layer above may rely on this: the text is the
-//! function of the printed list that the definitions say, byte for byte. Nothing else is answered than that text or
-//! want of memory. By the laws in `laws` the printed text of a list is read back, and that of a minimal pair's list as one for
-//! which the pair's certificate is accepted.
+//! not, `print_groups` that of groups, `print_info` that of counts, `print_list` that of a prefix list, and `print_runs` that
+//! of the runs of leaves. The layer above may rely on this: the text is the function of the printed list that the
+//! definitions say, byte for byte. Nothing else is answered than that text or want of memory. By the laws in `laws` the
+//! printed text of a list is read back, and that of a minimal pair's list as one for which the pair's certificate is accepted.
 #![tactic(auto)]
 
 mod cell;
+mod groups;
 mod info;
 mod labels;
 pub mod laws;
@@ -16,6 +17,7 @@ mod rows;
 mod runs;
 mod table;
 
+pub use groups::print_groups;
 pub use info::print_info;
 pub use labels::RowLabels;
 pub use list::print_list;

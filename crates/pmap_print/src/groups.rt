@@ -1,0 +1,137 @@
+ghost use Rattle.std.specs.Prelude.{◌≡◌, ◌+◌, All, IfOk, OnOk, length, map, slice_index};
+ghost use Rattle.flow_uniq.specs.Kept.{group_model};
+ghost use Rattle.flow_uniq.specs.Parts.{part_model};
+ghost use Rattle.flow_uniq.specs.Sorted.{shown_groups};
+ghost use Rattle.pmap_print.specs.Cell.{cell_text};
+ghost use Rattle.pmap_print.specs.Groups.{group_fields, group_lines, group_titles, groups_text, part_text};
+ghost use Rattle.pmap_print.specs.Table.{filled_line, table_lines};
+
+use crate::cell::Cell;
+use crate::table::{print_line, widen};
+use flow_uniq::{Group, Groups, KeyField, KeyPart};
+use std::alloc::{AllocError, Global};
+
+// How many columns the totals of a group have.
+const TOTALS: usize = 3;
+
+// The cell of a part of a key. Without a label there is nothing in it.
+fn part_cell(part: &KeyPart) -> Cell<'_>
+    ensures { cell_text result ≡ part_text (part_model part.now) }
+{
+    match part {
+        KeyPart::Address(addr) => Cell::Address(*addr),
+        KeyPart::Number(number) => Cell::Number(u64::from(*number)),
+        KeyPart::Label(label) => Cell::Bytes(label.text().unwrap_or(b"")),
+    }
+}
+
+// The cells of the title, in place of those that were there.
+fn fill_title(cells: &mut Vec<Cell<'_>>, fields: &[KeyField]) -> Result<(), AllocError>
+    ensures { OnOk result (map cell_text cells.new.items ≡ group_titles fields.now) }
+{
+    cells.clear();
+    for field in fields {
+        cells.push(Cell::Bytes(field.name().as_bytes()))?;
+    }
+    cells.push(Cell::Bytes(b"records"))?;
+    cells.push(Cell::Bytes(b"packets"))?;
+    cells.push(Cell::Bytes(b"bytes"))?;
+    Ok(())
+}
+
+// The cells of a group, in place of those that were there.
+fn fill_group<'a>(cells: &mut Vec<Cell<'a>>, group: &Group<'a>) -> Result<(), AllocError>
+    ensures { OnOk result (map cell_text cells.new.items ≡ group_fields (group_model group.now)) }
+{
+    cells.clear();
+    let key = group.key;
+    for part in key {
+        cells.push(part_cell(part))?;
+    }
+    cells.push(Cell::Number(group.totals.records))?;
+    cells.push(Cell::Total(group.totals.packets))?;
+    cells.push(Cell::Total(group.totals.octets))?;
+    Ok(())
+}
+
+// The widths of the columns of groups with their title; 0 where the fields are to stand as they are.
+fn column_widths<'a>(
+    alloc: Global,
+    cells: &mut Vec<Cell<'a>>,
+    fields: &[KeyField],
+    groups: &[Group<'a>],
+    columns: bool,
+) -> Result<Vec<usize>, AllocError>
+    requires { All (λ g. length g.key.now ≡ length fields.now) groups.now }
+    ensures len { IfOk result (λ widths. length widths.items ≡ length fields.now + 3) }
+    ensures widths { let lines = group_lines fields.now (map group_model groups.now) in
+        IfOk result (λ widths. map (filled_line (slice_index widths.items)) lines ≡ table_lines columns lines) }
+{
+    let mut widths = vec![in alloc; 0usize; fields.len() + TOTALS]?;
+    if !columns {
+        return Ok(widths);
+    }
+    let mut scratch = Vec::new(alloc);
+    fill_title(cells, fields)?;
+    widen(widths.as_mut_slice(), &mut scratch, cells.as_slice())?;
+    for (i, group) in groups.iter().enumerate() {
+        fill_group(cells, group)?;
+        widen(widths.as_mut_slice(), &mut scratch, cells.as_slice())?;
+    }
+    Ok(widths)
+}
+
+// The groups in the order in which they are shown.
+fn shown(alloc: Global, groups: &Groups, sorted: bool) -> Result<Vec<Group<'_>>, AllocError>
+    ensures { IfOk result (λ shown. map group_model shown.items ≡ shown_groups sorted groups.now.groups) }
+{
+    if sorted {
+        return groups.sorted();
+    }
+    let mut shown = Vec::with_capacity(alloc, groups.group_count())?;
+    for place in 0..groups.group_count() {
+        if let Some(group) = groups.group(place) {
+            shown.push(group)?;
+        }
+    }
+    Ok(shown)
+}
+
+// The text of a list of groups.
+fn print_shown<'a>(
+    alloc: Global,
+    fields: &[KeyField],
+    groups: &[Group<'a>],
+    columns: bool,
+) -> Result<Vec<u8>, AllocError>
+    requires { All (λ g. length g.key.now ≡ length fields.now) groups.now }
+    ensures { IfOk result (λ out. out.items ≡ groups_text fields.now (map group_model groups.now) columns) }
+{
+    let mut cells: Vec<Cell<'a>> = Vec::new(alloc);
+    let widths = column_widths(alloc, &mut cells, fields, groups, columns)?;
+    let mut scratch = Vec::new(alloc);
+    let mut out = Vec::new(alloc);
+    fill_title(&mut cells, fields)?;
+    print_line(&mut out, &mut scratch, cells.as_slice(), widths.as_slice())?;
+    for (i, group) in groups.iter().enumerate() {
+        fill_group(&mut cells, group)?;
+        print_line(&mut out, &mut scratch, cells.as_slice(), widths.as_slice())?;
+    }
+    Ok(out)
+}
+
+/// The text of groups: a title, and a line for each group with the parts of its key and its totals. They stand in the
+/// order of their first rows, or `sorted` by their keys. With `columns` each field is filled with spaces on the left to
+/// the width of its column.
+pub fn print_groups(
+    alloc: Global,
+    groups: &Groups,
+    sorted: bool,
+    columns: bool,
+) -> Result<Vec<u8>, AllocError>
+    ensures { IfOk result (λ out. out.items
+        ≡ groups_text groups.now.fields (shown_groups sorted groups.now.groups) columns) }
+{
+    let shown = shown(alloc, groups, sorted)?;
+    print_shown(alloc, groups.fields(), shown.as_slice(), columns)
+}
