@@ -1,5 +1,5 @@
 -- The lines of groups, one by one.
-use Rattle.std.proofs.Common.{ℕ, zero, suc, Bool, true, false, Option, Some, None, subst, drop, if◌then◌else◌, ◌≡◌, ◌+◌, ◌<◌, ◌≤◌, ◌∙◌, List, [], ◌∷◌, ◌++◌, All, length, map, take, get_or, add-one, ap, sym, refl, arith}
+use Rattle.std.proofs.Common.{ℕ, zero, suc, Bool, true, false, Some, None, subst, drop, if◌then◌else◌, ◌≡◌, ◌+◌, ◌<◌, ◌≤◌, ◌∙◌, List, [], ◌∷◌, ◌++◌, All, length, map, take, get_or, add-one, ap, sym, refl, arith}
 use Rattle.std.specs.Prelude.{decimal}
 use Rattle.std.specs.List.{slice_get}
 use Rattle.std.proofs.lemmas.List.{append-nil, drop_all, get_or-map, length-append, length-map, map_push, take_all, take_more}
@@ -13,7 +13,7 @@ use Rattle.flow_uniq.specs.Kept.{group_model}
 use Rattle.flow_uniq.specs.Parts.{part_model}
 use Rattle.flow_uniq.specs.Sorted.{in_order, is_before, shown_groups, with_in_order}
 use Rattle.pmap_print.specs.Groups.{group_fields, group_lines, group_titles, part_text, total_titles}
-use Rattle.pmap_print.specs.Table.{Line, filled_line}
+use Rattle.pmap_print.specs.Table.{filled_line}
 use Rattle.pmap_print.proofs.Filled.{filled_line-same}
 
 pub length-group_titles : (fields : List KeyField) → length (group_titles fields) ≡ length fields + 3

@@ -74,7 +74,7 @@ fn column_widths<'a>(
     let mut scratch = Vec::new(alloc);
     fill_title(cells, fields)?;
     widen(widths.as_mut_slice(), &mut scratch, cells.as_slice())?;
-    for (i, group) in groups.iter().enumerate() {
+    for group in groups {
         fill_group(cells, group)?;
         widen(widths.as_mut_slice(), &mut scratch, cells.as_slice())?;
     }
@@ -113,7 +113,7 @@ fn print_shown<'a>(
     let mut out = Vec::new(alloc);
     fill_title(&mut cells, fields)?;
     print_line(&mut out, &mut scratch, cells.as_slice(), widths.as_slice())?;
-    for (i, group) in groups.iter().enumerate() {
+    for group in groups {
         fill_group(&mut cells, group)?;
         print_line(&mut out, &mut scratch, cells.as_slice(), widths.as_slice())?;
     }

@@ -1,4 +1,4 @@
-use Rattle.std.proofs.Common.{ℕ, ◌≡◌, ◌+◌, ◌<◌, List, Bool, length, map, sym, ap, ◌∙◌, arith}
+use Rattle.std.proofs.Common.{ℕ, ◌≡◌, ◌+◌, List, Bool, length, map, sym, ap, ◌∙◌, arith}
 use Rattle.std.specs.Prelude.{slice_index}
 use Rattle.std.proofs.lemmas.List.{length-map}
 use Rattle.flow_uniq.specs.Kept.{group_model}
@@ -16,43 +16,43 @@ returns-then-not-columns-clause-widths c =
     (λ k. ap (λ (l : List ℕ). slice_index l k) (c.in_ok-widths.ensures.items_if_clones_equal (λ y h. h)) ∙ slice_index-zeros _ k)
     ∙ ap (λ (b : Bool). table_lines b (group_lines c.args.fields.now (map group_model c.args.groups.now))) (sym c.if-not-columns.true)
 
-pub widen-requires-in-loop-i : goal.widen-requires-in-loop-i
-widen-requires-in-loop-i c =
-    let parts : length (group_model c.index-groups-i.result).key ≡ length c.args.fields.now
-    = parts_at (length c.args.fields.now) c.args.groups.now c.loop-i.i c.index-groups-i.result c.requires c.index-groups-i.is c.loop-i-test.true in
-    let cells : length c.as_slice-in-loop-i.result.now ≡ length c.args.fields.now + 3
-    = ap length c.as_slice-in-loop-i.ensures.value ∙ sym (length-map c.fill_group.new.cells.items cell_text) ∙ ap length c.in_ok-fill_group.ensures
-    ∙ length-group_fields (group_model c.index-groups-i.result) (length c.args.fields.now) parts in
-    let widths : length c.as_mut_slice-in-loop-i.result.now ≡ length c.args.fields.now + 3
-    = ap length c.as_mut_slice-in-loop-i.ensures.value ∙ c.loop-i.invariant.long in
+pub widen-requires-in-loop-group : goal.widen-requires-in-loop-group
+widen-requires-in-loop-group c =
+    let parts : length (group_model c.group-item.result).key ≡ length c.args.fields.now
+    = parts_at (length c.args.fields.now) c.args.groups.now c.loop-group.group-index c.group-item.result c.requires c.group-item.is c.loop-group-test.true in
+    let cells : length c.as_slice-in-loop-group.result.now ≡ length c.args.fields.now + 3
+    = ap length c.as_slice-in-loop-group.ensures.value ∙ sym (length-map c.fill_group.new.cells.items cell_text) ∙ ap length c.in_ok-fill_group.ensures
+    ∙ length-group_fields (group_model c.group-item.result) (length c.args.fields.now) parts in
+    let widths : length c.as_mut_slice-in-loop-group.result.now ≡ length c.args.fields.now + 3
+    = ap length c.as_mut_slice-in-loop-group.ensures.value ∙ c.loop-group.invariant.long in
     omega (arith, cells, widths)
 
-pub loop-i-preserved : goal.loop-i-preserved
-loop-i-preserved c =
+pub loop-group-preserved : goal.loop-group-preserved
+loop-group-preserved c =
     let lines : List Line = group_lines c.args.fields.now (map group_model c.args.groups.now) in
-    let parts : length (group_model c.index-groups-i.result).key ≡ length c.args.fields.now
-    = parts_at (length c.args.fields.now) c.args.groups.now c.loop-i.i c.index-groups-i.result c.requires c.index-groups-i.is c.loop-i-test.true in
-    let kept : length c.widen-in-loop-i.new.widths ≡ length c.as_mut_slice-in-loop-i.result.now = omega (arith, c.widen-in-loop-i.auto.widths) in
-    let same = whole_slice c.loop-i.widths.len c.widen-in-loop-i.new.widths c.as_mut_slice-in-loop-i.result.now c.loop-i.widths.items kept
-    c.as_mut_slice-in-loop-i.ensures.len c.as_mut_slice-in-loop-i.ensures.value in
+    let parts : length (group_model c.group-item.result).key ≡ length c.args.fields.now
+    = parts_at (length c.args.fields.now) c.args.groups.now c.loop-group.group-index c.group-item.result c.requires c.group-item.is c.loop-group-test.true in
+    let kept : length c.widen-in-loop-group.new.widths ≡ length c.as_mut_slice-in-loop-group.result.now = omega (arith, c.widen-in-loop-group.auto.widths) in
+    let same = whole_slice c.loop-group.widths.len c.widen-in-loop-group.new.widths c.as_mut_slice-in-loop-group.result.now c.loop-group.widths.items kept
+    c.as_mut_slice-in-loop-group.ensures.len c.as_mut_slice-in-loop-group.ensures.value in
     record {
-      long = ap length same ∙ kept ∙ ap length c.as_mut_slice-in-loop-i.ensures.value ∙ c.loop-i.invariant.long;
+      long = ap length same ∙ kept ∙ ap length c.as_mut_slice-in-loop-group.ensures.value ∙ c.loop-group.invariant.long;
       wide = λ k h.
           ap (λ (l : List ℕ). slice_index l k) same
-          ∙ widened c.as_slice-in-loop-i.result.now (group_fields (group_model c.index-groups-i.result)) c.as_mut_slice-in-loop-i.result.now
-          c.widen-in-loop-i.new.widths lines (c.loop-i.i + 1) (length c.args.fields.now + 3)
-          (ap (map cell_text) c.as_slice-in-loop-i.ensures.value ∙ c.in_ok-fill_group.ensures)
-          (group_lines-group c.args.fields.now c.args.groups.now c.loop-i.i c.index-groups-i.result c.index-groups-i.is c.loop-i-test.true)
+          ∙ widened c.as_slice-in-loop-group.result.now (group_fields (group_model c.group-item.result)) c.as_mut_slice-in-loop-group.result.now
+          c.widen-in-loop-group.new.widths lines (c.loop-group.group-index + 1) (length c.args.fields.now + 3)
+          (ap (map cell_text) c.as_slice-in-loop-group.ensures.value ∙ c.in_ok-fill_group.ensures)
+          (group_lines-group c.args.fields.now c.args.groups.now c.loop-group.group-index c.group-item.result c.group-item.is c.loop-group-test.true)
           (omega (arith, length-group_lines c.args.fields.now c.args.groups.now))
-          (length-group_fields (group_model c.index-groups-i.result) (length c.args.fields.now) parts)
-          (λ j below. ap (λ (l : List ℕ). slice_index l j) c.as_mut_slice-in-loop-i.ensures.value ∙ c.loop-i.invariant.wide j below)
+          (length-group_fields (group_model c.group-item.result) (length c.args.fields.now) parts)
+          (λ j below. ap (λ (l : List ℕ). slice_index l j) c.as_mut_slice-in-loop-group.ensures.value ∙ c.loop-group.invariant.wide j below)
           c.in_ok-widen-2.ensures k h;
     }
 
 pub returns-clause-widths : goal.returns-clause-widths
 returns-clause-widths c =
     let lines : List Line = group_lines c.args.fields.now (map group_model c.args.groups.now) in
-    let whole = all_group_lines c.args.fields.now c.args.groups.now c.loop-i.i c.loop-i-test.false in
-    group_lines-same (slice_index c.loop-i.widths.items) (column_width lines) c.args.fields.now c.args.groups.now c.requires
-    (λ k h. c.loop-i.invariant.wide k h ∙ ap (λ (ls : List Line). column_width ls k) whole)
+    let whole = all_group_lines c.args.fields.now c.args.groups.now c.loop-group.group-index c.loop-group-test.false in
+    group_lines-same (slice_index c.loop-group.widths.items) (column_width lines) c.args.fields.now c.args.groups.now c.requires
+    (λ k h. c.loop-group.invariant.wide k h ∙ ap (λ (ls : List Line). column_width ls k) whole)
     ∙ ap (λ (b : Bool). table_lines b lines) (sym c.if-not-columns.false)

@@ -6,9 +6,9 @@ use Rattle.pmap_print.specs.Table.{column_width}
 use Rattle.pmap_print.proofs.groups.column_widths.Given as goal
 
 -- the widths are those of the lines so far
-abbrev pub invariant-loop-i : goal.invariant-loop-i
-invariant-loop-i l = record {
+abbrev pub invariant-loop-group : goal.invariant-loop-group
+invariant-loop-group l = record {
   long : length l.widths.items ≡ length l.fields + 3;
   wide : (k : ℕ) → k < length l.fields + 3
-      → slice_index l.widths.items k ≡ column_width (take (l.i + 1) (group_lines l.fields (map group_model l.groups))) k;
+      → slice_index l.widths.items k ≡ column_width (take (l.group-index + 1) (group_lines l.fields (map group_model l.groups))) k;
 }

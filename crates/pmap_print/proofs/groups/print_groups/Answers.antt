@@ -1,4 +1,4 @@
-use Rattle.std.proofs.Common.{ℕ, ◌≡◌, List, All, length, sym, ap, subst}
+use Rattle.std.proofs.Common.{ℕ, ◌≡◌, All, length, sym, ap, subst}
 use Rattle.flow_uniq.specs.declared.group.Group.{Group}
 use Rattle.flow_uniq.specs.Groups.{GroupModel}
 use Rattle.pmap_print.proofs.GroupLines.{shown_parts}
