@@ -13,12 +13,15 @@ use Rattle.pmap_text.specs.Reading.{◌>>=◌}
 use Rattle.flow_filter.specs.Condition.{Condition, needs_map}
 use Rattle.flow_filter.specs.Words.{filter_of_words}
 use Rattle.flow_filter.specs.declared.fault.FilterFault.{FilterFault}
+use Rattle.flow_uniq.specs.Field.{keys_reading, need_map}
+use Rattle.flow_uniq.specs.declared.fault.KeyFault.{KeyFault}
+use Rattle.flow_uniq.specs.declared.field.KeyField.{KeyField}
 use Rattle.flowlabel.specs.Request.{LabelSource, Request, Text, request_of}
 use Rattle.flowlabel.specs.Definition.{flowlabel_app}
-use Rattle.flowlabel.specs.Answer.{Answer, Answers, IsAnswer, IsFaultAt, IsFaultOfKind, IsOwnAnswer, IsOwnFault, SaysOnly, address_answer, address_in_rows, answer_of, answer_of_cat, answer_of_info, answer_of_label, answer_of_rows, answer_of_shrink, is_help, is_mistake, needed_source, source_answer, sources_in_rows, answer_of_check, IsUnlessMemory, condition_answer, condition_in_rows, with_labels, words_in_rows}
+use Rattle.flowlabel.specs.Answer.{Answer, Answers, IsAnswer, IsFaultAt, IsFaultOfKind, IsOwnAnswer, IsOwnFault, SaysOnly, address_answer, address_in_rows, answer_of, answer_of_cat, answer_of_info, answer_of_label, answer_of_rows, answer_of_shrink, is_help, is_mistake, needed_source, source_answer, sources_in_rows, answer_of_check, IsUnlessMemory, condition_answer, condition_in_rows, with_labels, words_in_rows, answer_of_uniq, field_names_in_rows, fields_answer, fields_in_rows}
 use Rattle.flowlabel.specs.declared.command.Command.{Command}
 use Rattle.flowlabel.specs.declared.usage.UsageFault.{UsageFault}
-use Rattle.flowlabel.specs.declared.usage.UsageFault.TheVariants.{Refused, NotUtf8, Help, MapTwice, MapMissing, BadAddress, Filter, LabelNeedsMap, NoMemory}
+use Rattle.flowlabel.specs.declared.usage.UsageFault.TheVariants.{Refused, NotUtf8, Help, MapTwice, MapMissing, BadAddress, Filter, Key, LabelNeedsMap, NoMemory}
 
 -- the definition is one of those that clap's theorems are about
 pub flowlabel_is_simple : is_simple flowlabel_app ≡ true
@@ -55,6 +58,7 @@ fault_at words k MapTwice from h = absurd h
 fault_at words k MapMissing from h = absurd h
 fault_at words k BadAddress from h = absurd h
 fault_at words k (Filter fault) from h = absurd h
+fault_at words k (Key fault) from h = absurd h
 fault_at words k LabelNeedsMap from h = absurd h
 fault_at words k NoMemory from h = tt
 
@@ -67,6 +71,7 @@ fault_of_answer words MapTwice own is = is
 fault_of_answer words MapMissing own is = is
 fault_of_answer words BadAddress own is = is
 fault_of_answer words (Filter fault) own is = is
+fault_of_answer words (Key fault) own is = is
 fault_of_answer words LabelNeedsMap own is = is
 fault_of_answer words NoMemory own is = tt
 
@@ -111,6 +116,18 @@ rows_own rows =
     then_own (sources_in_rows rows) _ (source_own _ _)
     (λ source. then_own (condition_in_rows rows) _ (condition_own (filter_of_words (words_in_rows rows))) (λ condition. with_labels_own (needs_map condition) source _))
 
+-- and so does `uniq`
+fields_own : (r : Result (List KeyField) KeyFault) → IsOwnAnswer (fields_answer r)
+fields_own (Ok fields) = tt
+fields_own (Err fault) = tt
+
+uniq_own : (rows : List Row) → IsOwnAnswer (answer_of_uniq rows)
+uniq_own rows =
+    then_own (sources_in_rows rows) _ (source_own _ _)
+    (λ source. then_own (condition_in_rows rows) _ (condition_own (filter_of_words (words_in_rows rows)))
+    (λ condition. then_own (fields_in_rows rows) _ (fields_own (keys_reading (field_names_in_rows rows)))
+    (λ fields. with_labels_own (needs_map condition || need_map fields) source _)))
+
 cat_own : (rows : List Row) → IsOwnAnswer (answer_of_cat rows)
 cat_own rows =
     then_own (sources_in_rows rows) _ (source_own _ _)
@@ -125,9 +142,10 @@ pub answer_own : (p : Text × List Row) → IsOwnAnswer (answer_of p)
 answer_own p =
     either_own (bytes_eq p.0 (codes "info")) (answer_of_info p.1) _ tt
     (either_own (bytes_eq p.0 (codes "rows")) (answer_of_rows p.1) _ (rows_own p.1)
+    (either_own (bytes_eq p.0 (codes "uniq")) (answer_of_uniq p.1) _ (uniq_own p.1)
     (either_own (bytes_eq p.0 (codes "cat")) (answer_of_cat p.1) _ (cat_own p.1)
     (either_own (bytes_eq p.0 (codes "shrink")) (answer_of_shrink p.1) _ tt
-    (either_own (bytes_eq p.0 (codes "check")) (answer_of_check p.1) _ tt (label_own p.1)))))
+    (either_own (bytes_eq p.0 (codes "check")) (answer_of_check p.1) _ tt (label_own p.1))))))
 
 -- memory aside, the result is that of the answer
 fault_unless_memory : (answer : Answer) (fault : UsageFault) → (fault ≢ NoMemory → answer ≡ Err fault) → IsUnlessMemory answer (Err fault)
@@ -139,6 +157,7 @@ fault_unless_memory answer MapTwice says = says (λ e. cc)
 fault_unless_memory answer MapMissing says = says (λ e. cc)
 fault_unless_memory answer BadAddress says = says (λ e. cc)
 fault_unless_memory answer (Filter fault) says = says (λ e. cc)
+fault_unless_memory answer (Key fault) says = says (λ e. cc)
 fault_unless_memory answer LabelNeedsMap says = says (λ e. cc)
 
 pub unless_memory : (answer : Answer) (r : Result Command UsageFault) → IfOk r (λ command. answer ≡ Ok (request_of command))
@@ -156,6 +175,7 @@ said_or_memory answer MapTwice says = inr says
 said_or_memory answer MapMissing says = inr says
 said_or_memory answer BadAddress says = inr says
 said_or_memory answer (Filter fault) says = inr says
+said_or_memory answer (Key fault) says = inr says
 said_or_memory answer LabelNeedsMap says = inr says
 
 own_or_memory : (answer : Answer) (fault : UsageFault) → IsOwnAnswer answer → (fault ≡ NoMemory) ⊎ (answer ≡ Err fault) → IsOwnFault fault
@@ -205,5 +225,6 @@ own_of_memory k MapTwice e h = tt
 own_of_memory k MapMissing e h = tt
 own_of_memory k BadAddress e h = tt
 own_of_memory k (Filter fault) e h = tt
+own_of_memory k (Key fault) e h = tt
 own_of_memory k LabelNeedsMap e h = tt
 own_of_memory k NoMemory e h = tt

@@ -10,8 +10,8 @@ use Rattle.pmap_text.specs.ListModel.{IsEquivalent, ListModel, list_label}
 use Rattle.pmap_text.specs.MapModel.{Label, MapModel, map_label}
 use Rattle.pmap_text.specs.Reading.{ReadsList, ReadsMap}
 use Rattle.flowlabel.specs.Labelling.{Labelling, at_addresses, labelling, labelling_of_list, labelling_of_map}
-use Rattle.flowlabel.specs.Output.{FileTexts, FlowsThen, IsOutput, ListThen, MapThen, Outcome, Prints, PrintsRuns, ReportsThen, SameUnderEquivalents, label_text, report_of_rows, under}
-use Rattle.flowlabel.specs.Request.{FromList, FromMap, label, info, rows, cat, shrink, check}
+use Rattle.flowlabel.specs.Output.{FileTexts, FlowsThen, IsOutput, ListThen, MapThen, Outcome, Prints, PrintsRuns, ReportsThen, SameUnderEquivalents, label_text, report_of_rows, under, report_of_groups}
+use Rattle.flowlabel.specs.Request.{FromList, FromMap, label, info, rows, cat, shrink, check, uniq}
 
 guarded : (b : Bool) (x y : Option Label) → (b ≡ true → x ≡ y) → (if b then x else None) ≡ (if b then y else None)
 guarded true x y h = h refl
@@ -68,6 +68,12 @@ same_under_equivalents (rows (Some old) condition columns name) file other texts
     both
     (swap (λ labels. FlowsThen (λ messages. Prints (report_of_rows condition columns (Some labels) messages)) texts.flows) texts.map others.list m l outcome reads_map reads_list is)
     (over_file (λ bytes. IsOutput (rows (Some (FromList other)) condition columns name) (record others { flows = bytes }) outcome) texts.flows others.flows flows)
+same_under_equivalents (uniq fields None condition sorted columns name) file other texts others m l outcome either reads_map reads_list is flows =
+    over_file (λ bytes. IsOutput (uniq fields None condition sorted columns name) (record texts { flows = bytes }) outcome) texts.flows others.flows flows
+same_under_equivalents (uniq fields (Some old) condition sorted columns name) file other texts others m l outcome either reads_map reads_list is flows =
+    both
+    (swap (λ labels. FlowsThen (λ messages. Prints (report_of_groups fields condition sorted columns (Some labels) messages)) texts.flows) texts.map others.list m l outcome reads_map reads_list is)
+    (over_file (λ bytes. IsOutput (uniq fields (Some (FromList other)) condition sorted columns name) (record others { flows = bytes }) outcome) texts.flows others.flows flows)
 same_under_equivalents (cat old) file other texts others m l outcome either reads_map reads_list is flows =
     swap PrintsRuns texts.map others.list m l outcome reads_map reads_list is
 same_under_equivalents (shrink map certificate) file other texts others m l outcome either reads_map reads_list is flows = absurd either

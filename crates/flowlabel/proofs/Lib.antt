@@ -3,6 +3,7 @@ pub mod CheckLemmas
 pub mod DefinitionLemmas
 pub mod EndLemmas
 pub mod EquivalentLemmas
+pub mod GroupLemmas
 pub mod LabelLemmas
 pub mod LabellingLemmas
 pub mod LineLemmas

@@ -10,7 +10,7 @@ use Rattle.flowlabel.specs.Request.{FromList, FromMap, cat, info, rows, shrink}
 use Rattle.flowlabel.specs.Answer.{Answer, Answers, IsAnswer, IsUnlessMemory, ReadsBareLine, ReadsCatLine, ReadsCertificateLine, ReadsColumnsLine, ReadsInfoLine, ReadsListLine, ReadsMapLine, ReadsRowsLine, ReadsShrinkLine, address_answer, is_plain_word, own_answer, no_condition}
 use Rattle.flowlabel.specs.declared.command.Command.{Command}
 use Rattle.flowlabel.specs.declared.usage.UsageFault.{UsageFault}
-use Rattle.flowlabel.specs.declared.usage.UsageFault.TheVariants.{Refused, NotUtf8, Help, MapTwice, MapMissing, BadAddress, Filter, LabelNeedsMap, NoMemory}
+use Rattle.flowlabel.specs.declared.usage.UsageFault.TheVariants.{Refused, NotUtf8, Help, MapTwice, MapMissing, BadAddress, Filter, Key, LabelNeedsMap, NoMemory}
 
 not_true : (b : Bool) → not b ≡ true → b ≡ false
 not_true true e = sym e
@@ -26,6 +26,7 @@ own_only words answer (Err MapTwice) own is = ap (λ (o : Option Answer). unwrap
 own_only words answer (Err MapMissing) own is = ap (λ (o : Option Answer). unwrap_or o answer) (sym own.1 ∙ is.1)
 own_only words answer (Err BadAddress) own is = ap (λ (o : Option Answer). unwrap_or o answer) (sym own.1 ∙ is.1)
 own_only words answer (Err (Filter fault)) own is = ap (λ (o : Option Answer). unwrap_or o answer) (sym own.1 ∙ is.1)
+own_only words answer (Err (Key fault)) own is = ap (λ (o : Option Answer). unwrap_or o answer) (sym own.1 ∙ is.1)
 own_only words answer (Err LabelNeedsMap) own is = ap (λ (o : Option Answer). unwrap_or o answer) (sym own.1 ∙ is.1)
 own_only words answer (Err NoMemory) own is = tt
 own_only words answer (Err NotUtf8) own is = absurd is

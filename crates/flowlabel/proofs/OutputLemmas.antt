@@ -24,8 +24,8 @@ use Rattle.pmap_print.specs.Info.{info_text}
 use Rattle.pmap_print.specs.List.{list_text}
 use Rattle.pmap_print.specs.Runs.{IsRunsText}
 use Rattle.flowlabel.specs.Labelling.{Labelling, labelling_of_list, labelling_of_map}
-use Rattle.flowlabel.specs.Output.{FileTexts, FlowsThen, InFlows, InList, InMap, LabelsThen, ListThen, MapThen, OneOutput, Outcome, Prints, PrintsMinimal, PrintsRuns, ReportsThen, SourceThen, label_text, report_of_rows, CertificateThen, Checks, InCertificate, InCheck, ReadsCertificate}
-use Rattle.flowlabel.specs.Request.{FromList, FromMap, LabelSource, label, info, rows, cat, shrink, check}
+use Rattle.flowlabel.specs.Output.{FileTexts, FlowsThen, InFlows, InList, InMap, LabelsThen, ListThen, MapThen, OneOutput, Outcome, Prints, PrintsMinimal, PrintsRuns, ReportsThen, SourceThen, label_text, report_of_rows, CertificateThen, Checks, InCertificate, InCheck, ReadsCertificate, report_of_groups}
+use Rattle.flowlabel.specs.Request.{FromList, FromMap, LabelSource, label, info, rows, cat, shrink, check, uniq}
 
 -- what comes of a value is one outcome at most
 abbrev IsOne : {A : Type 0} → (A → Outcome → Type 0) → Type 0
@@ -144,6 +144,8 @@ one_output law runs minimal none (info flows) texts outcome other p q =
     reports_then_one law (λ labels messages. info_text (counts_of messages)) None texts outcome other p q
 one_output law runs minimal none (rows source condition columns flows) texts outcome other p q =
     reports_then_one law (report_of_rows condition columns) source texts outcome other p q
+one_output law runs minimal none (uniq fields source condition sorted columns flows) texts outcome other p q =
+    reports_then_one law (report_of_groups fields condition sorted columns) source texts outcome other p q
 one_output law runs minimal none (cat source) texts outcome other p q =
     labels_then_one source PrintsRuns (runs_one runs) texts outcome other p q
 one_output law runs minimal none (shrink map certificate) texts outcome other p q =

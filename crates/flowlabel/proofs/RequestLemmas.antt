@@ -2,7 +2,7 @@
 use Rattle.std.specs.Prelude.{Result, Ok, Err, IfOk}
 use Rattle.flowlabel.specs.Request.{IsProper, request_of}
 use Rattle.flowlabel.specs.declared.command.Command.{Command}
-use Rattle.flowlabel.specs.declared.command.Command.TheVariants.{Label, Info, Rows, Cat, Shrink, Check}
+use Rattle.flowlabel.specs.declared.command.Command.TheVariants.{Label, Info, Rows, Cat, Shrink, Check, Uniq}
 use Rattle.flowlabel.specs.declared.usage.UsageFault.{UsageFault}
 
 -- its addresses are addresses of their versions, as `Addr` keeps them
@@ -10,6 +10,7 @@ pub request_is_proper : (c : Command) → IsProper (request_of c)
 request_is_proper (Label labels addr) = addr.in_range
 request_is_proper (Info flows) = tt
 request_is_proper (Rows labels filter columns flows) = tt
+request_is_proper (Uniq keys labels filter sorted columns flows) = tt
 request_is_proper (Cat labels) = tt
 request_is_proper (Shrink map certificate) = tt
 request_is_proper (Check map list certificate) = tt

@@ -1,4 +1,4 @@
-use Rattle.std.specs.Prelude.{◌≡◌, ◌==◌, ◌&&◌, Bool, not, true, false, List, [], ◌∷◌, Option, Some, None, Result, Ok, Err, codes, option_and_then, option_map, unwrap_or, is_none, if◌then◌else◌}
+use Rattle.std.specs.Prelude.{◌≡◌, ◌==◌, ◌&&◌, ◌||◌, Bool, not, true, false, List, [], ◌∷◌, Option, Some, None, Result, Ok, Err, codes, option_and_then, option_map, unwrap_or, is_none, if◌then◌else◌}
 use Rattle.std.specs.List.{list_any}
 use Rattle.std.specs.Str.{bytes_eq}
 use Rattle.std.specs.declared.io.ErrorKind.TheVariants as io
@@ -8,14 +8,17 @@ use Rattle.pmap_text.specs.Reading.{◌>>=◌}
 use Rattle.flow_filter.specs.Condition.{Condition, needs_map}
 use Rattle.flow_filter.specs.Words.{Words, filter_of_words}
 use Rattle.flow_filter.specs.declared.fault.FilterFault.{FilterFault}
+use Rattle.flow_uniq.specs.Field.{keys_reading, need_map}
+use Rattle.flow_uniq.specs.declared.fault.KeyFault.{KeyFault}
+use Rattle.flow_uniq.specs.declared.field.KeyField.{KeyField}
 use Rattle.clap.specs.Words.{Row, fault_of, first_of, subcommand_of}
 use Rattle.clap.specs.declared.error.kind.ErrorKind.{ErrorKind}
 use Rattle.clap.specs.declared.error.kind.ErrorKind.TheVariants as kind
 use Rattle.flowlabel.specs.Definition.{flowlabel_app}
-use Rattle.flowlabel.specs.Request.{FromList, FromMap, LabelSource, Request, Text, cat, info, label, request_of, rows, shrink, check}
+use Rattle.flowlabel.specs.Request.{FromList, FromMap, LabelSource, Request, Text, cat, info, label, request_of, rows, shrink, check, uniq}
 use Rattle.flowlabel.specs.declared.command.Command.{Command}
 use Rattle.flowlabel.specs.declared.usage.UsageFault.{UsageFault}
-use Rattle.flowlabel.specs.declared.usage.UsageFault.TheVariants.{Refused, NotUtf8, Help, MapTwice, MapMissing, BadAddress, Filter, LabelNeedsMap, NoMemory}
+use Rattle.flowlabel.specs.declared.usage.UsageFault.TheVariants.{Refused, NotUtf8, Help, MapTwice, MapMissing, BadAddress, Filter, Key, LabelNeedsMap, NoMemory}
 
 -- What a command line is answered with.
 
@@ -56,7 +59,7 @@ address_in_rows entries = option_and_then address_of (first_of (codes "address")
 abbrev pub answer_of_label : List Row → Answer
 answer_of_label entries = label_answer (sources_in_rows entries) (address_in_rows entries)
 
--- the file that the word FILE of entries names: clap takes no line of `info` or `rows` without one
+-- the file that the word FILE of entries names: clap takes no line of `info`, `rows` or `uniq` without one
 abbrev pub flows_in_rows : List Row → Text
 flows_in_rows entries = unwrap_or (first_of (codes "flows") entries) []
 
@@ -88,6 +91,18 @@ condition_answer (Err fault) = Err (Filter fault)
 abbrev pub condition_in_rows : List Row → Result Condition UsageFault
 condition_in_rows entries = condition_answer (filter_of_words (words_in_rows entries))
 
+-- fields, or the usage fault that the fault of their text is
+abbrev pub fields_answer : Result (List KeyField) KeyFault → Result (List KeyField) UsageFault
+fields_answer (Ok fields) = Ok fields
+fields_answer (Err fault) = Err (Key fault)
+
+-- the text of the fields that entries name: clap takes no line of `uniq` without one
+abbrev pub field_names_in_rows : List Row → Text
+field_names_in_rows entries = unwrap_or (first_of (codes "fields") entries) []
+
+abbrev pub fields_in_rows : List Row → Result (List KeyField) UsageFault
+fields_in_rows entries = fields_answer (keys_reading (field_names_in_rows entries))
+
 -- the request, where labels that it needs have a source
 abbrev pub with_labels : Bool → Option LabelSource → Request → Answer
 with_labels needed source request = if needed && is_none source then Err LabelNeedsMap else Ok request
@@ -100,6 +115,13 @@ abbrev pub answer_of_rows : List Row → Answer
 answer_of_rows entries =
     sources_in_rows entries >>= (λ source. condition_in_rows entries >>= (λ condition.
     with_labels (needs_map condition) source (rows source condition (is_given (codes "columns") entries) (flows_in_rows entries))))
+
+-- `uniq`, by the entries that clap finds for it: labels are needed by its filters or by its fields
+abbrev pub answer_of_uniq : List Row → Answer
+answer_of_uniq entries =
+    sources_in_rows entries >>= (λ source. condition_in_rows entries >>= (λ condition. fields_in_rows entries >>= (λ fields.
+    with_labels (needs_map condition || need_map fields) source
+    (uniq fields source condition (is_given (codes "sort-output") entries) (is_given (codes "columns") entries) (flows_in_rows entries)))))
 
 -- `cat`, by its sources: two come first, and then a missing one
 abbrev pub cat_answer : Result (Option LabelSource) UsageFault → Answer
@@ -127,6 +149,7 @@ abbrev pub answer_of : Text × List Row → Answer
 answer_of found =
     if bytes_eq found.0 (codes "info") then answer_of_info found.1
     else if bytes_eq found.0 (codes "rows") then answer_of_rows found.1
+    else if bytes_eq found.0 (codes "uniq") then answer_of_uniq found.1
     else if bytes_eq found.0 (codes "cat") then answer_of_cat found.1
     else if bytes_eq found.0 (codes "shrink") then answer_of_shrink found.1
     else if bytes_eq found.0 (codes "check") then answer_of_check found.1
@@ -165,6 +188,7 @@ IsFaultAt words MapTwice = Answers words (Err MapTwice)
 IsFaultAt words MapMissing = Answers words (Err MapMissing)
 IsFaultAt words BadAddress = Answers words (Err BadAddress)
 IsFaultAt words (Filter fault) = Answers words (Err (Filter fault))
+IsFaultAt words (Key fault) = Answers words (Err (Key fault))
 IsFaultAt words LabelNeedsMap = Answers words (Err LabelNeedsMap)
 IsFaultAt words NoMemory = Unit {0}
 
@@ -182,6 +206,7 @@ IsOwnFault MapTwice = Unit {0}
 IsOwnFault MapMissing = Unit {0}
 IsOwnFault BadAddress = Unit {0}
 IsOwnFault (Filter fault) = Unit {0}
+IsOwnFault (Key fault) = Unit {0}
 IsOwnFault LabelNeedsMap = Unit {0}
 IsOwnFault NoMemory = Unit {0}
 
@@ -272,6 +297,7 @@ IsFaultOfKind k MapTwice = ⊥
 IsFaultOfKind k MapMissing = ⊥
 IsFaultOfKind k BadAddress = ⊥
 IsFaultOfKind k (Filter fault) = ⊥
+IsFaultOfKind k (Key fault) = ⊥
 IsFaultOfKind k LabelNeedsMap = ⊥
 IsFaultOfKind k NoMemory = Unit {0}
 

@@ -56,6 +56,20 @@ abbrev pub rows_app : App
 rows_app =
     with_rule (with_rule (with_filters (with_rule (with_rule (new_app (codes "rows")) pmap_rule) list_rule)) columns_rule) flows_rule
 
+-- `--fields NAMES`
+abbrev pub fields_rule : Rule
+fields_rule = record (value_rule (codes "fields")) { required = true }
+
+-- `--sort-output`
+abbrev pub sort_rule : Rule
+sort_rule = record (new_rule (codes "sort-output")) { long = Some (codes "sort-output"); action = Some SetTrue }
+
+-- `uniq --fields NAMES [--pmap FILE] [--list FILE] [filters] [--sort-output] [--columns] FILE`
+abbrev pub uniq_app : App
+uniq_app =
+    let labelled = with_rule (with_rule (with_rule (new_app (codes "uniq")) fields_rule) pmap_rule) list_rule in
+    with_rule (with_rule (with_rule (with_filters labelled) sort_rule) columns_rule) flows_rule
+
 -- `cat [--pmap FILE] [--list FILE]`
 abbrev pub cat_app : App
 cat_app = with_rule (with_rule (new_app (codes "cat")) pmap_rule) list_rule
@@ -92,5 +106,5 @@ program = record (new_app (codes "flowlabel")) {
 -- the command line
 unfoldable pub flowlabel_app : App
 flowlabel_app =
-    with_subcommand (with_subcommand (with_subcommand (with_subcommand (with_subcommand (with_subcommand program label_app.top) info_app.top) rows_app.top) cat_app.top)
-    shrink_app.top) check_app.top
+    with_subcommand (with_subcommand (with_subcommand (with_subcommand (with_subcommand (with_subcommand (with_subcommand program label_app.top) info_app.top) rows_app.top)
+    uniq_app.top) cat_app.top) shrink_app.top) check_app.top

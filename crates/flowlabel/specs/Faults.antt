@@ -4,6 +4,8 @@ use Rattle.flow_filter.specs.declared.fault.FilterFaultKind.{FilterFaultKind}
 use Rattle.flow_filter.specs.declared.fault.FilterFaultKind.TheVariants as filters
 use Rattle.flow_filter.specs.declared.fault.FilterOption.{FilterOption}
 use Rattle.flow_filter.specs.declared.fault.FilterOption.TheVariants as option
+use Rattle.flow_uniq.specs.declared.fault.KeyFault.{KeyFault}
+use Rattle.flow_uniq.specs.declared.fault.KeyFault.TheVariants as keys
 use Rattle.ipfix_read.specs.declared.fault.ReadFault.{ReadFault}
 use Rattle.ipfix_read.specs.declared.fault.ReadFaultKind.{ReadFaultKind}
 use Rattle.ipfix_read.specs.declared.fault.ReadFaultKind.TheVariants as flows
@@ -163,6 +165,21 @@ filter_fault_line_text fault =
     if is_filter_want_of_memory fault.kind then out_of_memory
     else option_text (filter_option_text fault.option) (filter_fault_text fault.kind)
 
+-- the code and the name of a fault of the text of fields
+abbrev pub key_fault_text : KeyFault → List ℕ
+key_fault_text keys.BadField = codes "U1 BadField"
+key_fault_text keys.FieldRepeated = codes "U2 FieldRepeated"
+key_fault_text keys.NoMemory = codes "U3 NoMemory"
+
+abbrev pub is_key_want_of_memory : KeyFault → Bool
+is_key_want_of_memory keys.NoMemory = true
+is_key_want_of_memory k = false
+
+abbrev pub key_fault_line_text : KeyFault → List ℕ
+key_fault_line_text fault =
+    if is_key_want_of_memory fault then out_of_memory
+    else option_text (codes "--fields") (key_fault_text fault)
+
 abbrev pub usage_fault_text : UsageFault → List ℕ
 usage_fault_text (usage.Refused text) = text
 usage_fault_text usage.NotUtf8 = codes "flowlabel: usage: P1 NotUtf8\n"
@@ -171,6 +188,7 @@ usage_fault_text usage.MapTwice = codes "flowlabel: usage: P3 MapTwice\n"
 usage_fault_text usage.MapMissing = codes "flowlabel: usage: P2 MapMissing\n"
 usage_fault_text usage.BadAddress = codes "flowlabel: usage: P4 BadAddress\n"
 usage_fault_text (usage.Filter fault) = filter_fault_line_text fault
+usage_fault_text (usage.Key fault) = key_fault_line_text fault
 usage_fault_text usage.LabelNeedsMap = codes "flowlabel: usage: P5 LabelNeedsMap\n"
 usage_fault_text usage.NoMemory = out_of_memory
 
@@ -199,6 +217,7 @@ usage_status_of usage.MapTwice = 2
 usage_status_of usage.MapMissing = 2
 usage_status_of usage.BadAddress = 2
 usage_status_of (usage.Filter fault) = if is_filter_want_of_memory fault.kind then 3 else 2
+usage_status_of (usage.Key fault) = if is_key_want_of_memory fault then 3 else 2
 usage_status_of usage.LabelNeedsMap = 2
 usage_status_of usage.NoMemory = 3
 

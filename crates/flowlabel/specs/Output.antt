@@ -20,13 +20,17 @@ use Rattle.flow_rows.specs.Content.{rows_of_messages}
 use Rattle.flow_rows.specs.Counts.{counts_of}
 use Rattle.flow_rows.specs.Row.{RowView}
 use Rattle.flow_filter.specs.Condition.{Condition, row_passes}
+use Rattle.flow_uniq.specs.declared.field.KeyField.{KeyField}
+use Rattle.flow_uniq.specs.Groups.{groups_of}
+use Rattle.flow_uniq.specs.Sorted.{shown_groups}
+use Rattle.pmap_print.specs.Groups.{groups_text}
 use Rattle.pmap_print.specs.Info.{info_text}
 use Rattle.pmap_print.specs.List.{list_text}
 use Rattle.pmap_print.specs.ReadBack.{CanBeReadAgain}
 use Rattle.pmap_print.specs.Rows.{rows_text}
 use Rattle.pmap_print.specs.Runs.{IsRunsText}
 use Rattle.flowlabel.specs.Labelling.{Labelling, label_by, labelling_of_list, labelling_of_map, row_labels, label_where}
-use Rattle.flowlabel.specs.Request.{FromList, FromMap, LabelSource, Request, label, info, rows, cat, shrink, check}
+use Rattle.flowlabel.specs.Request.{FromList, FromMap, LabelSource, Request, label, info, rows, cat, shrink, check, uniq}
 
 -- The output of a request: the text that it prints, or the first fault of its files' bytes.
 
@@ -143,6 +147,12 @@ report_of_rows condition columns labels messages =
     let rows = passing_rows condition labels messages in
     rows_text rows (option_map (λ l. map (row_labels l) rows) labels) columns
 
+-- the groups of these rows by fields of them
+abbrev pub report_of_groups : List KeyField → Condition → Bool → Bool → Option Labelling → List MessageView → List ℕ
+report_of_groups fields condition sorted columns labels messages =
+    let groups = groups_of fields (label_where labels) (passing_rows condition labels messages) in
+    groups_text fields (shown_groups sorted groups) columns
+
 -- what comes of a File under a labelling, or without one: the text of its messages
 abbrev pub ReportsThen : (Option Labelling → List MessageView → List ℕ) → Option LabelSource → FileTexts → Outcome → Type 0
 ReportsThen text source texts =
@@ -168,6 +178,7 @@ abbrev pub IsOutput : Request → FileTexts → Outcome → Type 0
 IsOutput (label source address) texts = LabelsThen source (λ labels. Prints (label_text address labels)) texts
 IsOutput (info flows) texts = ReportsThen (λ labels messages. info_text (counts_of messages)) None texts
 IsOutput (rows source condition columns flows) texts = ReportsThen (report_of_rows condition columns) source texts
+IsOutput (uniq fields source condition sorted columns flows) texts = ReportsThen (report_of_groups fields condition sorted columns) source texts
 IsOutput (cat source) texts = LabelsThen source PrintsRuns texts
 IsOutput (shrink map certificate) texts = MapThen (PrintsMinimal certificate) texts.map
 IsOutput (check map list certificate) texts = ChecksThen texts
@@ -182,6 +193,8 @@ under source (label old address) = label source address
 under source (info flows) = info flows
 under source (rows None condition columns flows) = rows None condition columns flows
 under source (rows (Some old) condition columns flows) = rows (Some source) condition columns flows
+under source (uniq fields None condition sorted columns flows) = uniq fields None condition sorted columns flows
+under source (uniq fields (Some old) condition sorted columns flows) = uniq fields (Some source) condition sorted columns flows
 under source (cat old) = cat source
 under source (shrink map certificate) = shrink map certificate
 under source (check map list certificate) = check map list certificate
@@ -191,6 +204,7 @@ abbrev pub TakesEither : Request → Type 0
 TakesEither (label source address) = Unit {0}
 TakesEither (info flows) = Unit {0}
 TakesEither (rows source condition columns flows) = Unit {0}
+TakesEither (uniq fields source condition sorted columns flows) = Unit {0}
 TakesEither (cat source) = Unit {0}
 TakesEither (shrink map certificate) = ⊥
 TakesEither (check map list certificate) = ⊥

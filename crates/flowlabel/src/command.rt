@@ -2,6 +2,7 @@ ghost use Rattle.std.specs.Prelude.{◌≡◌, option_map};
 ghost use Rattle.flowlabel.specs.Request.{NamesNeeds, files_named, files_of, names_of, needs_of, request_of, source_of};
 
 use flow_filter::Filter;
+use flow_uniq::Keys;
 use prefix_keys::Addr;
 
 /// A file that labels come from, by its name.
@@ -30,6 +31,16 @@ pub enum Command<'a> {
     Rows {
         labels: Option<LabelFile<'a>>,
         filter: Filter<'a>,
+        columns: bool,
+        flows: &'a str,
+    },
+    /// `uniq --fields NAMES [--pmap FILE | --list FILE] [filters] [--sort-output] [--columns] FILE`: the groups of these
+    /// rows by fields of them, with their totals, in the order of their first rows or sorted.
+    Uniq {
+        keys: Keys,
+        labels: Option<LabelFile<'a>>,
+        filter: Filter<'a>,
+        sorted: bool,
         columns: bool,
         flows: &'a str,
     },
@@ -115,6 +126,7 @@ impl<'a> Command<'a> {
             Command::Label { labels, .. } => Files::named(Some(*labels), None),
             Command::Info { flows } => Files::named(None, Some(flows)),
             Command::Rows { labels, flows, .. } => Files::named(*labels, Some(flows)),
+            Command::Uniq { labels, flows, .. } => Files::named(*labels, Some(flows)),
             Command::Cat { labels } => Files::named(Some(*labels), None),
             Command::Shrink { map, .. } => Files::named(Some(LabelFile::Map(map)), None),
             Command::Check {

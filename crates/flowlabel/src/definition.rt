@@ -1,7 +1,7 @@
 ghost use Rattle.std.specs.Prelude.{◌≡◌, IfOk, false, true};
 ghost use Rattle.clap.specs.Words.{app_of, rule_of};
 ghost use Rattle.clap.specs.declared.builder.command.Command.TheViews.{out-Command};
-ghost use Rattle.flowlabel.specs.Definition.{cat_app, certificate_rule, columns_rule, flowlabel_app, flows_rule, info_app, label_app, list_rule, needed_pmap_rule, pmap_rule, program, rows_app, shrink_app, cert_rule, check_app, needed_list_rule, value_rule, with_filters, with_label_filters, with_value_filters};
+ghost use Rattle.flowlabel.specs.Definition.{cat_app, certificate_rule, columns_rule, flowlabel_app, flows_rule, info_app, label_app, list_rule, needed_pmap_rule, pmap_rule, program, rows_app, shrink_app, cert_rule, check_app, needed_list_rule, value_rule, with_filters, with_label_filters, with_value_filters, fields_rule, sort_rule, uniq_app};
 
 use clap::{Arg, ArgAction, Command};
 use std::alloc::{AllocError, Global};
@@ -44,7 +44,7 @@ fn label<'a>(alloc: Global) -> Result<Command<'a>, AllocError>
         .arg(address)
 }
 
-/// `FILE`, the IPFIX File of `info` and `rows`.
+/// `FILE`, the IPFIX File of `info`, `rows` and `uniq`.
 fn flows_argument<'a>(alloc: Global) -> Arg<'a>
     ensures rule { rule_of result ≡ flows_rule }
     ensures local { result.global ≡ false }
@@ -165,6 +165,47 @@ fn rows<'a>(alloc: Global) -> Result<Command<'a>, AllocError>
         .arg(flows_argument(alloc))
 }
 
+// `--fields NAMES`.
+fn fields_argument<'a>(alloc: Global) -> Arg<'a>
+    ensures rule { rule_of result ≡ fields_rule }
+    ensures local { result.global ≡ false }
+{
+    Arg::new(alloc, "fields")
+        .long("fields")
+        .value_name("NAMES")
+        .required(true)
+        .help(
+            "The fields of keys, as sip,dport: sip, dip, sport, dport, proto, flags, src-label, dst-label",
+        )
+}
+
+// `--sort-output`.
+fn sort_argument<'a>(alloc: Global) -> Arg<'a>
+    ensures rule { rule_of result ≡ sort_rule }
+    ensures local { result.global ≡ false }
+{
+    Arg::new(alloc, "sort-output")
+        .long("sort-output")
+        .action(ArgAction::SetTrue)
+        .help("Print the groups in the order of their keys")
+}
+
+/// `uniq --fields NAMES [--pmap FILE] [--list FILE] [filters] [--sort-output] [--columns] FILE`.
+fn uniq<'a>(alloc: Global) -> Result<Command<'a>, AllocError>
+    ensures app { IfOk result (λ c. app_of c ≡ uniq_app) }
+    ensures local { IfOk result (λ c. (out-Command c).has_globals ≡ false) }
+{
+    let labelled = Command::new(alloc, "uniq")
+        .about("Print the groups of the rows of an IPFIX File")
+        .arg(fields_argument(alloc))?
+        .arg(map_argument(alloc))?
+        .arg(list_argument(alloc))?;
+    with_filters(alloc, labelled)?
+        .arg(sort_argument(alloc))?
+        .arg(columns_argument(alloc))?
+        .arg(flows_argument(alloc))
+}
+
 /// `cat [--pmap FILE] [--list FILE]`.
 fn cat<'a>(alloc: Global) -> Result<Command<'a>, AllocError>
     ensures app { IfOk result (λ c. app_of c ≡ cat_app) }
@@ -260,6 +301,7 @@ pub fn definition<'a>(alloc: Global) -> Result<Command<'a>, AllocError>
         .subcommand(label(alloc)?)?
         .subcommand(info(alloc)?)?
         .subcommand(rows(alloc)?)?
+        .subcommand(uniq(alloc)?)?
         .subcommand(cat(alloc)?)?
         .subcommand(shrink(alloc)?)?
         .subcommand(check(alloc)?)

@@ -1,10 +1,11 @@
 ghost use Rattle.std.specs.Prelude.{◌≡◌, IfOk};
 ghost use Rattle.std.specs.String.{string_bytes};
-ghost use Rattle.flowlabel.specs.Faults.{bytes_status_of, certificate_fault_line_text, certificate_fault_text, check_fault_line_text, check_fault_text, exit_status_of, fault_text, flows_fault_line_text, flows_fault_text, help_text_of, map_fault_line_text, map_fault_text, place_text, status_of, template_fault_text, usage_fault_text, usage_status_of, filter_fault_line_text, filter_fault_text, filter_option_text, option_text};
+ghost use Rattle.flowlabel.specs.Faults.{bytes_status_of, certificate_fault_line_text, certificate_fault_text, check_fault_line_text, check_fault_text, exit_status_of, fault_text, flows_fault_line_text, flows_fault_text, help_text_of, map_fault_line_text, map_fault_text, place_text, status_of, template_fault_text, usage_fault_text, usage_status_of, filter_fault_line_text, filter_fault_text, filter_option_text, option_text, key_fault_line_text, key_fault_text};
 
 use crate::usage::UsageFault;
 use cert_check::{CheckFault, CheckFaultKind};
 use flow_filter::{FilterFault, FilterFaultKind, FilterOption};
+use flow_uniq::KeyFault;
 use ipfix_read::{ReadFault, ReadFaultKind};
 use ipfix_templates::TemplateFaultKind;
 use pmap_cert::{CertFault, CertFaultKind};
@@ -168,6 +169,26 @@ fn filter_line(alloc: Global, fault: &FilterFault) -> Result<String, AllocError>
     )
 }
 
+/// The code and the name of a fault of the text of fields.
+fn key_fault_name(fault: KeyFault) -> &'static str
+    ensures { result.now ≡ key_fault_text fault }
+{
+    match fault {
+        KeyFault::BadField => "U1 BadField",
+        KeyFault::FieldRepeated => "U2 FieldRepeated",
+        KeyFault::NoMemory => "U3 NoMemory",
+    }
+}
+
+fn key_line(alloc: Global, fault: KeyFault) -> Result<String, AllocError>
+    ensures { IfOk result (λ line. string_bytes line ≡ key_fault_line_text fault) }
+{
+    if fault == KeyFault::NoMemory {
+        return String::from_str(alloc, "flowlabel: out of memory\n");
+    }
+    option_line(alloc, "--fields", key_fault_name(fault))
+}
+
 fn usage_line(alloc: Global, fault: &UsageFault) -> Result<String, AllocError>
     ensures { IfOk result (λ line. string_bytes line ≡ usage_fault_text fault.now) }
 {
@@ -179,6 +200,7 @@ fn usage_line(alloc: Global, fault: &UsageFault) -> Result<String, AllocError>
         UsageFault::MapMissing => String::from_str(alloc, "flowlabel: usage: P2 MapMissing\n"),
         UsageFault::BadAddress => String::from_str(alloc, "flowlabel: usage: P4 BadAddress\n"),
         UsageFault::Filter(fault) => filter_line(alloc, fault),
+        UsageFault::Key(fault) => key_line(alloc, *fault),
         UsageFault::LabelNeedsMap => String::from_str(
             alloc,
             "flowlabel: usage: P5 LabelNeedsMap\n",
@@ -276,12 +298,14 @@ fn usage_status(fault: &UsageFault) -> u8
         UsageFault::Help(_) => 0,
         UsageFault::NoMemory => 3,
         UsageFault::Filter(fault) if fault.kind == FilterFaultKind::NoMemory => 3,
+        UsageFault::Key(KeyFault::NoMemory) => 3,
         UsageFault::Refused(_)
         | UsageFault::NotUtf8
         | UsageFault::MapTwice
         | UsageFault::MapMissing
         | UsageFault::BadAddress
         | UsageFault::Filter(_)
+        | UsageFault::Key(_)
         | UsageFault::LabelNeedsMap => 2,
     }
 }

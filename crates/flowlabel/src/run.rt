@@ -25,6 +25,7 @@ pub mod report;
 pub mod rows;
 mod shrink;
 mod source;
+pub mod uniq;
 
 use cat::runs_under;
 use check::check_files;
@@ -33,6 +34,7 @@ use label::{label_by_list, label_by_map};
 use labelled::report_under;
 use rows::RowsReport;
 use shrink::shrunk_by_map;
+use uniq::UniqReport;
 
 // The whole output of a command.
 fn output<'a, R: Input>(
@@ -75,6 +77,22 @@ fn output<'a, R: Input>(
         } => {
             let columns = *columns;
             report_under(alloc, *labels, inputs, &RowsReport { filter, columns })
+        }
+        Command::Uniq {
+            keys,
+            labels,
+            filter,
+            sorted,
+            columns,
+            ..
+        } => {
+            let report = UniqReport {
+                keys,
+                filter,
+                sorted: *sorted,
+                columns: *columns,
+            };
+            report_under(alloc, *labels, inputs, &report)
         }
         Command::Cat { labels } => runs_under(alloc, *labels, inputs),
         Command::Shrink { certificate, .. } => {

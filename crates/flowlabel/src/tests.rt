@@ -2,6 +2,7 @@ use crate::command::{Command, LabelFile, Needs};
 use crate::usage::{ClapText, UsageFault};
 use crate::words::parse;
 use flow_filter::FilterFaultKind;
+use flow_uniq::KeyFault;
 use prefix_keys::Version;
 use std::alloc::{AllocError, Global};
 use std::process::Abort;
@@ -33,6 +34,8 @@ fn name_of(answer: &Result<Command<'_>, UsageFault>) -> &'static str {
         Ok(Command::Info { .. }) => "info",
         Ok(Command::Rows { columns: false, .. }) => "rows",
         Ok(Command::Rows { columns: true, .. }) => "rows in columns",
+        Ok(Command::Uniq { sorted: false, .. }) => "uniq",
+        Ok(Command::Uniq { sorted: true, .. }) => "uniq sorted",
         Ok(
             Command::Cat {
                 labels: LabelFile::Map(_),
@@ -63,6 +66,9 @@ fn name_of(answer: &Result<Command<'_>, UsageFault>) -> &'static str {
         Err(UsageFault::MapTwice) => "P3",
         Err(UsageFault::BadAddress) => "P4",
         Err(UsageFault::Filter(fault)) => name_of_fault(fault.kind),
+        Err(UsageFault::Key(KeyFault::BadField)) => "U1",
+        Err(UsageFault::Key(KeyFault::FieldRepeated)) => "U2",
+        Err(UsageFault::Key(KeyFault::NoMemory)) => "U3",
         Err(UsageFault::LabelNeedsMap) => "P5",
         Err(UsageFault::NoMemory) => "out of memory",
     }
@@ -73,7 +79,7 @@ fn outcome(alloc: Global, line: &str) -> Result<&'static str, AllocError> {
     Ok(name_of(&parse(alloc, words.as_slice())))
 }
 
-const LINES: [(&str, &str); 54] = [
+const LINES: [(&str, &str); 63] = [
     ("flowlabel label --pmap map.txt 10.1.1.1", "label"),
     ("flowlabel label --pmap=map.txt 10.1.1.1", "label"),
     ("flowlabel label 10.1.1.1 --pmap map.txt", "label"),
@@ -124,6 +130,24 @@ const LINES: [(&str, &str); 54] = [
     ),
     ("flowlabel rows --sport 1 --sport", "refused"),
     ("flowlabel info --protocol 6 flows", "refused"),
+    ("flowlabel uniq --fields sip,dport flows", "uniq"),
+    (
+        "flowlabel uniq --sort-output --fields proto --columns flows",
+        "uniq sorted",
+    ),
+    ("flowlabel uniq flows", "refused"),
+    ("flowlabel uniq --fields colour flows", "U1"),
+    ("flowlabel uniq --fields sip,sip flows", "U2"),
+    ("flowlabel uniq --fields sip, flows", "U1"),
+    ("flowlabel uniq --fields src-label flows", "P5"),
+    (
+        "flowlabel uniq --fields x --bytes x --any-label B flows",
+        "L2",
+    ),
+    (
+        "flowlabel uniq --fields dst-label --list list.txt flows",
+        "uniq",
+    ),
     ("flowlabel label --list list.txt 1.2.3", "P4"),
     (
         "flowlabel check --pmap map.txt --list list.txt --cert cert.txt",

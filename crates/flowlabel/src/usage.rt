@@ -2,6 +2,7 @@ ghost use Rattle.std.specs.Prelude.{◌≡◌, IfOk, List, ℕ};
 ghost use Rattle.std.specs.String.{string_bytes};
 
 use flow_filter::FilterFault;
+use flow_uniq::KeyFault;
 use std::alloc::AllocError;
 use std::fmt;
 use std::marker::Model;
@@ -69,7 +70,10 @@ pub enum UsageFault {
     /// L1 to L3: the text of a filter has not its form. L4, want of memory, is `NoMemory`.
     #[error("a filter that can't be read")]
     Filter(FilterFault),
-    /// P5: a filter asks for a label, and no map or list is named.
+    /// U1 and U2: the text of fields names none, or one twice. U3, want of memory, is `NoMemory`.
+    #[error("fields that can't be read")]
+    Key(KeyFault),
+    /// P5: a filter asks for a label, or a key has one, and no map or list is named.
     #[error("P5 LabelNeedsMap")]
     LabelNeedsMap,
     /// Memory ran out.

@@ -6,7 +6,7 @@ ghost use Rattle.clap.specs.Words.{first_of, found_of, kind_of, rows_of, takes};
 ghost use Rattle.clap.specs.Walk.{texts};
 ghost use Rattle.flowlabel.specs.Definition.{flowlabel_app};
 ghost use Rattle.flowlabel.specs.Request.{IsProper, request_of, source_of};
-ghost use Rattle.flowlabel.specs.Answer.{IsAnswer, IsFaultOfKind, IsOwnAnswer, ReadsBareLine, ReadsCatLine, ReadsCertificateLine, ReadsColumnsLine, ReadsInfoLine, ReadsListLine, ReadsMapLine, ReadsRowsLine, ReadsShrinkLine, address_in_rows, answer_of, answer_of_cat, answer_of_label, answer_of_rows, answer_of_shrink, file_in_rows, flows_in_rows, is_given, sources_in_rows, words_fault_of, answer_of_check, condition_in_rows, words_in_rows};
+ghost use Rattle.flowlabel.specs.Answer.{IsAnswer, IsFaultOfKind, IsOwnAnswer, ReadsBareLine, ReadsCatLine, ReadsCertificateLine, ReadsColumnsLine, ReadsInfoLine, ReadsListLine, ReadsMapLine, ReadsRowsLine, ReadsShrinkLine, address_in_rows, answer_of, answer_of_cat, answer_of_label, answer_of_rows, answer_of_shrink, file_in_rows, flows_in_rows, is_given, sources_in_rows, words_fault_of, answer_of_check, condition_in_rows, words_in_rows, answer_of_uniq, field_names_in_rows, fields_in_rows};
 ghost use Rattle.flowlabel.specs.declared.usage.UsageFault.TheVariants.{NoMemory};
 
 use crate::command::{Command, LabelFile};
@@ -15,6 +15,7 @@ use crate::usage::{ClapText, UsageFault};
 use clap::ArgMatches;
 use clap::error::ErrorKind;
 use flow_filter::{Filter, FilterFaultKind, FilterWords};
+use flow_uniq::{KeyFault, Keys};
 use prefix_keys::{Addr, read_addr};
 use std::alloc::Global;
 use std::io;
@@ -81,7 +82,7 @@ fn label_command<'a>(entries: &ArgMatches<'a>) -> Result<Command<'a>, UsageFault
     Ok(Command::Label { labels, addr })
 }
 
-/// The file of flows that the word FILE names: clap takes no line of `info` or `rows` without one.
+/// The file of flows that the word FILE names: clap takes no line of `info`, `rows` or `uniq` without one.
 fn flows_in<'a>(entries: &ArgMatches<'a>) -> &'a str
     ensures { result.now ≡ flows_in_rows (rows_of (found_of entries.now)) }
 {
@@ -150,6 +151,49 @@ fn rows_command<'a>(alloc: Global, entries: &ArgMatches<'a>) -> Result<Command<'
     })
 }
 
+/// The text of the fields that the line names: clap takes no line of `uniq` without one.
+fn field_names_in<'a>(entries: &ArgMatches<'a>) -> &'a str
+    ensures { result.now ≡ field_names_in_rows (rows_of (found_of entries.now)) }
+{
+    text_of(entries, "fields").unwrap_or("")
+}
+
+/// The fields of keys that the line names, or the fault of their text.
+fn keys_in(alloc: Global, entries: &ArgMatches<'_>) -> Result<Keys, UsageFault>
+    ensures ok { IfOk result (λ keys. fields_in_rows (rows_of (found_of entries.now)) ≡ Ok keys) }
+    ensures err { IfErr result (λ fault. fault ≢ NoMemory → fields_in_rows (rows_of (found_of entries.now)) ≡ Err fault) }
+{
+    match Keys::read(alloc, field_names_in(entries)) {
+        Ok(keys) => Ok(keys),
+        Err(KeyFault::NoMemory) => Err(UsageFault::NoMemory),
+        Err(fault) => Err(UsageFault::Key(fault)),
+    }
+}
+
+/// The command `uniq`, or its first usage fault, by the entries that clap found for it.
+fn uniq_command<'a>(alloc: Global, entries: &ArgMatches<'a>) -> Result<Command<'a>, UsageFault>
+    ensures ok { IfOk result (λ command. answer_of_uniq (rows_of (found_of entries.now)) ≡ Ok (request_of command)) }
+    ensures err { IfErr result (λ fault. fault ≢ NoMemory → answer_of_uniq (rows_of (found_of entries.now)) ≡ Err fault) }
+{
+    let labels = labels_in(entries)?;
+    let filter = filter_in(alloc, entries)?;
+    let keys = keys_in(alloc, entries)?;
+    if (filter.needs_map() || keys.needs_map()) && labels.is_none() {
+        return Err(UsageFault::LabelNeedsMap);
+    }
+    let sorted = is_given(entries, "sort-output");
+    let columns = is_given(entries, "columns");
+    let flows = flows_in(entries);
+    Ok(Command::Uniq {
+        keys,
+        labels,
+        filter,
+        sorted,
+        columns,
+        flows,
+    })
+}
+
 /// The command `cat`, or its first usage fault, by the entries that clap found for it.
 fn cat_command<'a>(entries: &ArgMatches<'a>) -> Result<Command<'a>, UsageFault>
     ensures ok { IfOk result (λ command. answer_of_cat (rows_of (found_of entries.now)) ≡ Ok (request_of command)) }
@@ -204,6 +248,9 @@ fn command_of<'a>(
     if name == "rows" {
         return rows_command(alloc, entries);
     }
+    if name == "uniq" {
+        return uniq_command(alloc, entries);
+    }
     if name == "cat" {
         return cat_command(entries);
     }
@@ -232,7 +279,7 @@ pub fn words_fault(kind: io::ErrorKind) -> UsageFault
 /// # Errors
 ///
 /// `Refused` or `Help` where clap refuses the line or is asked for help. Where clap takes it, the first of these:
-/// `MapTwice`, `MapMissing`, `BadAddress`, `Filter` of the first filter that can't be read, `LabelNeedsMap`. `NoMemory` where an allocation failed, in place of any other answer.
+/// `MapTwice`, `MapMissing`, `BadAddress`, `Filter` of the first filter that can't be read, `Key`, `LabelNeedsMap`. `NoMemory` where an allocation failed, in place of any other answer.
 pub fn parse<'a>(alloc: Global, words: &'a [&'a str]) -> Result<Command<'a>, UsageFault>
     ensures answer { IsAnswer (texts words.entry.now) result }
     ensures proper { IfOk result (λ command. IsProper (request_of command)) }

@@ -167,7 +167,7 @@ fn names_each_fault_of_a_file(rt: HostRuntime) -> Result<(), Fail> {
     Ok(())
 }
 
-const USAGE_FAULTS: [(RunFault<'static>, u8, &str); 10] = [
+const USAGE_FAULTS: [(RunFault<'static>, u8, &str); 13] = [
     (
         RunFault::Usage(UsageFault::NotUtf8),
         2,
@@ -217,6 +217,21 @@ const USAGE_FAULTS: [(RunFault<'static>, u8, &str); 10] = [
             option: FilterOption::Protocol,
             kind: FilterFaultKind::NoMemory,
         })),
+        3,
+        OUT_OF_MEMORY,
+    ),
+    (
+        RunFault::Usage(UsageFault::Key(KeyFault::BadField)),
+        2,
+        "flowlabel: usage: --fields U1 BadField\n",
+    ),
+    (
+        RunFault::Usage(UsageFault::Key(KeyFault::FieldRepeated)),
+        2,
+        "flowlabel: usage: --fields U2 FieldRepeated\n",
+    ),
+    (
+        RunFault::Usage(UsageFault::Key(KeyFault::NoMemory)),
         3,
         OUT_OF_MEMORY,
     ),

@@ -18,3 +18,15 @@ returns-in-Rows-clause-err g c =
     subst (λ (command : Command). IfErr c.report_under-in-Rows.result
     (IsFaultOfBytes g.R.Input.bytes_left g.R.Input.failed c.args.inputs.now c.report_under-in-Rows.new.inputs (IsOutput (request_of command))))
     (sym c.in-Rows.is) c.report_under-in-Rows.ensures.err
+
+pub returns-in-Uniq-clause-ok : goal.returns-in-Uniq-clause-ok
+returns-in-Uniq-clause-ok g c =
+    subst (λ (command : Command). IfOk c.report_under-in-Uniq.result
+    (λ out. (texts : FileTexts) → HaveTexts g.R.Input.bytes_left c.args.inputs.now texts → IsOutput (request_of command) texts (Ok out.items)))
+    (sym c.in-Uniq.is) c.report_under-in-Uniq.ensures.ok
+
+pub returns-in-Uniq-clause-err : goal.returns-in-Uniq-clause-err
+returns-in-Uniq-clause-err g c =
+    subst (λ (command : Command). IfErr c.report_under-in-Uniq.result
+    (IsFaultOfBytes g.R.Input.bytes_left g.R.Input.failed c.args.inputs.now c.report_under-in-Uniq.new.inputs (IsOutput (request_of command))))
+    (sym c.in-Uniq.is) c.report_under-in-Uniq.ensures.err

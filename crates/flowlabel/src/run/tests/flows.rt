@@ -4,6 +4,7 @@ ghost use Rattle.std.specs.Prelude.{◌≡◌, false};
 use super::*;
 
 mod filters;
+mod groups;
 
 // A template of five fields and a record.
 const ONE_RECORD: &str =

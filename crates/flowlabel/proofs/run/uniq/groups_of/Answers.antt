@@ -1,0 +1,19 @@
+use Rattle.std.proofs.Common.{◌∙◌, ◌+◌, ℕ, List, ap, map, take, sym}
+use Rattle.flow_rows.specs.Row.{RowView, row_view}
+use Rattle.flow_uniq.specs.Groups.{groups_of}
+use Rattle.flowlabel.specs.Labelling.{label_where, labelling_lent}
+use Rattle.flowlabel.proofs.GroupLemmas.{key_labels, one_more, take_more}
+use Rattle.flowlabel.proofs.run.uniq.groups_of.Goals as goal
+
+pub loop-row-preserved : goal.loop-row-preserved
+loop-row-preserved g c =
+    let label = label_where (labelling_lent g.L.Labeller.version_of g.L.Labeller.label c.args.labels) in
+    record {
+      fields = c.in_ok-add.ensures.fields ∙ c.loop-row.invariant.fields;
+      count = c.in_ok-add.ensures.count ∙ ap (λ (n : ℕ). n + 1) c.loop-row.invariant.count;
+      groups =
+          one_more c.args.keys.now c.loop-row.groups.fields label _ (map row_view (take c.loop-row.row-index c.args.rows.now)) (row_view c.row-item.result)
+          c.loop-row.groups.groups c.add.new.self.groups c.loop-row.invariant.fields
+          (key_labels g.L.Labeller.version_of g.L.Labeller.label c.args.labels) c.in_ok-add.ensures.ok c.loop-row.invariant.groups
+          ∙ ap (λ (rows : List RowView). groups_of c.args.keys.now label rows) (sym (take_more c.args.rows.now c.loop-row.row-index c.row-item.result c.row-item.is c.loop-row-test.true));
+    }
