@@ -34,7 +34,7 @@ const ACCEPTED: [(Texts, &str); 2] = [
 ];
 
 // Such texts, and the line of the fault.
-const REFUSED: [(Texts, &str); 14] = [
+const REFUSED: [(Texts, &str); 16] = [
     (
         (
             QUARTERS_MAP,
@@ -58,6 +58,22 @@ const REFUSED: [(Texts, &str); 14] = [
             "flowlabel-cert 1 ipv4 4\nA\nB\nC\nUNKNOWN\nn 2 0\nn 1 0 1\nl 1\nl 1\nn 1 0 2\nl 0\nl 2\n",
         ),
         "flowlabel: cert.txt: K2 LeafNotUniform at 3\n",
+    ),
+    (
+        (
+            QUARTERS_MAP,
+            "mode ipv4\n0.0.0.0/0 A\n0.0.0.0/3 A\n64.0.0.0/2 B\n192.0.0.0/2 C\n",
+            "flowlabel-cert 1 ipv4 4\nA\nB\nC\nUNKNOWN\nn 2 0\nn 1 0 1\nl 0\nl 1\nn 1 0 2\nl 0\nl 2\n",
+        ),
+        "flowlabel: cert.txt: K3 ListDiffers at 3\n",
+    ),
+    (
+        (
+            QUARTERS_MAP,
+            QUARTERS_LIST,
+            "flowlabel-cert 1 ipv4 4\nA\nB\nC\nUNKNOWN\nn 1 0\nn 1 0 1\nl 0\nl 1\nn 1 0 2\nl 0\nl 2\n",
+        ),
+        "flowlabel: cert.txt: K6 BoundNotMet at 0\n",
     ),
     (
         (
