@@ -15,7 +15,7 @@ use Rattle.flowlabel.specs.declared.inputs.Inputs.{Inputs}
 use Rattle.flowlabel.specs.declared.inputs.Source.{Source}
 
 -- a text comes of the map that a map text is read as, and of the list that a list text is read as
-printed_of_map : (rest : MapModel → Outcome → Type 0) (text out : List ℕ) → MapThen rest text (Ok out)
+pub printed_of_map : (rest : MapModel → Outcome → Type 0) (text out : List ℕ) → MapThen rest text (Ok out)
     → (m : MapModel) × ReadsMap text m × rest m (Ok out)
 printed_of_map rest text out (inl (fault, fails, is)) = cc
 printed_of_map rest text out (inr found) = found

@@ -7,3 +7,4 @@ pub mod Labelling
 pub mod Output
 pub mod Run
 pub mod Opening
+pub mod Headline

@@ -1,3 +1,4 @@
+ghost use Rattle.flowlabel.specs.Headline.{ShrunkIsLeast};
 ghost use Rattle.flowlabel.specs.Output.{CheckAcceptsMinimal, CheckIsEnough, OneOutput, SameUnderEquivalents};
 
 use cert_check::laws::no_fault_is_acceptance;
@@ -43,4 +44,15 @@ pub fn check_accepts_minimal()
     pmap_cert::laws::minimal_pair_is_accepted();
     pmap_print::laws::printed_order_is_one();
     pmap_print::laws::printed_list_is_read_back();
+}
+
+/// What `shrink` prints for a map text is right and least: the list labels every address as the map does, no list that does so
+/// has fewer entries, and `check` over the map text, that list, where it is within the limits of a text, and the certificate
+/// that `shrink` prints gives the number of its entries.
+pub fn shrunk_list_is_least()
+    ensures { ShrunkIsLeast }
+{
+    check_accepts_minimal();
+    pmap_cert::laws::minimal_pair_is_accepted();
+    minimal_certificate_is_one();
 }
