@@ -273,9 +273,9 @@ fn keeps_the_file_of_flows(rt: HostRuntime) -> Result<(), Fail> {
 
 // The text that clap has for the user, and whether it is help.
 fn clap_text(answer: Result<Command<'_>, UsageFault>) -> Option<(bool, ClapText)> {
-    match answer {
-        Err(UsageFault::Refused(text)) => Some((false, text)),
-        Err(UsageFault::Help(text)) => Some((true, text)),
+    match answer.err()? {
+        UsageFault::Refused(text) => Some((false, text)),
+        UsageFault::Help(text) => Some((true, text)),
         _ => None,
     }
 }
