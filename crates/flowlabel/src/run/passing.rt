@@ -62,8 +62,8 @@ fn add_rows_of_records<L: Labeller>(
     Ok(())
 }
 
-// Adds the rows of sets that pass a filter.
-fn add_rows_of_sets<L: Labeller>(
+/// Adds the rows of sets that pass a filter.
+pub fn add_rows_of_sets<L: Labeller>(
     rows: &mut Vec<Row>,
     filter: &Filter<'_>,
     labels: Option<&L>,

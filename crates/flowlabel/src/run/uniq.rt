@@ -1,10 +1,12 @@
 //! What `uniq` prints.
-ghost use Rattle.std.specs.Prelude.{◌≡◌, IfOk, map};
-ghost use Rattle.flow_rows.specs.Row.{row_view};
-ghost use Rattle.flow_uniq.specs.Groups.{groups_of};
+ghost use Rattle.std.specs.Prelude.{◌≡◌, ◌+◌, ◌^◌, ◌<◌, ◌≤◌, ◌++◌, IfOk, List, OnOk, length, map};
+ghost use Rattle.flow_filter.specs.Filters.{condition_in};
+ghost use Rattle.flow_rows.specs.Row.{RowView, row_view};
+ghost use Rattle.flow_uniq.specs.Groups.{groups_of, record_count};
 ghost use Rattle.flowlabel.specs.Labelling.{label_where, labelling_lent};
+ghost use Rattle.flowlabel.specs.Output.{passing_rows};
 
-use crate::run::passing::passing_rows;
+use crate::run::passing::add_rows_of_sets;
 use crate::run::report::Report;
 use flow_filter::Filter;
 use flow_rows::Row;
@@ -36,26 +38,50 @@ impl<'a> Report for UniqReport<'a> {
         labels: Option<&L>,
         messages: &[Message<'_>],
     ) -> Result<Vec<u8>, AllocError> {
-        let rows = passing_rows(alloc, self.filter, labels, messages)?;
-        let groups = groups_of(alloc, self.keys, labels, rows.as_slice())?;
+        let groups = groups_of(alloc, self.keys, self.filter, labels, messages)?;
         print_groups(alloc, &groups, self.sorted, self.columns)
     }
 }
 
-// The groups of rows.
+// Adds rows to groups.
+fn add_rows<L: Labeller>(
+    groups: &mut Groups,
+    labels: Option<&L>,
+    rows: &[Row],
+) -> Result<(), AllocError>
+    requires { record_count groups.old.groups + length rows.now < 2 ^ 64 }
+    ensures fields { groups.new.fields ≡ groups.old.fields }
+    ensures count { OnOk result (record_count groups.new.groups ≡ record_count groups.old.groups + length rows.now) }
+    ensures groups { let label = label_where (labelling_lent L.version_of L.label labels.entry) in
+        OnOk result ((earlier : List RowView) → groups.old.groups ≡ groups_of groups.old.fields label earlier
+        → groups.new.groups ≡ groups_of groups.old.fields label (earlier ++ map row_view rows.now)) }
+{
+    for row in rows {
+        groups.add(row, labels)?;
+    }
+    Ok(())
+}
+
+// The groups of the rows of messages that pass a filter. The rows of one message are had at a time.
 fn groups_of<L: Labeller>(
     alloc: Global,
     keys: &Keys,
+    filter: &Filter<'_>,
     labels: Option<&L>,
-    rows: &[Row],
+    messages: &[Message<'_>],
 ) -> Result<Groups, AllocError>
+    requires { length messages.now ≤ 4294967295 }
     ensures fields { IfOk result (λ groups. groups.fields ≡ keys.now) }
-    ensures groups { let label = label_where (labelling_lent L.version_of L.label labels.entry) in
-        IfOk result (λ groups. groups.groups ≡ groups_of keys.now label (map row_view rows.now)) }
+    ensures groups { let labelling = labelling_lent L.version_of L.label labels.entry in
+        IfOk result (λ groups. groups.groups
+        ≡ groups_of keys.now (label_where labelling) (passing_rows (condition_in filter.now) labelling messages.now)) }
 {
     let mut groups = Groups::new(alloc, keys)?;
-    for row in rows {
-        groups.add(row, labels)?;
+    let mut rows = Vec::new(alloc);
+    for message in messages {
+        rows.clear();
+        add_rows_of_sets(&mut rows, filter, labels, message.sets().as_slice())?;
+        add_rows(&mut groups, labels, rows.as_slice())?;
     }
     Ok(groups)
 }
