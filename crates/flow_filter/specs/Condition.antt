@@ -2,9 +2,7 @@ use Rattle.std.specs.Prelude.{ℕ, ◌&&◌, ◌||◌, Bool, true, false, List, 
 use Rattle.std.specs.Option.{is_some}
 use Rattle.std.specs.Str.{bytes_eq}
 use Rattle.prefix_keys.specs.Text.{AddressOf}
-use Rattle.prefix_keys.specs.declared.version.Version.{Version}
 use Rattle.flow_rows.specs.Row.{RowView}
-use Rattle.label_lookup.specs.RowLabel.{label_of_row_address}
 
 -- What filters ask of a row.
 
@@ -64,8 +62,3 @@ row_passes c label row =
 -- a condition on labels is given
 abbrev pub needs_map : Condition → Bool
 needs_map c = is_some c.src_label || is_some c.dst_label || is_some c.any_label
-
--- the label of a row's address by what knows labels, where there is one: without it no address has a label
-abbrev pub label_under : {X : Type 0} → (X → Version) → (X → ℕ → Option (List ℕ)) → Option X → AddressOf → Option (List ℕ)
-label_under version label None address = None
-label_under version label (Some labeller) address = label_of_row_address (version labeller) (label labeller) address

@@ -1,6 +1,7 @@
 ghost use Rattle.std.specs.Prelude.{◌≡◌, ◌&&◌, IfErr, IfOk, Ok, option_map};
 ghost use Rattle.flow_rows.specs.Row.{row_view};
-ghost use Rattle.flow_filter.specs.Condition.{allows, allows_counts, allows_labels, allows_ports, label_under, needs_map, row_passes};
+ghost use Rattle.flow_filter.specs.Condition.{allows, allows_counts, allows_labels, allows_ports, needs_map, row_passes};
+ghost use Rattle.label_lookup.specs.RowLabel.{label_under};
 ghost use Rattle.flow_filter.specs.Filters.{condition_in};
 ghost use Rattle.flow_filter.specs.Given.{by_place, covering};
 ghost use Rattle.flow_filter.specs.Ranges.{in_ranges};

@@ -1,26 +1,16 @@
 ghost use Rattle.std.specs.Prelude.{◌≡◌, option_map};
-ghost use Rattle.flow_filter.specs.Condition.{allows_either, allows_label, is_label, label_under};
+ghost use Rattle.flow_filter.specs.Condition.{allows_either, allows_label, is_label};
+ghost use Rattle.label_lookup.specs.RowLabel.{label_under};
 
-use label_lookup::{Labeller, label_row};
+use label_lookup::{Labeller, label_row_under};
 use prefix_keys::Addr;
-
-/// The label of a row's address, where something knows labels.
-fn label_of_address<'a, L: Labeller>(labeller: Option<&'a L>, addr: Addr) -> Option<&'a [u8]>
-    ensures { option_map (λ t. t.now) result
-        ≡ label_under L.version_of L.label (option_map (λ l. l.now) labeller.entry) (addr.version, addr.value) }
-{
-    match labeller {
-        None => None,
-        Some(labeller) => label_row(labeller, addr),
-    }
-}
 
 /// Whether the row's address has this label.
 fn has_label<L: Labeller>(label: &str, labeller: Option<&L>, addr: Addr) -> bool
     ensures { result ≡ is_label label.now
         (label_under L.version_of L.label (option_map (λ l. l.now) labeller.entry) (addr.version, addr.value)) }
 {
-    match label_of_address(labeller, addr) {
+    match label_row_under(labeller, addr) {
         None => false,
         Some(found) => found == label.as_bytes(),
     }

@@ -6,7 +6,6 @@ use Rattle.prefix_keys.specs.Text.{AddressOf}
 use Rattle.prefix_keys.specs.declared.version.Version.{Version}
 use Rattle.prefix_keys.specs.declared.version.Version.TheVariants.{V4, V6}
 use Rattle.pmap_text.specs.MapModel.{Label}
-use Rattle.label_lookup.specs.RowLabel.{label_of_row_address}
 use Rattle.flow_rows.specs.Row.{RowView}
 use Rattle.flow_uniq.specs.declared.field.KeyField.{KeyField}
 use Rattle.flow_uniq.specs.declared.field.KeyField.TheVariants.{SourceAddress, DestinationAddress, SourcePort, DestinationPort, Protocol, Flags, SourceLabel, DestinationLabel}
@@ -19,12 +18,6 @@ pub data KeyPartModel : Type 0 where
 
 abbrev pub Key : Type 0
 Key = List KeyPartModel
-
--- the label of a row's address by the version of what knows labels and the label that it has at each address. Where there
--- is nothing that knows labels, no address has one
-abbrev pub row_label : Option (Version × (ℕ → Option Label)) → AddressOf → Option Label
-row_label None address = None
-row_label (Some known) address = label_of_row_address known.0 known.1 address
 
 module _ (label : AddressOf → Option Label) where
   -- what a field of a row is, where each address has this label

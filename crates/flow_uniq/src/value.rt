@@ -1,12 +1,13 @@
 ghost use Rattle.std.specs.Prelude.{◌≡◌, ◌++◌, IfOk, OnOk, option_map};
 ghost use Rattle.flow_rows.specs.Row.{row_view};
-ghost use Rattle.flow_uniq.specs.Key.{key_part, row_label, version_number};
+ghost use Rattle.label_lookup.specs.RowLabel.{label_under};
+ghost use Rattle.flow_uniq.specs.Key.{key_part, version_number};
 ghost use Rattle.flow_uniq.specs.Parts.{part_code, part_model, value_model};
 
 use crate::field::KeyField;
 use crate::part::{KeyLabel, KeyPart};
 use flow_rows::Row;
-use label_lookup::{Labeller, label_row};
+use label_lookup::{Labeller, label_row_under};
 use prefix_keys::{Addr, Version};
 use std::alloc::{AllocError, Global};
 
@@ -21,24 +22,13 @@ pub enum FieldValue<'a> {
     Label(Option<&'a [u8]>),
 }
 
-// The label of an address by a labeller, where there is one.
-fn label_by<L: Labeller>(labeller: Option<&L>, addr: Addr) -> Option<&[u8]>
-    ensures { option_map (λ t. t.now) result
-        ≡ row_label (option_map (λ l. (L.version_of l.now, L.label l.now)) labeller.entry) (addr.version, addr.value) }
-{
-    match labeller {
-        Some(labeller) => label_row(labeller, addr),
-        None => None,
-    }
-}
-
 /// What this field of the row is.
 pub fn value_of<'a, L: Labeller>(
     field: KeyField,
     row: &Row,
     labeller: Option<&'a L>,
 ) -> FieldValue<'a>
-    ensures { let label = row_label (option_map (λ l. (L.version_of l.now, L.label l.now)) labeller.entry) in
+    ensures { let label = label_under L.version_of L.label (option_map (λ l. l.now) labeller.entry) in
         value_model result ≡ key_part label (row_view row.now) field }
 {
     match field {
@@ -48,8 +38,8 @@ pub fn value_of<'a, L: Labeller>(
         KeyField::DestinationPort => FieldValue::Number(row.dport),
         KeyField::Protocol => FieldValue::Number(u16::from(row.protocol)),
         KeyField::Flags => FieldValue::Number(row.flags),
-        KeyField::SourceLabel => FieldValue::Label(label_by(labeller, row.src)),
-        KeyField::DestinationLabel => FieldValue::Label(label_by(labeller, row.dst)),
+        KeyField::SourceLabel => FieldValue::Label(label_row_under(labeller, row.src)),
+        KeyField::DestinationLabel => FieldValue::Label(label_row_under(labeller, row.dst)),
     }
 }
 

@@ -19,8 +19,9 @@ use Rattle.flow_rows.specs.Content.{records_in, records_of, rows_of}
 use Rattle.flow_rows.specs.Elements.{first_row, rows_of_record}
 use Rattle.flow_rows.specs.Row.{RowView, row_view}
 use Rattle.flow_rows.specs.declared.row.Row.{Row}
+use Rattle.label_lookup.specs.RowLabel.{label_under}
 use Rattle.flow_uniq.specs.Groups.{GroupModel, KeyedRow, groups_of, groups_of_keyed, keyed}
-use Rattle.flow_uniq.specs.Key.{Key, key_of, row_label}
+use Rattle.flow_uniq.specs.Key.{Key, key_of}
 use Rattle.flow_uniq.specs.declared.field.KeyField.{KeyField}
 use Rattle.flow_filter.specs.Condition.{Condition}
 use Rattle.flowlabel.specs.Labelling.{Labelling, label_where, labelling_lent}
@@ -28,7 +29,7 @@ use Rattle.flowlabel.specs.Output.{passing, passing_rows}
 
 -- the labels of keys are those of the labelling
 pub key_labels : {L : Type 0} (version : L → Version) (label : L → ℕ → Option Label) (lent : Option (Bor L))
-    → row_label (option_map (λ l. (version l.now, label l.now)) lent) ≡ label_where (labelling_lent version label lent)
+    → label_under version label (option_map (λ l. l.now) lent) ≡ label_where (labelling_lent version label lent)
 key_labels version label None = refl
 key_labels version label (Some l) = refl
 

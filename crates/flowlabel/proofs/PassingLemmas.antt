@@ -5,7 +5,8 @@ use Rattle.std.specs.Borrow.{Bor}
 use Rattle.std.specs.Option.{option_to_list}
 use Rattle.prefix_keys.specs.declared.version.Version.{Version}
 use Rattle.pmap_text.specs.MapModel.{Label}
-use Rattle.flow_filter.specs.Condition.{Condition, label_under, row_passes}
+use Rattle.label_lookup.specs.RowLabel.{label_under}
+use Rattle.flow_filter.specs.Condition.{Condition, row_passes}
 use Rattle.flow_rows.specs.Row.{RowView}
 use Rattle.flowlabel.specs.Labelling.{label_where, labelling_lent}
 use Rattle.flowlabel.specs.Output.{passes}

@@ -286,7 +286,7 @@ fn program<'a>(alloc: Global) -> Command<'a>
     ensures required { (out-Command result).subcommand_required ≡ true }
 {
     Command::new(alloc, "flowlabel")
-        .about("Label addresses by a prefix map, and print network flows")
+        .about("Label addresses by a prefix map, report on network flows, and shrink maps")
         .subcommand_required(true)
         .disable_help_subcommand(true)
 }

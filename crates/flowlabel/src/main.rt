@@ -1,4 +1,5 @@
-//! `flowlabel`: labels addresses from a prefix map, and prints and counts the flows of IPFIX Files.
+//! `flowlabel`: labels addresses by a prefix map or a prefix list, prints, filters and sums the flows of IPFIX Files, and
+//! makes and checks shortest lists.
 //!
 //! It stands on all the other crates: `parse` reads the command line (clap takes the words apart), `open_all` opens the
 //! files that it names, and `run` reads them, makes the whole output and then writes it. What may be relied on is the

@@ -5,7 +5,7 @@ ghost use Rattle.flowlabel.specs.Output.{FileTexts, IsOutput};
 ghost use Rattle.flowlabel.specs.Request.{needs_of, request_of};
 ghost use Rattle.flowlabel.specs.Run.{any_failed, is_read_stop, is_write_stop, AreNeeded, HaveTexts, IsFaultOfBytes, IsFaultOfRun, PrintsThen};
 
-use crate::command::{Command, LabelFile};
+use crate::command::Command;
 use crate::fault::RunFault;
 use crate::inputs::Inputs;
 use crate::writing::{WriteFault, write_whole};
@@ -30,7 +30,7 @@ pub mod uniq;
 use cat::runs_under;
 use check::check_files;
 use info::InfoReport;
-use label::{label_by_list, label_by_map};
+use label::label_under;
 use labelled::report_under;
 use rows::RowsReport;
 use shrink::shrunk_by_map;
@@ -50,24 +50,7 @@ fn output<'a, R: Input>(
     ensures failed { any_failed R.failed inputs.new ≡ is_read_stop result }
 {
     match command {
-        Command::Label {
-            labels: LabelFile::Map(_),
-            addr,
-        } => {
-            let Some(source) = &mut inputs.map else {
-                unreachable!()
-            };
-            label_by_map(alloc, source, *addr)
-        }
-        Command::Label {
-            labels: LabelFile::List(_),
-            addr,
-        } => {
-            let Some(source) = &mut inputs.list else {
-                unreachable!()
-            };
-            label_by_list(alloc, source, *addr)
-        }
+        Command::Label { labels, addr } => label_under(alloc, *labels, inputs, *addr),
         Command::Info { .. } => report_under(alloc, None, inputs, &InfoReport),
         Command::Rows {
             labels,

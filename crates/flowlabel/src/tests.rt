@@ -17,60 +17,60 @@ fn name_of_fault(kind: FilterFaultKind) -> &'static str {
     }
 }
 
+fn name_of_command(command: &Command<'_>) -> &'static str {
+    match command {
+        Command::Label {
+            labels: LabelFile::Map(_),
+            ..
+        } => "label",
+        Command::Label {
+            labels: LabelFile::List(_),
+            ..
+        } => "label by list",
+        Command::Info { .. } => "info",
+        Command::Rows { columns: false, .. } => "rows",
+        Command::Rows { columns: true, .. } => "rows in columns",
+        Command::Uniq { sorted: false, .. } => "uniq",
+        Command::Uniq { sorted: true, .. } => "uniq sorted",
+        Command::Cat {
+            labels: LabelFile::Map(_),
+        } => "cat",
+        Command::Cat {
+            labels: LabelFile::List(_),
+        } => "cat by list",
+        Command::Shrink {
+            certificate: false,
+            ..
+        } => "shrink",
+        Command::Shrink {
+            certificate: true,
+            ..
+        } => "certificate",
+        Command::Check { .. } => "check",
+    }
+}
+
+fn name_of_usage_fault(fault: &UsageFault) -> &'static str {
+    match fault {
+        UsageFault::Refused(_) => "refused",
+        UsageFault::NotUtf8 => "P1",
+        UsageFault::Help(_) => "help",
+        UsageFault::MapMissing => "P2",
+        UsageFault::MapTwice => "P3",
+        UsageFault::BadAddress => "P4",
+        UsageFault::Filter(fault) => name_of_fault(fault.kind),
+        UsageFault::Key(KeyFault::BadField) => "U1",
+        UsageFault::Key(KeyFault::FieldRepeated) => "U2",
+        UsageFault::Key(KeyFault::NoMemory) => "U3",
+        UsageFault::LabelNeedsMap => "P5",
+        UsageFault::NoMemory => "out of memory",
+    }
+}
+
 fn name_of(answer: &Result<Command<'_>, UsageFault>) -> &'static str {
     match answer {
-        Ok(
-            Command::Label {
-                labels: LabelFile::Map(_),
-                ..
-            },
-        ) => "label",
-        Ok(
-            Command::Label {
-                labels: LabelFile::List(_),
-                ..
-            },
-        ) => "label by list",
-        Ok(Command::Info { .. }) => "info",
-        Ok(Command::Rows { columns: false, .. }) => "rows",
-        Ok(Command::Rows { columns: true, .. }) => "rows in columns",
-        Ok(Command::Uniq { sorted: false, .. }) => "uniq",
-        Ok(Command::Uniq { sorted: true, .. }) => "uniq sorted",
-        Ok(
-            Command::Cat {
-                labels: LabelFile::Map(_),
-            },
-        ) => "cat",
-        Ok(
-            Command::Cat {
-                labels: LabelFile::List(_),
-            },
-        ) => "cat by list",
-        Ok(
-            Command::Shrink {
-                certificate: false,
-                ..
-            },
-        ) => "shrink",
-        Ok(
-            Command::Shrink {
-                certificate: true,
-                ..
-            },
-        ) => "certificate",
-        Ok(Command::Check { .. }) => "check",
-        Err(UsageFault::Refused(_)) => "refused",
-        Err(UsageFault::NotUtf8) => "P1",
-        Err(UsageFault::Help(_)) => "help",
-        Err(UsageFault::MapMissing) => "P2",
-        Err(UsageFault::MapTwice) => "P3",
-        Err(UsageFault::BadAddress) => "P4",
-        Err(UsageFault::Filter(fault)) => name_of_fault(fault.kind),
-        Err(UsageFault::Key(KeyFault::BadField)) => "U1",
-        Err(UsageFault::Key(KeyFault::FieldRepeated)) => "U2",
-        Err(UsageFault::Key(KeyFault::NoMemory)) => "U3",
-        Err(UsageFault::LabelNeedsMap) => "P5",
-        Err(UsageFault::NoMemory) => "out of memory",
+        Ok(command) => name_of_command(command),
+        Err(fault) => name_of_usage_fault(fault),
     }
 }
 

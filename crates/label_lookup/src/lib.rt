@@ -16,6 +16,6 @@ pub mod trie_labeller;
 
 pub use labeller::Labeller;
 pub use list_index::ListIndex;
-pub use row::label_row;
+pub use row::{label_row, label_row_under};
 pub use scan::Scan;
 pub use trie_labeller::TrieLabeller;

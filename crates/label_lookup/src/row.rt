@@ -1,5 +1,5 @@
 ghost use Rattle.std.specs.Prelude.{◌≡◌, option_map};
-ghost use Rattle.label_lookup.specs.RowLabel.{label_of_row_address};
+ghost use Rattle.label_lookup.specs.RowLabel.{label_of_row_address, label_under};
 
 use crate::labeller::Labeller;
 use prefix_keys::{Addr, convert};
@@ -12,6 +12,17 @@ pub fn label_row<L: Labeller>(labeller: &L, addr: Addr) -> Option<&[u8]>
 {
     match convert(addr, labeller.version()) {
         Some(place) => labeller.label_of(place),
+        None => None,
+    }
+}
+
+/// The same by a labeller that there may be: without one no address has a label.
+pub fn label_row_under<L: Labeller>(labeller: Option<&L>, addr: Addr) -> Option<&[u8]>
+    ensures { option_map (λ t. t.now) result
+        ≡ label_under L.version_of L.label (option_map (λ l. l.now) labeller.entry) (addr.version, addr.value) }
+{
+    match labeller {
+        Some(labeller) => label_row(labeller, addr),
         None => None,
     }
 }

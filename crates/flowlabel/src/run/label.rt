@@ -1,13 +1,15 @@
 //! What `label` prints.
-ghost use Rattle.std.specs.Prelude.{◌≡◌, ℕ, List, [], Ok, Some, false, IfErr, IfOk, option_map, unwrap_or};
+ghost use Rattle.std.specs.Prelude.{◌≡◌, ℕ, List, [], Ok, None, Some, false, IfErr, IfOk, option_map, unwrap_or};
 ghost use Rattle.pmap_text.specs.MapText.{map_of};
 ghost use Rattle.pmap_text.specs.PrefixList.{list_of};
 ghost use Rattle.flowlabel.specs.Labelling.{labelling, labelling_of_list, labelling_of_map};
-ghost use Rattle.flowlabel.specs.Output.{ListThen, MapThen, Prints, label_text, line_of};
-ghost use Rattle.flowlabel.specs.Run.{is_read_stop, IsFaultOfListFile, IsFaultOfMapFile};
+ghost use Rattle.flowlabel.specs.Output.{FileTexts, LabelsThen, ListThen, MapThen, Prints, label_text, line_of};
+ghost use Rattle.flowlabel.specs.Request.{files_named, needs_named, source_of};
+ghost use Rattle.flowlabel.specs.Run.{any_failed, is_read_stop, AreNeeded, HaveTexts, IsFaultOfBytes, IsFaultOfListFile, IsFaultOfMapFile};
 
+use crate::command::LabelFile;
 use crate::fault::RunFault;
-use crate::inputs::Source;
+use crate::inputs::{Inputs, Source};
 use crate::run::address_labels::AddressLabels;
 use crate::run::map_labels::{MapLabels, trie_of};
 use crate::run::source::{list_of_file, map_of_file};
@@ -52,8 +54,8 @@ fn line_by_list(alloc: Global, list: &PrefixList, addr: Addr) -> Result<Vec<u8>,
     line_by(alloc, &ListIndex::build(alloc, list)?, addr)
 }
 
-/// The line of the label that the map of a file gives an address.
-pub fn label_by_map<'a, R: Input>(
+// The line of the label that the map of a file gives an address.
+fn label_by_map<'a, R: Input>(
     alloc: Global,
     source: &mut Source<'a, R>,
     addr: Addr,
@@ -72,8 +74,8 @@ pub fn label_by_map<'a, R: Input>(
     }
 }
 
-/// The line of the label that the prefix list of a file gives an address.
-pub fn label_by_list<'a, R: Input>(
+// The line of the label that the prefix list of a file gives an address.
+fn label_by_list<'a, R: Input>(
     alloc: Global,
     source: &mut Source<'a, R>,
     addr: Addr,
@@ -89,5 +91,36 @@ pub fn label_by_list<'a, R: Input>(
     match line_by_list(alloc, &list, addr) {
         Ok(out) => Ok(out),
         Err(_) => Err(RunFault::NoMemory),
+    }
+}
+
+/// The line of the label that a file of labels gives an address.
+pub fn label_under<'a, R: Input>(
+    alloc: Global,
+    labels: LabelFile<'_>,
+    inputs: &mut Inputs<'a, R>,
+    addr: Addr,
+) -> Result<Vec<u8>, RunFault<'a>>
+    requires needed { AreNeeded (needs_named (files_named (Some (source_of labels)) None)) inputs.old }
+    requires readers { any_failed R.failed inputs.old ≡ false }
+    ensures ok { IfOk result (λ out. (texts : FileTexts) → HaveTexts R.bytes_left inputs.old texts
+        → LabelsThen (source_of labels.entry) (λ l. Prints (label_text (addr.version, addr.value) l)) texts (Ok out.items)) }
+    ensures err { IfErr result (IsFaultOfBytes R.bytes_left R.failed inputs.old inputs.new
+        (LabelsThen (source_of labels.entry) (λ l. Prints (label_text (addr.version, addr.value) l)))) }
+    ensures failed { any_failed R.failed inputs.new ≡ is_read_stop result }
+{
+    match labels {
+        LabelFile::Map(_) => {
+            let Some(source) = &mut inputs.map else {
+                unreachable!()
+            };
+            label_by_map(alloc, source, addr)
+        }
+        LabelFile::List(_) => {
+            let Some(source) = &mut inputs.list else {
+                unreachable!()
+            };
+            label_by_list(alloc, source, addr)
+        }
     }
 }

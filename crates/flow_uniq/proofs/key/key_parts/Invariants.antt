@@ -1,6 +1,7 @@
 use Rattle.std.proofs.Common.{◌≡◌, map, option_map, take}
 use Rattle.flow_rows.specs.Row.{row_view}
-use Rattle.flow_uniq.specs.Key.{key_of, row_label}
+use Rattle.label_lookup.specs.RowLabel.{label_under}
+use Rattle.flow_uniq.specs.Key.{key_of}
 use Rattle.flow_uniq.specs.Parts.{part_model}
 use Rattle.flow_uniq.proofs.key.key_parts.Given as goal
 
@@ -8,4 +9,4 @@ use Rattle.flow_uniq.proofs.key.key_parts.Given as goal
 abbrev pub invariant-loop-field : goal.invariant-loop-field
 invariant-loop-field g l =
     map part_model l.key.items
-    ≡ key_of (row_label (option_map (λ x. (g.L.Labeller.version_of x.now, g.L.Labeller.label x.now)) l.labeller)) (take l.field-index l.fields) (row_view l.row)
+    ≡ key_of (label_under g.L.Labeller.version_of g.L.Labeller.label (option_map (λ x. x.now) l.labeller)) (take l.field-index l.fields) (row_view l.row)
