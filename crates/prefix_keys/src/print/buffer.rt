@@ -1,4 +1,4 @@
-ghost use Rattle.std.specs.Prelude.{◌≡◌, ◌+◌, ◌*◌, ◌^◌, ◌<◌, ◌≤◌, [], ◌∷◌, ◌++◌, All, false, length};
+ghost use Rattle.std.specs.Prelude.{◌≡◌, ◌+◌, ◌*◌, ◌/◌, ◌%◌, ◌^◌, ◌<◌, ◌≤◌, [], ◌∷◌, ◌++◌, All, false, length};
 ghost use Rattle.std.specs.Fmt.{digit_glyph, digits};
 ghost use Rattle.prefix_keys.specs.Print.{joined_text};
 ghost use Rattle.prefix_keys.specs.declared.print.buffer.TheConstants.{CAPACITY};
@@ -37,6 +37,30 @@ fn glyph(digit: u32) -> u8
     }
 }
 
+// The number by the base. A division by a constant is several times as fast as one by a variable, so the two bases in use
+// have one each; the same holds of what is left.
+fn quotient(number: u32, base: u32) -> u32
+    requires { 2 ≤ base }
+    ensures { result ≡ number / base }
+{
+    match base {
+        10 => number / 10,
+        16 => number / 16,
+        _ => number / base,
+    }
+}
+
+fn remainder(number: u32, base: u32) -> u32
+    requires { 2 ≤ base }
+    ensures { result ≡ number % base }
+{
+    match base {
+        10 => number % 10,
+        16 => number % 16,
+        _ => number % base,
+    }
+}
+
 impl TextBuffer {
     /// The empty text.
     pub fn new() -> Self
@@ -72,9 +96,9 @@ impl TextBuffer {
         ensures { self.new ≡ self.old ++ digits base false number }
     {
         if number >= base {
-            self.push_number(number / base, base);
+            self.push_number(quotient(number, base), base);
         }
-        self.push(glyph(number % base));
+        self.push(glyph(remainder(number, base)));
     }
 
     /// Appends numbers of up to four digits in the base, with the separator between each two.
