@@ -4,8 +4,7 @@ use Rattle.pmap_text.specs.MapModel.{MapModel}
 use Rattle.pmap_text.specs.Reading.{ReadsMap}
 use Rattle.pmap_cert.specs.Acceptance.{IsLeast}
 use Rattle.pmap_print.specs.List.{list_text}
-use Rattle.pmap_print.specs.ReadBack.{CanBeReadAgain}
-use Rattle.flowlabel.specs.Output.{FileTexts, IsOutput, minimal_text}
+use Rattle.flowlabel.specs.Output.{FileTexts, FitsText, IsOutput, minimal_text}
 use Rattle.flowlabel.specs.Request.{check, shrink}
 
 -- What a user of the shortest lists may rest on.
@@ -17,5 +16,5 @@ abbrev pub ShrunkIsLeast : Type 0
 ShrunkIsLeast = (file map list certificate : List ℕ) (texts : FileTexts) (shrunk claimed : List ℕ)
     → IsOutput (shrink file false) texts (Ok shrunk) → IsOutput (shrink file true) texts (Ok claimed)
     → (m : MapModel) × (l : ListModel) × ReadsMap texts.map m × (shrunk ≡ list_text l) × IsEquivalent l m × IsLeast m l
-    × (CanBeReadAgain l
+    × (FitsText l
     → IsOutput (check map list certificate) (record texts { list = shrunk; certificate = claimed }) (Ok (minimal_text (length l.prefixes))))

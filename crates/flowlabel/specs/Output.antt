@@ -1,8 +1,8 @@
-use Rattle.std.specs.Prelude.{◌≡◌, ◌⊎◌, ◌↔◌, ℕ, List, [], ◌∷◌, ◌++◌, Bool, true, false, Option, Some, None, Result, Ok, Err, map, option_map, unwrap_or, codes, decimal, length, filter}
+use Rattle.std.specs.Prelude.{◌≡◌, ◌≤◌, ◌⊎◌, ◌↔◌, ℕ, List, [], ◌∷◌, ◌++◌, Bool, true, false, Option, Some, None, Result, Ok, Err, map, option_map, unwrap_or, codes, decimal, length, filter}
 use Rattle.prefix_keys.specs.Text.{AddressOf}
 use Rattle.pmap_text.specs.ListModel.{IsEquivalent, ListModel}
 use Rattle.pmap_text.specs.MapModel.{MapModel}
-use Rattle.pmap_text.specs.Reading.{ReadsList, ReadsMap, list_reading, map_reading}
+use Rattle.pmap_text.specs.Reading.{ReadsList, ReadsMap, label_limit, list_reading, map_reading, mapping_limit}
 use Rattle.pmap_text.specs.declared.fault.MapFault.{MapFault}
 use Rattle.pmap_cert.specs.Acceptance.{IsAccepted, IsLeast}
 use Rattle.pmap_cert.specs.CertificateForm.{HasTextForm}
@@ -26,7 +26,7 @@ use Rattle.flow_uniq.specs.Sorted.{shown_groups}
 use Rattle.pmap_print.specs.Groups.{groups_text}
 use Rattle.pmap_print.specs.Info.{info_text}
 use Rattle.pmap_print.specs.List.{list_text}
-use Rattle.pmap_print.specs.ReadBack.{CanBeReadAgain}
+use Rattle.pmap_print.specs.ReadBack.{labels_of}
 use Rattle.pmap_print.specs.Rows.{rows_text}
 use Rattle.pmap_print.specs.Runs.{IsRunsText}
 use Rattle.flowlabel.specs.Labelling.{Labelling, label_by, labelling_of_list, labelling_of_map, row_labels, label_where}
@@ -223,10 +223,14 @@ CheckIsEnough = (map list certificate : List ℕ) (texts : FileTexts) (out : Lis
     → (m : MapModel) × (l : ListModel) × ReadsMap texts.map m × ReadsList texts.list l
     × IsEquivalent l m × IsLeast m l × (out ≡ minimal_text (length l.prefixes))
 
+-- the list is within the limits of a text: 1,000,000 entries, with 65,535 label texts
+abbrev pub FitsText : ListModel → Type 0
+FitsText l = (length l.prefixes ≤ mapping_limit) × (length (labels_of l.prefixes) ≤ label_limit)
+
 -- Over a map text, the printed list of its minimal pair, within the limits of a text, and the printed certificate, `check`
 -- prints the number of the list's entries
 abbrev pub CheckAcceptsMinimal : Type 0
 CheckAcceptsMinimal = (map list certificate : List ℕ) (texts : FileTexts) (m : MapModel) (l : ListModel) (c : CertificateModel)
-    → ReadsMap texts.map m → IsMinimalPair m l c → HasTextForm c → CanBeReadAgain l
+    → ReadsMap texts.map m → IsMinimalPair m l c → HasTextForm c → FitsText l
     → texts.list ≡ list_text l → texts.certificate ≡ certificate_text c
     → IsOutput (check map list certificate) texts (Ok (minimal_text (length l.prefixes)))

@@ -6,7 +6,7 @@ use pmap_cert::laws::{
     acceptance_is_enough, map_text_has_its_labels, minimal_certificate_is_one,
     minimal_pair_is_unique,
 };
-use pmap_print::laws::labelling_has_one_runs_text;
+use pmap_print::laws::{labelling_has_one_runs_text, minimal_list_is_accepted_again};
 
 /// A request has one output at most over the texts of its files.
 pub fn one_output()
@@ -39,11 +39,7 @@ pub fn check_is_enough()
 pub fn check_accepts_minimal()
     ensures { CheckAcceptsMinimal }
 {
-    pmap_cert::laws::map_text_has_its_labels();
-    pmap_cert::laws::minimal_list_is_in_order();
-    pmap_cert::laws::minimal_pair_is_accepted();
-    pmap_print::laws::printed_order_is_one();
-    pmap_print::laws::printed_list_is_read_back();
+    minimal_list_is_accepted_again();
 }
 
 /// What `shrink` prints for a map text is right and least: the list labels every address as the map does, no list that does so
