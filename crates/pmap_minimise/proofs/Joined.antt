@@ -86,7 +86,7 @@ leaf-certified block leaves id is = record {
   cost = subst (λ (l : List LeafModel). 0 < length l) (sym is) (omega arith);
 }
 
-settled-known : (m : MapModel) (leaf : LeafModel) → IsSettledLeaf m leaf → IsKnownLeaf (length m.table) leaf
+pub settled-known : (m : MapModel) (leaf : LeafModel) → IsSettledLeaf m leaf → IsKnownLeaf (length m.table) leaf
 settled-known m leaf settled = λ x e. subst (λ (n : ℕ). n < length m.table) (same_Some settled.id x (sym settled.is ∙ e)) settled.known
 
 module _ (block low_block high_block : Block) (leaves low_leaves high_leaves : List LeafModel) (low high : Node)

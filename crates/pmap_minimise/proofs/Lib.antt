@@ -8,3 +8,6 @@ pub mod Outlined
 pub mod Walked
 pub mod Pended
 pub mod Laid
+pub mod Pieces
+pub mod Claimed
+pub mod Listed

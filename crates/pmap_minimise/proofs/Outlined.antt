@@ -97,7 +97,7 @@ whole-plan (Fork low high) rest whole =
 pub whole-parts : (plan : Plan) (parts : List Part) → parts ≡ parts_of plan → AreWhole parts
 whole-parts plan parts is = subst AreWhole (append-nil (parts_of plan) ∙ sym is) (whole-plan plan [] tt)
 
-read-parts : (plan : Plan) (parts : List Part) → parts ≡ parts_of plan → plans_of parts ≡ plan ∷ []
+pub read-parts : (plan : Plan) (parts : List Part) → parts ≡ parts_of plan → plans_of parts ≡ plan ∷ []
 read-parts plan parts is = ap plans_of (is ∙ sym (append-nil (parts_of plan))) ∙ read-plan plan []
 
 -- all trees together have no more leaves than there are parts
@@ -136,7 +136,7 @@ stack-some : (plan : Plan) (plans : List Plan) (nodes : List Node) → AreStacke
 stack-some plan plans nodes stacked = let count = ap length stacked.nodes_are in omega (arith, length-append stacked.rest (stacked.top ∷ []))
 
 -- the parts from a place on, one place earlier
-from-before : (parts : List Part) (left : ℕ) (part d : Part) → left < length parts → part ≡ get_or parts left d → drop left parts ≡ part ∷ drop (left + 1) parts
+pub from-before : (parts : List Part) (left : ℕ) (part d : Part) → left < length parts → part ≡ get_or parts left d → drop left parts ≡ part ∷ drop (left + 1) parts
 from-before parts left part d inside is =
     let next : left + 1 ≡ suc left = omega arith in
     drop-cons parts left d inside ∙ ap (λ (p : Part). p ∷ drop (suc left) parts) (sym is) ∙ ap (λ (k : ℕ). part ∷ drop k parts) (sym next)
@@ -157,14 +157,14 @@ at-end parts left nodes is none =
     }
 
 -- the two trees that follow a divided part
-record HasTwo (parts : List Part) (left : ℕ) : Type 0 where
-  low : Plan
-  high : Plan
-  plans : List Plan
-  read : plans_of (drop (left + 1) parts) ≡ low ∷ high ∷ plans
-  few : tips low + tips high ≤ length parts
+pub record HasTwo (parts : List Part) (left : ℕ) : Type 0 where
+  pub low : Plan
+  pub high : Plan
+  pub plans : List Plan
+  pub read : plans_of (drop (left + 1) parts) ≡ low ∷ high ∷ plans
+  pub few : tips low + tips high ≤ length parts
 
-has-two : (parts : List Part) (left : ℕ) → AreWhole parts → drop left parts ≡ Divided ∷ drop (left + 1) parts → HasTwo parts left
+pub has-two : (parts : List Part) (left : ℕ) → AreWhole parts → drop left parts ≡ Divided ∷ drop (left + 1) parts → HasTwo parts left
 has-two parts left whole before =
     let both : AreWhole (Divided ∷ drop (left + 1) parts) = subst AreWhole before (whole-drop left parts whole) in
     by (plans_of (drop (left + 1) parts)) refl both.0
@@ -248,3 +248,14 @@ root-node parts left nodes rest top first from is plan outline =
     (subst (λ (k : ℕ). AreStacked (plans_of (drop k parts)) nodes) first from.stacked) in
     let popped_top = popped plan [] nodes rest top stacked is in
     popped_top.top_is
+
+-- and no other
+pub record IsOneNode (nodes : List Node) : Type 0 where
+  pub node : Node
+  pub nodes_are : nodes ≡ node ∷ []
+
+pub one-node : (parts : List Part) (left : ℕ) (nodes : List Node) → IsOutline parts → left ≡ 0 → AreNodesFrom parts left nodes → IsOneNode nodes
+one-node parts left nodes outline first from =
+    let stacked : AreStacked (outline.plan ∷ []) nodes = subst (λ (l : List Plan). AreStacked l nodes) (read-parts outline.plan parts outline.is)
+    (subst (λ (k : ℕ). AreStacked (plans_of (drop k parts)) nodes) first from.stacked) in
+    record { node = stacked.top; nodes_are = stacked.nodes_are ∙ ap (λ (l : List Node). l ++ stacked.top ∷ []) stacked.rest_is }

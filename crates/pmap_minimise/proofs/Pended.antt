@@ -12,11 +12,11 @@ use Rattle.pmap_minimise.specs.declared.entering.Pending.{Pending}
 use Rattle.pmap_minimise.proofs.Entered.{inner-adds, leaf-adds, sound-halves}
 use Rattle.pmap_minimise.proofs.Walked.{halves-visited, leaf-visited}
 
-node-some : (node : Node) → 0 < nodes_in node
+pub node-some : (node : Node) → 0 < nodes_in node
 node-some (Leaf id) = omega arith
 node-some (Inner' cost set p left q right) = omega arith
 
-halves-nodes : (node left right : Node) → HasHalves node left right → nodes_in left + nodes_in right < nodes_in node
+pub halves-nodes : (node left right : Node) → HasHalves node left right → nodes_in left + nodes_in right < nodes_in node
 halves-nodes (Leaf id) left right halves = absurd halves
 halves-nodes (Inner' cost set p l q r) left right halves =
     let lower = ap nodes_in halves.0 in

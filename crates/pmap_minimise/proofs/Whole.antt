@@ -1,5 +1,5 @@
 -- The map's label table has the map's labels, and a list and a certificate by numbers that are the map's minimal pair.
-use Rattle.std.proofs.Common.{◌≡◌, ℕ, ◌-◌, ◌<◌, ◌∙◌, List, [], ◌++◌, None, IsTrue, length, map, refl, sym, ap, subst, arith}
+use Rattle.std.proofs.Common.{◌≡◌, ℕ, ◌-◌, ◌<◌, ◌∙◌, List, [], ◌++◌, None, All, IsTrue, length, map, refl, sym, ap, subst, arith}
 use Rattle.std.proofs.lemmas.List.Elements.{All-map, All-weaker}
 use Rattle.std.proofs.lemmas.List.Folds.{list_any_at}
 use Rattle.std.proofs.lemmas.Option.{none-some, unwrap_or-slice_get}
@@ -18,6 +18,9 @@ use Rattle.pmap_cert.specs.ListForm.{HasListForm, IsInOrder}
 use Rattle.pmap_cert.specs.Node.{HasNumberForm, tree_of}
 use Rattle.pmap_cert.specs.declared.node.Node.{Node}
 use Rattle.label_trie.specs.Leaf.{number_of}
+use Rattle.label_trie.specs.TrieModel.{IsSettledLeaf, IsUndivided, LeafModel}
+use Rattle.pmap_cert.specs.CertificateForm.{HasTextForm}
+use Rattle.pmap_cert.proofs.Written.{node_form}
 use Rattle.pmap_text.specs.ListEntries.{HasDistinctBlocks}
 use Rattle.pmap_cert.specs.MinimalPair.{HasItsLabels, IsMinimalPair, StandsFor, entries_of}
 use Rattle.pmap_cert.proofs.InOrder.{list-form}
@@ -26,7 +29,9 @@ use Rattle.pmap_minimise.specs.Entered.{AddsEntries}
 use Rattle.pmap_minimise.specs.Shortest.{IsWhole, shortest_list}
 use Rattle.pmap_minimise.proofs.Distinct.{order-distinct}
 use Rattle.pmap_minimise.proofs.Entered.{half-entries}
-use Rattle.pmap_minimise.proofs.Joined.{whole-number}
+use Rattle.pmap_minimise.specs.Certified.{IsKnownLeaf}
+use Rattle.pmap_minimise.specs.Listing.{IsListed}
+use Rattle.pmap_minimise.proofs.Joined.{root-stands, settled-known, whole-number}
 
 table-has : (table : List Label) (n : ℕ) → n < length table → IsTrue (has table (text_at table n))
 table-has table n known =
@@ -84,3 +89,46 @@ pub whole-distinct : (m : MapText) (root : Node) (new : List Entry) → StandsFo
 whole-distinct m root new stands is =
     let form = shortest-form (map_of m) (tree_of m.labels root) stands (own-labels m) in
     order-distinct m.labels new (subst IsInOrder (sym is) form.order)
+
+-- the entries that are listed for a map's trie are those of a certificate's root, which stands for the address space
+pub record IsShortest (m : MapText) (items : List Entry) : Type 0 where
+  pub root : Node
+  pub stands : StandsFor (map_of m) (tree_of m.labels root) 0 0
+  pub form : HasNumberForm (length m.labels) root (width_of m.version)
+  pub entries : map (prefix_of m.labels) items ≡ entries_of (width_of m.version) m.labels (tree_of m.labels root) None 0 0
+
+pub listed-shortest : (m : MapText) (block : Block) (all leaves : List LeafModel) (items : List Entry) → IsListed block leaves items → leaves ≡ all → IsLabelTable m.labels
+    → All (IsSettledLeaf (map_of m)) all → All (IsUndivided (map_of m)) all → IsWhole m.version block → IsShortest m items
+listed-shortest m block all leaves items listed is ok settled undivided whole =
+    let version = whole.version_is in
+    let bits = whole.bits in
+    let width : width_of block.version ≡ width_of m.version = ap width_of version in
+    let room : width_of block.version - block.len ≡ width_of m.version = omega arith in
+    let known = All-weaker (IsSettledLeaf (map_of m)) (IsKnownLeaf (length m.labels)) (settled-known (map_of m)) leaves (subst (λ (l : List LeafModel). All (IsSettledLeaf (map_of m)) l) (sym is) settled) in
+    let form : HasNumberForm (length m.labels) listed.node (width_of m.version) =
+    subst (λ (r : ℕ). HasNumberForm (length m.labels) listed.node r) room (listed.certified.form (length m.labels) known) in
+    record {
+      root = listed.node;
+      stands = root-stands (map_of m) listed.node block all leaves listed.certified is ok settled undivided bits whole.start;
+      form = form;
+      entries = whole-entries m listed.node block [] items whole ok form refl listed.adds;
+    }
+
+-- a list of these entries is the map's minimal one
+module _ (m : MapText) (items : List Entry) (l : ListModel) (ok : IsLabelTable m.labels) (shortest : IsShortest m items)
+    (is : l ≡ record { version = m.version; name = m.name; prefixes = map (prefix_of m.labels) items; table = m.labels }) where
+  abbrev root_tree : Tree
+  root_tree = tree_of m.labels shortest.root
+
+  listed-is : l ≡ shortest_list (map_of m) root_tree
+  listed-is = is ∙ (λ i. record { version = m.version; name = m.name; prefixes = shortest.entries i; table = m.labels })
+
+  pub listed-pair : (c : CertificateModel) × IsMinimalPair (map_of m) l c × HasTextForm c
+  listed-pair = (
+    record { version = m.version; table = m.labels; root = root_tree },
+    minimal (map_of m) l (record { version = m.version; table = m.labels; root = root_tree }) root_tree shortest.stands listed-is refl,
+    record { table = ok; root = node_form m.labels ok shortest.root (width_of m.version) shortest.form },
+  )
+
+  pub listed-form : HasListForm l
+  listed-form = subst HasListForm (sym listed-is) (shortest-form (map_of m) root_tree shortest.stands (own-labels m))

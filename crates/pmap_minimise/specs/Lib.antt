@@ -6,3 +6,6 @@ pub mod Outline
 pub mod Walk
 pub mod Pending
 pub mod Laid
+pub mod Kept
+pub mod Claiming
+pub mod Listing

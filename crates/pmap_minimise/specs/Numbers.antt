@@ -24,6 +24,15 @@ common_numbers low high = filter (has_number high) low
 abbrev pub IsUnion : List ℕ → List ℕ → List ℕ → Type 0
 IsUnion low high set = (p : ℕ → Bool) → list_any p set ≡ (list_any p low || list_any p high)
 
+-- The set is the exact one of two sets with the common numbers in the fourth place: just these where there are some, else
+-- the numbers of either, and then it is true that the two are apart.
+abbrev pub IsExactSetBy : List ℕ → List ℕ → Bool → List ℕ → List ℕ → Type 0
+IsExactSetBy low high apart [] set = (apart ≡ true) × IsUnion low high set × IsRising (2 ^ 32) 0 set
+IsExactSetBy low high apart (n ∷ ns) set = (apart ≡ false) × (set ≡ n ∷ ns)
+
+abbrev pub IsExactSet : List ℕ → List ℕ → Bool → List ℕ → Type 0
+IsExactSet low high apart set = IsExactSetBy low high apart (common_numbers low high) set
+
 -- what a node claims: the numbers of its set, and its cost
 abbrev pub set_of : Node → List ℕ
 set_of (Leaf id) = id.0 ∷ []

@@ -6,7 +6,7 @@ ghost use Rattle.pmap_minimise.specs.Outline.{IsAdded, IsNodeFor, IsOutline, IsR
 ghost use Rattle.pmap_minimise.specs.Numbers.{IsExact, IsJoined, cost_of, numbers_of, set_of};
 
 use crate::outline::{Part, push_parts};
-use crate::sets::{common, either, label_set};
+use crate::sets::{exact_set, label_set};
 use label_trie::Cursor;
 use pmap_cert::{LabelSet, Node};
 use pmap_text::LabelId;
@@ -43,16 +43,9 @@ fn exact_claim(alloc: Global, low: &Node, high: &Node) -> Result<(u32, LabelSet)
     ensures { IfOk result (λ claim. IsExact low.now high.now claim.0 claim.1) }
 {
     let cost = cost_of(low) + cost_of(high);
-    let (lower, higher) = (labels_of(low), labels_of(high));
-    let shared = common(alloc, lower, higher)?;
-    if shared.is_empty() {
-        let all = either(alloc, lower, higher)?;
-        let set = label_set(alloc, all.as_slice())?;
-        Ok((cost + 1, set))
-    } else {
-        let set = label_set(alloc, shared.as_slice())?;
-        Ok((cost, set))
-    }
+    let (exact, apart) = exact_set(alloc, labels_of(low), labels_of(high))?;
+    let set = label_set(alloc, exact.as_slice())?;
+    Ok((if apart { cost + 1 } else { cost }, set))
 }
 
 // The node of a block whose halves have these nodes.

@@ -36,8 +36,8 @@ fn has_inherited(labels: &[LabelId], inherited: Option<LabelId>) -> bool
     }
 }
 
-// Adds the own entry of a node with these labels, if it has one, and answers the label that the node hands on.
-fn push_own(
+/// Adds the own entry of a node with these labels, if it has one, and answers the label that the node hands on.
+pub fn push_own(
     entries: &mut Vec<Entry>,
     labels: &[LabelId],
     block: Block,

@@ -7,12 +7,15 @@
 #![tactic(auto)]
 
 mod certifying;
+mod claiming;
 mod entering;
+mod kept;
+mod listing;
 pub mod minimal;
 mod outline;
 mod sets;
 
-pub use minimal::{Minimal, minimise};
+pub use minimal::{Minimal, minimise, shortest};
 
 #[cfg(test)]
 mod tests;

@@ -5,7 +5,8 @@ ghost use Rattle.pmap_text.specs.MapText.{map_of};
 ghost use Rattle.pmap_text.specs.PrefixList.{list_of};
 ghost use Rattle.pmap_cert.specs.Acceptance.{IsAccepted, IsLeast};
 ghost use Rattle.pmap_cert.specs.Certificate.{certificate_of};
-ghost use Rattle.pmap_cert.specs.CertificateModel.{claim_of};
+ghost use Rattle.pmap_cert.specs.CertificateForm.{HasTextForm};
+ghost use Rattle.pmap_cert.specs.CertificateModel.{CertificateModel, claim_of};
 ghost use Rattle.pmap_cert.specs.ListForm.{HasListForm};
 ghost use Rattle.pmap_cert.specs.MinimalPair.{IsMinimalPair, StandsFor};
 ghost use Rattle.pmap_cert.specs.Node.{HasNumberForm, tree_of};
@@ -15,10 +16,11 @@ ghost use Rattle.pmap_minimise.specs.Shortest.{IsWhole, shortest_list};
 
 use crate::certifying::{certified, cost_of};
 use crate::entering::{distinct_entries, push_entries};
+use crate::listing::listed;
 use label_trie::Trie;
 use pmap_cert::laws::minimal_pair_is_accepted;
 use pmap_cert::{Certificate, Node};
-use pmap_text::{MapText, Name, PrefixList};
+use pmap_text::{Entries, MapText, Name, PrefixList};
 use prefix_keys::Block;
 use std::alloc::{AllocError, Global};
 
@@ -60,6 +62,32 @@ pub fn minimise(alloc: Global, map: &MapText, trie: &Trie) -> Result<Minimal, Al
         list,
         root_cost,
         certificate,
+    })
+}
+
+/// The list of `minimise` alone, which is made without the certificate's nodes: a shortest prefix list that labels every
+/// address as the map does, with the map's name and label table. The trie is the map's, as `Trie::build` makes it.
+pub fn shortest(alloc: Global, map: &MapText, trie: &Trie) -> Result<PrefixList, AllocError>
+    requires version { trie.now.version ≡ map.now.version }
+    requires settled { All (IsSettledLeaf (map_of map.now)) trie.now.leaves }
+    requires undivided { All (IsUndivided (map_of map.now)) trie.now.leaves }
+    // With a certificate, which has a text, it is the map's minimal pair.
+    ensures minimal { IfOk result (λ list. (c : CertificateModel) × IsMinimalPair (map_of map.now) (list_of list) c × HasTextForm c) }
+    // So it labels every address as the map does, and none that does so is shorter.
+    ensures equivalent { IfOk result (λ list. IsEquivalent (list_of list) (map_of map.now)) }
+    ensures least { IfOk result (λ list. IsLeast (map_of map.now) (list_of list)) }
+    // The entries are blocks by rising first address, of one address the shorter first.
+    ensures order { IfOk result (λ list. HasListForm (list_of list)) }
+{
+    minimal_pair_is_accepted();
+    let _labels = map.labels.len();
+    let _nodes = trie.node_count();
+    let items = listed(alloc, &trie.root())?;
+    Ok(PrefixList {
+        version: map.version,
+        name: copy_name(alloc, &map.name)?,
+        entries: Entries::from_distinct(items),
+        labels: map.labels.copy()?,
     })
 }
 

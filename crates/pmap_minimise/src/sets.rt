@@ -1,7 +1,7 @@
 //! Sets of labels, as slices with their numbers in rising order.
 ghost use Rattle.std.specs.Prelude.{◌≡◌, ◌^◌, ◌++◌, IfOk, OnOk};
 ghost use Rattle.pmap_cert.specs.CertificateForm.{IsRising};
-ghost use Rattle.pmap_minimise.specs.Numbers.{IsUnion, common_numbers, numbers_of};
+ghost use Rattle.pmap_minimise.specs.Numbers.{IsExactSet, IsUnion, common_numbers, numbers_of};
 
 use pmap_cert::LabelSet;
 use pmap_text::LabelId;
@@ -77,6 +77,26 @@ pub fn either(alloc: Global, low: &[LabelId], high: &[LabelId]) -> Result<SmallS
     }
     push_all(&mut set, higher)?;
     Ok(set)
+}
+
+/// The exact set of two halves that claim these: the labels that both have, or where there is none those that one of them
+/// has. With it comes whether both have none.
+pub fn exact_set(
+    alloc: Global,
+    low: &[LabelId],
+    high: &[LabelId],
+) -> Result<(SmallSet, bool), AllocError>
+    requires low { IsRising (2 ^ 32) 0 (numbers_of low.now) }
+    requires high { IsRising (2 ^ 32) 0 (numbers_of high.now) }
+    ensures exact { IfOk result (λ exact. IsExactSet (numbers_of low.now) (numbers_of high.now) exact.1 exact.0.items) }
+    ensures rising { IfOk result (λ exact. IsRising (2 ^ 32) 0 exact.0.items) }
+{
+    let shared = common(alloc, low, high)?;
+    if shared.is_empty() {
+        let all = either(alloc, low, high)?;
+        return Ok((all, true));
+    }
+    Ok((shared, false))
 }
 
 /// The set with these numbers, as a certificate has it.

@@ -36,7 +36,7 @@ impl Entries {
     }
 
     /// Entries whose blocks are distinct.
-    pub(crate) fn from_distinct(items: Vec<Entry>) -> Entries
+    pub fn from_distinct(items: Vec<Entry>) -> Entries
         requires { HasDistinctBlocks items.items }
         ensures { result ≡ items.items }
     {

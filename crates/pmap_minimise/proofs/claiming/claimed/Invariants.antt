@@ -1,0 +1,8 @@
+use Rattle.pmap_minimise.specs.Claiming.{AreClaimsFrom}
+use Rattle.pmap_minimise.proofs.claiming.claimed.Given as goal
+
+abbrev pub invariant-loop-left : goal.invariant-loop-left
+invariant-loop-left l = AreClaimsFrom l.parts l.left l.halves.items l.sets
+
+abbrev pub decreases-loop-left : goal.decreases-loop-left
+decreases-loop-left l = l.left
