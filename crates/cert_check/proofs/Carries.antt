@@ -1,12 +1,12 @@
 -- What is carried down to a block, as the code finds it.
 use Rattle.std.proofs.Common.{◌≡◌, ◌⊎◌, inl, inr, ℕ, zero, suc, ◌+◌, ◌-◌, ◌*◌, ◌^◌, ◌<◌, ◌≤◌, Bool, true, false, cond, not, ◌&&◌, ◌||◌, List, [], ◌∷◌, ◌++◌, Option, Some, None, All, drop, filter, get_or, length, map, nat_le, nat_lt, refl, sym, ap, ◌∙◌, subst, arith}
 use Rattle.std.proofs.Common.{take}
-use Rattle.std.proofs.lemmas.List.{take_more}
+use Rattle.std.proofs.lemmas.List.{append-nil, append_assoc, take_at, take_more}
 use Rattle.std.specs.List.{list_any}
 use Rattle.std.specs.Option.{option_or}
 use Rattle.std.proofs.lemmas.Bool.{and_from, and_parts, both_ways, cases_lt, false_from_ne_true, false≢true, le-leb, leb-true, or_cases}
 use Rattle.std.proofs.lemmas.Bool.Decides.{nat_tests}
-use Rattle.std.proofs.lemmas.List.Elements.{filter_agree}
+use Rattle.std.proofs.lemmas.List.Elements.{filter-append, filter_agree}
 use Rattle.std.proofs.lemmas.List.Folds.{list_any_at}
 use Rattle.std.proofs.lemmas.Nat.{pow_pos}
 use Rattle.prefix_keys.specs.Block.{first_of, last_of}
@@ -192,3 +192,89 @@ pub greatest-more : (test : Entry → Bool) (es : List Entry) (i : ℕ) (e : Ent
     → greatest test (take (i + 1) es) ≡ cond (test e && nat_lt (greatest test (take i es)) e.block.len) e.block.len (greatest test (take i es))
 greatest-more test es i e less is =
     ap (greatest test) (take_more es i e less ∙ ap (λ (d : Entry). take i es ++ d ∷ []) (sym is)) ∙ greatest-push test (take i es) e
+
+-- from the last that passes on, with one more at the end
+from_last-passes : {X : Type 0} (p : X → Bool) (xs : List X) (x : X) → p x ≡ true → from_last p (xs ++ x ∷ []) ≡ x ∷ []
+from_last-passes p [] x h = refl
+from_last-passes {X} p (y ∷ xs) x h =
+    ap (λ b. cond b (from_last p (xs ++ x ∷ [])) (y ∷ (xs ++ x ∷ []))) (some xs) ∙ from_last-passes p xs x h
+  where
+    or-true : (b : Bool) → (b || true) ≡ true
+    or-true true = refl
+    or-true false = refl
+
+    some : (zs : List X) → list_any p (zs ++ x ∷ []) ≡ true
+    some [] = ap (λ b. b || false) h
+    some (z ∷ zs) = ap (λ b. p z || b) (some zs) ∙ or-true (p z)
+
+from_last-misses : {X : Type 0} (p : X → Bool) (xs : List X) (x : X) → p x ≡ false → from_last p (xs ++ x ∷ []) ≡ from_last p xs ++ x ∷ []
+from_last-misses p [] x h = refl
+from_last-misses {X} p (y ∷ xs) x h =
+    ap (λ b. cond b (from_last p (xs ++ x ∷ [])) (y ∷ (xs ++ x ∷ []))) (same xs) ∙ by (list_any p xs) (from_last-misses p xs x h)
+  where
+    same : (zs : List X) → list_any p (zs ++ x ∷ []) ≡ list_any p zs
+    same [] = ap (λ b. b || false) h
+    same (z ∷ zs) = ap (λ b. p z || b) (same zs)
+
+    by : (b : Bool) → from_last p (xs ++ x ∷ []) ≡ from_last p xs ++ x ∷ []
+        → cond b (from_last p (xs ++ x ∷ [])) (y ∷ (xs ++ x ∷ [])) ≡ cond b (from_last p xs) (y ∷ xs) ++ x ∷ []
+    by true rest = rest
+    by false rest = refl
+
+-- a statement that covers a block meets it
+spans-meets_block : (b : Block) (s : Statement) → spans_block b s ≡ true → meets_block b s ≡ true
+spans-meets_block b s h =
+    let W = width_of b.version in
+    let version = is_same_version s.span.low.version b.version in
+    let parts = and_parts version (statement_spans W b.len (number_of b) s) h in
+    and_from version (statement_meets W b.len (number_of b) s) parts.0 (spans-meets W b.len (number_of b) s parts.1)
+
+-- what is carried to a block, with one more statement
+carried-push : (b : Block) (ss : List Statement) (s : Statement)
+    → carried_to b (ss ++ s ∷ []) ≡ cond (meets_block b s) (cond (spans_block b s) [] (carried_to b ss) ++ s ∷ []) (carried_to b ss)
+carried-push b ss s = by (meets_block b s) (spans_block b s) refl refl
+  where
+    kept : (xs : List Statement) → filter (meets_block b) (from_last (spans_block b) xs) ≡ carried_to b xs
+    kept = statements-carried b
+
+    misses : spans_block b s ≡ false → carried_to b (ss ++ s ∷ []) ≡ carried_to b ss ++ cond (meets_block b s) (s ∷ []) []
+    misses h =
+        sym (kept (ss ++ s ∷ [])) ∙ ap (filter (meets_block b)) (from_last-misses (spans_block b) ss s h)
+        ∙ filter-append (meets_block b) (from_last (spans_block b) ss) (s ∷ []) ∙ ap (λ (xs : List Statement). xs ++ cond (meets_block b s) (s ∷ []) []) (kept ss)
+
+    by : (m p : Bool) → meets_block b s ≡ m → spans_block b s ≡ p → carried_to b (ss ++ s ∷ []) ≡ cond m (cond p [] (carried_to b ss) ++ s ∷ []) (carried_to b ss)
+    by true true meets spans =
+        sym (kept (ss ++ s ∷ [])) ∙ ap (filter (meets_block b)) (from_last-passes (spans_block b) ss s spans) ∙ ap (λ c. cond c (s ∷ []) []) meets
+    by true false meets spans = misses spans ∙ ap (λ c. carried_to b ss ++ cond c (s ∷ []) []) meets
+    by false true meets spans = absurd (false≢true (sym meets ∙ spans-meets_block b s spans))
+    by false false meets spans = misses spans ∙ ap (λ c. carried_to b ss ++ cond c (s ∷ []) []) meets ∙ append-nil (carried_to b ss)
+
+pub carried-more : (b : Block) (ss : List Statement) (i : ℕ) (s : Statement) (front old new : List Statement) (start : ℕ) → start ≡ length front → i < length ss → s ≡ get_or ss i s
+    → old ≡ front ++ carried_to b (take i ss)
+    → new ≡ cond (meets_block b s) (cond (spans_block b s) (take start old) old ++ s ∷ []) old
+    → new ≡ front ++ carried_to b (take (i + 1) ss)
+carried-more b ss i s front old new start begins less is so_far added =
+    added ∙ by (meets_block b s) (spans_block b s)
+    ∙ ap (λ (xs : List Statement). front ++ xs) (sym (carried-push b (take i ss) s) ∙ ap (carried_to b) (sym more))
+  where
+    more : take (i + 1) ss ≡ take i ss ++ s ∷ []
+    more = take_more ss i s less ∙ ap (λ (d : Statement). take i ss ++ d ∷ []) (sym is)
+
+    by : (m p : Bool) → cond m (cond p (take start old) old ++ s ∷ []) old
+        ≡ front ++ cond m (cond p [] (carried_to b (take i ss)) ++ s ∷ []) (carried_to b (take i ss))
+    by true true = ap (λ (xs : List Statement). xs ++ s ∷ []) (ap (take start) so_far ∙ take_at front (carried_to b (take i ss)) start (sym begins))
+    by true false = ap (λ (xs : List Statement). xs ++ s ∷ []) so_far ∙ append_assoc front (carried_to b (take i ss)) (s ∷ [])
+    by false p = so_far
+
+-- those that pass, with one more entry
+pub say-more : (test : Entry → Bool) (es : List Entry) (i : ℕ) (e : Entry) (front old new : List Entry) → i < length es → e ≡ get_or es i e
+    → old ≡ front ++ filter test (take i es) → new ≡ cond (test e) (old ++ e ∷ []) old → new ≡ front ++ filter test (take (i + 1) es)
+say-more test es i e front old new less is so_far added =
+    added ∙ by (test e) ∙ ap (λ (xs : List Entry). front ++ xs) (sym (filter-append test (take i es) (e ∷ [])) ∙ ap (filter test) (sym more))
+  where
+    more : take (i + 1) es ≡ take i es ++ e ∷ []
+    more = take_more es i e less ∙ ap (λ (d : Entry). take i es ++ d ∷ []) (sym is)
+
+    by : (b : Bool) → cond b (old ++ e ∷ []) old ≡ front ++ (filter test (take i es) ++ cond b (e ∷ []) [])
+    by true = ap (λ (xs : List Entry). xs ++ e ∷ []) so_far ∙ append_assoc front (filter test (take i es)) (e ∷ [])
+    by false = so_far ∙ ap (λ (xs : List Entry). front ++ xs) (sym (append-nil (filter test (take i es))))

@@ -297,3 +297,40 @@ module _ (table : List Label) (ok : IsLabelTable table) (claim left right : Node
   pub node-common : (length both == 0) ≡ false → full ≡ list_all (λ i. has_number (numbers set) i.0) both
       → fault_by cost below full ≡ claim_fault (claim_of (tree_of table claim)) (exact_pair (claim_of (tree_of table left)) (claim_of (tree_of table right)))
   node-common some fulls = common-by both refl some fulls
+
+-- those of a list that pass a test, and what holds of each that doesn't
+pub apart-none : (p : LabelId → Bool) (ids : List LabelId) → list_all (λ i. not (p i)) ids ≡ true → length (filter p ids) ≡ 0
+apart-none p [] h = refl
+apart-none p (x ∷ ids) h = by (p x) (list_all (λ (i : LabelId). not (p i)) ids) (apart-none p ids) h
+  where
+    by : (b others : Bool) → (others ≡ true → length (filter p ids) ≡ 0) → (not b && others) ≡ true → length (cond b (x ∷ filter p ids) (filter p ids)) ≡ 0
+    by true others rest all = absurd (false≢true all)
+    by false others rest all = rest all
+
+pub apart-some : (p : LabelId → Bool) (ids : List LabelId) → list_all (λ i. not (p i)) ids ≡ false → (length (filter p ids) == 0) ≡ false
+apart-some p [] h = absurd (false≢true (sym h))
+apart-some p (x ∷ ids) h = by (p x) (list_all (λ (i : LabelId). not (p i)) ids) (apart-some p ids) h
+  where
+    by : (b others : Bool) → (others ≡ false → (length (filter p ids) == 0) ≡ false) → (not b && others) ≡ false → (length (cond b (x ∷ filter p ids) (filter p ids)) == 0) ≡ false
+    by true others rest all = ne-eqb (suc (length (filter p ids))) 0 (λ e. absurd (omega (arith, e)))
+    by false others rest all = rest all
+
+-- one that doesn't pass one test, or passes the other
+pub or-from : (a b : Bool) → (a ≡ false) ⊎ (b ≡ true) → (not a || b) ≡ true
+or-from false b h = refl
+or-from true b (inl e) = absurd (false≢true (sym e))
+or-from true b (inr e) = e
+
+-- one that passes the first and not the other
+pub or-fails : (a b : Bool) → a ≡ true → b ≡ false → (not a || b) ≡ false
+or-fails true b e f = f
+or-fails false b e f = absurd (false≢true e)
+
+pub all-common : (p t : LabelId → Bool) (ids : List LabelId) → list_all (λ i. not (p i) || t i) ids ≡ list_all t (filter p ids)
+all-common p t [] = refl
+all-common p t (x ∷ ids) = by (p x) (all-common p t ids)
+  where
+    by : (b : Bool) → list_all (λ (i : LabelId). not (p i) || t i) ids ≡ list_all t (filter p ids)
+        → ((not b || t x) && list_all (λ (i : LabelId). not (p i) || t i) ids) ≡ list_all t (cond b (x ∷ filter p ids) (filter p ids))
+    by true rest = ap (λ a. t x && a) rest
+    by false rest = rest

@@ -19,5 +19,5 @@ pub record AreSources (s : Sources) : Type 0 where
 
 -- these statements and entries are of the map and the list
 pub record IsPartOf (s : Sources) (part : CarriedPart) : Type 0 where
-  pub statements : AreStatementsOf s.map.now part.statements.items
-  pub entries : AreEntriesOf s.list.now part.entries.items
+  pub statements : AreStatementsOf s.map.now part.statements.now
+  pub entries : AreEntriesOf s.list.now part.entries.now

@@ -1,6 +1,5 @@
 //! What of a map and of a list has a say in a block.
-ghost use Rattle.std.specs.Prelude.{◌≡◌, ◌≤◌, ◌&&◌, ◌||◌, drop, filter, length, nat_le, nat_lt, IfOk, if◌then◌else◌};
-ghost use Rattle.pmap_text.specs.Carried.{from_last};
+ghost use Rattle.std.specs.Prelude.{◌≡◌, ◌&&◌, ◌||◌, ◌++◌, ◌∷◌, [], nat_le, nat_lt, take, IfOk, OnOk, if◌then◌else◌};
 ghost use Rattle.cert_check.specs.Carrying.{carried_to, entries_carried_to};
 ghost use Rattle.cert_check.specs.Sources.{covers_whole as covers_whole_of, greatest, is_inside as is_inside_of, meets_block, spans_block};
 
@@ -36,35 +35,39 @@ pub fn is_inside(entry: &Entry, block: &Block) -> bool
     block.len < entry.block.len && block.covers(&entry.block.low())
 }
 
-// How many statements stand before the last that covers the whole block, 0 where none does.
-fn hidden_count(statements: &[Statement], block: &Block) -> usize
-    ensures within { result ≤ length statements.now }
-    ensures rest { drop result statements.now ≡ from_last (spans_block block.now) statements.now }
+// Adds the statement where it meets the block. Where it covers the whole block, those behind `start` give way to it.
+fn add_statement(
+    kept: &mut Vec<Statement>,
+    start: usize,
+    statement: &Statement,
+    block: &Block,
+) -> Result<(), AllocError>
+    ensures { OnOk result (kept.new.items ≡ (if meets_block block.now statement.now
+        then (if spans_block block.now statement.now then take start kept.old.items else kept.old.items) ++ statement.now ∷ []
+        else kept.old.items)) }
 {
-    let mut left = statements.len();
-    while left > 0 {
-        left -= 1;
-        let statement = statements[left];
-        if spans(&statement, block) {
-            return left;
+    if meets(statement, block) {
+        if spans(statement, block) {
+            kept.truncate(start);
         }
+        kept.push(*statement)?;
     }
-    0
+    Ok(())
 }
 
-// Those of the statements that meet the block.
-fn all_meeting(
-    alloc: Global,
+/// Adds to those kept the statements that `carried` gives.
+pub fn add_carried(
+    kept: &mut Vec<Statement>,
     statements: &[Statement],
     block: &Block,
-) -> Result<Vec<Statement>, AllocError>
-    ensures { IfOk result (λ kept. kept.items ≡ filter (meets_block block.now) statements.now) }
+) -> Result<(), AllocError>
+    ensures { OnOk result (kept.new.items ≡ kept.old.items ++ carried_to block.now statements.now) }
 {
-    statements
-        .iter()
-        .filter(|statement| meets(statement, block))
-        .copied()
-        .collect(alloc)
+    let start = kept.len();
+    for statement in statements {
+        add_statement(kept, start, statement, block)?;
+    }
+    Ok(())
 }
 
 /// The statements that meet the block, from the last that covers it whole, or all of them where none does, in the order
@@ -76,8 +79,8 @@ pub fn carried(
 ) -> Result<Vec<Statement>, AllocError>
     ensures { IfOk result (λ kept. kept.items ≡ carried_to block.now statements.now) }
 {
-    let hidden = hidden_count(statements, block);
-    let kept = all_meeting(alloc, &statements[hidden..], block)?;
+    let mut kept = Vec::new(alloc);
+    add_carried(&mut kept, statements, block)?;
     Ok(kept)
 }
 
@@ -110,21 +113,35 @@ fn has_say(entry: &Entry, block: &Block, longest: u32) -> bool
     (longest <= entry.block.len && covers_whole(entry, block)) || is_inside(entry, block)
 }
 
-// Those of the entries that lie inside the block, or cover it and are no shorter than `longest`.
-fn all_with_say(
-    alloc: Global,
-    entries: &[Entry],
+// Adds the entry where it has a say.
+fn add_entry(
+    kept: &mut Vec<Entry>,
+    entry: &Entry,
     block: &Block,
     longest: u32,
-) -> Result<Vec<Entry>, AllocError>
-    ensures { IfOk result (λ kept. kept.items
-        ≡ filter (λ e. covers_whole_of block.now e && nat_le longest e.block.len || is_inside_of block.now e) entries.now) }
+) -> Result<(), AllocError>
+    ensures { OnOk result (kept.new.items ≡ (if covers_whole_of block.now entry.now && nat_le longest entry.now.block.len || is_inside_of block.now entry.now
+        then kept.old.items ++ entry.now ∷ [] else kept.old.items)) }
 {
-    entries
-        .iter()
-        .filter(|entry| has_say(entry, block, longest))
-        .copied()
-        .collect(alloc)
+    if has_say(entry, block, longest) {
+        kept.push(*entry)?;
+    }
+    Ok(())
+}
+
+/// Adds to those kept the entries that `carried_entries` gives.
+pub fn add_carried_entries(
+    kept: &mut Vec<Entry>,
+    entries: &[Entry],
+    block: &Block,
+) -> Result<(), AllocError>
+    ensures { OnOk result (kept.new.items ≡ kept.old.items ++ entries_carried_to block.now entries.now) }
+{
+    let longest = longest_covering(entries, block);
+    for entry in entries {
+        add_entry(kept, entry, block, longest)?;
+    }
+    Ok(())
 }
 
 /// The longest entry that covers the block, if there is one, and those strictly inside it, in the order given. Of equal
@@ -137,7 +154,7 @@ pub fn carried_entries(
 ) -> Result<Vec<Entry>, AllocError>
     ensures { IfOk result (λ kept. kept.items ≡ entries_carried_to block.now entries.now) }
 {
-    let longest = longest_covering(entries, block);
-    let kept = all_with_say(alloc, entries, block, longest)?;
+    let mut kept = Vec::new(alloc);
+    add_carried_entries(&mut kept, entries, block)?;
     Ok(kept)
 }

@@ -1,5 +1,5 @@
 //! The check of a certificate: its nodes, and the whole.
-ghost use Rattle.std.specs.Prelude.{◌≡◌, ◌≢◌, ℕ, ◌+◌, ◌-◌, Some, None, length, IfErr, IfOk};
+ghost use Rattle.std.specs.Prelude.{◌≡◌, ◌≢◌, ℕ, ◌+◌, ◌-◌, ◌≤◌, Some, None, drop, length, take, IfErr, IfOk, OnOk};
 ghost use Rattle.prefix_keys.specs.Version.{width_of};
 ghost use Rattle.pmap_text.specs.ListModel.{IsEquivalent};
 ghost use Rattle.pmap_text.specs.MapText.{map_of};
@@ -7,18 +7,19 @@ ghost use Rattle.pmap_text.specs.PrefixList.{list_of};
 ghost use Rattle.pmap_cert.specs.Acceptance.{IsAccepted, IsLeast};
 ghost use Rattle.pmap_cert.specs.Certificate.{certificate_of};
 ghost use Rattle.pmap_cert.specs.Node.{HasNumberForm, tree_of};
-ghost use Rattle.cert_check.specs.Carrying.{carried_to, entries_carried_to, number_of};
+ghost use Rattle.cert_check.specs.Carrying.{number_of};
 ghost use Rattle.cert_check.specs.Checking.{first_fault, node_count, node_fault, told};
-ghost use Rattle.cert_check.specs.Kept.{AreSources, IsPartOf};
-ghost use Rattle.cert_check.specs.Sources.{map_with, prefixes_with};
+ghost use Rattle.cert_check.specs.Kept.{AreSources};
+ghost use Rattle.cert_check.specs.Sources.{AreEntriesOf, AreStatementsOf, map_with, prefixes_with};
 ghost use Rattle.cert_check.specs.declared.fault.CheckFaultKind.TheVariants.{NoMemory};
 
-use crate::carried_part::{CarriedPart, part_of};
+use crate::carried_part::CarriedPart;
 use crate::claims::{claim_fault, cost_of};
 use crate::fault::{CheckFault, CheckFaultKind};
 use crate::labels::numbers_in;
 use crate::laws::no_fault_is_acceptance;
 use crate::leaves::leaf_fault;
+use crate::part_stack::{PartStack, PartStart, divide};
 use crate::sources::Sources;
 use pmap_cert::laws::acceptance_is_enough;
 use pmap_cert::{Certificate, Node};
@@ -26,60 +27,57 @@ use pmap_text::{MapText, PrefixList};
 use prefix_keys::{Block, Version};
 use std::alloc::{AllocError, Global};
 
-// The parts of what has a say in a block that have a say in its halves. The whole is let go, so that of the parts on the
-// way down only those of the upper halves to come lie at once, and of these no two have one statement's end.
-fn halves_of(
-    alloc: Global,
-    part: CarriedPart,
-    low: &Block,
-    high: &Block,
-) -> Result<(CarriedPart, CarriedPart), AllocError>
-    ensures low_statements { IfOk result (λ halves. halves.0.statements.items ≡ carried_to low.now part.statements.items) }
-    ensures low_entries { IfOk result (λ halves. halves.0.entries.items ≡ entries_carried_to low.now part.entries.items) }
-    ensures high_statements { IfOk result (λ halves. halves.1.statements.items ≡ carried_to high.now part.statements.items) }
-    ensures high_entries { IfOk result (λ halves. halves.1.entries.items ≡ entries_carried_to high.now part.entries.items) }
-{
-    let lower = part_of(alloc, &part.statements, &part.entries, low)?;
-    let upper = part_of(alloc, &part.statements, &part.entries, high)?;
-    Ok((lower, upper))
-}
-
-// Checks the node and those below it, where the node has this number and stands for the block, and the part has a say in
-// it. The answer is the number of the node that comes next.
+// Checks the node and those below it, where the node has this number and stands for the block, and the last part of `own`,
+// which begins at `start`, has a say in it. That part is let go, and `other` takes parts for a while, so that of the parts
+// on the way down only those of the upper halves to come lie at once, and of these no two have one statement's end. The
+// answer is the number of the node that comes next.
 fn check_node(
-    alloc: Global,
     sources: &Sources,
-    part: CarriedPart,
+    own: &mut PartStack,
+    start: PartStart,
+    other: &mut PartStack,
     node: &Node,
     block: Block,
     number: u64,
 ) -> Result<u64, CheckFault>
     requires sources { AreSources sources.now }
-    requires part { IsPartOf sources.now part }
+    requires statements { start.statements ≤ length own.old.statements.items }
+    requires entries { start.entries ≤ length own.old.entries.items }
+    requires statements_part { AreStatementsOf sources.now.map.now (drop start.statements own.old.statements.items) }
+    requires entries_part { AreEntriesOf sources.now.list.now (drop start.entries own.old.entries.items) }
     requires version { block.version ≡ sources.now.map.now.version }
     requires form { HasNumberForm (length sources.now.certificate.now.labels) node.now (width_of block.version - block.len) }
+    ensures own_statements { OnOk result (own.new.statements.items ≡ take start.statements own.old.statements.items) }
+    ensures own_entries { OnOk result (own.new.entries.items ≡ take start.entries own.old.entries.items) }
+    ensures other_statements { OnOk result (other.new.statements.items ≡ other.old.statements.items) }
+    ensures other_entries { OnOk result (other.new.entries.items ≡ other.old.entries.items) }
     ensures ok { IfOk result (λ next. (k : ℕ) → told k ≡ number →
         (next ≡ told (k + node_count (tree_of sources.now.certificate.now.labels node.now)))
-        × (node_fault (map_with sources.now.map.now part.statements.items) (prefixes_with sources.now.list.now part.entries.items)
+        × (node_fault (map_with sources.now.map.now (drop start.statements own.old.statements.items)) (prefixes_with sources.now.list.now (drop start.entries own.old.entries.items))
         (tree_of sources.now.certificate.now.labels node.now) k block.len (number_of block) ≡ None)) }
     ensures err { IfErr result (λ fault. fault.kind ≢ NoMemory → (k : ℕ) → told k ≡ number →
-        node_fault (map_with sources.now.map.now part.statements.items) (prefixes_with sources.now.list.now part.entries.items)
+        node_fault (map_with sources.now.map.now (drop start.statements own.old.statements.items)) (prefixes_with sources.now.list.now (drop start.entries own.old.entries.items))
         (tree_of sources.now.certificate.now.labels node.now) k block.len (number_of block) ≡ Some fault) }
     ensures memory { IfErr result (λ fault. fault.kind ≡ NoMemory → fault.node ≡ 0) }
 {
     match node {
-        Node::Leaf(id) => match leaf_fault(sources, &part, &block, *id) {
-            Some(kind) => Err(CheckFault { kind, node: number }),
-            None => Ok(number.saturating_add(1)),
-        },
+        Node::Leaf(id) => {
+            let fault = leaf_fault(sources, own.last(start), &block, *id);
+            own.cut(start);
+            match fault {
+                Some(kind) => Err(CheckFault { kind, node: number }),
+                None => Ok(number.saturating_add(1)),
+            }
+        }
         Node::Inner { left, right, .. } => {
             let Some((low, high)) = block.halves() else {
                 unreachable!()
             };
-            let (lower, upper) = halves_of(alloc, part, &low, &high)?;
-            let next = check_node(alloc, sources, lower, left, low, number.saturating_add(1))?;
-            let next = check_node(alloc, sources, upper, right, high, next)?;
-            match claim_fault(alloc, &sources.certificate.labels, node, left, right)? {
+            let (upper, lower) = divide(own, start, other, &low, &high)?;
+            let next = number.saturating_add(1);
+            let next = check_node(sources, other, lower, own, left, low, next)?;
+            let next = check_node(sources, other, upper, own, right, high, next)?;
+            match claim_fault(&sources.certificate.labels, node, left, right) {
                 Some(kind) => Err(CheckFault { kind, node: number }),
                 None => Ok(next),
             }
@@ -122,13 +120,16 @@ fn check_nodes(
         list_numbers: numbers_in(alloc, &list.labels, &certificate.labels)?,
     };
     let whole = whole_space(map.version);
-    let part = part_of(
-        alloc,
-        map.statements.as_slice(),
-        list.entries.as_slice(),
-        &whole,
-    )?;
-    check_node(alloc, &sources, part, certificate.root(), whole, 1)?;
+    let part = CarriedPart {
+        statements: map.statements.as_slice(),
+        entries: list.entries.as_slice(),
+    };
+    let mut own = PartStack::new(alloc);
+    let mut other = PartStack::new(alloc);
+    let start = own.end();
+    own.add(part, &whole)?;
+    let root = certificate.root();
+    check_node(&sources, &mut own, start, &mut other, root, whole, 1)?;
     Ok(())
 }
 

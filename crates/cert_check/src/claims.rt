@@ -1,5 +1,5 @@
 //! The check of what an inner node claims. Sets are listed by rising numbers, so that two are compared in one walk over both.
-ghost use Rattle.std.specs.Prelude.{◌≡◌, ℕ, ◌+◌, ◌^◌, ◌<◌, ◌≤◌, ◌&&◌, ◌==◌, ◌++◌, ◌∷◌, [], Some, None, filter, length, map, nat_lt, not, IfOk, OnOk, if◌then◌else◌};
+ghost use Rattle.std.specs.Prelude.{◌≡◌, ℕ, ◌+◌, ◌^◌, ◌<◌, ◌≤◌, ◌&&◌, ◌||◌, ◌==◌, Some, None, length, map, nat_lt, not, if◌then◌else◌};
 ghost use Rattle.std.specs.List.{list_all};
 ghost use Rattle.pmap_text.specs.Label.{IsLabelTable};
 ghost use Rattle.pmap_text.specs.MapText.{text_at};
@@ -14,7 +14,6 @@ ghost use Rattle.cert_check.specs.Sources.{cost_of as cost_of_node, has_number, 
 use crate::fault::CheckFaultKind;
 use pmap_cert::Node;
 use pmap_text::{LabelId, Labels};
-use std::alloc::{AllocError, Global};
 use std::slice;
 
 /// What the node claims to cost.
@@ -65,29 +64,39 @@ fn begins_with(rest: &[LabelId], id: LabelId) -> bool
     }
 }
 
-// Adds the label at the end, if it is wanted.
-fn push_if(both: &mut Vec<LabelId>, id: LabelId, wanted: bool) -> Result<(), AllocError>
-    ensures { OnOk result (both.new.items ≡ (if wanted then both.old.items ++ id ∷ [] else both.old.items)) }
+// Whether the sets have no label in common.
+fn are_apart(lower: &[LabelId], upper: &[LabelId]) -> bool
+    requires lower { IsRising (2 ^ 32) 0 (map (λ i. i.0) lower.now) }
+    requires upper { IsRising (2 ^ 32) 0 (map (λ i. i.0) upper.now) }
+    ensures { result ≡ list_all (λ i. not (has_number (map (λ j. j.0) upper.now) i.0)) lower.now }
 {
-    if wanted {
-        both.push(id)?;
+    let mut rest = upper;
+    for id in lower {
+        rest = rest_from(rest, *id);
+        if begins_with(rest, *id) {
+            return false;
+        }
     }
-    Ok(())
+    true
 }
 
-// The labels of one set that another has too.
-fn common(alloc: Global, set: &[LabelId], other: &[LabelId]) -> Result<Vec<LabelId>, AllocError>
+// Whether the set has each label that two others have in common.
+fn has_common(set: &[LabelId], lower: &[LabelId], upper: &[LabelId]) -> bool
     requires set { IsRising (2 ^ 32) 0 (map (λ i. i.0) set.now) }
-    requires other { IsRising (2 ^ 32) 0 (map (λ i. i.0) other.now) }
-    ensures { IfOk result (λ both. both.items ≡ filter (λ i. has_number (map (λ j. j.0) other.now) i.0) set.now) }
+    requires lower { IsRising (2 ^ 32) 0 (map (λ i. i.0) lower.now) }
+    requires upper { IsRising (2 ^ 32) 0 (map (λ i. i.0) upper.now) }
+    ensures { result ≡ list_all (λ i. not (has_number (map (λ j. j.0) upper.now) i.0) || has_number (map (λ j. j.0) set.now) i.0) lower.now }
 {
-    let mut both = Vec::new(alloc);
-    let mut rest = other;
-    for id in set {
+    let mut rest = set;
+    let mut above = upper;
+    for id in lower {
         rest = rest_from(rest, *id);
-        push_if(&mut both, *id, begins_with(rest, *id))?;
+        above = rest_from(above, *id);
+        if begins_with(above, *id) && !begins_with(rest, *id) {
+            return false;
+        }
     }
-    Ok(both)
+    true
 }
 
 // Whether the set has each of the labels.
@@ -141,17 +150,16 @@ fn fault_by(cost: u64, exact_cost: u64, has_exact_set: bool) -> Option<CheckFaul
 
 /// What is wrong with the claim of an inner node, by the claims of the nodes of its halves.
 pub fn claim_fault(
-    alloc: Global,
     labels: &Labels,
     claim: &Node,
     left: &Node,
     right: &Node,
-) -> Result<Option<CheckFaultKind>, AllocError>
+) -> Option<CheckFaultKind>
     requires claim { IsRising (length labels.now) 0 (set_of_node claim.now) }
     requires left { IsRising (length labels.now) 0 (set_of_node left.now) }
     requires right { IsRising (length labels.now) 0 (set_of_node right.now) }
-    ensures { IfOk result (λ fault. fault ≡ claim_fault_of (claim_of (tree_of labels.now claim.now))
-        (exact_pair (claim_of (tree_of labels.now left.now)) (claim_of (tree_of labels.now right.now)))) }
+    ensures { result ≡ claim_fault_of (claim_of (tree_of labels.now claim.now))
+        (exact_pair (claim_of (tree_of labels.now left.now)) (claim_of (tree_of labels.now right.now))) }
 {
     let _count = labels.len();
     let cost = cost_of(claim);
@@ -159,11 +167,9 @@ pub fn claim_fault(
     let lower = set_of(left);
     let upper = set_of(right);
     let below = cost_below(left, right);
-    let both = common(alloc, lower, upper)?;
-    if both.is_empty() {
-        let full = has_both(set, lower, upper);
-        return Ok(fault_by(cost, below + 1, full));
+    if are_apart(lower, upper) {
+        fault_by(cost, below + 1, has_both(set, lower, upper))
+    } else {
+        fault_by(cost, below, has_common(set, lower, upper))
     }
-    let full = has_all(set, both.as_slice());
-    Ok(fault_by(cost, below, full))
 }

@@ -110,20 +110,20 @@ fn decides(sources: &Sources, entries: &[Entry], block: &Block, id: LabelId) -> 
 /// What is wrong with a leaf that has the certificate's label `id` and stands for the block.
 pub fn leaf_fault(
     sources: &Sources,
-    part: &CarriedPart,
+    part: CarriedPart,
     block: &Block,
     id: LabelId,
 ) -> Option<CheckFaultKind>
     requires sources { AreSources sources.now }
-    requires part { IsPartOf sources.now part.now }
+    requires part { IsPartOf sources.now part }
     requires version { block.now.version ≡ sources.now.map.now.version }
     requires known { id.0 < length sources.now.certificate.now.labels }
-    ensures { result ≡ leaf_fault_of (map_with sources.now.map.now part.now.statements.items) (prefixes_with sources.now.list.now part.now.entries.items)
+    ensures { result ≡ leaf_fault_of (map_with sources.now.map.now part.entry.statements.now) (prefixes_with sources.now.list.now part.entry.entries.now)
         block.now.len (number_of block.now) (text_at sources.now.certificate.now.labels id.0) }
 {
-    if !settles(sources, &part.statements, block, id) {
+    if !settles(sources, part.statements, block, id) {
         Some(CheckFaultKind::LeafNotUniform)
-    } else if !decides(sources, &part.entries, block, id) {
+    } else if !decides(sources, part.entries, block, id) {
         Some(CheckFaultKind::ListDiffers)
     } else {
         None

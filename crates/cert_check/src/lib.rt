@@ -15,6 +15,7 @@ mod fault;
 mod labels;
 pub mod laws;
 mod leaves;
+mod part_stack;
 mod sources;
 
 pub use carrying::{carried, carried_entries};

@@ -1,4 +1,4 @@
-use Rattle.std.proofs.Common.{◌≡◌, ◌∙◌, ◌+◌, ◌-◌, ◌*◌, ◌<◌, ℕ, None, Some, ap, arith, length, option_map, refl, subst, suc, sym}
+use Rattle.std.proofs.Common.{◌≡◌, ◌∙◌, ◌+◌, ◌-◌, ◌*◌, ◌<◌, ℕ, None, Some, ap, arith, drop, length, option_map, refl, subst, suc, sym}
 use Rattle.std.proofs.lemmas.Result.{err_from_is_err_and}
 use Rattle.prefix_keys.specs.Version.{width_of}
 use Rattle.pmap_cert.specs.CertificateModel.{claim_of}
@@ -17,8 +17,8 @@ check_node-requires t c =
     let labels = c.args.sources.now.certificate.now.labels in
     let m = c.args.sources.now.map.now in
     let l = c.args.sources.now.list.now in
-    let ss = c.args.part.statements.items in
-    let es = c.args.part.entries.items in
+    let ss = drop c.args.start.statements c.args.own.now.statements.items in
+    let es = drop c.args.start.entries c.args.own.now.entries.items in
     let block = c.args.block in
     let q = number_of block in
     let node = c.args.node.now in
@@ -27,33 +27,24 @@ check_node-requires t c =
     let inner : IsInner node left right = subst (λ (x : Node). IsInner x left right) (sym c.in-Inner.is) (refl, refl) in
     let form = inner-form (length labels) (width_of block.version - block.len) node left right inner c.requires.form in
     let low = c.in-Some-halves.low in
-    let low_ss = c.in_ok-lower-in-Inner.lower.statements.items in
-    let low_es = c.in_ok-lower-in-Inner.lower.entries.items in
+    let low_ss = drop c.in_ok-upper-in-Inner.lower.statements c.divide.new.other.statements.items in
+    let low_es = drop c.in_ok-upper-in-Inner.lower.entries c.divide.new.other.entries.items in
     let low_part : IsPassedOn m l ss es block low (2 * q) low_ss low_es = record {
       version = c.requires.version;
       list_version = c.requires.sources.list_version;
-      statements = c.requires.part.statements;
-      entries = c.requires.part.entries;
+      statements = c.requires.statements_part;
+      entries = c.requires.entries_part;
       half_version = c.in-Some-halves.ensures.versions.0;
       len = c.in-Some-halves.ensures.lens.0;
       number = c.in-Some-halves.ensures.lower_number;
-      statements_are = c.in_ok-lower-in-Inner.ensures.low_statements;
-      entries_are = c.in_ok-lower-in-Inner.ensures.low_entries;
+      statements_are = c.in_ok-upper-in-Inner.ensures.low_statements;
+      entries_are = c.in_ok-upper-in-Inner.ensures.low_entries;
     } in
     let width : width_of low.version ≡ width_of block.version = ap width_of low_part.half_version in (
       omega (arith, width, low_part.len, form.1),
       (
         c.requires.sources,
-        (
-          record {
-            statements = passed-statements m l ss es block low (2 * q) low_ss low_es low_part;
-            entries = passed-entries m l ss es block low (2 * q) low_ss low_es low_part;
-          },
-          (
-            low_part.half_version ∙ c.requires.version,
-            passed-form m l ss es block low (2 * q) low_ss low_es low_part (length labels) form.0 c.deref.result.now left c.deref.ensures form.1 form.2,
-          ),
-        ),
+        (c.in_ok-upper-in-Inner.ensures.low_within.0, (c.in_ok-upper-in-Inner.ensures.low_within.1, (passed-statements m l ss es block low (2 * q) low_ss low_es low_part, (passed-entries m l ss es block low (2 * q) low_ss low_es low_part, (low_part.half_version ∙ c.requires.version, passed-form m l ss es block low (2 * q) low_ss low_es low_part (length labels) form.0 c.deref.result.now left c.deref.ensures form.1 form.2))))),
       ),
     )
 
@@ -62,8 +53,8 @@ returns-in_err-next-in-Inner-clause-err t c =
     let labels = c.args.sources.now.certificate.now.labels in
     let m = c.args.sources.now.map.now in
     let l = c.args.sources.now.list.now in
-    let ss = c.args.part.statements.items in
-    let es = c.args.part.entries.items in
+    let ss = drop c.args.start.statements c.args.own.now.statements.items in
+    let es = drop c.args.start.entries c.args.own.now.entries.items in
     let block = c.args.block in
     let q = number_of block in
     let node = c.args.node.now in
@@ -72,18 +63,18 @@ returns-in_err-next-in-Inner-clause-err t c =
     let inner : IsInner node left right = subst (λ (x : Node). IsInner x left right) (sym c.in-Inner.is) (refl, refl) in
     let form = inner-form (length labels) (width_of block.version - block.len) node left right inner c.requires.form in
     let low = c.in-Some-halves.low in
-    let low_ss = c.in_ok-lower-in-Inner.lower.statements.items in
-    let low_es = c.in_ok-lower-in-Inner.lower.entries.items in
+    let low_ss = drop c.in_ok-upper-in-Inner.lower.statements c.divide.new.other.statements.items in
+    let low_es = drop c.in_ok-upper-in-Inner.lower.entries c.divide.new.other.entries.items in
     let low_part : IsPassedOn m l ss es block low (2 * q) low_ss low_es = record {
       version = c.requires.version;
       list_version = c.requires.sources.list_version;
-      statements = c.requires.part.statements;
-      entries = c.requires.part.entries;
+      statements = c.requires.statements_part;
+      entries = c.requires.entries_part;
       half_version = c.in-Some-halves.ensures.versions.0;
       len = c.in-Some-halves.ensures.lens.0;
       number = c.in-Some-halves.ensures.lower_number;
-      statements_are = c.in_ok-lower-in-Inner.ensures.low_statements;
-      entries_are = c.in_ok-lower-in-Inner.ensures.low_entries;
+      statements_are = c.in_ok-upper-in-Inner.ensures.low_statements;
+      entries_are = c.in_ok-upper-in-Inner.ensures.low_entries;
     } in
     let p = err_from_is_err_and c.from_residual-in_err-next-in-Inner.result c.from_residual-in_err-next-in-Inner.ensures.1 in
     let fault = c.in_err-next-in-Inner.field-0.0 in
@@ -91,15 +82,15 @@ returns-in_err-next-in-Inner-clause-err t c =
     (λ some k is.
     inner-low labels (map_with m ss) (prefixes_with l es) node left right inner k block.len q fault
     (passed-on m l ss es block low (2 * q) low_ss low_es low_part labels (length labels) form.0 c.deref.result.now left c.deref.ensures form.1 form.2 (k + 1) (Some fault)
-    (c.in_err-next-in-Inner.ensures.err some (k + 1) (told-next k c.args.number is c.saturating_add-in-Inner.result c.saturating_add-in-Inner.ensures))))
+    (c.in_err-next-in-Inner.ensures.err some (k + 1) (told-next k c.args.number is c.saturating_add-next.result c.saturating_add-next.ensures))))
 
 pub check_node-requires-in-Inner : goal.check_node-requires-in-Inner
 check_node-requires-in-Inner t c =
     let labels = c.args.sources.now.certificate.now.labels in
     let m = c.args.sources.now.map.now in
     let l = c.args.sources.now.list.now in
-    let ss = c.args.part.statements.items in
-    let es = c.args.part.entries.items in
+    let ss = drop c.args.start.statements c.args.own.now.statements.items in
+    let es = drop c.args.start.entries c.args.own.now.entries.items in
     let block = c.args.block in
     let q = number_of block in
     let node = c.args.node.now in
@@ -108,47 +99,38 @@ check_node-requires-in-Inner t c =
     let inner : IsInner node left right = subst (λ (x : Node). IsInner x left right) (sym c.in-Inner.is) (refl, refl) in
     let form = inner-form (length labels) (width_of block.version - block.len) node left right inner c.requires.form in
     let low = c.in-Some-halves.low in
-    let low_ss = c.in_ok-lower-in-Inner.lower.statements.items in
-    let low_es = c.in_ok-lower-in-Inner.lower.entries.items in
+    let low_ss = drop c.in_ok-upper-in-Inner.lower.statements c.divide.new.other.statements.items in
+    let low_es = drop c.in_ok-upper-in-Inner.lower.entries c.divide.new.other.entries.items in
     let low_part : IsPassedOn m l ss es block low (2 * q) low_ss low_es = record {
       version = c.requires.version;
       list_version = c.requires.sources.list_version;
-      statements = c.requires.part.statements;
-      entries = c.requires.part.entries;
+      statements = c.requires.statements_part;
+      entries = c.requires.entries_part;
       half_version = c.in-Some-halves.ensures.versions.0;
       len = c.in-Some-halves.ensures.lens.0;
       number = c.in-Some-halves.ensures.lower_number;
-      statements_are = c.in_ok-lower-in-Inner.ensures.low_statements;
-      entries_are = c.in_ok-lower-in-Inner.ensures.low_entries;
+      statements_are = c.in_ok-upper-in-Inner.ensures.low_statements;
+      entries_are = c.in_ok-upper-in-Inner.ensures.low_entries;
     } in
     let high = c.in-Some-halves.high in
-    let high_ss = c.in_ok-lower-in-Inner.upper.statements.items in
-    let high_es = c.in_ok-lower-in-Inner.upper.entries.items in
+    let high_ss = drop c.in_ok-upper-in-Inner.upper.statements c.check_node.new.own.statements.items in
+    let high_es = drop c.in_ok-upper-in-Inner.upper.entries c.check_node.new.own.entries.items in
     let high_part : IsPassedOn m l ss es block high (2 * q + 1) high_ss high_es = record {
       version = c.requires.version;
       list_version = c.requires.sources.list_version;
-      statements = c.requires.part.statements;
-      entries = c.requires.part.entries;
+      statements = c.requires.statements_part;
+      entries = c.requires.entries_part;
       half_version = c.in-Some-halves.ensures.versions.1;
       len = c.in-Some-halves.ensures.lens.1;
       number = c.in-Some-halves.ensures.upper_number;
-      statements_are = c.in_ok-lower-in-Inner.ensures.high_statements;
-      entries_are = c.in_ok-lower-in-Inner.ensures.high_entries;
+      statements_are = ap (drop c.in_ok-upper-in-Inner.upper.statements) c.in_ok-next-in-Inner.ensures.own_statements ∙ c.in_ok-upper-in-Inner.ensures.high_statements;
+      entries_are = ap (drop c.in_ok-upper-in-Inner.upper.entries) c.in_ok-next-in-Inner.ensures.own_entries ∙ c.in_ok-upper-in-Inner.ensures.high_entries;
     } in
     let width : width_of high.version ≡ width_of block.version = ap width_of high_part.half_version in (
       omega (arith, width, high_part.len, form.1),
       (
         c.requires.sources,
-        (
-          record {
-            statements = passed-statements m l ss es block high (2 * q + 1) high_ss high_es high_part;
-            entries = passed-entries m l ss es block high (2 * q + 1) high_ss high_es high_part;
-          },
-          (
-            high_part.half_version ∙ c.requires.version,
-            passed-form m l ss es block high (2 * q + 1) high_ss high_es high_part (length labels) form.0 c.deref-in-Inner.result.now right c.deref-in-Inner.ensures form.1 form.3,
-          ),
-        ),
+        (omega (arith, ap length c.in_ok-next-in-Inner.ensures.own_statements, c.in_ok-upper-in-Inner.ensures.high_within.0), (omega (arith, ap length c.in_ok-next-in-Inner.ensures.own_entries, c.in_ok-upper-in-Inner.ensures.high_within.1), (passed-statements m l ss es block high (2 * q + 1) high_ss high_es high_part, (passed-entries m l ss es block high (2 * q + 1) high_ss high_es high_part, (high_part.half_version ∙ c.requires.version, passed-form m l ss es block high (2 * q + 1) high_ss high_es high_part (length labels) form.0 c.deref-in-Inner.result.now right c.deref-in-Inner.ensures form.1 form.3))))),
       ),
     )
 
@@ -157,8 +139,8 @@ returns-in_err-next-in-Inner-2-clause-err t c =
     let labels = c.args.sources.now.certificate.now.labels in
     let m = c.args.sources.now.map.now in
     let l = c.args.sources.now.list.now in
-    let ss = c.args.part.statements.items in
-    let es = c.args.part.entries.items in
+    let ss = drop c.args.start.statements c.args.own.now.statements.items in
+    let es = drop c.args.start.entries c.args.own.now.entries.items in
     let block = c.args.block in
     let q = number_of block in
     let node = c.args.node.now in
@@ -167,38 +149,38 @@ returns-in_err-next-in-Inner-2-clause-err t c =
     let inner : IsInner node left right = subst (λ (x : Node). IsInner x left right) (sym c.in-Inner.is) (refl, refl) in
     let form = inner-form (length labels) (width_of block.version - block.len) node left right inner c.requires.form in
     let low = c.in-Some-halves.low in
-    let low_ss = c.in_ok-lower-in-Inner.lower.statements.items in
-    let low_es = c.in_ok-lower-in-Inner.lower.entries.items in
+    let low_ss = drop c.in_ok-upper-in-Inner.lower.statements c.divide.new.other.statements.items in
+    let low_es = drop c.in_ok-upper-in-Inner.lower.entries c.divide.new.other.entries.items in
     let low_part : IsPassedOn m l ss es block low (2 * q) low_ss low_es = record {
       version = c.requires.version;
       list_version = c.requires.sources.list_version;
-      statements = c.requires.part.statements;
-      entries = c.requires.part.entries;
+      statements = c.requires.statements_part;
+      entries = c.requires.entries_part;
       half_version = c.in-Some-halves.ensures.versions.0;
       len = c.in-Some-halves.ensures.lens.0;
       number = c.in-Some-halves.ensures.lower_number;
-      statements_are = c.in_ok-lower-in-Inner.ensures.low_statements;
-      entries_are = c.in_ok-lower-in-Inner.ensures.low_entries;
+      statements_are = c.in_ok-upper-in-Inner.ensures.low_statements;
+      entries_are = c.in_ok-upper-in-Inner.ensures.low_entries;
     } in
     let high = c.in-Some-halves.high in
-    let high_ss = c.in_ok-lower-in-Inner.upper.statements.items in
-    let high_es = c.in_ok-lower-in-Inner.upper.entries.items in
+    let high_ss = drop c.in_ok-upper-in-Inner.upper.statements c.check_node.new.own.statements.items in
+    let high_es = drop c.in_ok-upper-in-Inner.upper.entries c.check_node.new.own.entries.items in
     let high_part : IsPassedOn m l ss es block high (2 * q + 1) high_ss high_es = record {
       version = c.requires.version;
       list_version = c.requires.sources.list_version;
-      statements = c.requires.part.statements;
-      entries = c.requires.part.entries;
+      statements = c.requires.statements_part;
+      entries = c.requires.entries_part;
       half_version = c.in-Some-halves.ensures.versions.1;
       len = c.in-Some-halves.ensures.lens.1;
       number = c.in-Some-halves.ensures.upper_number;
-      statements_are = c.in_ok-lower-in-Inner.ensures.high_statements;
-      entries_are = c.in_ok-lower-in-Inner.ensures.high_entries;
+      statements_are = ap (drop c.in_ok-upper-in-Inner.upper.statements) c.in_ok-next-in-Inner.ensures.own_statements ∙ c.in_ok-upper-in-Inner.ensures.high_statements;
+      entries_are = ap (drop c.in_ok-upper-in-Inner.upper.entries) c.in_ok-next-in-Inner.ensures.own_entries ∙ c.in_ok-upper-in-Inner.ensures.high_entries;
     } in
     let p = err_from_is_err_and c.from_residual-in_err-next-in-Inner-2.result c.from_residual-in_err-next-in-Inner-2.ensures.1 in
     let fault = c.in_err-next-in-Inner-2.field-0.0 in
     rw (p.1, p.2)
     (λ some k is.
-    let first = c.in_ok-next-in-Inner.ensures.ok (k + 1) (told-next k c.args.number is c.saturating_add-in-Inner.result c.saturating_add-in-Inner.ensures) in
+    let first = c.in_ok-next-in-Inner.ensures.ok (k + 1) (told-next k c.args.number is c.saturating_add-next.result c.saturating_add-next.ensures) in
     let low_none = passed-on m l ss es block low (2 * q) low_ss low_es low_part labels (length labels) form.0 c.deref.result.now left c.deref.ensures form.1 form.2 (k + 1) None first.1 in
     let k2 : ℕ = k + 1 + node_count (tree_of labels left) in
     let told2 : told k2 ≡ c.in_ok-next-in-Inner.next = sym (first.0 ∙ ap (λ (x : Node). told (k + 1 + node_count (tree_of labels x))) c.deref.ensures) in
@@ -206,13 +188,13 @@ returns-in_err-next-in-Inner-2-clause-err t c =
     (passed-on m l ss es block high (2 * q + 1) high_ss high_es high_part labels (length labels) form.0 c.deref-in-Inner.result.now right c.deref-in-Inner.ensures form.1 form.3 k2 (Some fault)
     (c.in_err-next-in-Inner-2.ensures.err some k2 told2)))
 
-pub returns-in-Some-2-clause-err : goal.returns-in-Some-2-clause-err
-returns-in-Some-2-clause-err t c = λ some k is.
+pub returns-in-Some-claim_fault-clause-err : goal.returns-in-Some-claim_fault-clause-err
+returns-in-Some-claim_fault-clause-err t c = λ some k is.
     let labels = c.args.sources.now.certificate.now.labels in
     let m = c.args.sources.now.map.now in
     let l = c.args.sources.now.list.now in
-    let ss = c.args.part.statements.items in
-    let es = c.args.part.entries.items in
+    let ss = drop c.args.start.statements c.args.own.now.statements.items in
+    let es = drop c.args.start.entries c.args.own.now.entries.items in
     let block = c.args.block in
     let q = number_of block in
     let node = c.args.node.now in
@@ -221,52 +203,52 @@ returns-in-Some-2-clause-err t c = λ some k is.
     let inner : IsInner node left right = subst (λ (x : Node). IsInner x left right) (sym c.in-Inner.is) (refl, refl) in
     let form = inner-form (length labels) (width_of block.version - block.len) node left right inner c.requires.form in
     let low = c.in-Some-halves.low in
-    let low_ss = c.in_ok-lower-in-Inner.lower.statements.items in
-    let low_es = c.in_ok-lower-in-Inner.lower.entries.items in
+    let low_ss = drop c.in_ok-upper-in-Inner.lower.statements c.divide.new.other.statements.items in
+    let low_es = drop c.in_ok-upper-in-Inner.lower.entries c.divide.new.other.entries.items in
     let low_part : IsPassedOn m l ss es block low (2 * q) low_ss low_es = record {
       version = c.requires.version;
       list_version = c.requires.sources.list_version;
-      statements = c.requires.part.statements;
-      entries = c.requires.part.entries;
+      statements = c.requires.statements_part;
+      entries = c.requires.entries_part;
       half_version = c.in-Some-halves.ensures.versions.0;
       len = c.in-Some-halves.ensures.lens.0;
       number = c.in-Some-halves.ensures.lower_number;
-      statements_are = c.in_ok-lower-in-Inner.ensures.low_statements;
-      entries_are = c.in_ok-lower-in-Inner.ensures.low_entries;
+      statements_are = c.in_ok-upper-in-Inner.ensures.low_statements;
+      entries_are = c.in_ok-upper-in-Inner.ensures.low_entries;
     } in
     let high = c.in-Some-halves.high in
-    let high_ss = c.in_ok-lower-in-Inner.upper.statements.items in
-    let high_es = c.in_ok-lower-in-Inner.upper.entries.items in
+    let high_ss = drop c.in_ok-upper-in-Inner.upper.statements c.check_node.new.own.statements.items in
+    let high_es = drop c.in_ok-upper-in-Inner.upper.entries c.check_node.new.own.entries.items in
     let high_part : IsPassedOn m l ss es block high (2 * q + 1) high_ss high_es = record {
       version = c.requires.version;
       list_version = c.requires.sources.list_version;
-      statements = c.requires.part.statements;
-      entries = c.requires.part.entries;
+      statements = c.requires.statements_part;
+      entries = c.requires.entries_part;
       half_version = c.in-Some-halves.ensures.versions.1;
       len = c.in-Some-halves.ensures.lens.1;
       number = c.in-Some-halves.ensures.upper_number;
-      statements_are = c.in_ok-lower-in-Inner.ensures.high_statements;
-      entries_are = c.in_ok-lower-in-Inner.ensures.high_entries;
+      statements_are = ap (drop c.in_ok-upper-in-Inner.upper.statements) c.in_ok-next-in-Inner.ensures.own_statements ∙ c.in_ok-upper-in-Inner.ensures.high_statements;
+      entries_are = ap (drop c.in_ok-upper-in-Inner.upper.entries) c.in_ok-next-in-Inner.ensures.own_entries ∙ c.in_ok-upper-in-Inner.ensures.high_entries;
     } in
-    let first = c.in_ok-next-in-Inner.ensures.ok (k + 1) (told-next k c.args.number is c.saturating_add-in-Inner.result c.saturating_add-in-Inner.ensures) in
+    let first = c.in_ok-next-in-Inner.ensures.ok (k + 1) (told-next k c.args.number is c.saturating_add-next.result c.saturating_add-next.ensures) in
     let low_none = passed-on m l ss es block low (2 * q) low_ss low_es low_part labels (length labels) form.0 c.deref.result.now left c.deref.ensures form.1 form.2 (k + 1) None first.1 in
     let k2 : ℕ = k + 1 + node_count (tree_of labels left) in
     let told2 : told k2 ≡ c.in_ok-next-in-Inner.next = sym (first.0 ∙ ap (λ (x : Node). told (k + 1 + node_count (tree_of labels x))) c.deref.ensures) in
     let second = c.in_ok-next-in-Inner-2.ensures.ok k2 told2 in
     let high_none = passed-on m l ss es block high (2 * q + 1) high_ss high_es high_part labels (length labels) form.0 c.deref-in-Inner.result.now right c.deref-in-Inner.ensures form.1 form.3 k2 None second.1 in
-    let claim : claim_fault (claim_of (tree_of labels node)) (exact_pair (claim_of (tree_of labels left)) (claim_of (tree_of labels right))) ≡ c.in_ok-kind-in-Inner.field-0 =
+    let claim : claim_fault (claim_of (tree_of labels node)) (exact_pair (claim_of (tree_of labels left)) (claim_of (tree_of labels right))) ≡ c.claim_fault.result =
     (λ i. claim_fault (claim_of (tree_of labels node)) (exact_pair (claim_of (tree_of labels (sym c.deref-in-Inner-2.ensures i))) (claim_of (tree_of labels (sym c.deref-in-Inner-3.ensures i)))))
-    ∙ sym c.in_ok-kind-in-Inner.ensures in
-    inner-own labels (map_with m ss) (prefixes_with l es) node left right inner k block.len q (Some c.in-Some-2.kind) low_none high_none (claim ∙ c.in-Some-2.is)
-    ∙ at-number k c.args.number c.in-Some-2.kind is
+    ∙ sym c.claim_fault.ensures in
+    inner-own labels (map_with m ss) (prefixes_with l es) node left right inner k block.len q (Some c.in-Some-claim_fault.kind) low_none high_none (claim ∙ c.in-Some-claim_fault.is)
+    ∙ at-number k c.args.number c.in-Some-claim_fault.kind is
 
-pub returns-clause-ok : goal.returns-clause-ok
-returns-clause-ok t c = λ k is.
+pub returns-in-None-claim_fault-clause-ok : goal.returns-in-None-claim_fault-clause-ok
+returns-in-None-claim_fault-clause-ok t c = λ k is.
     let labels = c.args.sources.now.certificate.now.labels in
     let m = c.args.sources.now.map.now in
     let l = c.args.sources.now.list.now in
-    let ss = c.args.part.statements.items in
-    let es = c.args.part.entries.items in
+    let ss = drop c.args.start.statements c.args.own.now.statements.items in
+    let es = drop c.args.start.entries c.args.own.now.entries.items in
     let block = c.args.block in
     let q = number_of block in
     let node = c.args.node.now in
@@ -275,44 +257,44 @@ returns-clause-ok t c = λ k is.
     let inner : IsInner node left right = subst (λ (x : Node). IsInner x left right) (sym c.in-Inner.is) (refl, refl) in
     let form = inner-form (length labels) (width_of block.version - block.len) node left right inner c.requires.form in
     let low = c.in-Some-halves.low in
-    let low_ss = c.in_ok-lower-in-Inner.lower.statements.items in
-    let low_es = c.in_ok-lower-in-Inner.lower.entries.items in
+    let low_ss = drop c.in_ok-upper-in-Inner.lower.statements c.divide.new.other.statements.items in
+    let low_es = drop c.in_ok-upper-in-Inner.lower.entries c.divide.new.other.entries.items in
     let low_part : IsPassedOn m l ss es block low (2 * q) low_ss low_es = record {
       version = c.requires.version;
       list_version = c.requires.sources.list_version;
-      statements = c.requires.part.statements;
-      entries = c.requires.part.entries;
+      statements = c.requires.statements_part;
+      entries = c.requires.entries_part;
       half_version = c.in-Some-halves.ensures.versions.0;
       len = c.in-Some-halves.ensures.lens.0;
       number = c.in-Some-halves.ensures.lower_number;
-      statements_are = c.in_ok-lower-in-Inner.ensures.low_statements;
-      entries_are = c.in_ok-lower-in-Inner.ensures.low_entries;
+      statements_are = c.in_ok-upper-in-Inner.ensures.low_statements;
+      entries_are = c.in_ok-upper-in-Inner.ensures.low_entries;
     } in
     let high = c.in-Some-halves.high in
-    let high_ss = c.in_ok-lower-in-Inner.upper.statements.items in
-    let high_es = c.in_ok-lower-in-Inner.upper.entries.items in
+    let high_ss = drop c.in_ok-upper-in-Inner.upper.statements c.check_node.new.own.statements.items in
+    let high_es = drop c.in_ok-upper-in-Inner.upper.entries c.check_node.new.own.entries.items in
     let high_part : IsPassedOn m l ss es block high (2 * q + 1) high_ss high_es = record {
       version = c.requires.version;
       list_version = c.requires.sources.list_version;
-      statements = c.requires.part.statements;
-      entries = c.requires.part.entries;
+      statements = c.requires.statements_part;
+      entries = c.requires.entries_part;
       half_version = c.in-Some-halves.ensures.versions.1;
       len = c.in-Some-halves.ensures.lens.1;
       number = c.in-Some-halves.ensures.upper_number;
-      statements_are = c.in_ok-lower-in-Inner.ensures.high_statements;
-      entries_are = c.in_ok-lower-in-Inner.ensures.high_entries;
+      statements_are = ap (drop c.in_ok-upper-in-Inner.upper.statements) c.in_ok-next-in-Inner.ensures.own_statements ∙ c.in_ok-upper-in-Inner.ensures.high_statements;
+      entries_are = ap (drop c.in_ok-upper-in-Inner.upper.entries) c.in_ok-next-in-Inner.ensures.own_entries ∙ c.in_ok-upper-in-Inner.ensures.high_entries;
     } in
-    let first = c.in_ok-next-in-Inner.ensures.ok (k + 1) (told-next k c.args.number is c.saturating_add-in-Inner.result c.saturating_add-in-Inner.ensures) in
+    let first = c.in_ok-next-in-Inner.ensures.ok (k + 1) (told-next k c.args.number is c.saturating_add-next.result c.saturating_add-next.ensures) in
     let low_none = passed-on m l ss es block low (2 * q) low_ss low_es low_part labels (length labels) form.0 c.deref.result.now left c.deref.ensures form.1 form.2 (k + 1) None first.1 in
     let k2 : ℕ = k + 1 + node_count (tree_of labels left) in
     let told2 : told k2 ≡ c.in_ok-next-in-Inner.next = sym (first.0 ∙ ap (λ (x : Node). told (k + 1 + node_count (tree_of labels x))) c.deref.ensures) in
     let second = c.in_ok-next-in-Inner-2.ensures.ok k2 told2 in
     let high_none = passed-on m l ss es block high (2 * q + 1) high_ss high_es high_part labels (length labels) form.0 c.deref-in-Inner.result.now right c.deref-in-Inner.ensures form.1 form.3 k2 None second.1 in
-    let claim : claim_fault (claim_of (tree_of labels node)) (exact_pair (claim_of (tree_of labels left)) (claim_of (tree_of labels right))) ≡ c.in_ok-kind-in-Inner.field-0 =
+    let claim : claim_fault (claim_of (tree_of labels node)) (exact_pair (claim_of (tree_of labels left)) (claim_of (tree_of labels right))) ≡ c.claim_fault.result =
     (λ i. claim_fault (claim_of (tree_of labels node)) (exact_pair (claim_of (tree_of labels (sym c.deref-in-Inner-2.ensures i))) (claim_of (tree_of labels (sym c.deref-in-Inner-3.ensures i)))))
-    ∙ sym c.in_ok-kind-in-Inner.ensures in
+    ∙ sym c.claim_fault.ensures in
     let last : node_count (tree_of labels c.deref-in-Inner.result.now) ≡ node_count (tree_of labels right) = ap (λ (x : Node). node_count (tree_of labels x)) c.deref-in-Inner.ensures in
     let all : k2 + node_count (tree_of labels c.deref-in-Inner.result.now) ≡ k + node_count (tree_of labels node) = omega (arith, last, inner-count labels node left right inner) in (
       second.0 ∙ ap told all,
-      inner-own labels (map_with m ss) (prefixes_with l es) node left right inner k block.len q None low_none high_none (claim ∙ c.in-None-2.is),
+      inner-own labels (map_with m ss) (prefixes_with l es) node left right inner k block.len q None low_none high_none (claim ∙ c.in-None-claim_fault.is),
     )
