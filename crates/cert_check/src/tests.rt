@@ -1,4 +1,8 @@
-//! Worked certificates: what `check` answers to them, and why it refuses others.
+//! Worked certificates: what `check` answers to them, and why it refuses others. `certificates` has the tests of pmap_cert,
+//! whose own proof is too long to have it proved twice.
+
+mod certificates;
+
 use crate::fault::CheckFaultKind;
 use crate::{carried, carried_entries, check};
 use pmap_cert::read_cert;

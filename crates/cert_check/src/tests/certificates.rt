@@ -74,6 +74,25 @@ fn labels_of(rt: &impl Abort, alloc: Global, texts: &[&[u8]]) -> Result<Labels, 
     Ok(labels)
 }
 
+fn has_both(rt: &impl Abort, set: &LabelSet) {
+    assert!(rt; set.len() == 2);
+    assert!(rt; set.as_slice() == [LabelId(0), LabelId(1)].as_slice());
+}
+
+fn costs_one(rt: &impl Abort, root: &Node) {
+    assert!(rt; matches!(root, Node::Inner { cost: 1, .. }));
+}
+
+fn is_written(
+    rt: &impl Abort,
+    alloc: Global,
+    certificate: &Certificate,
+    wanted: &[u8],
+) -> Result<(), Fail> {
+    is_text(rt, write_cert(alloc, certificate)?.as_slice(), wanted);
+    Ok(())
+}
+
 #[test]
 fn makes_a_certificate_of_its_parts(rt: HostRuntime) -> Result<(), Fail> {
     let alloc = rt.alloc();
@@ -83,8 +102,7 @@ fn makes_a_certificate_of_its_parts(rt: HostRuntime) -> Result<(), Fail> {
     assert!(rt; set.is_empty());
     set.push(LabelId(0))?;
     set.push(LabelId(1))?;
-    assert_eq!(rt; set.len(), 2);
-    assert_eq!(rt; set.as_slice(), [LabelId(0), LabelId(1)].as_slice());
+    has_both(&rt, &set);
     let root = Node::Inner {
         cost: 1,
         set,
@@ -92,9 +110,8 @@ fn makes_a_certificate_of_its_parts(rt: HostRuntime) -> Result<(), Fail> {
         right: Box::new(alloc, Node::Leaf(LabelId(1)))?,
     };
     let certificate = Certificate::new(Version::V4, labels, root);
-    assert!(rt; matches!(certificate.root(), Node::Inner { cost: 1, .. }));
-    is_text(&rt, write_cert(alloc, &certificate)?.as_slice(), TWO_HALVES);
-    Ok(())
+    costs_one(&rt, certificate.root());
+    is_written(&rt, alloc, &certificate, TWO_HALVES)
 }
 
 // A text, the kind of its fault, and the line.
