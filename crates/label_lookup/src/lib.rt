@@ -19,3 +19,6 @@ pub use list_index::ListIndex;
 pub use row::{label_row, label_row_under};
 pub use scan::Scan;
 pub use trie_labeller::TrieLabeller;
+
+#[cfg(test)]
+mod tests;

@@ -1,4 +1,6 @@
 use prefix_keys::{Addr, Block, Version, print_addr, print_block};
+use std::alloc::Global;
+use std::process::Abort;
 use std::test::Fail;
 
 // An address and its text.
@@ -56,17 +58,31 @@ const ADDRESSES: [(Version, u128, &str); 15] = [
     ),
 ];
 
-#[test]
-fn prints_addresses_behind_what_is_there(rt: HostRuntime) -> Result<(), Fail> {
-    let mut out = Vec::new(rt.alloc());
-    let mut want = Vec::new(rt.alloc());
-    for (version, value, text) in ADDRESSES {
-        let addr = Addr::new(version, value).ok_or("no address")?;
-        print_addr(&mut out, addr)?;
+fn print(out: &mut Vec<u8>, version: Version, value: u128) -> Result<(), Fail> {
+    let addr = Addr::new(version, value).ok_or("no address")?;
+    print_addr(out, addr)?;
+    Ok(())
+}
+
+// Each address is printed behind those before it.
+fn are_printed(
+    rt: &impl Abort,
+    alloc: Global,
+    cases: &[(Version, u128, &str)],
+) -> Result<(), Fail> {
+    let mut out = Vec::new(alloc);
+    let mut want = Vec::new(alloc);
+    for &(version, value, text) in cases {
+        print(&mut out, version, value)?;
         want.extend_from_slice(text.as_bytes())?;
-        assert_eq!(rt; out.as_slice(), want.as_slice(), "at {text}");
+        assert!(rt; out.as_slice() == want.as_slice(), "at {text}");
     }
     Ok(())
+}
+
+#[test]
+fn prints_addresses_behind_what_is_there(rt: HostRuntime) -> Result<(), Fail> {
+    are_printed(&rt, rt.alloc(), &ADDRESSES)
 }
 
 #[test]

@@ -1,5 +1,5 @@
 use Rattle.std.proofs.Common.{◌≡◌, ◌<◌, All, length}
-use Rattle.pmap_print.proofs.tests.tries.map.Given as goal
+use Rattle.label_lookup.proofs.tests.tries.map.Given as goal
 
 abbrev pub invariant-loop-first : goal.invariant-loop-first
 invariant-loop-first g l = record {

@@ -2,7 +2,7 @@ ghost use Rattle.std.specs.Prelude.{◌≡◌, ◌<◌, IfOk};
 ghost use Rattle.pmap_text.specs.MapModel.{map_label};
 ghost use Rattle.pmap_text.specs.MapText.{map_of};
 
-use label_lookup::{Scan, label_row};
+use crate::{Scan, label_row};
 use label_trie::{Cursor, Leaf, Leaves, Parts, Trie};
 use pmap_text::{
     Entries, Entry, LabelId, Labels, MapText, PrefixList, Statement, Statements, is_label,
@@ -17,9 +17,11 @@ const A: u32 = 1;
 
 const B: u32 = 2;
 
-fn labels(rt: &impl Abort, alloc: Global) -> Result<Labels, AllocError> {
+const TEXTS: [&[u8]; 3] = [b"UNKNOWN", b"A", b"B"];
+
+fn labels_of(rt: &impl Abort, alloc: Global, texts: &[&[u8]]) -> Result<Labels, AllocError> {
     let mut labels = Labels::new(alloc);
-    for text in [b"UNKNOWN".as_slice(), b"A".as_slice(), b"B".as_slice()] {
+    for text in texts {
         assert!(rt; is_label(text));
         assert!(rt; labels.len() < 65536);
         labels.add(text)?;
@@ -51,7 +53,7 @@ fn map(
 ) -> Result<MapText, AllocError>
     ensures { IfOk result (λ m. m.version ≡ version) }
 {
-    let labels = labels(rt, alloc)?;
+    let labels = labels_of(rt, alloc, &TEXTS)?;
     assert!(rt; labels.len() == 3);
     assert!(rt; spans.len() <= 1000000);
     let mut statements = Statements::new(alloc);
@@ -263,6 +265,12 @@ fn takes_addresses_of_128_bits(rt: HostRuntime) -> Result<(), AllocError> {
     labels_are(&rt, rt.alloc(), Version::V6, &spans, &wanted)
 }
 
+fn block_at(rt: &impl Abort, version: Version, value: u128, len: u32) -> Block
+    ensures { result.version ≡ version }
+{
+    Block::new(version, value, len).expect(rt, "a block")
+}
+
 // A list with these entries: the lowest address of the block, its length, and the label's number.
 fn list(
     rt: &impl Abort,
@@ -272,12 +280,12 @@ fn list(
 ) -> Result<PrefixList, AllocError>
     ensures { IfOk result (λ l. l.version ≡ version) }
 {
-    let labels = labels(rt, alloc)?;
+    let labels = labels_of(rt, alloc, &TEXTS)?;
     assert!(rt; labels.len() == 3);
     let mut entries = Entries::new(alloc);
     for &(value, len, label) in blocks {
         assert!(rt; label < 3);
-        let block = Block::new(version, value, len).expect(rt, "a block");
+        let block = block_at(rt, version, value, len);
         assert!(rt; !entries.has_block(&block));
         entries.push(Entry {
             block,

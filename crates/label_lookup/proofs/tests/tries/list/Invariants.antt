@@ -1,5 +1,5 @@
 use Rattle.std.proofs.Common.{◌≡◌, ◌<◌, All}
-use Rattle.pmap_print.proofs.tests.tries.list.Given as goal
+use Rattle.label_lookup.proofs.tests.tries.list.Given as goal
 
 abbrev pub invariant-loop-value : goal.invariant-loop-value
 invariant-loop-value g l = record {

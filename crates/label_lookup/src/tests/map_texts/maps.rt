@@ -455,12 +455,22 @@ fn tells_the_fault_of_each_prefix(rt: HostRuntime) {
     }
 }
 
+const LONGEST_LABEL: [u8; 255] = [b'x'; 255];
+
+fn default_text(alloc: Global, label: &[u8]) -> Result<Vec<u8>, Fail> {
+    let mut text = Vec::from_slice(alloc, b"default ")?;
+    text.extend_from_slice(label)?;
+    Ok(text)
+}
+
+fn has_default(rt: &impl Abort, map: &MapText, label: &[u8]) {
+    assert!(rt; map.labels.text(map.default) == Some(label));
+}
+
 #[test]
 fn reads_labels_of_255_bytes(rt: HostRuntime) -> Result<(), Fail> {
-    let mut text = Vec::from_slice(rt.alloc(), b"default ")?;
-    text.extend_from_slice(&[b'x'; 255])?;
-    let map = map_in(rt.alloc(), &text)?;
-    assert!(rt; map.labels.text(map.default) == Some([b'x'; 255].as_slice()));
+    let mut text = default_text(rt.alloc(), &LONGEST_LABEL)?;
+    has_default(&rt, &map_in(rt.alloc(), &text)?, &LONGEST_LABEL);
     text.push(b'x')?;
     is_fault(
         &rt,

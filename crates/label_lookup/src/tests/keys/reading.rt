@@ -1,4 +1,5 @@
-use prefix_keys::{BlockFault, Version, read_addr, read_block};
+use prefix_keys::{Addr, Block, BlockFault, Version, read_addr, read_block};
+use std::process::Abort;
 use std::test::Fail;
 
 const DOTTED: [(&str, u128); 5] = [
@@ -106,26 +107,40 @@ const NO_ADDRESS: [&str; 35] = [
     "::1%1",
 ];
 
-#[test]
-fn reads_addresses(rt: HostRuntime) -> Result<(), Fail> {
-    for (text, value) in DOTTED {
-        let addr = read_addr(text.as_bytes()).ok_or("no address")?;
-        assert_eq!(rt; addr.version, Version::V4, "at {text}");
-        assert_eq!(rt; addr.value, value, "at {text}");
-    }
-    for (text, value) in COLON {
-        let addr = read_addr(text.as_bytes()).ok_or("no address")?;
-        assert_eq!(rt; addr.version, Version::V6, "at {text}");
-        assert_eq!(rt; addr.value, value, "at {text}");
+// The address that a text is, with nothing said of it.
+fn addr_in(text: &str) -> Option<Addr> {
+    read_addr(text.as_bytes())
+}
+
+fn is_addr(rt: &impl Abort, text: &str, version: Version, value: u128) -> Result<(), Fail> {
+    let addr = addr_in(text).ok_or("no address")?;
+    assert!(rt; addr.version == version, "at {text}");
+    assert!(rt; addr.value == value, "at {text}");
+    Ok(())
+}
+
+fn are_addresses(rt: &impl Abort, version: Version, cases: &[(&str, u128)]) -> Result<(), Fail> {
+    for (text, value) in cases {
+        is_addr(rt, text, version, *value)?;
     }
     Ok(())
 }
 
 #[test]
-fn refuses_other_texts(rt: HostRuntime) {
-    for text in NO_ADDRESS {
-        assert_eq!(rt; read_addr(text.as_bytes()).is_none(), true, "at {text}");
+fn reads_addresses(rt: HostRuntime) -> Result<(), Fail> {
+    are_addresses(&rt, Version::V4, &DOTTED)?;
+    are_addresses(&rt, Version::V6, &COLON)
+}
+
+fn are_no_addresses(rt: &impl Abort, texts: &[&str]) {
+    for text in texts {
+        assert!(rt; addr_in(text).is_none(), "at {text}");
     }
+}
+
+#[test]
+fn refuses_other_texts(rt: HostRuntime) {
+    are_no_addresses(&rt, &NO_ADDRESS);
 }
 
 const BLOCKS: [(&str, u128, u32); 7] = [
@@ -158,15 +173,33 @@ const NO_BLOCK: [(&str, BlockFault); 12] = [
     ("", BlockFault::BadAddress),
 ];
 
+// The block that a text is, with nothing said of it.
+fn block_in(text: &str) -> Result<Block, BlockFault> {
+    read_block(text.as_bytes())
+}
+
+fn are_blocks(rt: &impl Abort, cases: &[(&str, u128, u32)]) -> Result<(), Fail> {
+    for (text, value, len) in cases {
+        let block = block_in(text)?;
+        assert!(rt; block.value == *value, "at {text}");
+        assert!(rt; block.len == *len, "at {text}");
+    }
+    Ok(())
+}
+
+fn fault_in(text: &str) -> Option<BlockFault> {
+    read_block(text.as_bytes()).err()
+}
+
+fn have_faults(rt: &impl Abort, cases: &[(&str, BlockFault)]) {
+    for (text, want) in cases {
+        assert!(rt; fault_in(text) == Some(*want), "at {text}");
+    }
+}
+
 #[test]
 fn reads_blocks(rt: HostRuntime) -> Result<(), Fail> {
-    for (text, value, len) in BLOCKS {
-        let block = read_block(text.as_bytes())?;
-        assert_eq!(rt; block.value, value, "at {text}");
-        assert_eq!(rt; block.len, len, "at {text}");
-    }
-    for (text, want) in NO_BLOCK {
-        assert_eq!(rt; read_block(text.as_bytes()).err(), Some(want), "at {text}");
-    }
+    are_blocks(&rt, &BLOCKS)?;
+    have_faults(&rt, &NO_BLOCK);
     Ok(())
 }

@@ -2,7 +2,7 @@ use Rattle.std.proofs.Common.{◌≡◌, ◌<◌, arith}
 use Rattle.std.proofs.lemmas.List.Elements.{All-push}
 use Rattle.std.proofs.lemmas.Grind.{length_at_push}
 use Rattle.pmap_text.specs.declared.statement.Statement.{Statement}
-use Rattle.pmap_print.proofs.tests.tries.map.Goals as goal
+use Rattle.label_lookup.proofs.tests.tries.map.Goals as goal
 
 pub loop-first-preserved : goal.loop-first-preserved
 loop-first-preserved g c =
