@@ -1,9 +1,10 @@
 use super::files::*;
 use crate::print_groups;
+use flow_rows::Row;
 use flow_uniq::{Groups, KeyFault, Keys};
 use label_lookup::{Labeller, ListIndex, Scan};
 use pmap_text::{read_list, read_map};
-use std::alloc::Global;
+use std::alloc::{AllocError, Global};
 use std::process::Abort;
 use std::test::Fail;
 
@@ -95,16 +96,27 @@ const UNDER_LIST: [Case; 2] = [
     ),
 ];
 
+// The groups of the first two rows, with nothing said of them.
+fn groups_of<L: Labeller>(
+    alloc: Global,
+    keys: &Keys,
+    labels: Option<&L>,
+    rows: &[Row],
+) -> Result<Groups, AllocError> {
+    let mut groups = Groups::new(alloc, keys)?;
+    if let [first, second] = rows {
+        groups.add(first, labels)?;
+        groups.add(second, labels)?;
+    }
+    Ok(groups)
+}
+
 // The text of the groups of a case.
 fn shown<L: Labeller>(alloc: Global, labels: Option<&L>, case: &Case) -> Result<Vec<u8>, Fail> {
     let (file, fields, sorted, columns, _) = *case;
     let keys = Keys::read(alloc, fields)?;
-    let mut groups = Groups::new(alloc, &keys)?;
     let rows = rows_of(alloc, file)?;
-    if let [first, second] = rows.as_slice() {
-        groups.add(first, labels)?;
-        groups.add(second, labels)?;
-    }
+    let groups = groups_of(alloc, &keys, labels, rows.as_slice())?;
     Ok(print_groups(alloc, &groups, sorted, columns)?)
 }
 

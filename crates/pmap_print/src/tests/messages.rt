@@ -435,18 +435,30 @@ fn file_of_empty_fields(alloc: Global) -> Result<Vec<u8>, Fail> {
     Ok(bytes)
 }
 
+fn has_number(rt: &impl Abort, value: &FieldValue, number: usize) {
+    assert!(rt; usize::from(value.field().number) == number);
+}
+
+// The byte of a value that has one alone.
+fn only_byte(value: &FieldValue) -> Option<u8> {
+    match value.value() {
+        [byte] => Some(*byte),
+        _ => None,
+    }
+}
+
 // The values of the record at a place: all are empty but the one in the middle, which has the byte that counts up.
 fn has_one_byte(rt: &impl Abort, i: usize, record: &Record) {
-    assert_eq!(rt; record.fields.len(), 2000, "at {i}");
+    assert!(rt; record.fields.len() == 2000, "at {i}");
     let mut found = 0;
     for (place, value) in record.fields.iter().enumerate() {
-        assert_eq!(rt; usize::from(value.field().number), place, "at {i}");
-        if let [byte] = value.value() {
-            assert_eq!(rt; (place, usize::from(*byte)), (1000, i % 251));
+        has_number(rt, &value, place);
+        if let Some(byte) = only_byte(&value) {
+            assert!(rt; (place, usize::from(byte)) == (1000, i % 251));
             found = place;
         }
     }
-    assert_eq!(rt; found, 1000, "at {i}");
+    assert!(rt; found == 1000, "at {i}");
 }
 
 fn have_one_byte(rt: &impl Abort, records: &[Record]) {

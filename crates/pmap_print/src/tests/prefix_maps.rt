@@ -10,6 +10,7 @@ use crate::{print_list, print_runs};
 use label_trie::Trie;
 use pmap_text::{MapText, PrefixList, read_list, read_map};
 use std::alloc::{AllocError, Global};
+use std::process::Abort;
 use std::test::*;
 
 // The text of the runs of a map.
@@ -64,24 +65,49 @@ const LISTS: [(&str, &str, &str); 2] = [
     ),
 ];
 
+fn is_text(rt: &impl Abort, found: &[u8], want: &str) {
+    assert!(rt; found == want.as_bytes(), "not {want:?}");
+}
+
+// The text of the runs of the map that a text is.
+fn runs_of_map(alloc: Global, text: &str) -> Result<Vec<u8>, Fail> {
+    let map = read_map(alloc, text.as_bytes())?;
+    Ok(map_runs(alloc, &map)?)
+}
+
+fn have_runs(rt: &impl Abort, alloc: Global, cases: &[(&str, &str)]) -> Result<(), Fail> {
+    for (text, want) in cases {
+        is_text(rt, runs_of_map(alloc, text)?.as_slice(), want);
+    }
+    Ok(())
+}
+
 #[test]
 fn prints_runs_of_maps(rt: HostRuntime) -> Result<(), Fail> {
-    for (text, want) in &MAPS {
-        let map = read_map(rt.alloc(), text.as_bytes())?;
-        let runs = map_runs(rt.alloc(), &map)?;
-        assert_eq!(rt; runs.as_slice(), want.as_bytes(), "at {text:?}");
+    have_runs(&rt, rt.alloc(), &MAPS)
+}
+
+// The text of the runs of the list that a text is.
+fn runs_of_list(alloc: Global, text: &str) -> Result<Vec<u8>, Fail> {
+    let list = read_list(alloc, text.as_bytes())?;
+    Ok(list_runs(alloc, &list)?)
+}
+
+// The text that the list of a text is printed as.
+fn printed(alloc: Global, text: &str) -> Result<Vec<u8>, Fail> {
+    let list = read_list(alloc, text.as_bytes())?;
+    Ok(print_list(alloc, &list)?)
+}
+
+fn are_printed(rt: &impl Abort, alloc: Global, cases: &[(&str, &str, &str)]) -> Result<(), Fail> {
+    for (text, runs, list) in cases {
+        is_text(rt, runs_of_list(alloc, text)?.as_slice(), runs);
+        is_text(rt, printed(alloc, text)?.as_slice(), list);
     }
     Ok(())
 }
 
 #[test]
 fn prints_lists_and_their_runs(rt: HostRuntime) -> Result<(), Fail> {
-    for (text, want, printed) in &LISTS {
-        let list = read_list(rt.alloc(), text.as_bytes())?;
-        let runs = list_runs(rt.alloc(), &list)?;
-        assert_eq!(rt; runs.as_slice(), want.as_bytes(), "at {text:?}");
-        let out = print_list(rt.alloc(), &list)?;
-        assert_eq!(rt; out.as_slice(), printed.as_bytes(), "at {text:?}");
-    }
-    Ok(())
+    are_printed(&rt, rt.alloc(), &LISTS)
 }

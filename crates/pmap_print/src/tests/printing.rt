@@ -1,7 +1,6 @@
 use super::files::*;
+use super::rows_and_counts::counts_of;
 use crate::{RowLabels, print_info, print_rows};
-use flow_rows::Counts;
-use ipfix_read::read_file;
 use std::test::*;
 
 #[test]
@@ -54,14 +53,7 @@ fn prints_a_title_alone(rt: HostRuntime) -> Result<(), Fail> {
 
 #[test]
 fn prints_counts(rt: HostRuntime) -> Result<(), Fail> {
-    let bytes = bytes_of(rt.alloc(), TWO_DOMAINS)?;
-    let file = read_file(rt.alloc(), &bytes)?;
-    let mut counts = Counts::new();
-    for message in file.messages.as_slice() {
-        if counts.messages < 4_294_967_295 {
-            counts.add(message);
-        }
-    }
+    let counts = counts_of(rt.alloc(), TWO_DOMAINS)?;
     let text = print_info(rt.alloc(), &counts)?;
     let want =
         "messages 2\ntemplates 1\noptions-templates 0\nwithdrawals 0\ndata-sets 1\nskipped-sets 1\nrecords 1\noptions-records 0\nrows 1\n";

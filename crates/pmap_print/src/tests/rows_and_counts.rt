@@ -3,6 +3,7 @@ use crate::print_rows;
 use flow_rows::Counts;
 use ipfix_read::read_file;
 use std::alloc::Global;
+use std::process::Abort;
 use std::test::*;
 
 // A File, and the lines of its rows.
@@ -33,7 +34,8 @@ const COUNTS: [(&str, [u64; 9]); 5] = [
     ("", [0; 9]),
 ];
 
-fn count(alloc: Global, text: &str) -> Result<Counts, Fail> {
+// The counts of a File.
+pub(super) fn counts_of(alloc: Global, text: &str) -> Result<Counts, Fail> {
     let bytes = bytes_of(alloc, text)?;
     let file = read_file(alloc, &bytes)?;
     let mut counts = Counts::new();
@@ -45,23 +47,33 @@ fn count(alloc: Global, text: &str) -> Result<Counts, Fail> {
     Ok(counts)
 }
 
-#[test]
-fn finds_the_rows_of_records(rt: HostRuntime) -> Result<(), Fail> {
-    let title = "sip|dip|sport|dport|proto|flags|packets|bytes|stime|etime\n";
-    for (file, lines) in ROWS {
-        let rows = rows_of(rt.alloc(), file)?;
-        let text = print_rows(rt.alloc(), &rows, None, false)?;
-        let mut want = Vec::from_slice(rt.alloc(), title.as_bytes())?;
-        want.extend_from_slice(lines.as_bytes())?;
-        assert_eq!(rt; text.as_slice(), want.as_slice(), "at {file}");
+const TITLE: &str = "sip|dip|sport|dport|proto|flags|packets|bytes|stime|etime\n";
+
+fn has_rows(rt: &impl Abort, alloc: Global, file: &str, lines: &str) -> Result<(), Fail> {
+    let rows = rows_of(alloc, file)?;
+    let text = print_rows(alloc, &rows, None, false)?;
+    let mut want = Vec::from_slice(alloc, TITLE.as_bytes())?;
+    want.extend_from_slice(lines.as_bytes())?;
+    assert!(rt; text.as_slice() == want.as_slice(), "at {file}");
+    Ok(())
+}
+
+fn have_rows(rt: &impl Abort, alloc: Global, cases: &[(&str, &str)]) -> Result<(), Fail> {
+    for (file, lines) in cases {
+        has_rows(rt, alloc, file, lines)?;
     }
     Ok(())
 }
 
 #[test]
+fn finds_the_rows_of_records(rt: HostRuntime) -> Result<(), Fail> {
+    have_rows(&rt, rt.alloc(), &ROWS)
+}
+
+#[test]
 fn counts_what_stands_in_messages(rt: HostRuntime) -> Result<(), Fail> {
     for (file, want) in COUNTS {
-        let counts = count(rt.alloc(), file)?;
+        let counts = counts_of(rt.alloc(), file)?;
         let found = [
             counts.messages,
             counts.templates,
