@@ -1,8 +1,8 @@
 -- A certificate has no fault exactly where it is accepted.
-use Rattle.std.proofs.Common.{◌≡◌, ◌⊎◌, inl, inr, ℕ, zero, suc, ◌+◌, ◌*◌, ◌<◌, ◌≤◌, Bool, true, false, cond, not, ◌&&◌, ◌||◌, ◌==◌, List, [], ◌∷◌, Option, Some, None, IsTrue, filter, length, nat_lt, option_map, refl, sym, ap, ◌∙◌, subst, arith, bytes_eq}
+use Rattle.std.proofs.Common.{◌≡◌, ◌⊎◌, inl, inr, ℕ, zero, suc, ◌+◌, ◌*◌, ◌<◌, ◌≤◌, Bool, true, false, cond, not, ◌&&◌, ◌||◌, ◌==◌, List, [], ◌∷◌, Option, Some, None, length, nat_lt, option_map, refl, sym, ap, ◌∙◌, subst, arith, bytes_eq}
 use Rattle.std.specs.List.{list_all, list_any}
 use Rattle.std.specs.Option.{option_or}
-use Rattle.std.proofs.lemmas.Bool.{and_from, and_parts, both_ways, cases_lt, eq-eqb, eqb-true, false_from_ne_true, false≢true, lt-ltb, ltb-true, not-true, not_from_false, or_cases, or_left, or_right}
+use Rattle.std.proofs.lemmas.Bool.{and_from, and_parts, both_ways, cases_lt, eq-eqb, eqb-true, false_from_ne_true, false≢true, lt-ltb, ltb-true, not-true, not_from_false, or_left, or_right}
 use Rattle.std.proofs.lemmas.Option.{none-some}
 use Rattle.std.proofs.lemmas.Slice.Eq.{bytes_eq-Decides}
 use Rattle.prefix_keys.specs.Block.{first_of}
@@ -19,8 +19,6 @@ use Rattle.pmap_cert.proofs.Sets.{bytes_eq-same}
 use Rattle.cert_check.specs.Checking.{claim_fault, fault_at, first_fault, is_decided, is_label_of, leaf_fault, node_count, node_fault, whole_fault}
 use Rattle.cert_check.specs.Sources.{HasRoom}
 use Rattle.cert_check.specs.Versions.{is_same_version}
-use Rattle.cert_check.specs.declared.fault.CheckFault.{CheckFault}
-use Rattle.cert_check.specs.declared.fault.CheckFaultKind.{CheckFaultKind}
 use Rattle.cert_check.specs.declared.fault.CheckFaultKind.TheVariants.{BoundNotMet, CostTooHigh, LeafNotUniform, ListDiffers, SetTooSmall, VersionDiffers}
 use Rattle.cert_check.proofs.Lists.{any-filtered, none_kept}
 

@@ -1,14 +1,12 @@
 -- What the map and the list say of a leaf's block.
-use Rattle.std.proofs.Common.{◌≡◌, ℕ, zero, suc, ◌<◌, Bool, true, false, cond, not, ◌&&◌, List, [], ◌∷◌, Option, Some, None, All, Contains, find, get_or, length, map, take, option_map, refl, sym, ap, ap₂, ◌∙◌, subst, arith, bytes_eq}
+use Rattle.std.proofs.Common.{◌≡◌, ℕ, zero, suc, ◌<◌, Bool, true, false, cond, not, ◌&&◌, List, [], ◌∷◌, Option, Some, None, All, Contains, find, get_or, length, map, take, option_map, sym, ap, ap₂, ◌∙◌, arith, bytes_eq}
 use Rattle.std.specs.List.{list_any}
 use Rattle.std.proofs.lemmas.Option.{none-some, same_Some}
-use Rattle.prefix_keys.specs.Block.{first_of}
 use Rattle.prefix_keys.specs.Version.{width_of}
 use Rattle.prefix_keys.specs.declared.block.Block.{Block}
 use Rattle.prefix_keys.specs.declared.version.Version.{Version}
 use Rattle.pmap_text.specs.Carried.{statement_spans}
-use Rattle.pmap_text.specs.ListModel.{label_below, lies_inside}
-use Rattle.pmap_text.specs.MapModel.{Label, Mapping, last_such, meets, settled_by, settled_label}
+use Rattle.pmap_text.specs.MapModel.{Label, last_such, meets, settled_by, settled_label}
 use Rattle.pmap_text.specs.MapText.{mapping_of, text_at}
 use Rattle.pmap_text.specs.declared.entry.Entry.{Entry}
 use Rattle.pmap_text.specs.declared.map_text.MapText.{MapText}
@@ -16,8 +14,7 @@ use Rattle.pmap_text.specs.declared.prefix_list.PrefixList.{PrefixList}
 use Rattle.pmap_text.specs.declared.statement.Statement.{Statement}
 use Rattle.cert_check.specs.Carrying.{number_of}
 use Rattle.cert_check.specs.Checking.{is_decided, is_label_of}
-use Rattle.cert_check.specs.Sources.{AreEntriesOf, covers_whole, greatest, is_inside, map_with, prefixes_with, spans_block}
-use Rattle.cert_check.specs.Versions.{is_same_version}
+use Rattle.cert_check.specs.Sources.{covers_whole, greatest, is_inside, map_with, prefixes_with, spans_block}
 use Rattle.cert_check.proofs.Accepted.{same_version-from}
 use Rattle.cert_check.proofs.Longest.{entry_label, has_len, inside-prefixes, longest-label}
 

@@ -1,10 +1,10 @@
 -- What is carried down to a block, as the code finds it.
-use Rattle.std.proofs.Common.{◌≡◌, ◌⊎◌, inl, inr, ℕ, zero, suc, ◌+◌, ◌-◌, ◌*◌, ◌^◌, ◌<◌, ◌≤◌, Bool, true, false, cond, not, ◌&&◌, ◌||◌, List, [], ◌∷◌, ◌++◌, Option, Some, None, All, drop, filter, get_or, length, map, nat_le, nat_lt, refl, sym, ap, ◌∙◌, subst, arith}
+use Rattle.std.proofs.Common.{◌≡◌, ℕ, zero, suc, ◌+◌, ◌-◌, ◌*◌, ◌^◌, ◌<◌, ◌≤◌, Bool, true, false, cond, not, ◌&&◌, ◌||◌, List, [], ◌∷◌, ◌++◌, Option, Some, None, drop, filter, get_or, length, map, nat_le, nat_lt, refl, sym, ap, ◌∙◌, subst, arith}
 use Rattle.std.proofs.Common.{take}
 use Rattle.std.proofs.lemmas.List.{append-nil, append_assoc, take_at, take_more}
 use Rattle.std.specs.List.{list_any}
 use Rattle.std.specs.Option.{option_or}
-use Rattle.std.proofs.lemmas.Bool.{and_from, and_parts, both_ways, cases_lt, false_from_ne_true, false≢true, le-leb, leb-true, or_cases}
+use Rattle.std.proofs.lemmas.Bool.{and_from, and_parts, false_from_ne_true, false≢true, le-leb, leb-true}
 use Rattle.std.proofs.lemmas.Bool.Decides.{nat_tests}
 use Rattle.std.proofs.lemmas.List.Elements.{filter-append, filter_agree}
 use Rattle.std.proofs.lemmas.List.Folds.{list_any_at}
@@ -14,14 +14,14 @@ use Rattle.prefix_keys.specs.Version.{width_of}
 use Rattle.prefix_keys.specs.declared.block.Block.{Block}
 use Rattle.pmap_text.specs.Carried.{entry_covers, from_last, statement_meets, statement_spans}
 use Rattle.pmap_text.specs.ListModel.{lies_inside}
-use Rattle.pmap_text.specs.MapModel.{Label, Mapping, last_such}
+use Rattle.pmap_text.specs.MapModel.{Mapping, last_such}
 use Rattle.pmap_text.specs.PrefixList.{prefix_of}
 use Rattle.pmap_text.specs.declared.entry.Entry.{Entry}
 use Rattle.pmap_text.specs.declared.statement.Statement.{Statement}
 use Rattle.cert_check.specs.Carrying.{carried_to, entries_carried_to, number_of}
 use Rattle.cert_check.specs.Sources.{covers_whole, greatest, is_inside, meets_block, spans_block}
 use Rattle.cert_check.specs.Versions.{is_same_version}
-use Rattle.cert_check.proofs.Lists.{any-kept, filter_twice, from_last-filter, from_last-none}
+use Rattle.cert_check.proofs.Lists.{any-kept, filter_twice, from_last-filter}
 
 -- a block has a first and a last address
 pub first-last : (W n q : ℕ) → first_of W n q ≤ last_of W n q

@@ -1,11 +1,11 @@
 -- The numbers that labels have in another table.
-use Rattle.std.proofs.Common.{◌≡◌, ℕ, zero, suc, ◌+◌, ◌<◌, Bool, true, false, ◌==◌, List, [], ◌∷◌, ◌++◌, Option, Some, None, get_or, length, map, option_map, slice_get, take, refl, sym, ap, ◌∙◌, subst, arith, bytes_eq}
-use Rattle.std.proofs.lemmas.Bool.{both_ways, cases_eq, eq-eqb, eqb-true, false_from_ne_true}
+use Rattle.std.proofs.Common.{◌≡◌, ℕ, zero, suc, ◌+◌, ◌<◌, Bool, true, false, ◌==◌, List, [], ◌∷◌, ◌++◌, Option, Some, None, length, map, option_map, slice_get, take, refl, sym, ap, ◌∙◌, bytes_eq}
+use Rattle.std.proofs.lemmas.Bool.{both_ways, eq-eqb, eqb-true, false_from_ne_true}
 use Rattle.std.proofs.lemmas.List.{length-map, map-append, take_more}
 use Rattle.std.proofs.lemmas.Option.{get_or_from_slice_get, none-some, same_Some, slice_get-get_or, slice_get_within, unwrap_or-slice_get}
 use Rattle.std.specs.Option.{unwrap_or}
 use Rattle.std.proofs.lemmas.Slice.Eq.{bytes_eq-Decides}
-use Rattle.pmap_text.specs.Label.{IsLabelTable, number_of}
+use Rattle.pmap_text.specs.Label.{number_of}
 use Rattle.pmap_text.specs.MapModel.{Label}
 use Rattle.pmap_text.specs.MapText.{text_at}
 use Rattle.pmap_text.specs.declared.label.LabelId.{LabelId}

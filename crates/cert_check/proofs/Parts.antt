@@ -1,5 +1,5 @@
 -- What is carried down to a block decides each node's fault in it.
-use Rattle.std.proofs.Common.{◌≡◌, ℕ, zero, suc, ◌+◌, ◌-◌, ◌*◌, ◌/◌, ◌^◌, ◌<◌, ◌≤◌, Bool, true, false, cond, not, ◌&&◌, ◌||◌, ◌==◌, List, [], ◌∷◌, Option, Some, None, All, filter, get_or, map, nat_le, option_map, refl, sym, ap, ap₂, ◌∙◌, subst, arith}
+use Rattle.std.proofs.Common.{◌≡◌, ℕ, zero, suc, ◌+◌, ◌-◌, ◌*◌, ◌/◌, ◌^◌, ◌<◌, ◌≤◌, Bool, true, false, cond, not, ◌&&◌, ◌||◌, ◌==◌, List, [], ◌∷◌, Some, None, All, filter, get_or, map, nat_le, option_map, sym, ap, ◌∙◌, arith}
 use Rattle.std.specs.List.{list_any}
 use Rattle.std.specs.Option.{option_or}
 use Rattle.std.proofs.lemmas.Bool.{and_parts, leb-true}
@@ -10,10 +10,9 @@ use Rattle.std.proofs.lemmas.List.Elements.{All-filter, All-tail, All-weaker}
 use Rattle.prefix_keys.specs.Block.{block_number, first_of, last_of}
 use Rattle.prefix_keys.specs.Version.{width_of}
 use Rattle.prefix_keys.specs.declared.block.Block.{Block}
-use Rattle.prefix_keys.specs.declared.version.Version.{Version}
-use Rattle.pmap_text.specs.Carried.{carried, carried_entries, carried_mappings, carried_prefixes, covers_block, entry_covers, from_last, statement_meets, statement_spans}
+use Rattle.pmap_text.specs.Carried.{carried, carried_entries, carried_mappings, carried_prefixes, entry_covers, from_last, statement_meets, statement_spans}
 use Rattle.pmap_text.specs.ListModel.{Prefix, label_below, lies_inside}
-use Rattle.pmap_text.specs.MapModel.{Label, MapModel, Mapping, settled_label}
+use Rattle.pmap_text.specs.MapModel.{Label, MapModel}
 use Rattle.pmap_text.specs.MapText.{mapping_of}
 use Rattle.pmap_text.specs.PrefixList.{prefix_of}
 use Rattle.pmap_text.specs.declared.entry.Entry.{Entry}
@@ -28,8 +27,6 @@ use Rattle.cert_check.specs.Carrying.{carried_to, entries_carried_to, number_of}
 use Rattle.cert_check.specs.Checking.{claim_fault, fault_at, is_label_of, leaf_fault, node_count, node_fault}
 use Rattle.cert_check.specs.Sources.{AreEntriesOf, AreStatementsOf, HasRoom, map_with, prefixes_with}
 use Rattle.cert_check.specs.Versions.{is_same_version}
-use Rattle.cert_check.specs.declared.fault.CheckFault.{CheckFault}
-use Rattle.cert_check.specs.declared.fault.CheckFaultKind.{CheckFaultKind}
 use Rattle.cert_check.specs.declared.fault.CheckFaultKind.TheVariants.{LeafNotUniform, ListDiffers}
 use Rattle.cert_check.proofs.Accepted.{same_version-from}
 use Rattle.cert_check.proofs.Carries.{first-last}

@@ -1,7 +1,7 @@
 -- Sets of labels by their numbers in rising order.
 use Rattle.std.proofs.Common.{◌≡◌, ◌⊎◌, inl, inr, ℕ, zero, suc, ◌+◌, ◌^◌, ◌<◌, ◌≤◌, Bool, true, false, cond, not, ◌&&◌, ◌||◌, ◌==◌, List, [], ◌∷◌, ◌++◌, Option, Some, None, drop, filter, get_or, length, map, nat_lt, slice_get, take, refl, sym, ap, ap₂, ◌∙◌, subst, arith, bytes_eq}
-use Rattle.std.specs.List.{list_all, list_any}
-use Rattle.std.proofs.lemmas.Bool.{both_ways, cases_eq, cases_lt, eq-eqb, eqb-true, false_from_ne_true, false≢true}
+use Rattle.std.specs.List.{list_all}
+use Rattle.std.proofs.lemmas.Bool.{both_ways, eq-eqb, eqb-true, false_from_ne_true, false≢true}
 use Rattle.std.proofs.lemmas.Bool.{and_from}
 use Rattle.std.proofs.lemmas.List.{append-nil, take_more}
 use Rattle.std.proofs.lemmas.List.Elements.{filter-append}
@@ -18,7 +18,7 @@ use Rattle.pmap_cert.specs.Node.{tree_of}
 use Rattle.pmap_cert.specs.declared.node.Node.{Node}
 use Rattle.pmap_cert.specs.declared.node.Node.TheVariants.{Inner', Leaf}
 use Rattle.pmap_cert.specs.CertificateText.{place_of}
-use Rattle.pmap_cert.specs.ExactPair.{common_labels, exact_pair, exact_pair_by}
+use Rattle.pmap_cert.specs.ExactPair.{exact_pair, exact_pair_by}
 use Rattle.pmap_cert.proofs.Tables.{place_of-text_at}
 use Rattle.cert_check.specs.Checking.{claim_fault}
 use Rattle.cert_check.specs.Sources.{cost_of, has_number, set_of}

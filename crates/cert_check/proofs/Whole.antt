@@ -1,32 +1,24 @@
 -- The first fault of a certificate by its parts.
-use Rattle.std.proofs.Common.{◌≡◌, ℕ, ◌+◌, ◌-◌, ◌^◌, ◌<◌, ◌≤◌, Bool, true, false, cond, ◌&&◌, List, Option, Some, None, length, map, nat_lt, refl, sym, ap, ◌∙◌, subst, arith}
-use Rattle.std.specs.Option.{option_or}
-use Rattle.std.proofs.lemmas.Bool.{and_from, false_from_ne_true, lt-ltb, ltb-true}
-use Rattle.std.proofs.lemmas.List.{length-map}
+use Rattle.std.proofs.Common.{◌≡◌, ℕ, ◌-◌, List, sym, ap, ◌∙◌, subst, arith}
 use Rattle.std.proofs.lemmas.Nat.{pow_pos}
 use Rattle.std.proofs.Math.Nat.{div-eq_of_lt}
 use Rattle.prefix_keys.specs.Block.{block_number}
 use Rattle.prefix_keys.specs.Version.{width_of}
 use Rattle.prefix_keys.specs.declared.block.Block.{Block}
 use Rattle.prefix_keys.specs.declared.version.Version.{Version}
-use Rattle.pmap_text.specs.ListModel.{ListModel}
-use Rattle.pmap_text.specs.MapModel.{Label, MapModel}
+use Rattle.pmap_text.specs.MapModel.{Label}
 use Rattle.pmap_text.specs.MapText.{map_of}
-use Rattle.pmap_text.specs.PrefixList.{list_of, prefix_of}
+use Rattle.pmap_text.specs.PrefixList.{list_of}
 use Rattle.pmap_text.specs.declared.entry.Entry.{Entry}
 use Rattle.pmap_text.specs.declared.map_text.MapText.{MapText}
 use Rattle.pmap_text.specs.declared.prefix_list.PrefixList.{PrefixList}
 use Rattle.pmap_text.specs.declared.statement.Statement.{Statement}
-use Rattle.pmap_cert.specs.CertificateModel.{CertificateModel, Pair, Tree, claim_of}
+use Rattle.pmap_cert.specs.CertificateModel.{Tree}
 use Rattle.pmap_cert.specs.Node.{HasNumberForm, tree_of}
 use Rattle.pmap_cert.specs.declared.node.Node.{Node}
 use Rattle.cert_check.specs.Carrying.{carried_to, entries_carried_to, number_of}
-use Rattle.cert_check.specs.Checking.{first_fault, node_fault, whole_fault}
-use Rattle.cert_check.specs.Sources.{AreEntriesOf, AreStatementsOf, HasRoom, cost_of, map_with, prefixes_with}
-use Rattle.cert_check.specs.Versions.{is_same_version}
-use Rattle.cert_check.specs.declared.fault.CheckFault.{CheckFault}
-use Rattle.cert_check.specs.declared.fault.CheckFaultKind.TheVariants.{BoundNotMet, VersionDiffers}
-use Rattle.cert_check.proofs.Accepted.{same_version-from}
+use Rattle.cert_check.specs.Checking.{node_fault}
+use Rattle.cert_check.specs.Sources.{AreEntriesOf, AreStatementsOf, HasRoom, map_with, prefixes_with}
 use Rattle.cert_check.proofs.Parts.{entries-part, fault-carried, statements-part}
 use Rattle.cert_check.proofs.Nodes.{room-of}
 

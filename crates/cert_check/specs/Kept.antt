@@ -1,9 +1,4 @@
-use Rattle.std.specs.Prelude.{◌≡◌, ℕ, ◌<◌, length}
-use Rattle.prefix_keys.specs.Version.{width_of}
-use Rattle.prefix_keys.specs.declared.block.Block.{Block}
-use Rattle.pmap_text.specs.ListModel.{Prefix}
-use Rattle.pmap_text.specs.MapModel.{Label}
-use Rattle.pmap_text.specs.MapText.{text_at}
+use Rattle.std.specs.Prelude.{◌≡◌}
 use Rattle.cert_check.specs.Sources.{AreEntriesOf, AreNumbers, AreStatementsOf}
 use Rattle.cert_check.specs.declared.carried_part.CarriedPart.{CarriedPart}
 use Rattle.cert_check.specs.declared.sources.Sources.{Sources}

@@ -8,5 +8,6 @@ pub mod CertificateText
 pub mod CertificateForm
 pub mod CertificateReading
 pub mod Node
+pub mod LabelSet
 pub mod Certificate
 pub mod Words

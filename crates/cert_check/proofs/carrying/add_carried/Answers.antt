@@ -1,4 +1,4 @@
-use Rattle.std.proofs.Common.{arith, length}
+use Rattle.std.proofs.Common.{arith}
 use Rattle.cert_check.proofs.Carries.{carried-more}
 use Rattle.cert_check.proofs.carrying.add_carried.Goals as goal
 

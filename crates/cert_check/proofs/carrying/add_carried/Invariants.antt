@@ -1,4 +1,4 @@
-use Rattle.std.proofs.Common.{◌≡◌, ◌++◌, length, take}
+use Rattle.std.proofs.Common.{◌≡◌, ◌++◌, take}
 use Rattle.cert_check.specs.Carrying.{carried_to}
 use Rattle.cert_check.proofs.carrying.add_carried.Given as goal
 

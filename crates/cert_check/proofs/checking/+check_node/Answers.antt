@@ -1,4 +1,4 @@
-use Rattle.std.proofs.Common.{◌≡◌, ◌∙◌, ◌+◌, ◌-◌, ◌*◌, ◌<◌, ℕ, None, Some, ap, arith, drop, length, option_map, refl, subst, suc, sym}
+use Rattle.std.proofs.Common.{◌≡◌, ◌∙◌, ◌+◌, ◌-◌, ◌*◌, ℕ, None, Some, ap, arith, drop, length, refl, subst, sym}
 use Rattle.std.proofs.lemmas.Result.{err_from_is_err_and}
 use Rattle.prefix_keys.specs.Version.{width_of}
 use Rattle.pmap_cert.specs.CertificateModel.{claim_of}
@@ -6,9 +6,8 @@ use Rattle.pmap_cert.specs.ExactPair.{exact_pair}
 use Rattle.pmap_cert.specs.Node.{tree_of}
 use Rattle.pmap_cert.specs.declared.node.Node.{Node}
 use Rattle.cert_check.specs.Carrying.{number_of}
-use Rattle.cert_check.specs.Checking.{claim_fault, fault_at, node_count, told}
+use Rattle.cert_check.specs.Checking.{claim_fault, node_count, told}
 use Rattle.cert_check.specs.Sources.{map_with, prefixes_with}
-use Rattle.cert_check.specs.declared.fault.CheckFault.{CheckFault}
 use Rattle.cert_check.proofs.Nodes.{IsInner, IsPassedOn, at-number, inner-count, inner-form, inner-high, inner-low, inner-own, passed-entries, passed-form, passed-on, passed-statements, told-next}
 use Rattle.cert_check.proofs.checking.+check_node.Goals as goal
 

@@ -1,9 +1,7 @@
-use Rattle.std.proofs.Common.{◌∙◌, ◌||◌, ap, inl, inr, not, refl, sym}
-use Rattle.std.specs.List.{list_all}
-use Rattle.std.proofs.lemmas.List.{take_all}
+use Rattle.std.proofs.Common.{◌∙◌, ◌||◌, inl, inr, not, refl, sym}
 use Rattle.pmap_text.specs.declared.label.LabelId.{LabelId}
 use Rattle.cert_check.specs.Sources.{has_number}
-use Rattle.cert_check.proofs.Sets.{all-fails, all-more, goes-on, numbers, or-from, walk-has, walk-start}
+use Rattle.cert_check.proofs.Sets.{all-more, goes-on, numbers, or-from, walk-has, walk-start}
 use Rattle.cert_check.proofs.claims.has_common.Goals as goal
 use Rattle.cert_check.proofs.claims.has_common.Goals.{else-begins_with-via-then-begins_with+else-not-begins_with, else-begins_with-via-else-begins_with}
 
@@ -32,7 +30,7 @@ loop-id-preserved c =
       above = goes-on lower c.loop-id.above.now c.rest_from-above.result.now upper i id c.loop-id-test.true above behind.rising behind.kept;
       all = all-more (λ (j : LabelId). not (has_number (numbers upper) j.0) || has_number (numbers set) j.0) lower i id c.loop-id-test.true
           (elim c.else-begins_with.branch [
-            else-begins_with-via-then-begins_with+else-not-begins_with w ↦ or-from _ _ (inr (sym here ∙ sym w.begins_with-then-begins_with.ensures ∙ w.if-not-begins_with.false))
+            | else-begins_with-via-then-begins_with+else-not-begins_with w ↦ or-from _ _ (inr (sym here ∙ sym w.begins_with-then-begins_with.ensures ∙ w.if-not-begins_with.false))
             | else-begins_with-via-else-begins_with w ↦ or-from _ _ (inl (sym there ∙ sym c.begins_with.ensures ∙ w.if-begins_with.false))
           ])
           c.loop-id.invariant.all;

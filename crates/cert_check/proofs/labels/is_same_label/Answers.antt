@@ -1,4 +1,4 @@
-use Rattle.std.proofs.Common.{◌≡◌, None, Option, get_or}
+use Rattle.std.proofs.Common.{None, Option, get_or}
 use Rattle.std.proofs.lemmas.Option.{slice_get-get_or}
 use Rattle.pmap_text.specs.declared.label.LabelId.{LabelId}
 use Rattle.cert_check.proofs.Numbered.{same-none, same-some}

@@ -1,4 +1,4 @@
-use Rattle.std.proofs.Common.{◌≡◌, ◌∙◌, Some, None, sym, length, ◌<◌}
+use Rattle.std.proofs.Common.{◌≡◌, ◌∙◌, sym, length, ◌<◌}
 use Rattle.std.proofs.lemmas.List.Elements.{All-contains}
 use Rattle.pmap_text.specs.MapText.{text_at}
 use Rattle.pmap_text.specs.declared.statement.Statement.{Statement}

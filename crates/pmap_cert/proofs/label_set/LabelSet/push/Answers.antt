@@ -5,5 +5,5 @@ use Rattle.pmap_cert.proofs.label_set.LabelSet.push.Goals as goal
 
 pub invariant_of-self-2 : goal.invariant_of-self-2
 invariant_of-self-2 c =
-    rw (c.in_ok-push.ensures.items, map_push)
+    rw (c.in_ok-push_to.ensures.ok, map_push)
     (IsRising-push _ 0 _ c.args.id.0 c.self.invariant (rw (← c.self.view_is) at c.requires) (omega arith) (omega arith))
