@@ -3,7 +3,7 @@ ghost use Rattle.std.specs.Prelude.{◌≡◌, All};
 ghost use Rattle.pmap_text.specs.MapText.{map_of};
 ghost use Rattle.label_trie.specs.TrieModel.{IsSettledLeaf, IsUndivided};
 
-use crate::{Minimal, minimise};
+use crate::{Minimal, minimise, shortest};
 use label_trie::Trie;
 use pmap_cert::write_cert;
 use pmap_text::{MapText, read_map};
@@ -32,8 +32,8 @@ fn printed(alloc: Global, minimal: &Minimal) -> Result<(Vec<u8>, usize), AllocEr
     Ok((certificate, minimal.list.entries.len()))
 }
 
-// The same of the shortest list for a map.
-fn shortest(alloc: Global, map: &MapText, trie: &Trie) -> Result<(Vec<u8>, usize), AllocError>
+// The same of the minimal pair of a map.
+fn pair(alloc: Global, map: &MapText, trie: &Trie) -> Result<(Vec<u8>, usize), AllocError>
     requires version { trie.now.version ≡ map.now.version }
     requires settled { All (IsSettledLeaf (map_of map.now)) trie.now.leaves }
     requires undivided { All (IsUndivided (map_of map.now)) trie.now.leaves }
@@ -44,22 +44,35 @@ fn shortest(alloc: Global, map: &MapText, trie: &Trie) -> Result<(Vec<u8>, usize
     }
 }
 
-// The same of the map that a text is read as.
-fn minimised(alloc: Global, text: &str) -> Result<(Vec<u8>, usize), Fail> {
+// How many entries the list has that is made without a certificate.
+fn listed(alloc: Global, map: &MapText, trie: &Trie) -> Result<usize, AllocError>
+    requires version { trie.now.version ≡ map.now.version }
+    requires settled { All (IsSettledLeaf (map_of map.now)) trie.now.leaves }
+    requires undivided { All (IsUndivided (map_of map.now)) trie.now.leaves }
+{
+    match shortest(alloc, map, trie) {
+        Ok(list) => Ok(list.entries.len()),
+        Err(fault) => Err(fault),
+    }
+}
+
+// The same of the map that a text is read as, first those with the certificate.
+fn minimised(alloc: Global, text: &str) -> Result<(Vec<u8>, usize, usize), Fail> {
     let map = read_map(alloc, text.as_bytes())?;
     let trie = Trie::build(alloc, &map)?;
-    let texts = shortest(alloc, &map, &trie)?;
-    Ok(texts)
+    let (certificate, entries) = pair(alloc, &map, &trie)?;
+    Ok((certificate, entries, listed(alloc, &map, &trie)?))
 }
 
 fn are_minimised(rt: &impl Abort, alloc: Global, maps: &[(&str, &str, usize)]) -> Result<(), Fail> {
     for &(text, certificate, count) in maps {
-        let (written, entries) = minimised(alloc, text)?;
+        let (written, entries, alone) = minimised(alloc, text)?;
         assert!(rt;
             written.as_slice() == certificate.as_bytes(),
             "certificate of {text}"
         );
         assert!(rt; entries == count, "entries of {text}");
+        assert!(rt; alone == count, "entries without a certificate of {text}");
     }
     Ok(())
 }

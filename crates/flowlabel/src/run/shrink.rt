@@ -10,7 +10,7 @@ use crate::run::source::map_of_file;
 use flow_io::Input;
 use label_trie::Trie;
 use pmap_cert::write_cert;
-use pmap_minimise::minimise;
+use pmap_minimise::{minimise, shortest};
 use pmap_print::print_list;
 use pmap_text::MapText;
 use std::alloc::{AllocError, Global};
@@ -20,14 +20,14 @@ fn shrunk(alloc: Global, map: &MapText, certificate: bool) -> Result<Vec<u8>, Al
     ensures { IfOk result (λ out. PrintsMinimal certificate (map_of map.now) (Ok out.items)) }
 {
     let trie = Trie::build(alloc, map)?;
+    if !certificate {
+        let list = shortest(alloc, map, &trie)?;
+        return print_list(alloc, &list);
+    }
     let minimal = minimise(alloc, map, &trie)?;
     // With its root it is said that the certificate has a text.
     let _root = minimal.certificate.root();
-    if certificate {
-        write_cert(alloc, &minimal.certificate)
-    } else {
-        print_list(alloc, &minimal.list)
-    }
+    write_cert(alloc, &minimal.certificate)
 }
 
 /// The shortest list of the map of a file, or in its place the certificate of that.
