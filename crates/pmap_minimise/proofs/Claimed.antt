@@ -1,5 +1,5 @@
 -- The sets that are made from an outline's end, and the certificate's nodes that they stand for.
-use Rattle.std.proofs.Common.{◌≡◌, ℕ, suc, ◌+◌, ◌<◌, ◌≤◌, ◌^◌, ◌∙◌, Bool, true, false, cond, List, [], ◌∷◌, ◌++◌, length, get_or, refl, sym, ap, subst, arith, length-append}
+use Rattle.std.proofs.Common.{◌≡◌, ℕ, ◌+◌, ◌<◌, ◌≤◌, ◌^◌, ◌∙◌, Bool, cond, List, [], ◌∷◌, ◌++◌, length, get_or, refl, sym, ap, subst, arith, length-append}
 use Rattle.std.specs.Prelude.{Box}
 use Rattle.std.specs.declared.alloc.Global.{Global}
 use Rattle.std.proofs.Math.Seq.{get_or-append_seam}
@@ -10,10 +10,10 @@ use denote.RawPtr.{null_ptr}
 use Rattle.pmap_text.specs.declared.label.LabelId.{LabelId}
 use Rattle.pmap_cert.specs.declared.node.Node.{Node}
 use Rattle.pmap_cert.specs.declared.node.Node.TheVariants.{Inner', Leaf}
-use Rattle.pmap_minimise.specs.Claiming.{AreClaimsFrom, AreHalvesOf, AreSetsOf, HasTwoHalves, IsHalfAdded, IsHalfIn, IsHalfJoined, IsHalfOf, IsHalfReady, IsKeptAs, all_sets, claimed_by, sets_of}
+use Rattle.pmap_minimise.specs.Claiming.{AreClaimsFrom, AreHalvesOf, AreSetsOf, IsHalfAdded, IsHalfIn, IsHalfOf, IsHalfReady, IsKeptAs, all_sets, claimed_by, sets_of}
 use Rattle.pmap_minimise.specs.Kept.{AreKept, sets_in}
 use Rattle.pmap_minimise.specs.Numbers.{IsExactBy, IsExactSet, IsExactSetBy, IsJoined, common_numbers, cost_of, set_of}
-use Rattle.pmap_minimise.specs.Outline.{AreNodesFrom, AreStacked, IsNodeFor, IsOutline, IsReady, Plan, parts_of, plans_of}
+use Rattle.pmap_minimise.specs.Outline.{IsOutline, IsReady}
 use Rattle.pmap_minimise.specs.declared.claiming.Half.{Half}
 use Rattle.pmap_minimise.specs.declared.claiming.Half.TheVariants.{Claiming, Labelled as LabelledHalf}
 use Rattle.pmap_minimise.specs.declared.kept.Sets.{Sets}

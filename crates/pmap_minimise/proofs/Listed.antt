@@ -1,7 +1,7 @@
 -- The entries that are listed along an outline, by the sets of the certificate's nodes.
-use Rattle.std.proofs.Common.{◌≡◌, ℕ, zero, suc, ◌+◌, ◌-◌, ◌^◌, ◌<◌, ◌≤◌, ◌∙◌, List, [], ◌∷◌, ◌++◌, Option, Some, None, All, length, map, take, drop, get_or, refl, sym, ap, subst, arith, length-append, length-take}
+use Rattle.std.proofs.Common.{◌≡◌, ℕ, zero, suc, ◌+◌, ◌-◌, ◌^◌, ◌<◌, ◌≤◌, ◌∙◌, List, [], ◌∷◌, ◌++◌, Some, None, All, length, map, take, drop, get_or, refl, sym, ap, subst, arith, length-append, length-take}
 use Rattle.std.proofs.Math.Seq.{get_or-append_seam, take-append_seam, take-length}
-use Rattle.std.proofs.lemmas.List.{append-nil, append_assoc, drop_all, get_or_append_left, map_push, same_from_push, take-append-drop}
+use Rattle.std.proofs.lemmas.List.{append-nil, append_assoc, drop_all, map_push, same_from_push, take-append-drop}
 use Rattle.std.proofs.lemmas.List.Elements.{All-from_recursion, All-head, All-push}
 use Rattle.prefix_keys.specs.Version.{width_of}
 use Rattle.prefix_keys.specs.declared.block.Block.{Block}
@@ -13,10 +13,10 @@ use Rattle.label_trie.specs.TrieModel.{LeafModel}
 use Rattle.pmap_minimise.specs.Claiming.{AreSetsOf, all_sets, sets_of}
 use Rattle.pmap_minimise.specs.Entered.{AddsEntries}
 use Rattle.pmap_minimise.specs.Kept.{sets_in}
-use Rattle.pmap_minimise.specs.Listing.{AddsListed, AddsVisit, AreHalvesPut, HasClaims, IsListed, IsListing, IsNodeOf, IsSoundVisit, Visit, nodes_visited}
+use Rattle.pmap_minimise.specs.Listing.{AddsListed, AddsVisit, AreHalvesPut, HasClaims, IsListed, IsListing, IsSoundVisit, Visit, nodes_visited}
 use Rattle.pmap_minimise.specs.Numbers.{HasHalves, IsJoined, IsOwn, IsSound, numbers_of, set_of}
-use Rattle.pmap_minimise.specs.Outline.{AddsOutline, AreStacked, Fork, IsNodeFor, IsOutline, Plan, Tip, forked, parts_of, plans_of}
-use Rattle.pmap_minimise.specs.Walk.{AddsAll, IsUnderWay, IsVisited}
+use Rattle.pmap_minimise.specs.Outline.{AddsOutline, AreStacked, Fork, IsOutline, Plan, Tip, forked, parts_of, plans_of}
+use Rattle.pmap_minimise.specs.Walk.{AddsAll}
 use Rattle.pmap_minimise.specs.declared.kept.Sets.{Sets}
 use Rattle.pmap_minimise.specs.declared.listing.Heir.{Heir}
 use Rattle.pmap_minimise.specs.declared.outline.Part.{Part}

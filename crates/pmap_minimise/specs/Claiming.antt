@@ -1,5 +1,4 @@
-use Rattle.std.specs.Prelude.{◌≡◌, ℕ, ◌+◌, ◌<◌, ◌≤◌, Bool, List, [], ◌∷◌, ◌++◌, drop, length, slice_index_or}
-use Rattle.pmap_text.specs.declared.label.LabelId.{LabelId}
+use Rattle.std.specs.Prelude.{◌≡◌, ℕ, ◌<◌, Bool, List, [], ◌∷◌, ◌++◌, length, slice_index_or}
 use Rattle.pmap_cert.specs.declared.node.Node.{Node}
 use Rattle.pmap_cert.specs.declared.node.Node.TheVariants.{Inner', Leaf}
 use Rattle.pmap_minimise.specs.Kept.{AreKept, sets_in}

@@ -1,4 +1,4 @@
-use Rattle.std.specs.Prelude.{◌≡◌, ℕ, ◌+◌, ◌-◌, ◌≤◌, List, [], ◌∷◌, ◌++◌, Option, Some, None, drop, length, map, take}
+use Rattle.std.specs.Prelude.{◌≡◌, ℕ, ◌-◌, ◌≤◌, List, [], ◌∷◌, ◌++◌, Some, None, drop, length, map, take}
 use Rattle.prefix_keys.specs.Version.{width_of}
 use Rattle.prefix_keys.specs.declared.block.Block.{Block}
 use Rattle.pmap_text.specs.declared.entry.Entry.{Entry}
@@ -7,7 +7,7 @@ use Rattle.pmap_cert.specs.declared.node.Node.{Node}
 use Rattle.label_trie.specs.Parts.{IsHalf}
 use Rattle.label_trie.specs.TrieModel.{LeafModel}
 use Rattle.pmap_minimise.specs.Certified.{IsCertified}
-use Rattle.pmap_minimise.specs.Claiming.{AreSetsOf, all_sets, sets_of}
+use Rattle.pmap_minimise.specs.Claiming.{all_sets, sets_of}
 use Rattle.pmap_minimise.specs.Entered.{AddsEntries}
 use Rattle.pmap_minimise.specs.Kept.{AreKept, sets_in}
 use Rattle.pmap_minimise.specs.Numbers.{IsSound}

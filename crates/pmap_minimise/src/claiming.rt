@@ -1,5 +1,5 @@
 //! The sets that the inner nodes of a certificate claim, without these nodes: all that the list is told by.
-ghost use Rattle.std.specs.Prelude.{◌≡◌, ◌^◌, ◌<◌, ◌≤◌, ◌++◌, ◌∷◌, [], All, IfOk, OnOk, length};
+ghost use Rattle.std.specs.Prelude.{◌≡◌, ◌^◌, ◌<◌, ◌≤◌, ◌++◌, ◌∷◌, [], IfOk, OnOk, length};
 ghost use Rattle.pmap_cert.specs.CertificateForm.{IsRising};
 ghost use Rattle.pmap_minimise.specs.Kept.{AreKept, sets_in};
 ghost use Rattle.pmap_minimise.specs.Claiming.{AreSetsOf, IsExactOf, IsHalfAdded, IsHalfIn, IsHalfJoined, IsHalfReady, claimed_by};

@@ -84,13 +84,14 @@ fn push_listed(
     Ok(())
 }
 
-/// The entries of the shortest list for a place of a map's trie, by rising first address.
-pub fn listed(alloc: Global, place: &Cursor) -> Result<Vec<Entry>, AllocError>
+/// The entries of the shortest list for a place of a map's trie, by rising first address. Room is made for this number of
+/// nodes at first.
+pub fn listed(alloc: Global, place: &Cursor, nodes: u32) -> Result<Vec<Entry>, AllocError>
     requires labelled { All (λ leaf. IsSome leaf.label) place.now.leaves }
     requires few { length place.now.leaves ≤ 2 ^ 31 }
     ensures { IfOk result (λ entries. IsListed place.now.block place.now.leaves entries.items) }
 {
-    let mut parts = Vec::new(alloc);
+    let mut parts = Vec::with_capacity(alloc, nodes as usize)?;
     push_parts(alloc, &mut parts, place)?;
     let sets = claimed(alloc, parts.as_slice())?;
     let mut entries = Vec::new(alloc);

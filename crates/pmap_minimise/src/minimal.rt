@@ -81,8 +81,7 @@ pub fn shortest(alloc: Global, map: &MapText, trie: &Trie) -> Result<PrefixList,
 {
     minimal_pair_is_accepted();
     let _labels = map.labels.len();
-    let _nodes = trie.node_count();
-    let items = listed(alloc, &trie.root())?;
+    let items = listed(alloc, &trie.root(), trie.node_count())?;
     Ok(PrefixList {
         version: map.version,
         name: copy_name(alloc, &map.name)?,

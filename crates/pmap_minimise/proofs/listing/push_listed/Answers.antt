@@ -1,4 +1,4 @@
-use Rattle.std.proofs.Common.{◌≡◌, ℕ, ◌+◌, ◌-◌, ◌<◌, ◌∙◌, None, List, [], ◌∷◌, ◌++◌, length, refl, sym, ap, arith}
+use Rattle.std.proofs.Common.{◌+◌, ◌-◌, ◌∙◌, None, List, [], ◌∷◌, ◌++◌, sym, ap, arith}
 use Rattle.pmap_minimise.specs.Numbers.{numbers_of}
 use Rattle.pmap_minimise.specs.declared.listing.Heir.{Heir}
 use Rattle.pmap_minimise.proofs.Listed.{inner-visit, listing-end, listing-inner, listing-leaf, listing-some, listing-start, same_listing, visit-room, visit-some}

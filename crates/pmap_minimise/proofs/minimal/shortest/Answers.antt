@@ -1,8 +1,8 @@
-use Rattle.std.proofs.Common.{ap, map, subst, ◌∙◌}
+use Rattle.std.proofs.Common.{map, ◌∙◌}
 use Rattle.pmap_text.specs.MapText.{map_of}
 use Rattle.pmap_text.specs.PrefixList.{prefix_of}
 use Rattle.pmap_minimise.specs.Shortest.{IsWhole}
-use Rattle.pmap_minimise.proofs.Whole.{IsShortest, listed-form, listed-pair, listed-shortest, whole-distinct}
+use Rattle.pmap_minimise.proofs.Whole.{listed-form, listed-pair, listed-shortest, whole-distinct}
 use Rattle.pmap_minimise.proofs.minimal.shortest.Goals as goal
 
 pub from_distinct-requires : goal.from_distinct-requires

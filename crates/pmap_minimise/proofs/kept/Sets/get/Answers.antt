@@ -1,12 +1,9 @@
-use Rattle.std.proofs.Common.{◌≡◌, ℕ, ◌-◌, ◌^◌, ◌<◌, ◌≤◌, ◌∙◌, List, [], All, length, get_or, take, drop, ap, sym, subst, arith}
+use Rattle.std.proofs.Common.{◌^◌, ◌∙◌, List, ap, sym, subst, arith}
 use Rattle.std.specs.List.{slice_range}
-use Rattle.std.proofs.lemmas.List.Elements.{All-get_or}
 use Rattle.pmap_text.specs.declared.label.LabelId.{LabelId}
 use Rattle.pmap_cert.specs.CertificateForm.{IsRising}
-use Rattle.pmap_minimise.specs.Kept.{AreEnds, AreKept, sets_in, start_of}
 use Rattle.pmap_minimise.specs.Numbers.{numbers_of}
-use Rattle.pmap_minimise.specs.declared.kept.Sets.{Sets}
-use Rattle.pmap_minimise.proofs.Pieces.{IsPiece, cut-length, piece-at}
+use Rattle.pmap_minimise.proofs.Pieces.{cut-length, piece-at}
 use Rattle.pmap_minimise.proofs.kept.Sets.get.Goals as goal
 
 pub start_of-start-requires : goal.start_of-start-requires

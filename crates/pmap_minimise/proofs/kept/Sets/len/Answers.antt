@@ -1,4 +1,4 @@
-use Rattle.std.proofs.Common.{sym, arith}
+use Rattle.std.proofs.Common.{arith}
 use Rattle.pmap_minimise.proofs.Pieces.{cut-length}
 use Rattle.pmap_minimise.proofs.kept.Sets.len.Goals as goal
 
