@@ -1,7 +1,8 @@
-use Rattle.std.specs.Prelude.{◌≡◌, ℕ, zero, suc, ◌<◌, ◌&&◌, ◌==◌, Bool, List, [], ◌∷◌, Option, All, length, map, nat_lt, option_map, if◌then◌else◌}
+use Rattle.std.specs.Prelude.{◌≡◌, ℕ, zero, suc, ◌<◌, ◌&&◌, ◌==◌, Bool, List, [], ◌∷◌, Option, All, length, map, nat_le, nat_lt, option_map, if◌then◌else◌}
 use Rattle.std.specs.List.{list_any}
 use Rattle.prefix_keys.specs.Version.{width_of}
 use Rattle.prefix_keys.specs.declared.block.Block.{Block}
+use Rattle.prefix_keys.specs.declared.span.Span.{Span}
 use Rattle.pmap_text.specs.Carried.{entry_covers, statement_meets, statement_spans}
 use Rattle.pmap_text.specs.Label.{IsLabelTable, number_of as number_of_label}
 use Rattle.pmap_text.specs.ListModel.{Prefix, lies_inside}
@@ -29,6 +30,20 @@ meets_block b s =
 abbrev pub spans_block : Block → Statement → Bool
 spans_block b s =
     is_same_version s.span.low.version b.version && statement_spans (width_of b.version) b.len (number_of b) s
+
+-- a statement is of the span's version and meets the span, or covers it whole
+abbrev pub meets_span : Span → Statement → Bool
+meets_span w s =
+    is_same_version s.span.low.version w.low.version && nat_le s.span.low.value w.high.value && nat_le w.low.value s.span.high.value
+
+abbrev pub spans_span : Span → Statement → Bool
+spans_span w s =
+    is_same_version s.span.low.version w.low.version && nat_le s.span.low.value w.low.value && nat_le w.high.value s.span.high.value
+
+-- an entry's block is of the span's version and begins in the span
+abbrev pub begins_in : Span → Entry → Bool
+begins_in w e =
+    is_same_version e.block.version w.low.version && nat_le w.low.value e.block.value && nat_le e.block.value w.high.value
 
 -- an entry is of the block's version and covers the block, or lies strictly inside it
 abbrev pub covers_whole : Block → Entry → Bool

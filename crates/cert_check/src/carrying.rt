@@ -1,10 +1,10 @@
 //! What of a map and of a list has a say in a block.
 ghost use Rattle.std.specs.Prelude.{◌≡◌, ◌&&◌, ◌||◌, ◌++◌, ◌∷◌, [], nat_le, nat_lt, take, IfOk, OnOk, if◌then◌else◌};
 ghost use Rattle.cert_check.specs.Carrying.{carried_to, entries_carried_to};
-ghost use Rattle.cert_check.specs.Sources.{covers_whole as covers_whole_of, greatest, is_inside as is_inside_of, meets_block, spans_block};
+ghost use Rattle.cert_check.specs.Sources.{begins_in as begins_in_of, covers_whole as covers_whole_of, greatest, is_inside as is_inside_of, meets_block, meets_span as meets_span_of, spans_block, spans_span as spans_span_of};
 
 use pmap_text::{Entry, Statement};
-use prefix_keys::Block;
+use prefix_keys::{Block, Span};
 use std::alloc::{AllocError, Global};
 
 /// Whether the statement's span has an address of the block.
@@ -35,19 +35,36 @@ pub fn is_inside(entry: &Entry, block: &Block) -> bool
     block.len < entry.block.len && block.covers(&entry.block.low())
 }
 
-// Adds the statement where it meets the block. Where it covers the whole block, those behind `start` give way to it.
+// Whether the statement's span has an address of the other, or each of them.
+fn meets_span(statement: &Statement, within: &Span) -> bool
+    ensures { result ≡ meets_span_of within.now statement.now }
+{
+    statement.span.low.version == within.low.version
+        && statement.span.low.value <= within.high.value
+        && within.low.value <= statement.span.high.value
+}
+
+fn spans_span(statement: &Statement, within: &Span) -> bool
+    ensures { result ≡ spans_span_of within.now statement.now }
+{
+    statement.span.low.version == within.low.version
+        && statement.span.low.value <= within.low.value
+        && within.high.value <= statement.span.high.value
+}
+
+// Adds the statement where it meets the span of a block. Where it covers it whole, those behind `start` give way to it.
 fn add_statement(
     kept: &mut Vec<Statement>,
     start: usize,
     statement: &Statement,
-    block: &Block,
+    within: &Span,
 ) -> Result<(), AllocError>
-    ensures { OnOk result (kept.new.items ≡ (if meets_block block.now statement.now
-        then (if spans_block block.now statement.now then take start kept.old.items else kept.old.items) ++ statement.now ∷ []
+    ensures { OnOk result (kept.new.items ≡ (if meets_span_of within.now statement.now
+        then (if spans_span_of within.now statement.now then take start kept.old.items else kept.old.items) ++ statement.now ∷ []
         else kept.old.items)) }
 {
-    if meets(statement, block) {
-        if spans(statement, block) {
+    if meets_span(statement, within) {
+        if spans_span(statement, within) {
             kept.truncate(start);
         }
         kept.push(*statement)?;
@@ -64,8 +81,9 @@ pub fn add_carried(
     ensures { OnOk result (kept.new.items ≡ kept.old.items ++ carried_to block.now statements.now) }
 {
     let start = kept.len();
+    let within = block.span();
     for statement in statements {
-        add_statement(kept, start, statement, block)?;
+        add_statement(kept, start, statement, &within)?;
     }
     Ok(())
 }
@@ -106,11 +124,22 @@ pub fn longest_covering(entries: &[Entry], block: &Block) -> u32
     longest
 }
 
-// Whether the entry lies inside the block, or covers it and is no shorter than `longest`.
-fn has_say(entry: &Entry, block: &Block, longest: u32) -> bool
-    ensures { result ≡ (covers_whole_of block.now entry.now && nat_le longest entry.now.block.len || is_inside_of block.now entry.now) }
+// Whether the entry's block begins at an address of the span.
+fn begins_in(entry: &Entry, within: &Span) -> bool
+    ensures { result ≡ begins_in_of within.now entry.now }
 {
-    (longest <= entry.block.len && covers_whole(entry, block)) || is_inside(entry, block)
+    entry.block.version == within.low.version
+        && within.low.value <= entry.block.value
+        && entry.block.value <= within.high.value
+}
+
+// Whether the entry lies inside the block, which has the span, or covers it and is no shorter than `longest`.
+fn has_say(entry: &Entry, block: &Block, within: &Span, longest: u32) -> bool
+    ensures { result ≡ (covers_whole_of block.now entry.now && nat_le longest entry.now.block.len
+        || nat_lt block.now.len entry.now.block.len && begins_in_of within.now entry.now) }
+{
+    (longest <= entry.block.len && covers_whole(entry, block))
+        || (block.len < entry.block.len && begins_in(entry, within))
 }
 
 // Adds the entry where it has a say.
@@ -118,12 +147,14 @@ fn add_entry(
     kept: &mut Vec<Entry>,
     entry: &Entry,
     block: &Block,
+    within: &Span,
     longest: u32,
 ) -> Result<(), AllocError>
-    ensures { OnOk result (kept.new.items ≡ (if covers_whole_of block.now entry.now && nat_le longest entry.now.block.len || is_inside_of block.now entry.now
+    ensures { OnOk result (kept.new.items ≡ (if covers_whole_of block.now entry.now && nat_le longest entry.now.block.len
+        || nat_lt block.now.len entry.now.block.len && begins_in_of within.now entry.now
         then kept.old.items ++ entry.now ∷ [] else kept.old.items)) }
 {
-    if has_say(entry, block, longest) {
+    if has_say(entry, block, within, longest) {
         kept.push(*entry)?;
     }
     Ok(())
@@ -138,8 +169,9 @@ pub fn add_carried_entries(
     ensures { OnOk result (kept.new.items ≡ kept.old.items ++ entries_carried_to block.now entries.now) }
 {
     let longest = longest_covering(entries, block);
+    let within = block.span();
     for entry in entries {
-        add_entry(kept, entry, block, longest)?;
+        add_entry(kept, entry, block, &within, longest)?;
     }
     Ok(())
 }
