@@ -1,17 +1,19 @@
 -- Numbers as they are written, and rising numbers.
-use Rattle.std.proofs.Common.{◌≡◌, ℕ, suc, ◌+◌, ◌-◌, ◌*◌, ◌^◌, ◌<◌, ◌≤◌, ◌==◌, ◌&&◌, ◌∙◌, Bool, true, false, List, [], ◌∷◌, ◌++◌, Option, Some, None, All, map, fold, take, drop, refl, sym, ap, subst, arith, cond, leb, ltb}
+use Rattle.std.proofs.Common.{◌≡◌, ℕ, zero, suc, ◌+◌, ◌-◌, ◌*◌, ◌^◌, ◌<◌, ◌≤◌, ◌==◌, ◌&&◌, ◌||◌, ◌∙◌, Bool, true, false, List, [], ◌∷◌, ◌++◌, Option, Some, None, All, map, fold, take, drop, refl, sym, ap, subst, arith, cond, leb, ltb, get_or, length, not, rules}
 use Rattle.std.specs.Fmt.{decimal, digit_glyph}
-use Rattle.std.specs.List.{AllByRecursion}
+use Rattle.std.specs.List.{AllByRecursion, list_all}
 use Rattle.std.specs.Option.{option_map}
 use Rattle.std.specs.Str.{bytes_eq}
-use Rattle.std.proofs.lemmas.Bool.{and_from, and_parts, cond-true, le-leb, leb-true, lt-ltb, ltb-true, ne_eqb}
+use Rattle.std.proofs.lemmas.Bool.{and_from, and_parts, both_ways, cond-true, eq-eqb, eqb-true, false_from_ne_true, false≢true, le-leb, leb-true, lt-ltb, ltb-true, ne_eqb}
+use Rattle.std.proofs.lemmas.Fmt.{decimal-digits_value, decimal_digit, decimal_nonempty, digits_decimal, first_decimal}
+use Rattle.std.proofs.lemmas.Str.Parse.{IsNumeralModel, numerals_by_fold}
 use Rattle.std.proofs.lemmas.Option.{cond_some, none-some}
 use Rattle.std.proofs.lemmas.List.{take-append-drop}
 use Rattle.std.proofs.lemmas.List.Sums.{fold-append}
 use Rattle.std.proofs.lemmas.Slice.Eq.{bytes_eq-Decides}
 use Rattle.prefix_keys.proofs.Digits.{All-digits, fold-digits}
 use Rattle.prefix_keys.proofs.Printed.{Lacks}
-use Rattle.prefix_keys.specs.Text.{decimal_value}
+use Rattle.prefix_keys.specs.Text.{decimal_value, is_digit}
 use Rattle.pmap_cert.specs.CertificateForm.{IsRising}
 use Rattle.pmap_cert.specs.CertificateReading.{number_below, onto_numbers, rising_numbers}
 
@@ -104,3 +106,66 @@ decimal_value-take-le i word =
     subst (λ (text : List ℕ). decimal_value (take i word) ≤ decimal_value text) (take-append-drop i word)
     (subst (λ (m : ℕ). decimal_value (take i word) ≤ m) (sym (fold-append (λ n b. n * 10 + (b - 48)) 0 (take i word) (drop i word)))
     (value-grows (decimal_value (take i word)) (drop i word)))
+
+-- digits and their value
+own : IsNumeralModel (λ ds. list_all is_digit ds ≡ true) decimal_value
+own = numerals_by_fold _ (search rules) (λ n ds. fold (λ m b. m * 10 + (b - 48)) n ds) (search rules)
+
+-- a word is the decimal text of its value exactly where it is of digits without a leading zero
+pub is_decimal-none : (word : List ℕ) → length word ≡ 0 → false ≡ bytes_eq word (decimal (decimal_value word))
+is_decimal-none [] e =
+    sym (false_from_ne_true (bytes_eq [] (decimal 0)) (λ t.
+    let same : [] ≡ decimal 0 = (bytes_eq-Decides [] (decimal 0)).0 t in
+    let some = decimal_nonempty 0 (omega arith) in
+    absurd (omega (arith, some, ap length same))))
+is_decimal-none (b ∷ word) e = absurd (omega (arith, e))
+
+or-side : (a b : Bool) → (a || not b) ≡ true → b ≡ true → a ≡ true
+or-side true b h e = refl
+or-side false true h e = h
+or-side false false h e = absurd (false≢true e)
+
+side-or : (a b : Bool) → (b ≡ true → a ≡ true) → (a || not b) ≡ true
+side-or true b h = refl
+side-or false false h = refl
+side-or false true h = h refl
+
+pub is_decimal-some : (word : List ℕ) → 0 < length word → decimal_value word < 2 ^ 32
+    → (((length word == 1) || not (get_or word 0 0 == 48)) && list_all is_digit word) ≡ bytes_eq word (decimal (decimal_value word))
+is_decimal-some word some small = by (bytes_eq word (decimal (decimal_value word))) refl
+  where
+    written : word ≡ decimal (decimal_value word) → (((length word == 1) || not (get_or word 0 0 == 48)) && list_all is_digit word) ≡ true
+    written same =
+        and_from ((length word == 1) || not (get_or word 0 0 == 48)) (list_all is_digit word)
+        (side-or (length word == 1) (get_or word 0 0 == 48) (λ zero. eq-eqb (length word) 1 (short (eqb-true (get_or word 0 0) 48 zero))))
+        (subst (λ (ds : List ℕ). list_all is_digit ds ≡ true) (sym same) (digits_decimal own (decimal_value word) (omega (arith, small))))
+      where
+        short : get_or word 0 0 ≡ 48 → length word ≡ 1
+        short first = cases (decimal_value word) refl
+          where
+            cases : (m : ℕ) → decimal_value word ≡ m → length word ≡ 1
+            cases zero e = ap length (same ∙ ap decimal e ∙ decimal_digit 0 (omega arith))
+            cases (suc m) e =
+                let front = first_decimal (decimal_value word) (omega (arith, e)) (omega (arith, small)) in
+                absurd (omega (arith, front, first, ap (λ (ds : List ℕ). get_or ds 0 0) same))
+
+    by : (b : Bool) → bytes_eq word (decimal (decimal_value word)) ≡ b → (((length word == 1) || not (get_or word 0 0 == 48)) && list_all is_digit word) ≡ b
+    by true e = written ((bytes_eq-Decides word (decimal (decimal_value word))).0 e)
+    by false e = false_from_ne_true (((length word == 1) || not (get_or word 0 0 == 48)) && list_all is_digit word) (λ t.
+        let parts = and_parts ((length word == 1) || not (get_or word 0 0 == 48)) (list_all is_digit word) t in
+        let text = decimal-digits_value own word parts.1 some
+        (λ first. eqb-true (length word) 1 (or-side (length word == 1) (get_or word 0 0 == 48) parts.0 (eq-eqb (get_or word 0 0) 48 first))) (omega (arith, small)) in
+        both_ways (bytes_eq word (decimal (decimal_value word))) e ((bytes_eq-Decides word (decimal (decimal_value word))).1 (sym text)))
+
+not-both : (a b : Bool) → not (not a && b) ≡ (a || not b)
+not-both true b = refl
+not-both false b = refl
+
+pub is_decimal-word : (word : List ℕ) → 0 < length word → decimal_value word < 2 ^ 32
+    → (not (not (length word == 1) && (get_or word 0 0 == 48)) && list_all is_digit word) ≡ bytes_eq word (decimal (decimal_value word))
+is_decimal-word word some small =
+    ap (λ b. b && list_all is_digit word) (not-both (length word == 1) (get_or word 0 0 == 48)) ∙ is_decimal-some word some small
+
+pub some-length : (n : ℕ) → (n == 0) ≡ false → 0 < n
+some-length zero e = absurd (false≢true (sym e))
+some-length (suc n) e = omega arith
