@@ -1,9 +1,8 @@
 -- The entries of a minimal list have distinct blocks.
-use Rattle.std.proofs.Common.{◌≡◌, ℕ, zero, suc, ◌<◌, ◌==◌, ◌&&◌, ◌⊎◌, inl, inr, true, false, List, [], ◌∷◌, IsTrue, length, map, nat_lt, take, get_or, refl, arith}
+use Rattle.std.proofs.Common.{◌≡◌, ◌==◌, ◌&&◌, ◌⊎◌, inl, inr, true, false, List, [], ◌∷◌, IsTrue, map, nat_lt, arith}
 use Rattle.std.specs.List.{AllByRecursion, IsDistinct}
-use Rattle.std.proofs.lemmas.Bool.{and_parts, eqb-true, false_from_ne_true, ltb-true, or_cases, or_from}
-use Rattle.std.proofs.lemmas.List.Elements.{All-from_recursion, All-get_or}
-use Rattle.pmap_text.specs.ListEntries.{HasDistinctBlocks, has_entry, same_block}
+use Rattle.std.proofs.lemmas.Bool.{and_parts, eqb-true, false_from_ne_true, ltb-true, or_cases}
+use Rattle.pmap_text.specs.ListEntries.{HasDistinctBlocks, same_block}
 use Rattle.pmap_text.specs.ListModel.{Prefix}
 use Rattle.pmap_text.specs.MapModel.{Label}
 use Rattle.pmap_text.specs.PrefixList.{prefix_of}
@@ -33,14 +32,3 @@ pub order-distinct : (table : List Label) (es : List Entry) → IsInOrder (map (
 unfolding IsDistinct
 order-distinct table [] order = tt
 order-distinct table (e ∷ es) order = (not-same_all table e es order.0, order-distinct table es order.1)
-
--- none of the entries before has the block of the next
-pub new-block : (es : List Entry) (i : ℕ) (d : Entry) → HasDistinctBlocks es → i < length es
-    → has_entry (take i es) (get_or es i d).block.value (get_or es i d).block.len ≡ false
-unfolding IsDistinct
-new-block [] i d distinct inside = absurd (omega arith)
-new-block (e ∷ es) zero d distinct inside = refl
-new-block (e ∷ es) (suc i) d distinct inside =
-    or_from (same_block e (get_or es i d)) (has_entry (take i es) (get_or es i d).block.value (get_or es i d).block.len)
-    (All-get_or (λ r. same_block e r ≡ false) es i d (omega arith) (All-from_recursion (λ r. same_block e r ≡ false) es distinct.0))
-    (new-block es i d distinct.1 (omega arith))

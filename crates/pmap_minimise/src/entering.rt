@@ -4,7 +4,6 @@ ghost use Rattle.std.specs.List.{list_any};
 ghost use Rattle.std.specs.Option.{ForSome};
 ghost use Rattle.prefix_keys.specs.Version.{width_of};
 ghost use Rattle.pmap_text.specs.Label.{IsLabelTable};
-ghost use Rattle.pmap_text.specs.ListEntries.{HasDistinctBlocks};
 ghost use Rattle.pmap_text.specs.MapModel.{Label};
 ghost use Rattle.pmap_text.specs.MapText.{text_at};
 ghost use Rattle.pmap_text.specs.PrefixList.{prefix_of};
@@ -17,7 +16,7 @@ ghost use Rattle.pmap_minimise.specs.Pending.{IsEntered, IsSoundAt};
 
 use crate::certifying::labels_of;
 use pmap_cert::Node;
-use pmap_text::{Entries, Entry, LabelId};
+use pmap_text::{Entry, LabelId};
 use prefix_keys::Block;
 use std::alloc::{AllocError, Global};
 
@@ -124,16 +123,4 @@ pub fn push_entries(
         enter(entries, &mut pending, place)?;
     }
     Ok(())
-}
-
-/// The entries of a list, whose blocks are distinct.
-pub fn distinct_entries(alloc: Global, items: &[Entry]) -> Result<Entries, AllocError>
-    requires { HasDistinctBlocks items.now }
-    ensures { IfOk result (λ entries. entries ≡ items.now) }
-{
-    let mut entries = Entries::new(alloc);
-    for entry in items {
-        entries.push(*entry)?;
-    }
-    Ok(entries)
 }

@@ -15,7 +15,7 @@ ghost use Rattle.pmap_minimise.specs.Numbers.{IsSound};
 ghost use Rattle.pmap_minimise.specs.Shortest.{IsWhole, shortest_list};
 
 use crate::certifying::{certified, cost_of};
-use crate::entering::{distinct_entries, push_entries};
+use crate::entering::push_entries;
 use crate::listing::listed;
 use label_trie::Trie;
 use pmap_cert::laws::minimal_pair_is_accepted;
@@ -109,7 +109,7 @@ fn shortest_list(
     Ok(PrefixList {
         version: map.version,
         name: copy_name(alloc, &map.name)?,
-        entries: distinct_entries(alloc, items.as_slice())?,
+        entries: Entries::from_distinct(items),
         labels: map.labels.copy()?,
     })
 }
