@@ -5,10 +5,10 @@ mod certificates;
 
 use crate::fault::CheckFaultKind;
 use crate::{carried, carried_entries, check};
-use pmap_cert::read_cert;
-use pmap_text::{read_list, read_map};
-use prefix_keys::read_block;
-use std::alloc::Global;
+use pmap_cert::{CertFault, Certificate, read_cert};
+use pmap_text::{MapFault, MapText, PrefixList, read_list, read_map};
+use prefix_keys::{Block, read_block};
+use std::alloc::{AllocError, Global};
 use std::process::Abort;
 use std::test::Fail;
 
@@ -105,16 +105,39 @@ const REFUSED: [Row; 7] = [
     },
 ];
 
-fn is_answered(rt: &impl Abort, alloc: Global, row: &Row) -> Result<(), Fail> {
-    let map = read_map(alloc, row.map)?;
-    let list = read_list(alloc, row.list)?;
-    let certificate = read_cert(alloc, row.certificate)?;
-    let (fault, number) = match check(alloc, &map, &list, &certificate) {
+// The map, the list and the certificate of texts, with nothing said of them.
+fn map_in(alloc: Global, text: &[u8]) -> Result<MapText, MapFault> {
+    read_map(alloc, text)
+}
+
+fn list_in(alloc: Global, text: &[u8]) -> Result<PrefixList, MapFault> {
+    read_list(alloc, text)
+}
+
+fn certificate_in(alloc: Global, text: &[u8]) -> Result<Certificate, CertFault> {
+    read_cert(alloc, text)
+}
+
+// The fault, where there is one, and the number of entries or of the fault's node.
+fn answer(
+    alloc: Global,
+    map: &MapText,
+    list: &PrefixList,
+    certificate: &Certificate,
+) -> (Option<CheckFaultKind>, u64) {
+    match check(alloc, map, list, certificate) {
         Ok(count) => (None, count),
         Err(fault) => (Some(fault.kind), fault.node),
-    };
-    assert_eq!(rt; fault, row.fault);
-    assert_eq!(rt; number, row.number);
+    }
+}
+
+fn is_answered(rt: &impl Abort, alloc: Global, row: &Row) -> Result<(), Fail> {
+    let map = map_in(alloc, row.map)?;
+    let list = list_in(alloc, row.list)?;
+    let certificate = certificate_in(alloc, row.certificate)?;
+    let (fault, number) = answer(alloc, &map, &list, &certificate);
+    assert!(rt; fault == row.fault);
+    assert!(rt; number == row.number);
     Ok(())
 }
 
@@ -135,15 +158,21 @@ fn names_the_first_fault(rt: HostRuntime) -> Result<(), Fail> {
     are_answered(&rt, rt.alloc(), REFUSED.as_slice())
 }
 
+fn statements_carried(alloc: Global, map: &MapText, block: &Block) -> Result<usize, AllocError> {
+    Ok(carried(alloc, map.statements.as_slice(), block)?.len())
+}
+
+fn entries_carried(alloc: Global, list: &PrefixList, block: &Block) -> Result<usize, AllocError> {
+    Ok(carried_entries(alloc, list.entries.as_slice(), block)?.len())
+}
+
 #[test]
 fn carries_what_has_a_say(rt: HostRuntime) -> Result<(), Fail> {
     let alloc = rt.alloc();
-    let map = read_map(alloc, HALVES_MAP)?;
-    let list = read_list(alloc, HALVES_MAP)?;
+    let map = map_in(alloc, HALVES_MAP)?;
+    let list = list_in(alloc, HALVES_MAP)?;
     let block = read_block(b"128.0.0.0/2")?;
-    let statements = carried(alloc, map.statements.as_slice(), &block)?;
-    let entries = carried_entries(alloc, list.entries.as_slice(), &block)?;
-    assert_eq!(rt; statements.len(), 1);
-    assert_eq!(rt; entries.len(), 1);
+    assert!(rt; statements_carried(alloc, &map, &block)? == 1);
+    assert!(rt; entries_carried(alloc, &list, &block)? == 1);
     Ok(())
 }
