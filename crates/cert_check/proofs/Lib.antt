@@ -1,6 +1,8 @@
 pub mod Lists
+pub mod Named
 pub mod Accepted
 pub mod Carries
+pub mod Few
 pub mod Longest
 pub mod Parts
 pub mod Sets

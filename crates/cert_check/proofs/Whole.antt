@@ -16,10 +16,9 @@ use Rattle.pmap_text.specs.declared.statement.Statement.{Statement}
 use Rattle.pmap_cert.specs.CertificateModel.{Tree}
 use Rattle.pmap_cert.specs.Node.{HasNumberForm, tree_of}
 use Rattle.pmap_cert.specs.declared.node.Node.{Node}
-use Rattle.cert_check.specs.Carrying.{carried_to, entries_carried_to, number_of}
+use Rattle.cert_check.specs.Carrying.{number_of}
 use Rattle.cert_check.specs.Checking.{node_fault}
 use Rattle.cert_check.specs.Sources.{AreEntriesOf, AreStatementsOf, HasRoom, map_with, prefixes_with}
-use Rattle.cert_check.proofs.Parts.{entries-part, fault-carried, statements-part}
 use Rattle.cert_check.proofs.Nodes.{room-of}
 
 -- all statements of a map are of it, and all entries of a list
@@ -29,27 +28,20 @@ all-statements m = record { versions = m.one_version; labels = m.numbers_known }
 pub all-entries : (l : PrefixList) → AreEntriesOf l l.entries
 all-entries l = record { versions = l.one_version; labels = l.numbers_known }
 
--- the address space, and what is carried to it
+-- the address space, with all statements and all entries
 module _ (m : MapText) (l : PrefixList) (whole : Block) (ss : List Statement) (es : List Entry) (version : whole.version ≡ m.version) (value : whole.value ≡ 0)
-    (len : whole.len ≡ 0) (list_version : l.version ≡ m.version) (statements_are : ss ≡ carried_to whole m.statements) (entries_are : es ≡ entries_carried_to whole l.entries) where
+    (len : whole.len ≡ 0) (statements_are : ss ≡ m.statements) (entries_are : es ≡ l.entries) where
   pub whole-statements : AreStatementsOf m ss
-  whole-statements = subst (AreStatementsOf m) (sym statements_are) (statements-part m whole m.statements (all-statements m))
+  whole-statements = subst (AreStatementsOf m) (sym statements_are) (all-statements m)
 
   pub whole-entries : AreEntriesOf l es
-  whole-entries = subst (AreEntriesOf l) (sym entries_are) (entries-part l whole l.entries (all-entries l))
-
-  pub whole-room : width_of whole.version - whole.len ≡ width_of m.version
-  whole-room = (λ i. width_of (version i) - len i) ∙ omega arith
+  whole-entries = subst (AreEntriesOf l) (sym entries_are) (all-entries l)
 
   whole-number : number_of whole ≡ 0
   whole-number = ap (block_number (width_of whole.version) whole.len) value ∙ div-eq_of_lt (pow_pos (width_of whole.version - whole.len))
 
-  pub whole-nodes : (t : Tree) (k : ℕ) → HasRoom t (width_of whole.version - whole.len)
-      → node_fault (map_with m ss) (prefixes_with l es) t k whole.len (number_of whole) ≡ node_fault (map_of m) (list_of l).prefixes t k 0 0
-  whole-nodes t k room =
-      (λ i. node_fault (map_with m (statements_are i)) (prefixes_with l (entries_are i)) t k whole.len (number_of whole))
-      ∙ fault-carried m l m.statements l.entries whole t k version list_version (all-statements m) (all-entries l) room
-      ∙ (λ i. node_fault (map_with m m.statements) (prefixes_with l l.entries) t k (len i) (whole-number i))
+  pub whole-nodes : (t : Tree) (k : ℕ) → node_fault (map_with m ss) (prefixes_with l es) t k whole.len (number_of whole) ≡ node_fault (map_of m) (list_of l).prefixes t k 0 0
+  whole-nodes t k = λ i. node_fault (map_with m (statements_are i)) (prefixes_with l (entries_are i)) t k (len i) (whole-number i)
 
 -- the form of the root leaves room for its nodes
 pub root-room : (m : MapText) (whole : Block) (labels : List Label) (count : ℕ) (root' root : Node) (v : Version) → root' ≡ root → v ≡ m.version → whole.version ≡ m.version → whole.len ≡ 0

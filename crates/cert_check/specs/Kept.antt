@@ -1,5 +1,5 @@
 use Rattle.std.specs.Prelude.{◌≡◌}
-use Rattle.cert_check.specs.Sources.{AreEntriesOf, AreNumbers, AreStatementsOf}
+use Rattle.cert_check.specs.Sources.{AreEntriesOf, AreNumbers, AreStatementsOf, named}
 use Rattle.cert_check.specs.declared.carried_part.CarriedPart.{CarriedPart}
 use Rattle.cert_check.specs.declared.sources.Sources.{Sources}
 
@@ -14,5 +14,5 @@ pub record AreSources (s : Sources) : Type 0 where
 
 -- these statements and entries are of the map and the list
 pub record IsPartOf (s : Sources) (part : CarriedPart) : Type 0 where
-  pub statements : AreStatementsOf s.map.now part.statements.now
-  pub entries : AreEntriesOf s.list.now part.entries.now
+  pub statements : AreStatementsOf s.map.now (named part.statements.now)
+  pub entries : AreEntriesOf s.list.now (named part.entries.now)

@@ -1,4 +1,5 @@
 use Rattle.std.specs.Prelude.{◌≡◌, ℕ, zero, suc, ◌<◌, ◌&&◌, ◌==◌, Bool, List, [], ◌∷◌, Option, All, length, map, nat_le, nat_lt, option_map, if◌then◌else◌}
+use Rattle.std.specs.Borrow.{Bor}
 use Rattle.std.specs.List.{list_any}
 use Rattle.prefix_keys.specs.Version.{width_of}
 use Rattle.prefix_keys.specs.declared.block.Block.{Block}
@@ -58,6 +59,10 @@ is_inside b e =
 abbrev pub greatest : (Entry → Bool) → List Entry → ℕ
 greatest test [] = 0
 greatest test (e ∷ es) = if test e && nat_lt (greatest test es) e.block.len then e.block.len else greatest test es
+
+-- what references name
+abbrev pub named : {X : Type 0} → List (Bor X) → List X
+named = map (λ r. r.now)
 
 -- the map with these statements in place of its own
 abbrev pub map_with : MapText → List Statement → MapModel

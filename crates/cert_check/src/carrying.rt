@@ -1,8 +1,9 @@
 //! What of a map and of a list has a say in a block.
 ghost use Rattle.std.specs.Prelude.{◌≡◌, ◌&&◌, ◌||◌, ◌++◌, ◌∷◌, [], nat_le, nat_lt, take, IfOk, OnOk, if◌then◌else◌};
 ghost use Rattle.cert_check.specs.Carrying.{carried_to, entries_carried_to};
-ghost use Rattle.cert_check.specs.Sources.{begins_in as begins_in_of, covers_whole as covers_whole_of, greatest, is_inside as is_inside_of, meets_block, meets_span as meets_span_of, spans_block, spans_span as spans_span_of};
+ghost use Rattle.cert_check.specs.Sources.{begins_in as begins_in_of, covers_whole as covers_whole_of, greatest, is_inside as is_inside_of, meets_block, meets_span as meets_span_of, named, spans_block, spans_span as spans_span_of};
 
+use crate::references::{copies, references};
 use pmap_text::{Entry, Statement};
 use prefix_keys::{Block, Span};
 use std::alloc::{AllocError, Global};
@@ -52,38 +53,22 @@ fn spans_span(statement: &Statement, within: &Span) -> bool
         && within.high.value <= statement.span.high.value
 }
 
-// Adds the statement where it meets the span of a block. Where it covers it whole, those behind `start` give way to it.
-fn add_statement(
-    kept: &mut Vec<Statement>,
+/// Adds the statement where it meets the span of a block. Where it covers it whole, those behind `start` give way to it.
+pub fn add_statement<'a>(
+    kept: &mut Vec<&'a Statement>,
     start: usize,
-    statement: &Statement,
+    statement: &'a Statement,
     within: &Span,
 ) -> Result<(), AllocError>
-    ensures { OnOk result (kept.new.items ≡ (if meets_span_of within.now statement.now
-        then (if spans_span_of within.now statement.now then take start kept.old.items else kept.old.items) ++ statement.now ∷ []
-        else kept.old.items)) }
+    ensures { OnOk result (named kept.new.items ≡ (if meets_span_of within.now statement.now
+        then (if spans_span_of within.now statement.now then take start (named kept.old.items) else named kept.old.items) ++ statement.now ∷ []
+        else named kept.old.items)) }
 {
     if meets_span(statement, within) {
         if spans_span(statement, within) {
             kept.truncate(start);
         }
-        kept.push(*statement)?;
-    }
-    Ok(())
-}
-
-/// Adds to those kept the statements that `carried` gives.
-pub fn add_carried(
-    kept: &mut Vec<Statement>,
-    statements: &[Statement],
-    block: &Block,
-) -> Result<(), AllocError>
-    ensures { OnOk result (kept.new.items ≡ kept.old.items ++ carried_to block.now statements.now) }
-{
-    let start = kept.len();
-    let within = block.span();
-    for statement in statements {
-        add_statement(kept, start, statement, &within)?;
+        kept.push(statement)?;
     }
     Ok(())
 }
@@ -98,8 +83,11 @@ pub fn carried(
     ensures { IfOk result (λ kept. kept.items ≡ carried_to block.now statements.now) }
 {
     let mut kept = Vec::new(alloc);
-    add_carried(&mut kept, statements, block)?;
-    Ok(kept)
+    let within = block.span();
+    for statement in statements {
+        add_statement(&mut kept, 0, statement, &within)?;
+    }
+    copies(alloc, kept.as_slice())
 }
 
 // The greater of a length and that of the entry, where this covers the block.
@@ -114,18 +102,18 @@ fn longer(longest: u32, entry: &Entry, block: &Block) -> u32
 }
 
 /// The greatest length of an entry that covers the block, 0 where none does.
-pub fn longest_covering(entries: &[Entry], block: &Block) -> u32
-    ensures { result ≡ greatest (covers_whole_of block.now) entries.now }
+pub fn longest_covering(entries: &[&Entry], block: &Block) -> u32
+    ensures { result ≡ greatest (covers_whole_of block.now) (named entries.now) }
 {
     let mut longest = 0;
     for entry in entries {
-        longest = longer(longest, entry, block);
+        longest = longer(longest, *entry, block);
     }
     longest
 }
 
-// Whether the entry's block begins at an address of the span.
-fn begins_in(entry: &Entry, within: &Span) -> bool
+/// Whether the entry's block begins at an address of the span.
+pub fn begins_in(entry: &Entry, within: &Span) -> bool
     ensures { result ≡ begins_in_of within.now entry.now }
 {
     entry.block.version == within.low.version
@@ -143,35 +131,35 @@ fn has_say(entry: &Entry, block: &Block, within: &Span, longest: u32) -> bool
 }
 
 // Adds the entry where it has a say.
-fn add_entry(
-    kept: &mut Vec<Entry>,
-    entry: &Entry,
+fn add_entry<'a>(
+    kept: &mut Vec<&'a Entry>,
+    entry: &'a Entry,
     block: &Block,
     within: &Span,
     longest: u32,
 ) -> Result<(), AllocError>
-    ensures { OnOk result (kept.new.items ≡ (if covers_whole_of block.now entry.now && nat_le longest entry.now.block.len
+    ensures { OnOk result (named kept.new.items ≡ (if covers_whole_of block.now entry.now && nat_le longest entry.now.block.len
         || nat_lt block.now.len entry.now.block.len && begins_in_of within.now entry.now
-        then kept.old.items ++ entry.now ∷ [] else kept.old.items)) }
+        then named kept.old.items ++ entry.now ∷ [] else named kept.old.items)) }
 {
     if has_say(entry, block, within, longest) {
-        kept.push(*entry)?;
+        kept.push(entry)?;
     }
     Ok(())
 }
 
 /// Adds to those kept the entries that `carried_entries` gives.
-pub fn add_carried_entries(
-    kept: &mut Vec<Entry>,
-    entries: &[Entry],
+pub fn add_carried_entries<'a>(
+    kept: &mut Vec<&'a Entry>,
+    entries: &[&'a Entry],
     block: &Block,
 ) -> Result<(), AllocError>
-    ensures { OnOk result (kept.new.items ≡ kept.old.items ++ entries_carried_to block.now entries.now) }
+    ensures { OnOk result (named kept.new.items ≡ named kept.old.items ++ entries_carried_to block.now (named entries.now)) }
 {
     let longest = longest_covering(entries, block);
     let within = block.span();
     for entry in entries {
-        add_entry(kept, entry, block, &within, longest)?;
+        add_entry(kept, *entry, block, &within, longest)?;
     }
     Ok(())
 }
@@ -186,7 +174,8 @@ pub fn carried_entries(
 ) -> Result<Vec<Entry>, AllocError>
     ensures { IfOk result (λ kept. kept.items ≡ entries_carried_to block.now entries.now) }
 {
+    let all = references(alloc, entries)?;
     let mut kept = Vec::new(alloc);
-    add_carried_entries(&mut kept, entries, block)?;
-    Ok(kept)
+    add_carried_entries(&mut kept, all.as_slice(), block)?;
+    copies(alloc, kept.as_slice())
 }

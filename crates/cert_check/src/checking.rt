@@ -10,10 +10,9 @@ ghost use Rattle.pmap_cert.specs.Node.{HasNumberForm, tree_of};
 ghost use Rattle.cert_check.specs.Carrying.{number_of};
 ghost use Rattle.cert_check.specs.Checking.{first_fault, node_count, node_fault, told};
 ghost use Rattle.cert_check.specs.Kept.{AreSources};
-ghost use Rattle.cert_check.specs.Sources.{AreEntriesOf, AreStatementsOf, map_with, prefixes_with};
+ghost use Rattle.cert_check.specs.Sources.{AreEntriesOf, AreStatementsOf, map_with, named, prefixes_with};
 ghost use Rattle.cert_check.specs.declared.fault.CheckFaultKind.TheVariants.{NoMemory};
 
-use crate::carried_part::CarriedPart;
 use crate::claims::{claim_fault, cost_of};
 use crate::fault::{CheckFault, CheckFaultKind};
 use crate::labels::numbers_in;
@@ -27,58 +26,95 @@ use pmap_text::{MapText, PrefixList};
 use prefix_keys::{Block, Version};
 use std::alloc::{AllocError, Global};
 
-// Checks the node and those below it, where the node has this number and stands for the block, and the last part of `own`,
-// which begins at `start`, has a say in it. That part is let go, and `other` takes parts for a while, so that of the parts
-// on the way down only those of the upper halves to come lie at once, and of these no two have one statement's end. The
-// answer is the number of the node that comes next.
-fn check_node(
-    sources: &Sources,
-    own: &mut PartStack,
-    start: PartStart,
-    other: &mut PartStack,
-    node: &Node,
+// A node of the certificate with its number and the block that it stands for.
+#[derive(Clone, Copy)]
+struct Place<'a> {
+    node: &'a Node,
     block: Block,
     number: u64,
+}
+
+// Checks the node and those below it, where the last part of `own`, which begins at `start`, has a say in its block. That
+// part is let go, and `lower` and `upper` take those of the halves for a while. So of the parts on the way down only those
+// of the upper halves to come lie at once, and of these no two have one statement's end. The answer is the number of the
+// node that comes next.
+fn check_node<'a>(
+    sources: &Sources,
+    own: &mut PartStack<'a>,
+    start: PartStart,
+    lower: &mut PartStack<'a>,
+    upper: &mut PartStack<'a>,
+    place: Place,
 ) -> Result<u64, CheckFault>
     requires sources { AreSources sources.now }
-    requires statements { start.statements ≤ length own.old.statements.items }
-    requires entries { start.entries ≤ length own.old.entries.items }
-    requires statements_part { AreStatementsOf sources.now.map.now (drop start.statements own.old.statements.items) }
-    requires entries_part { AreEntriesOf sources.now.list.now (drop start.entries own.old.entries.items) }
-    requires version { block.version ≡ sources.now.map.now.version }
-    requires form { HasNumberForm (length sources.now.certificate.now.labels) node.now (width_of block.version - block.len) }
-    ensures own_statements { OnOk result (own.new.statements.items ≡ take start.statements own.old.statements.items) }
-    ensures own_entries { OnOk result (own.new.entries.items ≡ take start.entries own.old.entries.items) }
-    ensures other_statements { OnOk result (other.new.statements.items ≡ other.old.statements.items) }
-    ensures other_entries { OnOk result (other.new.entries.items ≡ other.old.entries.items) }
-    ensures ok { IfOk result (λ next. (k : ℕ) → told k ≡ number →
-        (next ≡ told (k + node_count (tree_of sources.now.certificate.now.labels node.now)))
-        × (node_fault (map_with sources.now.map.now (drop start.statements own.old.statements.items)) (prefixes_with sources.now.list.now (drop start.entries own.old.entries.items))
-        (tree_of sources.now.certificate.now.labels node.now) k block.len (number_of block) ≡ None)) }
-    ensures err { IfErr result (λ fault. fault.kind ≢ NoMemory → (k : ℕ) → told k ≡ number →
-        node_fault (map_with sources.now.map.now (drop start.statements own.old.statements.items)) (prefixes_with sources.now.list.now (drop start.entries own.old.entries.items))
-        (tree_of sources.now.certificate.now.labels node.now) k block.len (number_of block) ≡ Some fault) }
+    requires statements { start.statements ≤ length (named own.old.statements.items) }
+    requires entries { start.entries ≤ length (named own.old.entries.items) }
+    requires statements_part { AreStatementsOf sources.now.map.now (drop start.statements (named own.old.statements.items)) }
+    requires entries_part { AreEntriesOf sources.now.list.now (drop start.entries (named own.old.entries.items)) }
+    requires version { place.block.version ≡ sources.now.map.now.version }
+    requires form { HasNumberForm (length sources.now.certificate.now.labels) place.node.now (width_of place.block.version - place.block.len) }
+    ensures own_statements { OnOk result (named own.new.statements.items ≡ take start.statements (named own.old.statements.items)) }
+    ensures own_entries { OnOk result (named own.new.entries.items ≡ take start.entries (named own.old.entries.items)) }
+    ensures lower_statements { OnOk result (named lower.new.statements.items ≡ named lower.old.statements.items) }
+    ensures lower_entries { OnOk result (named lower.new.entries.items ≡ named lower.old.entries.items) }
+    ensures upper_statements { OnOk result (named upper.new.statements.items ≡ named upper.old.statements.items) }
+    ensures upper_entries { OnOk result (named upper.new.entries.items ≡ named upper.old.entries.items) }
+    ensures ok { IfOk result (λ next. (k : ℕ) → told k ≡ place.entry.number →
+        (next ≡ told (k + node_count (tree_of sources.now.certificate.now.labels place.entry.node.now)))
+        × (node_fault (map_with sources.now.map.now (drop start.statements (named own.old.statements.items))) (prefixes_with sources.now.list.now (drop start.entries (named own.old.entries.items)))
+        (tree_of sources.now.certificate.now.labels place.entry.node.now) k place.entry.block.len (number_of place.entry.block) ≡ None)) }
+    ensures err { IfErr result (λ fault. fault.kind ≢ NoMemory → (k : ℕ) → told k ≡ place.entry.number →
+        node_fault (map_with sources.now.map.now (drop start.statements (named own.old.statements.items))) (prefixes_with sources.now.list.now (drop start.entries (named own.old.entries.items)))
+        (tree_of sources.now.certificate.now.labels place.entry.node.now) k place.entry.block.len (number_of place.entry.block) ≡ Some fault) }
     ensures memory { IfErr result (λ fault. fault.kind ≡ NoMemory → fault.node ≡ 0) }
 {
-    match node {
+    match place.node {
         Node::Leaf(id) => {
-            let fault = leaf_fault(sources, own.last(start), &block, *id);
+            let fault = leaf_fault(sources, own.last(start), &place.block, *id);
             own.cut(start);
             match fault {
-                Some(kind) => Err(CheckFault { kind, node: number }),
-                None => Ok(number.saturating_add(1)),
+                Some(kind) => Err(CheckFault {
+                    kind,
+                    node: place.number,
+                }),
+                None => Ok(place.number.saturating_add(1)),
             }
         }
         Node::Inner { left, right, .. } => {
-            let Some((low, high)) = block.halves() else {
+            let Some((low, high)) = place.block.halves() else {
                 unreachable!()
             };
-            let (upper, lower) = divide(own, start, other, &low, &high)?;
-            let next = number.saturating_add(1);
-            let next = check_node(sources, other, lower, own, left, low, next)?;
-            let next = check_node(sources, other, upper, own, right, high, next)?;
-            match claim_fault(&sources.certificate.labels, node, left, right) {
-                Some(kind) => Err(CheckFault { kind, node: number }),
+            let (low_start, high_start) = divide(own, start, lower, upper, &low, &high)?;
+            let next = place.number.saturating_add(1);
+            let next = check_node(
+                sources,
+                lower,
+                low_start,
+                own,
+                upper,
+                Place {
+                    node: left,
+                    block: low,
+                    number: next,
+                },
+            )?;
+            let next = check_node(
+                sources,
+                upper,
+                high_start,
+                own,
+                lower,
+                Place {
+                    node: right,
+                    block: high,
+                    number: next,
+                },
+            )?;
+            match claim_fault(&sources.certificate.labels, place.node, left, right) {
+                Some(kind) => Err(CheckFault {
+                    kind,
+                    node: place.number,
+                }),
                 None => Ok(next),
             }
         }
@@ -120,16 +156,20 @@ fn check_nodes(
         list_numbers: numbers_in(alloc, &list.labels, &certificate.labels)?,
     };
     let whole = whole_space(map.version);
-    let part = CarriedPart {
-        statements: map.statements.as_slice(),
-        entries: list.entries.as_slice(),
+    let mut own = PartStack::whole(alloc, map.statements.as_slice(), list.entries.as_slice())?;
+    let mut lower = PartStack::new(alloc);
+    let mut upper = PartStack::new(alloc);
+    let start = PartStart {
+        statements: 0,
+        entries: 0,
     };
-    let mut own = PartStack::new(alloc);
-    let mut other = PartStack::new(alloc);
-    let start = own.end();
-    own.add(part, &whole)?;
     let root = certificate.root();
-    check_node(&sources, &mut own, start, &mut other, root, whole, 1)?;
+    let place = Place {
+        node: root,
+        block: whole,
+        number: 1,
+    };
+    check_node(&sources, &mut own, start, &mut lower, &mut upper, place)?;
     Ok(())
 }
 

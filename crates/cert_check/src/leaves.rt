@@ -7,7 +7,7 @@ ghost use Rattle.pmap_text.specs.MapText.{mapping_of, text_at};
 ghost use Rattle.cert_check.specs.Carrying.{number_of};
 ghost use Rattle.cert_check.specs.Checking.{is_decided, is_label_of, leaf_fault as leaf_fault_of};
 ghost use Rattle.cert_check.specs.Kept.{AreSources, IsPartOf};
-ghost use Rattle.cert_check.specs.Sources.{AreEntriesOf, AreStatementsOf, covers_whole as covers_whole_of, greatest, is_inside as is_inside_of, map_with, prefixes_with};
+ghost use Rattle.cert_check.specs.Sources.{AreEntriesOf, AreStatementsOf, covers_whole as covers_whole_of, greatest, is_inside as is_inside_of, map_with, named, prefixes_with};
 
 use crate::carried_part::CarriedPart;
 use crate::carrying::{covers_whole, is_inside, longest_covering, meets, spans};
@@ -17,30 +17,30 @@ use pmap_text::{Entry, LabelId, Statement};
 use prefix_keys::Block;
 
 // The last of the statements that meets the block.
-fn last_meeting(statements: &[Statement], block: &Block) -> Option<Statement>
-    requires { All (λ s. s.span.low.version ≡ block.now.version) statements.now }
+fn last_meeting(statements: &[&Statement], block: &Block) -> Option<Statement>
+    requires { All (λ s. s.span.low.version ≡ block.now.version) (named statements.now) }
     ensures last { (table : List Label) → option_map (mapping_of table) result
-        ≡ last_such (meets_of (width_of block.now.version) block.now.len (number_of block.now)) (map (mapping_of table) statements.now) }
-    ensures among { IfSome result (Contains statements.now) }
+        ≡ last_such (meets_of (width_of block.now.version) block.now.len (number_of block.now)) (map (mapping_of table) (named statements.now)) }
+    ensures among { IfSome result (Contains (named statements.now)) }
 {
     let mut left = statements.len();
     while left > 0 {
         left -= 1;
         let statement = statements[left];
-        if meets(&statement, block) {
-            return Some(statement);
+        if meets(statement, block) {
+            return Some(*statement);
         }
     }
     None
 }
 
 // Whether the map with these statements settles the block with the certificate's label.
-fn settles(sources: &Sources, statements: &[Statement], block: &Block, id: LabelId) -> bool
+fn settles(sources: &Sources, statements: &[&Statement], block: &Block, id: LabelId) -> bool
     requires sources { AreSources sources.now }
-    requires statements { AreStatementsOf sources.now.map.now statements.now }
+    requires statements { AreStatementsOf sources.now.map.now (named statements.now) }
     requires version { block.now.version ≡ sources.now.map.now.version }
     requires known { id.0 < length sources.now.certificate.now.labels }
-    ensures { result ≡ is_label_of (settled_label (map_with sources.now.map.now statements.now) block.now.len (number_of block.now))
+    ensures { result ≡ is_label_of (settled_label (map_with sources.now.map.now (named statements.now)) block.now.len (number_of block.now))
         (text_at sources.now.certificate.now.labels id.0) }
 {
     match last_meeting(statements, block) {
@@ -63,39 +63,44 @@ fn is_covering(entry: &Entry, block: &Block, len: u32) -> bool
 }
 
 // The first of the entries that cover the block and have the length.
-fn first_covering(entries: &[Entry], block: &Block, len: u32) -> Option<Entry>
-    ensures { result ≡ find (λ e. covers_whole_of block.now e && e.block.len == len) entries.now }
+fn first_covering(entries: &[&Entry], block: &Block, len: u32) -> Option<Entry>
+    ensures { result ≡ find (λ e. covers_whole_of block.now e && e.block.len == len) (named entries.now) }
 {
     for entry in entries {
-        if is_covering(entry, block, len) {
-            return Some(*entry);
+        if is_covering(*entry, block, len) {
+            return Some(**entry);
         }
     }
     None
 }
 
 // The first of the longest entries that cover the block.
-fn longest_entry(entries: &[Entry], block: &Block) -> Option<Entry>
+fn longest_entry(entries: &[&Entry], block: &Block) -> Option<Entry>
     ensures { result ≡ find (λ e. covers_whole_of block.now e
-        && e.block.len == greatest (covers_whole_of block.now) entries.now) entries.now }
+        && e.block.len == greatest (covers_whole_of block.now) (named entries.now)) (named entries.now) }
 {
     let longest = longest_covering(entries, block);
     first_covering(entries, block, longest)
 }
 
-fn has_inside(entries: &[Entry], block: &Block) -> bool
-    ensures { result ≡ list_any (is_inside_of block.now) entries.now }
+fn has_inside(entries: &[&Entry], block: &Block) -> bool
+    ensures { result ≡ list_any (is_inside_of block.now) (named entries.now) }
 {
-    entries.iter().any(|entry| is_inside(entry, block))
+    for entry in entries {
+        if is_inside(*entry, block) {
+            return true;
+        }
+    }
+    false
 }
 
 // Whether the list with these entries decides the whole block alike by the certificate's label.
-fn decides(sources: &Sources, entries: &[Entry], block: &Block, id: LabelId) -> bool
+fn decides(sources: &Sources, entries: &[&Entry], block: &Block, id: LabelId) -> bool
     requires sources { AreSources sources.now }
-    requires entries { AreEntriesOf sources.now.list.now entries.now }
+    requires entries { AreEntriesOf sources.now.list.now (named entries.now) }
     requires version { block.now.version ≡ sources.now.map.now.version }
     requires known { id.0 < length sources.now.certificate.now.labels }
-    ensures { result ≡ is_decided (width_of block.now.version) (prefixes_with sources.now.list.now entries.now) block.now.len (number_of block.now)
+    ensures { result ≡ is_decided (width_of block.now.version) (prefixes_with sources.now.list.now (named entries.now)) block.now.len (number_of block.now)
         (text_at sources.now.certificate.now.labels id.0) }
 {
     if has_inside(entries, block) {
@@ -118,7 +123,7 @@ pub fn leaf_fault(
     requires part { IsPartOf sources.now part }
     requires version { block.now.version ≡ sources.now.map.now.version }
     requires known { id.0 < length sources.now.certificate.now.labels }
-    ensures { result ≡ leaf_fault_of (map_with sources.now.map.now part.entry.statements.now) (prefixes_with sources.now.list.now part.entry.entries.now)
+    ensures { result ≡ leaf_fault_of (map_with sources.now.map.now (named part.entry.statements.now)) (prefixes_with sources.now.list.now (named part.entry.entries.now))
         block.now.len (number_of block.now) (text_at sources.now.certificate.now.labels id.0) }
 {
     if !settles(sources, part.statements, block, id) {

@@ -12,10 +12,12 @@ mod carrying;
 mod checking;
 mod claims;
 mod fault;
+mod halves;
 mod labels;
 pub mod laws;
 mod leaves;
 mod part_stack;
+mod references;
 mod sources;
 
 pub use carrying::{carried, carried_entries};

@@ -1,18 +1,21 @@
 //! The parts of blocks that wait to be checked, one behind the other.
 ghost use Rattle.std.specs.Prelude.{◌≡◌, ◌≤◌, ◌++◌, drop, length, take, IfOk, OnOk};
 ghost use Rattle.cert_check.specs.Carrying.{carried_to, entries_carried_to};
+ghost use Rattle.cert_check.specs.Sources.{named};
 
 use crate::carried_part::CarriedPart;
-use crate::carrying::{add_carried, add_carried_entries};
+use crate::halves::{add_entries, add_statements};
+use crate::references::references;
 use pmap_text::{Entry, Statement};
 use prefix_keys::Block;
 use std::alloc::{AllocError, Global};
 
-/// The statements and entries of several blocks, those of one block behind those of the block before.
+/// The statements and entries of several blocks, those of one block behind those of the block before. They are named, not
+/// copied, since most have a say in many blocks.
 #[derive(Drop)]
-pub struct PartStack {
-    pub statements: Vec<Statement>,
-    pub entries: Vec<Entry>,
+pub struct PartStack<'a> {
+    pub statements: Vec<&'a Statement>,
+    pub entries: Vec<&'a Entry>,
 }
 
 /// Where the part of a block begins.
@@ -22,22 +25,34 @@ pub struct PartStart {
     pub entries: usize,
 }
 
-impl PartStack {
+impl<'a> PartStack<'a> {
     /// No part.
-    pub fn new(alloc: Global) -> PartStack
-        ensures statements { length result.statements.items ≡ 0 }
-        ensures entries { length result.entries.items ≡ 0 }
-    {
+    pub fn new(alloc: Global) -> PartStack<'a> {
         PartStack {
             statements: Vec::new(alloc),
             entries: Vec::new(alloc),
         }
     }
 
+    /// One part, of all these statements and entries.
+    pub fn whole(
+        alloc: Global,
+        statements: &'a [Statement],
+        entries: &'a [Entry],
+    ) -> Result<PartStack<'a>, AllocError>
+        ensures statements { IfOk result (λ stack. named stack.statements.items ≡ statements.now) }
+        ensures entries { IfOk result (λ stack. named stack.entries.items ≡ entries.now) }
+    {
+        Ok(PartStack {
+            statements: references(alloc, statements)?,
+            entries: references(alloc, entries)?,
+        })
+    }
+
     /// Where one more part would begin.
     pub fn end(&self) -> PartStart
-        ensures statements { result.statements ≡ length self.now.statements.items }
-        ensures entries { result.entries ≡ length self.now.entries.items }
+        ensures statements { result.statements ≡ length (named self.now.statements.items) }
+        ensures entries { result.entries ≡ length (named self.now.entries.items) }
     {
         PartStart {
             statements: self.statements.len(),
@@ -46,11 +61,11 @@ impl PartStack {
     }
 
     /// The last part, where it begins at `start`.
-    pub fn last(&self, start: PartStart) -> CarriedPart<'_>
-        requires statements { start.statements ≤ length self.now.statements.items }
-        requires entries { start.entries ≤ length self.now.entries.items }
-        ensures statements { result.statements.now ≡ drop start.statements self.now.statements.items }
-        ensures entries { result.entries.now ≡ drop start.entries self.now.entries.items }
+    pub fn last(&self, start: PartStart) -> CarriedPart<'_, 'a>
+        requires statements { start.statements ≤ length (named self.now.statements.items) }
+        requires entries { start.entries ≤ length (named self.now.entries.items) }
+        ensures statements { named result.statements.now ≡ drop start.statements (named self.now.statements.items) }
+        ensures entries { named result.entries.now ≡ drop start.entries (named self.now.entries.items) }
     {
         CarriedPart {
             statements: &self.statements[start.statements..],
@@ -60,56 +75,60 @@ impl PartStack {
 
     /// Lets go the last part, where it begins at `start`.
     pub fn cut(&mut self, start: PartStart)
-        ensures statements { self.new.statements.items ≡ take start.statements self.old.statements.items }
-        ensures entries { self.new.entries.items ≡ take start.entries self.old.entries.items }
+        ensures statements { named self.new.statements.items ≡ take start.statements (named self.old.statements.items) }
+        ensures entries { named self.new.entries.items ≡ take start.entries (named self.old.entries.items) }
     {
         self.statements.truncate(start.statements);
         self.entries.truncate(start.entries);
     }
-
-    /// One more part: of the given one what has a say in the block.
-    pub fn add(&mut self, part: CarriedPart, block: &Block) -> Result<(), AllocError>
-        ensures statements { OnOk result (self.new.statements.items ≡ self.old.statements.items ++ carried_to block.now part.entry.statements.now) }
-        ensures entries { OnOk result (self.new.entries.items ≡ self.old.entries.items ++ entries_carried_to block.now part.entry.entries.now) }
-    {
-        add_carried(&mut self.statements, part.statements, block)?;
-        add_carried_entries(&mut self.entries, part.entries, block)?;
-        Ok(())
-    }
 }
 
-/// Gives the last part of `own`, where it begins at `start`, to `other`: of it first what has a say in the upper half of
-/// its block, then what has a say in the lower half. The answer is where these two begin.
-pub fn divide(
-    own: &mut PartStack,
+/// Divides the last part of `own`, where it begins at `start`, and lets it go: `lower` gets what has a say in the lower
+/// half of its block, and `upper` what has a say in the upper half. The answer is where these two begin.
+pub fn divide<'a>(
+    own: &mut PartStack<'a>,
     start: PartStart,
-    other: &mut PartStack,
+    lower: &mut PartStack<'a>,
+    upper: &mut PartStack<'a>,
     low: &Block,
     high: &Block,
 ) -> Result<(PartStart, PartStart), AllocError>
-    requires statements { start.statements ≤ length own.old.statements.items }
-    requires entries { start.entries ≤ length own.old.entries.items }
-    ensures own_statements { OnOk result (own.new.statements.items ≡ take start.statements own.old.statements.items) }
-    ensures own_entries { OnOk result (own.new.entries.items ≡ take start.entries own.old.entries.items) }
-    ensures low_within { IfOk result (λ starts. (starts.1.statements ≤ length other.new.statements.items) × (starts.1.entries ≤ length other.new.entries.items)) }
-    ensures high_within { IfOk result (λ starts. (starts.0.statements ≤ length (take starts.1.statements other.new.statements.items))
-        × (starts.0.entries ≤ length (take starts.1.entries other.new.entries.items))) }
-    ensures low_statements { IfOk result (λ starts. drop starts.1.statements other.new.statements.items
-        ≡ carried_to low.now (drop start.statements own.old.statements.items)) }
-    ensures low_entries { IfOk result (λ starts. drop starts.1.entries other.new.entries.items
-        ≡ entries_carried_to low.now (drop start.entries own.old.entries.items)) }
-    ensures high_statements { IfOk result (λ starts. drop starts.0.statements (take starts.1.statements other.new.statements.items)
-        ≡ carried_to high.now (drop start.statements own.old.statements.items)) }
-    ensures high_entries { IfOk result (λ starts. drop starts.0.entries (take starts.1.entries other.new.entries.items)
-        ≡ entries_carried_to high.now (drop start.entries own.old.entries.items)) }
-    ensures other_statements { IfOk result (λ starts. take starts.0.statements (take starts.1.statements other.new.statements.items) ≡ other.old.statements.items) }
-    ensures other_entries { IfOk result (λ starts. take starts.0.entries (take starts.1.entries other.new.entries.items) ≡ other.old.entries.items) }
+    requires statements { start.statements ≤ length (named own.old.statements.items) }
+    requires entries { start.entries ≤ length (named own.old.entries.items) }
+    ensures own_statements { OnOk result (named own.new.statements.items ≡ take start.statements (named own.old.statements.items)) }
+    ensures own_entries { OnOk result (named own.new.entries.items ≡ take start.entries (named own.old.entries.items)) }
+    ensures low_within { IfOk result (λ starts. (starts.0.statements ≤ length (named lower.new.statements.items)) × (starts.0.entries ≤ length (named lower.new.entries.items))) }
+    ensures high_within { IfOk result (λ starts. (starts.1.statements ≤ length (named upper.new.statements.items)) × (starts.1.entries ≤ length (named upper.new.entries.items))) }
+    ensures low_statements { IfOk result (λ starts. drop starts.0.statements (named lower.new.statements.items)
+        ≡ carried_to low.now (drop start.statements (named own.old.statements.items))) }
+    ensures low_entries { IfOk result (λ starts. drop starts.0.entries (named lower.new.entries.items)
+        ≡ entries_carried_to low.now (drop start.entries (named own.old.entries.items))) }
+    ensures high_statements { IfOk result (λ starts. drop starts.1.statements (named upper.new.statements.items)
+        ≡ carried_to high.now (drop start.statements (named own.old.statements.items))) }
+    ensures high_entries { IfOk result (λ starts. drop starts.1.entries (named upper.new.entries.items)
+        ≡ entries_carried_to high.now (drop start.entries (named own.old.entries.items))) }
+    ensures lower_statements { IfOk result (λ starts. take starts.0.statements (named lower.new.statements.items) ≡ named lower.old.statements.items) }
+    ensures lower_entries { IfOk result (λ starts. take starts.0.entries (named lower.new.entries.items) ≡ named lower.old.entries.items) }
+    ensures upper_statements { IfOk result (λ starts. take starts.1.statements (named upper.new.statements.items) ≡ named upper.old.statements.items) }
+    ensures upper_entries { IfOk result (λ starts. take starts.1.entries (named upper.new.entries.items) ≡ named upper.old.entries.items) }
 {
     let part = own.last(start);
-    let upper = other.end();
-    other.add(part, high)?;
-    let lower = other.end();
-    other.add(part, low)?;
+    let low_start = lower.end();
+    let high_start = upper.end();
+    add_statements(
+        &mut lower.statements,
+        &mut upper.statements,
+        part.statements,
+        low,
+        high,
+    )?;
+    add_entries(
+        &mut lower.entries,
+        &mut upper.entries,
+        part.entries,
+        low,
+        high,
+    )?;
     own.cut(start);
-    Ok((upper, lower))
+    Ok((low_start, high_start))
 }

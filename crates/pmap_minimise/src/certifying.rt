@@ -1,5 +1,5 @@
 //! The certificate's nodes, from the leaves of a trie up.
-ghost use Rattle.std.specs.Prelude.{◌≡◌, ◌+◌, ◌^◌, ◌<◌, ◌≤◌, ◌++◌, ◌∷◌, [], All, IfOk, OnOk, IsSome, length};
+ghost use Rattle.std.specs.Prelude.{◌≡◌, ◌+◌, ◌^◌, ◌<◌, ◌≤◌, All, IfOk, OnOk, IsSome, length};
 ghost use Rattle.pmap_cert.specs.CertificateForm.{IsRising};
 ghost use Rattle.pmap_minimise.specs.Certified.{IsCertified};
 ghost use Rattle.pmap_minimise.specs.Outline.{IsAdded, IsNodeFor, IsOutline, IsReady, Plan, parts_of};
@@ -7,6 +7,7 @@ ghost use Rattle.pmap_minimise.specs.Numbers.{IsExact, IsJoined, cost_of, number
 
 use crate::outline::{Part, push_parts};
 use crate::sets::{exact_set, label_set};
+use crate::stack::pop;
 use label_trie::Cursor;
 use pmap_cert::{LabelSet, Node};
 use pmap_text::LabelId;
@@ -64,17 +65,6 @@ fn joined(alloc: Global, low: Node, high: Node) -> Result<Node, AllocError>
     })
 }
 
-// Takes the node off the top of a stack.
-fn pop_node(nodes: &mut Vec<Node>) -> Node
-    requires { 0 < length nodes.old.items }
-    ensures { nodes.old.items ≡ nodes.new.items ++ result ∷ [] }
-{
-    match nodes.pop() {
-        Some(node) => node,
-        None => unreachable!(),
-    }
-}
-
 // Puts the node of a part onto the stack, on which the nodes of its halves stand, the lower one last.
 fn push_node(alloc: Global, nodes: &mut Vec<Node>, part: Part) -> Result<(), AllocError>
     requires { IsReady part nodes.old.items }
@@ -85,8 +75,8 @@ fn push_node(alloc: Global, nodes: &mut Vec<Node>, part: Part) -> Result<(), All
             nodes.push(Node::Leaf(id))?;
         }
         Part::Divided => {
-            let low = pop_node(nodes);
-            let high = pop_node(nodes);
+            let low = pop(nodes);
+            let high = pop(nodes);
             let node = joined(alloc, low, high)?;
             nodes.push(node)?;
         }
@@ -106,7 +96,7 @@ fn assembled(alloc: Global, parts: &[Part]) -> Result<Node, AllocError>
         left -= 1;
         push_node(alloc, &mut nodes, parts[left])?;
     }
-    Ok(pop_node(&mut nodes))
+    Ok(pop(&mut nodes))
 }
 
 /// The certificate's node of a place of a map's trie, with those below it.

@@ -1,5 +1,5 @@
 //! The sets that the inner nodes of a certificate claim, without these nodes: all that the list is told by.
-ghost use Rattle.std.specs.Prelude.{◌≡◌, ◌^◌, ◌<◌, ◌≤◌, ◌++◌, ◌∷◌, [], IfOk, OnOk, length};
+ghost use Rattle.std.specs.Prelude.{◌≡◌, ◌^◌, ◌≤◌, IfOk, OnOk, length};
 ghost use Rattle.pmap_cert.specs.CertificateForm.{IsRising};
 ghost use Rattle.pmap_minimise.specs.Kept.{AreKept, sets_in};
 ghost use Rattle.pmap_minimise.specs.Claiming.{AreSetsOf, IsExactOf, IsHalfAdded, IsHalfIn, IsHalfJoined, IsHalfReady, claimed_by};
@@ -9,6 +9,7 @@ ghost use Rattle.pmap_minimise.specs.Outline.{IsOutline};
 use crate::kept::Sets;
 use crate::outline::Part;
 use crate::sets::{SmallSet, exact_set};
+use crate::stack::pop;
 use pmap_text::LabelId;
 use std::alloc::{AllocError, Global};
 use std::slice;
@@ -61,17 +62,6 @@ fn join(alloc: Global, sets: &mut Sets, low: Half, high: Half) -> Result<Half, A
     Ok(Half::Claiming(number))
 }
 
-// Takes the half off the top of a stack.
-fn pop_half(halves: &mut Vec<Half>) -> Half
-    requires { 0 < length halves.old.items }
-    ensures { halves.old.items ≡ halves.new.items ++ result ∷ [] }
-{
-    match halves.pop() {
-        Some(half) => half,
-        None => unreachable!(),
-    }
-}
-
 // Puts what a part's block claims onto the stack, on which the halves of a divided one stand, the lower one last.
 fn push_half(
     alloc: Global,
@@ -86,8 +76,8 @@ fn push_half(
     match part {
         Part::Labelled(id) => halves.push(Half::Labelled(id))?,
         Part::Divided => {
-            let low = pop_half(halves);
-            let high = pop_half(halves);
+            let low = pop(halves);
+            let high = pop(halves);
             let half = join(alloc, sets, low, high)?;
             halves.push(half)?;
         }

@@ -14,6 +14,7 @@ mod listing;
 pub mod minimal;
 mod outline;
 mod sets;
+mod stack;
 
 pub use minimal::{Minimal, minimise, shortest};
 

@@ -1,5 +1,5 @@
 //! The entries of a map's shortest list, from the root down, by the sets that its certificate's nodes claim.
-ghost use Rattle.std.specs.Prelude.{◌≡◌, ◌^◌, ◌<◌, ◌≤◌, ◌++◌, ◌∷◌, [], All, IfOk, IsSome, OnOk, length};
+ghost use Rattle.std.specs.Prelude.{◌^◌, ◌<◌, ◌≤◌, All, IfOk, IsSome, OnOk, length};
 ghost use Rattle.prefix_keys.specs.Version.{width_of};
 ghost use Rattle.pmap_minimise.specs.Listing.{AddsListed, AreHalvesPut, HasClaims, IsListed};
 
@@ -7,6 +7,7 @@ use crate::claiming::claimed;
 use crate::entering::push_own;
 use crate::kept::Sets;
 use crate::outline::{Part, push_parts};
+use crate::stack::pop;
 use label_trie::Cursor;
 use pmap_text::{Entry, LabelId};
 use prefix_keys::Block;
@@ -39,17 +40,6 @@ fn push_halves(heirs: &mut Vec<Heir>, block: Block, label: LabelId) -> Result<()
     Ok(())
 }
 
-// Takes the heir off the top of a stack.
-fn pop_heir(heirs: &mut Vec<Heir>) -> Heir
-    requires { 0 < length heirs.old.items }
-    ensures { heirs.old.items ≡ heirs.new.items ++ result ∷ [] }
-{
-    match heirs.pop() {
-        Some(heir) => heir,
-        None => unreachable!(),
-    }
-}
-
 // Adds the entries of a block with the outline of its trie and the sets that its certificate's nodes claim, by rising first
 // address. The parts are met from the first to the last, and so the sets from the last to the first.
 fn push_listed(
@@ -69,7 +59,7 @@ fn push_listed(
     })?;
     let mut left = sets.len();
     for part in parts {
-        let heir = pop_heir(&mut heirs);
+        let heir = pop(&mut heirs);
         match part {
             Part::Labelled(id) => {
                 push_own(entries, slice::from_ref(id), heir.block, heir.inherited)?;

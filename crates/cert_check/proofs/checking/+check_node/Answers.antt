@@ -7,7 +7,7 @@ use Rattle.pmap_cert.specs.Node.{tree_of}
 use Rattle.pmap_cert.specs.declared.node.Node.{Node}
 use Rattle.cert_check.specs.Carrying.{number_of}
 use Rattle.cert_check.specs.Checking.{claim_fault, node_count, told}
-use Rattle.cert_check.specs.Sources.{map_with, prefixes_with}
+use Rattle.cert_check.specs.Sources.{map_with, named, prefixes_with}
 use Rattle.cert_check.proofs.Nodes.{IsInner, IsPassedOn, at-number, inner-count, inner-form, inner-high, inner-low, inner-own, passed-entries, passed-form, passed-on, passed-statements, told-next}
 use Rattle.cert_check.proofs.checking.+check_node.Goals as goal
 
@@ -16,18 +16,18 @@ check_node-requires t c =
     let labels = c.args.sources.now.certificate.now.labels in
     let m = c.args.sources.now.map.now in
     let l = c.args.sources.now.list.now in
-    let ss = drop c.args.start.statements c.args.own.now.statements.items in
-    let es = drop c.args.start.entries c.args.own.now.entries.items in
-    let block = c.args.block in
+    let ss = drop c.args.start.statements (named c.args.own.now.statements.items) in
+    let es = drop c.args.start.entries (named c.args.own.now.entries.items) in
+    let block = c.args.place.block in
     let q = number_of block in
-    let node = c.args.node.now in
+    let node = c.args.place.node.now in
     let left = c.in-Inner.left.value in
     let right = c.in-Inner.right.value in
     let inner : IsInner node left right = subst (λ (x : Node). IsInner x left right) (sym c.in-Inner.is) (refl, refl) in
     let form = inner-form (length labels) (width_of block.version - block.len) node left right inner c.requires.form in
     let low = c.in-Some-halves.low in
-    let low_ss = drop c.in_ok-upper-in-Inner.lower.statements c.divide.new.other.statements.items in
-    let low_es = drop c.in_ok-upper-in-Inner.lower.entries c.divide.new.other.entries.items in
+    let low_ss = drop c.in_ok-low_start-in-Inner.low_start.statements (named c.divide.new.lower.statements.items) in
+    let low_es = drop c.in_ok-low_start-in-Inner.low_start.entries (named c.divide.new.lower.entries.items) in
     let low_part : IsPassedOn m l ss es block low (2 * q) low_ss low_es = record {
       version = c.requires.version;
       list_version = c.requires.sources.list_version;
@@ -36,14 +36,14 @@ check_node-requires t c =
       half_version = c.in-Some-halves.ensures.versions.0;
       len = c.in-Some-halves.ensures.lens.0;
       number = c.in-Some-halves.ensures.lower_number;
-      statements_are = c.in_ok-upper-in-Inner.ensures.low_statements;
-      entries_are = c.in_ok-upper-in-Inner.ensures.low_entries;
+      statements_are = c.in_ok-low_start-in-Inner.ensures.low_statements;
+      entries_are = c.in_ok-low_start-in-Inner.ensures.low_entries;
     } in
     let width : width_of low.version ≡ width_of block.version = ap width_of low_part.half_version in (
       omega (arith, width, low_part.len, form.1),
       (
         c.requires.sources,
-        (c.in_ok-upper-in-Inner.ensures.low_within.0, (c.in_ok-upper-in-Inner.ensures.low_within.1, (passed-statements m l ss es block low (2 * q) low_ss low_es low_part, (passed-entries m l ss es block low (2 * q) low_ss low_es low_part, (low_part.half_version ∙ c.requires.version, passed-form m l ss es block low (2 * q) low_ss low_es low_part (length labels) form.0 c.deref.result.now left c.deref.ensures form.1 form.2))))),
+        (c.in_ok-low_start-in-Inner.ensures.low_within.0, (c.in_ok-low_start-in-Inner.ensures.low_within.1, (passed-statements m l ss es block low (2 * q) low_ss low_es low_part, (passed-entries m l ss es block low (2 * q) low_ss low_es low_part, (low_part.half_version ∙ c.requires.version, passed-form m l ss es block low (2 * q) low_ss low_es low_part (length labels) form.0 c.deref.result.now left c.deref.ensures form.1 form.2))))),
       ),
     )
 
@@ -52,18 +52,18 @@ returns-in_err-next-in-Inner-clause-err t c =
     let labels = c.args.sources.now.certificate.now.labels in
     let m = c.args.sources.now.map.now in
     let l = c.args.sources.now.list.now in
-    let ss = drop c.args.start.statements c.args.own.now.statements.items in
-    let es = drop c.args.start.entries c.args.own.now.entries.items in
-    let block = c.args.block in
+    let ss = drop c.args.start.statements (named c.args.own.now.statements.items) in
+    let es = drop c.args.start.entries (named c.args.own.now.entries.items) in
+    let block = c.args.place.block in
     let q = number_of block in
-    let node = c.args.node.now in
+    let node = c.args.place.node.now in
     let left = c.in-Inner.left.value in
     let right = c.in-Inner.right.value in
     let inner : IsInner node left right = subst (λ (x : Node). IsInner x left right) (sym c.in-Inner.is) (refl, refl) in
     let form = inner-form (length labels) (width_of block.version - block.len) node left right inner c.requires.form in
     let low = c.in-Some-halves.low in
-    let low_ss = drop c.in_ok-upper-in-Inner.lower.statements c.divide.new.other.statements.items in
-    let low_es = drop c.in_ok-upper-in-Inner.lower.entries c.divide.new.other.entries.items in
+    let low_ss = drop c.in_ok-low_start-in-Inner.low_start.statements (named c.divide.new.lower.statements.items) in
+    let low_es = drop c.in_ok-low_start-in-Inner.low_start.entries (named c.divide.new.lower.entries.items) in
     let low_part : IsPassedOn m l ss es block low (2 * q) low_ss low_es = record {
       version = c.requires.version;
       list_version = c.requires.sources.list_version;
@@ -72,8 +72,8 @@ returns-in_err-next-in-Inner-clause-err t c =
       half_version = c.in-Some-halves.ensures.versions.0;
       len = c.in-Some-halves.ensures.lens.0;
       number = c.in-Some-halves.ensures.lower_number;
-      statements_are = c.in_ok-upper-in-Inner.ensures.low_statements;
-      entries_are = c.in_ok-upper-in-Inner.ensures.low_entries;
+      statements_are = c.in_ok-low_start-in-Inner.ensures.low_statements;
+      entries_are = c.in_ok-low_start-in-Inner.ensures.low_entries;
     } in
     let p = err_from_is_err_and c.from_residual-in_err-next-in-Inner.result c.from_residual-in_err-next-in-Inner.ensures.1 in
     let fault = c.in_err-next-in-Inner.field-0.0 in
@@ -81,25 +81,25 @@ returns-in_err-next-in-Inner-clause-err t c =
     (λ some k is.
     inner-low labels (map_with m ss) (prefixes_with l es) node left right inner k block.len q fault
     (passed-on m l ss es block low (2 * q) low_ss low_es low_part labels (length labels) form.0 c.deref.result.now left c.deref.ensures form.1 form.2 (k + 1) (Some fault)
-    (c.in_err-next-in-Inner.ensures.err some (k + 1) (told-next k c.args.number is c.saturating_add-next.result c.saturating_add-next.ensures))))
+    (c.in_err-next-in-Inner.ensures.err some (k + 1) (told-next k c.args.place.number is c.saturating_add-next.result c.saturating_add-next.ensures))))
 
 pub check_node-requires-in-Inner : goal.check_node-requires-in-Inner
 check_node-requires-in-Inner t c =
     let labels = c.args.sources.now.certificate.now.labels in
     let m = c.args.sources.now.map.now in
     let l = c.args.sources.now.list.now in
-    let ss = drop c.args.start.statements c.args.own.now.statements.items in
-    let es = drop c.args.start.entries c.args.own.now.entries.items in
-    let block = c.args.block in
+    let ss = drop c.args.start.statements (named c.args.own.now.statements.items) in
+    let es = drop c.args.start.entries (named c.args.own.now.entries.items) in
+    let block = c.args.place.block in
     let q = number_of block in
-    let node = c.args.node.now in
+    let node = c.args.place.node.now in
     let left = c.in-Inner.left.value in
     let right = c.in-Inner.right.value in
     let inner : IsInner node left right = subst (λ (x : Node). IsInner x left right) (sym c.in-Inner.is) (refl, refl) in
     let form = inner-form (length labels) (width_of block.version - block.len) node left right inner c.requires.form in
     let low = c.in-Some-halves.low in
-    let low_ss = drop c.in_ok-upper-in-Inner.lower.statements c.divide.new.other.statements.items in
-    let low_es = drop c.in_ok-upper-in-Inner.lower.entries c.divide.new.other.entries.items in
+    let low_ss = drop c.in_ok-low_start-in-Inner.low_start.statements (named c.divide.new.lower.statements.items) in
+    let low_es = drop c.in_ok-low_start-in-Inner.low_start.entries (named c.divide.new.lower.entries.items) in
     let low_part : IsPassedOn m l ss es block low (2 * q) low_ss low_es = record {
       version = c.requires.version;
       list_version = c.requires.sources.list_version;
@@ -108,12 +108,12 @@ check_node-requires-in-Inner t c =
       half_version = c.in-Some-halves.ensures.versions.0;
       len = c.in-Some-halves.ensures.lens.0;
       number = c.in-Some-halves.ensures.lower_number;
-      statements_are = c.in_ok-upper-in-Inner.ensures.low_statements;
-      entries_are = c.in_ok-upper-in-Inner.ensures.low_entries;
+      statements_are = c.in_ok-low_start-in-Inner.ensures.low_statements;
+      entries_are = c.in_ok-low_start-in-Inner.ensures.low_entries;
     } in
     let high = c.in-Some-halves.high in
-    let high_ss = drop c.in_ok-upper-in-Inner.upper.statements c.check_node.new.own.statements.items in
-    let high_es = drop c.in_ok-upper-in-Inner.upper.entries c.check_node.new.own.entries.items in
+    let high_ss = drop c.in_ok-low_start-in-Inner.high_start.statements (named c.check_node.new.upper.statements.items) in
+    let high_es = drop c.in_ok-low_start-in-Inner.high_start.entries (named c.check_node.new.upper.entries.items) in
     let high_part : IsPassedOn m l ss es block high (2 * q + 1) high_ss high_es = record {
       version = c.requires.version;
       list_version = c.requires.sources.list_version;
@@ -122,14 +122,14 @@ check_node-requires-in-Inner t c =
       half_version = c.in-Some-halves.ensures.versions.1;
       len = c.in-Some-halves.ensures.lens.1;
       number = c.in-Some-halves.ensures.upper_number;
-      statements_are = ap (drop c.in_ok-upper-in-Inner.upper.statements) c.in_ok-next-in-Inner.ensures.own_statements ∙ c.in_ok-upper-in-Inner.ensures.high_statements;
-      entries_are = ap (drop c.in_ok-upper-in-Inner.upper.entries) c.in_ok-next-in-Inner.ensures.own_entries ∙ c.in_ok-upper-in-Inner.ensures.high_entries;
+      statements_are = ap (drop c.in_ok-low_start-in-Inner.high_start.statements) c.in_ok-next-in-Inner.ensures.upper_statements ∙ c.in_ok-low_start-in-Inner.ensures.high_statements;
+      entries_are = ap (drop c.in_ok-low_start-in-Inner.high_start.entries) c.in_ok-next-in-Inner.ensures.upper_entries ∙ c.in_ok-low_start-in-Inner.ensures.high_entries;
     } in
     let width : width_of high.version ≡ width_of block.version = ap width_of high_part.half_version in (
       omega (arith, width, high_part.len, form.1),
       (
         c.requires.sources,
-        (omega (arith, ap length c.in_ok-next-in-Inner.ensures.own_statements, c.in_ok-upper-in-Inner.ensures.high_within.0), (omega (arith, ap length c.in_ok-next-in-Inner.ensures.own_entries, c.in_ok-upper-in-Inner.ensures.high_within.1), (passed-statements m l ss es block high (2 * q + 1) high_ss high_es high_part, (passed-entries m l ss es block high (2 * q + 1) high_ss high_es high_part, (high_part.half_version ∙ c.requires.version, passed-form m l ss es block high (2 * q + 1) high_ss high_es high_part (length labels) form.0 c.deref-in-Inner.result.now right c.deref-in-Inner.ensures form.1 form.3))))),
+        (omega (arith, ap length c.in_ok-next-in-Inner.ensures.upper_statements, c.in_ok-low_start-in-Inner.ensures.high_within.0), (omega (arith, ap length c.in_ok-next-in-Inner.ensures.upper_entries, c.in_ok-low_start-in-Inner.ensures.high_within.1), (passed-statements m l ss es block high (2 * q + 1) high_ss high_es high_part, (passed-entries m l ss es block high (2 * q + 1) high_ss high_es high_part, (high_part.half_version ∙ c.requires.version, passed-form m l ss es block high (2 * q + 1) high_ss high_es high_part (length labels) form.0 c.deref-in-Inner.result.now right c.deref-in-Inner.ensures form.1 form.3))))),
       ),
     )
 
@@ -138,18 +138,18 @@ returns-in_err-next-in-Inner-2-clause-err t c =
     let labels = c.args.sources.now.certificate.now.labels in
     let m = c.args.sources.now.map.now in
     let l = c.args.sources.now.list.now in
-    let ss = drop c.args.start.statements c.args.own.now.statements.items in
-    let es = drop c.args.start.entries c.args.own.now.entries.items in
-    let block = c.args.block in
+    let ss = drop c.args.start.statements (named c.args.own.now.statements.items) in
+    let es = drop c.args.start.entries (named c.args.own.now.entries.items) in
+    let block = c.args.place.block in
     let q = number_of block in
-    let node = c.args.node.now in
+    let node = c.args.place.node.now in
     let left = c.in-Inner.left.value in
     let right = c.in-Inner.right.value in
     let inner : IsInner node left right = subst (λ (x : Node). IsInner x left right) (sym c.in-Inner.is) (refl, refl) in
     let form = inner-form (length labels) (width_of block.version - block.len) node left right inner c.requires.form in
     let low = c.in-Some-halves.low in
-    let low_ss = drop c.in_ok-upper-in-Inner.lower.statements c.divide.new.other.statements.items in
-    let low_es = drop c.in_ok-upper-in-Inner.lower.entries c.divide.new.other.entries.items in
+    let low_ss = drop c.in_ok-low_start-in-Inner.low_start.statements (named c.divide.new.lower.statements.items) in
+    let low_es = drop c.in_ok-low_start-in-Inner.low_start.entries (named c.divide.new.lower.entries.items) in
     let low_part : IsPassedOn m l ss es block low (2 * q) low_ss low_es = record {
       version = c.requires.version;
       list_version = c.requires.sources.list_version;
@@ -158,12 +158,12 @@ returns-in_err-next-in-Inner-2-clause-err t c =
       half_version = c.in-Some-halves.ensures.versions.0;
       len = c.in-Some-halves.ensures.lens.0;
       number = c.in-Some-halves.ensures.lower_number;
-      statements_are = c.in_ok-upper-in-Inner.ensures.low_statements;
-      entries_are = c.in_ok-upper-in-Inner.ensures.low_entries;
+      statements_are = c.in_ok-low_start-in-Inner.ensures.low_statements;
+      entries_are = c.in_ok-low_start-in-Inner.ensures.low_entries;
     } in
     let high = c.in-Some-halves.high in
-    let high_ss = drop c.in_ok-upper-in-Inner.upper.statements c.check_node.new.own.statements.items in
-    let high_es = drop c.in_ok-upper-in-Inner.upper.entries c.check_node.new.own.entries.items in
+    let high_ss = drop c.in_ok-low_start-in-Inner.high_start.statements (named c.check_node.new.upper.statements.items) in
+    let high_es = drop c.in_ok-low_start-in-Inner.high_start.entries (named c.check_node.new.upper.entries.items) in
     let high_part : IsPassedOn m l ss es block high (2 * q + 1) high_ss high_es = record {
       version = c.requires.version;
       list_version = c.requires.sources.list_version;
@@ -172,14 +172,14 @@ returns-in_err-next-in-Inner-2-clause-err t c =
       half_version = c.in-Some-halves.ensures.versions.1;
       len = c.in-Some-halves.ensures.lens.1;
       number = c.in-Some-halves.ensures.upper_number;
-      statements_are = ap (drop c.in_ok-upper-in-Inner.upper.statements) c.in_ok-next-in-Inner.ensures.own_statements ∙ c.in_ok-upper-in-Inner.ensures.high_statements;
-      entries_are = ap (drop c.in_ok-upper-in-Inner.upper.entries) c.in_ok-next-in-Inner.ensures.own_entries ∙ c.in_ok-upper-in-Inner.ensures.high_entries;
+      statements_are = ap (drop c.in_ok-low_start-in-Inner.high_start.statements) c.in_ok-next-in-Inner.ensures.upper_statements ∙ c.in_ok-low_start-in-Inner.ensures.high_statements;
+      entries_are = ap (drop c.in_ok-low_start-in-Inner.high_start.entries) c.in_ok-next-in-Inner.ensures.upper_entries ∙ c.in_ok-low_start-in-Inner.ensures.high_entries;
     } in
     let p = err_from_is_err_and c.from_residual-in_err-next-in-Inner-2.result c.from_residual-in_err-next-in-Inner-2.ensures.1 in
     let fault = c.in_err-next-in-Inner-2.field-0.0 in
     rw (p.1, p.2)
     (λ some k is.
-    let first = c.in_ok-next-in-Inner.ensures.ok (k + 1) (told-next k c.args.number is c.saturating_add-next.result c.saturating_add-next.ensures) in
+    let first = c.in_ok-next-in-Inner.ensures.ok (k + 1) (told-next k c.args.place.number is c.saturating_add-next.result c.saturating_add-next.ensures) in
     let low_none = passed-on m l ss es block low (2 * q) low_ss low_es low_part labels (length labels) form.0 c.deref.result.now left c.deref.ensures form.1 form.2 (k + 1) None first.1 in
     let k2 : ℕ = k + 1 + node_count (tree_of labels left) in
     let told2 : told k2 ≡ c.in_ok-next-in-Inner.next = sym (first.0 ∙ ap (λ (x : Node). told (k + 1 + node_count (tree_of labels x))) c.deref.ensures) in
@@ -192,18 +192,18 @@ returns-in-Some-claim_fault-clause-err t c = λ some k is.
     let labels = c.args.sources.now.certificate.now.labels in
     let m = c.args.sources.now.map.now in
     let l = c.args.sources.now.list.now in
-    let ss = drop c.args.start.statements c.args.own.now.statements.items in
-    let es = drop c.args.start.entries c.args.own.now.entries.items in
-    let block = c.args.block in
+    let ss = drop c.args.start.statements (named c.args.own.now.statements.items) in
+    let es = drop c.args.start.entries (named c.args.own.now.entries.items) in
+    let block = c.args.place.block in
     let q = number_of block in
-    let node = c.args.node.now in
+    let node = c.args.place.node.now in
     let left = c.in-Inner.left.value in
     let right = c.in-Inner.right.value in
     let inner : IsInner node left right = subst (λ (x : Node). IsInner x left right) (sym c.in-Inner.is) (refl, refl) in
     let form = inner-form (length labels) (width_of block.version - block.len) node left right inner c.requires.form in
     let low = c.in-Some-halves.low in
-    let low_ss = drop c.in_ok-upper-in-Inner.lower.statements c.divide.new.other.statements.items in
-    let low_es = drop c.in_ok-upper-in-Inner.lower.entries c.divide.new.other.entries.items in
+    let low_ss = drop c.in_ok-low_start-in-Inner.low_start.statements (named c.divide.new.lower.statements.items) in
+    let low_es = drop c.in_ok-low_start-in-Inner.low_start.entries (named c.divide.new.lower.entries.items) in
     let low_part : IsPassedOn m l ss es block low (2 * q) low_ss low_es = record {
       version = c.requires.version;
       list_version = c.requires.sources.list_version;
@@ -212,12 +212,12 @@ returns-in-Some-claim_fault-clause-err t c = λ some k is.
       half_version = c.in-Some-halves.ensures.versions.0;
       len = c.in-Some-halves.ensures.lens.0;
       number = c.in-Some-halves.ensures.lower_number;
-      statements_are = c.in_ok-upper-in-Inner.ensures.low_statements;
-      entries_are = c.in_ok-upper-in-Inner.ensures.low_entries;
+      statements_are = c.in_ok-low_start-in-Inner.ensures.low_statements;
+      entries_are = c.in_ok-low_start-in-Inner.ensures.low_entries;
     } in
     let high = c.in-Some-halves.high in
-    let high_ss = drop c.in_ok-upper-in-Inner.upper.statements c.check_node.new.own.statements.items in
-    let high_es = drop c.in_ok-upper-in-Inner.upper.entries c.check_node.new.own.entries.items in
+    let high_ss = drop c.in_ok-low_start-in-Inner.high_start.statements (named c.check_node.new.upper.statements.items) in
+    let high_es = drop c.in_ok-low_start-in-Inner.high_start.entries (named c.check_node.new.upper.entries.items) in
     let high_part : IsPassedOn m l ss es block high (2 * q + 1) high_ss high_es = record {
       version = c.requires.version;
       list_version = c.requires.sources.list_version;
@@ -226,10 +226,10 @@ returns-in-Some-claim_fault-clause-err t c = λ some k is.
       half_version = c.in-Some-halves.ensures.versions.1;
       len = c.in-Some-halves.ensures.lens.1;
       number = c.in-Some-halves.ensures.upper_number;
-      statements_are = ap (drop c.in_ok-upper-in-Inner.upper.statements) c.in_ok-next-in-Inner.ensures.own_statements ∙ c.in_ok-upper-in-Inner.ensures.high_statements;
-      entries_are = ap (drop c.in_ok-upper-in-Inner.upper.entries) c.in_ok-next-in-Inner.ensures.own_entries ∙ c.in_ok-upper-in-Inner.ensures.high_entries;
+      statements_are = ap (drop c.in_ok-low_start-in-Inner.high_start.statements) c.in_ok-next-in-Inner.ensures.upper_statements ∙ c.in_ok-low_start-in-Inner.ensures.high_statements;
+      entries_are = ap (drop c.in_ok-low_start-in-Inner.high_start.entries) c.in_ok-next-in-Inner.ensures.upper_entries ∙ c.in_ok-low_start-in-Inner.ensures.high_entries;
     } in
-    let first = c.in_ok-next-in-Inner.ensures.ok (k + 1) (told-next k c.args.number is c.saturating_add-next.result c.saturating_add-next.ensures) in
+    let first = c.in_ok-next-in-Inner.ensures.ok (k + 1) (told-next k c.args.place.number is c.saturating_add-next.result c.saturating_add-next.ensures) in
     let low_none = passed-on m l ss es block low (2 * q) low_ss low_es low_part labels (length labels) form.0 c.deref.result.now left c.deref.ensures form.1 form.2 (k + 1) None first.1 in
     let k2 : ℕ = k + 1 + node_count (tree_of labels left) in
     let told2 : told k2 ≡ c.in_ok-next-in-Inner.next = sym (first.0 ∙ ap (λ (x : Node). told (k + 1 + node_count (tree_of labels x))) c.deref.ensures) in
@@ -239,25 +239,25 @@ returns-in-Some-claim_fault-clause-err t c = λ some k is.
     (λ i. claim_fault (claim_of (tree_of labels node)) (exact_pair (claim_of (tree_of labels (sym c.deref-in-Inner-2.ensures i))) (claim_of (tree_of labels (sym c.deref-in-Inner-3.ensures i)))))
     ∙ sym c.claim_fault.ensures in
     inner-own labels (map_with m ss) (prefixes_with l es) node left right inner k block.len q (Some c.in-Some-claim_fault.kind) low_none high_none (claim ∙ c.in-Some-claim_fault.is)
-    ∙ at-number k c.args.number c.in-Some-claim_fault.kind is
+    ∙ at-number k c.args.place.number c.in-Some-claim_fault.kind is
 
 pub returns-in-None-claim_fault-clause-ok : goal.returns-in-None-claim_fault-clause-ok
 returns-in-None-claim_fault-clause-ok t c = λ k is.
     let labels = c.args.sources.now.certificate.now.labels in
     let m = c.args.sources.now.map.now in
     let l = c.args.sources.now.list.now in
-    let ss = drop c.args.start.statements c.args.own.now.statements.items in
-    let es = drop c.args.start.entries c.args.own.now.entries.items in
-    let block = c.args.block in
+    let ss = drop c.args.start.statements (named c.args.own.now.statements.items) in
+    let es = drop c.args.start.entries (named c.args.own.now.entries.items) in
+    let block = c.args.place.block in
     let q = number_of block in
-    let node = c.args.node.now in
+    let node = c.args.place.node.now in
     let left = c.in-Inner.left.value in
     let right = c.in-Inner.right.value in
     let inner : IsInner node left right = subst (λ (x : Node). IsInner x left right) (sym c.in-Inner.is) (refl, refl) in
     let form = inner-form (length labels) (width_of block.version - block.len) node left right inner c.requires.form in
     let low = c.in-Some-halves.low in
-    let low_ss = drop c.in_ok-upper-in-Inner.lower.statements c.divide.new.other.statements.items in
-    let low_es = drop c.in_ok-upper-in-Inner.lower.entries c.divide.new.other.entries.items in
+    let low_ss = drop c.in_ok-low_start-in-Inner.low_start.statements (named c.divide.new.lower.statements.items) in
+    let low_es = drop c.in_ok-low_start-in-Inner.low_start.entries (named c.divide.new.lower.entries.items) in
     let low_part : IsPassedOn m l ss es block low (2 * q) low_ss low_es = record {
       version = c.requires.version;
       list_version = c.requires.sources.list_version;
@@ -266,12 +266,12 @@ returns-in-None-claim_fault-clause-ok t c = λ k is.
       half_version = c.in-Some-halves.ensures.versions.0;
       len = c.in-Some-halves.ensures.lens.0;
       number = c.in-Some-halves.ensures.lower_number;
-      statements_are = c.in_ok-upper-in-Inner.ensures.low_statements;
-      entries_are = c.in_ok-upper-in-Inner.ensures.low_entries;
+      statements_are = c.in_ok-low_start-in-Inner.ensures.low_statements;
+      entries_are = c.in_ok-low_start-in-Inner.ensures.low_entries;
     } in
     let high = c.in-Some-halves.high in
-    let high_ss = drop c.in_ok-upper-in-Inner.upper.statements c.check_node.new.own.statements.items in
-    let high_es = drop c.in_ok-upper-in-Inner.upper.entries c.check_node.new.own.entries.items in
+    let high_ss = drop c.in_ok-low_start-in-Inner.high_start.statements (named c.check_node.new.upper.statements.items) in
+    let high_es = drop c.in_ok-low_start-in-Inner.high_start.entries (named c.check_node.new.upper.entries.items) in
     let high_part : IsPassedOn m l ss es block high (2 * q + 1) high_ss high_es = record {
       version = c.requires.version;
       list_version = c.requires.sources.list_version;
@@ -280,10 +280,10 @@ returns-in-None-claim_fault-clause-ok t c = λ k is.
       half_version = c.in-Some-halves.ensures.versions.1;
       len = c.in-Some-halves.ensures.lens.1;
       number = c.in-Some-halves.ensures.upper_number;
-      statements_are = ap (drop c.in_ok-upper-in-Inner.upper.statements) c.in_ok-next-in-Inner.ensures.own_statements ∙ c.in_ok-upper-in-Inner.ensures.high_statements;
-      entries_are = ap (drop c.in_ok-upper-in-Inner.upper.entries) c.in_ok-next-in-Inner.ensures.own_entries ∙ c.in_ok-upper-in-Inner.ensures.high_entries;
+      statements_are = ap (drop c.in_ok-low_start-in-Inner.high_start.statements) c.in_ok-next-in-Inner.ensures.upper_statements ∙ c.in_ok-low_start-in-Inner.ensures.high_statements;
+      entries_are = ap (drop c.in_ok-low_start-in-Inner.high_start.entries) c.in_ok-next-in-Inner.ensures.upper_entries ∙ c.in_ok-low_start-in-Inner.ensures.high_entries;
     } in
-    let first = c.in_ok-next-in-Inner.ensures.ok (k + 1) (told-next k c.args.number is c.saturating_add-next.result c.saturating_add-next.ensures) in
+    let first = c.in_ok-next-in-Inner.ensures.ok (k + 1) (told-next k c.args.place.number is c.saturating_add-next.result c.saturating_add-next.ensures) in
     let low_none = passed-on m l ss es block low (2 * q) low_ss low_es low_part labels (length labels) form.0 c.deref.result.now left c.deref.ensures form.1 form.2 (k + 1) None first.1 in
     let k2 : ℕ = k + 1 + node_count (tree_of labels left) in
     let told2 : told k2 ≡ c.in_ok-next-in-Inner.next = sym (first.0 ∙ ap (λ (x : Node). told (k + 1 + node_count (tree_of labels x))) c.deref.ensures) in

@@ -1,13 +1,12 @@
-use Rattle.std.proofs.Common.{◌≡◌, ◌∙◌, ap, drop, length, refl, sym}
-use Rattle.std.proofs.lemmas.List.{drop_at}
+use Rattle.std.proofs.Common.{◌≡◌, ◌∙◌, ap, refl, sym}
 use Rattle.std.proofs.lemmas.Result.{err_from_is_err_and}
 use Rattle.pmap_text.specs.MapText.{map_of}
 use Rattle.pmap_text.specs.PrefixList.{list_of}
 use Rattle.pmap_cert.specs.Node.{tree_of}
 use Rattle.pmap_cert.specs.declared.node.Node.{Node}
-use Rattle.cert_check.specs.Carrying.{carried_to, entries_carried_to}
 use Rattle.cert_check.specs.Checking.{node_fault}
-use Rattle.cert_check.proofs.Whole.{root-room, whole-entries, whole-nodes, whole-statements}
+use Rattle.cert_check.specs.Sources.{named}
+use Rattle.cert_check.proofs.Whole.{whole-entries, whole-nodes, whole-statements}
 use Rattle.cert_check.proofs.checking.check_nodes.Goals as goal
 
 pub check_node-requires-clause-statements_part : goal.check_node-requires-clause-statements_part
@@ -15,55 +14,35 @@ check_node-requires-clause-statements_part c =
     let m = c.args.map.now in
     let l = c.args.list.now in
     let whole = c.whole_space-whole.result in
-    let ss = drop c.end-start.result.statements c.add.new.self.statements.items in
-    let es = drop c.end-start.result.entries c.add.new.self.entries.items in
-    let statements : ss ≡ carried_to whole m.statements =
-    ap (drop c.end-start.result.statements) c.in_ok-add.ensures.statements
-    ∙ drop_at c.new-own.result.statements.items (carried_to whole c.as_slice.result.now) c.end-start.result.statements (sym c.end-start.ensures.statements)
-    ∙ ap (carried_to whole) c.as_slice.ensures in
-    let entries : es ≡ entries_carried_to whole l.entries =
-    ap (drop c.end-start.result.entries) c.in_ok-add.ensures.entries
-    ∙ drop_at c.new-own.result.entries.items (entries_carried_to whole c.as_slice-2.result.now) c.end-start.result.entries (sym c.end-start.ensures.entries)
-    ∙ ap (entries_carried_to whole) c.as_slice-2.ensures.value in
-    whole-statements m l whole ss es c.whole_space-whole.ensures.version c.whole_space-whole.ensures.value c.whole_space-whole.ensures.len c.requires.list statements entries
+    let ss = named c.in_ok-own.own.statements.items in
+    let es = named c.in_ok-own.own.entries.items in
+    let statements : ss ≡ m.statements = c.in_ok-own.ensures.statements ∙ c.as_slice.ensures in
+    let entries : es ≡ l.entries = c.in_ok-own.ensures.entries ∙ c.as_slice-2.ensures.value in
+    whole-statements m l whole ss es c.whole_space-whole.ensures.version c.whole_space-whole.ensures.value c.whole_space-whole.ensures.len statements entries
 
 pub check_node-requires-clause-entries_part : goal.check_node-requires-clause-entries_part
 check_node-requires-clause-entries_part c =
     let m = c.args.map.now in
     let l = c.args.list.now in
     let whole = c.whole_space-whole.result in
-    let ss = drop c.end-start.result.statements c.add.new.self.statements.items in
-    let es = drop c.end-start.result.entries c.add.new.self.entries.items in
-    let statements : ss ≡ carried_to whole m.statements =
-    ap (drop c.end-start.result.statements) c.in_ok-add.ensures.statements
-    ∙ drop_at c.new-own.result.statements.items (carried_to whole c.as_slice.result.now) c.end-start.result.statements (sym c.end-start.ensures.statements)
-    ∙ ap (carried_to whole) c.as_slice.ensures in
-    let entries : es ≡ entries_carried_to whole l.entries =
-    ap (drop c.end-start.result.entries) c.in_ok-add.ensures.entries
-    ∙ drop_at c.new-own.result.entries.items (entries_carried_to whole c.as_slice-2.result.now) c.end-start.result.entries (sym c.end-start.ensures.entries)
-    ∙ ap (entries_carried_to whole) c.as_slice-2.ensures.value in
-    whole-entries m l whole ss es c.whole_space-whole.ensures.version c.whole_space-whole.ensures.value c.whole_space-whole.ensures.len c.requires.list statements entries
+    let ss = named c.in_ok-own.own.statements.items in
+    let es = named c.in_ok-own.own.entries.items in
+    let statements : ss ≡ m.statements = c.in_ok-own.ensures.statements ∙ c.as_slice.ensures in
+    let entries : es ≡ l.entries = c.in_ok-own.ensures.entries ∙ c.as_slice-2.ensures.value in
+    whole-entries m l whole ss es c.whole_space-whole.ensures.version c.whole_space-whole.ensures.value c.whole_space-whole.ensures.len statements entries
 
 pub returns-in_err-check_node-clause-err : goal.returns-in_err-check_node-clause-err
 returns-in_err-check_node-clause-err c =
     let m = c.args.map.now in
     let l = c.args.list.now in
     let whole = c.whole_space-whole.result in
-    let ss = drop c.end-start.result.statements c.add.new.self.statements.items in
-    let es = drop c.end-start.result.entries c.add.new.self.entries.items in
-    let statements : ss ≡ carried_to whole m.statements =
-    ap (drop c.end-start.result.statements) c.in_ok-add.ensures.statements
-    ∙ drop_at c.new-own.result.statements.items (carried_to whole c.as_slice.result.now) c.end-start.result.statements (sym c.end-start.ensures.statements)
-    ∙ ap (carried_to whole) c.as_slice.ensures in
-    let entries : es ≡ entries_carried_to whole l.entries =
-    ap (drop c.end-start.result.entries) c.in_ok-add.ensures.entries
-    ∙ drop_at c.new-own.result.entries.items (entries_carried_to whole c.as_slice-2.result.now) c.end-start.result.entries (sym c.end-start.ensures.entries)
-    ∙ ap (entries_carried_to whole) c.as_slice-2.ensures.value in
+    let ss = named c.in_ok-own.own.statements.items in
+    let es = named c.in_ok-own.own.entries.items in
+    let statements : ss ≡ m.statements = c.in_ok-own.ensures.statements ∙ c.as_slice.ensures in
+    let entries : es ≡ l.entries = c.in_ok-own.ensures.entries ∙ c.as_slice-2.ensures.value in
     let labels = c.args.certificate.now.labels in
-    let room = root-room m whole labels (length labels) c.root-root.result.now c.args.certificate.now.root c.args.certificate.now.version c.root-root.ensures.value c.requires.certificate
-    c.whole_space-whole.ensures.version c.whole_space-whole.ensures.len c.root-root.ensures.numbers in
-    let nodes = sym (whole-nodes m l whole ss es c.whole_space-whole.ensures.version c.whole_space-whole.ensures.value c.whole_space-whole.ensures.len c.requires.list statements entries
-    (tree_of labels c.root-root.result.now) 1 room) in
+    let nodes = sym (whole-nodes m l whole ss es c.whole_space-whole.ensures.version c.whole_space-whole.ensures.value c.whole_space-whole.ensures.len statements entries
+    (tree_of labels c.root-root.result.now) 1) in
     let root = ap (λ (x : Node). node_fault (map_of m) (list_of l).prefixes (tree_of labels x) 1 0 0) (sym c.root-root.ensures.value) in
     let p = err_from_is_err_and c.from_residual-in_err-check_node.result c.from_residual-in_err-check_node.ensures.1 in
     rw (p.1, p.2) (λ some. root ∙ nodes ∙ c.in_err-check_node.ensures.err some 1 refl)
@@ -73,20 +52,12 @@ returns-clause-ok c =
     let m = c.args.map.now in
     let l = c.args.list.now in
     let whole = c.whole_space-whole.result in
-    let ss = drop c.end-start.result.statements c.add.new.self.statements.items in
-    let es = drop c.end-start.result.entries c.add.new.self.entries.items in
-    let statements : ss ≡ carried_to whole m.statements =
-    ap (drop c.end-start.result.statements) c.in_ok-add.ensures.statements
-    ∙ drop_at c.new-own.result.statements.items (carried_to whole c.as_slice.result.now) c.end-start.result.statements (sym c.end-start.ensures.statements)
-    ∙ ap (carried_to whole) c.as_slice.ensures in
-    let entries : es ≡ entries_carried_to whole l.entries =
-    ap (drop c.end-start.result.entries) c.in_ok-add.ensures.entries
-    ∙ drop_at c.new-own.result.entries.items (entries_carried_to whole c.as_slice-2.result.now) c.end-start.result.entries (sym c.end-start.ensures.entries)
-    ∙ ap (entries_carried_to whole) c.as_slice-2.ensures.value in
+    let ss = named c.in_ok-own.own.statements.items in
+    let es = named c.in_ok-own.own.entries.items in
+    let statements : ss ≡ m.statements = c.in_ok-own.ensures.statements ∙ c.as_slice.ensures in
+    let entries : es ≡ l.entries = c.in_ok-own.ensures.entries ∙ c.as_slice-2.ensures.value in
     let labels = c.args.certificate.now.labels in
-    let room = root-room m whole labels (length labels) c.root-root.result.now c.args.certificate.now.root c.args.certificate.now.version c.root-root.ensures.value c.requires.certificate
-    c.whole_space-whole.ensures.version c.whole_space-whole.ensures.len c.root-root.ensures.numbers in
-    let nodes = sym (whole-nodes m l whole ss es c.whole_space-whole.ensures.version c.whole_space-whole.ensures.value c.whole_space-whole.ensures.len c.requires.list statements entries
-    (tree_of labels c.root-root.result.now) 1 room) in
+    let nodes = sym (whole-nodes m l whole ss es c.whole_space-whole.ensures.version c.whole_space-whole.ensures.value c.whole_space-whole.ensures.len statements entries
+    (tree_of labels c.root-root.result.now) 1) in
     let root = ap (λ (x : Node). node_fault (map_of m) (list_of l).prefixes (tree_of labels x) 1 0 0) (sym c.root-root.ensures.value) in
     root ∙ nodes ∙ (c.in_ok-check_node.ensures.ok 1 refl).1

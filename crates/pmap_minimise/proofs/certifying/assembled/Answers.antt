@@ -8,13 +8,13 @@ push_node-requires c =
     let within = from.within in
     ready-step c.args.parts.now (c.loop-left.left - 1) c.loop-left.left c.loop-left.nodes.items c.requires.outline (omega arith) (omega arith) from _ _ refl c.requires.few
 
-pub pop_node-requires : goal.pop_node-requires
-pop_node-requires c = root-some c.args.parts.now c.loop-left.left c.loop-left.nodes.items c.requires.outline (omega arith) c.loop-left.invariant
+pub pop-requires : goal.pop-requires
+pop-requires c = root-some c.args.parts.now c.loop-left.left c.loop-left.nodes.items c.requires.outline (omega arith) c.loop-left.invariant
 
 pub returns : goal.returns
 returns c =
-    root-node c.args.parts.now c.loop-left.left c.loop-left.nodes.items c.pop_node.new.nodes.items c.pop_node.result (omega arith) c.loop-left.invariant
-    c.pop_node.ensures
+    root-node c.args.parts.now c.loop-left.left c.loop-left.nodes.items c.pop.new.stack.items c.pop.result (omega arith) c.loop-left.invariant
+    c.pop.ensures
 
 pub loop-left-preserved : goal.loop-left-preserved
 loop-left-preserved c =

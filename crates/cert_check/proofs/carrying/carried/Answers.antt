@@ -1,6 +1,7 @@
-use Rattle.std.proofs.Common.{arith}
+use Rattle.std.proofs.Common.{[], refl}
+use Rattle.cert_check.specs.Sources.{named}
 use Rattle.cert_check.proofs.Carries.{IsSpanOf, carried-more}
-use Rattle.cert_check.proofs.carrying.add_carried.Goals as goal
+use Rattle.cert_check.proofs.carrying.carried.Goals as goal
 
 pub loop-statement-preserved : goal.loop-statement-preserved
 loop-statement-preserved c =
@@ -9,6 +10,6 @@ loop-statement-preserved c =
       first = c.span-within.ensures.first;
       last = c.span-within.ensures.last;
     } in
-    carried-more c.args.block.now c.span-within.result span c.args.statements.now c.loop-statement.statement-index c.statement-item.result c.args.kept.now.items
-    c.loop-statement.kept.items c.add_statement.new.kept.items c.len-start.result (omega (arith, c.len-start.ensures, c.args.kept.now.ok)) c.loop-statement-test.true
+    carried-more c.args.block.now c.span-within.result span c.args.statements.now c.loop-statement.statement-index c.statement-item.result []
+    (named c.loop-statement.kept.items) (named c.add_statement.new.kept.items) 0 refl c.loop-statement-test.true
     c.statement-item.is c.loop-statement.invariant c.in_ok-add_statement.ensures
