@@ -223,7 +223,7 @@ CheckIsEnough = (map list certificate : List ℕ) (texts : FileTexts) (out : Lis
     → (m : MapModel) × (l : ListModel) × ReadsMap texts.map m × ReadsList texts.list l
     × IsEquivalent l m × IsLeast m l × (out ≡ minimal_text (length l.prefixes))
 
--- the list is within the limits of a text: 1,000,000 entries, with 65,535 label texts
+-- the list is within the limits of a text: at most 1,000,000 entries, with at most 65,535 label texts
 abbrev pub FitsText : ListModel → Type 0
 FitsText l = (length l.prefixes ≤ mapping_limit) × (length (labels_of l.prefixes) ≤ label_limit)
 
