@@ -27,7 +27,10 @@ pub struct PartStart {
 
 impl<'a> PartStack<'a> {
     /// No part.
-    pub fn new(alloc: Global) -> PartStack<'a> {
+    pub fn new(alloc: Global) -> PartStack<'a>
+        ensures statements { length result.statements.items ≡ 0 }
+        ensures entries { length result.entries.items ≡ 0 }
+    {
         PartStack {
             statements: Vec::new(alloc),
             entries: Vec::new(alloc),
