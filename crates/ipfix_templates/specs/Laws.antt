@@ -1,5 +1,5 @@
 -- What holds of the definitions.
-use Rattle.std.specs.Prelude.{◌≡◌, ℕ, ◌*◌, ◌≤◌, length, List, [], ◌∷◌, ◌++◌, Option, not, ◌==◌, if◌then◌else◌}
+use Rattle.std.specs.Prelude.{◌≡◌, ℕ, ◌*◌, ◌≤◌, ◌⊎◌, length, List, [], ◌∷◌, ◌++◌, Option, not, ◌==◌, if◌then◌else◌}
 use Rattle.std.specs.Option.{option_or}
 use Rattle.ipfix_templates.specs.declared.kind.Kind.{Kind}
 use Rattle.ipfix_templates.specs.declared.event.TemplateEvent.{TemplateEvent}
@@ -18,7 +18,12 @@ abbrev pub EventAfterHistory : Type 0
 EventAfterHistory = (history : List (ℕ × TemplateEvent)) (at : ℕ) (event : TemplateEvent) (domain id : ℕ)
     → in_force (history ++ (at, event) ∷ []) domain id ≡ (if at == domain then after_event id event (in_force history domain id) else in_force history domain id)
 
--- bytes are a template set of one list of events, or have one first fault, and not both
+-- any bytes are a template set of some events, or have a first fault
+abbrev pub HasReading : Type 0
+HasReading = (kind : Kind) (bytes : List ℕ)
+    → ((events : List TemplateEvent) × IsTemplateSet kind bytes events) ⊎ ((fault : TemplateFault) × HasTemplateFault kind bytes fault)
+
+-- bytes are a template set of one list of events at most, or have one first fault at most, and not both
 abbrev pub OneReading : Type 0
 OneReading = (kind : Kind) (bytes : List ℕ)
     → ((events others : List TemplateEvent) → IsTemplateSet kind bytes events → IsTemplateSet kind bytes others → events ≡ others)

@@ -1,4 +1,4 @@
-ghost use Rattle.ipfix_templates.specs.Laws.{EventAfterHistory, EventsFit, MemoryIsNoFault, OneReading};
+ghost use Rattle.ipfix_templates.specs.Laws.{EventAfterHistory, EventsFit, HasReading, MemoryIsNoFault, OneReading};
 
 /// One more event changes the template in force in its own domain alone: a definition puts its template at its
 /// ID, and a withdrawal takes away the templates that it names.
@@ -6,7 +6,12 @@ pub fn event_after_history()
     ensures { EventAfterHistory }
 {}
 
-/// Bytes have one reading as a template set, or one first fault.
+/// Any bytes have a reading as a template set, or a first fault, whichever kind of template it is.
+pub fn has_reading()
+    ensures { HasReading }
+{}
+
+/// Bytes have one reading at most as a template set, or one first fault at most, and not both.
 pub fn one_reading()
     ensures { OneReading }
 {}

@@ -5,7 +5,8 @@
 //! withdrawals of all templates of a kind. `TemplateTable` keeps the templates of each observation domain.
 //! The layer above may rely on this: the events are those of the bytes, record by record, or the fault is that
 //! of the first record that is none; and a table that was changed by each event of a history in turn finds at
-//! each domain and ID the template in force, which the history alone gives (`in_force`).
+//! each domain and ID the template in force, which the history alone gives (`in_force`). Any bytes have such events
+//! or such a fault, and one of these alone.
 #![tactic(auto)]
 
 mod event;
@@ -26,7 +27,7 @@ pub use fault::{TemplateFault, TemplateFaultKind};
 pub use field::{Field, VARIABLE_LENGTH};
 pub use fields::Fields;
 pub use kind::Kind;
-pub use laws::{event_after_history, events_fit, memory_is_no_fault, one_reading};
+pub use laws::{event_after_history, events_fit, has_reading, memory_is_no_fault, one_reading};
 pub use set::read_template_set;
 pub use table::TemplateTable;
 pub use template::Template;

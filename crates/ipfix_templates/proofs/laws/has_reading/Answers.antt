@@ -1,0 +1,5 @@
+use Rattle.ipfix_templates.proofs.Outcomes.{has_reading}
+use Rattle.ipfix_templates.proofs.laws.has_reading.Goals as goal
+
+pub returns : goal.returns
+returns c = has_reading
