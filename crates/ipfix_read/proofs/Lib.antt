@@ -8,3 +8,6 @@ pub mod Faults
 pub mod UniqueRecords
 pub mod UniqueSets
 pub mod UniqueMessages
+pub mod OutcomesOfRecords
+pub mod OutcomesOfSets
+pub mod OutcomesOfMessages

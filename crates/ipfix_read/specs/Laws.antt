@@ -1,5 +1,5 @@
 -- What holds of the definitions.
-use Rattle.std.specs.Prelude.{◌≡◌, ◌≢◌, ℕ, ◌+◌, List, ◌∷◌, ◌++◌, length, None}
+use Rattle.std.specs.Prelude.{◌≡◌, ◌≢◌, ℕ, ◌+◌, ◌⊎◌, List, ◌∷◌, ◌++◌, length, None}
 use Rattle.ipfix_templates.specs.declared.event.TemplateEvent.{TemplateEvent}
 use Rattle.ipfix_templates.specs.declared.fault.TemplateFaultKind.TheVariants.{NoMemory as NoTemplateMemory}
 use Rattle.ipfix_read.specs.declared.fault.ReadFault.{ReadFault}
@@ -14,7 +14,12 @@ FirstMessageAndRest = (history : List (ℕ × TemplateEvent)) (offset count : �
     → ((ms : List MessageView) → ReadsFile (history ++ events_of_message m) (count + 1) after ms → ReadsFile history count (front ++ after) (m ∷ ms))
     × ((fault : ReadFault) → HasFileFault (history ++ events_of_message m) (offset + length front) (count + 1) after fault → HasFileFault history offset count (front ++ after) fault)
 
--- bytes are a File of one list of messages, or have one first fault, and not both
+-- any bytes are a File of some messages, or have a first fault
+abbrev pub HasReading : Type 0
+HasReading = (history : List (ℕ × TemplateEvent)) (offset count : ℕ) (bytes : List ℕ)
+    → ((messages : List MessageView) × ReadsFile history count bytes messages) ⊎ ((fault : ReadFault) × HasFileFault history offset count bytes fault)
+
+-- bytes are a File of one list of messages at most, or have one first fault at most, and not both
 abbrev pub OneReading : Type 0
 OneReading = (history : List (ℕ × TemplateEvent)) (offset count : ℕ) (bytes : List ℕ)
     → ((messages others : List MessageView) → ReadsFile history count bytes messages → ReadsFile history count bytes others → messages ≡ others)

@@ -1,4 +1,4 @@
-ghost use Rattle.ipfix_read.specs.Laws.{FirstMessageAndRest, MemoryIsNoFault, OneReading};
+ghost use Rattle.ipfix_read.specs.Laws.{FirstMessageAndRest, HasReading, MemoryIsNoFault, OneReading};
 
 /// A first message, and the rest begun behind it, are the whole: the messages of the rest follow the first, and a
 /// fault of the rest is the fault of the whole.
@@ -6,7 +6,14 @@ pub fn first_message_and_rest()
     ensures { FirstMessageAndRest }
 {}
 
-/// Bytes have one reading as a File, or one first fault.
+/// Any bytes have a reading as a File, or a first fault, wherever reading begins.
+pub fn has_reading()
+    ensures { HasReading }
+{
+    ipfix_templates::has_reading();
+}
+
+/// Bytes have one reading at most as a File, or one first fault at most, and not both.
 pub fn one_reading()
     ensures { OneReading }
 {

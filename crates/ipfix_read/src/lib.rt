@@ -6,7 +6,8 @@
 //! its header and the concatenation of its sets, a data set its records and padding, under the template that the
 //! events before the place put in force; and where the File is not so, the fault is the one at the first place, in
 //! byte order, where no case fits. Reading may be begun behind any history of template events, offset and number
-//! of messages: a first message, and the rest begun after it, are the whole.
+//! of messages: a first message, and the rest begun after it, are the whole. Any bytes have such messages or such a
+//! fault, and one of these alone.
 #![tactic(auto)]
 
 mod data_set;
@@ -20,7 +21,7 @@ mod value;
 
 pub use fault::{ReadFault, ReadFaultKind};
 pub use file::{FileEvents, read_file};
-pub use laws::{first_message_and_rest, memory_is_no_fault, one_reading};
+pub use laws::{first_message_and_rest, has_reading, memory_is_no_fault, one_reading};
 pub use message::{Message, MessageList};
 pub use record::{Record, RecordList};
 pub use set::{Set, SetList};

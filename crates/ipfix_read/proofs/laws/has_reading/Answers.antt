@@ -1,0 +1,5 @@
+use Rattle.ipfix_read.proofs.OutcomesOfMessages.{has_reading}
+use Rattle.ipfix_read.proofs.laws.has_reading.Goals as goal
+
+pub returns : goal.returns
+returns c = has_reading c.has_reading.ensures
