@@ -1,4 +1,6 @@
 pub mod Devices
 pub mod MemoryInput
 pub mod MemoryOutput
+pub mod ReadStops
 pub mod Watched
+pub mod WriterStates

@@ -8,7 +8,12 @@
 // still gives, or those that it has taken. Each read and write then says which bytes moved.
 // `Watched` stands on any reader or writer of std and tells the bytes of those that tell theirs: a slice
 // or a `Vec` does, and a file does not, as no contract speaks of what the system gives or takes.
-// `MemoryInput` and `MemoryOutput` tell theirs, and fail where a test wants. Nothing here allocates.
+// `MemoryInput` and `MemoryOutput` tell theirs, and fail where a test wants.
+//
+// `read_whole` answers the bytes that a reader still gave, all of them, and a read fault exactly where the reader failed; want of
+// memory is its only other answer. `write_whole` hands a writer all of some bytes and then flushes it once, and answers a fault
+// exactly where the writer failed: at a write, with a prefix of the bytes taken, or at the flush, with all of them. Nothing else
+// here allocates.
 #![tactic(auto)]
 
 mod countdown;
@@ -17,9 +22,13 @@ mod last_call;
 mod memory_input;
 mod memory_output;
 mod watch;
+mod whole_input;
+mod whole_output;
 
 pub use devices::{DeviceFault, Input, Output};
 pub use last_call::LastCall;
 pub use memory_input::MemoryInput;
 pub use memory_output::MemoryOutput;
 pub use watch::Watched;
+pub use whole_input::{ReadStop, read_whole};
+pub use whole_output::{WriteFault, write_whole};

@@ -1,7 +1,6 @@
 pub mod Request
 pub mod Definition
 pub mod Answer
-pub mod Loops
 pub mod Faults
 pub mod Labelling
 pub mod Output

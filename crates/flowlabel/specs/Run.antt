@@ -2,7 +2,7 @@ use Rattle.std.specs.Prelude.{◌≡◌, ◌≢◌, ◌⊎◌, ◌||◌, ℕ, Bo
 use Rattle.std.specs.Borrow.{Bor}
 use Rattle.flow_io.specs.declared.last_call.LastCall.{LastCall}
 use Rattle.pmap_text.specs.declared.fault.MapFaultKind.TheVariants as kind
-use Rattle.flowlabel.specs.Loops.{IsUntouched, StopsWriting}
+use Rattle.flow_io.specs.WriterStates.{IsUntouched, StopsWriting}
 use Rattle.ipfix_read.specs.declared.fault.ReadFaultKind.TheVariants as flows
 use Rattle.ipfix_templates.specs.declared.fault.TemplateFaultKind.TheVariants as template
 use Rattle.pmap_cert.specs.declared.fault.CertFaultKind.TheVariants as certificate

@@ -19,11 +19,9 @@ pub mod definition;
 pub mod fault;
 pub mod inputs;
 pub mod opening;
-pub mod reading;
 pub mod run;
 pub mod usage;
 pub mod words;
-pub mod writing;
 
 use fault::{RunFault, exit_status, fault_line, help_text};
 use flow_io::Watched;

@@ -8,8 +8,7 @@ ghost use Rattle.flowlabel.specs.Run.{any_failed, is_read_stop, is_write_stop, A
 use crate::command::Command;
 use crate::fault::RunFault;
 use crate::inputs::Inputs;
-use crate::writing::{WriteFault, write_whole};
-use flow_io::{Input, Output};
+use flow_io::{Input, Output, WriteFault, write_whole};
 use std::alloc::Global;
 
 pub mod address_labels;

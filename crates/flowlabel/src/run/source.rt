@@ -9,8 +9,7 @@ ghost use Rattle.flowlabel.specs.Run.{is_read_stop, IsFaultOfCertificateFile, Is
 
 use crate::fault::RunFault;
 use crate::inputs::Source;
-use crate::reading::{ReadStop, read_whole};
-use flow_io::Input;
+use flow_io::{Input, ReadStop, read_whole};
 use pmap_cert::{CertFaultKind, Certificate, read_cert};
 use pmap_text::{MapFaultKind, MapText, PrefixList, read_list, read_map};
 use std::alloc::Global;

@@ -1,16 +1,8 @@
--- What the loops over readers and writers do with the bytes.
-use Rattle.std.specs.Prelude.{◌≡◌, ◌⊎◌, ℕ, Bool, false, true, List, ◌++◌, Option, Result, Ok, Err}
+-- What became of a writer from one state to another: of the bytes that it has taken, and of its last call.
+use Rattle.std.specs.Prelude.{◌≡◌, ◌⊎◌, ℕ, List, ◌++◌, Option}
 use Rattle.std.specs.Io.KnownBytes.{Appends, Keeps}
 use Rattle.flow_io.specs.declared.last_call.LastCall.{LastCall}
 use Rattle.flow_io.specs.declared.last_call.LastCall.TheVariants.{Write, FailedFlush}
-use Rattle.flowlabel.specs.declared.reading.ReadStop.{ReadStop}
-use Rattle.flowlabel.specs.declared.reading.ReadStop.TheVariants.{ReadFault, NoMemory}
-
--- whether the reader failed
-abbrev pub is_read_fault : {A : Type 0} → Result A ReadStop → Bool
-is_read_fault (Ok _) = false
-is_read_fault (Err ReadFault) = true
-is_read_fault (Err NoMemory) = false
 
 -- known bytes grow by a prefix of these
 abbrev pub AppendsPrefix : Option (List ℕ) → Option (List ℕ) → List ℕ → Type 0

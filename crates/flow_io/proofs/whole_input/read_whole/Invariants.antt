@@ -1,7 +1,7 @@
 -- The reader has given the text since the loop began, and has not failed.
 use Rattle.std.proofs.Common.{◌≡◌, ◌-◌, ◌^◌, ◌<◌, false, vec_len}
 use Rattle.std.specs.Io.KnownBytes.{Consumes}
-use Rattle.flowlabel.proofs.reading.read_whole.Given as goal
+use Rattle.flow_io.proofs.whole_input.read_whole.Given as goal
 
 abbrev pub invariant-loop-text : goal.invariant-loop-text
 invariant-loop-text g l = (0 < vec_len l.chunk) × Consumes (g.R.Input.bytes_left l.initial.reader) (g.R.Input.bytes_left l.reader) l.text.items × (g.R.Input.failed l.reader ≡ false)

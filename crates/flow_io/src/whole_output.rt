@@ -1,12 +1,14 @@
 ghost use Rattle.std.specs.Prelude.{◌≡◌, false, is_err, OnErr, OnOk};
 ghost use Rattle.std.specs.Io.KnownBytes.{Appends};
 ghost use Rattle.flow_io.specs.declared.last_call.LastCall.TheVariants.{Flush};
-ghost use Rattle.flowlabel.specs.Loops.{StopsWriting};
+ghost use Rattle.flow_io.specs.WriterStates.{StopsWriting};
 
-use flow_io::Output;
+use crate::devices::Output;
+use thiserror::Error;
 
 /// The writer failed before it had taken and handed on everything.
-#[derive(Clone, Copy, Debug, PartialEq, Eq)]
+#[derive(Clone, Copy, Debug, PartialEq, Eq, Error)]
+#[error("the writer failed")]
 pub struct WriteFault;
 
 /// Writes all the bytes, and then flushes once. After a fault of a write the writer has taken a prefix of them, and after
@@ -34,80 +36,53 @@ pub fn write_whole<W: Output>(writer: &mut W, bytes: &[u8]) -> Result<(), WriteF
 #[cfg(test)]
 mod tests {
     use super::*;
-    use flow_io::{MemoryOutput, Watched};
+    use crate::memory_output::MemoryOutput;
+    use crate::watch::Watched;
     use std::fs::File;
     use std::process::Abort;
     use std::test::Fail;
 
-    // Writing these bytes answers so, and this is what the writer has taken then.
-    fn writes<const N: usize>(
-        rt: &impl Abort,
-        writer: &mut MemoryOutput<N>,
-        bytes: &str,
-        is_whole: bool,
-        taken: &str,
-    )
-        requires { writer.old.failed ≡ false }
-    {
-        let answer = write_whole(writer, bytes.as_bytes());
-        assert!(rt; answer.is_ok() == is_whole, "{bytes}");
-        assert!(rt; writer.taken() == taken.as_bytes(), "{taken}");
+    // The bytes, the most that a write takes, the failing call, whether it answers 0, whether they are written whole, and what the
+    // writer has taken then.
+    type Case = (&'static str, usize, Option<u64>, bool, bool, &'static str);
+
+    // There is room for three bytes. Where a write takes one, the fourth call is the flush.
+    const CASES: [Case; 8] = [
+        ("abc", 1, Some(1), false, false, ""),
+        ("abc", 1, Some(3), false, false, "ab"),
+        ("abc", 1, Some(4), false, false, "abc"),
+        ("abc", 1, Some(3), true, false, "ab"),
+        ("abc", 1, Some(4), true, false, "abc"),
+        ("abc", 1, Some(5), true, true, "abc"),
+        ("abc", 1, None, false, true, "abc"),
+        ("abcd", 9, None, false, false, "abc"),
+    ];
+
+    fn is_written(rt: &impl Abort, case: &Case) {
+        let &(bytes, step, fail_at, zero, is_whole, taken) = case;
+        assert!(rt; step >= 1);
+        let mut writer = MemoryOutput::<3>::new(step, fail_at, zero);
+        let answer = write_whole(&mut writer, bytes.as_bytes());
+        assert!(rt; answer.is_ok() == is_whole, "{bytes}, {fail_at:?}");
+        assert!(rt; writer.taken() == taken.as_bytes(), "{bytes}, {fail_at:?}");
+    }
+
+    fn are_written(rt: &impl Abort, cases: &[Case]) {
+        for case in cases {
+            is_written(rt, case);
+        }
     }
 
     #[test]
     fn writes_until_a_fault(rt: HostRuntime) {
-        for (call, taken) in [(1, ""), (3, "ab"), (4, "abc")] {
-            writes(
-                &rt,
-                &mut MemoryOutput::<3>::new(1, Some(call), false),
-                "abc",
-                false,
-                taken,
-            );
-        }
-        // The third write answers 0; the fourth call is the flush.
-        writes(
-            &rt,
-            &mut MemoryOutput::<3>::new(1, Some(3), true),
-            "abc",
-            false,
-            "ab",
-        );
-        writes(
-            &rt,
-            &mut MemoryOutput::<3>::new(1, Some(4), true),
-            "abc",
-            false,
-            "abc",
-        );
-        writes(
-            &rt,
-            &mut MemoryOutput::<3>::new(1, Some(5), true),
-            "abc",
-            true,
-            "abc",
-        );
-        writes(
-            &rt,
-            &mut MemoryOutput::<3>::new(1, None, false),
-            "abc",
-            true,
-            "abc",
-        );
+        are_written(&rt, &CASES);
     }
 
     #[test]
-    fn flushes_once_and_fails_when_full(rt: HostRuntime) {
+    fn flushes_once(rt: HostRuntime) {
         let mut writer = MemoryOutput::<2>::new(9, Some(2), false);
         assert!(rt; write_whole(&mut writer, b"").is_ok());
         assert!(rt; write_whole(&mut writer, b"").is_err());
-        writes(
-            &rt,
-            &mut MemoryOutput::<2>::new(9, None, false),
-            "abc",
-            false,
-            "ab",
-        );
     }
 
     #[test]
