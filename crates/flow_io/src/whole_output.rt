@@ -58,12 +58,24 @@ mod tests {
         ("abcd", 9, None, false, false, "abc"),
     ];
 
-    fn is_written(rt: &impl Abort, case: &Case) {
-        let &(bytes, step, fail_at, zero, is_whole, taken) = case;
+    // Whether these bytes are written whole, and the writer behind it.
+    fn write_in_steps(
+        rt: &impl Abort,
+        bytes: &str,
+        step: usize,
+        fail_at: Option<u64>,
+        zero: bool,
+    ) -> (bool, MemoryOutput<3>) {
         assert!(rt; step >= 1);
         let mut writer = MemoryOutput::<3>::new(step, fail_at, zero);
-        let answer = write_whole(&mut writer, bytes.as_bytes());
-        assert!(rt; answer.is_ok() == is_whole, "{bytes}, {fail_at:?}");
+        let is_whole = write_whole(&mut writer, bytes.as_bytes()).is_ok();
+        (is_whole, writer)
+    }
+
+    fn is_written(rt: &impl Abort, case: &Case) {
+        let &(bytes, step, fail_at, zero, is_whole, taken) = case;
+        let (answer, writer) = write_in_steps(rt, bytes, step, fail_at, zero);
+        assert!(rt; answer == is_whole, "{bytes}, {fail_at:?}");
         assert!(rt; writer.taken() == taken.as_bytes(), "{bytes}, {fail_at:?}");
     }
 
