@@ -1,7 +1,7 @@
 ghost use Rattle.std.specs.Prelude.{◌≡◌, ◌&&◌, IfErr, IfOk, Ok, option_map};
 ghost use Rattle.flow_rows.specs.Row.{row_view};
 ghost use Rattle.flow_filter.specs.Condition.{allows, allows_counts, allows_labels, allows_ports, needs_map, row_passes};
-ghost use Rattle.label_lookup.specs.RowLabel.{label_under};
+ghost use Rattle.label_lookup.specs.Labelling.{label_where, labelling_lent};
 ghost use Rattle.flow_filter.specs.Filters.{condition_in};
 ghost use Rattle.flow_filter.specs.Given.{by_place, covering};
 ghost use Rattle.flow_filter.specs.Ranges.{in_ranges};
@@ -119,7 +119,7 @@ impl<'a> Filter<'a> {
     }
 
     fn allows_labels<L: Labeller>(&self, row: &Row, labeller: Option<&L>) -> bool
-        ensures { let found = label_under L.version_of L.label (option_map (λ l. l.now) labeller.entry) in
+        ensures { let found = label_where (labelling_lent L.version_of L.label labeller.entry) in
             result ≡ allows_labels (condition_in self.now) (found (row.now.src.version, row.now.src.value))
             (found (row.now.dst.version, row.now.dst.value)) }
     {
@@ -131,7 +131,7 @@ impl<'a> Filter<'a> {
     /// Whether the row meets each condition that is given. Without a labeller no address has a label.
     pub fn passes<L: Labeller>(&self, row: &Row, labeller: Option<&L>) -> bool
         ensures { result ≡ row_passes (condition_in self.now)
-            (label_under L.version_of L.label (option_map (λ l. l.now) labeller.entry)) (row_view row.now) }
+            (label_where (labelling_lent L.version_of L.label labeller.entry)) (row_view row.now) }
     {
         self.allows_ports(row)
             && self.allows_addresses(row)

@@ -1,6 +1,6 @@
 ghost use Rattle.std.specs.Prelude.{◌≡◌, option_map};
 ghost use Rattle.flow_filter.specs.Condition.{allows_either, allows_label, is_label};
-ghost use Rattle.label_lookup.specs.RowLabel.{label_under};
+ghost use Rattle.label_lookup.specs.Labelling.{label_where, labelling_lent};
 
 use label_lookup::{Labeller, label_row_under};
 use prefix_keys::Addr;
@@ -8,7 +8,7 @@ use prefix_keys::Addr;
 /// Whether the row's address has this label.
 fn has_label<L: Labeller>(label: &str, labeller: Option<&L>, addr: Addr) -> bool
     ensures { result ≡ is_label label.now
-        (label_under L.version_of L.label (option_map (λ l. l.now) labeller.entry) (addr.version, addr.value)) }
+        (label_where (labelling_lent L.version_of L.label labeller.entry) (addr.version, addr.value)) }
 {
     match label_row_under(labeller, addr) {
         None => false,
@@ -19,7 +19,7 @@ fn has_label<L: Labeller>(label: &str, labeller: Option<&L>, addr: Addr) -> bool
 /// Whether the row's address has the label that is asked for, if one is.
 pub fn is_allowed<L: Labeller>(label: Option<&str>, labeller: Option<&L>, addr: Addr) -> bool
     ensures { result ≡ allows_label (option_map (λ s. s.now) label.entry)
-        (label_under L.version_of L.label (option_map (λ l. l.now) labeller.entry) (addr.version, addr.value)) }
+        (label_where (labelling_lent L.version_of L.label labeller.entry) (addr.version, addr.value)) }
 {
     match label {
         None => true,
@@ -34,7 +34,7 @@ pub fn is_either_allowed<L: Labeller>(
     source: Addr,
     destination: Addr,
 ) -> bool
-    ensures { let found = label_under L.version_of L.label (option_map (λ l. l.now) labeller.entry) in
+    ensures { let found = label_where (labelling_lent L.version_of L.label labeller.entry) in
         result ≡ allows_either (option_map (λ s. s.now) label.entry) (found (source.version, source.value))
         (found (destination.version, destination.value)) }
 {

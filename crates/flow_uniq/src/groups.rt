@@ -1,7 +1,7 @@
 ghost use Rattle.std.specs.Prelude.{All, ◌≡◌, ◌++◌, ◌∷◌, [], ◌+◌, ◌-◌, ◌^◌, ◌<◌, List, IfOk, OnOk, OnErr, length, map, option_map, slice_get};
 ghost use Rattle.std.specs.List.Sorted.{IsPermutation, IsSortedBy};
 ghost use Rattle.flow_rows.specs.Row.{row_view};
-ghost use Rattle.label_lookup.specs.RowLabel.{label_under};
+ghost use Rattle.label_lookup.specs.Labelling.{label_where, labelling_lent};
 ghost use Rattle.flow_uniq.specs.Groups.{KeyedRow, groups_of_keyed, record_count};
 ghost use Rattle.flow_uniq.specs.Key.{key_of};
 ghost use Rattle.flow_uniq.specs.Kept.{entry_model, group_model};
@@ -86,7 +86,7 @@ impl Groups {
         requires { record_count self.old.groups < 2 ^ 64 - 1 }
         ensures fields { self.new.fields ≡ self.old.fields }
         // Where these were the groups of rows with their keys, they are those of the rows followed by this one.
-        ensures ok { let label = label_under L.version_of L.label (option_map (λ l. l.now) labeller.entry) in
+        ensures ok { let label = label_where (labelling_lent L.version_of L.label labeller.entry) in
             let added = row_view row.now in
             OnOk result ((rows : List KeyedRow) → self.old.groups ≡ groups_of_keyed rows → self.new.groups
             ≡ groups_of_keyed (rows ++ (key_of label self.old.fields added, added) ∷ [])) }

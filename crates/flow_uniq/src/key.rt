@@ -1,7 +1,7 @@
 //! The key of a row, as numbers and as parts.
-ghost use Rattle.std.specs.Prelude.{◌≡◌, ◌++◌, IfOk, OnOk, map, option_map};
+ghost use Rattle.std.specs.Prelude.{◌≡◌, ◌++◌, IfOk, OnOk, map};
 ghost use Rattle.flow_rows.specs.Row.{row_view};
-ghost use Rattle.label_lookup.specs.RowLabel.{label_under};
+ghost use Rattle.label_lookup.specs.Labelling.{label_where, labelling_lent};
 ghost use Rattle.flow_uniq.specs.Key.{key_of};
 ghost use Rattle.flow_uniq.specs.Parts.{key_code, part_model};
 
@@ -19,7 +19,7 @@ pub fn append_key<L: Labeller>(
     row: &Row,
     labeller: Option<&L>,
 ) -> Result<(), AllocError>
-    ensures { let label = label_under L.version_of L.label (option_map (λ l. l.now) labeller.entry) in
+    ensures { let label = label_where (labelling_lent L.version_of L.label labeller.entry) in
         OnOk result (out.new.items ≡ out.old.items ++ key_code (key_of label fields.now (row_view row.now))) }
 {
     for field in fields {
@@ -35,7 +35,7 @@ pub fn key_parts<L: Labeller>(
     row: &Row,
     labeller: Option<&L>,
 ) -> Result<Vec<KeyPart>, AllocError>
-    ensures { let label = label_under L.version_of L.label (option_map (λ l. l.now) labeller.entry) in
+    ensures { let label = label_where (labelling_lent L.version_of L.label labeller.entry) in
         IfOk result (λ key. map part_model key.items ≡ key_of label fields.now (row_view row.now)) }
 {
     let mut key = Vec::with_capacity(alloc, fields.len())?;

@@ -1,6 +1,6 @@
-ghost use Rattle.std.specs.Prelude.{◌≡◌, ◌++◌, IfOk, OnOk, option_map};
+ghost use Rattle.std.specs.Prelude.{◌≡◌, ◌++◌, IfOk, OnOk};
 ghost use Rattle.flow_rows.specs.Row.{row_view};
-ghost use Rattle.label_lookup.specs.RowLabel.{label_under};
+ghost use Rattle.label_lookup.specs.Labelling.{label_where, labelling_lent};
 ghost use Rattle.flow_uniq.specs.Key.{key_part, version_number};
 ghost use Rattle.flow_uniq.specs.Parts.{part_code, part_model, value_model};
 
@@ -28,7 +28,7 @@ pub fn value_of<'a, L: Labeller>(
     row: &Row,
     labeller: Option<&'a L>,
 ) -> FieldValue<'a>
-    ensures { let label = label_under L.version_of L.label (option_map (λ l. l.now) labeller.entry) in
+    ensures { let label = label_where (labelling_lent L.version_of L.label labeller.entry) in
         value_model result ≡ key_part label (row_view row.now) field }
 {
     match field {

@@ -1,31 +1,14 @@
 -- Under a map text and under a list text whose list labels as the map does, a request has the same outputs: the two labellings
 -- are equal.
-use Rattle.std.proofs.Common.{◌≡◌, ◌∙◌, ◌^◌, ◌<◌, ◌⊎◌, ℕ, Bool, true, false, List, Option, Some, None, Ok, Err, refl, sym, ap, subst, inl, inr}
-use Rattle.std.proofs.Math.Path.{fun_ext}
-use Rattle.std.specs.Prelude.{◌↔◌, nat_lt, if◌then◌else◌}
-use Rattle.std.proofs.lemmas.Bool.{ltb-true}
-use Rattle.prefix_keys.specs.Version.{width_of}
-use Rattle.prefix_keys.specs.declared.version.Version.{Version}
-use Rattle.pmap_text.specs.ListModel.{IsEquivalent, ListModel, list_label}
-use Rattle.pmap_text.specs.MapModel.{Label, MapModel, map_label}
+use Rattle.std.proofs.Common.{◌≡◌, ◌⊎◌, ℕ, List, Some, None, sym, subst, inl, inr}
+use Rattle.std.specs.Prelude.{◌↔◌}
+use Rattle.pmap_text.specs.ListModel.{IsEquivalent, ListModel}
+use Rattle.pmap_text.specs.MapModel.{MapModel}
 use Rattle.pmap_text.specs.Reading.{ReadsList, ReadsMap}
-use Rattle.flowlabel.specs.Labelling.{Labelling, at_addresses, labelling, labelling_of_list, labelling_of_map}
+use Rattle.label_lookup.specs.Labelling.{Labelling, labelling_of_list, labelling_of_map}
+use Rattle.label_lookup.proofs.Labellings.{same_labelling}
 use Rattle.flowlabel.specs.Output.{FileTexts, FlowsThen, IsOutput, ListThen, MapThen, Outcome, Prints, PrintsRuns, ReportsThen, SameUnderEquivalents, label_text, report_of_rows, under, report_of_groups}
 use Rattle.flowlabel.specs.Request.{FromList, FromMap, label, info, rows, cat, shrink, check, uniq}
-
-guarded : (b : Bool) (x y : Option Label) → (b ≡ true → x ≡ y) → (if b then x else None) ≡ (if b then y else None)
-guarded true x y h = h refl
-guarded false x y h = refl
-
--- labels that agree at the addresses of a version make one labelling
-alike : (v : Version) (f g : ℕ → Option Label) → ((a : ℕ) → a < 2 ^ width_of v → f a ≡ g a) → labelling v f ≡ labelling v g
-alike v f g same =
-    ap (λ (k : ℕ → Option Label). record { version = v; label = k })
-    (fun_ext (λ a. guarded (nat_lt a (2 ^ width_of v)) (f a) (g a) (λ within. same a (ltb-true a (2 ^ width_of v) within))))
-
-same_labelling : (l : ListModel) (m : MapModel) → IsEquivalent l m → labelling_of_list l ≡ labelling_of_map m
-same_labelling l m is =
-    ap (λ (v : Version). labelling v (list_label l)) is.version ∙ alike m.version (list_label l) (λ a. Some (map_label m a)) is.labels
 
 -- what comes of a text that is read as a map is what comes of the map, and so with lists
 of_map : (rest : MapModel → Outcome → Type 0) (text : List ℕ) (m : MapModel) (outcome : Outcome) → ReadsMap text m

@@ -4,12 +4,9 @@ use Rattle.std.proofs.lemmas.Grind.{common_steps}
 use Rattle.std.proofs.lemmas.List.{map_push, append_assoc, length-append}
 use Rattle.std.proofs.lemmas.List.Sums.{count_by-le-length, length-filter, sum_by-le-sum_by}
 use Rattle.std.proofs.lemmas.List.Concat.{length-flat_map}
-use Rattle.std.specs.Prelude.{option_map}
-use Rattle.std.specs.Borrow.{Bor}
 use Rattle.std.specs.List.{flat_map}
 use Rattle.std.specs.Option.{option_to_list}
 use Rattle.prefix_keys.specs.Text.{AddressOf}
-use Rattle.prefix_keys.specs.declared.version.Version.{Version}
 use Rattle.pmap_text.specs.MapModel.{Label}
 use Rattle.ipfix_read.specs.Message.{MessageView, message_size, set_size}
 use Rattle.ipfix_read.specs.declared.record.Record.{Record}
@@ -19,28 +16,21 @@ use Rattle.flow_rows.specs.Content.{records_in, records_of, rows_of}
 use Rattle.flow_rows.specs.Elements.{first_row, rows_of_record}
 use Rattle.flow_rows.specs.Row.{RowView, row_view}
 use Rattle.flow_rows.specs.declared.row.Row.{Row}
-use Rattle.label_lookup.specs.RowLabel.{label_under}
 use Rattle.flow_uniq.specs.Groups.{GroupModel, KeyedRow, groups_of, groups_of_keyed, keyed}
 use Rattle.flow_uniq.specs.Key.{Key, key_of}
 use Rattle.flow_uniq.specs.declared.field.KeyField.{KeyField}
 use Rattle.flow_filter.specs.Condition.{Condition}
-use Rattle.flowlabel.specs.Labelling.{Labelling, label_where, labelling_lent}
+use Rattle.label_lookup.specs.Labelling.{Labelling}
 use Rattle.flowlabel.specs.Output.{passing, passing_rows}
 
--- the labels of keys are those of the labelling
-pub key_labels : {L : Type 0} (version : L → Version) (label : L → ℕ → Option Label) (lent : Option (Bor L))
-    → label_under version label (option_map (λ l. l.now) lent) ≡ label_where (labelling_lent version label lent)
-key_labels version label None = refl
-key_labels version label (Some l) = refl
-
 -- the groups of earlier rows and of some more are, after one more, those of these followed by it
-pub one_more : (given old_given : List KeyField) (label named : AddressOf → Option Label) (earlier rows : List RowView) (row : RowView) (old new : List GroupModel)
-    → given ≡ old_given → named ≡ label
-    → ((before : List KeyedRow) → old ≡ groups_of_keyed before → new ≡ groups_of_keyed (before ++ (key_of named given row, row) ∷ []))
+pub one_more : (given old_given : List KeyField) (label : AddressOf → Option Label) (earlier rows : List RowView) (row : RowView) (old new : List GroupModel)
+    → given ≡ old_given
+    → ((before : List KeyedRow) → old ≡ groups_of_keyed before → new ≡ groups_of_keyed (before ++ (key_of label given row, row) ∷ []))
     → old ≡ groups_of old_given label (earlier ++ rows) → new ≡ groups_of old_given label (earlier ++ (rows ++ row ∷ []))
-one_more given fields label named earlier rows row old new same names added is =
+one_more given fields label earlier rows row old new same added is =
     added (keyed fields label (earlier ++ rows)) is
-    ∙ (λ i. groups_of_keyed (keyed fields label (earlier ++ rows) ++ (key_of (names i) (same i) row, row) ∷ []))
+    ∙ (λ i. groups_of_keyed (keyed fields label (earlier ++ rows) ++ (key_of label (same i) row, row) ∷ []))
     ∙ ap groups_of_keyed (sym (map_push (λ (r : RowView). (key_of label fields r, r)) (earlier ++ rows) row))
     ∙ ap (λ (all : List RowView). groups_of fields label all) (append_assoc earlier rows (row ∷ []))
 

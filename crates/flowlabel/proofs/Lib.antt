@@ -4,8 +4,6 @@ pub mod DefinitionLemmas
 pub mod EndLemmas
 pub mod EquivalentLemmas
 pub mod GroupLemmas
-pub mod LabelLemmas
-pub mod LabellingLemmas
 pub mod LineLemmas
 pub mod MinimalLemmas
 pub mod OutputLemmas

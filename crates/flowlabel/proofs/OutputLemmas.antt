@@ -23,7 +23,7 @@ use Rattle.pmap_cert.specs.MinimalPair.{HasItsLabels, IsMinimalPair}
 use Rattle.pmap_print.specs.Info.{info_text}
 use Rattle.pmap_print.specs.List.{list_text}
 use Rattle.pmap_print.specs.Runs.{IsRunsText}
-use Rattle.flowlabel.specs.Labelling.{Labelling, labelling_of_list, labelling_of_map}
+use Rattle.label_lookup.specs.Labelling.{Labelling, labelling_of_list, labelling_of_map}
 use Rattle.flowlabel.specs.Output.{FileTexts, FlowsThen, InFlows, InList, InMap, LabelsThen, ListThen, MapThen, OneOutput, Outcome, Prints, PrintsMinimal, PrintsRuns, ReportsThen, SourceThen, label_text, report_of_rows, CertificateThen, Checks, InCertificate, InCheck, ReadsCertificate, report_of_groups}
 use Rattle.flowlabel.specs.Request.{FromList, FromMap, LabelSource, label, info, rows, cat, shrink, check, uniq}
 

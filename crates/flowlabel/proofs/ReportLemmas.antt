@@ -7,7 +7,7 @@ use Rattle.pmap_text.specs.ListModel.{ListModel}
 use Rattle.pmap_text.specs.MapModel.{MapModel}
 use Rattle.pmap_text.specs.Reading.{ReadsList, ReadsMap}
 use Rattle.ipfix_read.specs.Message.{MessageView}
-use Rattle.flowlabel.specs.Labelling.{Labelling, labelling_of_list, labelling_of_map}
+use Rattle.label_lookup.specs.Labelling.{Labelling, labelling_of_list, labelling_of_map}
 use Rattle.flowlabel.specs.Output.{FileTexts, FlowsThen, InFlows, Outcome, Prints, ReportsThen}
 use Rattle.flowlabel.specs.Request.{FromList, FromMap, LabelSource}
 use Rattle.flowlabel.specs.Run.{HasFailed, HasName, HasText, HaveTexts, IsFaultOfBytes, IsFaultOfFlowsFile, source_failed}

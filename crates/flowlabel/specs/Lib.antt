@@ -2,7 +2,6 @@ pub mod Request
 pub mod Definition
 pub mod Answer
 pub mod Faults
-pub mod Labelling
 pub mod Output
 pub mod Run
 pub mod Opening

@@ -27,9 +27,9 @@ use Rattle.pmap_print.specs.Groups.{groups_text}
 use Rattle.pmap_print.specs.Info.{info_text}
 use Rattle.pmap_print.specs.List.{list_text}
 use Rattle.pmap_print.specs.ReadBack.{labels_of}
-use Rattle.pmap_print.specs.Rows.{rows_text}
+use Rattle.pmap_print.specs.Rows.{LabelTexts, rows_text}
 use Rattle.pmap_print.specs.Runs.{IsRunsText}
-use Rattle.flowlabel.specs.Labelling.{Labelling, label_by, labelling_of_list, labelling_of_map, row_labels, label_where}
+use Rattle.label_lookup.specs.Labelling.{Labelling, label_by, label_where, labelling_of_list, labelling_of_map}
 use Rattle.flowlabel.specs.Request.{FromList, FromMap, LabelSource, Request, label, info, rows, cat, shrink, check, uniq}
 
 -- The output of a request: the text that it prints, or the first fault of its files' bytes.
@@ -140,6 +140,10 @@ passing condition labels all = filter (passes condition labels) all
 
 abbrev pub passing_rows : Condition → Option Labelling → List MessageView → List RowView
 passing_rows condition labels messages = passing condition labels (rows_of_messages messages)
+
+-- the labels of a row's source and destination
+abbrev pub row_labels : Labelling → RowView → LabelTexts
+row_labels l row = (label_by l (row.version, row.src), label_by l (row.version, row.dst))
 
 -- the rows that meet a condition, with the labels of their addresses where there is a labelling
 abbrev pub report_of_rows : Condition → Bool → Option Labelling → List MessageView → List ℕ

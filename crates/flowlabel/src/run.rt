@@ -11,14 +11,12 @@ use crate::inputs::Inputs;
 use flow_io::{Input, Output, WriteFault, write_whole};
 use std::alloc::Global;
 
-pub mod address_labels;
 mod cat;
 mod check;
 pub mod info;
 mod label;
 mod labelled;
 pub mod laws;
-pub mod map_labels;
 mod passing;
 pub mod report;
 pub mod rows;

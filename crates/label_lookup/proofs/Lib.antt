@@ -2,3 +2,4 @@ pub mod Scanned
 pub mod SortedEntries
 pub mod Outers
 pub mod Indexed
+pub mod Labellings

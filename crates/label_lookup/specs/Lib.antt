@@ -1,3 +1,3 @@
-pub mod RowLabel
+pub mod Labelling
 pub mod TrieLabels
 pub mod EntryOrder

@@ -19,9 +19,9 @@ use std::marker::Model;
 #[derive(Drop)]
 pub struct ListIndex<'a> {
     list: &'a PrefixList,
-    /// The list's entries by their first addresses, of those that begin at one address the shorter blocks first.
+    // The list's entries by their first addresses, of those that begin at one address the shorter blocks first.
     entries: Vec<Entry>,
-    /// For each of these entries, how many entries come up to the closest earlier one that doesn't end before it begins.
+    // For each of these entries, how many entries come up to the closest earlier one that doesn't end before it begins.
     outers: Vec<usize>,
 }
 
@@ -75,7 +75,7 @@ impl<'a> Labeller for ListIndex<'a> {
     }
 }
 
-/// The entries in the order in which their blocks begin, of those that begin at one address the shorter blocks first.
+// The entries in the order in which their blocks begin, of those that begin at one address the shorter blocks first.
 fn ordered(alloc: Global, entries: &[Entry]) -> Result<Vec<Entry>, AllocError>
     ensures moved { IfOk result (λ sorted. IsPermutation entries.now sorted.items) }
     ensures ordered { IfOk result (λ sorted. AreOrdered sorted.items) }
@@ -85,7 +85,7 @@ fn ordered(alloc: Global, entries: &[Entry]) -> Result<Vec<Entry>, AllocError>
     Ok(sorted)
 }
 
-/// For each entry, how many entries come up to the closest earlier one that doesn't end before it begins.
+// For each entry, how many entries come up to the closest earlier one that doesn't end before it begins.
 fn outers_of(alloc: Global, entries: &[Entry]) -> Result<Vec<usize>, AllocError>
     requires { AreOrdered entries.now }
     ensures count { IfOk result (λ outers. length outers.items ≡ length entries.now) }
@@ -99,8 +99,8 @@ fn outers_of(alloc: Global, entries: &[Entry]) -> Result<Vec<usize>, AllocError>
     Ok(outers)
 }
 
-/// How many entries come up to the last of the first `count` that doesn't end before the address with this number. None of
-/// the `count` begins behind it.
+// How many entries come up to the last of the first `count` that doesn't end before the address with this number. None of
+// the `count` begins behind it.
 fn reaching(entries: &[Entry], outers: &[usize], count: usize, number: u128) -> usize
     requires within { count ≤ length entries.now }
     requires known { count ≤ length outers.now }

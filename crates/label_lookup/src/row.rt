@@ -1,5 +1,6 @@
+//! The label of the address of a row.
 ghost use Rattle.std.specs.Prelude.{◌≡◌, option_map};
-ghost use Rattle.label_lookup.specs.RowLabel.{label_of_row_address, label_under};
+ghost use Rattle.label_lookup.specs.Labelling.{label_by, label_where, labelling_by, labelling_lent};
 
 use crate::labeller::Labeller;
 use prefix_keys::{Addr, convert};
@@ -8,7 +9,7 @@ use prefix_keys::{Addr, convert};
 /// is `None` where it has no such place, or no label there.
 pub fn label_row<L: Labeller>(labeller: &L, addr: Addr) -> Option<&[u8]>
     ensures { option_map (λ t. t.now) result
-        ≡ label_of_row_address (L.version_of labeller.now) (L.label labeller.now) (addr.version, addr.value) }
+        ≡ label_by (labelling_by L.version_of L.label labeller.now) (addr.version, addr.value) }
 {
     match convert(addr, labeller.version()) {
         Some(place) => labeller.label_of(place),
@@ -19,7 +20,7 @@ pub fn label_row<L: Labeller>(labeller: &L, addr: Addr) -> Option<&[u8]>
 /// The same by a labeller that there may be: without one no address has a label.
 pub fn label_row_under<L: Labeller>(labeller: Option<&L>, addr: Addr) -> Option<&[u8]>
     ensures { option_map (λ t. t.now) result
-        ≡ label_under L.version_of L.label (option_map (λ l. l.now) labeller.entry) (addr.version, addr.value) }
+        ≡ label_where (labelling_lent L.version_of L.label labeller.entry) (addr.version, addr.value) }
 {
     match labeller {
         Some(labeller) => label_row(labeller, addr),

@@ -2,7 +2,7 @@
 ghost use Rattle.std.specs.Prelude.{◌≡◌, ◌≤◌, ℕ, List, Ok, None, Some, false, IfErr, IfOk, length};
 ghost use Rattle.pmap_text.specs.MapText.{map_of};
 ghost use Rattle.pmap_text.specs.PrefixList.{list_of};
-ghost use Rattle.flowlabel.specs.Labelling.{labelling_of_list, labelling_of_map};
+ghost use Rattle.label_lookup.specs.Labelling.{labelling_of_list, labelling_of_map};
 ghost use Rattle.flowlabel.specs.Output.{FileTexts, HasRunsText, LabelsThen, ListThen, MapThen, PrintsRuns};
 ghost use Rattle.flowlabel.specs.Request.{files_named, needs_named, source_of};
 ghost use Rattle.flowlabel.specs.Run.{any_failed, is_read_stop, AreNeeded, HaveTexts, IsFaultOfBytes, IsFaultOfListFile, IsFaultOfMapFile};

@@ -2,7 +2,7 @@
 ghost use Rattle.std.specs.Prelude.{◌≡◌, ℕ, List, [], Ok, None, Some, false, IfErr, IfOk, option_map, unwrap_or};
 ghost use Rattle.pmap_text.specs.MapText.{map_of};
 ghost use Rattle.pmap_text.specs.PrefixList.{list_of};
-ghost use Rattle.flowlabel.specs.Labelling.{labelling, labelling_of_list, labelling_of_map};
+ghost use Rattle.label_lookup.specs.Labelling.{labelling, labelling_of_list, labelling_of_map};
 ghost use Rattle.flowlabel.specs.Output.{FileTexts, LabelsThen, ListThen, MapThen, Prints, label_text, line_of};
 ghost use Rattle.flowlabel.specs.Request.{files_named, needs_named, source_of};
 ghost use Rattle.flowlabel.specs.Run.{any_failed, is_read_stop, AreNeeded, HaveTexts, IsFaultOfBytes, IsFaultOfListFile, IsFaultOfMapFile};
@@ -10,11 +10,10 @@ ghost use Rattle.flowlabel.specs.Run.{any_failed, is_read_stop, AreNeeded, HaveT
 use crate::command::LabelFile;
 use crate::fault::RunFault;
 use crate::inputs::{Inputs, Source};
-use crate::run::address_labels::AddressLabels;
-use crate::run::map_labels::{MapLabels, trie_of};
 use crate::run::source::{list_of_file, map_of_file};
 use flow_io::Input;
-use label_lookup::{Labeller, ListIndex, label_row};
+use label_lookup::{AddressLabels, Labeller, ListIndex, MapLabels, label_row};
+use label_trie::Trie;
 use pmap_text::{MapText, PrefixList};
 use prefix_keys::Addr;
 use std::alloc::{AllocError, Global};
@@ -43,7 +42,7 @@ fn line_by<L: Labeller>(alloc: Global, labels: &L, addr: Addr) -> Result<Vec<u8>
 fn line_by_map(alloc: Global, map: &MapText, addr: Addr) -> Result<Vec<u8>, AllocError>
     ensures { IfOk result (λ out. out.items ≡ label_text (addr.version, addr.value) (labelling_of_map (map_of map.now))) }
 {
-    let trie = trie_of(alloc, map)?;
+    let trie = Trie::build(alloc, map)?;
     line_by(alloc, &MapLabels::new(map, &trie), addr)
 }
 

@@ -1,6 +1,6 @@
 //! Reports on an IPFIX File under the labels of another file.
 ghost use Rattle.std.specs.Prelude.{◌≡◌, ℕ, List, Ok, None, Some, [], false, IfErr, IfOk, is_some, option_map};
-ghost use Rattle.flowlabel.specs.Labelling.{labelling_by};
+ghost use Rattle.label_lookup.specs.Labelling.{labelling_by};
 ghost use Rattle.flowlabel.specs.Output.{FileTexts, FlowsThen, Prints, ReportsThen};
 ghost use Rattle.flowlabel.specs.Request.{FromList, FromMap, files_named, needs_named, source_of};
 ghost use Rattle.flowlabel.specs.Run.{any_failed, is_read_stop, AreNeeded, HaveTexts, IsFaultOfBytes, IsFaultOfFlowsFile};
@@ -8,12 +8,11 @@ ghost use Rattle.flowlabel.specs.Run.{any_failed, is_read_stop, AreNeeded, HaveT
 use crate::command::LabelFile;
 use crate::fault::RunFault;
 use crate::inputs::{Inputs, Source};
-use crate::run::address_labels::AddressLabels;
-use crate::run::map_labels::{MapLabels, trie_of};
 use crate::run::report::{Report, report_of_file};
 use crate::run::source::{list_of_file, map_of_file};
 use flow_io::Input;
-use label_lookup::{Labeller, ListIndex, Scan};
+use label_lookup::{AddressLabels, Labeller, ListIndex, MapLabels, Scan};
+use label_trie::Trie;
 use std::alloc::Global;
 
 // The report on a File without labels.
@@ -69,7 +68,7 @@ fn report_by_map<'a, R: Input, P: Report>(
         unreachable!()
     };
     let map = map_of_file(alloc, map)?;
-    let Ok(trie) = trie_of(alloc, &map) else {
+    let Ok(trie) = Trie::build(alloc, &map) else {
         return Err(RunFault::NoMemory);
     };
     let Some(flows) = &mut inputs.flows else {

@@ -6,7 +6,7 @@ ghost use Rattle.flow_filter.specs.Filters.{condition_in};
 ghost use Rattle.flow_rows.specs.Content.{rows_of};
 ghost use Rattle.flow_rows.specs.Elements.{rows_of_record};
 ghost use Rattle.flow_rows.specs.Row.{row_view};
-ghost use Rattle.flowlabel.specs.Labelling.{labelling_lent};
+ghost use Rattle.label_lookup.specs.Labelling.{labelling_lent};
 ghost use Rattle.flowlabel.specs.Output.{passes, passing, passing_rows};
 
 use flow_filter::Filter;

@@ -1,7 +1,7 @@
 //! What is printed of an IPFIX File, under labels or without any.
 ghost use Rattle.std.specs.Prelude.{◌≡◌, ◌≤◌, ℕ, List, Option, Ok, Some, None, false, IfErr, IfOk, length};
 ghost use Rattle.ipfix_read.specs.Message.{MessageView};
-ghost use Rattle.flowlabel.specs.Labelling.{Labelling, labelling_lent};
+ghost use Rattle.label_lookup.specs.Labelling.{Labelling, labelling_lent};
 ghost use Rattle.flowlabel.specs.Output.{FlowsThen, Prints};
 ghost use Rattle.flowlabel.specs.Run.{is_read_stop, IsFaultOfFlowsFile};
 

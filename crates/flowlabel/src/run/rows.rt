@@ -2,7 +2,8 @@
 ghost use Rattle.std.specs.Prelude.{◌≡◌, IfOk, length, map};
 ghost use Rattle.flow_rows.specs.Row.{row_view};
 ghost use Rattle.pmap_print.specs.Rows.{label_texts};
-ghost use Rattle.flowlabel.specs.Labelling.{labelling_by, row_labels};
+ghost use Rattle.label_lookup.specs.Labelling.{labelling_by};
+ghost use Rattle.flowlabel.specs.Output.{row_labels};
 
 use crate::run::passing::passing_rows;
 use crate::run::report::Report;

@@ -3,7 +3,7 @@ ghost use Rattle.std.specs.Prelude.{◌≡◌, ◌+◌, ◌^◌, ◌<◌, ◌≤
 ghost use Rattle.flow_filter.specs.Filters.{condition_in};
 ghost use Rattle.flow_rows.specs.Row.{RowView, row_view};
 ghost use Rattle.flow_uniq.specs.Groups.{groups_of, record_count};
-ghost use Rattle.flowlabel.specs.Labelling.{label_where, labelling_lent};
+ghost use Rattle.label_lookup.specs.Labelling.{label_where, labelling_lent};
 ghost use Rattle.flowlabel.specs.Output.{passing_rows};
 
 use crate::run::passing::add_rows_of_sets;

@@ -1,6 +1,6 @@
-use Rattle.std.proofs.Common.{◌≡◌, ◌++◌, map, option_map, take}
+use Rattle.std.proofs.Common.{◌≡◌, ◌++◌, map, take}
 use Rattle.flow_rows.specs.Row.{row_view}
-use Rattle.label_lookup.specs.RowLabel.{label_under}
+use Rattle.label_lookup.specs.Labelling.{label_where, labelling_lent}
 use Rattle.flow_uniq.specs.Key.{key_of}
 use Rattle.flow_uniq.specs.Parts.{key_code}
 use Rattle.flow_uniq.proofs.key.append_key.Given as goal
@@ -10,4 +10,4 @@ abbrev pub invariant-loop-field : goal.invariant-loop-field
 invariant-loop-field g l =
     l.out.items
     ≡ l.initial.out.items
-    ++ key_code (key_of (label_under g.L.Labeller.version_of g.L.Labeller.label (option_map (λ x. x.now) l.labeller)) (take l.field-index l.fields) (row_view l.row))
+    ++ key_code (key_of (label_where (labelling_lent g.L.Labeller.version_of g.L.Labeller.label l.labeller)) (take l.field-index l.fields) (row_view l.row))

@@ -4,7 +4,7 @@ use Rattle.pmap_text.specs.ListModel.{list_label}
 use Rattle.pmap_text.specs.PrefixList.{list_of}
 use Rattle.label_trie.specs.declared.leaf.Leaf.{Leaf}
 use Rattle.pmap_print.specs.Runs.{HaveRunsOf}
-use Rattle.flowlabel.proofs.LabellingLemmas.{same_at_addresses}
+use Rattle.label_lookup.proofs.Labellings.{same_at_addresses}
 use Rattle.flowlabel.proofs.run.cat.runs_of_list.Goals as goal
 
 have : (c : goal.After-as_slice) → HaveRunsOf c.args.list.now.version (list_label (list_of c.args.list.now)) c.as_slice.result.now c.args.list.now.labels

@@ -4,7 +4,7 @@ use Rattle.pmap_text.specs.MapModel.{map_label}
 use Rattle.pmap_text.specs.MapText.{map_of}
 use Rattle.label_trie.specs.declared.leaf.Leaf.{Leaf}
 use Rattle.pmap_print.specs.Runs.{HaveRunsOf}
-use Rattle.flowlabel.proofs.LabellingLemmas.{same_at_addresses}
+use Rattle.label_lookup.proofs.Labellings.{same_at_addresses}
 use Rattle.flowlabel.proofs.run.cat.runs_of_map.Goals as goal
 
 have : (c : goal.After-as_slice) → HaveRunsOf c.args.map.now.version (λ a. Some (map_label (map_of c.args.map.now) a)) c.as_slice.result.now c.args.map.now.labels

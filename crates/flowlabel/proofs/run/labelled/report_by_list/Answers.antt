@@ -4,7 +4,7 @@ use Rattle.std.proofs.lemmas.Result.{IfErr-weaker}
 use Rattle.pmap_text.specs.ListModel.{ListModel}
 use Rattle.pmap_text.specs.PrefixList.{list_of}
 use Rattle.pmap_text.specs.Reading.{ReadsList}
-use Rattle.flowlabel.specs.Labelling.{labelling_of_list}
+use Rattle.label_lookup.specs.Labelling.{labelling_of_list}
 use Rattle.flowlabel.specs.Request.{FromList}
 use Rattle.flowlabel.proofs.ReportLemmas.{fault_joins, joins_by_list, text_joins}
 use Rattle.flowlabel.proofs.run.labelled.report_by_list.Goals as goal

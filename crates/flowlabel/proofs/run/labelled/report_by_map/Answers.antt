@@ -4,7 +4,7 @@ use Rattle.std.proofs.lemmas.Result.{IfErr-weaker}
 use Rattle.pmap_text.specs.MapModel.{MapModel}
 use Rattle.pmap_text.specs.MapText.{map_of}
 use Rattle.pmap_text.specs.Reading.{ReadsMap}
-use Rattle.flowlabel.specs.Labelling.{labelling_of_map}
+use Rattle.label_lookup.specs.Labelling.{labelling_of_map}
 use Rattle.flowlabel.specs.Request.{FromMap}
 use Rattle.flowlabel.proofs.ReportLemmas.{fault_joins, joins_by_map, text_joins}
 use Rattle.flowlabel.proofs.run.labelled.report_by_map.Goals as goal

@@ -4,7 +4,7 @@ use Rattle.std.specs.List.{flat_map}
 use Rattle.flow_filter.specs.Filters.{condition_in}
 use Rattle.flow_rows.specs.Elements.{rows_of_record}
 use Rattle.flow_rows.specs.Row.{row_view}
-use Rattle.flowlabel.specs.Labelling.{labelling_lent}
+use Rattle.label_lookup.specs.Labelling.{labelling_lent}
 use Rattle.flowlabel.specs.Output.{passing}
 use Rattle.flowlabel.proofs.run.passing.add_rows_of_records.Given as goal
 

@@ -3,7 +3,7 @@ use Rattle.std.proofs.Common.{◌≡◌, ◌++◌, map, take}
 use Rattle.flow_filter.specs.Filters.{condition_in}
 use Rattle.flow_rows.specs.Content.{rows_of}
 use Rattle.flow_rows.specs.Row.{row_view}
-use Rattle.flowlabel.specs.Labelling.{labelling_lent}
+use Rattle.label_lookup.specs.Labelling.{labelling_lent}
 use Rattle.flowlabel.specs.Output.{passing}
 use Rattle.flowlabel.proofs.run.passing.add_rows_of_sets.Given as goal
 

@@ -2,7 +2,7 @@ use Rattle.std.proofs.Common.{◌∙◌, sym}
 use Rattle.flow_filter.specs.Filters.{condition_in}
 use Rattle.flow_rows.specs.Elements.{first_row}
 use Rattle.flow_rows.specs.Row.{row_view}
-use Rattle.flowlabel.specs.Labelling.{labelling_lent}
+use Rattle.label_lookup.specs.Labelling.{labelling_lent}
 use Rattle.flowlabel.specs.Output.{passes}
 use Rattle.flowlabel.proofs.PassingLemmas.{of_none, of_other, of_passing}
 use Rattle.flowlabel.proofs.run.passing.passing_row.Goals as goal

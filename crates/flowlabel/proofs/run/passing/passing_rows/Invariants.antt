@@ -2,7 +2,7 @@
 use Rattle.std.proofs.Common.{◌≡◌, map, take}
 use Rattle.flow_filter.specs.Filters.{condition_in}
 use Rattle.flow_rows.specs.Row.{row_view}
-use Rattle.flowlabel.specs.Labelling.{labelling_lent}
+use Rattle.label_lookup.specs.Labelling.{labelling_lent}
 use Rattle.flowlabel.specs.Output.{passing_rows}
 use Rattle.flowlabel.proofs.run.passing.passing_rows.Given as goal
 

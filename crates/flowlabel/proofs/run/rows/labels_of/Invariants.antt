@@ -2,7 +2,8 @@
 use Rattle.std.proofs.Common.{◌≡◌, length, map, take}
 use Rattle.flow_rows.specs.Row.{row_view}
 use Rattle.pmap_print.specs.Rows.{label_texts}
-use Rattle.flowlabel.specs.Labelling.{labelling_by, row_labels}
+use Rattle.label_lookup.specs.Labelling.{labelling_by}
+use Rattle.flowlabel.specs.Output.{row_labels}
 use Rattle.flowlabel.proofs.run.rows.labels_of.Given as goal
 
 abbrev pub invariant-loop-row : goal.invariant-loop-row

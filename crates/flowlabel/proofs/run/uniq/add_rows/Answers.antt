@@ -1,8 +1,8 @@
 use Rattle.std.proofs.Common.{◌∙◌, ◌+◌, ◌++◌, ℕ, List, ap, arith, map, sym, take}
 use Rattle.flow_rows.specs.Row.{RowView, row_view}
 use Rattle.flow_uniq.specs.Groups.{groups_of}
-use Rattle.flowlabel.specs.Labelling.{label_where, labelling_lent}
-use Rattle.flowlabel.proofs.GroupLemmas.{key_labels, one_more, take_more}
+use Rattle.label_lookup.specs.Labelling.{label_where, labelling_lent}
+use Rattle.flowlabel.proofs.GroupLemmas.{one_more, take_more}
 use Rattle.flowlabel.proofs.run.uniq.add_rows.Goals as goal
 
 pub loop-row-preserved : goal.loop-row-preserved
@@ -16,8 +16,8 @@ loop-row-preserved g c =
       count = omega (arith, c.in_ok-add.ensures.count, c.loop-row.invariant.count);
       groups =
           λ earlier is.
-          one_more c.loop-row.groups.fields fields label _ earlier before (row_view c.row-item.result) c.loop-row.groups.groups c.add.new.self.groups
-          c.loop-row.invariant.fields (key_labels g.L.Labeller.version_of g.L.Labeller.label c.args.labels) c.in_ok-add.ensures.ok
+          one_more c.loop-row.groups.fields fields label earlier before (row_view c.row-item.result) c.loop-row.groups.groups c.add.new.self.groups
+          c.loop-row.invariant.fields c.in_ok-add.ensures.ok
           (c.loop-row.invariant.groups earlier is)
           ∙ ap (λ (rows : List RowView). groups_of fields label (earlier ++ rows)) (sym more);
     }

@@ -2,7 +2,7 @@
 use Rattle.std.proofs.Common.{◌≡◌, ◌+◌, ◌++◌, List, map, take}
 use Rattle.flow_rows.specs.Row.{RowView, row_view}
 use Rattle.flow_uniq.specs.Groups.{groups_of, record_count}
-use Rattle.flowlabel.specs.Labelling.{label_where, labelling_lent}
+use Rattle.label_lookup.specs.Labelling.{label_where, labelling_lent}
 use Rattle.flowlabel.proofs.run.uniq.add_rows.Given as goal
 
 abbrev pub invariant-loop-row : goal.invariant-loop-row

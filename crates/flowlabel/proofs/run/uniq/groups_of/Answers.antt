@@ -7,7 +7,7 @@ use Rattle.flow_rows.specs.Row.{RowView, row_view}
 use Rattle.flow_rows.specs.declared.row.Row.{Row}
 use Rattle.flow_uniq.specs.Groups.{groups_of}
 use Rattle.flow_uniq.specs.declared.field.KeyField.{KeyField}
-use Rattle.flowlabel.specs.Labelling.{label_where, labelling_lent}
+use Rattle.label_lookup.specs.Labelling.{label_where, labelling_lent}
 use Rattle.flowlabel.specs.Output.{passes, passing, passing_rows}
 use Rattle.flowlabel.proofs.GroupLemmas.{passing_more, rows_within}
 use Rattle.flowlabel.proofs.run.uniq.groups_of.Goals as goal

@@ -1,12 +1,14 @@
-ghost use Rattle.std.specs.Prelude.{◌≡◌, IfOk};
+ghost use Rattle.std.specs.Prelude.{◌≡◌, ℕ, ◌^◌, ◌<◌, All, Some, option_and_then, slice_get};
+ghost use Rattle.prefix_keys.specs.Version.{width_of};
+ghost use Rattle.pmap_text.specs.MapModel.{map_label};
 ghost use Rattle.pmap_text.specs.MapText.{map_of};
-ghost use Rattle.flowlabel.specs.Labelling.{IsTrieOf};
+ghost use Rattle.label_trie.specs.TrieModel.{IsSettledLeaf, label_in};
 
-use label_lookup::{Labeller, TrieLabeller};
+use crate::labeller::Labeller;
+use crate::trie_labeller::TrieLabeller;
 use label_trie::Trie;
 use pmap_text::MapText;
 use prefix_keys::{Addr, Version};
-use std::alloc::{AllocError, Global};
 use std::marker::Model;
 
 /// The labels of a prefix map, found in its trie.
@@ -17,23 +19,25 @@ pub struct MapLabels<'a> {
 }
 
 impl<'a> Model for MapLabels<'a> {
-    ghost use Rattle.std.specs.Prelude.{◌≡◌};
     ghost use Rattle.pmap_text.specs.MapModel.{MapModel};
 
     ghost Value = { MapModel };
 
     ghost use Rattle.pmap_text.specs.MapText.{map_of};
-    ghost use Rattle.flowlabel.specs.Labelling.{IsTrieOf};
+    ghost use Rattle.label_lookup.specs.TrieLabels.{HasLabelsOf};
 
     ghost view = { λ l. map_of l.map.now };
 
-    ghost invariant = { λ l. IsTrieOf l.map.now l.labels.trie × (l.labels.table ≡ l.map.now.labels) };
+    ghost invariant = { λ l. HasLabelsOf l.map.now l.labels };
 }
 
 impl<'a> MapLabels<'a> {
-    /// The labels of this map, by its trie.
+    /// The labels of this map, by its trie, of which `Trie::build` says what is asked here.
     pub fn new(map: &'a MapText, trie: &'a Trie) -> MapLabels<'a>
-        requires { IsTrieOf map.now trie.now }
+        requires version { trie.now.version ≡ map.now.version }
+        requires settled { All (IsSettledLeaf (map_of map.now)) trie.now.leaves }
+        requires labels { (a : ℕ) → a < 2 ^ width_of map.now.version
+            → option_and_then (slice_get map.now.labels) (label_in trie.now a) ≡ Some (map_label (map_of map.now) a) }
         ensures { result ≡ map_of map.now }
     {
         let labels = TrieLabeller::new(trie, &map.labels);
@@ -56,12 +60,4 @@ impl<'a> Labeller for MapLabels<'a> {
     fn label_of(&self, addr: Addr) -> Option<&[u8]> {
         self.labels.label_of(addr)
     }
-}
-
-/// The trie of a map.
-pub fn trie_of(alloc: Global, map: &MapText) -> Result<Trie, AllocError>
-    ensures { IfOk result (IsTrieOf map.now) }
-{
-    let trie = Trie::build(alloc, map)?;
-    Ok(trie)
 }

@@ -1,19 +1,13 @@
-use Rattle.std.specs.Prelude.{◌≡◌, ◌^◌, ◌<◌, ℕ, Option, Some, None, nat_lt, option_and_then, option_map, slice_get, if◌then◌else◌}
+use Rattle.std.specs.Prelude.{◌^◌, ℕ, Option, Some, None, nat_lt, option_and_then, option_map, if◌then◌else◌}
 use Rattle.std.specs.Borrow.{Bor}
+use Rattle.prefix_keys.specs.Conversion.{converted}
 use Rattle.prefix_keys.specs.Text.{AddressOf}
 use Rattle.prefix_keys.specs.Version.{width_of}
 use Rattle.prefix_keys.specs.declared.version.Version.{Version}
 use Rattle.pmap_text.specs.ListModel.{ListModel, list_label}
 use Rattle.pmap_text.specs.MapModel.{Label, MapModel, map_label}
-use Rattle.pmap_text.specs.MapText.{map_of}
-use Rattle.pmap_text.specs.declared.map_text.MapText.{MapText}
-use Rattle.label_trie.specs.TrieModel.{TrieModel, label_in}
-use Rattle.flow_rows.specs.Row.{RowView}
-use Rattle.pmap_print.specs.Rows.{LabelTexts}
-use Rattle.label_lookup.specs.RowLabel.{label_of_row_address}
-use Rattle.label_lookup.specs.TrieLabels.{AreNumbersKnown}
 
--- What gives labels to the addresses of one version: a prefix map or a prefix list, which outputs don't tell apart.
+-- What gives labels to the addresses of one version: a prefix map or a prefix list, which contracts don't tell apart.
 
 -- the label of each address of the version, where it has one
 pub record Labelling : Type 0 where
@@ -35,18 +29,15 @@ labelling_of_map m = labelling m.version (λ a. Some (map_label m a))
 abbrev pub labelling_of_list : ListModel → Labelling
 labelling_of_list l = labelling l.version (list_label l)
 
--- the label of an address, which counts by its place in the labelling's version: none where it has no such place
+-- The label of an address, as of a row's: that at the address's place in the labelling's version, and none where it has no
+-- such place.
 abbrev pub label_by : Labelling → AddressOf → Option Label
-label_by l address = label_of_row_address l.version l.label address
+label_by l address = option_and_then (λ place. l.label place.1) (converted l.version address)
 
 -- the same where there may be no labelling: then no address has a label
 abbrev pub label_where : Option Labelling → AddressOf → Option Label
 label_where None address = None
 label_where (Some l) address = label_by l address
-
--- the labels of a row's source and destination
-abbrev pub row_labels : Labelling → RowView → LabelTexts
-row_labels l row = (label_by l (row.version, row.src), label_by l (row.version, row.dst))
 
 -- what a labeller labels, by its version and its labels
 abbrev pub labelling_by : {L : Type 0} → (L → Version) → (L → ℕ → Option Label) → L → Labelling
@@ -55,9 +46,3 @@ labelling_by version_of label_of labeller = record { version = version_of labell
 -- the same of a labeller that may be lent
 abbrev pub labelling_lent : {L : Type 0} → (L → Version) → (L → ℕ → Option Label) → Option (Bor L) → Option Labelling
 labelling_lent version_of label_of labeller = option_map (λ l. labelling_by version_of label_of l.now) labeller
-
--- the trie gives each address the label of the map, by a number that is in the map's table
-pub record IsTrieOf (m : MapText) (t : TrieModel) : Type 0 where
-  pub version : t.version ≡ m.version
-  pub known : AreNumbersKnown t m.labels
-  pub labels : (a : ℕ) → a < 2 ^ width_of m.version → option_and_then (slice_get m.labels) (label_in t a) ≡ Some (map_label (map_of m) a)

@@ -1,6 +1,6 @@
 ghost use Rattle.std.specs.Prelude.{◌≡◌};
 
-use label_lookup::Labeller;
+use crate::labeller::Labeller;
 use prefix_keys::{Addr, Version};
 
 /// The labels that a labeller has at the addresses of its version. Numbers that are no such addresses have none here, so
@@ -20,7 +20,7 @@ impl<'a, L: Labeller> AddressLabels<'a, L> {
 }
 
 impl<'a, L: Labeller> Labeller for AddressLabels<'a, L> {
-    ghost use Rattle.flowlabel.specs.Labelling.{at_addresses};
+    ghost use Rattle.label_lookup.specs.Labelling.{at_addresses};
 
     ghost version_of = { λ l. L.version_of l.labels.now };
 
