@@ -1,5 +1,5 @@
 -- A text is read exactly where it is the text of a certificate.
-use Rattle.std.proofs.Common.{◌≡◌, ◌≢◌, ℕ, zero, suc, ◌+◌, ◌<◌, ◌≤◌, ◌∙◌, Bool, true, false, List, [], ◌∷◌, ◌++◌, Result, Ok, Err, length, map, refl, sym, ap, subst, arith, codes}
+use Rattle.std.proofs.Common.{◌≡◌, ◌≢◌, ℕ, zero, suc, ◌+◌, ◌<◌, ◌≤◌, ◌∙◌, ◌⊎◌, ◌↔◌, inl, inr, Bool, true, false, List, [], ◌∷◌, ◌++◌, Result, Ok, Err, length, map, refl, sym, ap, subst, arith, codes}
 use Rattle.std.specs.Fmt.{decimal}
 use Rattle.std.specs.List.{AllByRecursion}
 use Rattle.std.specs.Result.{IfErr, IfOk}
@@ -116,6 +116,26 @@ reading-again c form =
     ∙ ap (λ (r : Result ((Version × ℕ) × Place) CertFault). r >>= (λ header. labels_at header.0.1 [] header.1 >>= (λ labels. node_at labels.0 (width_of header.0.0) labels.1 >>= (λ root. ended_by (record { version = header.0.0; table = labels.0; root = root.0 }) root.1)))) head
     ∙ ap (λ (r : Result (List Label × Place) CertFault). r >>= (λ labels. node_at labels.0 (width_of version) labels.1 >>= (λ root. ended_by (record { version = version; table = labels.0; root = root.0 }) root.1))) labels.1
     ∙ ap (λ (r : Result (Tree × Place) CertFault). r >>= (λ root. ended_by (record { version = version; table = table; root = root.0 }) root.1)) root.1
+
+-- so a text is read or has a fault, and never both
+pub reading-iff : (text : List ℕ) (c : CertificateModel) → certificate_reading text ≡ Ok c ↔ (HasTextForm c × (text ≡ certificate_text c))
+reading-iff text c = (reading-found text c, λ found. ap certificate_reading found.1 ∙ reading-again c found.0)
+
+pub reading-either : (text : List ℕ) → ((fault : CertFault) × (certificate_reading text ≡ Err fault))
+    ⊎ ((c : CertificateModel) × HasTextForm c × (text ≡ certificate_text c))
+reading-either text = by (certificate_reading text) refl
+  where
+    by : (r : Result CertificateModel CertFault) → certificate_reading text ≡ r → ((fault : CertFault) × (certificate_reading text ≡ Err fault))
+        ⊎ ((c : CertificateModel) × HasTextForm c × (text ≡ certificate_text c))
+    by (Ok c) read = let found = reading-found text c read in inr (c, found.0, found.1)
+    by (Err fault) read = inl (fault, read)
+
+pub reading-apart : (text : List ℕ) (fault : CertFault) (c : CertificateModel) → certificate_reading text ≡ Err fault → HasTextForm c
+    → text ≡ certificate_text c → ⊥
+reading-apart text fault c failed form e = both_results (sym failed ∙ ap certificate_reading e ∙ reading-again c form)
+  where
+    both_results : ◌≡◌ {A = Result CertificateModel CertFault} (Err fault) (Ok c) → ⊥
+    both_results e = cc
 
 -- so for what a call answers: what is read is the text of its certificate
 pub is_text : (text : List ℕ) (r : Result Certificate CertFault) → IfOk r (λ c. certificate_reading text ≡ Ok (certificate_of c)) → IfOk r (λ c. text ≡ certificate_text (certificate_of c))

@@ -7,7 +7,8 @@
 //! its list is equivalent and least, each map has a minimal pair of a list and a certificate that is accepted, and all
 //! minimal pairs of a map are alike. Each `Certificate` keeps in its type that its labels are in its table, that its sets
 //! rise, and that no node lies deeper than an address has bits. `write_cert` gives the one text of a certificate;
-//! `read_cert` reads a text exactly where it is the text of a certificate, and else names its first fault.
+//! `read_cert` reads a text exactly where it is the text of a certificate, and else names its first fault: each text is the one
+//! or has the other.
 #![tactic(auto)]
 
 pub mod certificate;
