@@ -19,7 +19,7 @@ use Rattle.pmap_text.proofs.LastSuch.{last_such-cases}
 -- All minimal pairs of a map are alike.
 
 -- between pairs that are the same
-same-between : (a b c d : Pair) → IsSamePair a b → IsSamePair b c → IsSamePair d c → IsSamePair a d
+pub same-between : (a b c d : Pair) → IsSamePair a b → IsSamePair b c → IsSamePair d c → IsSamePair a d
 same-between a b c d e f g = record {
   cost = e.cost ∙ f.cost ∙ sym g.cost;
   labels = λ x. e.labels x ∙ f.labels x ∙ sym (g.labels x);

@@ -10,7 +10,7 @@ use Rattle.pmap_text.proofs.Settled.{unsettled-halves}
 -- Each map has a minimal pair: blocks are halved until they are settled, and one of full length is.
 
 -- a node that stands for the block
-abbrev NodeFor : MapModel → ℕ → ℕ → Type 0
+abbrev pub NodeFor : MapModel → ℕ → ℕ → Type 0
 NodeFor m n q = (t : Tree) × StandsFor m t n q
 
 -- the inner node over two nodes that stand for the halves
@@ -39,7 +39,7 @@ node_for m (suc left) n q e =
     by_label None unsettled lower upper = node_over m n q unsettled lower upper
 
 -- the pair that is read off a node for the address space
-pair_of : (m : MapModel) → NodeFor m 0 0 → (l : ListModel) × (c : CertificateModel) × IsMinimalPair m l c
+abbrev pub pair_of : (m : MapModel) → NodeFor m 0 0 → (l : ListModel) × (c : CertificateModel) × IsMinimalPair m l c
 pair_of m node = (
   record {
     version = m.version;

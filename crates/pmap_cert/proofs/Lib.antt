@@ -23,4 +23,7 @@ pub mod ReadingSteps
 pub mod Written
 pub mod Equal
 pub mod MapLabels
+pub mod MapLimits
+pub mod Ends
+pub mod InTableOrder
 pub mod InOrder

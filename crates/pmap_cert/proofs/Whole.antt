@@ -27,7 +27,7 @@ use Rattle.pmap_cert.proofs.Tables.{bind_ok, labels_at-again, labels_at-found, o
 use Rattle.pmap_cert.proofs.Trees.{node_at-found}
 use Rattle.pmap_cert.proofs.TreesAgain.{node_at-again}
 
-no_labels : IsLabelTable []
+pub no_labels : IsLabelTable []
 no_labels = record { few = omega arith; labels = λ i text e. absurd (none-some text e); places = λ i text e. absurd (none-some text e) }
 
 -- nothing is left

@@ -83,6 +83,13 @@ pub fn map_text_has_its_labels()
     ensures { (text : List ℕ) (m : MapModel) → ReadsMap text m → HasItsLabels m }
 {}
 
+/// The map of each text that is read has a minimal pair whose certificate has the form of its text: its labels are in the
+/// table, and its costs are below 2 ^ 32, since a text has at most 1,000,000 mappings.
+pub fn map_text_has_a_minimal_pair()
+    ensures { (text : List ℕ) (m : MapModel) → ReadsMap text m →
+        (l : ListModel) × (c : CertificateModel) × IsMinimalPair m l c × HasTextForm c }
+{}
+
 /// The list of a minimal pair has blocks that are no two equal, by rising first address and of one address the shorter
 /// first, with labels of its table.
 pub fn minimal_list_is_in_order()

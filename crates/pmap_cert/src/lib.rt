@@ -4,11 +4,11 @@
 //! a checker sees that no list that labels every address as the map does is shorter than the one at hand.
 //! The crate stands on prefix_keys (blocks) and pmap_text (maps, prefix lists and their labels).
 //! The layers above, the minimiser and the checker, may rely on the laws in `laws`: an accepted certificate shows that
-//! its list is equivalent and least, each map has a minimal pair of a list and a certificate that is accepted, and all
-//! minimal pairs of a map are alike. Each `Certificate` keeps in its type that its labels are in its table, that its sets
-//! rise, and that no node lies deeper than an address has bits. `write_cert` gives the one text of a certificate;
-//! `read_cert` reads a text exactly where it is the text of a certificate, and else names its first fault: each text is the one
-//! or has the other.
+//! its list is equivalent and least, each map has a minimal pair of a list and a certificate that is accepted, all
+//! minimal pairs of a map are alike, and that of a map text has a certificate with a text. Each `Certificate` keeps in its
+//! type that its labels are in its table, that its sets rise, and that no node lies deeper than an address has bits.
+//! `write_cert` gives the one text of a certificate; `read_cert` reads a text exactly where it is the text of a
+//! certificate, and else names its first fault: each text is the one or has the other.
 #![tactic(auto)]
 
 pub mod certificate;

@@ -1,0 +1,118 @@
+-- The sets of a map's certificate listed in the order of the label table, which is the form of its text.
+use Rattle.std.proofs.Common.{◌≡◌, ℕ, zero, suc, ◌+◌, ◌*◌, ◌<◌, ◌≤◌, ◌∙◌, ◌&&◌, Bool, true, false, List, [], ◌∷◌, Some, arith, filter, length, map, refl, sym, bytes_eq, slice_get}
+use Rattle.std.proofs.lemmas.Bool.{ltb-true}
+use Rattle.prefix_keys.specs.Version.{width_of}
+use Rattle.pmap_text.proofs.LabelTexts.{any_place}
+use Rattle.pmap_text.proofs.Settled.{unsettled-halves}
+use Rattle.pmap_text.specs.Label.{IsLabelTable}
+use Rattle.pmap_text.specs.ListModel.{ListModel}
+use Rattle.pmap_text.specs.MapModel.{Label, MapModel}
+use Rattle.pmap_text.specs.Reading.{ReadsMap, mapping_limit}
+use Rattle.pmap_cert.proofs.Alike.{same-between, table-node}
+use Rattle.pmap_cert.proofs.Ends.{cost-fits}
+use Rattle.pmap_cert.proofs.ExactPairs.{same-exact_pair}
+use Rattle.pmap_cert.proofs.Existence.{minimal_pair, pair_of}
+use Rattle.pmap_cert.proofs.MapLabels.{labels-read}
+use Rattle.pmap_cert.proofs.MapLimits.{limits-read}
+use Rattle.pmap_cert.proofs.Pieces.{found_at}
+use Rattle.pmap_cert.proofs.Sets.{has-filter, has-own}
+use Rattle.pmap_cert.specs.CertificateForm.{HasNodeForm, HasTextForm, IsRising}
+use Rattle.pmap_cert.specs.CertificateModel.{CertificateModel, InnerNode, LeafNode, Pair, Tree, claim_of, has}
+use Rattle.pmap_cert.specs.CertificateText.{place_of}
+use Rattle.pmap_cert.specs.ExactPair.{IsSamePair, exact_pair}
+use Rattle.pmap_cert.specs.MinimalPair.{HasItsLabels, IsMinimalPair, StandsFor}
+
+-- the labels of the table that pass a test rise by their numbers
+rising-weaker : (bound low high : ℕ) (ns : List ℕ) → low ≤ high → IsRising bound high ns → IsRising bound low ns
+rising-weaker bound low high [] le rising = tt
+rising-weaker bound low high (n ∷ ns) le rising = let least = rising.0 in (omega arith, rising.1, rising.2)
+
+rising-filter : (table : List Label) (p : Label → Bool) (i : ℕ) (xs : List Label) → i + length xs ≡ length table
+    → ((j : ℕ) (x : Label) → slice_get xs j ≡ Some x → place_of table x ≡ i + j) → IsRising (length table) i (map (place_of table) (filter p xs))
+rising-filter table p i [] all places = tt
+rising-filter table p i (x ∷ xs) all places =
+    by (p x) refl (rising-filter table p (i + 1) xs (omega arith) (λ j y e. let there = places (suc j) y e in omega arith))
+  where
+    here : place_of table x ≡ i + 0
+    here = places 0 x refl
+
+    by : (b : Bool) → p x ≡ b → IsRising (length table) (i + 1) (map (place_of table) (filter p xs)) → IsRising (length table) i (map (place_of table) (filter p (x ∷ xs)))
+    by true e rest =
+        rw e (omega (arith, here), omega (arith, here, all), rising-weaker (length table) (place_of table x + 1) (i + 1) (map (place_of table) (filter p xs)) (omega (arith, here)) rest)
+    by false e rest = rw e (rising-weaker (length table) i (i + 1) (map (place_of table) (filter p xs)) (omega arith) rest)
+
+rising-table : (table : List Label) (p : Label → Bool) → IsLabelTable table → IsRising (length table) 0 (map (place_of table) (filter p table))
+rising-table table p ok =
+    rising-filter table p 0 table (omega arith)
+    (λ j x e. let there = (found_at (bytes_eq x) table j (ok.places j x e)).1 in omega arith)
+
+-- the node with its sets so
+listed : List Label → Tree → Tree
+listed table (LeafNode x) = LeafNode x
+listed table (InnerNode claim lower upper) =
+    InnerNode (record { cost = claim.cost; labels = filter (has claim.labels) table }) (listed table lower) (listed table upper)
+
+implied : (a b : Bool) → (b ≡ true → a ≡ true) → (a && b) ≡ b
+implied true b h = refl
+implied false true h = h refl
+implied false false h = refl
+
+claim-listed : (table : List Label) (t : Tree) → ((x : Label) → has (claim_of t).labels x ≡ true → has table x ≡ true)
+    → IsSamePair (claim_of (listed table t)) (claim_of t)
+unfolding listed
+claim-listed table (LeafNode x) inside = record { cost = refl; labels = λ y. refl }
+claim-listed table (InnerNode p l r) inside = record {
+  cost = refl;
+  labels = λ x. has-filter p.labels table x ∙ implied (has table x) (has p.labels x) (inside x);
+}
+
+same-back : (p r : Pair) → IsSamePair p r → IsSamePair r p
+same-back p r same = record { cost = sym same.cost; labels = λ x. sym (same.labels x) }
+
+module _ (m : MapModel) (inside : HasItsLabels m) where
+  claim-stands : (t : Tree) (n q : ℕ) → StandsFor m t n q → IsSamePair (claim_of (listed m.table t)) (claim_of t)
+  claim-stands t n q stands = claim-listed m.table t (table-node m inside t n q stands)
+
+  stands-listed : (t : Tree) (n q : ℕ) → StandsFor m t n q → StandsFor m (listed m.table t) n q
+  unfolding listed
+  stands-listed (LeafNode x) n q stands = stands
+  stands-listed (InnerNode p l r) n q stands =
+      let l' : Tree = listed m.table l in
+      let r' : Tree = listed m.table r in
+      let p' : Pair = record { cost = p.cost; labels = filter (has p.labels) m.table } in (
+        stands.0,
+        same-between p' p (exact_pair (claim_of l) (claim_of r)) (exact_pair (claim_of l') (claim_of r')) (claim-stands (InnerNode p l r) n q stands) stands.1
+            (same-exact_pair (claim_of l') (claim_of r') (claim_of l) (claim_of r)
+            (claim-stands l (suc n) (2 * q) stands.2) (claim-stands r (suc n) (2 * q + 1) stands.3)),
+        stands-listed l (suc n) (2 * q) stands.2,
+        stands-listed r (suc n) (2 * q + 1) stands.3,
+      )
+
+  module _ (ok : IsLabelTable m.table) (few : length m.mappings ≤ mapping_limit) where
+    form-listed : (t : Tree) (left n q : ℕ) → n + left ≡ width_of m.version → StandsFor m t n q → HasNodeForm m.table (listed m.table t) left
+    unfolding listed
+    form-listed (LeafNode x) left n q e stands =
+        ltb-true (place_of m.table x) (length m.table)
+        (any_place (bytes_eq x) m.table ∙ table-node m inside (LeafNode x) n q stands x (has-own x))
+    form-listed (InnerNode p l r) zero n q e stands =
+        let below : n < width_of m.version = unsettled-halves m n q (omega arith) stands.0 in
+        absurd (omega arith)
+    form-listed (InnerNode p l r) (suc left) n q e stands = (
+      cost-fits m (InnerNode p l r) (suc left) n q few e stands,
+      rising-table m.table (has p.labels) ok,
+      form-listed l left (suc n) (2 * q) (omega arith) stands.2,
+      form-listed r left (suc n) (2 * q + 1) (omega arith) stands.3,
+    )
+
+    pair-listed : (l : ListModel) × (c : CertificateModel) × IsMinimalPair m l c × HasTextForm c
+    pair-listed =
+        let root = (minimal_pair m).1.root in
+        let stands : StandsFor m root 0 0 = (minimal_pair m).2.root in
+        let pair = pair_of m (listed m.table root, stands-listed root 0 0 stands) in
+        (pair.0, pair.1, pair.2, record { table = ok; root = form-listed root (width_of m.version) 0 0 (omega arith) stands })
+
+-- so the map of each text that is read has a minimal pair whose certificate has a text
+pub minimal-read : (text : List ℕ) (m : MapModel) → ReadsMap text m → (l : ListModel) × (c : CertificateModel) × IsMinimalPair m l c × HasTextForm c
+minimal-read text m read =
+    let limits = limits-read text m read in
+    pair-listed m (labels-read text m read) limits.0 limits.1
