@@ -13,8 +13,9 @@ use Rattle.pmap_text.proofs.Settled.{unsettled-halves}
 use Rattle.pmap_text.specs.MapModel.{Label, MapModel, Mapping, last_such, meets, settled_by, spans_all}
 use Rattle.pmap_text.specs.Reading.{mapping_limit}
 use Rattle.pmap_cert.proofs.Counts.{one_if}
-use Rattle.pmap_cert.specs.CertificateModel.{InnerNode, LeafNode, Pair, Tree, claim_of}
-use Rattle.pmap_cert.specs.ExactPair.{common_labels, exact_pair, exact_pair_by}
+use Rattle.pmap_cert.proofs.Sets.{exact_pair-cost}
+use Rattle.pmap_cert.specs.CertificateModel.{InnerNode, LeafNode, Tree, claim_of}
+use Rattle.pmap_cert.specs.ExactPair.{exact_pair}
 use Rattle.pmap_cert.specs.MinimalPair.{StandsFor}
 
 -- how many ends of a mapping lie between the addresses, so that it covers one of two neighbours and the other not
@@ -118,13 +119,6 @@ ends-halves m n q below =
     ends-parted (first_of W n q) (first_of W (suc n) (2 * q)) (last_of W (suc n) (2 * q)) (first_of W (suc n) (2 * q + 1))
     (last_of W n q) (last_of W (suc n) (2 * q + 1)) m.mappings lower middle upper (omega arith) (omega arith)
 
-exact_pair-least : (p r : Pair) → (exact_pair p r).cost ≤ p.cost + r.cost + 1
-exact_pair-least p r = by (common_labels p r)
-  where
-    by : (common : List Label) → (exact_pair_by p r common).cost ≤ p.cost + r.cost + 1
-    by [] = omega arith
-    by (x ∷ xs) = omega arith
-
 sum-bound : (cost lower upper left a b e : ℕ) → cost ≤ lower + upper + 1 → lower ≤ a * left → upper ≤ b * left → a + b ≤ e → 1 ≤ e → cost ≤ e * suc left
 sum-bound cost lower upper left a b e most l u halves some =
     let sum : (a + b) * left ≤ e * left = mul-le-mul_right left halves in
@@ -139,7 +133,7 @@ cost-ends m (InnerNode p l r) zero n q e stands =
 cost-ends m (InnerNode p l r) (suc left) n q e stands =
     let same : p.cost ≡ (exact_pair (claim_of l) (claim_of r)).cost = stands.1.cost in
     sum-bound p.cost (claim_of l).cost (claim_of r).cost left (block_ends m (suc n) (2 * q)) (block_ends m (suc n) (2 * q + 1)) (block_ends m n q)
-    (omega (arith, same, exact_pair-least (claim_of l) (claim_of r)))
+    (omega (arith, same, exact_pair-cost (claim_of l) (claim_of r) None))
     (cost-ends m l left (suc n) (2 * q) (omega arith) stands.2)
     (cost-ends m r left (suc n) (2 * q + 1) (omega arith) stands.3)
     (ends-halves m n q (omega arith))
