@@ -7,7 +7,7 @@ use Rattle.flowlabel.specs.Opening.{CannotOpenOne, IsEndOf}
 use Rattle.flowlabel.specs.Request.{FileNames, Request, Text, files_of, names_of}
 use Rattle.flowlabel.specs.declared.command.Files.{Files}
 use Rattle.flowlabel.specs.declared.fault.RunFault.{RunFault}
-use Rattle.flowlabel.specs.declared.fault.RunFault.TheVariants.{Usage, CannotOpen, CannotRead, CannotWrite, NoMemory, Map, List as ListFile, Flows, Certificate, Check}
+use Rattle.flowlabel.specs.declared.fault.RunFault.TheVariants.{Usage, CannotOpen, CannotRead, CannotWrite, NoMemory, File}
 use Rattle.flowlabel.specs.declared.usage.UsageFault.{UsageFault}
 
 -- the names of files are those that their texts are
@@ -30,11 +30,7 @@ end_of_open words request (CannotOpen file) answers is = (request, answers, is)
 end_of_open words request (CannotRead file) answers is = (request, answers)
 end_of_open words request CannotWrite answers is = (request, answers)
 end_of_open words request NoMemory answers is = (request, answers)
-end_of_open words request (Map file fault) answers is = (request, answers)
-end_of_open words request (ListFile file fault) answers is = (request, answers)
-end_of_open words request (Flows file fault) answers is = (request, answers)
-end_of_open words request (Certificate file fault) answers is = (request, answers)
-end_of_open words request (Check file fault) answers is = (request, answers)
+end_of_open words request (File fault) answers is = (request, answers)
 
 -- a fault that a `?` hands on ends the program as it did
 pub passed_up : {A : Type 0} (words : List Text) (r : Result A RunFault) (fault : RunFault) → IsErrAnd r (λ y. y ≡ fault)

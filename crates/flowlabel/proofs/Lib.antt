@@ -5,8 +5,8 @@ pub mod EndLemmas
 pub mod EquivalentLemmas
 pub mod GroupLemmas
 pub mod LineLemmas
+pub mod LoadingLemmas
 pub mod MinimalLemmas
 pub mod OutputLemmas
 pub mod PassingLemmas
-pub mod ReportLemmas
 pub mod RequestLemmas

@@ -24,7 +24,8 @@ use Rattle.pmap_print.specs.Info.{info_text}
 use Rattle.pmap_print.specs.List.{list_text}
 use Rattle.pmap_print.specs.Runs.{IsRunsText}
 use Rattle.label_lookup.specs.Labelling.{Labelling, labelling_of_list, labelling_of_map}
-use Rattle.flowlabel.specs.Output.{FileTexts, FlowsThen, InFlows, InList, InMap, LabelsThen, ListThen, MapThen, OneOutput, Outcome, Prints, PrintsMinimal, PrintsRuns, ReportsThen, SourceThen, label_text, report_of_rows, CertificateThen, Checks, InCertificate, InCheck, ReadsCertificate, report_of_groups}
+use Rattle.flowlabel.specs.Output.{FileTexts, FlowsThen, LabelsThen, ListThen, MapThen, OneOutput, Outcome, Prints, PrintsMinimal, PrintsRuns, ReportsThen, SourceThen, label_text, report_of_rows, CertificateThen, Checks, ReadsCertificate, report_of_groups}
+use Rattle.flowlabel.specs.declared.bytes_fault.BytesFault.TheVariants.{Map as InMap, List as InList, Flows as InFlows, Certificate as InCertificate, Check as InCheck}
 use Rattle.flowlabel.specs.Request.{FromList, FromMap, LabelSource, label, info, rows, cat, shrink, check, uniq}
 
 -- what comes of a value is one outcome at most

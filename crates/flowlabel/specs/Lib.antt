@@ -1,8 +1,11 @@
 pub mod Request
 pub mod Definition
 pub mod Answer
+pub mod BytesFault
 pub mod Faults
 pub mod Output
+pub mod Turns
 pub mod Run
+pub mod Loading
 pub mod Opening
 pub mod Headline

@@ -1,6 +1,7 @@
 use Rattle.std.specs.Prelude.{◌≡◌, ◌⊎◌, List, Option, Some, Result, Ok, Err, option_map}
 use Rattle.flowlabel.specs.Answer.{Answers, IsFaultAt}
 use Rattle.flowlabel.specs.Request.{FileNames, Request, Text, files_of}
+use Rattle.flowlabel.specs.Run.{name_of}
 use Rattle.flowlabel.specs.declared.fault.RunFault.{RunFault}
 use Rattle.flowlabel.specs.declared.fault.RunFault.TheVariants.{Usage, CannotOpen}
 use Rattle.flowlabel.specs.declared.inputs.Inputs.{Inputs}
@@ -9,10 +10,6 @@ use Rattle.flowlabel.specs.declared.inputs.Source.{Source}
 -- What the program does round a run: it opens the files of the command line's request.
 
 module _ {R : Type 0} where
-  -- the name of an input, where it is there
-  abbrev pub name_of : Option (Source R) → Option Text
-  name_of = option_map (λ source. source.name.now)
-
   -- each input is there under the name of its file, and no other
   pub record HaveNames (names : FileNames) (inputs : Inputs R) : Type 0 where
     pub map : name_of inputs.map ≡ names.map

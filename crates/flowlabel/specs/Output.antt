@@ -30,6 +30,8 @@ use Rattle.pmap_print.specs.ReadBack.{labels_of}
 use Rattle.pmap_print.specs.Rows.{LabelTexts, rows_text}
 use Rattle.pmap_print.specs.Runs.{IsRunsText}
 use Rattle.label_lookup.specs.Labelling.{Labelling, label_by, label_where, labelling_of_list, labelling_of_map}
+use Rattle.flowlabel.specs.declared.bytes_fault.BytesFault.{BytesFault}
+use Rattle.flowlabel.specs.declared.bytes_fault.BytesFault.TheVariants.{Map as InMap, List as InList, Flows as InFlows, Certificate as InCertificate, Check as InCheck}
 use Rattle.flowlabel.specs.Request.{FromList, FromMap, LabelSource, Request, label, info, rows, cat, shrink, check, uniq}
 
 -- The output of a request: the text that it prints, or the first fault of its files' bytes.
@@ -41,17 +43,9 @@ pub record FileTexts : Type 0 where
   pub certificate : List ℕ
   pub flows : List ℕ
 
--- a fault of the bytes of one of the files, or of what a certificate says of a map and a list
-pub data TextFault : Type 0 where
-  InMap : (fault : MapFault) → TextFault
-  InList : (fault : MapFault) → TextFault
-  InFlows : (fault : ReadFault) → TextFault
-  InCertificate : (fault : CertFault) → TextFault
-  InCheck : (fault : CheckFault) → TextFault
-
 -- a text, or the first fault
 abbrev pub Outcome : Type 0
-Outcome = Result (List ℕ) TextFault
+Outcome = Result (List ℕ) BytesFault
 
 -- the outcome is this text
 abbrev pub Prints : List ℕ → Outcome → Type 0
@@ -157,10 +151,14 @@ report_of_groups fields condition sorted columns labels messages =
     let groups = groups_of fields (label_where labels) (passing_rows condition labels messages) in
     groups_text fields (shown_groups sorted groups) columns
 
--- what comes of a File under a labelling, or without one: the text of its messages
+-- what comes of a File's bytes under a labelling, or without one: the text of its messages
+abbrev pub ReportsOf : (Option Labelling → List MessageView → List ℕ) → Option Labelling → List ℕ → Outcome → Type 0
+ReportsOf text labels = FlowsThen (λ messages. Prints (text labels messages))
+
+-- the same under the labels of a source, or without one
 abbrev pub ReportsThen : (Option Labelling → List MessageView → List ℕ) → Option LabelSource → FileTexts → Outcome → Type 0
 ReportsThen text source texts =
-    SourceThen source (λ labels. FlowsThen (λ messages. Prints (text labels messages)) texts.flows) texts
+    SourceThen source (λ labels. ReportsOf text labels texts.flows) texts
 
 -- `minimal N`, the number of a shortest list's entries
 abbrev pub minimal_text : ℕ → List ℕ

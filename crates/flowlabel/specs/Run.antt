@@ -1,17 +1,13 @@
-use Rattle.std.specs.Prelude.{◌≡◌, ◌≢◌, ◌⊎◌, ◌||◌, ℕ, Bool, true, false, List, [], Option, Some, None, is_some, Result, Ok, Err}
+use Rattle.std.specs.Prelude.{◌≡◌, ◌||◌, ℕ, Bool, true, false, List, [], Option, Some, None, is_some, Result, Ok, Err, option_map}
 use Rattle.std.specs.Borrow.{Bor}
 use Rattle.flow_io.specs.declared.last_call.LastCall.{LastCall}
-use Rattle.pmap_text.specs.declared.fault.MapFaultKind.TheVariants as kind
 use Rattle.flow_io.specs.WriterStates.{IsUntouched, StopsWriting}
-use Rattle.ipfix_read.specs.declared.fault.ReadFaultKind.TheVariants as flows
-use Rattle.ipfix_templates.specs.declared.fault.TemplateFaultKind.TheVariants as template
-use Rattle.pmap_cert.specs.declared.fault.CertFaultKind.TheVariants as certificate
-use Rattle.cert_check.specs.declared.fault.CheckFaultKind.TheVariants as check
-use Rattle.flowlabel.specs.Output.{FileTexts, InCertificate, InCheck, InFlows, InList, InMap, IsOutput, Outcome}
-use Rattle.flowlabel.specs.Request.{Request}
+use Rattle.flowlabel.specs.Output.{FileTexts, IsOutput, Outcome}
+use Rattle.flowlabel.specs.Request.{Request, Text}
+use Rattle.flowlabel.specs.Turns.{CertificateTurn, FlowsTurn, IsFaultOfText, IsReadAt, ListTurn, MapTurn, Turn, input_at, turn_of}
 use Rattle.flowlabel.specs.declared.command.Needs.{Needs}
 use Rattle.flowlabel.specs.declared.fault.RunFault.{RunFault}
-use Rattle.flowlabel.specs.declared.fault.RunFault.TheVariants.{Usage, CannotOpen, CannotRead, CannotWrite, NoMemory, Map, List as ListFile, Flows, Certificate, Check}
+use Rattle.flowlabel.specs.declared.fault.RunFault.TheVariants.{Usage, CannotOpen, CannotRead, CannotWrite, NoMemory, File}
 use Rattle.flowlabel.specs.declared.inputs.Inputs.{Inputs}
 use Rattle.flowlabel.specs.declared.inputs.Source.{Source}
 
@@ -39,86 +35,67 @@ module _ {R : Type 0} where
   any_failed failed inputs = source_failed failed inputs.map || (source_failed failed inputs.list
       || (source_failed failed inputs.certificate || source_failed failed inputs.flows))
 
+  -- the name of an input, where it is there
+  abbrev pub name_of : Option (Source R) → Option Text
+  name_of = option_map (λ source. source.name.now)
+
   -- the input has this name
   abbrev pub HasName : Option (Source R) → Bor (List ℕ) → Type 0
-  HasName None name = ⊥
-  HasName (Some source) name = source.name.now ≡ name.now
+  HasName input file = name_of input ≡ Some file.now
 
   -- the input had this name before the call, and its reader has failed behind it
   abbrev pub HasFailed : (R → Bool) → Option (Source R) → Option (Source R) → Bor (List ℕ) → Type 0
-  HasFailed failed old new name = HasName old name × (source_failed failed new ≡ true)
+  HasFailed failed old new file = HasName old file × (source_failed failed new ≡ true)
+
+  -- where an input is there and its reader tells its bytes, they are read without fault at this turn
+  abbrev pub IsRead : (R → Option (List ℕ)) → Turn → Option (Source R) → Type 0
+  IsRead left turn None = Unit {0}
+  IsRead left turn (Some source) = (text : List ℕ) → left source.reader ≡ Some text → IsReadAt turn text
+
+  -- so it is with each input whose turn comes before this one
+  abbrev pub AreReadBefore : (R → Option (List ℕ)) → Turn → Inputs R → Type 0
+  AreReadBefore left MapTurn inputs = Unit {0}
+  AreReadBefore left ListTurn inputs = IsRead left MapTurn inputs.map
+  AreReadBefore left CertificateTurn inputs = IsRead left MapTurn inputs.map × IsRead left ListTurn inputs.list
+  AreReadBefore left FlowsTurn inputs =
+      IsRead left MapTurn inputs.map × IsRead left ListTurn inputs.list × IsRead left CertificateTurn inputs.certificate
+
+  -- the inputs whose turn comes behind this one are what they were: nothing was read of them
+  abbrev pub AreKeptBehind : Turn → Inputs R → Inputs R → Type 0
+  AreKeptBehind MapTurn old new = (new.list ≡ old.list) × (new.certificate ≡ old.certificate) × (new.flows ≡ old.flows)
+  AreKeptBehind ListTurn old new = (new.certificate ≡ old.certificate) × (new.flows ≡ old.flows)
+  AreKeptBehind CertificateTurn old new = new.flows ≡ old.flows
+  AreKeptBehind FlowsTurn old new = Unit {0}
 
   -- the output of the request by the bytes that the readers told, where they tell them
   abbrev pub PrintsThen : (R → Option (List ℕ)) → Inputs R → Request → (List ℕ → Type 0) → Type 0
   PrintsThen left inputs request P =
       (texts : FileTexts) → HaveTexts left inputs texts → (out : List ℕ) × IsOutput request texts (Ok out) × P out
 
-  -- what a fault of reading a file whole says: the file has the name that it had before the call, and its reader has failed
-  abbrev pub IsFaultOfReading : (R → Bool) → Source R → Source R → RunFault → Type 0
-  IsFaultOfReading failed old new (Usage fault) = ⊥
-  IsFaultOfReading failed old new (CannotOpen file) = ⊥
-  IsFaultOfReading failed old new (CannotRead file) = (old.name.now ≡ file.now) × (failed new.reader ≡ true)
-  IsFaultOfReading failed old new CannotWrite = ⊥
-  IsFaultOfReading failed old new NoMemory = Unit {0}
-  IsFaultOfReading failed old new (Map file fault) = ⊥
-  IsFaultOfReading failed old new (ListFile file fault) = ⊥
-  IsFaultOfReading failed old new (Flows file fault) = ⊥
-  IsFaultOfReading failed old new (Certificate file fault) = ⊥
-  IsFaultOfReading failed old new (Check file fault) = ⊥
+  -- what a fault of reading and decoding one input says: the input, by its name before the call, has a reader that has failed, or
+  -- a text with this fault
+  abbrev pub IsStop : (R → Option (List ℕ)) → (R → Bool) → Turn → Option (Source R) → Option (Source R) → RunFault → Type 0
+  IsStop left failed turn old new (Usage fault) = ⊥
+  IsStop left failed turn old new (CannotOpen file) = ⊥
+  IsStop left failed turn old new (CannotRead file) = HasFailed failed old new file
+  IsStop left failed turn old new CannotWrite = ⊥
+  IsStop left failed turn old new NoMemory = Unit {0}
+  IsStop left failed turn old new (File fault) = (turn_of fault.fault ≡ turn) × HasName old fault.file
+      × ((text : List ℕ) → HasText left old text → IsFaultOfText fault.fault text)
 
-  -- what a fault of a run over a map file says, by the relation that its text has to the outcome: a fault of the text is the
-  -- outcome
-  abbrev pub IsFaultOfMapFile : (R → Option (List ℕ)) → (R → Bool) → (List ℕ → Outcome → Type 0) → Source R → Source R → RunFault → Type 0
-  IsFaultOfMapFile left failed over old new (Map file fault) = (old.name.now ≡ file.now) × (fault.kind ≢ kind.NoMemory)
-      × ((text : List ℕ) → left old.reader ≡ Some text → over text (Err (InMap fault)))
-  IsFaultOfMapFile left failed over old new other = IsFaultOfReading failed old new other
-
-  -- the same over a list file
-  abbrev pub IsFaultOfListFile : (R → Option (List ℕ)) → (R → Bool) → (List ℕ → Outcome → Type 0) → Source R → Source R → RunFault → Type 0
-  IsFaultOfListFile left failed over old new (ListFile file fault) = (old.name.now ≡ file.now) × (fault.kind ≢ kind.NoMemory)
-      × ((text : List ℕ) → left old.reader ≡ Some text → over text (Err (InList fault)))
-  IsFaultOfListFile left failed over old new other = IsFaultOfReading failed old new other
-
-  -- and over an IPFIX File
-  abbrev pub IsFaultOfFlowsFile : (R → Option (List ℕ)) → (R → Bool) → (List ℕ → Outcome → Type 0) → Source R → Source R → RunFault → Type 0
-  IsFaultOfFlowsFile left failed over old new (Flows file fault) = (old.name.now ≡ file.now) × (fault.kind ≢ flows.NoMemory) × (fault.kind ≢ flows.BadTemplate template.NoMemory)
-      × ((text : List ℕ) → left old.reader ≡ Some text → over text (Err (InFlows fault)))
-  IsFaultOfFlowsFile left failed over old new other = IsFaultOfReading failed old new other
-
-  -- and over a certificate's file, where a fault of the check names it too
-  abbrev pub IsFaultOfCertificateFile : (R → Option (List ℕ)) → (R → Bool) → (List ℕ → Outcome → Type 0) → Source R → Source R → RunFault → Type 0
-  IsFaultOfCertificateFile left failed over old new (Certificate file fault) = (old.name.now ≡ file.now) × (fault.kind ≢ certificate.NoMemory)
-      × ((text : List ℕ) → left old.reader ≡ Some text → over text (Err (InCertificate fault)))
-  IsFaultOfCertificateFile left failed over old new (Check file fault) = (old.name.now ≡ file.now) × (fault.kind ≢ check.NoMemory)
-      × ((text : List ℕ) → left old.reader ≡ Some text → over text (Err (InCheck fault)))
-  IsFaultOfCertificateFile left failed over old new other = IsFaultOfReading failed old new other
-
-  -- what a fault that comes before anything is written says, by the relation of the files' texts to the outcome, names being
-  -- those before the call: a fault of a file's bytes is the outcome, and a reader that is named has failed
+  -- What a fault that comes before anything is written says, by the relation of the files' texts to the outcome, names being
+  -- those before the call. A fault of a file's bytes is the outcome. Where a reader that is named has failed, the files before it
+  -- were read without fault. Either way the files behind that one were not read.
   abbrev pub IsFaultOfBytes : (R → Option (List ℕ)) → (R → Bool) → Inputs R → Inputs R → (FileTexts → Outcome → Type 0) → RunFault → Type 0
   IsFaultOfBytes left failed old new over (Usage fault) = ⊥
   IsFaultOfBytes left failed old new over (CannotOpen file) = ⊥
   IsFaultOfBytes left failed old new over (CannotRead file) =
-      HasFailed failed old.map new.map file
-      ⊎ (HasFailed failed old.list new.list file
-      ⊎ (HasFailed failed old.certificate new.certificate file ⊎ HasFailed failed old.flows new.flows file))
+      (turn : Turn) × HasFailed failed (input_at turn old) (input_at turn new) file × AreReadBefore left turn old × AreKeptBehind turn old new
   IsFaultOfBytes left failed old new over CannotWrite = ⊥
   IsFaultOfBytes left failed old new over NoMemory = Unit {0}
-  IsFaultOfBytes left failed old new over (Map file fault) =
-      HasName old.map file × (fault.kind ≢ kind.NoMemory)
-      × ((texts : FileTexts) → HaveTexts left old texts → over texts (Err (InMap fault)))
-  IsFaultOfBytes left failed old new over (ListFile file fault) =
-      HasName old.list file × (fault.kind ≢ kind.NoMemory)
-      × ((texts : FileTexts) → HaveTexts left old texts → over texts (Err (InList fault)))
-  IsFaultOfBytes left failed old new over (Flows file fault) =
-      HasName old.flows file × (fault.kind ≢ flows.NoMemory) × (fault.kind ≢ flows.BadTemplate template.NoMemory)
-      × ((texts : FileTexts) → HaveTexts left old texts → over texts (Err (InFlows fault)))
-  IsFaultOfBytes left failed old new over (Certificate file fault) =
-      HasName old.certificate file × (fault.kind ≢ certificate.NoMemory)
-      × ((texts : FileTexts) → HaveTexts left old texts → over texts (Err (InCertificate fault)))
-  IsFaultOfBytes left failed old new over (Check file fault) =
-      HasName old.certificate file × (fault.kind ≢ check.NoMemory)
-      × ((texts : FileTexts) → HaveTexts left old texts → over texts (Err (InCheck fault)))
+  IsFaultOfBytes left failed old new over (File fault) =
+      HasName (input_at (turn_of fault.fault) old) fault.file × AreKeptBehind (turn_of fault.fault) old new
+      × ((texts : FileTexts) → HaveTexts left old texts → over texts (Err fault.fault))
 
   -- the inputs are those that a command needs, and no others
   pub record AreNeeded (needs : Needs) (inputs : Inputs R) : Type 0 where
@@ -131,22 +108,14 @@ module _ {R : Type 0} where
 -- failed; any other fault comes before the writer has a call
 module _ {R W : Type 0} (left : R → Option (List ℕ)) (failed : R → Bool) (taken : W → Option (List ℕ)) (last : W → LastCall) where
   abbrev pub IsFaultOfRun : Inputs R → Inputs R → W → W → Request → RunFault → Type 0
-  IsFaultOfRun old new writer writer' request CannotWrite = PrintsThen left old request (StopsWriting taken last writer writer')
   IsFaultOfRun old new writer writer' request (Usage fault) = ⊥
   IsFaultOfRun old new writer writer' request (CannotOpen file) = ⊥
   IsFaultOfRun old new writer writer' request (CannotRead file) =
       IsFaultOfBytes left failed old new (IsOutput request) (CannotRead file) × IsUntouched taken last writer writer'
+  IsFaultOfRun old new writer writer' request CannotWrite = PrintsThen left old request (StopsWriting taken last writer writer')
   IsFaultOfRun old new writer writer' request NoMemory = IsUntouched taken last writer writer'
-  IsFaultOfRun old new writer writer' request (Map file fault) =
-      IsFaultOfBytes left failed old new (IsOutput request) (Map file fault) × IsUntouched taken last writer writer'
-  IsFaultOfRun old new writer writer' request (ListFile file fault) =
-      IsFaultOfBytes left failed old new (IsOutput request) (ListFile file fault) × IsUntouched taken last writer writer'
-  IsFaultOfRun old new writer writer' request (Flows file fault) =
-      IsFaultOfBytes left failed old new (IsOutput request) (Flows file fault) × IsUntouched taken last writer writer'
-  IsFaultOfRun old new writer writer' request (Certificate file fault) =
-      IsFaultOfBytes left failed old new (IsOutput request) (Certificate file fault) × IsUntouched taken last writer writer'
-  IsFaultOfRun old new writer writer' request (Check file fault) =
-      IsFaultOfBytes left failed old new (IsOutput request) (Check file fault) × IsUntouched taken last writer writer'
+  IsFaultOfRun old new writer writer' request (File fault) =
+      IsFaultOfBytes left failed old new (IsOutput request) (File fault) × IsUntouched taken last writer writer'
 
 -- the run ended for a reader that failed, or for the writer
 abbrev pub is_read_stop : {A : Type 0} → Result A RunFault → Bool

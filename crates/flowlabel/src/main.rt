@@ -14,14 +14,16 @@ ghost use Rattle.clap.specs.Walk.{texts};
 ghost use Rattle.flowlabel.specs.Faults.{exit_status_of};
 ghost use Rattle.flowlabel.specs.Opening.{IsEndOf};
 
-pub mod command;
-pub mod definition;
-pub mod fault;
-pub mod inputs;
-pub mod opening;
-pub mod run;
-pub mod usage;
-pub mod words;
+mod bytes_fault;
+mod command;
+mod definition;
+mod fault;
+mod file_fault;
+mod inputs;
+mod opening;
+mod run;
+mod usage;
+mod words;
 
 use fault::{RunFault, exit_status, fault_line, help_text};
 use flow_io::Watched;

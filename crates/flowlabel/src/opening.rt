@@ -1,8 +1,8 @@
 //! From names to files.
 ghost use Rattle.std.specs.Prelude.{◌≡◌, false, IfErr, IfOk, option_map};
-ghost use Rattle.flowlabel.specs.Opening.{CannotOpenNamed, CannotOpenOne, HaveNames, name_of};
+ghost use Rattle.flowlabel.specs.Opening.{CannotOpenNamed, CannotOpenOne, HaveNames};
 ghost use Rattle.flowlabel.specs.Request.{NamesNeeds, names_of};
-ghost use Rattle.flowlabel.specs.Run.{AreNeeded, any_failed, source_failed};
+ghost use Rattle.flowlabel.specs.Run.{AreNeeded, any_failed, name_of, source_failed};
 ghost use Rattle.flowlabel.specs.declared.command.Needs.{Needs};
 
 use crate::command::Files;

@@ -1,9 +1,10 @@
-ghost use Rattle.std.specs.Prelude.{◌≡◌, Ok, false, IfErr, IfOk, OnOk};
+ghost use Rattle.std.specs.Prelude.{◌≡◌, ℕ, List, Ok, false, IfErr, IfOk, OnOk};
 ghost use Rattle.std.specs.Io.KnownBytes.{Appends};
 ghost use Rattle.flow_io.specs.declared.last_call.LastCall.TheVariants.{Flush};
+ghost use Rattle.flowlabel.specs.Loading.{ArePresent, ComesOf, HasFewEntries, IsFaultOfAnswer};
 ghost use Rattle.flowlabel.specs.Output.{FileTexts, IsOutput};
 ghost use Rattle.flowlabel.specs.Request.{needs_of, request_of};
-ghost use Rattle.flowlabel.specs.Run.{any_failed, is_read_stop, is_write_stop, AreNeeded, HaveTexts, IsFaultOfBytes, IsFaultOfRun, PrintsThen};
+ghost use Rattle.flowlabel.specs.Run.{any_failed, is_read_stop, is_write_stop, AreNeeded, HasText, HaveTexts, IsFaultOfBytes, IsFaultOfRun, PrintsThen};
 
 use crate::command::Command;
 use crate::fault::RunFault;
@@ -13,25 +14,96 @@ use std::alloc::Global;
 
 mod cat;
 mod check;
-pub mod info;
+mod info;
 mod label;
-mod labelled;
-pub mod laws;
+mod laws;
+mod loaded;
+mod loading;
 mod passing;
-pub mod report;
-pub mod rows;
+mod report;
+mod rows;
 mod shrink;
-mod source;
-pub mod uniq;
+mod uniq;
 
-use cat::runs_under;
-use check::check_files;
+use cat::runs_text;
+use check::check_loaded;
 use info::InfoReport;
-use label::label_under;
-use labelled::report_under;
+use label::label_line;
+pub use laws::{
+    check_accepts_minimal, check_is_enough, one_output, same_under_equivalents,
+    shrunk_list_is_least,
+};
+use loaded::Loaded;
+use loading::load;
+use report::report_under;
 use rows::RowsReport;
-use shrink::shrunk_by_map;
+use shrink::shrunk_text;
 use uniq::UniqReport;
+
+// What comes of a command over the files that are loaded for it and the bytes of its flows.
+fn answer<'a, R: Input>(
+    alloc: Global,
+    command: &Command<'_>,
+    loaded: &Loaded,
+    inputs: &mut Inputs<'a, R>,
+) -> Result<Vec<u8>, RunFault<'a>>
+    requires needed { AreNeeded (needs_of (request_of command.now)) inputs.old }
+    requires present { ArePresent (needs_of (request_of command.now)) loaded.now }
+    requires few { HasFewEntries loaded.now.list }
+    requires readers { any_failed R.failed inputs.old ≡ false }
+    ensures ok { IfOk result (λ out. (bytes : List ℕ) → HasText R.bytes_left inputs.old.flows bytes
+        → ComesOf (request_of command.now) loaded.now bytes (Ok out.items)) }
+    ensures err { IfErr result (IsFaultOfAnswer R.bytes_left R.failed inputs.old inputs.new
+        (ComesOf (request_of command.now) loaded.now)) }
+    ensures failed { any_failed R.failed inputs.new ≡ is_read_stop result }
+{
+    match command {
+        Command::Label { addr, .. } => {
+            let Some(labels) = loaded.labels() else {
+                unreachable!()
+            };
+            Ok(label_line(alloc, labels, *addr)?)
+        }
+        Command::Info { .. } => report_under(alloc, None, inputs, &InfoReport),
+        Command::Rows {
+            filter,
+            columns,
+            ..
+        } => {
+            let columns = *columns;
+            let report = RowsReport { filter, columns };
+            report_under(alloc, loaded.labels(), inputs, &report)
+        }
+        Command::Uniq {
+            keys,
+            filter,
+            sorted,
+            columns,
+            ..
+        } => {
+            let report = UniqReport {
+                keys,
+                filter,
+                sorted: *sorted,
+                columns: *columns,
+            };
+            report_under(alloc, loaded.labels(), inputs, &report)
+        }
+        Command::Cat { .. } => {
+            let Some(labels) = loaded.labels() else {
+                unreachable!()
+            };
+            Ok(runs_text(alloc, labels)?)
+        }
+        Command::Shrink { certificate, .. } => {
+            let Some(map) = &loaded.map else {
+                unreachable!()
+            };
+            Ok(shrunk_text(alloc, map, *certificate)?)
+        }
+        Command::Check { .. } => check_loaded(alloc, loaded, inputs),
+    }
+}
 
 // The whole output of a command.
 fn output<'a, R: Input>(
@@ -46,51 +118,17 @@ fn output<'a, R: Input>(
     ensures err { IfErr result (IsFaultOfBytes R.bytes_left R.failed inputs.old inputs.new (IsOutput (request_of command.now))) }
     ensures failed { any_failed R.failed inputs.new ≡ is_read_stop result }
 {
-    match command {
-        Command::Label { labels, addr } => label_under(alloc, *labels, inputs, *addr),
-        Command::Info { .. } => report_under(alloc, None, inputs, &InfoReport),
-        Command::Rows {
-            labels,
-            filter,
-            columns,
-            ..
-        } => {
-            let columns = *columns;
-            report_under(alloc, *labels, inputs, &RowsReport { filter, columns })
-        }
-        Command::Uniq {
-            keys,
-            labels,
-            filter,
-            sorted,
-            columns,
-            ..
-        } => {
-            let report = UniqReport {
-                keys,
-                filter,
-                sorted: *sorted,
-                columns: *columns,
-            };
-            report_under(alloc, *labels, inputs, &report)
-        }
-        Command::Cat { labels } => runs_under(alloc, *labels, inputs),
-        Command::Shrink { certificate, .. } => {
-            let Some(source) = &mut inputs.map else {
-                unreachable!()
-            };
-            shrunk_by_map(alloc, source, *certificate)
-        }
-        Command::Check { .. } => check_files(alloc, inputs),
-    }
+    let loaded = load(alloc, inputs)?;
+    answer(alloc, command, &loaded, inputs)
 }
 
-/// Runs a command: reads its inputs, makes the whole output, and then writes it and flushes once.
+/// Runs a command: reads its inputs, makes the whole output, and then writes it and flushes once. The files are read in the
+/// order map, list, certificate, flows, each of them whole and decoded before the first read of the next.
 ///
 /// # Errors
 ///
-/// The first fault of the inputs' bytes, a reader that failed, want of memory, all before the writer has a call; or a
-/// writer that failed, which has taken a prefix of the output, or all of it where the flush failed. Names are those that
+/// The first fault of the inputs' bytes, a reader that failed behind files without a fault, want of memory, all before the
+/// writer has a call, and with the files behind the one at fault not read; or a writer that failed, which has taken a prefix of the output, or all of it where the flush failed. Names are those that
 /// the inputs had before the call.
 pub fn run<'a, R: Input, W: Output>(
     alloc: Global,

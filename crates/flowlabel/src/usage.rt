@@ -1,7 +1,8 @@
 ghost use Rattle.std.specs.Prelude.{◌≡◌, IfOk, List, ℕ};
 ghost use Rattle.std.specs.String.{string_bytes};
+ghost use Rattle.flowlabel.specs.Faults.{is_usage_want};
 
-use flow_filter::FilterFault;
+use flow_filter::{FilterFault, FilterFaultKind};
 use flow_uniq::KeyFault;
 use std::alloc::AllocError;
 use std::fmt;
@@ -15,7 +16,11 @@ pub struct ClapText {
 }
 
 impl Model for ClapText {
+    ghost use Rattle.std.specs.Prelude.{List, ℕ};
+
     ghost Value = { List ℕ };
+
+    ghost use Rattle.std.specs.String.{string_bytes};
 
     ghost view = { λ t. string_bytes t.text };
 }
@@ -79,6 +84,20 @@ pub enum UsageFault {
     /// Memory ran out.
     #[error("out of memory")]
     NoMemory,
+}
+
+impl UsageFault {
+    /// Whether it says that memory ran out, in whatever words.
+    pub fn is_want_of_memory(&self) -> bool
+        ensures { result ≡ is_usage_want self.now }
+    {
+        match self {
+            UsageFault::Filter(fault) => fault.kind == FilterFaultKind::NoMemory,
+            UsageFault::Key(fault) => *fault == KeyFault::NoMemory,
+            UsageFault::NoMemory => true,
+            _ => false,
+        }
+    }
 }
 
 impl From<AllocError> for UsageFault {

@@ -1,5 +1,9 @@
 use super::*;
 use crate::usage::ClapText;
+use flow_filter::FilterFault;
+use ipfix_read::{ReadFault, ReadFaultKind};
+use ipfix_templates::TemplateFaultKind;
+use pmap_text::{MapFault, MapFaultKind};
 use std::alloc::{AllocError, Global};
 use std::process::Abort;
 use std::test::Fail;
@@ -19,9 +23,7 @@ fn tells(
 }
 
 fn map_fault(kind: MapFaultKind, line: u64) -> RunFault<'static> {
-    let fault = MapFault { kind, line };
-    let file = "maps/a.txt";
-    RunFault::Map { file, fault }
+    RunFault::in_file("maps/a.txt", BytesFault::Map(MapFault { kind, line }))
 }
 
 // Each fault at the line 1,000,001 of a map.
@@ -155,8 +157,8 @@ fn names_each_of_flows(
             kind: *kind,
             offset: 20,
         };
-        let file = "flows";
-        tells(rt, alloc, &RunFault::Flows { file, fault }, 1, line)?;
+        let fault = RunFault::in_file("flows", BytesFault::Flows(fault));
+        tells(rt, alloc, &fault, 1, line)?;
     }
     Ok(())
 }
@@ -243,41 +245,8 @@ const USAGE_FAULTS: [(RunFault<'static>, u8, &str); 13] = [
     (RunFault::Usage(UsageFault::NoMemory), 3, OUT_OF_MEMORY),
 ];
 
-const DEVICE_FAULTS: [(RunFault<'static>, u8, &str); 7] = [
+const DEVICE_FAULTS: [(RunFault<'static>, u8, &str); 4] = [
     (RunFault::NoMemory, 3, OUT_OF_MEMORY),
-    (
-        RunFault::Map {
-            file: "map.txt",
-            fault: MapFault {
-                kind: MapFaultKind::NoMemory,
-                line: 0,
-            },
-        },
-        3,
-        OUT_OF_MEMORY,
-    ),
-    (
-        RunFault::List {
-            file: "list.txt",
-            fault: MapFault {
-                kind: MapFaultKind::NotAList,
-                line: 3,
-            },
-        },
-        1,
-        "flowlabel: list.txt: M13 NotAList at 3\n",
-    ),
-    (
-        RunFault::Flows {
-            file: "flows",
-            fault: ReadFault {
-                kind: ReadFaultKind::NoMemory,
-                offset: 0,
-            },
-        },
-        3,
-        OUT_OF_MEMORY,
-    ),
     (
         RunFault::CannotOpen("map.txt"),
         4,
@@ -295,6 +264,46 @@ const DEVICE_FAULTS: [(RunFault<'static>, u8, &str); 7] = [
     ),
 ];
 
+// Faults of the bytes of files, by the files' names. Want of memory is the run's own, whichever library tells it.
+const BYTES_FAULTS: [(&str, BytesFault, u8, &str); 4] = [
+    (
+        "map.txt",
+        BytesFault::Map(MapFault {
+            kind: MapFaultKind::NoMemory,
+            line: 0,
+        }),
+        3,
+        OUT_OF_MEMORY,
+    ),
+    (
+        "list.txt",
+        BytesFault::List(MapFault {
+            kind: MapFaultKind::NotAList,
+            line: 3,
+        }),
+        1,
+        "flowlabel: list.txt: M13 NotAList at 3\n",
+    ),
+    (
+        "flows",
+        BytesFault::Flows(ReadFault {
+            kind: ReadFaultKind::NoMemory,
+            offset: 0,
+        }),
+        3,
+        OUT_OF_MEMORY,
+    ),
+    (
+        "flows",
+        BytesFault::Flows(ReadFault {
+            kind: ReadFaultKind::BadTemplate(TemplateFaultKind::NoMemory),
+            offset: 20,
+        }),
+        3,
+        OUT_OF_MEMORY,
+    ),
+];
+
 fn tells_each(
     rt: &impl Abort,
     alloc: Global,
@@ -306,10 +315,22 @@ fn tells_each(
     Ok(())
 }
 
+fn tells_each_of_bytes(
+    rt: &impl Abort,
+    alloc: Global,
+    cases: &[(&'static str, BytesFault, u8, &str)],
+) -> Result<(), AllocError> {
+    for (file, fault, ended, line) in cases {
+        tells(rt, alloc, &RunFault::in_file(file, *fault), *ended, line)?;
+    }
+    Ok(())
+}
+
 #[test]
 fn tells_usage_devices_and_memory(rt: HostRuntime) -> Result<(), Fail> {
     tells_each(&rt, rt.alloc(), &USAGE_FAULTS)?;
     tells_each(&rt, rt.alloc(), &DEVICE_FAULTS)?;
+    tells_each_of_bytes(&rt, rt.alloc(), &BYTES_FAULTS)?;
     Ok(())
 }
 

@@ -1,17 +1,12 @@
 //! What `cat` prints.
-ghost use Rattle.std.specs.Prelude.{◌≡◌, ◌≤◌, ℕ, List, Ok, None, Some, false, IfErr, IfOk, length};
+ghost use Rattle.std.specs.Prelude.{◌≡◌, ◌≤◌, IfOk, length};
 ghost use Rattle.pmap_text.specs.MapText.{map_of};
 ghost use Rattle.pmap_text.specs.PrefixList.{list_of};
 ghost use Rattle.label_lookup.specs.Labelling.{labelling_of_list, labelling_of_map};
-ghost use Rattle.flowlabel.specs.Output.{FileTexts, HasRunsText, LabelsThen, ListThen, MapThen, PrintsRuns};
-ghost use Rattle.flowlabel.specs.Request.{files_named, needs_named, source_of};
-ghost use Rattle.flowlabel.specs.Run.{any_failed, is_read_stop, AreNeeded, HaveTexts, IsFaultOfBytes, IsFaultOfListFile, IsFaultOfMapFile};
+ghost use Rattle.flowlabel.specs.Loading.{HasFewLabels, labelling_of_either};
+ghost use Rattle.flowlabel.specs.Output.{HasRunsText};
 
-use crate::command::LabelFile;
-use crate::fault::RunFault;
-use crate::inputs::{Inputs, Source};
-use crate::run::source::{list_of_file, map_of_file};
-use flow_io::Input;
+use crate::run::loaded::LoadedLabels;
 use label_trie::Trie;
 use pmap_print::laws::{
     labelling_has_one_runs_text, list_leaves_have_its_runs, map_leaves_have_its_runs,
@@ -24,6 +19,7 @@ use std::alloc::{AllocError, Global};
 fn runs_of_map(alloc: Global, map: &MapText) -> Result<Vec<u8>, AllocError>
     ensures { IfOk result (λ out. HasRunsText (labelling_of_map (map_of map.now)) out.items) }
 {
+    // For their laws: the leaves of a trie have the runs of its map, and a labelling one text of them.
     map_leaves_have_its_runs();
     labelling_has_one_runs_text();
     let trie = Trie::build(alloc, map)?;
@@ -36,6 +32,7 @@ fn runs_of_list(alloc: Global, list: &PrefixList) -> Result<Vec<u8>, AllocError>
     requires { length list.now.entries ≤ 1000000 }
     ensures { IfOk result (λ out. HasRunsText (labelling_of_list (list_of list.now)) out.items) }
 {
+    // For their laws, as above.
     list_leaves_have_its_runs();
     labelling_has_one_runs_text();
     let trie = Trie::build_list(alloc, list)?;
@@ -43,70 +40,13 @@ fn runs_of_list(alloc: Global, list: &PrefixList) -> Result<Vec<u8>, AllocError>
     print_runs(alloc, leaves.as_slice(), &list.labels)
 }
 
-// The runs of the map of a file.
-fn runs_by_map<'a, R: Input>(
-    alloc: Global,
-    source: &mut Source<'a, R>,
-) -> Result<Vec<u8>, RunFault<'a>>
-    requires { R.failed source.old.reader ≡ false }
-    ensures ok { IfOk result (λ out. (text : List ℕ) → R.bytes_left source.old.reader ≡ Some text
-        → MapThen (λ m. PrintsRuns (labelling_of_map m)) text (Ok out.items)) }
-    ensures err { IfErr result (IsFaultOfMapFile R.bytes_left R.failed
-        (MapThen (λ m. PrintsRuns (labelling_of_map m))) source.old source.new) }
-    ensures failed { R.failed source.new.reader ≡ is_read_stop result }
-{
-    let map = map_of_file(alloc, source)?;
-    match runs_of_map(alloc, &map) {
-        Ok(out) => Ok(out),
-        Err(_) => Err(RunFault::NoMemory),
-    }
-}
-
-// The runs of the prefix list of a file.
-fn runs_by_list<'a, R: Input>(
-    alloc: Global,
-    source: &mut Source<'a, R>,
-) -> Result<Vec<u8>, RunFault<'a>>
-    requires { R.failed source.old.reader ≡ false }
-    ensures ok { IfOk result (λ out. (text : List ℕ) → R.bytes_left source.old.reader ≡ Some text
-        → ListThen (λ l. PrintsRuns (labelling_of_list l)) text (Ok out.items)) }
-    ensures err { IfErr result (IsFaultOfListFile R.bytes_left R.failed
-        (ListThen (λ l. PrintsRuns (labelling_of_list l))) source.old source.new) }
-    ensures failed { R.failed source.new.reader ≡ is_read_stop result }
-{
-    let list = list_of_file(alloc, source)?;
-    match runs_of_list(alloc, &list) {
-        Ok(out) => Ok(out),
-        Err(_) => Err(RunFault::NoMemory),
-    }
-}
-
-/// The runs of the labels of a file of them.
-pub fn runs_under<'a, R: Input>(
-    alloc: Global,
-    labels: LabelFile<'_>,
-    inputs: &mut Inputs<'a, R>,
-) -> Result<Vec<u8>, RunFault<'a>>
-    requires needed { AreNeeded (needs_named (files_named (Some (source_of labels)) None)) inputs.old }
-    requires readers { any_failed R.failed inputs.old ≡ false }
-    ensures ok { IfOk result (λ out. (texts : FileTexts) → HaveTexts R.bytes_left inputs.old texts
-        → LabelsThen (source_of labels.entry) PrintsRuns texts (Ok out.items)) }
-    ensures err { IfErr result (IsFaultOfBytes R.bytes_left R.failed inputs.old inputs.new
-        (LabelsThen (source_of labels.entry) PrintsRuns)) }
-    ensures failed { any_failed R.failed inputs.new ≡ is_read_stop result }
+/// The text of the runs of the labels of a map or a list.
+pub fn runs_text(alloc: Global, labels: LoadedLabels<'_>) -> Result<Vec<u8>, AllocError>
+    requires { HasFewLabels labels }
+    ensures { IfOk result (λ out. HasRunsText (labelling_of_either labels.entry) out.items) }
 {
     match labels {
-        LabelFile::Map(_) => {
-            let Some(source) = &mut inputs.map else {
-                unreachable!()
-            };
-            runs_by_map(alloc, source)
-        }
-        LabelFile::List(_) => {
-            let Some(source) = &mut inputs.list else {
-                unreachable!()
-            };
-            runs_by_list(alloc, source)
-        }
+        LoadedLabels::Map(map) => runs_of_map(alloc, map),
+        LoadedLabels::List(list) => runs_of_list(alloc, list),
     }
 }

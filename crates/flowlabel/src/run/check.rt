@@ -1,16 +1,22 @@
 //! What `check` prints.
-ghost use Rattle.std.specs.Prelude.{◌≡◌, ℕ, List, [], Ok, Some, false, IfErr, IfOk, length};
+ghost use Rattle.std.specs.Prelude.{◌≡◌, [], Ok, Err, false, IfErr, IfOk};
 ghost use Rattle.pmap_text.specs.MapText.{map_of};
 ghost use Rattle.pmap_text.specs.PrefixList.{list_of};
-ghost use Rattle.flowlabel.specs.Output.{CertificateThen, Checks, ChecksThen, FileTexts, minimal_text};
-ghost use Rattle.flowlabel.specs.Request.{files_checked, needs_named};
-ghost use Rattle.flowlabel.specs.Run.{any_failed, is_read_stop, AreNeeded, HaveTexts, IsFaultOfBytes, IsFaultOfCertificateFile};
+ghost use Rattle.pmap_cert.specs.Certificate.{certificate_of};
+ghost use Rattle.flowlabel.specs.BytesFault.{is_check_want};
+ghost use Rattle.flowlabel.specs.Loading.{ArePresent, ComesOf, IsFaultOfAnswer};
+ghost use Rattle.flowlabel.specs.Output.{Checks, minimal_text};
+ghost use Rattle.flowlabel.specs.Request.{check, files_checked, needs_named};
+ghost use Rattle.flowlabel.specs.Run.{AreNeeded};
+ghost use Rattle.flowlabel.specs.declared.bytes_fault.BytesFault.TheVariants.{Check};
 
+use crate::bytes_fault::BytesFault;
 use crate::fault::RunFault;
-use crate::inputs::{Inputs, Source};
-use crate::run::source::{certificate_of_file, list_of_file, map_of_file};
-use cert_check::{CheckFaultKind, check};
+use crate::inputs::Inputs;
+use crate::run::loaded::Loaded;
+use cert_check::{CheckFault, check};
 use flow_io::Input;
+use pmap_cert::Certificate;
 use pmap_text::{MapText, PrefixList};
 use std::alloc::{AllocError, Global};
 
@@ -21,61 +27,46 @@ fn minimal_line(alloc: Global, count: u64) -> Result<Vec<u8>, AllocError>
     Ok(format!(in alloc; "minimal {count}\n")?.into_bytes())
 }
 
-// The outcome over the certificate of a file, for a map and a list.
-fn check_by<'a, R: Input>(
+// The number of a list's entries, where a certificate shows that the list is a shortest one for a map.
+fn checked(
     alloc: Global,
-    source: &mut Source<'a, R>,
     map: &MapText,
     list: &PrefixList,
-) -> Result<Vec<u8>, RunFault<'a>>
-    requires { R.failed source.old.reader ≡ false }
-    ensures ok { IfOk result (λ out. (text : List ℕ) → R.bytes_left source.old.reader ≡ Some text
-        → CertificateThen (Checks (map_of map.now) (list_of list.now)) text (Ok out.items)) }
-    ensures err { IfErr result (IsFaultOfCertificateFile R.bytes_left R.failed
-        (CertificateThen (Checks (map_of map.now) (list_of list.now))) source.old source.new) }
-    ensures failed { R.failed source.new.reader ≡ is_read_stop result }
+    certificate: &Certificate,
+) -> Result<Vec<u8>, CheckFault>
+    ensures ok { IfOk result (λ out. Checks (map_of map.now) (list_of list.now) (certificate_of certificate.now) (Ok out.items)) }
+    ensures err { IfErr result (λ fault. is_check_want fault.kind ≡ false
+        → Checks (map_of map.now) (list_of list.now) (certificate_of certificate.now) (Err (Check fault))) }
 {
-    let certificate = certificate_of_file(alloc, source)?;
-    match check(alloc, map, list, &certificate) {
-        Ok(count) => match minimal_line(alloc, count) {
-            Ok(out) => Ok(out),
-            Err(_) => Err(RunFault::NoMemory),
-        },
-        Err(fault) => {
-            if fault.kind == CheckFaultKind::NoMemory {
-                Err(RunFault::NoMemory)
-            } else {
-                Err(RunFault::Check {
-                    file: source.name,
-                    fault,
-                })
-            }
-        }
-    }
+    let count = check(alloc, map, list, certificate)?;
+    Ok(minimal_line(alloc, count)?)
 }
 
-/// The number of entries of the list of a file, where the certificate of another shows that it is a shortest one for the
-/// map of a third. The files are read in the order map, list, certificate, and the first fault ends it.
-pub fn check_files<'a, R: Input>(
+/// The same of the three files that are loaded. A fault of it names the certificate's file.
+pub fn check_loaded<'a, R: Input>(
     alloc: Global,
-    inputs: &mut Inputs<'a, R>,
+    loaded: &Loaded,
+    inputs: &Inputs<'a, R>,
 ) -> Result<Vec<u8>, RunFault<'a>>
-    requires needed { AreNeeded (needs_named (files_checked [] [] [])) inputs.old }
-    requires readers { any_failed R.failed inputs.old ≡ false }
-    ensures ok { IfOk result (λ out. (texts : FileTexts) → HaveTexts R.bytes_left inputs.old texts → ChecksThen texts (Ok out.items)) }
-    ensures err { IfErr result (IsFaultOfBytes R.bytes_left R.failed inputs.old inputs.new ChecksThen) }
-    ensures failed { any_failed R.failed inputs.new ≡ is_read_stop result }
+    requires present { ArePresent (needs_named (files_checked [] [] [])) loaded.now }
+    requires needed { AreNeeded (needs_named (files_checked [] [] [])) inputs.now }
+    ensures ok { IfOk result (λ out. ComesOf (check [] [] []) loaded.now [] (Ok out.items)) }
+    ensures err { IfErr result (IsFaultOfAnswer R.bytes_left R.failed inputs.now inputs.now (ComesOf (check [] [] []) loaded.now)) }
 {
-    let Some(map) = &mut inputs.map else {
+    let Some(map) = &loaded.map else {
         unreachable!()
     };
-    let map = map_of_file(alloc, map)?;
-    let Some(list) = &mut inputs.list else {
+    let Some(list) = &loaded.list else {
         unreachable!()
     };
-    let list = list_of_file(alloc, list)?;
-    let Some(certificate) = &mut inputs.certificate else {
+    let Some(certificate) = &loaded.certificate else {
         unreachable!()
     };
-    check_by(alloc, certificate, &map, &list)
+    let Some(source) = &inputs.certificate else {
+        unreachable!()
+    };
+    match checked(alloc, map, list, certificate) {
+        Ok(out) => Ok(out),
+        Err(fault) => Err(RunFault::in_file(source.name, BytesFault::Check(fault))),
+    }
 }

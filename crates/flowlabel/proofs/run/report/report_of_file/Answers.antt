@@ -1,24 +1,18 @@
-use Rattle.std.proofs.Common.{◌≡◌, ◌∙◌, ◌⊎◌, ℕ, List, [], ap, inl, inr, refl, subst, sym}
-use Rattle.ipfix_read.specs.Fault.{out_of_memory}
-use Rattle.ipfix_read.specs.File.{HasFileFault}
-use Rattle.ipfix_read.specs.declared.fault.ReadFault.{ReadFault}
-use Rattle.ipfix_read.specs.declared.fault.ReadFaultKind.TheVariants.{NoMemory}
+use Rattle.std.proofs.Common.{◌∙◌, Some, ap, refl, sym}
+use Rattle.flowlabel.specs.Run.{IsStop}
+use Rattle.flowlabel.specs.Turns.{FlowsTurn}
+use Rattle.flowlabel.specs.declared.bytes_fault.BytesFault.TheVariants.{Flows as InFlows}
+use Rattle.flowlabel.proofs.LoadingLemmas.{in_file_stop, own_fault, passed_on}
 use Rattle.flowlabel.proofs.run.report.report_of_file.Goals as goal
 
--- a fault that isn't want of memory is the bytes' own
-own_fault : (bytes text : List ℕ) (fault : ReadFault) → (fault.kind ≡ NoMemory → ⊥) → (fault ≡ out_of_memory) ⊎ HasFileFault [] 0 0 bytes fault
-    → bytes ≡ text → HasFileFault [] 0 0 text fault
-own_fault bytes text fault other (inl none) same = absurd (other (ap (λ (f : ReadFault). f.kind) none))
-own_fault bytes text fault other (inr found) same = subst (λ (b : List ℕ). HasFileFault [] 0 0 b fault) same found
+pub returns-in_err-bytes-clause-err : goal.returns-in_err-bytes-clause-err
+returns-in_err-bytes-clause-err g c =
+    passed_on (IsStop g.R.Input.bytes_left g.R.Input.failed FlowsTurn (Some c.args.source.now) (Some c.text_of_file.new.source))
+    c.from_residual.result c.in_err-bytes.field-0.0 c.from_residual.ensures.1 (c.in_err-bytes.ensures.err FlowsTurn)
 
-pub returns-in_default : goal.returns-in_default
-returns-in_default g c = record {
-  ok = tt;
-  err = (
-    sym c.in_ok-text.ensures.name,
-    c.in_default.not-NoMemory,
-    c.in-Err.ensures.template,
-    λ text told. inl (c.in-Err.fault, own_fault _ text _ c.in_default.not-NoMemory c.in-Err.ensures.fault (c.as_slice.ensures.value ∙ rw told at c.in_ok-text.ensures.ok), refl),
-  );
-  failed = c.in_ok-text.ensures.failed;
-}
+pub returns-clause-err : goal.returns-clause-err
+returns-clause-err g c =
+    in_file_stop g.R.Input.bytes_left g.R.Input.failed FlowsTurn (Some c.args.source.now) (Some c.text_of_file.new.source)
+    c.text_of_file.new.source.name.now (InFlows c.in-Err.fault) refl (ap Some (sym c.in_ok-bytes.ensures.name))
+    (λ other text told. own_fault _ text c.in-Err.fault c.in-Err.ensures.fault (c.as_slice.ensures.value ∙ c.in_ok-bytes.ensures.ok text told) other)
+    c.in_file.result c.in_file.ensures

@@ -1,0 +1,117 @@
+use Rattle.std.specs.Prelude.{ℕ, Bool, true, false, List, codes}
+use Rattle.ipfix_read.specs.declared.fault.ReadFaultKind.{ReadFaultKind}
+use Rattle.ipfix_read.specs.declared.fault.ReadFaultKind.TheVariants as flows
+use Rattle.ipfix_templates.specs.declared.fault.TemplateFaultKind.{TemplateFaultKind}
+use Rattle.ipfix_templates.specs.declared.fault.TemplateFaultKind.TheVariants as template
+use Rattle.pmap_text.specs.declared.fault.MapFaultKind.{MapFaultKind}
+use Rattle.pmap_text.specs.declared.fault.MapFaultKind.TheVariants as kind
+use Rattle.pmap_cert.specs.declared.fault.CertFaultKind.{CertFaultKind}
+use Rattle.pmap_cert.specs.declared.fault.CertFaultKind.TheVariants as certificate
+use Rattle.cert_check.specs.declared.fault.CheckFaultKind.{CheckFaultKind}
+use Rattle.cert_check.specs.declared.fault.CheckFaultKind.TheVariants as check
+use Rattle.flowlabel.specs.declared.bytes_fault.BytesFault.{BytesFault}
+use Rattle.flowlabel.specs.declared.bytes_fault.BytesFault.TheVariants.{Map as InMap, List as InList, Flows as InFlows, Certificate as InCertificate, Check as InCheck}
+
+-- A fault of the bytes of a file, or of what a certificate says of a map and a list: its code and name, and its place.
+
+-- the code and the name of a fault of a map text or a list text
+abbrev pub map_fault_name : MapFaultKind → List ℕ
+map_fault_name kind.BadStatement = codes "M1 BadStatement"
+map_fault_name kind.BadAddress = codes "M2 BadAddress"
+map_fault_name kind.BadLength = codes "M3 BadLength"
+map_fault_name kind.LowAboveHigh = codes "M4 LowAboveHigh"
+map_fault_name kind.WrongVersion = codes "M5 WrongVersion"
+map_fault_name kind.MissingLabel = codes "M6 MissingLabel"
+map_fault_name kind.BadLabel = codes "M7 BadLabel"
+map_fault_name kind.LabelConflict = codes "M8 LabelConflict"
+map_fault_name kind.BadMode = codes "M9 BadMode"
+map_fault_name kind.ModeLate = codes "M10 ModeLate"
+map_fault_name kind.ModeRepeated = codes "M11 ModeRepeated"
+map_fault_name kind.TooMany = codes "M12 TooMany"
+map_fault_name kind.NotAList = codes "M13 NotAList"
+map_fault_name kind.DuplicateBlock = codes "M14 DuplicateBlock"
+map_fault_name kind.NoMemory = codes "M15 NoMemory"
+
+-- the codes of a bad template and of what is wrong with it, and the name of the first
+abbrev pub template_fault_name : TemplateFaultKind → List ℕ
+template_fault_name template.Truncated = codes "F6 BadTemplate X1"
+template_fault_name template.BadTemplateId = codes "F6 BadTemplate X2"
+template_fault_name template.BadScope = codes "F6 BadTemplate X3"
+template_fault_name template.NoMemory = codes "F6 BadTemplate X4"
+
+-- the code and the name of a fault of an IPFIX File
+abbrev pub flows_fault_name : ReadFaultKind → List ℕ
+flows_fault_name flows.TruncatedHeader = codes "F1 TruncatedHeader"
+flows_fault_name flows.BadVersion = codes "F2 BadVersion"
+flows_fault_name flows.BadMessageLength = codes "F3 BadMessageLength"
+flows_fault_name flows.TruncatedMessage = codes "F4 TruncatedMessage"
+flows_fault_name flows.BadSetLength = codes "F5 BadSetLength"
+flows_fault_name (flows.BadTemplate kind) = template_fault_name kind
+flows_fault_name flows.BadRecord = codes "F7 BadRecord"
+flows_fault_name flows.TooManyMessages = codes "F9 TooManyMessages"
+flows_fault_name flows.NoMemory = codes "F10 NoMemory"
+
+-- the code and the name of a fault of a certificate's text
+abbrev pub certificate_fault_name : CertFaultKind → List ℕ
+certificate_fault_name certificate.BadHeader = codes "C1 BadHeader"
+certificate_fault_name certificate.BadLabelTable = codes "C2 BadLabelTable"
+certificate_fault_name certificate.BadNode = codes "C3 BadNode"
+certificate_fault_name certificate.TooDeep = codes "C4 TooDeep"
+certificate_fault_name certificate.NodesMissing = codes "C5 NodesMissing"
+certificate_fault_name certificate.NodesLeft = codes "C6 NodesLeft"
+certificate_fault_name certificate.NoMemory = codes "C7 NoMemory"
+
+-- the code and the name of what is wrong with a certificate for a map and a list
+abbrev pub check_fault_name : CheckFaultKind → List ℕ
+check_fault_name check.VersionDiffers = codes "K1 VersionDiffers"
+check_fault_name check.LeafNotUniform = codes "K2 LeafNotUniform"
+check_fault_name check.ListDiffers = codes "K3 ListDiffers"
+check_fault_name check.SetTooSmall = codes "K4 SetTooSmall"
+check_fault_name check.CostTooHigh = codes "K5 CostTooHigh"
+check_fault_name check.BoundNotMet = codes "K6 BoundNotMet"
+check_fault_name check.NoMemory = codes "K7 NoMemory"
+
+-- the code and the name of a fault, and its place: a line, an offset or a node
+abbrev pub bytes_fault_name : BytesFault → List ℕ
+bytes_fault_name (InMap fault) = map_fault_name fault.kind
+bytes_fault_name (InList fault) = map_fault_name fault.kind
+bytes_fault_name (InFlows fault) = flows_fault_name fault.kind
+bytes_fault_name (InCertificate fault) = certificate_fault_name fault.kind
+bytes_fault_name (InCheck fault) = check_fault_name fault.kind
+
+abbrev pub bytes_fault_place : BytesFault → ℕ
+bytes_fault_place (InMap fault) = fault.line
+bytes_fault_place (InList fault) = fault.line
+bytes_fault_place (InFlows fault) = fault.offset
+bytes_fault_place (InCertificate fault) = fault.line
+bytes_fault_place (InCheck fault) = fault.node
+
+-- the kind says that memory ran out, and nothing of the bytes
+abbrev pub is_map_want : MapFaultKind → Bool
+is_map_want kind.NoMemory = true
+is_map_want k = false
+
+abbrev pub is_template_want : TemplateFaultKind → Bool
+is_template_want template.NoMemory = true
+is_template_want k = false
+
+abbrev pub is_flows_want : ReadFaultKind → Bool
+is_flows_want flows.NoMemory = true
+is_flows_want (flows.BadTemplate k) = is_template_want k
+is_flows_want k = false
+
+abbrev pub is_certificate_want : CertFaultKind → Bool
+is_certificate_want certificate.NoMemory = true
+is_certificate_want k = false
+
+abbrev pub is_check_want : CheckFaultKind → Bool
+is_check_want check.NoMemory = true
+is_check_want k = false
+
+-- so does the fault
+abbrev pub is_want_of_memory : BytesFault → Bool
+is_want_of_memory (InMap fault) = is_map_want fault.kind
+is_want_of_memory (InList fault) = is_map_want fault.kind
+is_want_of_memory (InFlows fault) = is_flows_want fault.kind
+is_want_of_memory (InCertificate fault) = is_certificate_want fault.kind
+is_want_of_memory (InCheck fault) = is_check_want fault.kind

@@ -1,0 +1,133 @@
+use Rattle.std.specs.Prelude.{◌≡◌, ◌≤◌, ◌⊎◌, ℕ, Bool, true, false, List, [], Option, Some, None, is_some, Ok, Err, length}
+use Rattle.std.specs.Borrow.{Bor}
+use Rattle.pmap_text.specs.MapText.{map_of}
+use Rattle.pmap_text.specs.PrefixList.{list_of}
+use Rattle.pmap_text.specs.Reading.{ReadsList, ReadsMap, list_reading, map_reading}
+use Rattle.pmap_text.specs.declared.map_text.MapText.{MapText}
+use Rattle.pmap_text.specs.declared.prefix_list.PrefixList.{PrefixList}
+use Rattle.pmap_cert.specs.Certificate.{certificate_of}
+use Rattle.pmap_cert.specs.CertificateReading.{certificate_reading}
+use Rattle.pmap_cert.specs.declared.certificate.Certificate.{Certificate}
+use Rattle.ipfix_read.specs.Message.{MessageView}
+use Rattle.flow_rows.specs.Counts.{counts_of}
+use Rattle.label_lookup.specs.Labelling.{Labelling, labelling_of_list, labelling_of_map}
+use Rattle.pmap_print.specs.Info.{info_text}
+use Rattle.flowlabel.specs.Output.{Checks, FileTexts, Outcome, Prints, PrintsMinimal, PrintsRuns, ReadsCertificate, ReportsOf, label_text, report_of_groups, report_of_rows}
+use Rattle.flowlabel.specs.Request.{Request, label, info, rows, cat, shrink, check, uniq}
+use Rattle.flowlabel.specs.Run.{HasFailed, HasName, HasText}
+use Rattle.flowlabel.specs.Turns.{IsReadAt, ListTurn, MapTurn, Turn}
+use Rattle.flowlabel.specs.declared.bytes_fault.BytesFault.{BytesFault}
+use Rattle.flowlabel.specs.declared.bytes_fault.BytesFault.TheVariants.{Map as InMap, List as InList, Flows as InFlows, Certificate as InCertificate, Check as InCheck}
+use Rattle.flowlabel.specs.declared.command.Needs.{Needs}
+use Rattle.flowlabel.specs.declared.fault.RunFault.{RunFault}
+use Rattle.flowlabel.specs.declared.fault.RunFault.TheVariants.{Usage, CannotOpen, CannotRead, CannotWrite, NoMemory, File}
+use Rattle.flowlabel.specs.declared.inputs.Inputs.{Inputs}
+use Rattle.flowlabel.specs.declared.inputs.Source.{Source}
+use Rattle.flowlabel.specs.declared.run.loaded.Loaded.{Loaded}
+use Rattle.flowlabel.specs.declared.run.loaded.LoadedLabels.{LoadedLabels}
+use Rattle.flowlabel.specs.declared.run.loaded.LoadedLabels.TheVariants.{Map, List as Prefixes}
+
+-- The files that a run decodes whole before it reads flows, and what comes of them.
+
+-- the value is what the text is read as
+abbrev pub IsMapText : List ℕ → MapText → Type 0
+IsMapText text map = ReadsMap text (map_of map)
+
+abbrev pub IsListText : List ℕ → PrefixList → Type 0
+IsListText text list = ReadsList text (list_of list)
+
+abbrev pub IsCertificateText : List ℕ → Certificate → Type 0
+IsCertificateText text certificate = ReadsCertificate text (certificate_of certificate)
+
+-- the same where there is a value
+abbrev pub Holds : {A : Type 0} → (List ℕ → A → Type 0) → List ℕ → Option A → Type 0
+Holds Reads text None = Unit {0}
+Holds Reads text (Some value) = Reads text value
+
+-- each text is read as what is loaded of it
+pub record AreLoaded (loaded : Loaded) (texts : FileTexts) : Type 0 where
+  pub map : Holds IsMapText texts.map loaded.map
+  pub list : Holds IsListText texts.list loaded.list
+  pub certificate : Holds IsCertificateText texts.certificate loaded.certificate
+
+-- what is needed is loaded, and nothing else
+pub record ArePresent (needs : Needs) (loaded : Loaded) : Type 0 where
+  pub map : is_some loaded.map ≡ needs.map
+  pub list : is_some loaded.list ≡ needs.list
+  pub certificate : is_some loaded.certificate ≡ needs.certificate
+
+-- the list that is loaded has as few entries as a text may have
+abbrev pub HasFewEntries : Option PrefixList → Type 0
+HasFewEntries None = Unit {0}
+HasFewEntries (Some list) = length list.entries ≤ 1000000
+
+-- the text of a file, where the file is needed, is read without fault at its turn
+abbrev pub IsReadIf : Bool → Turn → List ℕ → Type 0
+IsReadIf false turn text = Unit {0}
+IsReadIf true turn text = IsReadAt turn text
+
+-- the outcome is the first fault of the texts of a map, a list and a certificate, of which some are needed
+abbrev pub IsFirstFault : Needs → FileTexts → Outcome → Type 0
+IsFirstFault needs texts (Ok text) = ⊥
+IsFirstFault needs texts (Err (InMap fault)) = (needs.map ≡ true) × (map_reading texts.map ≡ Err fault)
+IsFirstFault needs texts (Err (InList fault)) =
+    (needs.list ≡ true) × (list_reading texts.list ≡ Err fault) × IsReadIf needs.map MapTurn texts.map
+IsFirstFault needs texts (Err (InCertificate fault)) = (needs.certificate ≡ true) × (certificate_reading texts.certificate ≡ Err fault)
+    × IsReadIf needs.map MapTurn texts.map × IsReadIf needs.list ListTurn texts.list
+IsFirstFault needs texts (Err (InFlows fault)) = ⊥
+IsFirstFault needs texts (Err (InCheck fault)) = ⊥
+
+-- the labelling of a map or of a list
+abbrev pub labelling_of_either : LoadedLabels → Labelling
+labelling_of_either (Map map) = labelling_of_map (map_of map.now)
+labelling_of_either (Prefixes list) = labelling_of_list (list_of list.now)
+
+-- a list of these has few entries
+abbrev pub HasFewLabels : LoadedLabels → Type 0
+HasFewLabels (Map map) = Unit {0}
+HasFewLabels (Prefixes list) = length list.now.entries ≤ 1000000
+
+-- the labelling of the map that is loaded, or else of the list
+abbrev pub labelling_of_parts : Option MapText → Option PrefixList → Option Labelling
+labelling_of_parts (Some map) list = Some (labelling_of_map (map_of map))
+labelling_of_parts None (Some list) = Some (labelling_of_list (list_of list))
+labelling_of_parts None None = None
+
+abbrev pub labelling_loaded : Loaded → Option Labelling
+labelling_loaded loaded = labelling_of_parts loaded.map loaded.list
+
+-- what comes of a request over what is loaded for it and the bytes of its flows
+abbrev pub ComesOf : Request → Loaded → List ℕ → Outcome → Type 0
+ComesOf (label source address) loaded flows outcome =
+    (labels : Labelling) × (labelling_loaded loaded ≡ Some labels) × Prints (label_text address labels) outcome
+ComesOf (info file) loaded flows outcome = ReportsOf (λ labels messages. info_text (counts_of messages)) None flows outcome
+ComesOf (rows source condition columns file) loaded flows outcome =
+    ReportsOf (report_of_rows condition columns) (labelling_loaded loaded) flows outcome
+ComesOf (uniq fields source condition sorted columns file) loaded flows outcome =
+    ReportsOf (report_of_groups fields condition sorted columns) (labelling_loaded loaded) flows outcome
+ComesOf (cat source) loaded flows outcome = (labels : Labelling) × (labelling_loaded loaded ≡ Some labels) × PrintsRuns labels outcome
+ComesOf (shrink file certificate) loaded flows outcome =
+    (map : MapText) × (loaded.map ≡ Some map) × PrintsMinimal certificate (map_of map) outcome
+ComesOf (check file other third) loaded flows outcome =
+    (map : MapText) × (list : PrefixList) × (certificate : Certificate)
+    × (loaded.map ≡ Some map) × (loaded.list ≡ Some list) × (loaded.certificate ≡ Some certificate)
+    × Checks (map_of map) (list_of list) (certificate_of certificate) outcome
+
+module _ {R : Type 0} where
+  -- a fault that comes behind the loading: one of the flows, or of what the certificate says, where nothing was read of the flows
+  abbrev pub IsLateFault : Inputs R → Inputs R → Bor (List ℕ) → BytesFault → Type 0
+  IsLateFault old new file (InMap fault) = ⊥
+  IsLateFault old new file (InList fault) = ⊥
+  IsLateFault old new file (InFlows fault) = HasName old.flows file
+  IsLateFault old new file (InCertificate fault) = ⊥
+  IsLateFault old new file (InCheck fault) = HasName old.certificate file × (new.flows ≡ old.flows)
+
+  -- what a fault says of what comes of loaded files and the flows, by the relation of the bytes of the flows to the outcome
+  abbrev pub IsFaultOfAnswer : (R → Option (List ℕ)) → (R → Bool) → Inputs R → Inputs R → (List ℕ → Outcome → Type 0) → RunFault → Type 0
+  IsFaultOfAnswer left failed old new over (Usage fault) = ⊥
+  IsFaultOfAnswer left failed old new over (CannotOpen file) = ⊥
+  IsFaultOfAnswer left failed old new over (CannotRead file) = HasFailed failed old.flows new.flows file
+  IsFaultOfAnswer left failed old new over CannotWrite = ⊥
+  IsFaultOfAnswer left failed old new over NoMemory = Unit {0}
+  IsFaultOfAnswer left failed old new over (File fault) = IsLateFault old new fault.file fault.fault
+      × ((bytes : List ℕ) → HasText left old.flows bytes → over bytes (Err fault.fault))

@@ -1,0 +1,150 @@
+ghost use Rattle.std.specs.Prelude.{◌≡◌};
+ghost use Rattle.flowlabel.specs.BytesFault.{bytes_fault_name, bytes_fault_place, certificate_fault_name, check_fault_name, flows_fault_name, is_want_of_memory, map_fault_name, template_fault_name};
+
+use cert_check::{CheckFault, CheckFaultKind};
+use ipfix_read::{ReadFault, ReadFaultKind};
+use ipfix_templates::TemplateFaultKind;
+use pmap_cert::{CertFault, CertFaultKind};
+use pmap_text::{MapFault, MapFaultKind};
+
+/// A fault of the bytes of a file, or of what a certificate says of a map and a list.
+#[derive(Clone, Copy)]
+pub enum BytesFault {
+    /// Of the text of a map file.
+    Map(MapFault),
+    /// Of the text of a list file.
+    List(MapFault),
+    /// Of the bytes of an IPFIX File.
+    Flows(ReadFault),
+    /// Of the text of a certificate's file.
+    Certificate(CertFault),
+    /// Of the certificate, for the map and the list.
+    Check(CheckFault),
+}
+
+impl BytesFault {
+    /// Whether it says that memory ran out, and nothing of the bytes.
+    pub fn is_want_of_memory(&self) -> bool
+        ensures { result ≡ is_want_of_memory self.now }
+    {
+        match self {
+            BytesFault::Map(fault) => fault.kind == MapFaultKind::NoMemory,
+            BytesFault::List(fault) => fault.kind == MapFaultKind::NoMemory,
+            BytesFault::Flows(fault) => match fault.kind {
+                ReadFaultKind::NoMemory => true,
+                ReadFaultKind::BadTemplate(kind) => kind == TemplateFaultKind::NoMemory,
+                _ => false,
+            },
+            BytesFault::Certificate(fault) => fault.kind == CertFaultKind::NoMemory,
+            BytesFault::Check(fault) => fault.kind == CheckFaultKind::NoMemory,
+        }
+    }
+
+    /// Its code and its name, as the line of a fault shows them.
+    pub fn name(&self) -> &'static str
+        ensures { result.now ≡ bytes_fault_name self.now }
+    {
+        match self {
+            BytesFault::Map(fault) => map_fault_name(fault.kind),
+            BytesFault::List(fault) => map_fault_name(fault.kind),
+            BytesFault::Flows(fault) => flows_fault_name(fault.kind),
+            BytesFault::Certificate(fault) => certificate_fault_name(fault.kind),
+            BytesFault::Check(fault) => check_fault_name(fault.kind),
+        }
+    }
+
+    /// Where it is: a line of a text, an offset into a File, or a node of a certificate.
+    pub fn place(&self) -> u64
+        ensures { result ≡ bytes_fault_place self.now }
+    {
+        match self {
+            BytesFault::Map(fault) => fault.line,
+            BytesFault::List(fault) => fault.line,
+            BytesFault::Flows(fault) => fault.offset,
+            BytesFault::Certificate(fault) => fault.line,
+            BytesFault::Check(fault) => fault.node,
+        }
+    }
+}
+
+// The code and the name of a fault of a map text or a list text.
+fn map_fault_name(kind: MapFaultKind) -> &'static str
+    ensures { result.now ≡ map_fault_name kind }
+{
+    match kind {
+        MapFaultKind::BadStatement => "M1 BadStatement",
+        MapFaultKind::BadAddress => "M2 BadAddress",
+        MapFaultKind::BadLength => "M3 BadLength",
+        MapFaultKind::LowAboveHigh => "M4 LowAboveHigh",
+        MapFaultKind::WrongVersion => "M5 WrongVersion",
+        MapFaultKind::MissingLabel => "M6 MissingLabel",
+        MapFaultKind::BadLabel => "M7 BadLabel",
+        MapFaultKind::LabelConflict => "M8 LabelConflict",
+        MapFaultKind::BadMode => "M9 BadMode",
+        MapFaultKind::ModeLate => "M10 ModeLate",
+        MapFaultKind::ModeRepeated => "M11 ModeRepeated",
+        MapFaultKind::TooMany => "M12 TooMany",
+        MapFaultKind::NotAList => "M13 NotAList",
+        MapFaultKind::DuplicateBlock => "M14 DuplicateBlock",
+        MapFaultKind::NoMemory => "M15 NoMemory",
+    }
+}
+
+// The codes and the names of a bad template and of what is wrong with it.
+fn template_fault_name(kind: TemplateFaultKind) -> &'static str
+    ensures { result.now ≡ template_fault_name kind }
+{
+    match kind {
+        TemplateFaultKind::Truncated => "F6 BadTemplate X1",
+        TemplateFaultKind::BadTemplateId => "F6 BadTemplate X2",
+        TemplateFaultKind::BadScope => "F6 BadTemplate X3",
+        TemplateFaultKind::NoMemory => "F6 BadTemplate X4",
+    }
+}
+
+// The code and the name of a fault of an IPFIX File.
+fn flows_fault_name(kind: ReadFaultKind) -> &'static str
+    ensures { result.now ≡ flows_fault_name kind }
+{
+    match kind {
+        ReadFaultKind::TruncatedHeader => "F1 TruncatedHeader",
+        ReadFaultKind::BadVersion => "F2 BadVersion",
+        ReadFaultKind::BadMessageLength => "F3 BadMessageLength",
+        ReadFaultKind::TruncatedMessage => "F4 TruncatedMessage",
+        ReadFaultKind::BadSetLength => "F5 BadSetLength",
+        ReadFaultKind::BadTemplate(kind) => template_fault_name(kind),
+        ReadFaultKind::BadRecord => "F7 BadRecord",
+        ReadFaultKind::TooManyMessages => "F9 TooManyMessages",
+        ReadFaultKind::NoMemory => "F10 NoMemory",
+    }
+}
+
+// The code and the name of a fault of a certificate's text.
+fn certificate_fault_name(kind: CertFaultKind) -> &'static str
+    ensures { result.now ≡ certificate_fault_name kind }
+{
+    match kind {
+        CertFaultKind::BadHeader => "C1 BadHeader",
+        CertFaultKind::BadLabelTable => "C2 BadLabelTable",
+        CertFaultKind::BadNode => "C3 BadNode",
+        CertFaultKind::TooDeep => "C4 TooDeep",
+        CertFaultKind::NodesMissing => "C5 NodesMissing",
+        CertFaultKind::NodesLeft => "C6 NodesLeft",
+        CertFaultKind::NoMemory => "C7 NoMemory",
+    }
+}
+
+// The code and the name of what is wrong with a certificate for a map and a list.
+fn check_fault_name(kind: CheckFaultKind) -> &'static str
+    ensures { result.now ≡ check_fault_name kind }
+{
+    match kind {
+        CheckFaultKind::VersionDiffers => "K1 VersionDiffers",
+        CheckFaultKind::LeafNotUniform => "K2 LeafNotUniform",
+        CheckFaultKind::ListDiffers => "K3 ListDiffers",
+        CheckFaultKind::SetTooSmall => "K4 SetTooSmall",
+        CheckFaultKind::CostTooHigh => "K5 CostTooHigh",
+        CheckFaultKind::BoundNotMet => "K6 BoundNotMet",
+        CheckFaultKind::NoMemory => "K7 NoMemory",
+    }
+}

@@ -1,0 +1,37 @@
+ghost use Rattle.std.specs.Prelude.{◌≡◌, IfSome, option_map};
+ghost use Rattle.flowlabel.specs.Loading.{HasFewEntries, HasFewLabels, labelling_loaded, labelling_of_either};
+
+use pmap_cert::Certificate;
+use pmap_text::{MapText, PrefixList};
+
+/// The files that a run decodes whole before it reads flows: those that its command needs.
+#[derive(Drop)]
+pub struct Loaded {
+    pub map: Option<MapText>,
+    pub list: Option<PrefixList>,
+    pub certificate: Option<Certificate>,
+}
+
+/// What has labels: a prefix map, or a prefix list.
+#[derive(Clone, Copy)]
+pub enum LoadedLabels<'a> {
+    Map(&'a MapText),
+    List(&'a PrefixList),
+}
+
+impl Loaded {
+    /// The labels of the map, or else of the list. No command reads both for its labels.
+    pub fn labels(&self) -> Option<LoadedLabels<'_>>
+        requires { HasFewEntries self.now.list }
+        ensures labels { option_map labelling_of_either result ≡ labelling_loaded self.now }
+        ensures few { IfSome result HasFewLabels }
+    {
+        if let Some(map) = &self.map {
+            return Some(LoadedLabels::Map(map));
+        }
+        match &self.list {
+            Some(list) => Some(LoadedLabels::List(list)),
+            None => None,
+        }
+    }
+}

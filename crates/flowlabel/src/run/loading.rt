@@ -1,0 +1,161 @@
+//! From files to what they hold: each is read whole and decoded before the next.
+ghost use Rattle.std.specs.Prelude.{◌≡◌, ℕ, List, Some, false, IfErr, IfOk, IfSome, is_some};
+ghost use Rattle.flowlabel.specs.BytesFault.{is_want_of_memory};
+ghost use Rattle.flowlabel.specs.Loading.{AreLoaded, ArePresent, HasFewEntries, Holds, IsFirstFault};
+ghost use Rattle.flowlabel.specs.Output.{FileTexts};
+ghost use Rattle.flowlabel.specs.Run.{AreNeeded, AreReadBefore, HasText, HaveTexts, IsFaultOfBytes, IsStop, any_failed, is_read_stop, name_of, source_failed};
+ghost use Rattle.flowlabel.specs.Turns.{FlowsTurn, IsFaultOfText, Turn, turn_of};
+ghost use Rattle.flowlabel.specs.declared.command.Needs.{Needs};
+
+use crate::bytes_fault::BytesFault;
+use crate::fault::RunFault;
+use crate::inputs::{Inputs, Source};
+use crate::run::loaded::Loaded;
+use flow_io::{Input, ReadStop, read_whole};
+use pmap_cert::{Certificate, read_cert};
+use pmap_text::{MapText, PrefixList, read_list, read_map};
+use std::alloc::Global;
+
+// What the text of a file is decoded to.
+trait Decode {
+    // The turn of the file among those that a run reads.
+    ghost turn: { Turn };
+
+    // The value is what the text is read as.
+    ghost reads: { List ℕ → Self → Type 0 };
+
+    // What holds of each value that a text is read as.
+    ghost limits: { Self → Type 0 };
+
+    // What the text is read as, or its first fault.
+    fn decode(alloc: Global, text: &[u8]) -> Result<Self, BytesFault>
+        ensures ok { IfOk result (reads text.now) }
+        ensures limits { IfOk result limits }
+        ensures turn { IfErr result (λ fault. turn_of fault ≡ turn) }
+        ensures err { IfErr result (λ fault. is_want_of_memory fault ≡ false → IsFaultOfText fault text.now) };
+}
+
+impl Decode for MapText {
+    ghost use Rattle.flowlabel.specs.Loading.{IsMapText};
+    ghost use Rattle.flowlabel.specs.Turns.{MapTurn};
+
+    ghost turn = { MapTurn };
+
+    ghost reads = { IsMapText };
+
+    ghost limits = { λ map. Unit {0} };
+
+    fn decode(alloc: Global, text: &[u8]) -> Result<MapText, BytesFault> {
+        match read_map(alloc, text) {
+            Ok(map) => Ok(map),
+            Err(fault) => Err(BytesFault::Map(fault)),
+        }
+    }
+}
+
+impl Decode for PrefixList {
+    ghost use Rattle.std.specs.Prelude.{◌≤◌, length};
+    ghost use Rattle.flowlabel.specs.Loading.{IsListText};
+    ghost use Rattle.flowlabel.specs.Turns.{ListTurn};
+
+    ghost turn = { ListTurn };
+
+    ghost reads = { IsListText };
+
+    ghost limits = { λ list. length list.entries ≤ 1000000 };
+
+    fn decode(alloc: Global, text: &[u8]) -> Result<PrefixList, BytesFault> {
+        match read_list(alloc, text) {
+            Ok(list) => Ok(list),
+            Err(fault) => Err(BytesFault::List(fault)),
+        }
+    }
+}
+
+impl Decode for Certificate {
+    ghost use Rattle.flowlabel.specs.Loading.{IsCertificateText};
+    ghost use Rattle.flowlabel.specs.Turns.{CertificateTurn};
+
+    ghost turn = { CertificateTurn };
+
+    ghost reads = { IsCertificateText };
+
+    ghost limits = { λ certificate. Unit {0} };
+
+    fn decode(alloc: Global, text: &[u8]) -> Result<Certificate, BytesFault> {
+        match read_cert(alloc, text) {
+            Ok(certificate) => {
+                // For its law: a certificate that is read has a text.
+                let _root = certificate.root();
+                Ok(certificate)
+            }
+            Err(fault) => Err(BytesFault::Certificate(fault)),
+        }
+    }
+}
+
+/// The whole text of a file.
+pub fn text_of_file<'a, R: Input>(
+    alloc: Global,
+    source: &mut Source<'a, R>,
+) -> Result<Vec<u8>, RunFault<'a>>
+    requires { R.failed source.old.reader ≡ false }
+    ensures ok { IfOk result (λ text. (left : List ℕ) → R.bytes_left source.old.reader ≡ Some left → text.items ≡ left) }
+    ensures err { (turn : Turn) → IfErr result (IsStop R.bytes_left R.failed turn (Some source.old) (Some source.new)) }
+    ensures name { source.new.name.now ≡ source.old.name.now }
+    ensures failed { R.failed source.new.reader ≡ is_read_stop result }
+{
+    match read_whole(alloc, &mut source.reader) {
+        Ok(text) => Ok(text),
+        Err(ReadStop::ReadFault) => Err(RunFault::CannotRead(source.name)),
+        Err(ReadStop::NoMemory) => Err(RunFault::NoMemory),
+    }
+}
+
+// What the file of an input is decoded to, where the input is there.
+fn load_one<'a, R: Input, T: Decode>(
+    alloc: Global,
+    source: &mut Option<Source<'a, R>>,
+) -> Result<Option<T>, RunFault<'a>>
+    requires { source_failed R.failed source.old ≡ false }
+    ensures there { IfOk result (λ value. is_some value ≡ is_some source.old) }
+    ensures ok { IfOk result (λ value. (text : List ℕ) → HasText R.bytes_left source.old text → Holds T.reads text value) }
+    ensures limits { IfOk result (λ value. IfSome value T.limits) }
+    ensures err { IfErr result (IsStop R.bytes_left R.failed T.turn source.old source.new) }
+    ensures name { name_of source.new ≡ name_of source.old }
+    ensures failed { source_failed R.failed source.new ≡ is_read_stop result }
+{
+    let Some(source) = source else {
+        return Ok(None);
+    };
+    let text = text_of_file(alloc, source)?;
+    match T::decode(alloc, text.as_slice()) {
+        Ok(value) => Ok(Some(value)),
+        Err(fault) => Err(RunFault::in_file(source.name, fault)),
+    }
+}
+
+/// Reads and decodes the map, the list and the certificate that are there, in this order. The first fault ends it, and the
+/// files behind that one are not read.
+pub fn load<'a, R: Input>(alloc: Global, inputs: &mut Inputs<'a, R>) -> Result<Loaded, RunFault<'a>>
+    requires readers { any_failed R.failed inputs.old ≡ false }
+    ensures present { (needs : Needs) → AreNeeded needs inputs.old → IfOk result (ArePresent needs) }
+    ensures ok { IfOk result (λ loaded. (texts : FileTexts) → HaveTexts R.bytes_left inputs.old texts → AreLoaded loaded texts) }
+    ensures read { IfOk result (λ loaded. AreReadBefore R.bytes_left FlowsTurn inputs.old) }
+    ensures few { IfOk result (λ loaded. HasFewEntries loaded.list) }
+    ensures err { (needs : Needs) → AreNeeded needs inputs.old
+        → IfErr result (IsFaultOfBytes R.bytes_left R.failed inputs.old inputs.new (IsFirstFault needs)) }
+    ensures needed { (needs : Needs) → AreNeeded needs inputs.old → AreNeeded needs inputs.new }
+    ensures name { name_of inputs.new.certificate ≡ name_of inputs.old.certificate }
+    ensures flows { inputs.new.flows ≡ inputs.old.flows }
+    ensures failed { any_failed R.failed inputs.new ≡ is_read_stop result }
+{
+    let map = load_one(alloc, &mut inputs.map)?;
+    let list = load_one(alloc, &mut inputs.list)?;
+    let certificate = load_one(alloc, &mut inputs.certificate)?;
+    Ok(Loaded {
+        map,
+        list,
+        certificate,
+    })
+}
