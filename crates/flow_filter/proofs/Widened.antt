@@ -1,12 +1,18 @@
 -- Ranges in rising order, each made to go up to where an earlier one goes.
-use Rattle.std.proofs.Common.{◌≡◌, ℕ, ◌+◌, ◌-◌, ◌<◌, ◌≤◌, ◌||◌, inl, inr, Bool, true, false, List, [], ◌∷◌, ◌++◌, nat_le, leb, get_or, length, take, refl, sym, ap, subst, ◌∙◌, arith}
+use Rattle.std.proofs.Common.{◌≡◌, ℕ, ◌+◌, ◌-◌, ◌<◌, ◌≤◌, ◌||◌, inl, inr, Bool, true, false, List, [], ◌∷◌, ◌++◌, nat_le, leb, get_or, length, max, take, refl, sym, ap, subst, ◌∙◌, arith}
+use Rattle.std.specs.Ordering.{nat_cmp, ord_max}
 use Rattle.std.specs.List.Sorted.{IsNonDecreasingBy, IsPartitionPoint, IsPermutation}
+use Rattle.std.proofs.lemmas.Bool.Decides.{nat_tests}
 use Rattle.std.proofs.lemmas.Bool.{and_from, and_parts, both_ways, cases_eq, cases_lt, false_from_ne_true, le-leb, leb-false, leb-true}
 use Rattle.std.proofs.lemmas.List.{get_or_append_left, get_or_default, get_or_push, length_push}
 use Rattle.std.proofs.lemmas.List.Folds.{list_any-append, list_any_at, list_any_more, list_any_none}
 use Rattle.std.proofs.lemmas.List.Sorted.{list_any-IsPermutation}
 use Rattle.flow_filter.specs.Ranges.{AreRising, in_range, in_ranges}
 use Rattle.flow_filter.specs.declared.range.Range.{Range}
+
+-- the higher of two numbers, as the code finds it
+pub higher_is : (a b m : ℕ) → m ≡ ord_max nat_cmp a b → m ≡ max a b
+higher_is a b m is = is ∙ grind (arith, nat_tests)
 
 -- where the test of a range passes
 pub in_range-true : (n : ℕ) (r : Range) → in_range n r ≡ true → (r.low ≤ n) × (n ≤ r.high)

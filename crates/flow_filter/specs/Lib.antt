@@ -3,6 +3,7 @@ pub mod Cut
 pub mod Texts
 pub mod Blocks
 pub mod Condition
+pub mod Passing
 pub mod Words
 pub mod Given
 pub mod Filters

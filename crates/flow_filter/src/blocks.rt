@@ -1,3 +1,4 @@
+//! The blocks of addresses that the items of an address list stand for, and the places of their addresses.
 ghost use Rattle.std.specs.Prelude.{◌≡◌, option_map};
 ghost use Rattle.prefix_keys.specs.Text.{AddressOf};
 ghost use Rattle.flow_filter.specs.Blocks.{item_covers, mapped_number, view_of};
@@ -7,7 +8,7 @@ ghost use Rattle.flow_filter.specs.Texts.{address_item, single};
 use crate::range::Range;
 use prefix_keys::{Addr, Block, Version, block_of, convert, read_addr, read_block};
 
-/// The block of this address alone.
+// The block of this address alone.
 fn block_of_one(addr: Addr) -> Block
     ensures { view_of result ≡ single (addr.version, addr.value) }
 {

@@ -1,3 +1,4 @@
+//! Texts cut at a byte.
 ghost use Rattle.std.specs.Prelude.{◌≡◌, ◌+◌, ◌<◌, ◌∷◌, ◌==◌, option_map, length};
 ghost use Rattle.std.specs.List.{before_first, slice_split};
 ghost use Rattle.flow_filter.specs.Cut.{after_byte, parts_of, size_of};

@@ -10,9 +10,9 @@ ghost use Rattle.flow_filter.specs.Words.{IsFault, filter_of_words, words_of};
 use crate::blocks::place_of;
 use crate::fault::{FilterFault, FilterOption};
 use crate::labels::{is_allowed, is_either_allowed};
+use crate::options::{addresses, counts, numbers};
 use crate::range::Range;
 use crate::ranges::Ranges;
-use crate::reading::{addresses, counts, numbers};
 use crate::words::FilterWords;
 use flow_rows::Row;
 use label_lookup::Labeller;
@@ -25,7 +25,7 @@ pub struct Filter<'a> {
     protocol: Option<Ranges>,
     sport: Option<Ranges>,
     dport: Option<Ranges>,
-    /// The places of the addresses among the IPv6 addresses.
+    // The places of the addresses among the IPv6 addresses.
     saddress: Option<Ranges>,
     daddress: Option<Ranges>,
     packets: Option<Range>,
@@ -96,6 +96,7 @@ impl<'a> Filter<'a> {
         })
     }
 
+    // Whether the row meets the conditions on its protocol and its ports.
     fn allows_ports(&self, row: &Row) -> bool
         ensures { result ≡ allows_ports (condition_in self.now) (row_view row.now) }
     {
@@ -104,6 +105,7 @@ impl<'a> Filter<'a> {
             && is_in(&self.dport, u128::from(row.dport))
     }
 
+    // Whether it meets those on its addresses.
     fn allows_addresses(&self, row: &Row) -> bool
         ensures { let c = condition_in self.now in
             result ≡ (allows c.saddress (row.now.src.version, row.now.src.value)
@@ -112,12 +114,14 @@ impl<'a> Filter<'a> {
         is_at(&self.saddress, row.src) && is_at(&self.daddress, row.dst)
     }
 
+    // Whether it meets those on its packets and bytes.
     fn allows_counts(&self, row: &Row) -> bool
         ensures { result ≡ allows_counts (condition_in self.now) (row_view row.now) }
     {
         is_within(self.packets, row.packets) && is_within(self.bytes, row.octets)
     }
 
+    // Whether it meets those on the labels of its addresses.
     fn allows_labels<L: Labeller>(&self, row: &Row, labeller: Option<&L>) -> bool
         ensures { let found = label_where (labelling_lent L.version_of L.label labeller.entry) in
             result ≡ allows_labels (condition_in self.now) (found (row.now.src.version, row.now.src.value))

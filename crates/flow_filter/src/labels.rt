@@ -1,3 +1,4 @@
+//! The conditions on the labels of a row's addresses.
 ghost use Rattle.std.specs.Prelude.{◌≡◌, option_map};
 ghost use Rattle.flow_filter.specs.Condition.{allows_either, allows_label, is_label};
 ghost use Rattle.label_lookup.specs.Labelling.{label_where, labelling_lent};
@@ -5,7 +6,7 @@ ghost use Rattle.label_lookup.specs.Labelling.{label_where, labelling_lent};
 use label_lookup::{Labeller, label_row_under};
 use prefix_keys::Addr;
 
-/// Whether the row's address has this label.
+// Whether the row's address has this label.
 fn has_label<L: Labeller>(label: &str, labeller: Option<&L>, addr: Addr) -> bool
     ensures { result ≡ is_label label.now
         (label_where (labelling_lent L.version_of L.label labeller.entry) (addr.version, addr.value)) }

@@ -1,10 +1,11 @@
+//! The numbers and the ranges that texts stand for.
 ghost use Rattle.std.specs.Prelude.{◌≡◌};
 ghost use Rattle.flow_filter.specs.Texts.{bounded_number, number_range, upper_end};
 
 use crate::cut::cut;
 use crate::range::Range;
 
-/// The number, at most the limit, that 1 to 20 digits stand for.
+// The number, at most the limit, that 1 to 20 digits stand for.
 #[tactic(auto, using(crate::proofs::Digits::digits_room))]
 fn read_number(text: &[u8], limit: u64) -> Option<u128>
     ensures { result ≡ bounded_number limit text.now }
@@ -26,7 +27,7 @@ fn read_number(text: &[u8], limit: u64) -> Option<u128>
     }
 }
 
-/// The upper end that what stands behind a `-` writes. It may be left out where the range may be open.
+// The upper end that what stands behind a `-` writes. It may be left out where the range may be open.
 fn read_end(text: &[u8], limit: u64, may_be_open: bool) -> Option<u128>
     ensures { result ≡ upper_end may_be_open limit text.now }
 {

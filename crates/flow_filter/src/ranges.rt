@@ -9,7 +9,7 @@ use std::marker::Model;
 /// A set of numbers: those of some ranges, which are kept in an order in which a search finds a number.
 #[derive(Debug, Drop)]
 pub struct Ranges {
-    /// Neither a lower nor an upper end is below that of an earlier range.
+    // Neither a lower nor an upper end is below that of an earlier range.
     ranges: Vec<Range>,
 }
 
@@ -48,18 +48,8 @@ impl Ranges {
     }
 }
 
-/// The higher of two numbers.
-fn higher_of(a: u128, b: u128) -> u128
-    ensures first { a ≤ result }
-    ensures second { b ≤ result }
-    ensures one { a < b → result ≡ b }
-    ensures other { b ≤ a → result ≡ a }
-{
-    if a < b { b } else { a }
-}
-
-/// The ranges, of which no lower end is below an earlier one, each made to go up to where an earlier one goes. That adds no
-/// number: what is added to a range is in that earlier one.
+// The ranges, of which no lower end is below an earlier one, each made to go up to where an earlier one goes. That adds no
+// number: what is added to a range is in that earlier one.
 fn widened(alloc: Global, ranges: &[Range]) -> Result<Vec<Range>, AllocError>
     requires { IsNonDecreasingBy (λ r. r.low) ranges.now }
     ensures rising { IfOk result (λ wide. AreRising wide.items) }
@@ -68,7 +58,7 @@ fn widened(alloc: Global, ranges: &[Range]) -> Result<Vec<Range>, AllocError>
     let mut wide = Vec::with_capacity(alloc, ranges.len())?;
     let mut high = 0;
     for range in ranges {
-        high = higher_of(high, range.high);
+        high = high.max(range.high);
         wide.push(Range {
             low: range.low,
             high,

@@ -1,5 +1,7 @@
+//! Tests of the public calls of this crate.
 use crate::{Filter, FilterFault, FilterFaultKind, FilterOption, FilterWords};
 use flow_rows::Row;
+use ipfix_read::read_file;
 use label_lookup::Scan;
 use prefix_keys::{Addr, Version};
 use std::alloc::Global;
@@ -163,4 +165,51 @@ fn passes_the_rows_that_are_asked_for(rt: HostRuntime) -> Result<(), Fail> {
 fn names_the_text_that_has_not_its_form(rt: HostRuntime) -> Result<(), Fail> {
     all_fail(&rt, rt.alloc(), FAULTS.as_slice());
     Ok(())
+}
+
+// A message of two records: a flow from 10.0.0.1 to 8.8.8.8 by protocol 6, of 3 packets and 180
+// bytes, and one from 9.0.0.1 to the same by protocol 17, of 1 packet and 100 bytes.
+const TWO_RECORDS: [u8; 82] = [
+    0x00, 0x0a, 0x00, 0x52, 0x60, 0x00, 0x00, 0x00, 0x00, 0x00, 0x00, 0x00, 0x00, 0x00, 0x00, 0x01,
+    0x00, 0x02, 0x00, 0x1c, 0x01, 0x00, 0x00, 0x05, 0x00, 0x08, 0x00, 0x04, 0x00, 0x0c, 0x00, 0x04,
+    0x00, 0x04, 0x00, 0x01, 0x00, 0x02, 0x00, 0x04, 0x00, 0x01, 0x00, 0x04, 0x01, 0x00, 0x00, 0x26,
+    0x0a, 0x00, 0x00, 0x01, 0x08, 0x08, 0x08, 0x08, 0x06, 0x00, 0x00, 0x00, 0x03, 0x00, 0x00, 0x00,
+    0xb4, 0x09, 0x00, 0x00, 0x01, 0x08, 0x08, 0x08, 0x08, 0x11, 0x00, 0x00, 0x00, 0x01, 0x00, 0x00,
+    0x00, 0x64,
+];
+
+// The rows of that message that pass without a map, behind one row.
+fn rows_behind(alloc: Global, filter: &Filter<'_>, first: Row) -> Result<Vec<Row>, Fail> {
+    let nothing: Option<&Scan<'_>> = None;
+    let file = read_file(alloc, &TWO_RECORDS)?;
+    let mut rows = Vec::new(alloc);
+    rows.push(first)?;
+    for message in file.messages.as_slice() {
+        filter.add_passing_rows(message, nothing, &mut rows)?;
+    }
+    Ok(rows)
+}
+
+fn are_behind(
+    rt: &impl Abort,
+    alloc: Global,
+    words: &FilterWords<'_>,
+    wanted: &[Row],
+) -> Result<(), Fail> {
+    let filter = Filter::read(alloc, words).expect(rt, "a filter");
+    if let [first, ..] = wanted {
+        let rows = rows_behind(alloc, &filter, *first)?;
+        assert!(rt; rows.as_slice() == wanted);
+    }
+    Ok(())
+}
+
+#[test]
+fn adds_the_rows_of_a_message_that_pass(rt: HostRuntime) -> Result<(), Fail> {
+    let alloc = rt.alloc();
+    let first = row(&rt, 0x0a00_0001, 6, 3, 180);
+    let second = row(&rt, 0x0900_0001, 17, 1, 100);
+    let tcp = words(FilterOption::Protocol, "6");
+    are_behind(&rt, alloc, &tcp, &[second, first])?;
+    are_behind(&rt, alloc, &NOTHING, &[second, first, second])
 }

@@ -1,8 +1,8 @@
-use Rattle.std.proofs.Common.{◌≡◌, ℕ, ◌+◌, List, get_or, length, take, sym, ap, subst, ◌∙◌, arith}
+use Rattle.std.proofs.Common.{◌≡◌, ℕ, ◌+◌, List, get_or, length, max, take, sym, ap, subst, ◌∙◌, arith}
 use Rattle.std.proofs.Math.Seq.{take-length}
 use Rattle.std.proofs.lemmas.List.{get_or_default}
 use Rattle.flow_filter.specs.declared.range.Range.{Range}
-use Rattle.flow_filter.proofs.Widened.{AreWidened, one_widened, widened_rise, widened_set}
+use Rattle.flow_filter.proofs.Widened.{AreWidened, higher_is, one_widened, widened_rise, widened_set}
 use Rattle.flow_filter.proofs.ranges.widened.Goals as goal
 
 pub loop-range-preserved : goal.loop-range-preserved
@@ -12,10 +12,12 @@ loop-range-preserved c =
     let none : Range = record { low = 0; high = 0 } in
     let r : Range = get_or rs count none in
     let is : r ≡ get_or rs count r = get_or_default rs count none r c.loop-range-test.true in
-    let top = c.higher_of-high in
+    let top = c.max-high in
+    let higher : top.result ≡ max c.loop-range.high r.high = higher_is c.loop-range.high r.high top.result top.ensures in
     subst (λ (xs : List Range). AreWidened rs (count + 1) xs top.result) (sym c.in_ok-push.ensures.items)
     (one_widened rs count c.loop-range.wide.items c.loop-range.high c.requires c.loop-range.invariant r c.loop-range-test.true is
-    top.result top.ensures.first top.ensures.second top.ensures.one top.ensures.other)
+    top.result (omega (arith, higher)) (omega (arith, higher)) (λ more. omega (arith, higher, more))
+    (λ less. omega (arith, higher, less)))
 
 pub returns : goal.returns
 returns c =

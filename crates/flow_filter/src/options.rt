@@ -1,3 +1,4 @@
+//! What the texts of the options ask for.
 ghost use Rattle.std.specs.Prelude.{◌≡◌, IfErr, IfOk, map, option_map};
 ghost use Rattle.flow_filter.specs.Blocks.{items_cover, view_of};
 ghost use Rattle.flow_filter.specs.Given.{IsRead, IsRefused, by_place, covering};
@@ -14,7 +15,7 @@ use crate::ranges::Ranges;
 use prefix_keys::Block;
 use std::alloc::{AllocError, Global};
 
-/// The ranges of a number list, or `None` where the text is none.
+// The ranges of a number list, or `None` where the text is none.
 fn read_ranges(alloc: Global, text: &[u8], limit: u64) -> Result<Option<Vec<Range>>, AllocError>
     ensures { IfOk result (λ ranges. option_map (λ v. v.items) ranges ≡ number_list limit text.now) }
 {
@@ -31,7 +32,7 @@ fn read_ranges(alloc: Global, text: &[u8], limit: u64) -> Result<Option<Vec<Rang
     Ok(Some(ranges))
 }
 
-/// The blocks of an address list, or `None` where the text is none.
+// The blocks of an address list, or `None` where the text is none.
 fn read_blocks(alloc: Global, text: &[u8]) -> Result<Option<Vec<Block>>, AllocError>
     ensures { IfOk result (λ blocks. option_map (λ v. map view_of v.items) blocks ≡ address_list text.now) }
 {
@@ -48,7 +49,7 @@ fn read_blocks(alloc: Global, text: &[u8]) -> Result<Option<Vec<Block>>, AllocEr
     Ok(Some(blocks))
 }
 
-/// The places of the addresses that the blocks cover.
+// The places of the addresses that the blocks cover.
 fn places_of_all(alloc: Global, blocks: &[Block]) -> Result<Ranges, AllocError>
     ensures { IfOk result (λ set. by_place set ≡ items_cover (map view_of blocks.now)) }
 {

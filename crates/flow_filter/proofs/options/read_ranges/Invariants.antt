@@ -2,7 +2,7 @@ use Rattle.std.proofs.Common.{◌≡◌, false, option_map}
 use Rattle.flow_filter.specs.Cut.{size_of}
 use Rattle.flow_filter.specs.Texts.{number_list, number_range}
 use Rattle.flow_filter.proofs.Listed.{as_read}
-use Rattle.flow_filter.proofs.reading.read_ranges.Given as goal
+use Rattle.flow_filter.proofs.options.read_ranges.Given as goal
 
 -- the ranges so far, and the text that is left
 abbrev pub invariant-loop-rest : goal.invariant-loop-rest

@@ -1,5 +1,5 @@
 use Rattle.flow_filter.proofs.Places.{HasPlaces}
-use Rattle.flow_filter.proofs.reading.places_of_all.Given as goal
+use Rattle.flow_filter.proofs.options.places_of_all.Given as goal
 
 -- the places of the blocks so far
 abbrev pub invariant-loop-block : goal.invariant-loop-block

@@ -3,7 +3,7 @@ use Rattle.flow_filter.specs.Blocks.{view_of}
 use Rattle.flow_filter.specs.Cut.{size_of}
 use Rattle.flow_filter.specs.Texts.{address_item, address_list}
 use Rattle.flow_filter.proofs.Listed.{as_read}
-use Rattle.flow_filter.proofs.reading.read_blocks.Given as goal
+use Rattle.flow_filter.proofs.options.read_blocks.Given as goal
 
 -- the blocks so far, and the text that is left
 abbrev pub invariant-loop-rest : goal.invariant-loop-rest

@@ -5,7 +5,7 @@ use Rattle.flow_filter.specs.Given.{by_place}
 use Rattle.flow_filter.specs.Ranges.{in_ranges}
 use Rattle.flow_filter.specs.declared.range.Range.{Range}
 use Rattle.flow_filter.proofs.Places.{all_places}
-use Rattle.flow_filter.proofs.reading.places_of_all.Goals as goal
+use Rattle.flow_filter.proofs.options.places_of_all.Goals as goal
 
 pub returns : goal.returns
 returns c =

@@ -1,0 +1,66 @@
+-- The rows that pass of a message, and rows that others are added to.
+use Rattle.std.proofs.Common.{◌≡◌, ◌∙◌, ◌+◌, ◌≤◌, Bool, false, List, [], ◌∷◌, ◌++◌, Option, Some, None, Result, Ok, Err, OnOk, arith, filter, length, map, take, true≢false, sym, ap}
+use Rattle.std.proofs.lemmas.List.{length-append, length-map, length-take, take-take}
+use Rattle.std.proofs.lemmas.List.Concat.{length-flat_map}
+use Rattle.std.proofs.lemmas.List.Sums.{count_by-le-length, length-filter, sum_by-le-sum_by}
+use Rattle.std.specs.List.{flat_map}
+use Rattle.std.specs.Option.{option_to_list}
+use Rattle.std.specs.Result.{is_err}
+use Rattle.ipfix_read.specs.Message.{message_size, set_size}
+use Rattle.ipfix_read.specs.declared.record.Record.{Record}
+use Rattle.ipfix_read.specs.declared.set.Set.{Set}
+use Rattle.ipfix_read.specs.declared.set.Set.TheVariants.{Templates, Values, Skipped}
+use Rattle.flow_rows.specs.Content.{records_in, records_of, rows_of}
+use Rattle.flow_rows.specs.Elements.{first_row, rows_of_record}
+use Rattle.flow_rows.specs.Row.{RowView, row_view}
+use Rattle.flow_rows.specs.declared.row.Row.{Row}
+
+-- what is in front stays there as more is added
+front_within : {X : Type 0} (a b : List X) → take (length a) b ≡ a → length a ≤ length b
+front_within a b h = omega (arith, length-take (length a) b, ap length h)
+
+pub front_stays : {X : Type 0} (a b c : List X) → take (length a) b ≡ a → take (length b) c ≡ b → take (length a) c ≡ a
+front_stays a b c h k = sym (take-take (length a) (length b) c (front_within a b h)) ∙ ap (take (length a)) k ∙ h
+
+-- a message has no more rows that pass than sets and records
+one_at_most : (o : Option RowView) → length (option_to_list o) ≤ 1
+one_at_most None = omega (arith)
+one_at_most (Some row) = omega (arith)
+
+records_within : (records : List Record) → length (flat_map rows_of_record records) ≤ length records
+records_within [] = omega (arith)
+records_within (r ∷ records) =
+    let whole : length (flat_map rows_of_record (r ∷ records)) ≡ length (rows_of_record r) + length (flat_map rows_of_record records) =
+    length-append (rows_of_record r) (flat_map rows_of_record records) in
+    omega (arith, whole, one_at_most (first_row r), records_within records)
+
+set_within : (set : Set) → length (records_in set) ≤ set_size set
+set_within (Templates kind events) = omega arith
+set_within (Values kind records) = omega arith
+set_within (Skipped id) = omega arith
+
+sets_within : (sets : List Set) → length (records_of sets) ≤ message_size sets
+sets_within sets = omega (arith, length-flat_map records_in sets, sum_by-le-sum_by (λ set. length (records_in set)) set_size sets set_within)
+
+rows_within : (p : RowView → Bool) (sets : List Set) → length (filter p (rows_of sets)) ≤ message_size sets
+rows_within p sets =
+    omega (arith, length-filter p (rows_of sets), count_by-le-length p (rows_of sets), records_within (records_of sets), sets_within sets)
+
+-- with them there are so many rows more at most
+few_more : (p : RowView → Bool) (sets : List Set) (old new : List Row) → message_size sets ≤ 65535
+    → map row_view new ≡ map row_view old ++ filter p (rows_of sets) → length new ≤ length old + 65535
+few_more p sets old new size added =
+    omega (
+      arith,
+      length-map new row_view,
+      length-map old row_view,
+      ap (λ (rows : List RowView). length rows) added,
+      length-append (map row_view old) (filter p (rows_of sets)),
+      rows_within p sets,
+      size,
+    )
+
+pub few_added : {E : Type 0} (r : Result (Unit {0}) E) (p : RowView → Bool) (sets : List Set) (old new : List Row) → is_err r ≡ false
+    → message_size sets ≤ 65535 → OnOk r (map row_view new ≡ map row_view old ++ filter p (rows_of sets)) → length new ≤ length old + 65535
+few_added (Ok x) p sets old new is size added = few_more p sets old new size added
+few_added (Err e) p sets old new is size added = absurd (true≢false is)

@@ -1,0 +1,16 @@
+use Rattle.std.proofs.Common.{◌≤◌, ◌∙◌, ap, arith, sym}
+use Rattle.ipfix_read.specs.Message.{message_size}
+use Rattle.label_lookup.specs.Labelling.{labelling_lent}
+use Rattle.flow_filter.specs.Filters.{condition_in}
+use Rattle.flow_filter.specs.Passing.{passes}
+use Rattle.flow_filter.proofs.PassingLemmas.{few_added}
+use Rattle.flow_filter.proofs.filter.Filter.add_passing_rows.Goals as goal
+
+pub returns-else-is_err-clause-few : goal.returns-else-is_err-clause-few
+returns-else-is_err-clause-few g c =
+    let size : message_size c.as_slice.result.now ≤ 65535 =
+    omega (arith, ap message_size (c.as_slice.ensures ∙ c.sets.ensures.value), c.sets.ensures.size) in
+    few_added c.add_rows_of_sets-added.result
+    (passes (condition_in c.args.self.now) (labelling_lent g.L.Labeller.version_of g.L.Labeller.label c.args.labeller))
+    c.as_slice.result.now c.args.rows.now.items c.add_rows_of_sets-added.new.rows.items (sym c.is_err.ensures.value ∙ c.if-is_err.false) size
+    c.add_rows_of_sets-added.ensures.ok

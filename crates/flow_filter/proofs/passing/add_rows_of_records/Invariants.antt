@@ -1,0 +1,18 @@
+-- The rows of the records before the index that pass are added.
+use Rattle.std.proofs.Common.{◌≡◌, ◌++◌, length, map, take}
+use Rattle.std.specs.List.{flat_map}
+use Rattle.flow_rows.specs.Elements.{rows_of_record}
+use Rattle.flow_rows.specs.Row.{row_view}
+use Rattle.label_lookup.specs.Labelling.{labelling_lent}
+use Rattle.flow_filter.specs.Filters.{condition_in}
+use Rattle.flow_filter.specs.Passing.{passing}
+use Rattle.flow_filter.proofs.passing.add_rows_of_records.Given as goal
+
+abbrev pub invariant-loop-record : goal.invariant-loop-record
+invariant-loop-record g l = record {
+  ok : map row_view l.rows.items
+      ≡ map row_view l.initial.rows.items
+      ++ passing (condition_in l.filter) (labelling_lent g.L.Labeller.version_of g.L.Labeller.label l.fn.labeller)
+      (flat_map rows_of_record (take l.record-index l.records));
+  front : take (length l.initial.rows.items) l.rows.items ≡ l.initial.rows.items;
+}

@@ -1,0 +1,103 @@
+//! The rows of a message that pass a filter.
+ghost use Rattle.std.specs.Prelude.{◌≡◌, ◌+◌, ◌≤◌, ◌++◌, OnErr, OnOk, length, map, take};
+ghost use Rattle.std.specs.List.{flat_map};
+ghost use Rattle.flow_rows.specs.Content.{rows_of};
+ghost use Rattle.flow_rows.specs.Elements.{rows_of_record};
+ghost use Rattle.flow_rows.specs.Row.{row_view};
+ghost use Rattle.label_lookup.specs.Labelling.{labelling_lent};
+ghost use Rattle.flow_filter.specs.Filters.{condition_in};
+ghost use Rattle.flow_filter.specs.Passing.{passing};
+
+use crate::filter::Filter;
+use flow_rows::{Row, row_of};
+use ipfix_read::{Message, Record, Set};
+use label_lookup::Labeller;
+use std::alloc::AllocError;
+
+// Adds the rows of a record that pass.
+fn add_rows_of_record<L: Labeller>(
+    filter: &Filter<'_>,
+    data_record: &Record<'_>,
+    labeller: Option<&L>,
+    rows: &mut Vec<Row>,
+) -> Result<(), AllocError>
+    ensures ok { let labelling = labelling_lent L.version_of L.label labeller.entry in
+        OnOk result (map row_view rows.new.items
+        ≡ map row_view rows.old.items ++ passing (condition_in filter.now) labelling (rows_of_record data_record.now)) }
+    ensures front { take (length rows.old.items) rows.new.items ≡ rows.old.items }
+{
+    if let Some(row) = row_of(data_record) {
+        if filter.passes(&row, labeller) {
+            rows.push(row)?;
+        }
+    }
+    Ok(())
+}
+
+// Adds the rows of records that pass.
+#[tactic(auto, using(crate::proofs::PassingLemmas::front_stays))]
+fn add_rows_of_records<L: Labeller>(
+    filter: &Filter<'_>,
+    records: &[Record<'_>],
+    labeller: Option<&L>,
+    rows: &mut Vec<Row>,
+) -> Result<(), AllocError>
+    ensures ok { let labelling = labelling_lent L.version_of L.label labeller.entry in
+        OnOk result (map row_view rows.new.items
+        ≡ map row_view rows.old.items ++ passing (condition_in filter.now) labelling (flat_map rows_of_record records.now)) }
+    ensures front { take (length rows.old.items) rows.new.items ≡ rows.old.items }
+{
+    for record in records {
+        add_rows_of_record(filter, record, labeller, rows)?;
+    }
+    Ok(())
+}
+
+// Adds the rows of sets that pass.
+#[tactic(auto, using(crate::proofs::PassingLemmas::front_stays))]
+fn add_rows_of_sets<L: Labeller>(
+    filter: &Filter<'_>,
+    sets: &[Set<'_>],
+    labeller: Option<&L>,
+    rows: &mut Vec<Row>,
+) -> Result<(), AllocError>
+    ensures ok { let labelling = labelling_lent L.version_of L.label labeller.entry in
+        OnOk result (map row_view rows.new.items
+        ≡ map row_view rows.old.items ++ passing (condition_in filter.now) labelling (rows_of sets.now)) }
+    ensures front { take (length rows.old.items) rows.new.items ≡ rows.old.items }
+{
+    for set in sets {
+        if let Set::Values(_, records) = set {
+            add_rows_of_records(filter, records.as_slice(), labeller, rows)?;
+        }
+    }
+    Ok(())
+}
+
+impl<'a> Filter<'a> {
+    /// Adds the rows of a message that meet each condition that is given, behind those that are there. They are at most
+    /// 65,535. Without a labeller no address has a label.
+    ///
+    /// # Errors
+    ///
+    /// Want of memory. Then the rows are those that were there.
+    pub fn add_passing_rows<L: Labeller>(
+        &self,
+        message: &Message<'_>,
+        labeller: Option<&L>,
+        rows: &mut Vec<Row>,
+    ) -> Result<(), AllocError>
+        ensures ok { let labelling = labelling_lent L.version_of L.label labeller.entry in
+            OnOk result (map row_view rows.new.items
+            ≡ map row_view rows.old.items ++ passing (condition_in self.now) labelling (rows_of message.now.sets)) }
+        ensures few { length rows.new.items ≤ length rows.old.items + 65535 }
+        ensures err { OnErr result (rows.new.items ≡ rows.old.items) }
+    {
+        let before = rows.len();
+        let added = add_rows_of_sets(self, message.sets().as_slice(), labeller, rows);
+        if added.is_err() {
+            rows.truncate(before);
+        }
+        added
+    }
+}
