@@ -1,14 +1,14 @@
 -- What a row changes in groups, and at which place.
-use Rattle.std.proofs.Common.{◌≡◌, ℕ, zero, suc, ◌+◌, ◌-◌, ◌*◌, ◌^◌, ◌<◌, ◌≤◌, Bool, true, false, ◌||◌, cond, if◌then◌else◌, List, [], ◌∷◌, ◌++◌, map, length, get_or, set, All, Option, Some, None, refl, sym, ap, subst, ◌∙◌, arith}
+use Rattle.std.proofs.Common.{◌≡◌, ℕ, zero, suc, ◌+◌, ◌-◌, ◌*◌, ◌^◌, ◌<◌, ◌≤◌, Bool, true, false, cond, if◌then◌else◌, List, [], ◌∷◌, ◌++◌, map, length, get_or, set, All, Option, Some, None, refl, sym, ap, subst, ◌∙◌, arith}
 use Rattle.std.proofs.lemmas.List.{get_or-map, length-map, map-append, map-set, map_push, set-get_or}
 use Rattle.std.proofs.lemmas.List.Elements.{All-cons, All-head, All-nil, All-tail}
 use Rattle.std.proofs.lemmas.List.Quantifiers.{position-Some}
 use Rattle.std.proofs.lemmas.List.Sums.{get_or-le-sum_by, sum_by-cons}
 use Rattle.std.proofs.lemmas.Option.{none-some}
-use Rattle.std.specs.List.{list_any, position, position_or_len, sum_by}
+use Rattle.std.specs.List.{list_any, position, position_or_len}
 use Rattle.std.specs.Str.{bytes_eq}
 use Rattle.flow_rows.specs.Row.{RowView}
-use Rattle.pmap_text.proofs.LabelTexts.{position-any, position-map, list_any-map, position_or_len-map}
+use Rattle.pmap_text.proofs.LabelTexts.{position-any, position-map}
 use Rattle.flow_uniq.specs.declared.entry.Entry.{Entry}
 use Rattle.flow_uniq.specs.declared.totals.Totals.{Totals}
 use Rattle.flow_uniq.specs.Groups.{GroupModel, KeyedRow, groups_of_keyed, record_count}

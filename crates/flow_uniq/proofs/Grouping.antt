@@ -1,17 +1,22 @@
 -- The groups of rows followed by one more.
-use Rattle.std.proofs.Common.{◌≡◌, ℕ, ◌+◌, Bool, true, false, not, ◌||◌, cond, if◌then◌else◌, List, [], ◌∷◌, ◌++◌, map, filter, length, true≢false, refl, sym, ap, ◌∙◌}
+use Rattle.std.proofs.Common.{◌≡◌, ℕ, ◌+◌, ◌<◌, Bool, true, false, not, ◌||◌, cond, if◌then◌else◌, List, [], ◌∷◌, ◌++◌, Option, map, filter, length, get_or, take, true≢false, arith, refl, sym, ap, ◌∙◌}
 use Rattle.std.proofs.Common.{zero-add}
 use Rattle.std.proofs.lemmas.Cmp.{lists_equiv, nat_list_eq_equiv, on_equiv}
-use Rattle.std.proofs.lemmas.List.{append-nil, length_push, map-append, map_push}
+use Rattle.std.proofs.lemmas.Grind.{common_steps}
+use Rattle.std.proofs.lemmas.List.{append-nil, append_assoc, length_push, map-append, map_push}
 use Rattle.std.proofs.lemmas.List.Elements.{filter-append}
 use Rattle.std.proofs.lemmas.List.Sums.{sum_by_push}
 use Rattle.std.specs.Cmp.{IsEquivalence}
 use Rattle.std.specs.List.{list_any}
-use Rattle.flow_rows.specs.Row.{RowView}
+use Rattle.prefix_keys.specs.Text.{AddressOf}
+use Rattle.pmap_text.specs.MapModel.{Label}
+use Rattle.flow_rows.specs.Row.{RowView, row_view}
+use Rattle.flow_rows.specs.declared.row.Row.{Row}
+use Rattle.flow_uniq.specs.declared.field.KeyField.{KeyField}
 use Rattle.flow_uniq.specs.declared.totals.Totals.{Totals}
-use Rattle.flow_uniq.specs.Groups.{GroupModel, KeyedRow, distinct_keys, groups_of_keyed, rows_with, totals_of}
+use Rattle.flow_uniq.specs.Groups.{GroupModel, KeyedRow, distinct_keys, groups_of_keyed, keyed, rows_with, totals_of}
 use Rattle.flow_uniq.specs.Kept.{entered, first_totals, with_row}
-use Rattle.flow_uniq.specs.Key.{Key, part_numbers, same_key}
+use Rattle.flow_uniq.specs.Key.{Key, key_of, part_numbers, same_key}
 
 pub same_key-equiv : IsEquivalence same_key
 same_key-equiv = lists_equiv (on_equiv part_numbers nat_list_eq_equiv)
@@ -229,3 +234,23 @@ groups-push rows k row = by (stands k (map (λ r. r.0) rows)) refl
         ∙ (λ i. groups-others rows k row (distinct_keys (map (λ r. r.0) rows)) none i ++ group-first rows k row e i ∷ [])
         ∙ sym (entered-new k row (groups_of_keyed rows)
         (any-groups (group_of rows) (λ d. refl) k (distinct_keys (map (λ r. r.0) rows)) ∙ none))
+
+-- the rows before the next index
+take_more : (all : List Row) (i : ℕ) (row : Row) → row ≡ get_or all i row → i < length all
+    → map row_view (take (i + 1) all) ≡ map row_view (take i all) ++ row_view row ∷ []
+take_more all i row is within = grind (arith, common_steps)
+
+-- the groups of earlier rows and of the rows before an index are, after the row there, those of the rows before the next one
+pub then_row : (fields given : List KeyField) (label : AddressOf → Option Label) (all : List Row) (i : ℕ) (row : Row) (old new : List GroupModel)
+    → given ≡ fields → row ≡ get_or all i row → i < length all
+    → ((before : List KeyedRow) → old ≡ groups_of_keyed before → new ≡ groups_of_keyed (before ++ (key_of label given (row_view row), row_view row) ∷ []))
+    → (earlier : List KeyedRow) → old ≡ groups_of_keyed (earlier ++ keyed fields label (map row_view (take i all)))
+    → new ≡ groups_of_keyed (earlier ++ keyed fields label (map row_view (take (i + 1) all)))
+then_row fields given label all i row old new same is within added earlier so_far =
+    added (earlier ++ keyed fields label (map row_view (take i all))) so_far
+    ∙ (λ j. groups_of_keyed ((earlier ++ keyed fields label (map row_view (take i all))) ++ (key_of label (same j) (row_view row), row_view row) ∷ []))
+    ∙ ap groups_of_keyed
+    (append_assoc earlier (keyed fields label (map row_view (take i all))) ((key_of label fields (row_view row), row_view row) ∷ [])
+    ∙ ap (λ (rows : List KeyedRow). earlier ++ rows)
+    (sym (map_push (λ (r : RowView). (key_of label fields r, r)) (map row_view (take i all)) (row_view row))
+    ∙ ap (λ (rows : List RowView). keyed fields label rows) (sym (take_more all i row is within))))

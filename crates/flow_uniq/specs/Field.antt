@@ -1,5 +1,5 @@
 -- The fields of keys, and the texts that name them.
-use Rattle.std.specs.Prelude.{ℕ, ◌==◌, Bool, true, false, List, [], ◌∷◌, Option, Some, None, Result, Ok, Err, codes, count_by, find, filter_map, is_none, map, nat_lt, if◌then◌else◌}
+use Rattle.std.specs.Prelude.{ℕ, ◌==◌, Bool, true, false, List, [], ◌∷◌, Option, Result, Ok, Err, codes, count_by, find, filter_map, is_none, map, nat_lt, if◌then◌else◌}
 use Rattle.std.specs.List.{list_any, slice_split}
 use Rattle.std.specs.Str.{bytes_eq}
 use Rattle.flow_uniq.specs.declared.field.KeyField.{KeyField}

@@ -1,5 +1,5 @@
 -- The groups of rows by their keys, and their totals.
-use Rattle.std.specs.Prelude.{ℕ, List, [], ◌∷◌, Option, Bool, not, length, map, filter, sum_by}
+use Rattle.std.specs.Prelude.{ℕ, List, [], ◌∷◌, Option, not, length, map, filter, sum_by}
 use Rattle.prefix_keys.specs.Text.{AddressOf}
 use Rattle.pmap_text.specs.MapModel.{Label}
 use Rattle.flow_rows.specs.Row.{RowView}

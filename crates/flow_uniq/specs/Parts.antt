@@ -1,5 +1,5 @@
 -- How the parts of keys are kept.
-use Rattle.std.specs.Prelude.{ℕ, List, [], ◌∷◌, ◌++◌, Option, Some, None, length, map, option_copied}
+use Rattle.std.specs.Prelude.{ℕ, List, [], ◌∷◌, Some, None, length, option_copied}
 use Rattle.std.specs.List.{flat_map}
 use Rattle.flow_uniq.specs.declared.part.KeyPart.{KeyPart}
 use Rattle.flow_uniq.specs.declared.part.KeyPart.TheVariants as part

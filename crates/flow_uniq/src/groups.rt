@@ -1,8 +1,8 @@
-ghost use Rattle.std.specs.Prelude.{All, ◌≡◌, ◌++◌, ◌∷◌, [], ◌+◌, ◌-◌, ◌^◌, ◌<◌, List, IfOk, OnOk, OnErr, length, map, option_map, slice_get};
+ghost use Rattle.std.specs.Prelude.{All, ◌≡◌, ◌++◌, ℕ, ◌∷◌, [], ◌+◌, ◌-◌, ◌^◌, ◌<◌, List, IfOk, OnOk, OnErr, length, map, option_map, slice_get, take};
 ghost use Rattle.std.specs.List.Sorted.{IsPermutation, IsSortedBy};
 ghost use Rattle.flow_rows.specs.Row.{row_view};
 ghost use Rattle.label_lookup.specs.Labelling.{label_where, labelling_lent};
-ghost use Rattle.flow_uniq.specs.Groups.{KeyedRow, groups_of_keyed, record_count};
+ghost use Rattle.flow_uniq.specs.Groups.{KeyedRow, groups_of_keyed, keyed, record_count};
 ghost use Rattle.flow_uniq.specs.Key.{key_of};
 ghost use Rattle.flow_uniq.specs.Kept.{entry_model, group_model};
 ghost use Rattle.flow_uniq.specs.Sorted.{is_before, sorted_groups};
@@ -10,10 +10,10 @@ ghost use Rattle.flow_uniq.specs.Sorted.{is_before, sorted_groups};
 use crate::entry::Entry;
 use crate::field::KeyField;
 use crate::group::Group;
-use crate::kept::{enter, grow, place_of};
 use crate::key::{append_key, key_parts};
 use crate::keys::Keys;
 use crate::order::compare_keys;
+use crate::placing::{enter, grow, place_of};
 use crate::totals::Totals;
 use flow_rows::Row;
 use indexmap::IndexSet;
@@ -108,6 +108,30 @@ impl Groups {
                     Entry { key, totals },
                 )?;
             }
+        }
+        Ok(())
+    }
+
+    /// Adds rows one after the other, each as `add` does. Where memory is refused at one of them, those before it are added.
+    pub fn add_rows<L: Labeller>(
+        &mut self,
+        rows: &[Row],
+        labeller: Option<&L>,
+    ) -> Result<(), AllocError>
+        requires { record_count self.old.groups + length rows.now < 2 ^ 64 }
+        ensures fields { self.new.fields ≡ self.old.fields }
+        // Where these were the groups of rows with their keys, they are those of these rows followed by the added ones.
+        ensures ok { let label = label_where (labelling_lent L.version_of L.label labeller.entry) in
+            OnOk result ((earlier : List KeyedRow) → self.old.groups ≡ groups_of_keyed earlier
+            → self.new.groups ≡ groups_of_keyed (earlier ++ keyed self.old.fields label (map row_view rows.now))) }
+        ensures count { OnOk result (record_count self.new.groups ≡ record_count self.old.groups + length rows.now) }
+        // Where memory was refused at one of them, the added ones are those before it.
+        ensures err { let label = label_where (labelling_lent L.version_of L.label labeller.entry) in
+            OnErr result ((count : ℕ) × (count < length rows.now) × ((earlier : List KeyedRow) → self.old.groups ≡ groups_of_keyed earlier
+            → self.new.groups ≡ groups_of_keyed (earlier ++ keyed self.old.fields label (map row_view (take count rows.now))))) }
+    {
+        for row in rows {
+            self.add(row, labeller)?;
         }
         Ok(())
     }

@@ -3,9 +3,9 @@
 //! It stands on flow_rows, whose rows it takes, and on label_lookup, for the labels of their addresses. `Keys` are the fields
 //! by which rows are grouped, and `Groups` has a group for each key, with its totals. The layer above may rely on this: a text is
 //! read exactly where its items name distinct fields; groups that are those of a list of rows with their keys are, after one
-//! more row, those of the list followed by it; a row for which memory is refused leaves them as they were; and
-//! sorted groups are the groups in the order of their keys. A row whose key is known takes no memory but for a scratch
-//! that is kept.
+//! more row, those of the list followed by it, and so after more rows one by one; a row for which memory is refused leaves them
+//! as they were; and sorted groups are the groups in the order of their keys. A row whose key is known takes no memory but for a
+//! scratch that is kept.
 #![tactic(auto)]
 
 mod entry;
@@ -13,11 +13,11 @@ mod fault;
 mod field;
 mod group;
 mod groups;
-mod kept;
 mod key;
 mod keys;
 mod order;
 mod part;
+mod placing;
 mod totals;
 mod value;
 

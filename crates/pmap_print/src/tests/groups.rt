@@ -96,7 +96,7 @@ const UNDER_LIST: [Case; 2] = [
     ),
 ];
 
-// The groups of the first two rows, with nothing said of them.
+// The groups of rows, with nothing said of them.
 fn groups_of<L: Labeller>(
     alloc: Global,
     keys: &Keys,
@@ -104,9 +104,9 @@ fn groups_of<L: Labeller>(
     rows: &[Row],
 ) -> Result<Groups, AllocError> {
     let mut groups = Groups::new(alloc, keys)?;
-    if let [first, second] = rows {
+    if let [first, others @ ..] = rows {
         groups.add(first, labels)?;
-        groups.add(second, labels)?;
+        groups.add_rows(others, labels)?;
     }
     Ok(groups)
 }

@@ -1,6 +1,6 @@
 use Rattle.flow_rows.specs.Row.{row_view}
 use Rattle.flow_uniq.proofs.Entering.{bounded-at, few-at, grown-at}
-use Rattle.flow_uniq.proofs.kept.grow.Goals as goal
+use Rattle.flow_uniq.proofs.placing.grow.Goals as goal
 
 pub add-requires-clause-bounded : goal.add-requires-clause-bounded
 add-requires-clause-bounded c =

@@ -1,8 +1,8 @@
-use Rattle.std.proofs.Common.{◌≡◌, List, [], ◌∷◌, ◌++◌, if◌then◌else◌, map, sym, ap, ◌∙◌}
+use Rattle.std.proofs.Common.{[], ◌∷◌, ◌++◌, if◌then◌else◌, map, sym, ap, ◌∙◌}
 use Rattle.std.proofs.lemmas.List.{map_push}
 use Rattle.std.specs.Str.{bytes_eq}
 use Rattle.pmap_text.proofs.LabelTexts.{list_any-map}
-use Rattle.flow_uniq.proofs.kept.enter.Goals as goal
+use Rattle.flow_uniq.proofs.placing.enter.Goals as goal
 
 pub returns-clause-codes : goal.returns-clause-codes
 returns-clause-codes c =
