@@ -8,5 +8,4 @@ pub mod LineLemmas
 pub mod LoadingLemmas
 pub mod MinimalLemmas
 pub mod OutputLemmas
-pub mod PassingLemmas
 pub mod RequestLemmas

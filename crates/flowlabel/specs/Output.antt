@@ -1,4 +1,4 @@
-use Rattle.std.specs.Prelude.{◌≡◌, ◌≤◌, ◌⊎◌, ◌↔◌, ℕ, List, [], ◌∷◌, ◌++◌, Bool, true, false, Option, Some, None, Result, Ok, Err, map, option_map, unwrap_or, codes, decimal, length, filter}
+use Rattle.std.specs.Prelude.{◌≡◌, ◌≤◌, ◌⊎◌, ◌↔◌, ℕ, List, [], ◌∷◌, ◌++◌, Bool, true, false, Option, Some, None, Result, Ok, Err, map, option_map, unwrap_or, codes, decimal, length}
 use Rattle.prefix_keys.specs.Text.{AddressOf}
 use Rattle.pmap_text.specs.ListModel.{IsEquivalent, ListModel}
 use Rattle.pmap_text.specs.MapModel.{MapModel}
@@ -16,10 +16,10 @@ use Rattle.cert_check.specs.declared.fault.CheckFault.{CheckFault}
 use Rattle.ipfix_read.specs.File.{HasFileFault, ReadsFile}
 use Rattle.ipfix_read.specs.Message.{MessageView}
 use Rattle.ipfix_read.specs.declared.fault.ReadFault.{ReadFault}
-use Rattle.flow_rows.specs.Content.{rows_of_messages}
 use Rattle.flow_rows.specs.Counts.{counts_of}
 use Rattle.flow_rows.specs.Row.{RowView}
-use Rattle.flow_filter.specs.Condition.{Condition, row_passes}
+use Rattle.flow_filter.specs.Condition.{Condition}
+use Rattle.flow_filter.specs.Passing.{passing_rows}
 use Rattle.flow_uniq.specs.declared.field.KeyField.{KeyField}
 use Rattle.flow_uniq.specs.Groups.{groups_of}
 use Rattle.flow_uniq.specs.Sorted.{shown_groups}
@@ -123,17 +123,6 @@ shrunk_text true l c = certificate_text c
 abbrev pub PrintsMinimal : Bool → MapModel → Outcome → Type 0
 PrintsMinimal certificate m outcome =
     (l : ListModel) × (c : CertificateModel) × IsMinimalPair m l c × HasTextForm c × Prints (shrunk_text certificate l c) outcome
-
--- the row meets a condition under a labelling, or without one
-abbrev pub passes : Condition → Option Labelling → RowView → Bool
-passes condition labels row = row_passes condition (label_where labels) row
-
--- those of rows that do, and those of the rows of messages
-abbrev pub passing : Condition → Option Labelling → List RowView → List RowView
-passing condition labels all = filter (passes condition labels) all
-
-abbrev pub passing_rows : Condition → Option Labelling → List MessageView → List RowView
-passing_rows condition labels messages = passing condition labels (rows_of_messages messages)
 
 -- the labels of a row's source and destination
 abbrev pub row_labels : Labelling → RowView → LabelTexts

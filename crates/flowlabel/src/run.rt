@@ -19,7 +19,6 @@ mod label;
 mod laws;
 mod loaded;
 mod loading;
-mod passing;
 mod report;
 mod rows;
 mod shrink;

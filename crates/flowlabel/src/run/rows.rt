@@ -1,11 +1,12 @@
 //! What `rows` prints.
 ghost use Rattle.std.specs.Prelude.{◌≡◌, IfOk, length, map};
+ghost use Rattle.flow_filter.specs.Filters.{condition_in};
+ghost use Rattle.flow_filter.specs.Passing.{passing_rows};
 ghost use Rattle.flow_rows.specs.Row.{row_view};
 ghost use Rattle.pmap_print.specs.Rows.{label_texts};
-ghost use Rattle.label_lookup.specs.Labelling.{labelling_by};
+ghost use Rattle.label_lookup.specs.Labelling.{labelling_by, labelling_lent};
 ghost use Rattle.flowlabel.specs.Output.{row_labels};
 
-use crate::run::passing::passing_rows;
 use crate::run::report::Report;
 use flow_filter::Filter;
 use flow_rows::Row;
@@ -47,6 +48,23 @@ impl<'a> Report for RowsReport<'a> {
             }
         }
     }
+}
+
+// The rows of messages that pass a filter under the labels of a labeller, if there is one.
+fn passing_rows<L: Labeller>(
+    alloc: Global,
+    filter: &Filter<'_>,
+    labels: Option<&L>,
+    messages: &[Message<'_>],
+) -> Result<Vec<Row>, AllocError>
+    ensures { let labelling = labelling_lent L.version_of L.label labels.entry in
+        IfOk result (λ rows. map row_view rows.items ≡ passing_rows (condition_in filter.now) labelling messages.now) }
+{
+    let mut rows = Vec::new(alloc);
+    for message in messages {
+        filter.add_passing_rows(message, labels, &mut rows)?;
+    }
+    Ok(rows)
 }
 
 // The labels of a row's addresses.

@@ -1,15 +1,12 @@
 //! What `uniq` prints.
-ghost use Rattle.std.specs.Prelude.{◌≡◌, ◌+◌, ◌^◌, ◌<◌, ◌≤◌, ◌++◌, IfOk, List, OnOk, length, map};
+ghost use Rattle.std.specs.Prelude.{◌≡◌, ◌≤◌, IfOk, length};
 ghost use Rattle.flow_filter.specs.Filters.{condition_in};
-ghost use Rattle.flow_rows.specs.Row.{RowView, row_view};
-ghost use Rattle.flow_uniq.specs.Groups.{groups_of, record_count};
+ghost use Rattle.flow_filter.specs.Passing.{passing_rows};
+ghost use Rattle.flow_uniq.specs.Groups.{groups_of};
 ghost use Rattle.label_lookup.specs.Labelling.{label_where, labelling_lent};
-ghost use Rattle.flowlabel.specs.Output.{passing_rows};
 
-use crate::run::passing::add_rows_of_sets;
 use crate::run::report::Report;
 use flow_filter::Filter;
-use flow_rows::Row;
 use flow_uniq::{Groups, Keys};
 use ipfix_read::Message;
 use label_lookup::Labeller;
@@ -43,25 +40,6 @@ impl<'a> Report for UniqReport<'a> {
     }
 }
 
-// Adds rows to groups.
-fn add_rows<L: Labeller>(
-    groups: &mut Groups,
-    labels: Option<&L>,
-    rows: &[Row],
-) -> Result<(), AllocError>
-    requires { record_count groups.old.groups + length rows.now < 2 ^ 64 }
-    ensures fields { groups.new.fields ≡ groups.old.fields }
-    ensures count { OnOk result (record_count groups.new.groups ≡ record_count groups.old.groups + length rows.now) }
-    ensures groups { let label = label_where (labelling_lent L.version_of L.label labels.entry) in
-        OnOk result ((earlier : List RowView) → groups.old.groups ≡ groups_of groups.old.fields label earlier
-        → groups.new.groups ≡ groups_of groups.old.fields label (earlier ++ map row_view rows.now)) }
-{
-    for row in rows {
-        groups.add(row, labels)?;
-    }
-    Ok(())
-}
-
 // The groups of the rows of messages that pass a filter. The rows of one message are had at a time.
 fn groups_of<L: Labeller>(
     alloc: Global,
@@ -80,8 +58,8 @@ fn groups_of<L: Labeller>(
     let mut rows = Vec::new(alloc);
     for message in messages {
         rows.clear();
-        add_rows_of_sets(&mut rows, filter, labels, message.sets().as_slice())?;
-        add_rows(&mut groups, labels, rows.as_slice())?;
+        filter.add_passing_rows(message, labels, &mut rows)?;
+        groups.add_rows(rows.as_slice(), labels)?;
     }
     Ok(groups)
 }

@@ -3,7 +3,7 @@ use Rattle.std.proofs.Common.{◌≡◌, ◌*◌, ◌≤◌, take}
 use Rattle.flow_filter.specs.Filters.{condition_in}
 use Rattle.flow_uniq.specs.Groups.{groups_of, record_count}
 use Rattle.label_lookup.specs.Labelling.{label_where, labelling_lent}
-use Rattle.flowlabel.specs.Output.{passing_rows}
+use Rattle.flow_filter.specs.Passing.{passing_rows}
 use Rattle.flowlabel.proofs.run.uniq.groups_of.Given as goal
 
 abbrev pub invariant-loop-message : goal.invariant-loop-message

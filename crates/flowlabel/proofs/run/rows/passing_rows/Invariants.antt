@@ -1,10 +1,10 @@
 -- The rows are those of the messages before the index that pass.
 use Rattle.std.proofs.Common.{◌≡◌, map, take}
 use Rattle.flow_filter.specs.Filters.{condition_in}
+use Rattle.flow_filter.specs.Passing.{passing_rows}
 use Rattle.flow_rows.specs.Row.{row_view}
 use Rattle.label_lookup.specs.Labelling.{labelling_lent}
-use Rattle.flowlabel.specs.Output.{passing_rows}
-use Rattle.flowlabel.proofs.run.passing.passing_rows.Given as goal
+use Rattle.flowlabel.proofs.run.rows.passing_rows.Given as goal
 
 abbrev pub invariant-loop-message : goal.invariant-loop-message
 invariant-loop-message g l =
