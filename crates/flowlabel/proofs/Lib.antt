@@ -3,6 +3,7 @@ pub mod CheckLemmas
 pub mod DefinitionLemmas
 pub mod EndLemmas
 pub mod EquivalentLemmas
+pub mod ExistenceLemmas
 pub mod GroupLemmas
 pub mod LineLemmas
 pub mod LoadingLemmas

@@ -1,18 +1,19 @@
 -- `check` accepts the printed list and the printed certificate of a map's minimal pair.
-use Rattle.std.proofs.Common.{◌≡◌, ◌∙◌, ◌≤◌, ℕ, List, Ok, ap, false, inl, inr, length, subst, sym, true}
-use Rattle.pmap_text.specs.ListModel.{IsEquivalent, ListModel}
+use Rattle.std.proofs.Common.{◌≡◌, ◌∙◌, ◌≤◌, ℕ, List, Ok, ap, inl, inr, length, refl, subst, sym}
+use Rattle.pmap_text.specs.ListModel.{IsEquivalent, ListModel, Prefix}
 use Rattle.pmap_text.specs.MapModel.{MapModel}
 use Rattle.pmap_text.specs.Reading.{ReadsList, ReadsMap, label_limit, mapping_limit}
 use Rattle.pmap_cert.specs.Acceptance.{IsAccepted, IsLeast}
 use Rattle.pmap_cert.specs.CertificateForm.{HasTextForm}
 use Rattle.pmap_cert.specs.CertificateModel.{CertificateModel}
 use Rattle.pmap_cert.specs.CertificateText.{certificate_text}
-use Rattle.pmap_cert.specs.MinimalPair.{IsMinimalPair}
+use Rattle.pmap_cert.specs.ListForm.{HasListForm, IsInOrder}
+use Rattle.pmap_cert.specs.MinimalPair.{HasItsLabels, IsMinimalPair}
 use Rattle.pmap_print.specs.List.{list_text}
-use Rattle.pmap_print.specs.ReadBack.{labels_of}
+use Rattle.pmap_print.specs.Order.{in_order}
+use Rattle.pmap_print.specs.ReadBack.{CanBeReadAgain, IsListAgain, labels_of}
 use Rattle.flowlabel.specs.Headline.{ShrunkIsLeast}
-use Rattle.flowlabel.specs.Output.{CheckAcceptsMinimal, FileTexts, PrintsMinimal, minimal_text, shrunk_text}
-use Rattle.flowlabel.proofs.CheckLemmas.{printed_of_map}
+use Rattle.flowlabel.specs.Output.{CheckAcceptsMinimal, minimal_text}
 
 pub check_accepts_minimal : ((text : List ℕ) (m : MapModel) (l : ListModel) (c : CertificateModel) → ReadsMap text m → IsMinimalPair m l c
     → length l.prefixes ≤ mapping_limit → length (labels_of l.prefixes) ≤ label_limit
@@ -34,32 +35,41 @@ check_accepts_minimal back map list certificate texts m l c reads pair has_form 
       ),
     )
 
--- a text that is printed of a minimal pair is that of its list, or of its certificate
-list_of_prints : (m : MapModel) (out : List ℕ) → PrintsMinimal false m (Ok out)
-    → (l : ListModel) × (c : CertificateModel) × IsMinimalPair m l c × HasTextForm c × (out ≡ list_text l)
-list_of_prints m out (l, c, pair, form, prints) = (l, c, pair, form, cc)
-
-certificate_of_prints : (m : MapModel) (out : List ℕ) → PrintsMinimal true m (Ok out)
-    → (l : ListModel) × (c : CertificateModel) × IsMinimalPair m l c × HasTextForm c × (out ≡ certificate_text c)
-certificate_of_prints m out (l, c, pair, form, prints) = (l, c, pair, form, cc)
-
 pub shrunk_is_least : CheckAcceptsMinimal
+    → ((text : List ℕ) (m : MapModel) → ReadsMap text m → (l : ListModel) × (c : CertificateModel) × IsMinimalPair m l c × HasTextForm c)
+    → ((m : MapModel) (l : ListModel) (c : CertificateModel) → IsMinimalPair m l c → IsAccepted m l c)
     → ((m : MapModel) (l : ListModel) (c : CertificateModel) → IsMinimalPair m l c → IsEquivalent l m)
     → ((m : MapModel) (l : ListModel) (c : CertificateModel) → IsMinimalPair m l c → IsLeast m l)
-    → ((m : MapModel) (l l' : ListModel) (c c' : CertificateModel) → IsMinimalPair m l c → IsMinimalPair m l' c' → HasTextForm c → HasTextForm c' → c ≡ c')
+    → ((text : List ℕ) (m : MapModel) → ReadsMap text m → HasItsLabels m)
+    → ((m : MapModel) (l : ListModel) (c : CertificateModel) → IsMinimalPair m l c → HasItsLabels m → HasListForm l)
+    → ((text : List ℕ) (m : MapModel) (l : ListModel) (c : CertificateModel) → ReadsMap text m → IsMinimalPair m l c
+    → length l.prefixes ≤ mapping_limit → length (labels_of l.prefixes) ≤ label_limit → CanBeReadAgain l)
+    → ((l : ListModel) → CanBeReadAgain l → (again : ListModel) × ReadsList (list_text l) again × IsListAgain l again)
+    → ((l : ListModel) (m : MapModel) → CanBeReadAgain l → IsEquivalent l m → (again : ListModel) × ReadsList (list_text l) again × IsEquivalent again m)
+    → ((ps : List Prefix) → IsInOrder ps → in_order ps ≡ ps)
     → ShrunkIsLeast
-shrunk_is_least accepts equivalent least one file map list certificate texts shrunk claimed p q =
-    let (m, reads, prints) = printed_of_map (PrintsMinimal false) texts.map shrunk p in
-    let (m', reads', prints') = printed_of_map (PrintsMinimal true) texts.map claimed q in
-    let (l, c, pair, form, list_is) = list_of_prints m shrunk prints in
-    let same : m' ≡ m = cc in
-    let (l', c', pair', form', certificate_is) = certificate_of_prints m claimed (subst (λ (k : MapModel). PrintsMinimal true k (Ok claimed)) same prints') in
-    let claims : claimed ≡ certificate_text c = certificate_is ∙ ap certificate_text (one m l' l c' c pair' pair form' form) in (
-      m,
+shrunk_is_least accepts exists accepted equivalent least labels form can back alike kept file texts m reads =
+    let (l, c, pair, has_form) = exists texts.map m reads in (
       l,
-      reads,
-      list_is,
+      c,
+      inr (m, reads, (l, c, pair, has_form, refl)),
+      inr (m, reads, (l, c, pair, has_form, refl)),
       equivalent m l c pair,
       least m l c pair,
-      λ fits. accepts map list certificate (record texts { list = shrunk; certificate = claimed }) m l c reads pair form fits list_is claims,
+      has_form,
+      accepted m l c pair,
+      λ fits.
+      let readable : CanBeReadAgain l = can texts.map m l c reads pair fits.0 fits.1 in
+      let (again, reads_list, is_again) = back l readable in
+      let (other, reads_other, is) = alike l m readable (equivalent m l c pair) in
+      let same : other ≡ again = cc in
+      record {
+        again = again;
+        reads = reads_list;
+        version = is_again.version;
+        name = is_again.name;
+        prefixes = is_again.prefixes ∙ kept l.prefixes (form m l c pair (labels texts.map m reads)).order;
+        equivalent = subst (λ (k : ListModel). IsEquivalent k m) same is;
+        checks = λ map list certificate. accepts map list certificate (record texts { list = list_text l; certificate = certificate_text c }) m l c reads pair has_form fits refl refl;
+      },
     )

@@ -178,6 +178,10 @@ IsOutput (check map list certificate) texts = ChecksThen texts
 abbrev pub OneOutput : Type 0
 OneOutput = (request : Request) (texts : FileTexts) (outcome other : Outcome) → IsOutput request texts outcome → IsOutput request texts other → outcome ≡ other
 
+-- and it has one, over any texts
+abbrev pub HasOutput : Type 0
+HasOutput = (request : Request) (texts : FileTexts) → (outcome : Outcome) × IsOutput request texts outcome
+
 -- the request with the labels of this source, where it has labels
 abbrev pub under : LabelSource → Request → Request
 under source (label old address) = label source address

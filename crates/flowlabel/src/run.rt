@@ -29,7 +29,7 @@ use check::check_loaded;
 use info::InfoReport;
 use label::label_line;
 pub use laws::{
-    check_accepts_minimal, check_is_enough, one_output, same_under_equivalents,
+    check_accepts_minimal, check_is_enough, has_output, one_output, same_under_equivalents,
     shrunk_list_is_least,
 };
 use loaded::Loaded;

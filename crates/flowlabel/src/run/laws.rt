@@ -1,12 +1,17 @@
 ghost use Rattle.flowlabel.specs.Headline.{ShrunkIsLeast};
-ghost use Rattle.flowlabel.specs.Output.{CheckAcceptsMinimal, CheckIsEnough, OneOutput, SameUnderEquivalents};
+ghost use Rattle.flowlabel.specs.Output.{CheckAcceptsMinimal, CheckIsEnough, HasOutput, OneOutput, SameUnderEquivalents};
 
 use cert_check::laws::no_fault_is_acceptance;
+use label_trie::laws::labelling_has_its_runs;
 use pmap_cert::laws::{
-    acceptance_is_enough, map_text_has_its_labels, minimal_certificate_is_one,
-    minimal_pair_is_unique,
+    acceptance_is_enough, certificate_text_is_read_or_has_a_fault, map_text_has_a_minimal_pair,
+    map_text_has_its_labels, minimal_certificate_is_one, minimal_list_is_in_order,
+    minimal_pair_is_accepted, minimal_pair_is_unique,
 };
-use pmap_print::laws::{labelling_has_one_runs_text, minimal_list_is_accepted_again};
+use pmap_print::laws::{
+    labelling_has_one_runs_text, minimal_list_can_be_read_again, minimal_list_is_accepted_again,
+    printed_list_is_equivalent, printed_list_is_read_back, printed_order_is_one,
+};
 
 /// A request has one output at most over the texts of its files.
 pub fn one_output()
@@ -17,6 +22,17 @@ pub fn one_output()
     map_text_has_its_labels();
     minimal_pair_is_unique();
     minimal_certificate_is_one();
+    no_fault_is_acceptance();
+}
+
+/// A request has an output over any texts of its files. So it has exactly one.
+pub fn has_output()
+    ensures { HasOutput }
+{
+    ipfix_read::has_reading();
+    labelling_has_its_runs();
+    map_text_has_a_minimal_pair();
+    certificate_text_is_read_or_has_a_fault();
     no_fault_is_acceptance();
 }
 
@@ -42,13 +58,19 @@ pub fn check_accepts_minimal()
     minimal_list_is_accepted_again();
 }
 
-/// What `shrink` prints for a map text is right and least: the list labels every address as the map does, no list that does so
-/// has fewer entries, and `check` over the map text, that list, where it is within the limits of a text, and the certificate
-/// that `shrink` prints gives the number of its entries.
+/// What `shrink` prints for each map text is right and least: the list labels every address as the map does, no list that does so
+/// has fewer entries, and the certificate is accepted for the two. Where the list is within the limits of a text, what is printed
+/// is read again as the same list, and `check` over the map text, that list and the certificate gives the number of its entries.
 pub fn shrunk_list_is_least()
     ensures { ShrunkIsLeast }
 {
     check_accepts_minimal();
-    pmap_cert::laws::minimal_pair_is_accepted();
-    minimal_certificate_is_one();
+    map_text_has_a_minimal_pair();
+    minimal_pair_is_accepted();
+    map_text_has_its_labels();
+    minimal_list_is_in_order();
+    minimal_list_can_be_read_again();
+    printed_list_is_read_back();
+    printed_list_is_equivalent();
+    printed_order_is_one();
 }

@@ -1,0 +1,127 @@
+-- A request has an output over any texts: each text is read or has a first fault, and what is read has what is printed of it.
+use Rattle.std.proofs.Common.{◌≡◌, ◌⊎◌, ℕ, Bool, true, false, List, [], Option, Some, None, Result, Ok, Err, inl, inr, refl}
+use Rattle.std.specs.Prelude.{length}
+use Rattle.prefix_keys.specs.declared.version.Version.{Version}
+use Rattle.pmap_text.specs.ListModel.{ListModel}
+use Rattle.pmap_text.specs.MapModel.{Label, MapModel}
+use Rattle.pmap_text.specs.Reading.{ReadsList, ReadsMap, list_reading, map_reading}
+use Rattle.pmap_text.specs.declared.fault.MapFault.{MapFault}
+use Rattle.label_trie.specs.Runs.{AreRunsOf, Run}
+use Rattle.label_lookup.specs.Labelling.{Labelling, labelling_of_list, labelling_of_map}
+use Rattle.pmap_cert.specs.Acceptance.{IsAccepted}
+use Rattle.pmap_cert.specs.CertificateForm.{HasTextForm}
+use Rattle.pmap_cert.specs.CertificateModel.{CertificateModel}
+use Rattle.pmap_cert.specs.CertificateReading.{certificate_reading}
+use Rattle.pmap_cert.specs.CertificateText.{certificate_text}
+use Rattle.pmap_cert.specs.MinimalPair.{IsMinimalPair}
+use Rattle.pmap_cert.specs.declared.fault.CertFault.{CertFault}
+use Rattle.cert_check.specs.Checking.{first_fault}
+use Rattle.cert_check.specs.declared.fault.CheckFault.{CheckFault}
+use Rattle.ipfix_read.specs.File.{HasFileFault, ReadsFile}
+use Rattle.ipfix_read.specs.Laws.{HasReading}
+use Rattle.ipfix_read.specs.Message.{MessageView}
+use Rattle.ipfix_read.specs.declared.fault.ReadFault.{ReadFault}
+use Rattle.flow_rows.specs.Counts.{counts_of}
+use Rattle.pmap_print.specs.Info.{info_text}
+use Rattle.pmap_print.specs.List.{list_text}
+use Rattle.pmap_print.specs.Runs.{runs_text}
+use Rattle.flowlabel.specs.Output.{CertificateThen, Checks, FileTexts, FlowsThen, HasOutput, IsOutput, LabelsThen, ListThen, MapThen, Outcome, PrintsMinimal, PrintsRuns, Prints, ReadsCertificate, ReportsOf, ReportsThen, label_text, minimal_text, report_of_groups, report_of_rows, shrunk_text}
+use Rattle.flowlabel.specs.declared.bytes_fault.BytesFault.TheVariants.{Map as InMap, List as InList, Flows as InFlows, Certificate as InCertificate, Check as InCheck}
+use Rattle.flowlabel.specs.Request.{FromList, FromMap, LabelSource, Request, label, info, rows, cat, shrink, check, uniq}
+
+-- there is an outcome of this kind
+abbrev Has : (Outcome → Type 0) → Type 0
+Has P = (outcome : Outcome) × P outcome
+
+map_has : (rest : MapModel → Outcome → Type 0) (text : List ℕ) (r : Result MapModel MapFault) → map_reading text ≡ r
+    → ((m : MapModel) → ReadsMap text m → Has (rest m)) → Has (MapThen rest text)
+map_has rest text (Ok m) is has = let (outcome, comes) = has m is in (outcome, inr (m, is, comes))
+map_has rest text (Err fault) is has = (Err (InMap fault), inl (fault, is, refl))
+
+list_has : (rest : ListModel → Outcome → Type 0) (text : List ℕ) (r : Result ListModel MapFault) → list_reading text ≡ r
+    → ((l : ListModel) → ReadsList text l → Has (rest l)) → Has (ListThen rest text)
+list_has rest text (Ok l) is has = let (outcome, comes) = has l is in (outcome, inr (l, is, comes))
+list_has rest text (Err fault) is has = (Err (InList fault), inl (fault, is, refl))
+
+labels_have : (source : LabelSource) (rest : Labelling → Outcome → Type 0) (texts : FileTexts) → ((l : Labelling) → Has (rest l)) → Has (LabelsThen source rest texts)
+labels_have (FromMap file) rest texts has =
+    map_has (λ m. rest (labelling_of_map m)) texts.map (map_reading texts.map) refl (λ m reads. has (labelling_of_map m))
+labels_have (FromList file) rest texts has =
+    list_has (λ l. rest (labelling_of_list l)) texts.list (list_reading texts.list) refl (λ l reads. has (labelling_of_list l))
+
+-- a certificate's text is read or has a fault
+abbrev EitherCertificate : Type 0
+EitherCertificate = (text : List ℕ) → ((fault : CertFault) × (certificate_reading text ≡ Err fault))
+    ⊎ ((c : CertificateModel) × HasTextForm c × (text ≡ certificate_text c))
+
+certificate_has_so : (rest : CertificateModel → Outcome → Type 0) (text : List ℕ) → ((c : CertificateModel) → HasTextForm c → Has (rest c))
+    → ((fault : CertFault) × (certificate_reading text ≡ Err fault)) ⊎ ((c : CertificateModel) × HasTextForm c × (text ≡ certificate_text c))
+    → Has (CertificateThen rest text)
+certificate_has_so rest text has (inl (fault, fails)) = (Err (InCertificate fault), inl (fault, fails, refl))
+certificate_has_so rest text has (inr (c, form, is)) = let (outcome, comes) = has c form in (outcome, inr (c, (form, is), comes))
+
+certificate_has : EitherCertificate → (rest : CertificateModel → Outcome → Type 0) (text : List ℕ)
+    → ((c : CertificateModel) → HasTextForm c → Has (rest c)) → Has (CertificateThen rest text)
+certificate_has law rest text has = certificate_has_so rest text has (law text)
+
+-- a File's bytes are messages or have a fault
+flows_have_so : (rest : List MessageView → Outcome → Type 0) (bytes : List ℕ) → ((messages : List MessageView) → Has (rest messages))
+    → ((messages : List MessageView) × ReadsFile [] 0 bytes messages) ⊎ ((fault : ReadFault) × HasFileFault [] 0 0 bytes fault)
+    → Has (FlowsThen rest bytes)
+flows_have_so rest bytes has (inl (messages, reads)) = let (outcome, comes) = has messages in (outcome, inr (messages, reads, comes))
+flows_have_so rest bytes has (inr (fault, fails)) = (Err (InFlows fault), inl (fault, fails, refl))
+
+report_has : HasReading → (text : Option Labelling → List MessageView → List ℕ) (labels : Option Labelling) (bytes : List ℕ) → Has (ReportsOf text labels bytes)
+report_has law text labels bytes =
+    flows_have_so (λ messages. Prints (text labels messages)) bytes (λ messages. (Ok (text labels messages), refl)) (law [] 0 0 bytes)
+
+reports_have : HasReading → (text : Option Labelling → List MessageView → List ℕ) (source : Option LabelSource) (texts : FileTexts)
+    → Has (ReportsThen text source texts)
+reports_have law text None texts = report_has law text None texts.flows
+reports_have law text (Some source) texts =
+    labels_have source (λ labels. ReportsOf text (Some labels) texts.flows) texts (λ labels. report_has law text (Some labels) texts.flows)
+
+-- each labelling has its runs
+abbrev HasRuns : Type 0
+HasRuns = (v : Version) (f : ℕ → Option Label) → (runs : List Run) × AreRunsOf v f runs
+
+runs_have : HasRuns → (labels : Labelling) → Has (PrintsRuns labels)
+runs_have law labels =
+    let (runs, are) = law labels.version labels.label in
+    let text = runs_text labels.version runs in
+    (Ok text, (text, record { runs = runs; are = are; is = refl }, refl))
+
+-- each map that is read has a minimal pair with a text
+abbrev HasMinimalPair : Type 0
+HasMinimalPair = (text : List ℕ) (m : MapModel) → ReadsMap text m → (l : ListModel) × (c : CertificateModel) × IsMinimalPair m l c × HasTextForm c
+
+minimal_has : HasMinimalPair → (certificate : Bool) (text : List ℕ) (m : MapModel) → ReadsMap text m → Has (PrintsMinimal certificate m)
+minimal_has law certificate text m reads =
+    let (l, c, pair, form) = law text m reads in (Ok (shrunk_text certificate l c), (l, c, pair, form, refl))
+
+-- a certificate with a text is accepted or has a fault
+abbrev FaultlessIsAccepted : Type 0
+FaultlessIsAccepted = (m : MapModel) (l : ListModel) (c : CertificateModel) → HasTextForm c → first_fault m l c ≡ None → IsAccepted m l c
+
+checks_have : FaultlessIsAccepted → (m : MapModel) (l : ListModel) (c : CertificateModel) → HasTextForm c → (found : Option CheckFault)
+    → first_fault m l c ≡ found → Has (Checks m l c)
+checks_have law m l c form None is = (Ok (minimal_text (length l.prefixes)), inl (law m l c form is, refl))
+checks_have law m l c form (Some fault) is = (Err (InCheck fault), inr (fault, is, refl))
+
+pub has_output : HasReading → HasRuns → HasMinimalPair → EitherCertificate → FaultlessIsAccepted → HasOutput
+has_output reading runs pair either accepted (label source address) texts =
+    labels_have source (λ labels. Prints (label_text address labels)) texts (λ labels. (Ok (label_text address labels), refl))
+has_output reading runs pair either accepted (info flows) texts =
+    reports_have reading (λ labels messages. info_text (counts_of messages)) None texts
+has_output reading runs pair either accepted (rows source condition columns flows) texts =
+    reports_have reading (report_of_rows condition columns) source texts
+has_output reading runs pair either accepted (uniq fields source condition sorted columns flows) texts =
+    reports_have reading (report_of_groups fields condition sorted columns) source texts
+has_output reading runs pair either accepted (cat source) texts = labels_have source PrintsRuns texts (runs_have runs)
+has_output reading runs pair either accepted (shrink map certificate) texts =
+    map_has (PrintsMinimal certificate) texts.map (map_reading texts.map) refl (minimal_has pair certificate texts.map)
+has_output reading runs pair either accepted (check map list certificate) texts =
+    map_has (λ m. ListThen (λ l. CertificateThen (Checks m l) texts.certificate) texts.list) texts.map (map_reading texts.map) refl
+    (λ m reads. list_has (λ l. CertificateThen (Checks m l) texts.certificate) texts.list (list_reading texts.list) refl
+    (λ l reads'. certificate_has either (Checks m l) texts.certificate
+    (λ c form. checks_have accepted m l c form (first_fault m l c) refl)))
