@@ -1,4 +1,5 @@
-# make test: the gate. Every proof from nothing, then the built program as a user runs it, and the examples.
+# make test: the gate, with as many tasks at a time as there are processors (RT_JOBS=N: with N), and what each crate cost. Every
+# proof from nothing, then the built program as a user runs it, and the examples.
 # make examples: the examples of the README pages. make bench: the speed of the program.
 .PHONY: test examples bench
 
@@ -6,7 +7,7 @@
 test:
 	mkdir -p out
 	touch out/gate
-	rt ci
+	bench/gate
 	mv -f out/gate out/built
 	tests/program
 	@$(MAKE) --no-print-directory examples
