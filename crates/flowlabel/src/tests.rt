@@ -1,4 +1,5 @@
-use crate::command::{Command, LabelFile, Needs};
+//! Tests of `parse` and of what it answers. `memory` carries out whole command lines for those of `run`.
+use crate::command::{Command, LabelFile};
 use crate::usage::{ClapText, UsageFault};
 use crate::words::parse;
 use flow_filter::FilterFaultKind;
@@ -7,6 +8,8 @@ use prefix_keys::Version;
 use std::alloc::{AllocError, Global};
 use std::process::Abort;
 use std::test::Fail;
+
+pub mod memory;
 
 fn name_of_fault(kind: FilterFaultKind) -> &'static str {
     match kind {
@@ -215,30 +218,47 @@ fn answers_lines(rt: HostRuntime) -> Result<(), Fail> {
     Ok(())
 }
 
-fn names_map_alone(rt: &impl Abort, command: &Command<'_>) {
-    let map_alone = Needs {
-        map: true,
-        list: false,
-        certificate: false,
-        flows: false,
-    };
-    assert_eq!(rt; command.needs(), map_alone);
-    let files = command.files();
-    assert_eq!(rt; files.map, Some("map.txt"));
-    assert!(rt; files.list.is_none() && files.certificate.is_none() && files.flows.is_none());
+// An input is needed, and has this name, or it is not and has none.
+fn is_named(rt: &impl Abort, needed: bool, file: Option<&str>, name: &str) {
+    match file {
+        Some(file) => assert!(rt; needed && !name.is_empty() && file == name),
+        None => assert!(rt; !needed && name.is_empty()),
+    }
 }
 
-fn names_flows_alone(rt: &impl Abort, command: &Command<'_>) {
-    let flows_alone = Needs {
-        map: false,
-        list: false,
-        certificate: false,
-        flows: true,
-    };
-    assert_eq!(rt; command.needs(), flows_alone);
+// The command reads a map and a File of these names, as far as they have one, and no other file.
+fn names(rt: &impl Abort, command: &Command<'_>, map: &str, flows: &str) {
+    let needs = command.needs();
     let files = command.files();
-    assert_eq!(rt; files.flows, Some("flows"));
-    assert!(rt; files.map.is_none() && files.list.is_none() && files.certificate.is_none());
+    is_named(rt, needs.map, files.map, map);
+    is_named(rt, needs.list, files.list, "");
+    is_named(rt, needs.certificate, files.certificate, "");
+    is_named(rt, needs.flows, files.flows, flows);
+}
+
+// A line, and the names of its map and of its File.
+const NAMES: [(&str, &str, &str); 3] = [
+    ("flowlabel label --pmap map.txt 10.1.1.1", "map.txt", ""),
+    ("flowlabel info flows", "", "flows"),
+    ("flowlabel rows --columns flows", "", "flows"),
+];
+
+fn names_each(
+    rt: &impl Abort,
+    alloc: Global,
+    lines: &[(&str, &str, &str)],
+) -> Result<(), UsageFault> {
+    for &(line, map, flows) in lines {
+        let words: Vec<&str> = line.split(' ').collect(alloc)?;
+        names(rt, &parse(alloc, words.as_slice())?, map, flows);
+    }
+    Ok(())
+}
+
+#[test]
+fn keeps_the_names_of_files(rt: HostRuntime) -> Result<(), Fail> {
+    names_each(&rt, rt.alloc(), &NAMES)?;
+    Ok(())
 }
 
 fn is_label_command(rt: &impl Abort, command: &Command<'_>) {
@@ -256,18 +276,7 @@ fn is_label_command(rt: &impl Abort, command: &Command<'_>) {
 #[test]
 fn keeps_the_words_of_a_label_command(rt: HostRuntime) -> Result<(), Fail> {
     let words = ["flowlabel", "label", "--pmap", "map.txt", "10.1.1.1"];
-    let command = parse(rt.alloc(), &words)?;
-    is_label_command(&rt, &command);
-    names_map_alone(&rt, &command);
-    Ok(())
-}
-
-#[test]
-fn keeps_the_file_of_flows(rt: HostRuntime) -> Result<(), Fail> {
-    let command = parse(rt.alloc(), &["flowlabel", "info", "flows"])?;
-    names_flows_alone(&rt, &command);
-    let command = parse(rt.alloc(), &["flowlabel", "rows", "--columns", "flows"])?;
-    names_flows_alone(&rt, &command);
+    is_label_command(&rt, &parse(rt.alloc(), &words)?);
     Ok(())
 }
 

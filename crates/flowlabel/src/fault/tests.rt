@@ -1,4 +1,5 @@
 use super::*;
+use crate::tests::memory::is_wanted;
 use crate::usage::ClapText;
 use flow_filter::FilterFault;
 use ipfix_read::{ReadFault, ReadFaultKind};
@@ -10,20 +11,33 @@ use std::test::Fail;
 
 const OUT_OF_MEMORY: &str = "flowlabel: out of memory\n";
 
+// The exit status of a fault, and its line.
+fn told(alloc: Global, fault: &RunFault<'_>) -> Result<(u8, Vec<u8>), AllocError> {
+    Ok((status(fault), fault_line(alloc, fault)?))
+}
+
 fn tells(
     rt: &impl Abort,
     alloc: Global,
-    fault: &RunFault,
+    fault: &RunFault<'_>,
     ended: u8,
     line: &str,
 ) -> Result<(), AllocError> {
-    assert_eq!(rt; fault_line(alloc, fault)?.as_slice(), line.as_bytes());
-    assert_eq!(rt; status(fault), ended, "{line}");
+    let (found, told) = told(alloc, fault)?;
+    is_wanted(rt, found, told.as_slice(), b"", (ended, line, ""));
     Ok(())
 }
 
-fn map_fault(kind: MapFaultKind, line: u64) -> RunFault<'static> {
-    RunFault::in_file("maps/a.txt", BytesFault::Map(MapFault { kind, line }))
+fn map_fault(file: &str, kind: MapFaultKind, line: u64) -> RunFault<'_> {
+    RunFault::in_file(file, BytesFault::Map(MapFault { kind, line }))
+}
+
+fn list_fault(file: &str, kind: MapFaultKind, line: u64) -> RunFault<'_> {
+    RunFault::in_file(file, BytesFault::List(MapFault { kind, line }))
+}
+
+fn flows_fault(kind: ReadFaultKind, offset: u64) -> RunFault<'static> {
+    RunFault::in_file("flows", BytesFault::Flows(ReadFault { kind, offset }))
 }
 
 // Each fault at the line 1,000,001 of a map.
@@ -92,14 +106,9 @@ fn names_each(
     cases: &[(MapFaultKind, &str)],
 ) -> Result<(), AllocError> {
     for (kind, line) in cases {
-        tells(rt, alloc, &map_fault(*kind, 1_000_001), 1, line)?;
+        let fault = map_fault("maps/a.txt", *kind, 1_000_001);
+        tells(rt, alloc, &fault, 1, line)?;
     }
-    Ok(())
-}
-
-#[test]
-fn names_each_fault_of_a_map(rt: HostRuntime) -> Result<(), Fail> {
-    names_each(&rt, rt.alloc(), &MAP_FAULTS)?;
     Ok(())
 }
 
@@ -153,19 +162,8 @@ fn names_each_of_flows(
     cases: &[(ReadFaultKind, &str)],
 ) -> Result<(), AllocError> {
     for (kind, line) in cases {
-        let fault = ReadFault {
-            kind: *kind,
-            offset: 20,
-        };
-        let fault = RunFault::in_file("flows", BytesFault::Flows(fault));
-        tells(rt, alloc, &fault, 1, line)?;
+        tells(rt, alloc, &flows_fault(*kind, 20), 1, line)?;
     }
-    Ok(())
-}
-
-#[test]
-fn names_each_fault_of_a_file(rt: HostRuntime) -> Result<(), Fail> {
-    names_each_of_flows(&rt, rt.alloc(), &FLOWS_FAULTS)?;
     Ok(())
 }
 
@@ -264,46 +262,6 @@ const DEVICE_FAULTS: [(RunFault<'static>, u8, &str); 4] = [
     ),
 ];
 
-// Faults of the bytes of files, by the files' names. Want of memory is the run's own, whichever library tells it.
-const BYTES_FAULTS: [(&str, BytesFault, u8, &str); 4] = [
-    (
-        "map.txt",
-        BytesFault::Map(MapFault {
-            kind: MapFaultKind::NoMemory,
-            line: 0,
-        }),
-        3,
-        OUT_OF_MEMORY,
-    ),
-    (
-        "list.txt",
-        BytesFault::List(MapFault {
-            kind: MapFaultKind::NotAList,
-            line: 3,
-        }),
-        1,
-        "flowlabel: list.txt: M13 NotAList at 3\n",
-    ),
-    (
-        "flows",
-        BytesFault::Flows(ReadFault {
-            kind: ReadFaultKind::NoMemory,
-            offset: 0,
-        }),
-        3,
-        OUT_OF_MEMORY,
-    ),
-    (
-        "flows",
-        BytesFault::Flows(ReadFault {
-            kind: ReadFaultKind::BadTemplate(TemplateFaultKind::NoMemory),
-            offset: 20,
-        }),
-        3,
-        OUT_OF_MEMORY,
-    ),
-];
-
 fn tells_each(
     rt: &impl Abort,
     alloc: Global,
@@ -315,22 +273,27 @@ fn tells_each(
     Ok(())
 }
 
-fn tells_each_of_bytes(
-    rt: &impl Abort,
-    alloc: Global,
-    cases: &[(&'static str, BytesFault, u8, &str)],
-) -> Result<(), AllocError> {
-    for (file, fault, ended, line) in cases {
-        tells(rt, alloc, &RunFault::in_file(file, *fault), *ended, line)?;
-    }
-    Ok(())
-}
-
 #[test]
 fn tells_usage_devices_and_memory(rt: HostRuntime) -> Result<(), Fail> {
     tells_each(&rt, rt.alloc(), &USAGE_FAULTS)?;
     tells_each(&rt, rt.alloc(), &DEVICE_FAULTS)?;
-    tells_each_of_bytes(&rt, rt.alloc(), &BYTES_FAULTS)?;
+    Ok(())
+}
+
+#[test]
+fn names_each_fault_of_a_files_bytes(rt: HostRuntime) -> Result<(), Fail> {
+    names_each(&rt, rt.alloc(), &MAP_FAULTS)?;
+    names_each_of_flows(&rt, rt.alloc(), &FLOWS_FAULTS)?;
+    let not_a_list = list_fault("list.txt", MapFaultKind::NotAList, 3);
+    let line = "flowlabel: list.txt: M13 NotAList at 3\n";
+    tells(&rt, rt.alloc(), &not_a_list, 1, line)?;
+    let unread_map = map_fault("map.txt", MapFaultKind::NoMemory, 0);
+    tells(&rt, rt.alloc(), &unread_map, 3, OUT_OF_MEMORY)?;
+    let unread_flows = flows_fault(ReadFaultKind::NoMemory, 0);
+    tells(&rt, rt.alloc(), &unread_flows, 3, OUT_OF_MEMORY)?;
+    let unread_template = ReadFaultKind::BadTemplate(TemplateFaultKind::NoMemory);
+    let unread_template = flows_fault(unread_template, 20);
+    tells(&rt, rt.alloc(), &unread_template, 3, OUT_OF_MEMORY)?;
     Ok(())
 }
 

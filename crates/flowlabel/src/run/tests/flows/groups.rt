@@ -5,10 +5,7 @@ use super::*;
 const TWICE: &str =
     "000a0041 60000000 00000000 00000001 0002001c 01000005 00080004 000c0004 00040001 00020004 00010004 01000015 0a000001 08080808 06 00000003 000000b4 000a0041 60000000 00000000 00000001 0002001c 01000005 00080004 000c0004 00040001 00020004 00010004 01000015 0a000001 08080808 06 00000003 000000b4";
 
-// A line, the text of its map or list, a File, and what is printed.
-type Grouped = (&'static str, &'static str, &'static str, &'static str);
-
-const GROUPED: [Grouped; 9] = [
+const GROUPED: [Row; 9] = [
     (
         "flowlabel uniq --fields src-label --pmap map.txt flows",
         MAP,
@@ -65,14 +62,8 @@ const GROUPED: [Grouped; 9] = [
     ),
 ];
 
-fn show_groups(rt: &impl Abort, alloc: Global, cases: &[Grouped]) -> Result<(), Fail> {
-    for &(line, labels, file, printed) in cases {
-        shows_under(rt, alloc, line, labels, file, printed)?;
-    }
-    Ok(())
-}
-
 #[test]
 fn prints_groups_of_rows(rt: HostRuntime) -> Result<(), Fail> {
-    show_groups(&rt, rt.alloc(), GROUPED.as_slice())
+    ends_each(&rt, rt.alloc(), 0, &GROUPED)?;
+    Ok(())
 }
