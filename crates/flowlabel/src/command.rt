@@ -6,7 +6,7 @@ use flow_uniq::Keys;
 use prefix_keys::Addr;
 
 /// A file that labels come from, by its name.
-#[derive(Clone, Copy, Debug)]
+#[derive(Clone, Copy)]
 pub enum LabelFile<'a> {
     /// `--pmap FILE`: a prefix map.
     Map(&'a str),
@@ -15,7 +15,7 @@ pub enum LabelFile<'a> {
 }
 
 /// What a command line asks for, its file names and texts lent from the words.
-#[derive(Debug, Drop)]
+#[derive(Drop)]
 pub enum Command<'a> {
     /// `label (--pmap FILE | --list FILE) ADDR`: the label of an address.
     Label {
@@ -63,7 +63,7 @@ pub enum Command<'a> {
 }
 
 /// Which of the four inputs a command reads.
-#[derive(Clone, Copy, Debug, PartialEq, Eq)]
+#[derive(Clone, Copy)]
 pub struct Needs {
     pub map: bool,
     pub list: bool,
@@ -72,7 +72,7 @@ pub struct Needs {
 }
 
 /// The name of each file that a command reads, as it stands on the command line.
-#[derive(Clone, Copy, Debug)]
+#[derive(Clone, Copy)]
 pub struct Files<'a> {
     pub map: Option<&'a str>,
     pub list: Option<&'a str>,
