@@ -1,5 +1,5 @@
-ghost use Rattle.std.specs.Prelude.{◌≡◌, IfOk, false, true};
-ghost use Rattle.clap.specs.Words.{app_of, rule_of};
+ghost use Rattle.std.specs.Prelude.{◌≡◌, IfOk, codes, false, true};
+ghost use Rattle.clap.specs.Words.{app_of, rule_of, with_rule, with_subcommand};
 ghost use Rattle.clap.specs.declared.builder.command.Command.TheViews.{out-Command};
 ghost use Rattle.flowlabel.specs.Definition.{cat_app, certificate_rule, columns_rule, flowlabel_app, flows_rule, info_app, label_app, list_rule, needed_pmap_rule, pmap_rule, program, rows_app, shrink_app, cert_rule, check_app, needed_list_rule, value_rule, with_filters, with_label_filters, with_value_filters, fields_rule, sort_rule, uniq_app};
 
@@ -87,9 +87,10 @@ fn value_argument<'a>(alloc: Global, name: &'a str, value: &'a str, help: &'a st
         .help(help)
 }
 
-// The command with the filters on what a row has.
-fn with_value_filters<'a>(alloc: Global, command: Command<'a>) -> Result<Command<'a>, AllocError>
-    ensures app { IfOk result (λ c. app_of c ≡ with_value_filters (app_of command.entry)) }
+// The command with the filters on protocols and ports.
+fn with_number_filters<'a>(alloc: Global, command: Command<'a>) -> Result<Command<'a>, AllocError>
+    ensures app { IfOk result (λ c. app_of c
+        ≡ with_rule (with_rule (with_rule (app_of command.entry) (value_rule (codes "protocol"))) (value_rule (codes "sport"))) (value_rule (codes "dport"))) }
     ensures local { IfOk result (λ c. (out-Command c).has_globals ≡ (out-Command command.entry).has_globals) }
 {
     command
@@ -100,14 +101,32 @@ fn with_value_filters<'a>(alloc: Global, command: Command<'a>) -> Result<Command
             "Rows of these protocols, as 6,17 or 1-16",
         ))?
         .arg(value_argument(alloc, "sport", "NUMBERS", "Rows from these ports"))?
-        .arg(value_argument(alloc, "dport", "NUMBERS", "Rows to these ports"))?
+        .arg(value_argument(alloc, "dport", "NUMBERS", "Rows to these ports"))
+}
+
+// The command with the filters on addresses.
+fn with_address_filters<'a>(alloc: Global, command: Command<'a>) -> Result<Command<'a>, AllocError>
+    ensures app { IfOk result (λ c. app_of c
+        ≡ with_rule (with_rule (app_of command.entry) (value_rule (codes "saddress"))) (value_rule (codes "daddress"))) }
+    ensures local { IfOk result (λ c. (out-Command c).has_globals ≡ (out-Command command.entry).has_globals) }
+{
+    command
         .arg(value_argument(
             alloc,
             "saddress",
             "BLOCKS",
             "Rows from these addresses, as 10.0.0.1,2001:db8::/32",
         ))?
-        .arg(value_argument(alloc, "daddress", "BLOCKS", "Rows to these addresses"))?
+        .arg(value_argument(alloc, "daddress", "BLOCKS", "Rows to these addresses"))
+}
+
+// The command with the filters on totals.
+fn with_total_filters<'a>(alloc: Global, command: Command<'a>) -> Result<Command<'a>, AllocError>
+    ensures app { IfOk result (λ c. app_of c
+        ≡ with_rule (with_rule (app_of command.entry) (value_rule (codes "packets"))) (value_rule (codes "bytes"))) }
+    ensures local { IfOk result (λ c. (out-Command c).has_globals ≡ (out-Command command.entry).has_globals) }
+{
+    command
         .arg(value_argument(
             alloc,
             "packets",
@@ -115,6 +134,16 @@ fn with_value_filters<'a>(alloc: Global, command: Command<'a>) -> Result<Command
             "Rows of so many packets, as 5, 5- or 5-9",
         ))?
         .arg(value_argument(alloc, "bytes", "RANGE", "Rows of so many bytes"))
+}
+
+// The command with the filters on what a row has.
+fn with_value_filters<'a>(alloc: Global, command: Command<'a>) -> Result<Command<'a>, AllocError>
+    ensures app { IfOk result (λ c. app_of c ≡ with_value_filters (app_of command.entry)) }
+    ensures local { IfOk result (λ c. (out-Command c).has_globals ≡ (out-Command command.entry).has_globals) }
+{
+    let numbered = with_number_filters(alloc, command)?;
+    let addressed = with_address_filters(alloc, numbered)?;
+    with_total_filters(alloc, addressed)
 }
 
 // The command with the filters on labels.
@@ -291,18 +320,36 @@ fn program<'a>(alloc: Global) -> Command<'a>
         .disable_help_subcommand(true)
 }
 
+// The command with the subcommands that label addresses and report on flows.
+fn with_reports<'a>(alloc: Global, command: Command<'a>) -> Result<Command<'a>, AllocError>
+    ensures app { IfOk result (λ c. app_of c
+        ≡ with_subcommand (with_subcommand (with_subcommand (with_subcommand (app_of command.entry) label_app.top) info_app.top) rows_app.top) uniq_app.top) }
+    ensures local { IfOk result (λ c. (out-Command c).has_globals ≡ (out-Command command.entry).has_globals) }
+{
+    command
+        .subcommand(label(alloc)?)?
+        .subcommand(info(alloc)?)?
+        .subcommand(rows(alloc)?)?
+        .subcommand(uniq(alloc)?)
+}
+
+// The command with the subcommands that print and check maps and lists.
+fn with_maps<'a>(alloc: Global, command: Command<'a>) -> Result<Command<'a>, AllocError>
+    ensures app { IfOk result (λ c. app_of c
+        ≡ with_subcommand (with_subcommand (with_subcommand (app_of command.entry) cat_app.top) shrink_app.top) check_app.top) }
+    ensures local { IfOk result (λ c. (out-Command c).has_globals ≡ (out-Command command.entry).has_globals) }
+{
+    command
+        .subcommand(cat(alloc)?)?
+        .subcommand(shrink(alloc)?)?
+        .subcommand(check(alloc)?)
+}
+
 /// The command line as clap reads it: a simple command with one required level of subcommands.
 pub fn definition<'a>(alloc: Global) -> Result<Command<'a>, AllocError>
     ensures app { IfOk result (λ c. app_of c ≡ flowlabel_app) }
     ensures local { IfOk result (λ c. (out-Command c).has_globals ≡ false) }
     ensures required { IfOk result (λ c. (out-Command c).subcommand_required ≡ true) }
 {
-    program(alloc)
-        .subcommand(label(alloc)?)?
-        .subcommand(info(alloc)?)?
-        .subcommand(rows(alloc)?)?
-        .subcommand(uniq(alloc)?)?
-        .subcommand(cat(alloc)?)?
-        .subcommand(shrink(alloc)?)?
-        .subcommand(check(alloc)?)
+    with_maps(alloc, with_reports(alloc, program(alloc))?)
 }
