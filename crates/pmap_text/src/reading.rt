@@ -1,144 +1,340 @@
-//! The reading of a map text or a list text, line by line.
-ghost use Rattle.std.specs.Prelude.{◌≡◌, ◌≢◌, ◌≤◌, [], List, Ok, Err, length, IfOk, IfErr, IfSome};
+//! What a reading keeps of the lines so far.
+ghost use Rattle.std.specs.Prelude.{◌≡◌, ◌<◌, ◌≤◌, ◌++◌, ◌∷◌, [], Some, true, false, ◌⊎◌, length, option_map, slice_get, IsTrue, IfOk, IfErr, OnOk, OnErr};
+ghost use Rattle.std.specs.Option.{option_or};
+ghost use Rattle.pmap_text.specs.Declarations.{conflicts as conflicts_of, meant_text, with_declared};
 ghost use Rattle.pmap_text.specs.Filed.{HasOncePlaced};
-ghost use Rattle.pmap_text.specs.Lines.{lines_of};
-ghost use Rattle.pmap_text.specs.MapText.{map_of};
+ghost use Rattle.pmap_text.specs.Label.{is_label as is_label_text, number_of, with_label};
+ghost use Rattle.pmap_text.specs.MapText.{map_of, text_at};
 ghost use Rattle.pmap_text.specs.PrefixList.{list_of};
-ghost use Rattle.pmap_text.specs.Reading.{Entry, ReadsList, ReadsMap, earlier_of, entries_from, list_reading, map_reading};
-ghost use Rattle.pmap_text.specs.declared.form.Form.TheVariants as form;
-ghost use Rattle.pmap_text.specs.declared.fault.MapFaultKind.TheVariants.{NoMemory};
+ghost use Rattle.pmap_text.specs.Reading.{Earlier, earlier_of, has_mapping as has_mapping_of, has_prefix as has_prefix_of, has_room, list_from, map_from, version_at as version_at_of};
+ghost use Rattle.pmap_text.specs.declared.fault.MapFaultKind.TheVariants.{NoMemory, TooMany};
+ghost use Rattle.pmap_text.specs.declared.progress.TheConstants.{LABEL_LIMIT, MAPPING_LIMIT};
 
-use crate::checked::{Keys, read_checked};
-use crate::fault::{MapFault, MapFaultKind};
-use crate::form::Form;
-use crate::lines::split_content;
+use crate::declarations::Declarations;
+use crate::entries::Entries;
+use crate::entry::Entry;
+use crate::fault::MapFaultKind;
+use crate::label::LabelId;
+use crate::labels::Labels;
 use crate::map_text::MapText;
+use crate::name::Name;
 use crate::prefix_list::PrefixList;
-use crate::progress::Reading;
-use std::alloc::Global;
+use crate::recent::Recent;
+use crate::repeats::{has_block, have_distinct_blocks};
+use crate::statement::Statement;
+use crate::statements::Statements;
+use prefix_keys::{Block, Span, Version};
+use std::alloc::{AllocError, Global};
+use std::marker::Model;
 
-mod line;
+/// The greatest number of mappings that a map text may have, and of entries that a list text may have.
+pub const MAPPING_LIMIT: usize = 1_000_000;
 
-// The fault of a line, or the want of memory, which has the line 0.
-fn fault_at(kind: MapFaultKind, number: u64) -> MapFault
-    ensures kind { result.kind ≡ kind }
-    ensures line { kind ≢ NoMemory → result.line ≡ number }
-    ensures memory { kind ≡ NoMemory → result.line ≡ 0 }
+/// The greatest number of label texts that a text may have.
+pub const LABEL_LIMIT: usize = 65_535;
+
+// The label of addresses without a mapping, where the text has no default.
+const UNKNOWN: &[u8] = b"UNKNOWN";
+
+/// What the lines so far say.
+#[derive(Drop)]
+pub struct Reading {
+    alloc: Global,
+    mode: bool,
+    version: Option<Version>,
+    name: Option<Name>,
+    declared: Declarations,
+    default: Option<LabelId>,
+    statements: Statements,
+    entries: Vec<Entry>,
+    labels: Labels,
+    recent: Recent,
+}
+
+impl Model for Reading {
+    ghost use Rattle.pmap_text.specs.Reading.{Earlier};
+    ghost use Rattle.pmap_text.specs.Progress.{IsProgress, progress_of};
+
+    ghost Value = { Earlier };
+
+    ghost view = { λ r. progress_of r.mode r.version r.name r.declared r.default r.statements r.entries.items r.labels };
+
+    ghost invariant = { λ r. IsProgress r.version r.default r.statements r.entries.items r.labels };
+}
+
+// Whether this is the number of the text.
+fn is_number_of(labels: &Labels, id: LabelId, text: &[u8]) -> bool
+    ensures { IsTrue result → number_of labels.now text.now ≡ Some id.0 }
 {
-    let line = if kind == MapFaultKind::NoMemory {
-        0
+    match labels.text(id) {
+        Some(known) => known == text,
+        None => false,
+    }
+}
+
+// The number of a text that is in the table. It is looked for first where it was last found.
+fn known_number(labels: &Labels, recent: &mut Recent, text: &[u8]) -> Option<LabelId>
+    ensures { option_map (λ id. id.0) result ≡ number_of labels.now text.now }
+{
+    let guess = recent.guess(text);
+    if is_number_of(labels, guess, text) {
+        return Some(guess);
+    }
+    let id = labels.id_of(text)?;
+    recent.remember(text, id);
+    Some(id)
+}
+
+// The number of a text, which is added to the table where it isn't there.
+fn number_for(
+    labels: &mut Labels,
+    recent: &mut Recent,
+    text: &[u8],
+) -> Result<LabelId, MapFaultKind>
+    requires label { IsTrue (is_label_text text.now) }
+    requires limit { length labels.old ≤ LABEL_LIMIT }
+    ensures room { OnOk result (has_room labels.old text.now ≡ true) }
+    ensures ok { OnOk result (labels.new ≡ with_label labels.old text.now) }
+    ensures text { IfOk result (λ id. slice_get labels.new id.0 ≡ Some text.now) }
+    ensures limit { length labels.new ≤ LABEL_LIMIT }
+    ensures same { OnErr result (labels.new ≡ labels.old) }
+    ensures err { IfErr result (λ kind. ((kind ≡ NoMemory) × (has_room labels.old text.now ≡ true)) ⊎ ((kind ≡ TooMany) × (has_room labels.old text.now ≡ false))) }
+{
+    if let Some(id) = known_number(labels, recent, text) {
+        return Ok(id);
+    }
+    if labels.len() < LABEL_LIMIT {
+        labels.add(text).map_err(|_| MapFaultKind::NoMemory)
     } else {
-        number
-    };
-    MapFault { kind, line }
-}
-
-// Reads the lines of a text of this form, up to its first fault.
-fn read_lines(alloc: Global, form: Form, text: &[u8]) -> Result<Reading, MapFault>
-    ensures ok { IfOk result (λ lines. (entries : List Entry) × (entries_from form [] 0 (lines_of text.now) ≡ Ok entries) × (lines ≡ earlier_of entries)) }
-    ensures distinct { IfOk result (λ lines. HasOncePlaced lines.prefixes) }
-    ensures err { IfErr result (λ fault. fault.kind ≢ NoMemory → entries_from form [] 0 (lines_of text.now) ≡ Err fault) }
-    ensures memory { IfErr result (λ fault. fault.kind ≡ NoMemory → fault.line ≡ 0) }
-{
-    let mut reading = Reading::new(alloc);
-    let mut keys = Keys::new(alloc);
-    let mut rest = text;
-    let mut number = 0;
-    while !rest.is_empty() {
-        let (content, after) = split_content(rest);
-        number += 1;
-        if let Err(kind) = read_checked(&mut reading, &mut keys, form, content) {
-            return Err(fault_at(kind, number));
-        }
-        rest = after;
+        Err(MapFaultKind::TooMany)
     }
-    Ok(reading)
 }
 
-// Reads the lines of a list text, and doesn't look for the block of an entry among those before. What was read counts
-// where all blocks are distinct, and `None` says nothing.
-fn read_unchecked(alloc: Global, text: &[u8]) -> Option<Reading>
-    ensures { IfSome result (λ lines. HasOncePlaced lines.prefixes →
-        (entries : List Entry) × (entries_from form.List [] 0 (lines_of text.now) ≡ Ok entries) × (lines ≡ earlier_of entries)) }
-{
-    let mut reading = Reading::new(alloc);
-    let mut rest = text;
-    while !rest.is_empty() {
-        let (content, after) = split_content(rest);
-        let Ok(()) = reading.read_content(Form::List, content) else {
-            return None;
+impl Reading {
+    /// No line was read.
+    pub fn new(alloc: Global) -> Reading
+        ensures { result ≡ earlier_of [] }
+    {
+        Reading {
+            alloc,
+            mode: false,
+            version: None,
+            name: None,
+            declared: Declarations::new(alloc),
+            default: None,
+            statements: Statements::new(alloc),
+            entries: Vec::new(alloc),
+            labels: Labels::new(alloc),
+            recent: Recent::new(),
+        }
+    }
+
+    /// Whether a mode was read.
+    pub fn has_mode(&self) -> bool
+        ensures { result ≡ self.now.mode }
+    {
+        self.mode
+    }
+
+    /// Whether a mapping or an entry was read.
+    pub fn has_mapping(&self) -> bool
+        ensures { result ≡ has_mapping_of self.now }
+    {
+        self.statements.len() > 0 || self.entries.len() > 0
+    }
+
+    /// How many mappings there are.
+    pub fn mapping_count(&self) -> usize
+        ensures { result ≡ length self.now.mappings }
+    {
+        self.statements.len()
+    }
+
+    /// How many entries there are.
+    pub fn entry_count(&self) -> usize
+        ensures { result ≡ length self.now.prefixes }
+    {
+        self.entries.len()
+    }
+
+    /// Whether an entry has this block. Each entry is looked at.
+    pub fn has_block(&self, block: &Block) -> bool
+        ensures { result ≡ has_prefix_of self.now.prefixes block.now.value block.now.len }
+    {
+        has_block(&self.entries, block)
+    }
+
+    /// The start and the length of the block of the entry at a place, if there is one.
+    pub fn key_at(&self, place: usize) -> Option<(u128, u32)>
+        ensures { result ≡ option_map (λ p. (p.start, p.bits)) (slice_get self.now.prefixes place) }
+    {
+        match self.entries.get(place) {
+            Some(entry) => Some((entry.block.value, entry.block.len)),
+            None => None,
+        }
+    }
+
+    /// Whether the entries are seen to have distinct blocks. It sorts their starts and lengths, in memory of their own.
+    pub fn has_distinct_blocks(&self) -> Result<bool, AllocError>
+        ensures { IfOk result (λ distinct. IsTrue distinct → HasOncePlaced self.now.prefixes) }
+    {
+        have_distinct_blocks(self.alloc, &self.entries)
+    }
+
+    /// The version of the text at a line whose first address is of the version `own`, which decides where nothing did.
+    pub fn version_at(&self, own: Version) -> Version
+        ensures { result ≡ version_at_of self.now own }
+    {
+        self.version.unwrap_or(own)
+    }
+
+    /// Whether the number has another text, or the text another number.
+    pub fn conflicts(&self, number: u32, text: &[u8]) -> bool
+        ensures { result ≡ conflicts_of self.now.declared number text.now }
+    {
+        self.declared.conflicts(number, text)
+    }
+
+    /// Takes the name of the text.
+    pub fn set_name(&mut self, name: &[u8]) -> Result<(), MapFaultKind>
+        requires { IsTrue (is_label_text name.now) }
+        ensures ok { OnOk result (self.new ≡ record self.old { name = Some name.now }) }
+        ensures err { IfErr result (λ kind. kind ≡ NoMemory) }
+    {
+        let Ok(name) = Name::new(self.alloc, name) else {
+            return Err(MapFaultKind::NoMemory);
         };
-        rest = after;
+        self.name = Some(name);
+        Ok(())
     }
-    Some(reading)
-}
 
-/// Reads a map text.
-///
-/// The text is cut into lines at each line feed. From the first `#` on a line is a comment; spaces, tabs and carriage
-/// returns are blanks, and a line without a word says nothing. Each other line is one of these:
-///
-/// - `map-name NAME`: what the map is called. The last one counts.
-/// - `mode VERSION`, with `ipv4`, `ip` (the same) or `ipv6`: once, and before the first mapping. Without it the first
-///   address of the first mapping decides, and a text without a mapping is of IPv4.
-/// - `label NUMBER TEXT`: on the lines below, a label that is this number, of 1 to 10 digits, means the text. The number
-///   is at most 2147483647, the text is not of digits alone, and no number has two texts nor a text two numbers.
-/// - `default LABEL`: the label of addresses without a mapping, `UNKNOWN` where no line says it. The last one counts.
-/// - `BLOCK LABEL`, as `10.0.0.0/8 A`: a mapping of the block's addresses. Host bits are cleared.
-/// - `LOW HIGH LABEL`: a mapping of the addresses from low to high.
-/// - `ADDRESS LABEL`: a mapping of one address.
-///
-/// A label or a name is the rest of the line (`is_label`). Of two mappings that cover an address the later one counts. In
-/// an IPv6 text a dotted address stands for its place in `::ffff:0:0/96` (RFC 4291, section 2.5.5.2), and its block's
-/// length grows by 96. A text has at most 1,000,000 mappings and 65,535 label texts, to which an `UNKNOWN` that no line
-/// says may be added.
-///
-/// # Errors
-///
-/// The first faulty line, counted from 1, with the first of its faults in this order, or `NoMemory` with the line 0.
-///
-/// - `map-name`: `MissingLabel`, `BadLabel`. `default`: these and `TooMany`.
-/// - `mode`: `BadMode`, `ModeLate`, `ModeRepeated`.
-/// - `label`: `BadStatement` (no such number), `MissingLabel`, `BadLabel`, `LabelConflict`, `TooMany`.
-/// - A block: `BadAddress`, `BadLength`, `WrongVersion`, `MissingLabel`, `BadLabel`, `TooMany`.
-/// - A range or an address: `WrongVersion` of the first address and then of the second, `LowAboveHigh`, `MissingLabel`,
-///   `BadLabel`, `TooMany`.
-/// - Any other first word: `BadAddress` where it begins with a digit or has a `:`, else `BadStatement`.
-pub fn read_map(alloc: Global, text: &[u8]) -> Result<MapText, MapFault>
-    ensures ok { IfOk result (λ map. ReadsMap text.now (map_of map)) }
-    ensures fault { IfErr result (λ fault. fault.kind ≢ NoMemory → map_reading text.now ≡ Err fault) }
-    ensures memory { IfErr result (λ fault. fault.kind ≡ NoMemory → fault.line ≡ 0) }
-{
-    let reading = read_lines(alloc, Form::Map, text)?;
-    match reading.into_map() {
-        Ok(map) => Ok(map),
-        Err(_) => Err(fault_at(MapFaultKind::NoMemory, 0)),
+    /// Takes the version that a mode names, unless the version is decided.
+    pub fn set_mode(&mut self, version: Version)
+        ensures { self.new ≡ record self.old { mode = true; version = option_or self.old.version (Some version) } }
+    {
+        self.mode = true;
+        self.version = Some(self.version_at(version));
     }
-}
 
-/// Reads a list text, in which the longest block that covers an address counts, and an address that none covers has no
-/// label.
-///
-/// The lines are those of a map text (`read_map`) but for three things: there are no ranges and no `default`, no block
-/// stands there twice, and no `UNKNOWN` is added to the label table. `ADDRESS LABEL` is an entry for the block of full
-/// length. A text has at most 1,000,000 entries.
-///
-/// # Errors
-///
-/// As of `read_map`, with two faults more: `NotAList` is the only fault of a line of `default`, or of two addresses, and
-/// `DuplicateBlock` comes behind `BadLabel` and before `TooMany`.
-pub fn read_list(alloc: Global, text: &[u8]) -> Result<PrefixList, MapFault>
-    ensures ok { IfOk result (λ list. ReadsList text.now (list_of list)) }
-    ensures limit { IfOk result (λ list. length list.entries ≤ 1000000) }
-    ensures fault { IfErr result (λ fault. fault.kind ≢ NoMemory → list_reading text.now ≡ Err fault) }
-    ensures memory { IfErr result (λ fault. fault.kind ≡ NoMemory → fault.line ≡ 0) }
-{
-    // Sorting all blocks once is faster than looking for each, and tells of most lists that they have no fault.
-    if let Some(reading) = read_unchecked(alloc, text) {
-        if let Ok(true) = reading.has_distinct_blocks() {
-            return Ok(reading.into_list());
+    /// The number of the text that a label stands for, which is added to the table where it isn't there.
+    pub fn label_id(&mut self, label: &[u8]) -> Result<LabelId, MapFaultKind>
+        requires { IsTrue (is_label_text label.now) }
+        ensures room { OnOk result (has_room self.old.table (meant_text self.old.declared label.now) ≡ true) }
+        ensures ok { OnOk result (self.new ≡ record self.old { table = with_label self.old.table (meant_text self.old.declared label.now) }) }
+        ensures text { IfOk result (λ id. slice_get self.new.table id.0 ≡ Some (meant_text self.old.declared label.now)) }
+        ensures err { IfErr result (λ kind. ((kind ≡ NoMemory) × (has_room self.old.table (meant_text self.old.declared label.now) ≡ true)) ⊎ ((kind ≡ TooMany) × (has_room self.old.table (meant_text self.old.declared label.now) ≡ false))) }
+        ensures kept { OnErr result (self.new.prefixes ≡ self.old.prefixes) }
+    {
+        let text = self.declared.meant(label);
+        number_for(&mut self.labels, &mut self.recent, text)
+    }
+
+    /// Declares a text for a number.
+    pub fn declare(&mut self, number: u32, text: &[u8]) -> Result<(), MapFaultKind>
+        requires label { IsTrue (is_label_text text.now) }
+        requires agrees { conflicts_of self.old.declared number text.now ≡ false }
+        ensures room { OnOk result (has_room self.old.table text.now ≡ true) }
+        ensures ok { OnOk result (self.new ≡ record self.old { declared = with_declared self.old.declared (number, text.now); table = with_label self.old.table text.now }) }
+        ensures err { IfErr result (λ kind. ((kind ≡ NoMemory) × (has_room self.old.table text.now ≡ true)) ⊎ ((kind ≡ TooMany) × (has_room self.old.table text.now ≡ false))) }
+    {
+        number_for(&mut self.labels, &mut self.recent, text)?;
+        let Ok(()) = self.declared.add(number, text) else {
+            return Err(MapFaultKind::NoMemory);
+        };
+        Ok(())
+    }
+
+    /// Takes the label of addresses without a mapping.
+    pub fn set_default(&mut self, label: LabelId)
+        requires { label.0 < length self.old.table }
+        ensures { self.new ≡ record self.old { fallback = Some (text_at self.old.table label.0) } }
+    {
+        self.default = Some(label);
+    }
+
+    /// Adds a mapping of the text's version, which it decides where nothing did.
+    pub fn add_statement(&mut self, span: Span, label: LabelId) -> Result<(), MapFaultKind>
+        requires version { version_at_of self.old span.low.version ≡ span.low.version }
+        requires label { label.0 < length self.old.table }
+        requires room { length self.old.mappings < MAPPING_LIMIT }
+        ensures ok { OnOk result (self.new ≡ record self.old {
+          version = option_or self.old.version (Some span.low.version);
+          mappings = self.old.mappings ++ record { low = span.low.value; high = span.high.value; label = text_at self.old.table label.0 } ∷ [];
+        }) }
+        ensures err { IfErr result (λ kind. kind ≡ NoMemory) }
+    {
+        self.version = Some(span.low.version);
+        let Ok(()) = self.statements.push(Statement { span, label }) else {
+            return Err(MapFaultKind::NoMemory);
+        };
+        Ok(())
+    }
+
+    /// Adds an entry of the text's version, which it decides where nothing did. Its block may have an entry already.
+    pub fn add_entry(&mut self, block: Block, label: LabelId) -> Result<(), MapFaultKind>
+        requires version { version_at_of self.old block.version ≡ block.version }
+        requires label { label.0 < length self.old.table }
+        requires room { length self.old.prefixes < MAPPING_LIMIT }
+        ensures ok { OnOk result (self.new ≡ record self.old {
+          version = option_or self.old.version (Some block.version);
+          prefixes = self.old.prefixes ++ record { start = block.value; bits = block.len; label = text_at self.old.table label.0 } ∷ [];
+        }) }
+        ensures err { IfErr result (λ kind. kind ≡ NoMemory) }
+        ensures kept { OnErr result (self.new.prefixes ≡ self.old.prefixes) }
+    {
+        self.version = Some(block.version);
+        let Ok(()) = self.entries.push(Entry { block, label }) else {
+            return Err(MapFaultKind::NoMemory);
+        };
+        Ok(())
+    }
+
+    /// The map of the lines so far.
+    pub fn into_map(self) -> Result<MapText, AllocError>
+        ensures { IfOk result (λ map. map_of map ≡ map_from self) }
+    {
+        let Reading {
+            version,
+            name,
+            default,
+            statements,
+            mut labels,
+            ..
+        } = self;
+        let default = match default {
+            Some(label) => label,
+            None => labels.add(UNKNOWN)?,
+        };
+        Ok(MapText {
+            version: version.unwrap_or(Version::V4),
+            name,
+            default,
+            statements,
+            labels,
+        })
+    }
+
+    /// The list of the lines so far, whose entries have distinct blocks.
+    pub fn into_list(self) -> PrefixList
+        requires { HasOncePlaced self.prefixes }
+        ensures list { list_of result ≡ list_from self }
+        ensures limit { length result.entries ≤ MAPPING_LIMIT }
+    {
+        let Reading {
+            version,
+            name,
+            entries,
+            labels,
+            ..
+        } = self;
+        let count = entries.len();
+        prove!(count <= MAPPING_LIMIT);
+        let entries = Entries::from_distinct(entries);
+        PrefixList {
+            version: version.unwrap_or(Version::V4),
+            name,
+            entries,
+            labels,
         }
     }
-    let reading = read_lines(alloc, Form::List, text)?;
-    Ok(reading.into_list())
 }

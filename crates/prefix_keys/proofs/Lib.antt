@@ -11,3 +11,4 @@ pub mod ReadBack
 pub mod GroupNumbers
 pub mod ColonPieces
 pub mod Gaps
+pub mod Room

@@ -17,6 +17,13 @@ is_digit b = nat_le 48 b && nat_le b 57
 abbrev pub decimal_value : List ℕ → ℕ
 decimal_value digits = fold (λ n b. n * 10 + (b - 48)) 0 digits
 
+-- the number that one to so many digits stand for, at most the limit
+abbrev pub decimal_number : ℕ → ℕ → List ℕ → Option ℕ
+decimal_number digits limit text =
+    if nat_le 1 (length text) && (nat_le (length text) digits && (list_all is_digit text && nat_le (decimal_value text) limit))
+    then Some (decimal_value text)
+    else None
+
 -- a number of one to three digits, at most the limit
 abbrev pub short_number : ℕ → List ℕ → Option ℕ
 short_number limit text =

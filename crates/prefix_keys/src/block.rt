@@ -49,6 +49,19 @@ pub fn block_of(addr: Addr, len: u32) -> Block
     }
 }
 
+/// The block of no bits, which has each address of the version.
+pub fn whole_space(version: Version) -> Block
+    ensures version { result.version ≡ version }
+    ensures value { result.value ≡ 0 }
+    ensures len { result.len ≡ 0 }
+{
+    Block {
+        version,
+        value: 0,
+        len: 0,
+    }
+}
+
 impl Block {
     ghost use Rattle.prefix_keys.specs.Covers.{BlockCovers};
 

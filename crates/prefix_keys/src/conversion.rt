@@ -1,3 +1,4 @@
+//! Addresses in the other version.
 ghost use Rattle.std.specs.Prelude.{◌≡◌, IfSome, option_map};
 ghost use Rattle.prefix_keys.specs.Conversion.{converted};
 

@@ -1,3 +1,4 @@
+//! The laws on printed texts.
 ghost use Rattle.prefix_keys.specs.Laws.{AddressIsReadBack, BlockIsReadBack, LongestRunIsLongest};
 
 /// The run of zero groups that a text leaves out is the longest, and of equal ones the first.

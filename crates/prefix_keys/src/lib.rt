@@ -4,21 +4,26 @@
 //! what shares the leading bits of a prefix (RFC 4632), and a span is the addresses from one to another. The
 //! layer above may rely on this: each call is the quotient and interval arithmetic on those numbers that its
 //! contract cites, each type keeps its own conditions, a text is read exactly where it has a written form, and what is
-//! printed is one of these forms and is read back as what it was (`laws`).
+//! printed is one of these forms and is read back as what it was, by the laws.
 #![tactic(auto)]
 
-pub mod addr;
-pub mod block;
-pub mod conversion;
-pub mod laws;
-pub mod print;
-pub mod span;
-pub mod text;
-pub mod version;
+mod addr;
+mod block;
+mod conversion;
+mod cutting;
+mod decimal;
+mod laws;
+mod print;
+mod span;
+mod text;
+mod version;
 
 pub use addr::Addr;
-pub use block::{Block, block_of};
+pub use block::{Block, block_of, whole_space};
 pub use conversion::convert;
+pub use cutting::find_byte;
+pub use decimal::{are_digits, read_decimal};
+pub use laws::{address_is_read_back, block_is_read_back, longest_run_is_longest};
 pub use print::{print_addr, print_block};
 pub use span::Span;
 pub use text::{BlockFault, read_addr, read_block};

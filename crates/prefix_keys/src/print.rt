@@ -1,3 +1,4 @@
+//! The texts of addresses and blocks.
 ghost use Rattle.std.specs.Prelude.{◌≡◌, ◌+◌, ◌*◌, ◌/◌, ◌%◌, ◌^◌, ◌<◌, ◌≤◌, ◌++◌, OnOk, OnErr, length};
 ghost use Rattle.prefix_keys.specs.Print.{address_bytes, address_groups, address_text, block_text, colon_text, dotted_text, longest_run};
 
@@ -127,7 +128,8 @@ pub fn print_addr(out: &mut Vec<u8>, addr: Addr) -> Result<(), AllocError>
 ///
 /// Out of memory, with `out` as it was.
 pub fn print_block(out: &mut Vec<u8>, block: &Block) -> Result<(), AllocError>
-    ensures ok { OnOk result (out.new.items ≡ out.old.items ++ block_text block.now.version block.now.value block.now.len) }
+    ensures ok { OnOk result (out.new.items
+        ≡ out.old.items ++ block_text block.now.version block.now.value block.now.len) }
     ensures err { OnErr result (out.new.items ≡ out.old.items) }
 {
     let mut text = text_of(block.version, block.value);

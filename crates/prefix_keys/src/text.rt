@@ -4,13 +4,12 @@ ghost use Rattle.prefix_keys.specs.Text.{address_of, block_of_text};
 
 mod colon;
 mod dotted;
-mod pieces;
 
 use crate::addr::Addr;
 use crate::block::{Block, block_of};
+use crate::cutting::cut;
 use crate::text::colon::read_colon;
 use crate::text::dotted::{read_dotted, read_number};
-use crate::text::pieces::cut;
 use crate::version::Version;
 use thiserror::Error;
 
@@ -27,12 +26,12 @@ pub enum BlockFault {
 
 /// Reads an address, or `None` where the text has none of the written forms.
 ///
-/// A text without a colon is an IPv4 address in dotted decimal form: four numbers from 0 to 255, of one to three digits,
-/// with points between. Leading zeros are allowed, and the number is decimal all the same.
+/// A text without a colon is an IPv4 address in dotted decimal form: four numbers from 0 to 255, of one to three
+/// digits, with points between. Leading zeros are allowed, and the number is decimal all the same.
 ///
 /// A text with a colon is an IPv6 address (RFC 4291, section 2.2): eight groups of one to four hexadecimal digits in
-/// either case, with colons between. One `::` may stand for one or more groups of zero, and an IPv4 text for the last two
-/// groups.
+/// either case, with colons between. One `::` may stand for one or more groups of zero, and an IPv4 text for the last
+/// two groups.
 pub fn read_addr(text: &[u8]) -> Option<Addr>
     ensures { option_map (λ addr. (addr.version, addr.value)) result ≡ address_of text.now }
 {
@@ -49,8 +48,8 @@ pub fn read_addr(text: &[u8]) -> Option<Addr>
     }
 }
 
-/// Reads a block (RFC 4632, section 3.1): an address, a `/` and a length of one to three digits, at most the width of the
-/// address. The host bits are cleared.
+/// Reads a block (RFC 4632, section 3.1): an address, a `/` and a length of one to three digits, at most the width of
+/// the address. The host bits are cleared.
 ///
 /// # Errors
 ///

@@ -37,8 +37,8 @@ fn glyph(digit: u32) -> u8
     }
 }
 
-// The number by the base. A division by a constant is several times as fast as one by a variable, so the two bases in use
-// have one each; the same holds of what is left.
+// The number by the base. A division by a constant is several times as fast as one by a variable, so the two bases in
+// use have one each; the same holds of what is left.
 fn quotient(number: u32, base: u32) -> u32
     requires { 2 ≤ base }
     ensures { result ≡ number / base }
@@ -50,6 +50,7 @@ fn quotient(number: u32, base: u32) -> u32
     }
 }
 
+// What is left of the number.
 fn remainder(number: u32, base: u32) -> u32
     requires { 2 ≤ base }
     ensures { result ≡ number % base }

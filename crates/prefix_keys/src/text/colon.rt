@@ -2,10 +2,10 @@ ghost use Rattle.std.specs.Prelude.{◌≡◌, ◌≤◌, ◌<◌, ◌+◌, ◌*
 ghost use Rattle.prefix_keys.specs.Text.{is_hex_digit, hex_digit_value, hex_group, last_groups, text_groups, side_groups, around_gap, colon_address};
 ghost use Rattle.prefix_keys.specs.Steps.{more_groups};
 
+use crate::cutting::cut;
 use crate::text::dotted::read_dotted;
-use crate::text::pieces::cut;
 
-/// Groups of 16 bits, at most eight: how many, and the number that they make, the first the highest.
+// Groups of 16 bits, at most eight: how many, and the number that they make, the first the highest.
 #[derive(Clone, Copy)]
 struct Groups {
     count: u32,

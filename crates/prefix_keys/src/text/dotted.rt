@@ -1,24 +1,16 @@
-ghost use Rattle.std.specs.Prelude.{◌≡◌, ◌≤◌, ◌==◌, IfSome, Some};
+//! IPv4 addresses in dotted decimal form.
+ghost use Rattle.std.specs.Prelude.{◌≡◌, ◌≤◌, IfSome};
 ghost use Rattle.prefix_keys.specs.Text.{short_number, dotted_address};
 
-use crate::text::pieces::cut;
+use crate::cutting::cut;
+use crate::decimal::read_decimal;
 
 /// The number, at most the limit, that one to three digits stand for.
 pub fn read_number(text: &[u8], limit: u32) -> Option<u32>
     ensures value { result ≡ short_number limit text.now }
     ensures limited { IfSome result (λ number. number ≤ limit) }
 {
-    if text.is_empty() || text.len() > 3 {
-        return None;
-    }
-    let mut number = 0;
-    for b in text {
-        if *b < b'0' || *b > b'9' {
-            return None;
-        }
-        number = number * 10 + u32::from(*b - b'0');
-    }
-    if number <= limit { Some(number) } else { None }
+    read_decimal(text, 3, limit)
 }
 
 /// The number of an IPv4 address in dotted decimal form.

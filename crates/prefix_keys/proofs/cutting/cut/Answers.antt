@@ -2,7 +2,7 @@ use Rattle.std.proofs.Common.{◌≡◌, ◌==◌, arith, eq-eqb}
 use Rattle.std.specs.List.{position_or_len}
 use Rattle.std.proofs.lemmas.Grind.{common_steps}
 use Rattle.std.proofs.lemmas.List.Sums.{position_or_len_is}
-use Rattle.prefix_keys.proofs.text.pieces.cut.Goals as goal
+use Rattle.prefix_keys.proofs.cutting.cut.Goals as goal
 
 pub returns-then-b-byte-clause-front : goal.returns-then-b-byte-clause-front
 returns-then-b-byte-clause-front c =

@@ -1,5 +1,5 @@
 use Rattle.std.proofs.Common.{◌≡◌, ◌==◌, ◌<◌, ℕ, get_or, false}
-use Rattle.prefix_keys.proofs.text.pieces.cut.Given as goal
+use Rattle.prefix_keys.proofs.cutting.cut.Given as goal
 
 -- no byte so far is the one that is looked for
 abbrev pub invariant-loop-at : goal.invariant-loop-at

@@ -1,0 +1,144 @@
+//! The reading of a map text or a list text, line by line.
+ghost use Rattle.std.specs.Prelude.{◌≡◌, ◌≢◌, ◌≤◌, [], List, Ok, Err, length, IfOk, IfErr, IfSome};
+ghost use Rattle.pmap_text.specs.Filed.{HasOncePlaced};
+ghost use Rattle.pmap_text.specs.Lines.{lines_of};
+ghost use Rattle.pmap_text.specs.MapText.{map_of};
+ghost use Rattle.pmap_text.specs.PrefixList.{list_of};
+ghost use Rattle.pmap_text.specs.Reading.{Entry, ReadsList, ReadsMap, earlier_of, entries_from, list_reading, map_reading};
+ghost use Rattle.pmap_text.specs.declared.form.Form.TheVariants as form;
+ghost use Rattle.pmap_text.specs.declared.fault.MapFaultKind.TheVariants.{NoMemory};
+
+use crate::checked::{Keys, read_checked};
+use crate::fault::{MapFault, MapFaultKind};
+use crate::form::Form;
+use crate::lines::split_content;
+use crate::map_text::MapText;
+use crate::prefix_list::PrefixList;
+use crate::progress::Reading;
+use std::alloc::Global;
+
+mod line;
+
+// The fault of a line, or the want of memory, which has the line 0.
+fn fault_at(kind: MapFaultKind, number: u64) -> MapFault
+    ensures kind { result.kind ≡ kind }
+    ensures line { kind ≢ NoMemory → result.line ≡ number }
+    ensures memory { kind ≡ NoMemory → result.line ≡ 0 }
+{
+    let line = if kind == MapFaultKind::NoMemory {
+        0
+    } else {
+        number
+    };
+    MapFault { kind, line }
+}
+
+// Reads the lines of a text of this form, up to its first fault.
+fn read_lines(alloc: Global, form: Form, text: &[u8]) -> Result<Reading, MapFault>
+    ensures ok { IfOk result (λ lines. (entries : List Entry) × (entries_from form [] 0 (lines_of text.now) ≡ Ok entries) × (lines ≡ earlier_of entries)) }
+    ensures distinct { IfOk result (λ lines. HasOncePlaced lines.prefixes) }
+    ensures err { IfErr result (λ fault. fault.kind ≢ NoMemory → entries_from form [] 0 (lines_of text.now) ≡ Err fault) }
+    ensures memory { IfErr result (λ fault. fault.kind ≡ NoMemory → fault.line ≡ 0) }
+{
+    let mut reading = Reading::new(alloc);
+    let mut keys = Keys::new(alloc);
+    let mut rest = text;
+    let mut number = 0;
+    while !rest.is_empty() {
+        let (content, after) = split_content(rest);
+        number += 1;
+        if let Err(kind) = read_checked(&mut reading, &mut keys, form, content) {
+            return Err(fault_at(kind, number));
+        }
+        rest = after;
+    }
+    Ok(reading)
+}
+
+// Reads the lines of a list text, and doesn't look for the block of an entry among those before. What was read counts
+// where all blocks are distinct, and `None` says nothing.
+fn read_unchecked(alloc: Global, text: &[u8]) -> Option<Reading>
+    ensures { IfSome result (λ lines. HasOncePlaced lines.prefixes →
+        (entries : List Entry) × (entries_from form.List [] 0 (lines_of text.now) ≡ Ok entries) × (lines ≡ earlier_of entries)) }
+{
+    let mut reading = Reading::new(alloc);
+    let mut rest = text;
+    while !rest.is_empty() {
+        let (content, after) = split_content(rest);
+        let Ok(()) = reading.read_content(Form::List, content) else {
+            return None;
+        };
+        rest = after;
+    }
+    Some(reading)
+}
+
+/// Reads a map text.
+///
+/// The text is cut into lines at each line feed. From the first `#` on a line is a comment; spaces, tabs and carriage
+/// returns are blanks, and a line without a word says nothing. Each other line is one of these:
+///
+/// - `map-name NAME`: what the map is called. The last one counts.
+/// - `mode VERSION`, with `ipv4`, `ip` (the same) or `ipv6`: once, and before the first mapping. Without it the first
+///   address of the first mapping decides, and a text without a mapping is of IPv4.
+/// - `label NUMBER TEXT`: on the lines below, a label that is this number, of 1 to 10 digits, means the text. The number
+///   is at most 2147483647, the text is not of digits alone, and no number has two texts nor a text two numbers.
+/// - `default LABEL`: the label of addresses without a mapping, `UNKNOWN` where no line says it. The last one counts.
+/// - `BLOCK LABEL`, as `10.0.0.0/8 A`: a mapping of the block's addresses. Host bits are cleared.
+/// - `LOW HIGH LABEL`: a mapping of the addresses from low to high.
+/// - `ADDRESS LABEL`: a mapping of one address.
+///
+/// A label or a name is the rest of the line (`is_label`). Of two mappings that cover an address the later one counts. In
+/// an IPv6 text a dotted address stands for its place in `::ffff:0:0/96` (RFC 4291, section 2.5.5.2), and its block's
+/// length grows by 96. A text has at most 1,000,000 mappings and 65,535 label texts, to which an `UNKNOWN` that no line
+/// says may be added.
+///
+/// # Errors
+///
+/// The first faulty line, counted from 1, with the first of its faults in this order, or `NoMemory` with the line 0.
+///
+/// - `map-name`: `MissingLabel`, `BadLabel`. `default`: these and `TooMany`.
+/// - `mode`: `BadMode`, `ModeLate`, `ModeRepeated`.
+/// - `label`: `BadStatement` (no such number), `MissingLabel`, `BadLabel`, `LabelConflict`, `TooMany`.
+/// - A block: `BadAddress`, `BadLength`, `WrongVersion`, `MissingLabel`, `BadLabel`, `TooMany`.
+/// - A range or an address: `WrongVersion` of the first address and then of the second, `LowAboveHigh`, `MissingLabel`,
+///   `BadLabel`, `TooMany`.
+/// - Any other first word: `BadAddress` where it begins with a digit or has a `:`, else `BadStatement`.
+pub fn read_map(alloc: Global, text: &[u8]) -> Result<MapText, MapFault>
+    ensures ok { IfOk result (λ map. ReadsMap text.now (map_of map)) }
+    ensures fault { IfErr result (λ fault. fault.kind ≢ NoMemory → map_reading text.now ≡ Err fault) }
+    ensures memory { IfErr result (λ fault. fault.kind ≡ NoMemory → fault.line ≡ 0) }
+{
+    let reading = read_lines(alloc, Form::Map, text)?;
+    match reading.into_map() {
+        Ok(map) => Ok(map),
+        Err(_) => Err(fault_at(MapFaultKind::NoMemory, 0)),
+    }
+}
+
+/// Reads a list text, in which the longest block that covers an address counts, and an address that none covers has no
+/// label.
+///
+/// The lines are those of a map text (`read_map`) but for three things: there are no ranges and no `default`, no block
+/// stands there twice, and no `UNKNOWN` is added to the label table. `ADDRESS LABEL` is an entry for the block of full
+/// length. A text has at most 1,000,000 entries.
+///
+/// # Errors
+///
+/// As of `read_map`, with two faults more: `NotAList` is the only fault of a line of `default`, or of two addresses, and
+/// `DuplicateBlock` comes behind `BadLabel` and before `TooMany`.
+pub fn read_list(alloc: Global, text: &[u8]) -> Result<PrefixList, MapFault>
+    ensures ok { IfOk result (λ list. ReadsList text.now (list_of list)) }
+    ensures limit { IfOk result (λ list. length list.entries ≤ 1000000) }
+    ensures fault { IfErr result (λ fault. fault.kind ≢ NoMemory → list_reading text.now ≡ Err fault) }
+    ensures memory { IfErr result (λ fault. fault.kind ≡ NoMemory → fault.line ≡ 0) }
+{
+    // Sorting all blocks once is faster than looking for each, and tells of most lists that they have no fault.
+    if let Some(reading) = read_unchecked(alloc, text) {
+        if let Ok(true) = reading.has_distinct_blocks() {
+            return Ok(reading.into_list());
+        }
+    }
+    let reading = read_lines(alloc, Form::List, text)?;
+    Ok(reading.into_list())
+}

@@ -1,0 +1,35 @@
+//! Decimal digits, and the numbers that they stand for.
+ghost use Rattle.std.specs.Prelude.{◌≡◌, ◌≤◌, IfSome};
+ghost use Rattle.std.specs.List.{list_all};
+ghost use Rattle.prefix_keys.specs.Text.{decimal_number, is_digit};
+
+/// Whether each byte is a digit.
+pub fn are_digits(text: &[u8]) -> bool
+    ensures { result ≡ list_all is_digit text.now }
+{
+    text.iter().all(|byte| byte.is_ascii_digit())
+}
+
+/// The number, at most the limit, that one to so many digits stand for. Leading zeros are allowed.
+#[tactic(auto, using(crate::proofs::Room::digits_room))]
+pub fn read_decimal(text: &[u8], digits: usize, limit: u32) -> Option<u32>
+    requires { digits ≤ 19 }
+    ensures value { result ≡ decimal_number digits limit text.now }
+    ensures limited { IfSome result (λ number. number ≤ limit) }
+{
+    if text.is_empty() || text.len() > digits {
+        return None;
+    }
+    let mut number = 0u64;
+    for b in text {
+        if *b < b'0' || *b > b'9' {
+            return None;
+        }
+        number = number * 10 + u64::from(*b - b'0');
+    }
+    if number <= u64::from(limit) {
+        Some(number as u32)
+    } else {
+        None
+    }
+}
