@@ -8,7 +8,7 @@ ghost use Rattle.pmap_text.specs.declared.fault.MapFaultKind.TheVariants.{Duplic
 
 use crate::fault::MapFaultKind;
 use crate::form::Form;
-use crate::progress::Reading;
+use crate::reading::Reading;
 use std::collections::BTreeSet;
 
 /// The starts and lengths of the blocks that have entries, in order: no choice of blocks makes looking slow.
@@ -17,7 +17,8 @@ pub type Keys = BTreeSet<(u128, u32)>;
 // Adds a key that is not there.
 fn file_key(keys: &mut Keys, key: (u128, u32)) -> Result<(), MapFaultKind>
     ensures new { OnOk result (has_key keys.old.keys key ≡ false) }
-    ensures ok { OnOk result ((q : ℕ × ℕ) → has_key keys.new.keys q ≡ (if is_eq (key_cmp key q) then true else has_key keys.old.keys q)) }
+    ensures ok { OnOk result ((q : ℕ × ℕ) → has_key keys.new.keys q ≡ (if is_eq (key_cmp key q) then true
+        else has_key keys.old.keys q)) }
     ensures err { IfErr result (λ kind. ((kind ≡ DuplicateBlock) × (has_key keys.old.keys key ≡ true))
         ⊎ ((kind ≡ NoMemory) × (has_key keys.old.keys key ≡ false))) }
 {
@@ -28,8 +29,8 @@ fn file_key(keys: &mut Keys, key: (u128, u32)) -> Result<(), MapFaultKind>
     }
 }
 
-/// Reads the content of one more line, of which an entry's block must not be among the keys, and adds it to them. After a fault nothing
-/// is known of the lines so far.
+/// Reads the content of one more line, of which an entry's block must not be among the keys, and adds it to them. After
+/// a fault nothing is known of the lines so far.
 pub fn read_checked(
     reading: &mut Reading,
     keys: &mut Keys,

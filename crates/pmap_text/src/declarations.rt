@@ -3,11 +3,12 @@ ghost use Rattle.pmap_text.specs.Declarations.{conflicts, declared_text, label_n
 ghost use Rattle.pmap_text.specs.Label.{is_label};
 
 use indexmap::IndexSet;
+use prefix_keys::read_decimal;
 use std::alloc::{AllocError, Global};
 use std::marker::Model;
 
-// The numbers that a text declares for its labels, and their texts beside them: the first text is that of the first
-// number, and so on. No two numbers are equal and no two texts.
+/// The numbers that a text declares for its labels, and their texts beside them: the first text is that of the first
+/// number, and so on. No two numbers are equal and no two texts.
 #[derive(Debug, Drop)]
 pub struct Declarations {
     alloc: Global,
@@ -29,7 +30,7 @@ impl Model for Declarations {
 }
 
 impl Declarations {
-    // No declarations.
+    /// No declarations.
     pub fn new(alloc: Global) -> Declarations
         ensures { result ≡ [] }
     {
@@ -40,7 +41,7 @@ impl Declarations {
         }
     }
 
-    // The text that was declared for a number. It is a label.
+    /// The text that was declared for a number. It is a label.
     pub fn text_of(&self, number: u32) -> Option<&[u8]>
         ensures value { option_map (λ t. t.now) result ≡ declared_text self.now number }
         ensures label { IfSome result (λ t. IsTrue (is_label t.now)) }
@@ -52,14 +53,15 @@ impl Declarations {
         }
     }
 
-    // Whether the number has another text, or the text another number: else both stand at one place, or neither is there.
+    /// Whether the number has another text, or the text another number: else both stand at one place, or neither is
+    /// there.
     pub fn conflicts(&self, number: u32, text: &[u8]) -> bool
         ensures { result ≡ conflicts self.now number text.now }
     {
         self.numbers.get_index_of(&number) != self.texts.get_index_of(text)
     }
 
-    // Declares a text for a number. What is known stays as it is. Where memory is refused, all stays as it was.
+    /// Declares a text for a number. What is known stays as it is. Where memory is refused, all stays as it was.
     pub fn add(&mut self, number: u32, text: &[u8]) -> Result<(), AllocError>
         requires label { IsTrue (is_label text.now) }
         requires agrees { conflicts self.old number text.now ≡ false }
@@ -76,7 +78,7 @@ impl Declarations {
         Ok(())
     }
 
-    // The text that a label stands for: a declared number means its text, and any other label itself.
+    /// The text that a label stands for: a declared number means its text, and any other label itself.
     pub fn meant<'a>(&'a self, label: &'a [u8]) -> &'a [u8]
         ensures value { result.now ≡ meant_text self.now label.now }
         ensures label { IsTrue (is_label label.now) → IsTrue (is_label result.now) }
@@ -91,23 +93,9 @@ impl Declarations {
     }
 }
 
-// The number that 1 to 10 digits stand for, at most 2147483647.
+/// The number that 1 to 10 digits stand for, at most 2147483647.
 pub fn label_number(text: &[u8]) -> Option<u32>
     ensures { result ≡ number_of_text text.now }
 {
-    if text.is_empty() || text.len() > 10 {
-        return None;
-    }
-    let mut number = 0u64;
-    for b in text {
-        if *b < b'0' || *b > b'9' {
-            return None;
-        }
-        number = number * 10 + u64::from(*b - b'0');
-    }
-    if number <= 2147483647 {
-        Some(number as u32)
-    } else {
-        None
-    }
+    read_decimal(text, 10, 2147483647)
 }

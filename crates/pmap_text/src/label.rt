@@ -13,12 +13,14 @@ pub fn is_blank(byte: u8) -> bool
     byte == b' ' || byte == b'\t' || byte == b'\r'
 }
 
+// Whether a byte may stand in a label: no control character but a tab, and no `#`.
 fn is_label_byte(byte: u8) -> bool
     ensures { result ≡ is_label_byte byte }
 {
     (byte == b'\t' || byte >= b' ') && byte != 0x7f && byte != b'#'
 }
 
+// Whether each byte may stand in a label.
 fn has_label_bytes(text: &[u8]) -> bool
     ensures { result ≡ list_all is_label_byte text.now }
 {

@@ -5,22 +5,19 @@ ghost use Rattle.pmap_text.specs.Label.{is_blank as is_blank_byte};
 ghost use Rattle.pmap_text.specs.Lines.{behind_word, content_of, first_word, lines_of, trim_end, trim_start};
 
 use crate::label::is_blank;
+use prefix_keys::find_byte;
 
 // How many bytes of a line are looked at together.
 const STEP: usize = 16;
 
-fn find_byte(text: &[u8], byte: u8) -> Option<usize>
-    ensures { result ≡ position (λ b. b == byte) text.now }
-{
-    text.iter().position(|b| *b == byte)
-}
-
+// The place of the first blank.
 fn find_blank(text: &[u8]) -> Option<usize>
     ensures { result ≡ position is_blank_byte text.now }
 {
     text.iter().position(|b| is_blank(*b))
 }
 
+// The place of the first byte that is no blank.
 fn find_word(text: &[u8]) -> Option<usize>
     ensures { result ≡ position (λ b. not (is_blank_byte b)) text.now }
 {
@@ -72,6 +69,7 @@ fn has_end(text: &[u8]) -> bool
     found
 }
 
+// The place of the first line feed or `#`.
 fn find_end(text: &[u8]) -> Option<usize>
     ensures { result ≡ position (λ b. b == 10 || b == 35) text.now }
 {
@@ -100,7 +98,8 @@ fn content_end(text: &[u8]) -> usize
 /// What the first line of a text says (`content`), and what stands behind its line feed.
 pub fn split_content(text: &[u8]) -> (&[u8], &[u8])
     requires { 0 < length text.now }
-    ensures line { (line : List ℕ) × (lines_of text.now ≡ line ∷ lines_of result.1.now) × (result.0.now ≡ content_of line) }
+    ensures line { (line : List ℕ) × (lines_of text.now ≡ line ∷ lines_of result.1.now)
+        × (result.0.now ≡ content_of line) }
     ensures shorter { length result.1.now < length text.now }
 {
     let end = content_end(text);
@@ -112,18 +111,21 @@ pub fn split_content(text: &[u8]) -> (&[u8], &[u8])
     (without_outer_blanks(line), behind)
 }
 
+// What stands before the first `#`.
 fn before_comment(line: &[u8]) -> &[u8]
     ensures { result.now ≡ before_first (λ b. b == 35) line.now }
 {
     &line[..place_or_end(find_byte(line, b'#'), line)]
 }
 
+// The text from its first byte on that is no blank.
 fn without_leading_blanks(text: &[u8]) -> &[u8]
     ensures { result.now ≡ trim_start text.now }
 {
     &text[place_or_end(find_word(text), text)..]
 }
 
+// The text up to its last byte that is no blank.
 fn without_trailing_blanks(text: &[u8]) -> &[u8]
     ensures { result.now ≡ trim_end text.now }
 {
@@ -134,6 +136,7 @@ fn without_trailing_blanks(text: &[u8]) -> &[u8]
     &text[..end]
 }
 
+// The text without blanks at its ends.
 fn without_outer_blanks(text: &[u8]) -> &[u8]
     ensures { result.now ≡ trim_end (trim_start text.now) }
 {

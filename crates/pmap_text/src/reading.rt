@@ -1,4 +1,3 @@
-//! What a reading keeps of the lines so far.
 ghost use Rattle.std.specs.Prelude.{◌≡◌, ◌<◌, ◌≤◌, ◌++◌, ◌∷◌, [], Some, true, false, ◌⊎◌, length, option_map, slice_get, IsTrue, IfOk, IfErr, OnOk, OnErr};
 ghost use Rattle.std.specs.Option.{option_or};
 ghost use Rattle.pmap_text.specs.Declarations.{conflicts as conflicts_of, meant_text, with_declared};
@@ -8,7 +7,7 @@ ghost use Rattle.pmap_text.specs.MapText.{map_of, text_at};
 ghost use Rattle.pmap_text.specs.PrefixList.{list_of};
 ghost use Rattle.pmap_text.specs.Reading.{Earlier, earlier_of, has_mapping as has_mapping_of, has_prefix as has_prefix_of, has_room, list_from, map_from, version_at as version_at_of};
 ghost use Rattle.pmap_text.specs.declared.fault.MapFaultKind.TheVariants.{NoMemory, TooMany};
-ghost use Rattle.pmap_text.specs.declared.progress.TheConstants.{LABEL_LIMIT, MAPPING_LIMIT};
+ghost use Rattle.pmap_text.specs.declared.reading.TheConstants.{LABEL_LIMIT, MAPPING_LIMIT};
 
 use crate::declarations::Declarations;
 use crate::entries::Entries;
@@ -26,6 +25,8 @@ use crate::statements::Statements;
 use prefix_keys::{Block, Span, Version};
 use std::alloc::{AllocError, Global};
 use std::marker::Model;
+
+mod line;
 
 /// The greatest number of mappings that a map text may have, and of entries that a list text may have.
 pub const MAPPING_LIMIT: usize = 1_000_000;
@@ -98,7 +99,8 @@ fn number_for(
     ensures text { IfOk result (λ id. slice_get labels.new id.0 ≡ Some text.now) }
     ensures limit { length labels.new ≤ LABEL_LIMIT }
     ensures same { OnErr result (labels.new ≡ labels.old) }
-    ensures err { IfErr result (λ kind. ((kind ≡ NoMemory) × (has_room labels.old text.now ≡ true)) ⊎ ((kind ≡ TooMany) × (has_room labels.old text.now ≡ false))) }
+    ensures err { IfErr result (λ kind. ((kind ≡ NoMemory) × (has_room labels.old text.now ≡ true))
+        ⊎ ((kind ≡ TooMany) × (has_room labels.old text.now ≡ false))) }
 {
     if let Some(id) = known_number(labels, recent, text) {
         return Ok(id);
@@ -220,9 +222,13 @@ impl Reading {
     pub fn label_id(&mut self, label: &[u8]) -> Result<LabelId, MapFaultKind>
         requires { IsTrue (is_label_text label.now) }
         ensures room { OnOk result (has_room self.old.table (meant_text self.old.declared label.now) ≡ true) }
-        ensures ok { OnOk result (self.new ≡ record self.old { table = with_label self.old.table (meant_text self.old.declared label.now) }) }
-        ensures text { IfOk result (λ id. slice_get self.new.table id.0 ≡ Some (meant_text self.old.declared label.now)) }
-        ensures err { IfErr result (λ kind. ((kind ≡ NoMemory) × (has_room self.old.table (meant_text self.old.declared label.now) ≡ true)) ⊎ ((kind ≡ TooMany) × (has_room self.old.table (meant_text self.old.declared label.now) ≡ false))) }
+        ensures ok { OnOk result (self.new
+            ≡ record self.old { table = with_label self.old.table (meant_text self.old.declared label.now) }) }
+        ensures text { IfOk result (λ id. slice_get self.new.table id.0
+            ≡ Some (meant_text self.old.declared label.now)) }
+        ensures err { IfErr result (λ kind.
+            ((kind ≡ NoMemory) × (has_room self.old.table (meant_text self.old.declared label.now) ≡ true))
+            ⊎ ((kind ≡ TooMany) × (has_room self.old.table (meant_text self.old.declared label.now) ≡ false))) }
         ensures kept { OnErr result (self.new.prefixes ≡ self.old.prefixes) }
     {
         let text = self.declared.meant(label);
@@ -234,8 +240,13 @@ impl Reading {
         requires label { IsTrue (is_label_text text.now) }
         requires agrees { conflicts_of self.old.declared number text.now ≡ false }
         ensures room { OnOk result (has_room self.old.table text.now ≡ true) }
-        ensures ok { OnOk result (self.new ≡ record self.old { declared = with_declared self.old.declared (number, text.now); table = with_label self.old.table text.now }) }
-        ensures err { IfErr result (λ kind. ((kind ≡ NoMemory) × (has_room self.old.table text.now ≡ true)) ⊎ ((kind ≡ TooMany) × (has_room self.old.table text.now ≡ false))) }
+        ensures ok { OnOk result (self.new
+            ≡ record self.old {
+              declared = with_declared self.old.declared (number, text.now);
+              table = with_label self.old.table text.now;
+            }) }
+        ensures err { IfErr result (λ kind. ((kind ≡ NoMemory) × (has_room self.old.table text.now ≡ true))
+            ⊎ ((kind ≡ TooMany) × (has_room self.old.table text.now ≡ false))) }
     {
         number_for(&mut self.labels, &mut self.recent, text)?;
         let Ok(()) = self.declared.add(number, text) else {
@@ -259,7 +270,11 @@ impl Reading {
         requires room { length self.old.mappings < MAPPING_LIMIT }
         ensures ok { OnOk result (self.new ≡ record self.old {
           version = option_or self.old.version (Some span.low.version);
-          mappings = self.old.mappings ++ record { low = span.low.value; high = span.high.value; label = text_at self.old.table label.0 } ∷ [];
+          mappings = self.old.mappings ++ record {
+            low = span.low.value;
+            high = span.high.value;
+            label = text_at self.old.table label.0;
+          } ∷ [];
         }) }
         ensures err { IfErr result (λ kind. kind ≡ NoMemory) }
     {
@@ -277,7 +292,11 @@ impl Reading {
         requires room { length self.old.prefixes < MAPPING_LIMIT }
         ensures ok { OnOk result (self.new ≡ record self.old {
           version = option_or self.old.version (Some block.version);
-          prefixes = self.old.prefixes ++ record { start = block.value; bits = block.len; label = text_at self.old.table label.0 } ∷ [];
+          prefixes = self.old.prefixes ++ record {
+            start = block.value;
+            bits = block.len;
+            label = text_at self.old.table label.0;
+          } ∷ [];
         }) }
         ensures err { IfErr result (λ kind. kind ≡ NoMemory) }
         ensures kept { OnErr result (self.new.prefixes ≡ self.old.prefixes) }

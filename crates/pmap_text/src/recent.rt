@@ -5,8 +5,8 @@ use crate::label::LabelId;
 // How many labels are remembered.
 const PLACES: usize = 1024;
 
-/// The labels that were last found, each at a place that the end of its text chooses, so that most labels are found again
-/// without a look into a table. A place may have the number of another text, or of none.
+/// The labels that were last found, each at a place that the end of its text chooses, so that most labels are found
+/// again without a look into a table. A place may have the number of another text, or of none.
 #[derive(Drop)]
 pub struct Recent {
     ids: [LabelId; PLACES],

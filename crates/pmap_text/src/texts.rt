@@ -1,4 +1,4 @@
-//! The reading of a map text or a list text, line by line.
+//! Map texts and list texts, which are read line by line.
 ghost use Rattle.std.specs.Prelude.{◌≡◌, ◌≢◌, ◌≤◌, [], List, Ok, Err, length, IfOk, IfErr, IfSome};
 ghost use Rattle.pmap_text.specs.Filed.{HasOncePlaced};
 ghost use Rattle.pmap_text.specs.Lines.{lines_of};
@@ -14,10 +14,8 @@ use crate::form::Form;
 use crate::lines::split_content;
 use crate::map_text::MapText;
 use crate::prefix_list::PrefixList;
-use crate::progress::Reading;
+use crate::reading::Reading;
 use std::alloc::Global;
-
-mod line;
 
 // The fault of a line, or the want of memory, which has the line 0.
 fn fault_at(kind: MapFaultKind, number: u64) -> MapFault
@@ -35,9 +33,11 @@ fn fault_at(kind: MapFaultKind, number: u64) -> MapFault
 
 // Reads the lines of a text of this form, up to its first fault.
 fn read_lines(alloc: Global, form: Form, text: &[u8]) -> Result<Reading, MapFault>
-    ensures ok { IfOk result (λ lines. (entries : List Entry) × (entries_from form [] 0 (lines_of text.now) ≡ Ok entries) × (lines ≡ earlier_of entries)) }
+    ensures ok { IfOk result (λ lines. (entries : List Entry) × (entries_from form [] 0 (lines_of text.now)
+        ≡ Ok entries) × (lines ≡ earlier_of entries)) }
     ensures distinct { IfOk result (λ lines. HasOncePlaced lines.prefixes) }
-    ensures err { IfErr result (λ fault. fault.kind ≢ NoMemory → entries_from form [] 0 (lines_of text.now) ≡ Err fault) }
+    ensures err { IfErr result (λ fault. fault.kind ≢ NoMemory → entries_from form [] 0 (lines_of text.now)
+        ≡ Err fault) }
     ensures memory { IfErr result (λ fault. fault.kind ≡ NoMemory → fault.line ≡ 0) }
 {
     let mut reading = Reading::new(alloc);
@@ -59,7 +59,8 @@ fn read_lines(alloc: Global, form: Form, text: &[u8]) -> Result<Reading, MapFaul
 // where all blocks are distinct, and `None` says nothing.
 fn read_unchecked(alloc: Global, text: &[u8]) -> Option<Reading>
     ensures { IfSome result (λ lines. HasOncePlaced lines.prefixes →
-        (entries : List Entry) × (entries_from form.List [] 0 (lines_of text.now) ≡ Ok entries) × (lines ≡ earlier_of entries)) }
+        (entries : List Entry) × (entries_from form.List [] 0 (lines_of text.now) ≡ Ok entries)
+        × (lines ≡ earlier_of entries)) }
 {
     let mut reading = Reading::new(alloc);
     let mut rest = text;
@@ -81,17 +82,17 @@ fn read_unchecked(alloc: Global, text: &[u8]) -> Option<Reading>
 /// - `map-name NAME`: what the map is called. The last one counts.
 /// - `mode VERSION`, with `ipv4`, `ip` (the same) or `ipv6`: once, and before the first mapping. Without it the first
 ///   address of the first mapping decides, and a text without a mapping is of IPv4.
-/// - `label NUMBER TEXT`: on the lines below, a label that is this number, of 1 to 10 digits, means the text. The number
-///   is at most 2147483647, the text is not of digits alone, and no number has two texts nor a text two numbers.
+/// - `label NUMBER TEXT`: on the lines below, a label that is this number, of 1 to 10 digits, means the text. The
+///   number is at most 2147483647, the text is not of digits alone, and no number has two texts nor a text two numbers.
 /// - `default LABEL`: the label of addresses without a mapping, `UNKNOWN` where no line says it. The last one counts.
 /// - `BLOCK LABEL`, as `10.0.0.0/8 A`: a mapping of the block's addresses. Host bits are cleared.
 /// - `LOW HIGH LABEL`: a mapping of the addresses from low to high.
 /// - `ADDRESS LABEL`: a mapping of one address.
 ///
-/// A label or a name is the rest of the line (`is_label`). Of two mappings that cover an address the later one counts. In
-/// an IPv6 text a dotted address stands for its place in `::ffff:0:0/96` (RFC 4291, section 2.5.5.2), and its block's
-/// length grows by 96. A text has at most 1,000,000 mappings and 65,535 label texts, to which an `UNKNOWN` that no line
-/// says may be added.
+/// A label or a name is the rest of the line (`is_label`). Of two mappings that cover an address the later one counts.
+/// In an IPv6 text a dotted address stands for its place in `::ffff:0:0/96` (RFC 4291, section 2.5.5.2), and its
+/// block's length grows by 96. A text has at most 1,000,000 mappings and 65,535 label texts, to which an `UNKNOWN` that
+/// no line says may be added.
 ///
 /// # Errors
 ///
@@ -125,8 +126,8 @@ pub fn read_map(alloc: Global, text: &[u8]) -> Result<MapText, MapFault>
 ///
 /// # Errors
 ///
-/// As of `read_map`, with two faults more: `NotAList` is the only fault of a line of `default`, or of two addresses, and
-/// `DuplicateBlock` comes behind `BadLabel` and before `TooMany`.
+/// As of `read_map`, with two faults more: `NotAList` is the only fault of a line of `default`, or of two addresses,
+/// and `DuplicateBlock` comes behind `BadLabel` and before `TooMany`.
 pub fn read_list(alloc: Global, text: &[u8]) -> Result<PrefixList, MapFault>
     ensures ok { IfOk result (λ list. ReadsList text.now (list_of list)) }
     ensures limit { IfOk result (λ list. length list.entries ≤ 1000000) }

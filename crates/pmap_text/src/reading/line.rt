@@ -15,8 +15,10 @@ use crate::form::Form;
 use crate::label::is_label;
 use crate::lines::split_word;
 use crate::placing::{addr_in, block_in};
-use crate::progress::{MAPPING_LIMIT, Reading};
-use prefix_keys::{Addr, Block, BlockFault, Span, Version, block_of, read_addr, read_block};
+use crate::reading::{MAPPING_LIMIT, Reading};
+use prefix_keys::{
+    Addr, Block, BlockFault, Span, Version, are_digits, block_of, read_addr, read_block,
+};
 
 // The rest of a line as a label.
 fn label_text(rest: &[u8]) -> Result<&[u8], MapFaultKind>
@@ -33,12 +35,7 @@ fn label_text(rest: &[u8]) -> Result<&[u8], MapFaultKind>
     }
 }
 
-fn has_digits_alone(text: &[u8]) -> bool
-    ensures { result ≡ list_all is_digit text.now }
-{
-    text.iter().all(|byte| byte.is_ascii_digit())
-}
-
+// Whether the first byte is a digit.
 fn begins_with_digit(word: &[u8]) -> bool
     ensures { result ≡ is_digit (slice_index word.now 0) }
 {
@@ -48,6 +45,7 @@ fn begins_with_digit(word: &[u8]) -> bool
     }
 }
 
+// Whether the byte stands in the word.
 fn has_byte(word: &[u8], byte: u8) -> bool
     ensures { result ≡ list_any (λ b. b == byte) word.now }
 {
@@ -112,7 +110,7 @@ impl Reading {
         ensures err { IfErr result (λ kind. kind ≡ refusal_of (declared_line self.old (Some number) rest.now)) }
     {
         let text = label_text(rest)?;
-        if has_digits_alone(text) {
+        if are_digits(text) {
             return Err(MapFaultKind::BadLabel);
         }
         if self.conflicts(number, text) {
@@ -150,8 +148,10 @@ impl Reading {
     // A span in the text's version and then a label, from behind the span.
     fn read_span(&mut self, span: Span, rest: &[u8]) -> Result<(), MapFaultKind>
         requires { version_at_of self.old span.low.version ≡ span.low.version }
-        ensures ok { OnOk result (Takes self.old self.new (span_line self.old span.low.version span.low.value span.high.value rest.now)) }
-        ensures err { IfErr result (λ kind. kind ≡ refusal_of (span_line self.old span.low.version span.low.value span.high.value rest.now)) }
+        ensures ok { OnOk result (Takes self.old self.new
+            (span_line self.old span.low.version span.low.value span.high.value rest.now)) }
+        ensures err { IfErr result (λ kind. kind
+            ≡ refusal_of (span_line self.old span.low.version span.low.value span.high.value rest.now)) }
     {
         let text = label_text(rest)?;
         if self.mapping_count() >= MAPPING_LIMIT {
@@ -168,7 +168,8 @@ impl Reading {
         ensures room { OnOk result (has_prefix_room self.old (meant_text self.old.declared label.now) ≡ true) }
         ensures ok { OnOk result (self.new ≡ added self.old (Lists block.version
             (record { start = block.value; bits = block.len; label = meant_text self.old.declared label.now }))) }
-        ensures err { IfErr result (λ kind. ((kind ≡ NoMemory) × (has_prefix_room self.old (meant_text self.old.declared label.now) ≡ true))
+        ensures err { IfErr result (λ kind.
+            ((kind ≡ NoMemory) × (has_prefix_room self.old (meant_text self.old.declared label.now) ≡ true))
             ⊎ ((kind ≡ TooMany) × (has_prefix_room self.old (meant_text self.old.declared label.now) ≡ false))) }
         ensures kept { OnErr result (self.new.prefixes ≡ self.old.prefixes) }
     {
@@ -183,8 +184,10 @@ impl Reading {
     // already is found where the line has another fault, and else behind the last line.
     fn read_prefix(&mut self, block: Block, rest: &[u8]) -> Result<(), MapFaultKind>
         requires { version_at_of self.old block.version ≡ block.version }
-        ensures ok { OnOk result (Takes self.old self.new (prefix_line self.old block.version block.value block.len rest.now)) }
-        ensures err { IfErr result (λ kind. kind ≡ refusal_of (prefix_line self.old block.version block.value block.len rest.now)) }
+        ensures ok { OnOk result (Takes self.old self.new
+            (prefix_line self.old block.version block.value block.len rest.now)) }
+        ensures err { IfErr result (λ kind. kind
+            ≡ refusal_of (prefix_line self.old block.version block.value block.len rest.now)) }
     {
         let text = label_text(rest)?;
         match self.take_prefix(block, text) {
@@ -197,8 +200,10 @@ impl Reading {
     // A block in the text's version and then a label, from behind the block.
     fn read_placed(&mut self, form: Form, block: Block, rest: &[u8]) -> Result<(), MapFaultKind>
         requires { version_at_of self.old block.version ≡ block.version }
-        ensures ok { OnOk result (Takes self.old self.new (placed_line form self.old block.version block.value block.len rest.now)) }
-        ensures err { IfErr result (λ kind. kind ≡ refusal_of (placed_line form self.old block.version block.value block.len rest.now)) }
+        ensures ok { OnOk result (Takes self.old self.new
+            (placed_line form self.old block.version block.value block.len rest.now)) }
+        ensures err { IfErr result (λ kind. kind
+            ≡ refusal_of (placed_line form self.old block.version block.value block.len rest.now)) }
     {
         match form {
             Form::Map => self.read_span(block.span(), rest),
@@ -208,8 +213,10 @@ impl Reading {
 
     // `BLOCK LABEL`, from the block on.
     fn read_block_line(&mut self, form: Form, word: &[u8], rest: &[u8]) -> Result<(), MapFaultKind>
-        ensures ok { OnOk result (Takes self.old self.new (block_line form self.old (block_of_text word.now) rest.now)) }
-        ensures err { IfErr result (λ kind. kind ≡ refusal_of (block_line form self.old (block_of_text word.now) rest.now)) }
+        ensures ok { OnOk result (Takes self.old self.new
+            (block_line form self.old (block_of_text word.now) rest.now)) }
+        ensures err { IfErr result (λ kind. kind
+            ≡ refusal_of (block_line form self.old (block_of_text word.now) rest.now)) }
     {
         match read_block(word) {
             Ok(block) => {
@@ -229,8 +236,11 @@ impl Reading {
         second: Addr,
         rest: &[u8],
     ) -> Result<(), MapFaultKind>
-        ensures ok { OnOk result (Takes self.old self.new (range_line form self.old (first.version, first.value) (second.version, second.value) rest.now)) }
-        ensures err { IfErr result (λ kind. kind ≡ refusal_of (range_line form self.old (first.version, first.value) (second.version, second.value) rest.now)) }
+        ensures ok { OnOk result (Takes self.old self.new (range_line form self.old (first.version, first.value)
+            (second.version, second.value) rest.now)) }
+        ensures err { IfErr result (λ kind. kind
+            ≡ refusal_of (range_line form self.old (first.version, first.value)
+            (second.version, second.value) rest.now)) }
     {
         if form == Form::List {
             return Err(MapFaultKind::NotAList);
@@ -246,8 +256,10 @@ impl Reading {
 
     // `ADDRESS LABEL`, from behind the address.
     fn read_single(&mut self, form: Form, addr: Addr, rest: &[u8]) -> Result<(), MapFaultKind>
-        ensures ok { OnOk result (Takes self.old self.new (single_line form self.old (addr.version, addr.value) rest.now)) }
-        ensures err { IfErr result (λ kind. kind ≡ refusal_of (single_line form self.old (addr.version, addr.value) rest.now)) }
+        ensures ok { OnOk result (Takes self.old self.new
+            (single_line form self.old (addr.version, addr.value) rest.now)) }
+        ensures err { IfErr result (λ kind. kind
+            ≡ refusal_of (single_line form self.old (addr.version, addr.value) rest.now)) }
     {
         let version = self.version_at(addr.version);
         let addr = addr_in(version, addr)?;
@@ -261,8 +273,11 @@ impl Reading {
         first: Addr,
         rest: &[u8],
     ) -> Result<(), MapFaultKind>
-        ensures ok { OnOk result (Takes self.old self.new (one_or_two form self.old (first.version, first.value) (address_of (first_word rest.now)) rest.now)) }
-        ensures err { IfErr result (λ kind. kind ≡ refusal_of (one_or_two form self.old (first.version, first.value) (address_of (first_word rest.now)) rest.now)) }
+        ensures ok { OnOk result (Takes self.old self.new (one_or_two form self.old (first.version, first.value)
+            (address_of (first_word rest.now)) rest.now)) }
+        ensures err { IfErr result (λ kind. kind
+            ≡ refusal_of (one_or_two form self.old (first.version, first.value)
+            (address_of (first_word rest.now)) rest.now)) }
     {
         let (word, behind) = split_word(rest);
         match read_addr(word) {
@@ -273,8 +288,10 @@ impl Reading {
 
     // A line whose first word is no keyword and has no `/`.
     fn read_other(&mut self, form: Form, word: &[u8], rest: &[u8]) -> Result<(), MapFaultKind>
-        ensures ok { OnOk result (Takes self.old self.new (address_line form self.old word.now (address_of word.now) rest.now)) }
-        ensures err { IfErr result (λ kind. kind ≡ refusal_of (address_line form self.old word.now (address_of word.now) rest.now)) }
+        ensures ok { OnOk result (Takes self.old self.new (address_line form self.old word.now
+            (address_of word.now) rest.now)) }
+        ensures err { IfErr result (λ kind. kind
+            ≡ refusal_of (address_line form self.old word.now (address_of word.now) rest.now)) }
     {
         match read_addr(word) {
             Some(addr) => self.read_address_line(form, addr, rest),
@@ -302,8 +319,8 @@ impl Reading {
         }
     }
 
-    /// Reads the content of one more line. An entry for a block that has one already is added too. After a fault nothing is
-    /// known of the lines so far.
+    /// Reads the content of one more line. An entry for a block that has one already is added too. After a fault
+    /// nothing is known of the lines so far.
     pub fn read_content(&mut self, form: Form, content: &[u8]) -> Result<(), MapFaultKind>
         ensures ok { OnOk result (Takes self.old self.new (content_line form self.old content.now)) }
         ensures err { IfErr result (λ kind. kind ≡ refusal_of (content_line form self.old content.now)) }

@@ -3,7 +3,7 @@ use Rattle.std.proofs.lemmas.Bool.Decides.{nat_tests}
 use Rattle.std.proofs.lemmas.Grind.{common_steps}
 use Rattle.pmap_text.specs.Label.{has_label}
 use Rattle.pmap_text.proofs.LabelTexts.{has_label-no_number, has_label-number, slice_get-number, with_label-known}
-use Rattle.pmap_text.proofs.progress.number_for.Goals as goal
+use Rattle.pmap_text.proofs.reading.number_for.Goals as goal
 
 pub returns-in-Some-clause-room : goal.returns-in-Some-clause-room
 returns-in-Some-clause-room c =

@@ -6,7 +6,7 @@ use Rattle.pmap_text.specs.Reading.{Earlier, content_line, entries_from, line_en
 use Rattle.pmap_text.specs.Steps.{Adds, refusal_of}
 use Rattle.pmap_text.specs.declared.fault.MapFaultKind.TheVariants.{NoMemory}
 use Rattle.pmap_text.proofs.LineEntries.{entries_from-fault, entries_from-line, refusal-fault}
-use Rattle.pmap_text.proofs.reading.read_lines.Goals as goal
+use Rattle.pmap_text.proofs.texts.read_lines.Goals as goal
 
 pub loop-rest-init : goal.loop-rest-init
 loop-rest-init c = record {

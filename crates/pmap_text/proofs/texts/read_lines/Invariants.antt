@@ -2,7 +2,7 @@ use Rattle.std.proofs.Common.{◌≡◌, ◌+◌, ◌≤◌, [], List, length}
 use Rattle.pmap_text.specs.Filed.{AreFiled}
 use Rattle.pmap_text.specs.Lines.{lines_of}
 use Rattle.pmap_text.specs.Reading.{Entry, earlier_of, entries_from}
-use Rattle.pmap_text.proofs.reading.read_lines.Given as goal
+use Rattle.pmap_text.proofs.texts.read_lines.Given as goal
 
 -- the lines so far said some entries, and the text says those and then what the rest says
 abbrev pub invariant-loop-rest : goal.invariant-loop-rest

@@ -4,7 +4,7 @@ use Rattle.pmap_text.specs.Reading.{content_line}
 use Rattle.pmap_text.specs.Steps.{Takes}
 use Rattle.pmap_text.specs.declared.form.Form.TheVariants as form
 use Rattle.pmap_text.proofs.Entering.{read-all, read-taken}
-use Rattle.pmap_text.proofs.reading.read_unchecked.Goals as goal
+use Rattle.pmap_text.proofs.texts.read_unchecked.Goals as goal
 
 pub loop-rest-init : goal.loop-rest-init
 loop-rest-init c = λ once. (0, [], refl, c.new-reading.ensures)

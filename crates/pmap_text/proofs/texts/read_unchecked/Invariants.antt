@@ -3,7 +3,7 @@ use Rattle.pmap_text.specs.Filed.{HasOncePlaced}
 use Rattle.pmap_text.specs.Lines.{lines_of}
 use Rattle.pmap_text.specs.declared.form.Form.TheVariants as form
 use Rattle.pmap_text.proofs.Entering.{ReadSoFar}
-use Rattle.pmap_text.proofs.reading.read_unchecked.Given as goal
+use Rattle.pmap_text.proofs.texts.read_unchecked.Given as goal
 
 -- where all entries so far have blocks of their own, the lines so far were read
 abbrev pub invariant-loop-rest : goal.invariant-loop-rest

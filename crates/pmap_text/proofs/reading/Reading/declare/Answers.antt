@@ -1,5 +1,5 @@
 use Rattle.pmap_text.proofs.ProgressSteps.{progress-with_label}
-use Rattle.pmap_text.proofs.progress.Reading.declare.Goals as goal
+use Rattle.pmap_text.proofs.reading.Reading.declare.Goals as goal
 
 pub returns-clause-ok : goal.returns-clause-ok
 returns-clause-ok c =

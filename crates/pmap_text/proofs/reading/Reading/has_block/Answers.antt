@@ -1,7 +1,7 @@
 use Rattle.std.proofs.Common.{ap, sym, ◌∙◌}
 use Rattle.pmap_text.specs.ListEntries.{has_entry}
 use Rattle.pmap_text.proofs.ProgressSteps.{has_prefix-entries}
-use Rattle.pmap_text.proofs.progress.Reading.has_block.Goals as goal
+use Rattle.pmap_text.proofs.reading.Reading.has_block.Goals as goal
 
 pub returns : goal.returns
 returns c =

@@ -6,7 +6,7 @@ use Rattle.pmap_text.specs.ListEntries.{HasDistinctBlocks}
 use Rattle.pmap_text.specs.PrefixList.{prefix_of}
 use Rattle.pmap_text.specs.Reading.{Earlier}
 use Rattle.pmap_text.proofs.Filed.{distinct_to_map}
-use Rattle.pmap_text.proofs.progress.Reading.has_distinct_blocks.Goals as goal
+use Rattle.pmap_text.proofs.reading.Reading.has_distinct_blocks.Goals as goal
 
 where_true : (r : Result Bool AllocError) (P Q : Type 0) → (P → Q) → IfOk r (λ b. IsTrue b → P) → IfOk r (λ b. IsTrue b → Q)
 where_true (Ok b) P Q f h = λ t. f (h t)

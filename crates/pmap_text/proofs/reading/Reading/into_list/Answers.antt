@@ -6,7 +6,7 @@ use Rattle.pmap_text.specs.Reading.{Earlier}
 use Rattle.pmap_text.specs.declared.entry.Entry.{Entry}
 use Rattle.pmap_text.proofs.Filed.{distinct_from_map}
 use Rattle.pmap_text.proofs.ProgressSteps.{version-decided}
-use Rattle.pmap_text.proofs.progress.Reading.into_list.Goals as goal
+use Rattle.pmap_text.proofs.reading.Reading.into_list.Goals as goal
 
 pub from_distinct-entries-requires : goal.from_distinct-entries-requires
 from_distinct-entries-requires c =

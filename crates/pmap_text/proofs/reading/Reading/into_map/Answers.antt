@@ -3,8 +3,8 @@ use Rattle.pmap_text.specs.Progress.{IsProgress}
 use Rattle.pmap_text.specs.Reading.{map_from, unknown}
 use Rattle.pmap_text.specs.declared.label.LabelId.{LabelId}
 use Rattle.pmap_text.proofs.ProgressSteps.{finished, finished-unknown, length-with_label, version-decided}
-use Rattle.pmap_text.proofs.progress.Reading.into_map.Goals as goal
-use Rattle.pmap_text.proofs.progress.Reading.into_map.Goals.{in-Some, in-None+in_ok-default-in-None}
+use Rattle.pmap_text.proofs.reading.Reading.into_map.Goals as goal
+use Rattle.pmap_text.proofs.reading.Reading.into_map.Goals.{in-Some, in-None+in_ok-default-in-None}
 
 pub invariant_of-result-clause-one_version : goal.invariant_of-result-clause-one_version
 invariant_of-result-clause-one_version c =

@@ -6,7 +6,7 @@ use Rattle.pmap_text.specs.MapModel.{Label}
 use Rattle.pmap_text.specs.Progress.{progress_of}
 use Rattle.pmap_text.specs.Reading.{Earlier}
 use Rattle.pmap_text.proofs.ProgressSteps.{progress-with_label}
-use Rattle.pmap_text.proofs.progress.Reading.label_id.Goals as goal
+use Rattle.pmap_text.proofs.reading.Reading.label_id.Goals as goal
 
 pub returns-clause-ok : goal.returns-clause-ok
 returns-clause-ok c =

@@ -3,7 +3,7 @@ use Rattle.std.proofs.lemmas.Bool.{eqb-false}
 use Rattle.pmap_text.specs.Lines.{behind_word, first_word}
 use Rattle.pmap_text.specs.Reading.{Earlier, content_line, statement_line}
 use Rattle.pmap_text.specs.declared.form.Form.{Form}
-use Rattle.pmap_text.proofs.progress.Reading.read_content.Goals as goal
+use Rattle.pmap_text.proofs.reading.Reading.read_content.Goals as goal
 
 -- a line with a word says what its statement says
 content_line-words : (form : Form) (earlier : Earlier) (content : List ℕ) → length content ≢ 0 → content_line form earlier content ≡ statement_line form earlier (first_word content) (behind_word content)

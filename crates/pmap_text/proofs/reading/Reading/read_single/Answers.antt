@@ -7,7 +7,7 @@ use Rattle.pmap_text.specs.Reading.{Entry, number_in, placed_line, single_line, 
 use Rattle.pmap_text.specs.declared.fault.MapFaultKind.{MapFaultKind}
 use Rattle.pmap_text.specs.Steps.{refusal_of}
 use Rattle.pmap_text.proofs.MovedBlocks.{first_of-full}
-use Rattle.pmap_text.proofs.progress.Reading.read_single.Goals as goal
+use Rattle.pmap_text.proofs.reading.Reading.read_single.Goals as goal
 
 pub returns-clause-err : goal.returns-clause-err
 returns-clause-err c =
