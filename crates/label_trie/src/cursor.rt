@@ -12,7 +12,8 @@ use pmap_text::LabelId;
 use prefix_keys::Block;
 use std::marker::Model;
 
-/// A place in a trie: a block that it divides, or a leaf. A walk begins at `Trie::root`, or at any node by `Trie::node`.
+/// A place in a trie: a block that it divides, or a leaf. A walk begins at `Trie::root`, or at any node by
+/// `Trie::node`.
 #[derive(Drop)]
 pub struct Cursor<'a> {
     nodes: &'a [Node],
@@ -49,7 +50,7 @@ pub enum Parts<'a> {
 }
 
 /// The place of the node with this number, which stands for the block.
-pub(crate) fn cursor_at<'a>(nodes: &'a [Node], number: u32, block: Block) -> Cursor<'a>
+pub fn cursor_at<'a>(nodes: &'a [Node], number: u32, block: Block) -> Cursor<'a>
     requires { IsPlace nodes.now number block }
     ensures block { result.block ≡ block }
     ensures leaves { result.leaves ≡ leaves_of (tree_at nodes.now number) block.len (number_of block) }

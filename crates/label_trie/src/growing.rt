@@ -1,3 +1,4 @@
+//! The nodes of a block, from the sweep's stretches.
 ghost use Rattle.std.specs.Prelude.{◌≡◌, ◌+◌, ◌-◌, ◌*◌, ◌^◌, ◌<◌, ◌≤◌, All, OnOk, length, slice_set};
 ghost use Rattle.prefix_keys.specs.Block.{block_number};
 ghost use Rattle.prefix_keys.specs.Version.{width_of};
@@ -10,7 +11,7 @@ use crate::sweep::Sweep;
 use pmap_text::LabelId;
 use std::alloc::AllocError;
 
-/// The label where the sweep stands.
+// The label where the sweep stands.
 fn label_of(layers: &Layers, sweep: &Sweep) -> Option<LabelId>
     ensures { result ≡ label_seen layers.now.default sweep.now.top }
 {
@@ -41,7 +42,8 @@ pub fn push_block(
     requires room { let W = width_of layers.now.version in length nodes.old.items
         + (1 + 2 * parted_sum W (W - len) len (block_number W len first) layers.now.statements.now) ≤ 2 ^ 32 }
     ensures nodes { let W = width_of layers.now.version in OnOk result
-        (AddsTree W layers.now.statements.now layers.now.default len (block_number W len first) nodes.old.items nodes.new.items) }
+        (AddsTree W layers.now.statements.now layers.now.default len
+        (block_number W len first) nodes.old.items nodes.new.items) }
     ensures sweeping { OnOk result (IsSweeping (width_of layers.now.version) layers.now.statements.now sweep.new) }
     ensures begun { OnOk result (sweep.new.first ≤ last) }
     ensures here { OnOk result (last ≤ sweep.new.last) }
@@ -53,8 +55,8 @@ pub fn push_block(
     push_halves(nodes, sweep, layers, len, first, last)
 }
 
-/// The same of a block that goes on behind the sweep's stretch. It calls itself for halves that do so too: the leaves, which
-/// are half of all nodes, take no call.
+// The same of a block that goes on behind the sweep's stretch. It calls itself for halves that do so too: the leaves,
+// which are half of all nodes, take no call.
 #[cycle(block)]
 fn push_halves(
     nodes: &mut Vec<Node>,
@@ -74,7 +76,8 @@ fn push_halves(
     requires room { let W = width_of layers.now.version in length nodes.old.items
         + (1 + 2 * parted_sum W (W - len) len (block_number W len first) layers.now.statements.now) ≤ 2 ^ 32 }
     ensures nodes { let W = width_of layers.now.version in OnOk result
-        (AddsTree W layers.now.statements.now layers.now.default len (block_number W len first) nodes.old.items nodes.new.items) }
+        (AddsTree W layers.now.statements.now layers.now.default len
+        (block_number W len first) nodes.old.items nodes.new.items) }
     ensures sweeping { OnOk result (IsSweeping (width_of layers.now.version) layers.now.statements.now sweep.new) }
     ensures begun { OnOk result (sweep.new.first ≤ last) }
     ensures here { OnOk result (last ≤ sweep.new.last) }
@@ -89,7 +92,7 @@ fn push_halves(
     push_block(nodes, sweep, layers, len + 1, middle + 1, last)
 }
 
-/// Makes a node that of two halves, of which the higher one has this number.
+// Makes a node that of two halves, of which the higher one has this number.
 fn set_high(nodes: &mut Vec<Node>, at: usize, high: u32)
     requires { at < length nodes.old.items }
     ensures { nodes.new.items ≡ slice_set nodes.old.items at (Node.Inner high) }

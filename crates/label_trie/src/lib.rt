@@ -12,18 +12,19 @@
 //! lists of its leaves and nodes; how they are kept is its own affair.
 #![tactic(auto)]
 
-pub mod cursor;
+mod cursor;
 mod growing;
-pub mod laws;
+mod laws;
 mod layers;
-pub mod leaf;
-pub mod leaves;
+mod leaf;
+mod leaves;
 mod node;
 mod start;
 mod sweep;
-pub mod trie;
+mod trie;
 
 pub use cursor::{Cursor, Parts};
+pub use laws::labelling_has_its_runs;
 pub use leaf::Leaf;
 pub use leaves::Leaves;
 pub use trie::Trie;

@@ -43,7 +43,7 @@ pub fn starts_of(alloc: Global, statements: &[Statement]) -> Result<Vec<Start>, 
     Ok(starts)
 }
 
-/// Opens the statements that begin at the address or before it.
+// Opens the statements that begin at the address or before it.
 fn open_begun(sweep: &mut Sweep, statements: &[Statement], first: u128) -> Result<(), AllocError>
     requires starts { AreStarts statements.now sweep.old.starts.items }
     requires swept { IsSwept statements.now sweep.old.starts.items sweep.old.next (heap_items sweep.old.opened) first }
@@ -63,7 +63,7 @@ fn open_begun(sweep: &mut Sweep, statements: &[Statement], first: u128) -> Resul
     Ok(())
 }
 
-/// Drops statements that end before the address, up to the last one that goes on to it.
+// Drops statements that end before the address, up to the last one that goes on to it.
 fn top_at(opened: &mut BinaryHeap<u32>, statements: &[Statement], first: u128) -> Option<u32>
     requires ordered { IsHeap nat_cmp (heap_items opened.old) }
     requires known { All (λ j. j < length statements.now) (heap_items opened.old) }
@@ -81,7 +81,7 @@ fn top_at(opened: &mut BinaryHeap<u32>, statements: &[Statement], first: u128) -
     None
 }
 
-/// Where one of the statements to come begins that is seen over the top, the address before; else `high`.
+// Where one of the statements to come begins that is seen over the top, the address before; else `high`.
 fn end_before(top: Option<u32>, coming: &[Start], first: u128, high: u128) -> u128
     requires ordered { first ≤ high }
     requires behind { AreBehind first coming.now }
@@ -99,7 +99,7 @@ fn end_before(top: Option<u32>, coming: &[Start], first: u128, high: u128) -> u1
     high
 }
 
-/// Whether the statement with the number comes later than the top.
+// Whether the statement with the number comes later than the top.
 fn is_over(top: Option<u32>, number: u32) -> bool
     ensures { IsTrue result ↔ IsOver top number }
 {
@@ -139,12 +139,13 @@ impl Sweep {
         Ok(sweep)
     }
 
-    /// Goes on to the stretch that begins at the address.
+    // Goes on to the stretch that begins at the address.
     fn move_to(&mut self, layers: &Layers, first: u128) -> Result<(), AllocError>
         requires version { All (λ s. s.span.low.version ≡ layers.now.version) layers.now.statements.now }
         requires within { first < 2 ^ width_of layers.now.version }
         requires starts { AreStarts layers.now.statements.now self.old.starts.items }
-        requires swept { IsSwept layers.now.statements.now self.old.starts.items self.old.next (heap_items self.old.opened) first }
+        requires swept { IsSwept layers.now.statements.now self.old.starts.items self.old.next
+            (heap_items self.old.opened) first }
         ensures first { OnOk result (self.new.first ≡ first) }
         ensures sweeping { OnOk result (IsSweeping (width_of layers.now.version) layers.now.statements.now self.new) }
     {
@@ -157,7 +158,7 @@ impl Sweep {
         Ok(())
     }
 
-    /// The statement that is seen at the address, if there is one, and the last address of the stretch.
+    // The statement that is seen at the address, if there is one, and the last address of the stretch.
     fn stretch_at(
         &self,
         layers: &Layers,
@@ -167,7 +168,8 @@ impl Sweep {
         requires version { All (λ s. s.span.low.version ≡ layers.now.version) layers.now.statements.now }
         requires within { first < 2 ^ width_of layers.now.version }
         requires starts { AreStarts layers.now.statements.now self.now.starts.items }
-        requires swept { IsSwept layers.now.statements.now self.now.starts.items self.now.next (heap_items self.now.opened) first }
+        requires swept { IsSwept layers.now.statements.now self.now.starts.items self.now.next
+            (heap_items self.now.opened) first }
         requires behind { AreBehind first (drop self.now.next self.now.starts.items) }
         requires top { IsTop layers.now.statements.now first (heap_items self.now.opened) top }
         ensures { IsStretch (width_of layers.now.version) layers.now.statements.now first result.1 result.0 }

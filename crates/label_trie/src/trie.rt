@@ -16,7 +16,7 @@ use crate::leaves::Leaves;
 use crate::node::Node;
 use crate::sweep::{Sweep, last_address};
 use pmap_text::{Entry, LabelId, MapText, PrefixList, Statement};
-use prefix_keys::{Addr, Block, Version};
+use prefix_keys::{Addr, Version, whole_space};
 use std::alloc::{AllocError, Global};
 use std::marker::Model;
 
@@ -25,7 +25,7 @@ use std::marker::Model;
 #[derive(Drop)]
 pub struct Trie {
     version: Version,
-    /// The node of the whole address space, and those of its halves' trees, the lower first; each tree alike.
+    // The node of the whole address space, and those of its halves' trees, the lower first; each tree alike.
     nodes: Vec<Node>,
 }
 
@@ -148,15 +148,16 @@ impl Trie {
         cursor_at(self.nodes.as_slice(), 0, whole_space(self.version))
     }
 
-    /// The place of the node with this number, which is below `node_count`. It goes there from the root, by one step for
-    /// each bit of the block's length.
+    /// The place of the node with this number, which is below `node_count`. It goes there from the root, by one step
+    /// for each bit of the block's length.
     pub fn node(&self, number: u32) -> Cursor
         requires { number < length self.now.nodes }
         ensures version { result.block.version ≡ self.now.version }
         ensures number { result.number ≡ number }
         ensures nodes { result.nodes ≡ self.now.nodes }
     {
-        prove!(number < self.node_count());
+        // For its law: there is one node less than twice the leaves.
+        let _count = self.node_count();
         let mut place = self.root();
         while place.number() < number {
             let Parts::Inner(low, high) = place.parts() else {
@@ -168,11 +169,12 @@ impl Trie {
     }
 }
 
-/// The nodes of the trie of some statements.
+// The nodes of the trie of some statements.
 fn grow(alloc: Global, layers: &Layers) -> Result<Vec<Node>, AllocError>
     requires version { All (λ s. s.span.low.version ≡ layers.now.version) layers.now.statements.now }
     requires few { length layers.now.statements.now ≤ 1000000 }
-    ensures { IfOk result (λ nodes. AddsTree (width_of layers.now.version) layers.now.statements.now layers.now.default 0 0 [] nodes.items) }
+    ensures { IfOk result (λ nodes.
+        AddsTree (width_of layers.now.version) layers.now.statements.now layers.now.default 0 0 [] nodes.items) }
 {
     let mut nodes = Vec::new(alloc);
     let mut sweep = Sweep::new(alloc, layers)?;
@@ -187,7 +189,7 @@ fn grow(alloc: Global, layers: &Layers) -> Result<Vec<Node>, AllocError>
     Ok(nodes)
 }
 
-/// Adds the leaves at and below the place, at the end.
+// Adds the leaves at and below the place, at the end.
 fn push_leaves(leaves: &mut Leaves, place: &Cursor) -> Result<(), AllocError>
     ensures version { OnOk result (All (λ leaf. leaf.block.version ≡ place.now.block.version) leaves.old
         → All (λ leaf. leaf.block.version ≡ place.now.block.version) leaves.new) }
@@ -205,7 +207,7 @@ fn push_leaves(leaves: &mut Leaves, place: &Cursor) -> Result<(), AllocError>
     }
 }
 
-/// The entries as statements, in an order in which those of shorter blocks come before those of longer ones.
+// The entries as statements, in an order in which those of shorter blocks come before those of longer ones.
 fn shortest_first(alloc: Global, entries: &[Entry]) -> Result<Vec<Statement>, AllocError>
     ensures { IfOk result (λ statements. AreShortestFirst entries.now statements.items) }
 {
@@ -219,17 +221,4 @@ fn shortest_first(alloc: Global, entries: &[Entry]) -> Result<Vec<Statement>, Al
         })?;
     }
     Ok(statements)
-}
-
-/// The block of no bits, which has each address of the version.
-fn whole_space(version: Version) -> Block
-    ensures version { result.version ≡ version }
-    ensures value { result.value ≡ 0 }
-    ensures len { result.len ≡ 0 }
-{
-    Block {
-        version,
-        value: 0,
-        len: 0,
-    }
 }
