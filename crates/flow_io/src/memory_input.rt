@@ -21,7 +21,12 @@ impl<'a> Model for MemoryInput<'a> {
 
     ghost Value = { InputState };
 
-    ghost view = { λ input. record { left = input.left.now; step = input.step; failing_call = input.countdown; failed = input.failed } };
+    ghost view = { λ input. record {
+      left = input.left.now;
+      step = input.step;
+      failing_call = input.countdown;
+      failed = input.failed;
+    } };
 
     ghost invariant = { λ input. 1 ≤ input.step };
 }
@@ -31,7 +36,12 @@ impl<'a> MemoryInput<'a> {
     /// `Err`; with `None` or 0 no call does.
     pub fn new(bytes: &'a [u8], step: usize, fail_at: Option<u64>) -> Self
         requires { 1 ≤ step }
-        ensures { result ≡ record { left = bytes.now; step = step; failing_call = unwrap_or fail_at 0; failed = false } }
+        ensures { result ≡ record {
+          left = bytes.now;
+          step = step;
+          failing_call = unwrap_or fail_at 0;
+          failed = false;
+        } }
     {
         MemoryInput {
             left: bytes,
@@ -56,7 +66,8 @@ impl Input for MemoryInput<'_> {
 
         // When it fails, and otherwise how much it gives.
         ensures err { IsErr result ↔ (self.old.failing_call ≡ 1) }
-        ensures count { IfOk result (λ count. count ≡ min self.old.step (min (length buffer.old) (length self.old.left))) }
+        ensures count { IfOk result (λ count. count
+            ≡ min self.old.step (min (length buffer.old) (length self.old.left))) }
         ensures copied { IfOk result (λ count. buffer.new ≡ take count self.old.left ++ drop count buffer.old) }
         ensures unread { OnErr result (buffer.new ≡ buffer.old) }
 

@@ -27,7 +27,14 @@ impl<const N: usize> Model for MemoryOutput<N> {
 
     ghost Value = { OutputState };
 
-    ghost view = { λ output. record { taken = take output.filled output.buffer; step = output.step; failing_call = output.countdown; zero = output.zero; failed = output.failed; last_call = output.last_call } };
+    ghost view = { λ output. record {
+      taken = take output.filled output.buffer;
+      step = output.step;
+      failing_call = output.countdown;
+      zero = output.zero;
+      failed = output.failed;
+      last_call = output.last_call;
+    } };
 
     ghost invariant = { λ output. (1 ≤ output.step) × (output.filled ≤ N) };
 }
@@ -38,7 +45,14 @@ impl<const N: usize> MemoryOutput<N> {
     /// every call succeeds while there is room.
     pub fn new(step: usize, fail_at: Option<u64>, zero: bool) -> Self
         requires { 1 ≤ step }
-        ensures { result ≡ record { taken = []; step = step; failing_call = unwrap_or fail_at 0; zero = zero; failed = false; last_call = Nothing } }
+        ensures { result ≡ record {
+          taken = [];
+          step = step;
+          failing_call = unwrap_or fail_at 0;
+          zero = zero;
+          failed = false;
+          last_call = Nothing;
+        } }
     {
         MemoryOutput {
             buffer: [0; N],

@@ -21,7 +21,11 @@ impl<T> Model for Watched<T> {
 
     ghost Value = { WatchState T };
 
-    ghost view = { λ watched. record { inner = watched.inner; failed = watched.failed; last_call = watched.last_call } };
+    ghost view = { λ watched. record {
+      inner = watched.inner;
+      failed = watched.failed;
+      last_call = watched.last_call;
+    } };
 }
 
 impl<T> Watched<T> {

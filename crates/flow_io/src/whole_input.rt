@@ -17,7 +17,7 @@ pub enum ReadStop {
     NoMemory,
 }
 
-/// How many bytes are asked of the reader at a time.
+// How many bytes are asked of the reader at a time.
 const CHUNK: usize = 65536;
 
 /// Reads all that the reader still gives. A reader that never ends is answered with `NoMemory`, as
@@ -56,7 +56,8 @@ mod tests {
     // Many reads, two of which fill no buffer, one that fills it, and one that could give more.
     const STEPS: [usize; 4] = [700, 40_000, 65_536, 90_000];
 
-    // The failing calls of a reader of two bytes that are given one at a time: each of them, and the one that finds the end.
+    // The failing calls of a reader of two bytes that are given one at a time: each of them, and the one that finds the
+    // end.
     const FAILING: [u64; 3] = [1, 2, 3];
 
     // What is read of these bytes in such steps, where this call fails.

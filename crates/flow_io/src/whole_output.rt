@@ -11,8 +11,8 @@ use thiserror::Error;
 #[error("the writer failed")]
 pub struct WriteFault;
 
-/// Writes all the bytes, and then flushes once. After a fault of a write the writer has taken a prefix of them, and after
-/// one of the flush all of them.
+/// Writes all the bytes, and then flushes once. After a fault of a write the writer has taken a prefix of them, and
+/// after one of the flush all of them.
 pub fn write_whole<W: Output>(writer: &mut W, bytes: &[u8]) -> Result<(), WriteFault>
     requires { W.failed writer.old ≡ false }
     ensures whole { OnOk result (Appends (W.bytes_taken writer.old) (W.bytes_taken writer.new) bytes.now) }
@@ -42,8 +42,8 @@ mod tests {
     use std::process::Abort;
     use std::test::Fail;
 
-    // The bytes, the most that a write takes, the failing call, whether it answers 0, whether they are written whole, and what the
-    // writer has taken then.
+    // The bytes, the most that a write takes, the failing call, whether it answers 0, whether they are written whole,
+    // and what the writer has taken then.
     type Case = (&'static str, usize, Option<u64>, bool, bool, &'static str);
 
     // There is room for three bytes. Where a write takes one, the fourth call is the flush.
