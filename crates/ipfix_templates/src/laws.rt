@@ -1,3 +1,4 @@
+//! The laws on template sets and on the templates in force.
 ghost use Rattle.ipfix_templates.specs.Laws.{EventAfterHistory, EventsFit, HasReading, MemoryIsNoFault, OneReading};
 
 /// One more event changes the template in force in its own domain alone: a definition puts its template at its

@@ -13,10 +13,10 @@ use std::alloc::{AllocError, Global};
 /// What was read from the front of some bytes, and the bytes after it; or the fault of what stands there.
 pub type Read<'a, T> = Result<(T, &'a [u8]), TemplateFaultKind>;
 
-/// The bit of a field specifier's first two bytes that says that an enterprise number follows.
+// The bit of a field specifier's first two bytes that says that an enterprise number follows.
 const ENTERPRISE_BIT: u16 = 0x8000;
 
-/// Template IDs below this one are reserved (RFC 7011 section 3.4.1).
+// Template IDs below this one are reserved (RFC 7011 section 3.4.1).
 const FIRST_TEMPLATE_ID: u16 = 256;
 
 // The field specifier at the front, and the bytes after it. None where a part is missing.
@@ -99,7 +99,8 @@ fn read_definition<'a>(
 ) -> Result<Read<'a, TemplateEvent>, AllocError>
     requires numbered { 256 ≤ id }
     requires some_field { 0 < count }
-    ensures read { IfOk result (λ read. MatchResult read (λ x. definition_at kind id count bytes.now ≡ Ok (x.0, x.1.now))
+    ensures read { IfOk result (λ read. MatchResult read (λ x. definition_at kind id count bytes.now
+        ≡ Ok (x.0, x.1.now))
         (λ fault. definition_at kind id count bytes.now ≡ Err fault)) }
     ensures memory { OnErr result (IsOk (definition_at kind id count bytes.now)) }
 {
@@ -127,8 +128,8 @@ fn read_definition<'a>(
     Ok(Ok((TemplateEvent::Define(template), rest)))
 }
 
-/// The template record at the front (RFC 7011 sections 3.4.1 and 3.4.2), and the bytes after it. Memory is asked for only
-/// where it has no fault.
+/// The template record at the front (RFC 7011 sections 3.4.1 and 3.4.2), and the bytes after it. Memory is asked for
+/// only where it has no fault.
 #[tactic(auto, unfolding(crate::specs::Reading::record_at))]
 pub fn read_record<'a>(
     alloc: Global,

@@ -1,3 +1,4 @@
+//! Template sets.
 ghost use Rattle.std.specs.Prelude.{◌≡◌, IfOk, IfErr, ◌⊎◌};
 ghost use Rattle.ipfix_templates.specs.Reading.{IsTemplateSet, HasTemplateFault, HasTemplateRecord};
 ghost use Rattle.ipfix_templates.specs.Fault.{out_of_memory};
