@@ -1,3 +1,4 @@
+//! Data sets.
 ghost use Rattle.std.specs.Prelude.{IfOk, OnErr, MatchResult};
 ghost use Rattle.ipfix_read.specs.Record.{IsDataSet, HasRecord, HasRecordFault};
 

@@ -31,6 +31,7 @@ pub fn read_file(alloc: Global, bytes: &[u8]) -> Result<FileEvents<'_>, ReadFaul
     // A template record that is none is told by what is wrong with it.
     ensures template { IfErr result (λ fault. fault.kind ≢ BadTemplate NoMemory) }
 {
+    // For its law: bytes have no fault of memory.
     memory_is_no_fault();
     let mut table = TemplateTable::new(alloc);
     let mut messages = MessageList::new(alloc);

@@ -1,3 +1,4 @@
+//! The laws on the reading of Files.
 ghost use Rattle.ipfix_read.specs.Laws.{FirstMessageAndRest, HasReading, MemoryIsNoFault, OneReading};
 
 /// A first message, and the rest begun behind it, are the whole: the messages of the rest follow the first, and a
@@ -10,6 +11,7 @@ pub fn first_message_and_rest()
 pub fn has_reading()
     ensures { HasReading }
 {
+    // For its law, which says the same of template sets.
     ipfix_templates::has_reading();
 }
 
@@ -17,6 +19,7 @@ pub fn has_reading()
 pub fn one_reading()
     ensures { OneReading }
 {
+    // For its law, which says the same of template sets.
     ipfix_templates::one_reading();
 }
 
@@ -24,5 +27,6 @@ pub fn one_reading()
 pub fn memory_is_no_fault()
     ensures { MemoryIsNoFault }
 {
+    // For its law, which says the same of template sets.
     ipfix_templates::memory_is_no_fault();
 }

@@ -32,7 +32,12 @@ impl<'a> Model for Message<'a> {
 
     ghost Value = { MessageView };
 
-    ghost view = { λ m. record { export_time = m.export_time; sequence = m.sequence; domain = m.domain; sets = m.sets } };
+    ghost view = { λ m. record {
+      export_time = m.export_time;
+      sequence = m.sequence;
+      domain = m.domain;
+      sets = m.sets;
+    } };
 
     ghost invariant = { λ m. message_size m.sets ≤ 65535 };
 }
@@ -117,10 +122,10 @@ impl<'a> MessageList<'a> {
     }
 }
 
-/// The length of a message header.
+// The length of a message header.
 const HEADER_LENGTH: usize = 16;
 
-/// The version of IPFIX.
+// The version of IPFIX.
 const VERSION: u16 = 10;
 
 // The length of the message at the front behind so many messages, or what is wrong with its header.
@@ -163,13 +168,15 @@ pub fn read_message<'a>(
     base: u64,
 ) -> Result<(Message<'a>, &'a [u8]), ReadFault>
     requires { base + length bytes.now < 2 ^ 64 }
-    ensures ok { IfOk result (λ read. (front : List ℕ) × (bytes.now ≡ front ++ read.1.now) × (header_fault count bytes.now ≡ None)
+    ensures ok { IfOk result (λ read. (front : List ℕ) × (bytes.now ≡ front ++ read.1.now)
+        × (header_fault count bytes.now ≡ None)
         × ((history : List (ℕ × Event)) → Follows table.old history
         → IsMessage history front read.0 × Follows table.new (history ++ events_of_message read.0))) }
     ensures counted { OnOk result (count < 4294967295) }
     ensures shorter { IfOk result (λ read. length read.1.now < length bytes.now) }
     ensures fault { IfErr result (λ fault. (fault ≡ out_of_memory)
-        ⊎ ((history : List (ℕ × Event)) → Follows table.old history → HasMessageFault history count bytes.now base fault)) }
+        ⊎ ((history : List (ℕ × Event)) → Follows table.old history →
+        HasMessageFault history count bytes.now base fault)) }
 {
     let size = match message_length(count, bytes) {
         Ok(size) => size,

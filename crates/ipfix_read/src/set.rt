@@ -78,10 +78,10 @@ impl<'a> SetList<'a> {
     }
 }
 
-/// The length of a set's header.
+// The length of a set's header.
 const HEADER_LENGTH: usize = 4;
 
-/// Set IDs from this one on are those of data sets (RFC 7011 section 3.3.2).
+// Set IDs from this one on are those of data sets (RFC 7011 section 3.3.2).
 const FIRST_DATA_SET_ID: u16 = 256;
 
 // Changes the table by one event.
@@ -145,11 +145,14 @@ fn read_templates<'a>(
 ) -> Result<Set<'a>, ReadFault>
     requires { base + length bytes.now < 2 ^ 64 }
     ensures ok { IfOk result (λ set. (history : List (ℕ × Event)) → Follows table.old history
-        → IsContent history domain (set_id kind) bytes.now set × Follows table.new (history ++ events_of_set domain set)) }
+        → IsContent history domain (set_id kind) bytes.now set × Follows table.new (history
+        ++ events_of_set domain set)) }
     ensures size { IfOk result (λ set. set_size set ≤ 1 + length bytes.now) }
     ensures fault { IfErr result (λ fault. (fault ≡ out_of_memory)
-        ⊎ ((history : List (ℕ × Event)) → Follows table.old history → HasContentFault history domain (set_id kind) bytes.now base fault)) }
+        ⊎ ((history : List (ℕ × Event)) → Follows table.old history →
+        HasContentFault history domain (set_id kind) bytes.now base fault)) }
 {
+    // For their laws: a set has room for its events, and bytes have no fault of memory.
     events_fit();
     memory_is_no_fault();
     let events = match read_template_set(alloc, bytes, kind) {
@@ -176,7 +179,8 @@ fn read_values_of<'a>(
         → IsContent history domain id bytes.now set × (events_of_set domain set ≡ [])) }
     ensures size { IfOk result (λ set. set_size set ≤ 1 + length bytes.now) }
     ensures fault { IfErr result (λ fault. (fault ≡ out_of_memory)
-        ⊎ ((history : List (ℕ × Event)) → Follows table.now history → HasContentFault history domain id bytes.now base fault)) }
+        ⊎ ((history : List (ℕ × Event)) → Follows table.now history →
+        HasContentFault history domain id bytes.now base fault)) }
 {
     if id < FIRST_DATA_SET_ID {
         return Ok(Set::Skipped(id));
@@ -207,7 +211,8 @@ fn read_content<'a>(
         → IsContent history domain id bytes.now set × Follows table.new (history ++ events_of_set domain set)) }
     ensures size { IfOk result (λ set. set_size set ≤ 1 + length bytes.now) }
     ensures fault { IfErr result (λ fault. (fault ≡ out_of_memory)
-        ⊎ ((history : List (ℕ × Event)) → Follows table.old history → HasContentFault history domain id bytes.now base fault)) }
+        ⊎ ((history : List (ℕ × Event)) → Follows table.old history →
+        HasContentFault history domain id bytes.now base fault)) }
 {
     if id == Kind::Flow.set_id() {
         return read_templates(alloc, table, domain, Kind::Flow, bytes, base);
@@ -227,11 +232,13 @@ fn read_set<'a>(
     base: u64,
 ) -> Result<(Set<'a>, &'a [u8]), ReadFault>
     requires { base + length bytes.now < 2 ^ 64 }
-    ensures ok { IfOk result (λ read. (front : List ℕ) × (bytes.now ≡ front ++ read.1.now) × ((history : List (ℕ × Event)) → Follows table.old history
+    ensures ok { IfOk result (λ read. (front : List ℕ) × (bytes.now ≡ front ++ read.1.now)
+        × ((history : List (ℕ × Event)) → Follows table.old history
         → IsSet history domain front read.0 × Follows table.new (history ++ events_of_set domain read.0))) }
     ensures size { IfOk result (λ read. set_size read.0 + length read.1.now < length bytes.now) }
     ensures fault { IfErr result (λ fault. (fault ≡ out_of_memory)
-        ⊎ ((history : List (ℕ × Event)) → Follows table.old history → HasSetFault history domain bytes.now base fault)) }
+        ⊎ ((history : List (ℕ × Event)) → Follows table.old history →
+        HasSetFault history domain bytes.now base fault)) }
 {
     let bad_length = ReadFault {
         kind: ReadFaultKind::BadSetLength,
@@ -264,7 +271,8 @@ pub fn read_sets<'a>(
         → ReadsSets history domain bytes.now sets [] × Follows table.new (history ++ events_of_sets domain sets)) }
     ensures size { IfOk result (λ sets. message_size sets ≤ length bytes.now) }
     ensures fault { IfErr result (λ fault. (fault ≡ out_of_memory)
-        ⊎ ((history : List (ℕ × Event)) → Follows table.old history → HasSetsFault history domain bytes.now base fault)) }
+        ⊎ ((history : List (ℕ × Event)) → Follows table.old history →
+        HasSetsFault history domain bytes.now base fault)) }
 {
     let mut sets = SetList::new(alloc);
     let mut rest = bytes;
