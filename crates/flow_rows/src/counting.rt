@@ -1,3 +1,4 @@
+//! How many of each kind the sets of a message are.
 ghost use Rattle.std.specs.Prelude.{◌≡◌, ◌≤◌, count_by, is_some, sum_by};
 ghost use Rattle.flow_rows.specs.Content.{events_in, records_in};
 ghost use Rattle.flow_rows.specs.Counts.{defines, is_data_set, is_of_kind, is_skipped, is_withdrawal};

@@ -1,3 +1,4 @@
+//! The numbers that values are, kept where none is known.
 ghost use Rattle.std.specs.Prelude.{◌≡◌, ◌≤◌};
 ghost use Rattle.flow_rows.specs.Parts.{kept, number_within};
 

@@ -1,3 +1,4 @@
+//! The rows of data records.
 ghost use Rattle.std.specs.Prelude.{◌≡◌, is_some, option_map};
 ghost use Rattle.flow_rows.specs.Elements.{first_row};
 ghost use Rattle.flow_rows.specs.Row.{row_view};
@@ -7,9 +8,9 @@ use crate::row::Row;
 use ipfix_read::Record;
 use ipfix_templates::Kind;
 
-/// The flow row of a data record, from the first usable field of each element (RFC 7012). A field is usable where it has no
-/// enterprise number and the template's length fits its element. None for an options record, and where there aren't both
-/// IPv4 addresses nor both IPv6 addresses.
+/// The flow row of a data record, from the first usable field of each element (RFC 7012). A field is usable where it
+/// has no enterprise number and the template's length fits its element. None for an options record, and where there
+/// aren't both IPv4 addresses nor both IPv6 addresses.
 pub fn row_of(source: &Record<'_>) -> Option<Row>
     ensures { option_map row_view result ≡ first_row source.now }
 {
