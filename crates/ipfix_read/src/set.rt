@@ -145,8 +145,8 @@ fn read_templates<'a>(
 ) -> Result<Set<'a>, ReadFault>
     requires { base + length bytes.now < 2 ^ 64 }
     ensures ok { IfOk result (λ set. (history : List (ℕ × Event)) → Follows table.old history
-        → IsContent history domain (set_id kind) bytes.now set × Follows table.new (history
-        ++ events_of_set domain set)) }
+        → IsContent history domain (set_id kind) bytes.now set
+        × Follows table.new (history ++ events_of_set domain set)) }
     ensures size { IfOk result (λ set. set_size set ≤ 1 + length bytes.now) }
     ensures fault { IfErr result (λ fault. (fault ≡ out_of_memory)
         ⊎ ((history : List (ℕ × Event)) → Follows table.old history →

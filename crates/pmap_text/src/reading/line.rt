@@ -1,6 +1,6 @@
 //! The reading of one line of a text.
 ghost use Rattle.std.specs.Prelude.{◌≡◌, ◌<◌, ◌==◌, ◌⊎◌, Some, Ok, Err, true, false, length, slice_index, IsTrue, IfOk, IfErr, OnOk, OnErr};
-ghost use Rattle.std.specs.List.{list_all, list_any};
+ghost use Rattle.std.specs.List.{list_any};
 ghost use Rattle.prefix_keys.specs.Text.{address_of, block_of_text, is_digit};
 ghost use Rattle.pmap_text.specs.Declarations.{label_number as number_of_label, meant_text};
 ghost use Rattle.pmap_text.specs.Label.{is_label as is_label_text};
@@ -236,8 +236,8 @@ impl Reading {
         second: Addr,
         rest: &[u8],
     ) -> Result<(), MapFaultKind>
-        ensures ok { OnOk result (Takes self.old self.new (range_line form self.old (first.version, first.value)
-            (second.version, second.value) rest.now)) }
+        ensures ok { OnOk result (Takes self.old self.new
+            (range_line form self.old (first.version, first.value) (second.version, second.value) rest.now)) }
         ensures err { IfErr result (λ kind. kind
             ≡ refusal_of (range_line form self.old (first.version, first.value)
             (second.version, second.value) rest.now)) }
@@ -273,8 +273,8 @@ impl Reading {
         first: Addr,
         rest: &[u8],
     ) -> Result<(), MapFaultKind>
-        ensures ok { OnOk result (Takes self.old self.new (one_or_two form self.old (first.version, first.value)
-            (address_of (first_word rest.now)) rest.now)) }
+        ensures ok { OnOk result (Takes self.old self.new
+            (one_or_two form self.old (first.version, first.value) (address_of (first_word rest.now)) rest.now)) }
         ensures err { IfErr result (λ kind. kind
             ≡ refusal_of (one_or_two form self.old (first.version, first.value)
             (address_of (first_word rest.now)) rest.now)) }
@@ -288,8 +288,8 @@ impl Reading {
 
     // A line whose first word is no keyword and has no `/`.
     fn read_other(&mut self, form: Form, word: &[u8], rest: &[u8]) -> Result<(), MapFaultKind>
-        ensures ok { OnOk result (Takes self.old self.new (address_line form self.old word.now
-            (address_of word.now) rest.now)) }
+        ensures ok { OnOk result (Takes self.old self.new
+            (address_line form self.old word.now (address_of word.now) rest.now)) }
         ensures err { IfErr result (λ kind. kind
             ≡ refusal_of (address_line form self.old word.now (address_of word.now) rest.now)) }
     {
