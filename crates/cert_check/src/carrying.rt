@@ -36,7 +36,7 @@ pub fn is_inside(entry: &Entry, block: &Block) -> bool
     block.len < entry.block.len && block.covers(&entry.block.low())
 }
 
-// Whether the statement's span has an address of the other, or each of them.
+// Whether the statement's span has an address of the other.
 fn meets_span(statement: &Statement, within: &Span) -> bool
     ensures { result ≡ meets_span_of within.now statement.now }
 {
@@ -45,6 +45,7 @@ fn meets_span(statement: &Statement, within: &Span) -> bool
         && within.low.value <= statement.span.high.value
 }
 
+// Whether it has each address of the other.
 fn spans_span(statement: &Statement, within: &Span) -> bool
     ensures { result ≡ spans_span_of within.now statement.now }
 {
@@ -53,7 +54,8 @@ fn spans_span(statement: &Statement, within: &Span) -> bool
         && within.high.value <= statement.span.high.value
 }
 
-/// Adds the statement where it meets the span of a block. Where it covers it whole, those behind `start` give way to it.
+/// Adds the statement where it meets the span of a block. Where it covers it whole, those behind `start` give way to
+/// it.
 pub fn add_statement<'a>(
     kept: &mut Vec<&'a Statement>,
     start: usize,
@@ -61,7 +63,8 @@ pub fn add_statement<'a>(
     within: &Span,
 ) -> Result<(), AllocError>
     ensures { OnOk result (named kept.new.items ≡ (if meets_span_of within.now statement.now
-        then (if spans_span_of within.now statement.now then take start (named kept.old.items) else named kept.old.items) ++ statement.now ∷ []
+        then (if spans_span_of within.now statement.now then take start (named kept.old.items)
+        else named kept.old.items) ++ statement.now ∷ []
         else named kept.old.items)) }
 {
     if meets_span(statement, within) {
@@ -92,7 +95,8 @@ pub fn carried(
 
 // The greater of a length and that of the entry, where this covers the block.
 fn longer(longest: u32, entry: &Entry, block: &Block) -> u32
-    ensures { result ≡ (if covers_whole_of block.now entry.now && nat_lt longest entry.now.block.len then entry.now.block.len else longest) }
+    ensures { result ≡ (if covers_whole_of block.now entry.now && nat_lt longest entry.now.block.len
+        then entry.now.block.len else longest) }
 {
     if longest < entry.block.len && covers_whole(entry, block) {
         entry.block.len
@@ -138,7 +142,8 @@ fn add_entry<'a>(
     within: &Span,
     longest: u32,
 ) -> Result<(), AllocError>
-    ensures { OnOk result (named kept.new.items ≡ (if covers_whole_of block.now entry.now && nat_le longest entry.now.block.len
+    ensures { OnOk result (named kept.new.items ≡ (if covers_whole_of block.now entry.now
+        && nat_le longest entry.now.block.len
         || nat_lt block.now.len entry.now.block.len && begins_in_of within.now entry.now
         then named kept.old.items ++ entry.now ∷ [] else named kept.old.items)) }
 {
@@ -154,7 +159,8 @@ pub fn add_carried_entries<'a>(
     entries: &[&'a Entry],
     block: &Block,
 ) -> Result<(), AllocError>
-    ensures { OnOk result (named kept.new.items ≡ named kept.old.items ++ entries_carried_to block.now (named entries.now)) }
+    ensures { OnOk result (named kept.new.items ≡ named kept.old.items
+        ++ entries_carried_to block.now (named entries.now)) }
 {
     let longest = longest_covering(entries, block);
     let within = block.span();
@@ -165,8 +171,8 @@ pub fn add_carried_entries<'a>(
 }
 
 /// The longest entry that covers the block, if there is one, and those strictly inside it, in the order given. Of equal
-/// blocks that cover it all are given; the entries of a `PrefixList` have none. No other entry has a say in the block. One
-/// of another version than the block's has no address of it.
+/// blocks that cover it all are given; the entries of a `PrefixList` have none. No other entry has a say in the block.
+/// One of another version than the block's has no address of it.
 pub fn carried_entries(
     alloc: Global,
     entries: &[Entry],

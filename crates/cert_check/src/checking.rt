@@ -20,10 +20,9 @@ use crate::laws::no_fault_is_acceptance;
 use crate::leaves::leaf_fault;
 use crate::part_stack::{PartStack, PartStart, divide};
 use crate::sources::Sources;
-use pmap_cert::laws::acceptance_is_enough;
-use pmap_cert::{Certificate, Node};
+use pmap_cert::{Certificate, Node, acceptance_is_enough};
 use pmap_text::{MapText, PrefixList};
-use prefix_keys::{Block, Version};
+use prefix_keys::{Block, whole_space};
 use std::alloc::{AllocError, Global};
 
 // A node of the certificate with its number and the block that it stands for.
@@ -34,10 +33,10 @@ struct Place<'a> {
     number: u64,
 }
 
-// Checks the node and those below it, where the last part of `own`, which begins at `start`, has a say in its block. That
-// part is let go, and `lower` and `upper` take those of the halves for a while. So of the parts on the way down only those
-// of the upper halves to come lie at once, and of these no two have one statement's end. The answer is the number of the
-// node that comes next.
+// Checks the node and those below it, where the last part of `own`, which begins at `start`, has a say in its block.
+// That part is let go, and `lower` and `upper` take those of the halves for a while. So of the parts on the way down
+// only those of the upper halves to come lie at once, and of these no two have one statement's end. The answer is the
+// number of the node that comes next.
 fn check_node<'a>(
     sources: &Sources,
     own: &mut PartStack<'a>,
@@ -49,11 +48,14 @@ fn check_node<'a>(
     requires sources { AreSources sources.now }
     requires statements { start.statements ≤ length (named own.old.statements.items) }
     requires entries { start.entries ≤ length (named own.old.entries.items) }
-    requires statements_part { AreStatementsOf sources.now.map.now (drop start.statements (named own.old.statements.items)) }
+    requires statements_part { AreStatementsOf sources.now.map.now
+        (drop start.statements (named own.old.statements.items)) }
     requires entries_part { AreEntriesOf sources.now.list.now (drop start.entries (named own.old.entries.items)) }
     requires version { place.block.version ≡ sources.now.map.now.version }
-    requires form { HasNumberForm (length sources.now.certificate.now.labels) place.node.now (width_of place.block.version - place.block.len) }
-    ensures own_statements { OnOk result (named own.new.statements.items ≡ take start.statements (named own.old.statements.items)) }
+    requires form { HasNumberForm (length sources.now.certificate.now.labels) place.node.now
+        (width_of place.block.version - place.block.len) }
+    ensures own_statements { OnOk result (named own.new.statements.items
+        ≡ take start.statements (named own.old.statements.items)) }
     ensures own_entries { OnOk result (named own.new.entries.items ≡ take start.entries (named own.old.entries.items)) }
     ensures lower_statements { OnOk result (named lower.new.statements.items ≡ named lower.old.statements.items) }
     ensures lower_entries { OnOk result (named lower.new.entries.items ≡ named lower.old.entries.items) }
@@ -61,11 +63,15 @@ fn check_node<'a>(
     ensures upper_entries { OnOk result (named upper.new.entries.items ≡ named upper.old.entries.items) }
     ensures ok { IfOk result (λ next. (k : ℕ) → told k ≡ place.entry.number →
         (next ≡ told (k + node_count (tree_of sources.now.certificate.now.labels place.entry.node.now)))
-        × (node_fault (map_with sources.now.map.now (drop start.statements (named own.old.statements.items))) (prefixes_with sources.now.list.now (drop start.entries (named own.old.entries.items)))
-        (tree_of sources.now.certificate.now.labels place.entry.node.now) k place.entry.block.len (number_of place.entry.block) ≡ None)) }
+        × (node_fault (map_with sources.now.map.now (drop start.statements (named own.old.statements.items)))
+        (prefixes_with sources.now.list.now (drop start.entries (named own.old.entries.items)))
+        (tree_of sources.now.certificate.now.labels place.entry.node.now) k place.entry.block.len
+        (number_of place.entry.block) ≡ None)) }
     ensures err { IfErr result (λ fault. fault.kind ≢ NoMemory → (k : ℕ) → told k ≡ place.entry.number →
-        node_fault (map_with sources.now.map.now (drop start.statements (named own.old.statements.items))) (prefixes_with sources.now.list.now (drop start.entries (named own.old.entries.items)))
-        (tree_of sources.now.certificate.now.labels place.entry.node.now) k place.entry.block.len (number_of place.entry.block) ≡ Some fault) }
+        node_fault (map_with sources.now.map.now (drop start.statements (named own.old.statements.items)))
+        (prefixes_with sources.now.list.now (drop start.entries (named own.old.entries.items)))
+        (tree_of sources.now.certificate.now.labels place.entry.node.now) k place.entry.block.len
+        (number_of place.entry.block) ≡ Some fault) }
     ensures memory { IfErr result (λ fault. fault.kind ≡ NoMemory → fault.node ≡ 0) }
 {
     match place.node {
@@ -121,19 +127,6 @@ fn check_node<'a>(
     }
 }
 
-// The block of all addresses.
-fn whole_space(version: Version) -> Block
-    ensures version { result.version ≡ version }
-    ensures value { result.value ≡ 0 }
-    ensures len { result.len ≡ 0 }
-{
-    Block {
-        version,
-        value: 0,
-        len: 0,
-    }
-}
-
 // Checks the nodes of a certificate of the same version as the map and the list.
 fn check_nodes(
     alloc: Global,
@@ -143,9 +136,11 @@ fn check_nodes(
 ) -> Result<(), CheckFault>
     requires list { list.now.version ≡ map.now.version }
     requires certificate { certificate.now.version ≡ map.now.version }
-    ensures ok { IfOk result (λ _. node_fault (map_of map.now) (list_of list.now).prefixes (certificate_of certificate.now).root 1 0 0 ≡ None) }
+    ensures ok { IfOk result (λ _. node_fault (map_of map.now) (list_of list.now).prefixes
+        (certificate_of certificate.now).root 1 0 0 ≡ None) }
     ensures err { IfErr result (λ fault. fault.kind ≢ NoMemory →
-        node_fault (map_of map.now) (list_of list.now).prefixes (certificate_of certificate.now).root 1 0 0 ≡ Some fault) }
+        node_fault (map_of map.now) (list_of list.now).prefixes (certificate_of certificate.now).root 1 0 0
+        ≡ Some fault) }
     ensures memory { IfErr result (λ fault. fault.kind ≡ NoMemory → fault.node ≡ 0) }
 {
     let sources = Sources {
@@ -188,7 +183,8 @@ fn count_entries(
     certificate: &Certificate,
 ) -> Result<u64, CheckFault>
     ensures count { IfOk result (λ n. n ≡ length (list_of list.now).prefixes) }
-    ensures ok { IfOk result (λ _. first_fault (map_of map.now) (list_of list.now) (certificate_of certificate.now) ≡ None) }
+    ensures ok { IfOk result (λ _. first_fault (map_of map.now) (list_of list.now) (certificate_of certificate.now)
+        ≡ None) }
     ensures fault { IfErr result (λ fault. fault.kind ≢ NoMemory →
         first_fault (map_of map.now) (list_of list.now) (certificate_of certificate.now) ≡ Some fault) }
     ensures memory { IfErr result (λ fault. fault.kind ≡ NoMemory → fault.node ≡ 0) }
@@ -205,20 +201,20 @@ fn count_entries(
     Ok(count)
 }
 
-/// Checks that the certificate shows the list to be equivalent to the map and a shortest one, and answers how many entries
-/// the list has. Whoever made them, the list then labels every address as the map does, and no list that does so has
-/// fewer entries. Labels are compared by their texts.
+/// Checks that the certificate shows the list to be equivalent to the map and a shortest one, and answers how many
+/// entries the list has. Whoever made them, the list then labels every address as the map does, and no list that does
+/// so has fewer entries. Labels are compared by their texts.
 ///
 /// # Errors
 ///
-/// The first fault, with the number of its node in the order of the certificate's node lines, from 1; a fault of no single
-/// node has the number 0.
+/// The first fault, with the number of its node in the order of the certificate's node lines, from 1; a fault of no
+/// single node has the number 0.
 ///
 /// - `VersionDiffers`: the three are not of one version.
-/// - Then the nodes, those of a lower half before those of the upper half and both before their node. `LeafNotUniform`: the
-///   map doesn't settle the leaf's block with its label. `ListDiffers`: an entry lies strictly inside the leaf's block, or
-///   the longest that covers it is absent or has another label. `CostTooHigh`: a cost above that of the exact pair of the
-///   claims of its halves. `SetTooSmall`: the same cost, and a set that lacks a label of that pair.
+/// - Then the nodes, those of a lower half before those of the upper half and both before their node. `LeafNotUniform`:
+///   the map doesn't settle the leaf's block with its label. `ListDiffers`: an entry lies strictly inside the leaf's
+///   block, or the longest that covers it is absent or has another label. `CostTooHigh`: a cost above that of the exact
+///   pair of the claims of its halves. `SetTooSmall`: the same cost, and a set that lacks a label of that pair.
 /// - `BoundNotMet`: the list has more entries than the root's cost and one.
 /// - `NoMemory`: memory ran out.
 ///
@@ -229,17 +225,21 @@ pub fn check(
     list: &PrefixList,
     certificate: &Certificate,
 ) -> Result<u64, CheckFault>
-    ensures accepted { IfOk result (λ _. IsAccepted (map_of map.now) (list_of list.now) (certificate_of certificate.now)) }
+    ensures accepted { IfOk result (λ _. IsAccepted (map_of map.now) (list_of list.now)
+        (certificate_of certificate.now)) }
     ensures count { IfOk result (λ n. n ≡ length (list_of list.now).prefixes) }
-    // What acceptance is for: the list labels every address as the map does, and no list that does so has fewer entries.
+    // What acceptance is for: the list labels every address as the map does, and no list that does so has fewer
+    // entries.
     ensures equivalent { IfOk result (λ _. IsEquivalent (list_of list.now) (map_of map.now)) }
     ensures least { IfOk result (λ _. IsLeast (map_of map.now) (list_of list.now)) }
-    ensures ok { IfOk result (λ _. first_fault (map_of map.now) (list_of list.now) (certificate_of certificate.now) ≡ None) }
+    ensures ok { IfOk result (λ _. first_fault (map_of map.now) (list_of list.now) (certificate_of certificate.now)
+        ≡ None) }
     ensures fault { IfErr result (λ fault. fault.kind ≢ NoMemory →
         first_fault (map_of map.now) (list_of list.now) (certificate_of certificate.now) ≡ Some fault) }
     ensures memory { IfErr result (λ fault. fault.kind ≡ NoMemory → fault.node ≡ 0) }
 {
     let count = count_entries(alloc, map, list, certificate)?;
+    // For their laws: a certificate has a text, so without a fault it is accepted, and acceptance is enough.
     let _root = certificate.root();
     no_fault_is_acceptance();
     acceptance_is_enough();

@@ -1,4 +1,5 @@
-//! The check of what an inner node claims. Sets are listed by rising numbers, so that two are compared in one walk over both.
+//! The check of what an inner node claims. Sets are listed by rising numbers, so that two are compared in one walk over
+//! both.
 ghost use Rattle.std.specs.Prelude.{◌≡◌, ℕ, ◌+◌, ◌^◌, ◌<◌, ◌≤◌, ◌&&◌, ◌||◌, ◌==◌, Some, None, length, map, nat_lt, not, if◌then◌else◌};
 ghost use Rattle.std.specs.List.{list_all};
 ghost use Rattle.pmap_text.specs.Label.{IsLabelTable};
@@ -41,7 +42,8 @@ fn set_of(node: &Node) -> &[LabelId]
 fn rest_from<'a>(set: &'a [LabelId], id: LabelId) -> &'a [LabelId]
     requires { IsRising (2 ^ 32) 0 (map (λ i. i.0) set.now) }
     ensures rising { IsRising (2 ^ 32) id.0 (map (λ i. i.0) result.now) }
-    ensures kept { (n : ℕ) → id.0 ≤ n → has_number (map (λ i. i.0) result.now) n ≡ has_number (map (λ i. i.0) set.now) n }
+    ensures kept { (n : ℕ) → id.0 ≤ n → has_number (map (λ i. i.0) result.now) n
+        ≡ has_number (map (λ i. i.0) set.now) n }
 {
     let mut rest = set;
     while let Some(first) = rest.first() {
@@ -85,7 +87,8 @@ fn has_common(set: &[LabelId], lower: &[LabelId], upper: &[LabelId]) -> bool
     requires set { IsRising (2 ^ 32) 0 (map (λ i. i.0) set.now) }
     requires lower { IsRising (2 ^ 32) 0 (map (λ i. i.0) lower.now) }
     requires upper { IsRising (2 ^ 32) 0 (map (λ i. i.0) upper.now) }
-    ensures { result ≡ list_all (λ i. not (has_number (map (λ j. j.0) upper.now) i.0) || has_number (map (λ j. j.0) set.now) i.0) lower.now }
+    ensures { result ≡ list_all (λ i. not (has_number (map (λ j. j.0) upper.now) i.0)
+        || has_number (map (λ j. j.0) set.now) i.0) lower.now }
 {
     let mut rest = set;
     let mut above = upper;
@@ -161,6 +164,7 @@ pub fn claim_fault(
     ensures { result ≡ claim_fault_of (claim_of (tree_of labels.now claim.now))
         (exact_pair (claim_of (tree_of labels.now left.now)) (claim_of (tree_of labels.now right.now))) }
 {
+    // For its law: a table has at most 65536 labels.
     let _count = labels.len();
     let cost = cost_of(claim);
     let set = set_of(claim);

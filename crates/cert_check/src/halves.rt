@@ -16,8 +16,10 @@ pub fn add_statements<'a>(
     low: &Block,
     high: &Block,
 ) -> Result<(), AllocError>
-    ensures lower { OnOk result (named lower.new.items ≡ named lower.old.items ++ carried_to low.now (named statements.now)) }
-    ensures upper { OnOk result (named upper.new.items ≡ named upper.old.items ++ carried_to high.now (named statements.now)) }
+    ensures lower { OnOk result (named lower.new.items ≡ named lower.old.items
+        ++ carried_to low.now (named statements.now)) }
+    ensures upper { OnOk result (named upper.new.items ≡ named upper.old.items
+        ++ carried_to high.now (named statements.now)) }
 {
     let low_start = lower.len();
     let high_start = upper.len();
@@ -30,8 +32,8 @@ pub fn add_statements<'a>(
     Ok(())
 }
 
-// Adds the entry where it covers the block, which has the span, or lies inside it. `covering` is how many that covered it
-// were met before, and the answer how many are now.
+// Adds the entry where it covers the block, which has the span, or lies inside it. `covering` is how many that covered
+// it were met before, and the answer how many are now.
 fn add_entry<'a>(
     kept: &mut Vec<&'a Entry>,
     entry: &'a Entry,
@@ -40,9 +42,11 @@ fn add_entry<'a>(
     covering: u64,
 ) -> Result<u64, AllocError>
     requires few { covering < 2 ^ 64 - 1 }
-    ensures kept { OnOk result (named kept.new.items ≡ (if covers_whole_of block.now entry.now || nat_lt block.now.len entry.now.block.len && begins_in_of within.now entry.now
+    ensures kept { OnOk result (named kept.new.items ≡ (if covers_whole_of block.now entry.now
+        || nat_lt block.now.len entry.now.block.len && begins_in_of within.now entry.now
         then named kept.old.items ++ entry.now ∷ [] else named kept.old.items)) }
-    ensures covering { IfOk result (λ count. count ≡ (if covers_whole_of block.now entry.now then covering + 1 else covering)) }
+    ensures covering { IfOk result (λ count. count ≡ (if covers_whole_of block.now entry.now then covering + 1
+        else covering)) }
 {
     if covers_whole(entry, block) {
         kept.push(entry)?;
@@ -54,8 +58,8 @@ fn add_entry<'a>(
     Ok(covering)
 }
 
-// Behind `start` lie those of the entries that cover the block or lie inside it. Where more than one covers it, the longest
-// of these alone has a say.
+// Behind `start` lie those of the entries that cover the block or lie inside it. Where more than one covers it, the
+// longest of these alone has a say.
 fn keep_longest<'a>(
     kept: &mut Vec<&'a Entry>,
     start: usize,
@@ -64,8 +68,10 @@ fn keep_longest<'a>(
     block: &Block,
 ) -> Result<(), AllocError>
     requires count { covering ≡ length (filter (covers_whole_of block.now) (named entries.now)) }
-    requires kept { named kept.old.items ≡ take start (named kept.old.items) ++ filter (λ e. covers_whole_of block.now e || is_inside block.now e) (named entries.now) }
-    ensures { OnOk result (named kept.new.items ≡ take start (named kept.old.items) ++ entries_carried_to block.now (named entries.now)) }
+    requires kept { named kept.old.items ≡ take start (named kept.old.items) ++ filter (λ e. covers_whole_of block.now e
+        || is_inside block.now e) (named entries.now) }
+    ensures { OnOk result (named kept.new.items ≡ take start (named kept.old.items)
+        ++ entries_carried_to block.now (named entries.now)) }
 {
     if covering > 1 {
         kept.truncate(start);
@@ -82,8 +88,10 @@ pub fn add_entries<'a>(
     low: &Block,
     high: &Block,
 ) -> Result<(), AllocError>
-    ensures lower { OnOk result (named lower.new.items ≡ named lower.old.items ++ entries_carried_to low.now (named entries.now)) }
-    ensures upper { OnOk result (named upper.new.items ≡ named upper.old.items ++ entries_carried_to high.now (named entries.now)) }
+    ensures lower { OnOk result (named lower.new.items ≡ named lower.old.items
+        ++ entries_carried_to low.now (named entries.now)) }
+    ensures upper { OnOk result (named upper.new.items ≡ named upper.old.items
+        ++ entries_carried_to high.now (named entries.now)) }
 {
     let low_start = lower.len();
     let high_start = upper.len();

@@ -8,8 +8,8 @@ ghost use Rattle.pmap_cert.specs.CertificateForm.{HasTextForm};
 ghost use Rattle.pmap_cert.specs.CertificateModel.{CertificateModel};
 ghost use Rattle.cert_check.specs.Checking.{first_fault};
 
-/// A certificate that has a text has no fault exactly where it is accepted. Each `Certificate` has a text, and an accepted
-/// certificate has no fault whether it has a text or not.
+/// A certificate that has a text has no fault exactly where it is accepted. Each `Certificate` has a text, and an
+/// accepted certificate has no fault whether it has a text or not.
 pub fn no_fault_is_acceptance()
     ensures accepted { (m : MapModel) (l : ListModel) (c : CertificateModel) → HasTextForm c →
         first_fault m l c ≡ None → IsAccepted m l c }

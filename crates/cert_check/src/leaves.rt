@@ -20,7 +20,8 @@ use prefix_keys::Block;
 fn last_meeting(statements: &[&Statement], block: &Block) -> Option<Statement>
     requires { All (λ s. s.span.low.version ≡ block.now.version) (named statements.now) }
     ensures last { (table : List Label) → option_map (mapping_of table) result
-        ≡ last_such (meets_of (width_of block.now.version) block.now.len (number_of block.now)) (map (mapping_of table) (named statements.now)) }
+        ≡ last_such (meets_of (width_of block.now.version) block.now.len (number_of block.now))
+        (map (mapping_of table) (named statements.now)) }
     ensures among { IfSome result (Contains (named statements.now)) }
 {
     let mut left = statements.len();
@@ -40,7 +41,8 @@ fn settles(sources: &Sources, statements: &[&Statement], block: &Block, id: Labe
     requires statements { AreStatementsOf sources.now.map.now (named statements.now) }
     requires version { block.now.version ≡ sources.now.map.now.version }
     requires known { id.0 < length sources.now.certificate.now.labels }
-    ensures { result ≡ is_label_of (settled_label (map_with sources.now.map.now (named statements.now)) block.now.len (number_of block.now))
+    ensures { result ≡ is_label_of (settled_label (map_with sources.now.map.now (named statements.now)) block.now.len
+        (number_of block.now))
         (text_at sources.now.certificate.now.labels id.0) }
 {
     match last_meeting(statements, block) {
@@ -83,6 +85,7 @@ fn longest_entry(entries: &[&Entry], block: &Block) -> Option<Entry>
     first_covering(entries, block, longest)
 }
 
+// Whether an entry lies strictly inside the block.
 fn has_inside(entries: &[&Entry], block: &Block) -> bool
     ensures { result ≡ list_any (is_inside_of block.now) (named entries.now) }
 {
@@ -100,7 +103,8 @@ fn decides(sources: &Sources, entries: &[&Entry], block: &Block, id: LabelId) ->
     requires entries { AreEntriesOf sources.now.list.now (named entries.now) }
     requires version { block.now.version ≡ sources.now.map.now.version }
     requires known { id.0 < length sources.now.certificate.now.labels }
-    ensures { result ≡ is_decided (width_of block.now.version) (prefixes_with sources.now.list.now (named entries.now)) block.now.len (number_of block.now)
+    ensures { result ≡ is_decided (width_of block.now.version) (prefixes_with sources.now.list.now
+        (named entries.now)) block.now.len (number_of block.now)
         (text_at sources.now.certificate.now.labels id.0) }
 {
     if has_inside(entries, block) {
@@ -123,7 +127,8 @@ pub fn leaf_fault(
     requires part { IsPartOf sources.now part }
     requires version { block.now.version ≡ sources.now.map.now.version }
     requires known { id.0 < length sources.now.certificate.now.labels }
-    ensures { result ≡ leaf_fault_of (map_with sources.now.map.now (named part.entry.statements.now)) (prefixes_with sources.now.list.now (named part.entry.entries.now))
+    ensures { result ≡ leaf_fault_of (map_with sources.now.map.now (named part.entry.statements.now))
+        (prefixes_with sources.now.list.now (named part.entry.entries.now))
         block.now.len (number_of block.now) (text_at sources.now.certificate.now.labels id.0) }
 {
     if !settles(sources, part.statements, block, id) {

@@ -1,4 +1,3 @@
-//! The parts of blocks that wait to be checked, one behind the other.
 ghost use Rattle.std.specs.Prelude.{◌≡◌, ◌≤◌, ◌++◌, drop, length, take, IfOk, OnOk};
 ghost use Rattle.cert_check.specs.Carrying.{carried_to, entries_carried_to};
 ghost use Rattle.cert_check.specs.Sources.{named};
@@ -10,8 +9,8 @@ use pmap_text::{Entry, Statement};
 use prefix_keys::Block;
 use std::alloc::{AllocError, Global};
 
-/// The statements and entries of several blocks, those of one block behind those of the block before. They are named, not
-/// copied, since most have a say in many blocks.
+/// The statements and entries of several blocks, those of one block behind those of the block before. They are named,
+/// not copied, since most have a say in many blocks.
 #[derive(Drop)]
 pub struct PartStack<'a> {
     pub statements: Vec<&'a Statement>,
@@ -98,10 +97,13 @@ pub fn divide<'a>(
 ) -> Result<(PartStart, PartStart), AllocError>
     requires statements { start.statements ≤ length (named own.old.statements.items) }
     requires entries { start.entries ≤ length (named own.old.entries.items) }
-    ensures own_statements { OnOk result (named own.new.statements.items ≡ take start.statements (named own.old.statements.items)) }
+    ensures own_statements { OnOk result (named own.new.statements.items
+        ≡ take start.statements (named own.old.statements.items)) }
     ensures own_entries { OnOk result (named own.new.entries.items ≡ take start.entries (named own.old.entries.items)) }
-    ensures low_within { IfOk result (λ starts. (starts.0.statements ≤ length (named lower.new.statements.items)) × (starts.0.entries ≤ length (named lower.new.entries.items))) }
-    ensures high_within { IfOk result (λ starts. (starts.1.statements ≤ length (named upper.new.statements.items)) × (starts.1.entries ≤ length (named upper.new.entries.items))) }
+    ensures low_within { IfOk result (λ starts. (starts.0.statements ≤ length (named lower.new.statements.items))
+        × (starts.0.entries ≤ length (named lower.new.entries.items))) }
+    ensures high_within { IfOk result (λ starts. (starts.1.statements ≤ length (named upper.new.statements.items))
+        × (starts.1.entries ≤ length (named upper.new.entries.items))) }
     ensures low_statements { IfOk result (λ starts. drop starts.0.statements (named lower.new.statements.items)
         ≡ carried_to low.now (drop start.statements (named own.old.statements.items))) }
     ensures low_entries { IfOk result (λ starts. drop starts.0.entries (named lower.new.entries.items)
@@ -110,10 +112,14 @@ pub fn divide<'a>(
         ≡ carried_to high.now (drop start.statements (named own.old.statements.items))) }
     ensures high_entries { IfOk result (λ starts. drop starts.1.entries (named upper.new.entries.items)
         ≡ entries_carried_to high.now (drop start.entries (named own.old.entries.items))) }
-    ensures lower_statements { IfOk result (λ starts. take starts.0.statements (named lower.new.statements.items) ≡ named lower.old.statements.items) }
-    ensures lower_entries { IfOk result (λ starts. take starts.0.entries (named lower.new.entries.items) ≡ named lower.old.entries.items) }
-    ensures upper_statements { IfOk result (λ starts. take starts.1.statements (named upper.new.statements.items) ≡ named upper.old.statements.items) }
-    ensures upper_entries { IfOk result (λ starts. take starts.1.entries (named upper.new.entries.items) ≡ named upper.old.entries.items) }
+    ensures lower_statements { IfOk result (λ starts. take starts.0.statements (named lower.new.statements.items)
+        ≡ named lower.old.statements.items) }
+    ensures lower_entries { IfOk result (λ starts. take starts.0.entries (named lower.new.entries.items)
+        ≡ named lower.old.entries.items) }
+    ensures upper_statements { IfOk result (λ starts. take starts.1.statements (named upper.new.statements.items)
+        ≡ named upper.old.statements.items) }
+    ensures upper_entries { IfOk result (λ starts. take starts.1.entries (named upper.new.entries.items)
+        ≡ named upper.old.entries.items) }
 {
     let part = own.last(start);
     let low_start = lower.end();

@@ -8,7 +8,8 @@ use pmap_cert::Certificate;
 use pmap_text::{LabelId, MapText, PrefixList};
 
 /// What is checked: a map, a list and a certificate of one version. The labels of the map and of the list are known by
-/// their numbers in the certificate's table, so that labels are compared by their texts once and by numbers from then on.
+/// their numbers in the certificate's table, so that labels are compared by their texts once and by numbers from then
+/// on.
 #[derive(Drop)]
 pub struct Sources<'a> {
     pub map: &'a MapText,
@@ -23,7 +24,8 @@ pub fn is_map_label(sources: &Sources, own: LabelId, id: LabelId) -> bool
     requires sources { AreSources sources.now }
     requires own { own.0 < length sources.now.map.now.labels }
     requires known { id.0 < length sources.now.certificate.now.labels }
-    ensures { result ≡ bytes_eq (text_at sources.now.map.now.labels own.0) (text_at sources.now.certificate.now.labels id.0) }
+    ensures { result ≡ bytes_eq (text_at sources.now.map.now.labels own.0)
+        (text_at sources.now.certificate.now.labels id.0) }
 {
     is_same_label(sources.map_numbers.as_slice(), own, id)
 }
@@ -33,7 +35,8 @@ pub fn is_list_label(sources: &Sources, own: LabelId, id: LabelId) -> bool
     requires sources { AreSources sources.now }
     requires own { own.0 < length sources.now.list.now.labels }
     requires known { id.0 < length sources.now.certificate.now.labels }
-    ensures { result ≡ bytes_eq (text_at sources.now.list.now.labels own.0) (text_at sources.now.certificate.now.labels id.0) }
+    ensures { result ≡ bytes_eq (text_at sources.now.list.now.labels own.0)
+        (text_at sources.now.certificate.now.labels id.0) }
 {
     is_same_label(sources.list_numbers.as_slice(), own, id)
 }

@@ -1,5 +1,5 @@
-//! Worked certificates: what `check` answers to them, and why it refuses others. `certificates` has the tests of pmap_cert,
-//! whose own proof is too long to have it proved twice.
+//! Worked certificates: what `check` answers to them, and why it refuses others. `certificates` has the tests of
+//! pmap_cert, whose own proof is too long to have it proved twice.
 
 mod certificates;
 

@@ -1,5 +1,5 @@
 -- Numbers as they are written, and rising numbers.
-use Rattle.std.proofs.Common.{◌≡◌, ℕ, zero, suc, ◌+◌, ◌-◌, ◌*◌, ◌^◌, ◌<◌, ◌≤◌, ◌==◌, ◌&&◌, ◌||◌, ◌∙◌, Bool, true, false, List, [], ◌∷◌, ◌++◌, Option, Some, None, All, map, fold, take, drop, refl, sym, ap, subst, arith, cond, leb, ltb, get_or, length, not, rules}
+use Rattle.std.proofs.Common.{◌≡◌, ℕ, zero, suc, ◌+◌, ◌-◌, ◌*◌, ◌^◌, ◌<◌, ◌≤◌, ◌==◌, ◌&&◌, ◌||◌, ◌∙◌, Bool, true, false, List, [], ◌∷◌, ◌++◌, Option, Some, None, All, map, fold, refl, sym, ap, subst, arith, cond, leb, ltb, get_or, length, not, rules}
 use Rattle.std.specs.Fmt.{decimal, digit_glyph}
 use Rattle.std.specs.List.{AllByRecursion, list_all}
 use Rattle.std.specs.Option.{option_map}
@@ -8,12 +8,10 @@ use Rattle.std.proofs.lemmas.Bool.{and_from, and_parts, both_ways, cond-true, eq
 use Rattle.std.proofs.lemmas.Fmt.{decimal-digits_value, decimal_digit, decimal_nonempty, digits_decimal, first_decimal}
 use Rattle.std.proofs.lemmas.Str.Parse.{IsNumeralModel, numerals_by_fold}
 use Rattle.std.proofs.lemmas.Option.{cond_some, none-some}
-use Rattle.std.proofs.lemmas.List.{take-append-drop}
-use Rattle.std.proofs.lemmas.List.Sums.{fold-append}
 use Rattle.std.proofs.lemmas.Slice.Eq.{bytes_eq-Decides}
-use Rattle.prefix_keys.proofs.Digits.{All-digits, fold-digits}
+use Rattle.prefix_keys.proofs.Digits.{All-digits, fold-digits, length-digits-le}
 use Rattle.prefix_keys.proofs.Printed.{Lacks}
-use Rattle.prefix_keys.specs.Text.{decimal_value, is_digit}
+use Rattle.prefix_keys.specs.Text.{decimal_number, decimal_value, is_digit}
 use Rattle.pmap_cert.specs.CertificateForm.{IsRising}
 use Rattle.pmap_cert.specs.CertificateReading.{number_below, onto_numbers, rising_numbers}
 
@@ -96,30 +94,11 @@ IsRising-push bound low [] n rising below least small = (least, small, tt)
 IsRising-push bound low (m ∷ ns) n rising below least small =
     (rising.0, rising.1, IsRising-push bound (m + 1) ns n rising.2 (λ k d h. below (suc k) d (omega arith)) (omega (arith, below 0 0 (omega arith))) small)
 
--- more digits make no smaller number
-value-grows : (m : ℕ) (digits : List ℕ) → m ≤ fold (λ n b. n * 10 + (b - 48)) m digits
-value-grows m [] = omega arith
-value-grows m (b ∷ digits) = omega (arith, value-grows (m * 10 + (b - 48)) digits)
-
-pub decimal_value-take-le : (i : ℕ) (word : List ℕ) → decimal_value (take i word) ≤ decimal_value word
-decimal_value-take-le i word =
-    subst (λ (text : List ℕ). decimal_value (take i word) ≤ decimal_value text) (take-append-drop i word)
-    (subst (λ (m : ℕ). decimal_value (take i word) ≤ m) (sym (fold-append (λ n b. n * 10 + (b - 48)) 0 (take i word) (drop i word)))
-    (value-grows (decimal_value (take i word)) (drop i word)))
-
 -- digits and their value
 own : IsNumeralModel (λ ds. list_all is_digit ds ≡ true) decimal_value
 own = numerals_by_fold _ (search rules) (λ n ds. fold (λ m b. m * 10 + (b - 48)) n ds) (search rules)
 
 -- a word is the decimal text of its value exactly where it is of digits without a leading zero
-pub is_decimal-none : (word : List ℕ) → length word ≡ 0 → false ≡ bytes_eq word (decimal (decimal_value word))
-is_decimal-none [] e =
-    sym (false_from_ne_true (bytes_eq [] (decimal 0)) (λ t.
-    let same : [] ≡ decimal 0 = (bytes_eq-Decides [] (decimal 0)).0 t in
-    let some = decimal_nonempty 0 (omega arith) in
-    absurd (omega (arith, some, ap length same))))
-is_decimal-none (b ∷ word) e = absurd (omega (arith, e))
-
 or-side : (a b : Bool) → (a || not b) ≡ true → b ≡ true → a ≡ true
 or-side true b h e = refl
 or-side false true h e = h
@@ -166,6 +145,49 @@ pub is_decimal-word : (word : List ℕ) → 0 < length word → decimal_value wo
 is_decimal-word word some small =
     ap (λ b. b && list_all is_digit word) (not-both (length word == 1) (get_or word 0 0 == 48)) ∙ is_decimal-some word some small
 
-pub some-length : (n : ℕ) → (n == 0) ≡ false → 0 < n
-some-length zero e = absurd (false≢true (sym e))
-some-length (suc n) e = omega arith
+-- A number below the bound is one of at most ten digits.
+digits_few : (n : ℕ) → n < 2 ^ 32 → decimal_number 10 4294967295 (decimal n) ≡ Some n
+digits_few n small =
+    let text : List ℕ = decimal n in
+    let value : decimal_value text ≡ n = decimal_value-decimal n (omega (arith, small)) in
+    let some : 0 < length text = decimal_nonempty n (omega (arith, small)) in
+    let few : length text ≤ 10 = length-digits-le 10 (omega arith) 9 n (omega (arith, small)) (omega (arith, small)) in
+    let digits : list_all is_digit text ≡ true = digits_decimal own n (omega (arith, small)) in
+    let tests = and_from _ _ (le-leb _ _ some) (and_from _ _ (le-leb _ _ few) (and_from _ _ digits (le-leb _ _ (omega (arith, value, small))))) in
+    cond-true _ (Some (decimal_value text)) None tests ∙ ap (λ m. Some m) value
+
+pub number_below-none : (bound : ℕ) (word : List ℕ) → bound ≤ 2 ^ 32 → decimal_number 10 4294967295 word ≡ None → number_below bound word ≡ None
+number_below-none bound word small none = by (number_below bound word) refl
+  where
+    by : (o : Option ℕ) → number_below bound word ≡ o → number_below bound word ≡ None
+    by None e = e
+    by (Some n) e =
+        let found = number_below-found bound word n e in
+        absurd (none-some n (sym none ∙ ap (decimal_number 10 4294967295) found.0 ∙ digits_few n (omega (arith, found.1, small))))
+
+-- what a number is read from
+pub decimal_number-found : (word : List ℕ) (n : ℕ) → decimal_number 10 4294967295 word ≡ Some n
+    → (0 < length word) × (list_all is_digit word ≡ true) × (decimal_value word ≡ n) × (n < 2 ^ 32)
+decimal_number-found word n e =
+    let found = cond_some (leb 1 (length word) && (leb (length word) 10 && (list_all is_digit word && leb (decimal_value word) 4294967295))) (decimal_value word) n e in
+    let some = and_parts (leb 1 (length word)) (leb (length word) 10 && (list_all is_digit word && leb (decimal_value word) 4294967295)) found.0 in
+    let few = and_parts (leb (length word) 10) (list_all is_digit word && leb (decimal_value word) 4294967295) some.1 in
+    let digits = and_parts (list_all is_digit word) (leb (decimal_value word) 4294967295) few.1 in
+    let small : decimal_value word ≤ 4294967295 = leb-true _ _ digits.1 in
+    let same : decimal_value word ≡ n = found.1 in
+    (leb-true _ _ some.0, digits.0, same, omega (arith, small, same))
+
+-- it is below the bound where it is less and no 0 begins a longer word
+pub number_below-read : (bound n : ℕ) (word : List ℕ) → decimal_number 10 4294967295 word ≡ Some n
+    → number_below bound word ≡ cond (not (not (length word == 1) && (get_or word 0 0 == 48)) && ltb n bound) (Some n) None
+number_below-read bound n word e =
+    let found = decimal_number-found word n e in
+    let first = is_decimal-word word found.0 (omega (arith, found.2, found.3)) in
+    let plain : bytes_eq word (decimal (decimal_value word)) ≡ not (not (length word == 1) && (get_or word 0 0 == 48)) =
+    sym first ∙ ap (λ b. not (not (length word == 1) && (get_or word 0 0 == 48)) && b) found.1 ∙ and_true _ in
+    ap (λ b. cond (b && ltb (decimal_value word) bound) (Some (decimal_value word)) None) plain
+    ∙ ap (λ m. cond (not (not (length word == 1) && (get_or word 0 0 == 48)) && ltb m bound) (Some m) None) found.2
+  where
+    and_true : (b : Bool) → (b && true) ≡ b
+    and_true true = refl
+    and_true false = refl

@@ -1,7 +1,7 @@
 use Rattle.std.specs.Prelude.{ℕ, List, [], Option, Some, None}
 use Rattle.pmap_cert.specs.CertificateReading.{InnerLine, LeafLine, NodeLine as NodeLineModel, words_of}
-use Rattle.pmap_cert.specs.declared.reading.node_line.NodeLine.{NodeLine}
-use Rattle.pmap_cert.specs.declared.reading.node_line.NodeLine.TheVariants.{Inner, Leaf}
+use Rattle.pmap_cert.specs.declared.certificate_reading.node_line.NodeLine.{NodeLine}
+use Rattle.pmap_cert.specs.declared.certificate_reading.node_line.NodeLine.TheVariants.{Inner, Leaf}
 
 -- What the code keeps of a line while it reads it.
 

@@ -7,14 +7,15 @@ use crate::node::Node;
 use pmap_text::Labels;
 use prefix_keys::Version;
 
-/// A certificate: the version of its addresses, its label table, and its root, which stands for the address space. Labels
-/// are in the table, sets rise, and no inner node is as deep as an address has bits.
+/// A certificate: the version of its addresses, its label table, and its root, which stands for the address space.
+/// Labels are in the table, sets rise, and no inner node is as deep as an address has bits.
 #[derive(Drop)]
 pub struct Certificate {
     pub version: Version,
     pub labels: Labels,
     pub root: Node,
-    ghost form: { HasNumberForm (length labels) root (width_of version) } by { HasNumberForm-prop (length labels) root (width_of version) },
+    ghost form: { HasNumberForm (length labels) root (width_of version) } by { HasNumberForm-prop (length labels) root
+        (width_of version) },
 }
 
 impl Certificate {
@@ -40,6 +41,7 @@ impl Certificate {
         ensures numbers { HasNumberForm (length self.now.labels) self.now.root (width_of self.now.version) }
         ensures form { HasTextForm (certificate_of self.now) }
     {
+        // For its law: the table has at most 65536 labels, no two equal.
         let _count = self.labels.len();
         &self.root
     }

@@ -1,4 +1,4 @@
-//! The reading of a certificate's text, line by line.
+//! Certificates' texts, which are read line by line.
 ghost use Rattle.std.specs.Prelude.{◌≡◌, ◌≢◌, ◌-◌, ◌<◌, ◌≤◌, [], ◌∷◌, Ok, Err, false, length, IfErr, IfOk, IsTrue};
 ghost use Rattle.prefix_keys.specs.Version.{width_of};
 ghost use Rattle.pmap_text.specs.Label.{has_label, is_label as is_label_text};
@@ -77,6 +77,7 @@ fn read_header<'a>(lines: &Lines<'a>) -> Result<((Version, u32), Lines<'a>), Cer
     }
 }
 
+// Whether the table has the label already.
 fn is_known(labels: &Labels, text: &[u8]) -> bool
     ensures { result ≡ has_label labels.now text.now }
 {
@@ -198,8 +199,8 @@ fn read_all(alloc: Global, text: &[u8]) -> Result<Certificate, CertFault>
     }
 }
 
-/// Reads the text of a certificate. A text is read exactly where it is the text of a certificate (`write_cert`), and then
-/// that certificate is the answer.
+/// Reads the text of a certificate. A text is read exactly where it is the text of a certificate (`write_cert`), and
+/// then that certificate is the answer.
 ///
 /// # Errors
 ///

@@ -27,8 +27,8 @@ pub fn acceptance_is_enough()
         (claim_of c.root).cost + 1 ≤ length other.prefixes }
 {}
 
-/// Each map has a minimal pair of a list and a certificate: its blocks are halved until each is settled, as a block of one
-/// address always is.
+/// Each map has a minimal pair of a list and a certificate: its blocks are halved until each is settled, as a block of
+/// one address always is.
 pub fn minimal_pair_exists()
     ensures { (m : MapModel) → (l : ListModel) × (c : CertificateModel) × IsMinimalPair m l c }
 {}
@@ -46,8 +46,8 @@ pub fn minimal_pair_is_accepted()
         IsLeast m l }
 {}
 
-/// A map has one minimal pair: its certificates have one version, table and shape, and the same labels, costs and sets, so
-/// that where the map's table has the map's labels, its lists are one list.
+/// A map has one minimal pair: its certificates have one version, table and shape, and the same labels, costs and sets,
+/// so that where the map's table has the map's labels, its lists are one list.
 pub fn minimal_pair_is_unique()
     ensures certificates { (m : MapModel) (l l' : ListModel) (c c' : CertificateModel) →
         IsMinimalPair m l c → IsMinimalPair m l' c' → IsSameCertificate c c' }
@@ -55,7 +55,8 @@ pub fn minimal_pair_is_unique()
         IsMinimalPair m l c → IsMinimalPair m l' c' → HasItsLabels m → l ≡ l' }
 {}
 
-/// The certificates of a map's minimal pairs that have the form of their text are one certificate, and so have one text.
+/// The certificates of a map's minimal pairs that have the form of their text are one certificate, and so have one
+/// text.
 pub fn minimal_certificate_is_one()
     ensures { (m : MapModel) (l l' : ListModel) (c c' : CertificateModel) →
         IsMinimalPair m l c → IsMinimalPair m l' c' → HasTextForm c → HasTextForm c' → c ≡ c' }
@@ -67,8 +68,8 @@ pub fn certificate_is_read_back()
     ensures { (c : CertificateModel) → HasTextForm c → certificate_reading (certificate_text c) ≡ Ok c }
 {}
 
-/// A text is read as a certificate exactly where that has the form of its text, and this text. So each text is that of such
-/// a certificate or has a first fault, and never both.
+/// A text is read as a certificate exactly where that has the form of its text, and this text. So each text is that of
+/// such a certificate or has a first fault, and never both.
 pub fn certificate_text_is_read_or_has_a_fault()
     ensures read { (text : List ℕ) (c : CertificateModel) →
         certificate_reading text ≡ Ok c ↔ (HasTextForm c × (text ≡ certificate_text c)) }
@@ -83,8 +84,8 @@ pub fn map_text_has_its_labels()
     ensures { (text : List ℕ) (m : MapModel) → ReadsMap text m → HasItsLabels m }
 {}
 
-/// The map of each text that is read has a minimal pair whose certificate has the form of its text: its labels are in the
-/// table, and its costs are below 2 ^ 32, since a text has at most 1,000,000 mappings.
+/// The map of each text that is read has a minimal pair whose certificate has the form of its text: its labels are in
+/// the table, and its costs are below 2 ^ 32, since a text has at most 1,000,000 mappings.
 pub fn map_text_has_a_minimal_pair()
     ensures { (text : List ℕ) (m : MapModel) → ReadsMap text m →
         (l : ListModel) × (c : CertificateModel) × IsMinimalPair m l c × HasTextForm c }
@@ -104,7 +105,8 @@ pub fn exact_pair_is_of_sets()
         IsPairOf (exact_pair p r) (p.cost + r.cost) (λ y. has p.labels y && has r.labels y) }
     ensures apart { (p r : Pair) → ((x : Label) → (has p.labels x && has r.labels x) ≡ false) →
         IsPairOf (exact_pair p r) (p.cost + r.cost + 1) (λ y. has p.labels y || has r.labels y) }
-    ensures same { (p r p' r' : Pair) → IsSamePair p p' → IsSamePair r r' → IsSamePair (exact_pair p r) (exact_pair p' r') }
+    ensures same { (p r p' r' : Pair) → IsSamePair p p' → IsSamePair r r' →
+        IsSamePair (exact_pair p r) (exact_pair p' r') }
 {}
 
 /// The worked example's list and certificate are the minimal pair of its map.

@@ -1,29 +1,35 @@
 //! Certificates that a prefix list is a shortest one for its map, and the laws on them.
 //!
 //! A certificate is a binary tree over the address space. Each inner node claims a cost and a set of labels, from which
-//! a checker sees that no list that labels every address as the map does is shorter than the one at hand.
-//! The crate stands on prefix_keys (blocks) and pmap_text (maps, prefix lists and their labels).
-//! The layers above, the minimiser and the checker, may rely on the laws in `laws`: an accepted certificate shows that
-//! its list is equivalent and least, each map has a minimal pair of a list and a certificate that is accepted, all
-//! minimal pairs of a map are alike, and that of a map text has a certificate with a text. Each `Certificate` keeps in its
-//! type that its labels are in its table, that its sets rise, and that no node lies deeper than an address has bits.
-//! `write_cert` gives the one text of a certificate; `read_cert` reads a text exactly where it is the text of a
-//! certificate, and else names its first fault: each text is the one or has the other.
+//! a checker sees that no list that labels every address as the map does is shorter than the one at hand. The crate
+//! stands on prefix_keys (blocks) and pmap_text (maps, prefix lists and their labels). The layers above, the minimiser
+//! and the checker, may rely on the laws: an accepted certificate shows that its list is equivalent and least, each map
+//! has a minimal pair of a list and a certificate that is accepted, all minimal pairs of a map are alike, and that of a
+//! map text has a certificate with a text. Each `Certificate` keeps in its type that its labels are in its table, that
+//! its sets rise, and that no node lies deeper than an address has bits. `write_cert` gives the one text of a
+//! certificate; `read_cert` reads a text exactly where it is the text of a certificate, and else names its first fault:
+//! each text is the one or has the other.
 #![tactic(auto)]
 
-pub mod certificate;
-pub mod fault;
-pub mod label_set;
-pub mod laws;
+mod certificate;
+mod certificate_reading;
+mod fault;
+mod label_set;
+mod laws;
 mod lines;
-pub mod node;
-mod reading;
+mod node;
 mod words;
 mod writing;
 
 pub use certificate::Certificate;
+pub use certificate_reading::read_cert;
 pub use fault::{CertFault, CertFaultKind};
 pub use label_set::LabelSet;
+pub use laws::{
+    acceptance_is_enough, certificate_is_read_back, certificate_text_is_read_or_has_a_fault,
+    exact_pair_is_of_sets, four_quarters_pair_is_minimal, map_text_has_a_minimal_pair,
+    map_text_has_its_labels, minimal_certificate_is_one, minimal_list_is_in_order,
+    minimal_pair_exists, minimal_pair_is_accepted, minimal_pair_is_unique,
+};
 pub use node::Node;
-pub use reading::read_cert;
 pub use writing::write_cert;

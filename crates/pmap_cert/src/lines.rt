@@ -1,12 +1,11 @@
-//! The lines of a certificate's text.
-ghost use Rattle.std.specs.Prelude.{◌≡◌, ◌==◌, option_map, position};
-ghost use Rattle.std.specs.List.{slice_split};
+ghost use Rattle.std.specs.Prelude.{◌≡◌, option_map};
 ghost use Rattle.pmap_cert.specs.CertificateReading.{fault_at, is_ended, next_line, start_of};
 
 use crate::fault::{CertFault, CertFaultKind};
+use prefix_keys::find_byte;
 use std::marker::Model;
 
-// What is left of a text, and how many of its lines were read.
+/// What is left of a text, and how many of its lines were read.
 #[derive(Drop)]
 pub struct Lines<'a> {
     rest: &'a [u8],
@@ -25,7 +24,7 @@ impl<'a> Model for Lines<'a> {
 }
 
 impl<'a> Lines<'a> {
-    // All of a text is left.
+    /// All of a text is left.
     pub fn new(text: &'a [u8]) -> Lines<'a>
         ensures { result ≡ start_of text.now }
     {
@@ -35,7 +34,7 @@ impl<'a> Lines<'a> {
         }
     }
 
-    // The next line and what comes behind its line feed.
+    /// The next line and what comes behind its line feed.
     pub fn next(&self) -> Option<(&'a [u8], Lines<'a>)>
         ensures { option_map (λ x. (x.0.now, x.1)) result ≡ next_line self.now }
     {
@@ -52,14 +51,14 @@ impl<'a> Lines<'a> {
         }
     }
 
-    // Whether nothing is left.
+    /// Whether nothing is left.
     pub fn is_ended(&self) -> bool
         ensures { result ≡ is_ended self.now.pieces }
     {
         self.rest.is_empty()
     }
 
-    // A fault of the line that comes next.
+    /// A fault of the line that comes next.
     pub fn fault(&self, kind: CertFaultKind) -> CertFault
         ensures { result ≡ fault_at self.now kind }
     {
@@ -68,11 +67,4 @@ impl<'a> Lines<'a> {
             line: self.number + 1,
         }
     }
-}
-
-// The place of the first such byte.
-pub fn find_byte(text: &[u8], byte: u8) -> Option<usize>
-    ensures { result ≡ position (λ b. b == byte) text.now }
-{
-    text.iter().position(|b| *b == byte)
 }

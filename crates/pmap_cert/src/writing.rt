@@ -83,6 +83,7 @@ fn push_labels(out: &mut Vec<u8>, labels: &Labels) -> Result<(), AllocError>
     Ok(())
 }
 
+// The word of a version.
 fn version_text(version: Version) -> &'static [u8]
     ensures { result.now ≡ version_word version }
 {

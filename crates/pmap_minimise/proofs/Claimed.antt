@@ -16,7 +16,7 @@ use Rattle.pmap_minimise.specs.Numbers.{IsExactBy, IsExactSet, IsExactSetBy, IsJ
 use Rattle.pmap_minimise.specs.Outline.{IsOutline, IsReady}
 use Rattle.pmap_minimise.specs.declared.claiming.Half.{Half}
 use Rattle.pmap_minimise.specs.declared.claiming.Half.TheVariants.{Claiming, Labelled as LabelledHalf}
-use Rattle.pmap_minimise.specs.declared.kept.Sets.{Sets}
+use Rattle.pmap_minimise.specs.declared.set_list.Sets.{Sets}
 use Rattle.pmap_minimise.specs.declared.outline.Part.{Part}
 use Rattle.pmap_minimise.specs.declared.outline.Part.TheVariants.{Divided, Labelled}
 use Rattle.pmap_minimise.proofs.Outlined.{add-step, at-end, one-node, ready-step, root-node}

@@ -17,7 +17,7 @@ use Rattle.pmap_minimise.specs.Listing.{AddsListed, AddsVisit, AreHalvesPut, Has
 use Rattle.pmap_minimise.specs.Numbers.{HasHalves, IsJoined, IsOwn, IsSound, numbers_of, set_of}
 use Rattle.pmap_minimise.specs.Outline.{AddsOutline, AreStacked, Fork, IsOutline, Plan, Tip, forked, parts_of, plans_of}
 use Rattle.pmap_minimise.specs.Walk.{AddsAll}
-use Rattle.pmap_minimise.specs.declared.kept.Sets.{Sets}
+use Rattle.pmap_minimise.specs.declared.set_list.Sets.{Sets}
 use Rattle.pmap_minimise.specs.declared.listing.Heir.{Heir}
 use Rattle.pmap_minimise.specs.declared.outline.Part.{Part}
 use Rattle.pmap_minimise.specs.declared.outline.Part.TheVariants.{Divided, Labelled}

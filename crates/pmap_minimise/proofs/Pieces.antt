@@ -8,7 +8,7 @@ use Rattle.pmap_text.specs.declared.label.LabelId.{LabelId}
 use Rattle.pmap_cert.specs.CertificateForm.{IsRising}
 use Rattle.pmap_minimise.specs.Kept.{AreEnds, AreKept, AreLabelsBehind, IsKeptBehind, cut, sets_in, start_of}
 use Rattle.pmap_minimise.specs.Numbers.{numbers_of}
-use Rattle.pmap_minimise.specs.declared.kept.Sets.{Sets}
+use Rattle.pmap_minimise.specs.declared.set_list.Sets.{Sets}
 
 pub cut-length : (from : ℕ) (ids : List LabelId) (ends : List ℕ) → length (cut from ids ends) ≡ length ends
 cut-length from ids [] = refl

@@ -6,7 +6,7 @@ use Rattle.pmap_minimise.specs.Numbers.{IsExactSet}
 use Rattle.pmap_minimise.specs.Outline.{AreNodesFrom, IsNodeFor, Plan, parts_of}
 use Rattle.pmap_minimise.specs.declared.claiming.Half.{Half}
 use Rattle.pmap_minimise.specs.declared.claiming.Half.TheVariants.{Claiming, Labelled as LabelledHalf}
-use Rattle.pmap_minimise.specs.declared.kept.Sets.{Sets}
+use Rattle.pmap_minimise.specs.declared.set_list.Sets.{Sets}
 use Rattle.pmap_minimise.specs.declared.outline.Part.{Part}
 use Rattle.pmap_minimise.specs.declared.outline.Part.TheVariants.{Divided, Labelled}
 

@@ -2,7 +2,7 @@ use Rattle.std.specs.Prelude.{◌≡◌, ℕ, zero, suc, ◌^◌, ◌≤◌, Lis
 use Rattle.pmap_text.specs.declared.label.LabelId.{LabelId}
 use Rattle.pmap_cert.specs.CertificateForm.{IsRising}
 use Rattle.pmap_minimise.specs.Numbers.{numbers_of}
-use Rattle.pmap_minimise.specs.declared.kept.Sets.{Sets}
+use Rattle.pmap_minimise.specs.declared.set_list.Sets.{Sets}
 
 -- Sets of labels that are kept one behind the other.
 

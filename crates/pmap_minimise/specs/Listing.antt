@@ -14,7 +14,7 @@ use Rattle.pmap_minimise.specs.Numbers.{IsSound}
 use Rattle.pmap_minimise.specs.Outline.{AreStacked, IsNodeFor, IsOutline, Plan, parts_of, plans_of}
 use Rattle.pmap_minimise.specs.Pending.{nodes_in}
 use Rattle.pmap_minimise.specs.Walk.{IsUnderWay}
-use Rattle.pmap_minimise.specs.declared.kept.Sets.{Sets}
+use Rattle.pmap_minimise.specs.declared.set_list.Sets.{Sets}
 use Rattle.pmap_minimise.specs.declared.listing.Heir.{Heir}
 use Rattle.pmap_minimise.specs.declared.outline.Part.{Part}
 

@@ -21,6 +21,7 @@ pub fn labels_of(node: &Node) -> &[LabelId]
 {
     match node {
         Node::Leaf(id) => {
+            // For its range, which the number has once it is read.
             let _number = id.0;
             slice::from_ref(id)
         }

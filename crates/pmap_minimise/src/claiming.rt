@@ -6,8 +6,8 @@ ghost use Rattle.pmap_minimise.specs.Claiming.{AreSetsOf, IsExactOf, IsHalfAdded
 ghost use Rattle.pmap_minimise.specs.Numbers.{numbers_of};
 ghost use Rattle.pmap_minimise.specs.Outline.{IsOutline};
 
-use crate::kept::Sets;
 use crate::outline::Part;
+use crate::set_list::Sets;
 use crate::sets::{SmallSet, exact_set};
 use crate::stack::pop;
 use pmap_text::LabelId;
@@ -30,6 +30,7 @@ fn labels_at<'a>(sets: &'a Sets, half: &'a Half) -> &'a [LabelId]
 {
     match half {
         Half::Labelled(id) => {
+            // For its range, which the number has once it is read.
             let _number = id.0;
             slice::from_ref(id)
         }
@@ -42,7 +43,8 @@ fn exact_of(alloc: Global, sets: &Sets, low: &Half, high: &Half) -> Result<Small
     requires kept { AreKept sets.now }
     requires low { IsHalfIn (sets_in sets.now) low.now }
     requires high { IsHalfIn (sets_in sets.now) high.now }
-    ensures exact { IfOk result (λ set. IsExactOf (claimed_by (sets_in sets.now) low.now) (claimed_by (sets_in sets.now) high.now) set.items) }
+    ensures exact { IfOk result (λ set. IsExactOf (claimed_by (sets_in sets.now) low.now)
+        (claimed_by (sets_in sets.now) high.now) set.items) }
     ensures rising { IfOk result (λ set. IsRising (2 ^ 32) 0 set.items) }
 {
     let (set, _) = exact_set(alloc, labels_at(sets, low), labels_at(sets, high))?;

@@ -20,12 +20,14 @@ use pmap_text::{Entry, LabelId};
 use prefix_keys::Block;
 use std::alloc::{AllocError, Global};
 
+// Whether the label is one of these.
 fn has_label(labels: &[LabelId], id: LabelId) -> bool
     ensures { result ≡ list_any (λ label. id.0 == label.0) labels.now }
 {
     labels.iter().any(|label| id.0 == label.0)
 }
 
+// Whether the label that is inherited, if there is one, is one of these.
 fn has_inherited(labels: &[LabelId], inherited: Option<LabelId>) -> bool
     ensures { result ≡ keeps labels.now inherited }
 {
@@ -74,7 +76,8 @@ fn enter<'a>(
     place: Pending<'a>,
 ) -> Result<(), AllocError>
     requires sound { IsSoundAt place }
-    ensures { OnOk result (IsEntered place.entry pending.old.items pending.new.items entries.old.items entries.new.items) }
+    ensures { OnOk result
+        (IsEntered place.entry pending.old.items pending.new.items entries.old.items entries.new.items) }
 {
     let Pending {
         node,
@@ -101,8 +104,8 @@ fn enter<'a>(
 }
 
 /// Adds the entries of a node of this block and of those below it, by rising first address. The label is what the node
-/// inherits from above. The nodes are met in the order of the certificate's lines, from the first to the last; at most one
-/// upper half for each bit of the address waits on the stack.
+/// inherits from above. The nodes are met in the order of the certificate's lines, from the first to the last; at most
+/// one upper half for each bit of the address waits on the stack.
 pub fn push_entries(
     alloc: Global,
     entries: &mut Vec<Entry>,

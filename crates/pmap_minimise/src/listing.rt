@@ -5,8 +5,8 @@ ghost use Rattle.pmap_minimise.specs.Listing.{AddsListed, AreHalvesPut, HasClaim
 
 use crate::claiming::claimed;
 use crate::entering::push_own;
-use crate::kept::Sets;
 use crate::outline::{Part, push_parts};
+use crate::set_list::Sets;
 use crate::stack::pop;
 use label_trie::Cursor;
 use pmap_text::{Entry, LabelId};
@@ -40,8 +40,8 @@ fn push_halves(heirs: &mut Vec<Heir>, block: Block, label: LabelId) -> Result<()
     Ok(())
 }
 
-// Adds the entries of a block with the outline of its trie and the sets that its certificate's nodes claim, by rising first
-// address. The parts are met from the first to the last, and so the sets from the last to the first.
+// Adds the entries of a block with the outline of its trie and the sets that its certificate's nodes claim, by rising
+// first address. The parts are met from the first to the last, and so the sets from the last to the first.
 fn push_listed(
     alloc: Global,
     entries: &mut Vec<Entry>,
@@ -74,8 +74,8 @@ fn push_listed(
     Ok(())
 }
 
-/// The entries of the shortest list for a place of a map's trie, by rising first address. Room is made for this number of
-/// nodes at first.
+/// The entries of the shortest list for a place of a map's trie, by rising first address. Room is made for this number
+/// of nodes at first.
 pub fn listed(alloc: Global, place: &Cursor, nodes: u32) -> Result<Vec<Entry>, AllocError>
     requires labelled { All (λ leaf. IsSome leaf.label) place.now.leaves }
     requires few { length place.now.leaves ≤ 2 ^ 31 }

@@ -18,8 +18,7 @@ use crate::certifying::{certified, cost_of};
 use crate::entering::push_entries;
 use crate::listing::listed;
 use label_trie::Trie;
-use pmap_cert::laws::minimal_pair_is_accepted;
-use pmap_cert::{Certificate, Node};
+use pmap_cert::{Certificate, Node, minimal_pair_is_accepted};
 use pmap_text::{Entries, MapText, Name, PrefixList};
 use prefix_keys::Block;
 use std::alloc::{AllocError, Global};
@@ -32,14 +31,15 @@ pub struct Minimal {
     pub certificate: Certificate,
 }
 
-/// The shortest prefix list that labels every address as the map does, with its certificate. The list has the map's name,
-/// and both have the map's label table. The trie is the map's, as `Trie::build` makes it.
+/// The shortest prefix list that labels every address as the map does, with its certificate. The list has the map's
+/// name, and both have the map's label table. The trie is the map's, as `Trie::build` makes it.
 pub fn minimise(alloc: Global, map: &MapText, trie: &Trie) -> Result<Minimal, AllocError>
     requires version { trie.now.version ≡ map.now.version }
     requires settled { All (IsSettledLeaf (map_of map.now)) trie.now.leaves }
     requires undivided { All (IsUndivided (map_of map.now)) trie.now.leaves }
     // They are the map's minimal pair.
-    ensures minimal { IfOk result (λ m. IsMinimalPair (map_of map.now) (list_of m.list) (certificate_of m.certificate)) }
+    ensures minimal { IfOk result (λ m. IsMinimalPair (map_of map.now) (list_of m.list)
+        (certificate_of m.certificate)) }
     ensures cost { IfOk result (λ m. m.root_cost ≡ (claim_of (certificate_of m.certificate).root).cost) }
     // So the list labels every address as the map does, and none that does so is shorter.
     ensures equivalent { IfOk result (λ m. IsEquivalent (list_of m.list) (map_of map.now)) }
@@ -50,6 +50,7 @@ pub fn minimise(alloc: Global, map: &MapText, trie: &Trie) -> Result<Minimal, Al
     // The entries are blocks by rising first address, of one address the shorter first.
     ensures order { IfOk result (λ m. HasListForm (list_of m.list)) }
 {
+    // For their laws: a minimal pair is accepted, the table's labels are distinct, and the leaves are few.
     minimal_pair_is_accepted();
     let _labels = map.labels.len();
     let _nodes = trie.node_count();
@@ -65,20 +66,23 @@ pub fn minimise(alloc: Global, map: &MapText, trie: &Trie) -> Result<Minimal, Al
     })
 }
 
-/// The list of `minimise` alone, which is made without the certificate's nodes: a shortest prefix list that labels every
-/// address as the map does, with the map's name and label table. The trie is the map's, as `Trie::build` makes it.
+/// The list of `minimise` alone, which is made without the certificate's nodes: a shortest prefix list that labels
+/// every address as the map does, with the map's name and label table. The trie is the map's, as `Trie::build` makes
+/// it.
 pub fn shortest(alloc: Global, map: &MapText, trie: &Trie) -> Result<PrefixList, AllocError>
     requires version { trie.now.version ≡ map.now.version }
     requires settled { All (IsSettledLeaf (map_of map.now)) trie.now.leaves }
     requires undivided { All (IsUndivided (map_of map.now)) trie.now.leaves }
     // With a certificate, which has a text, it is the map's minimal pair.
-    ensures minimal { IfOk result (λ list. (c : CertificateModel) × IsMinimalPair (map_of map.now) (list_of list) c × HasTextForm c) }
+    ensures minimal { IfOk result (λ list. (c : CertificateModel) × IsMinimalPair (map_of map.now) (list_of list) c
+        × HasTextForm c) }
     // So it labels every address as the map does, and none that does so is shorter.
     ensures equivalent { IfOk result (λ list. IsEquivalent (list_of list) (map_of map.now)) }
     ensures least { IfOk result (λ list. IsLeast (map_of map.now) (list_of list)) }
     // The entries are blocks by rising first address, of one address the shorter first.
     ensures order { IfOk result (λ list. HasListForm (list_of list)) }
 {
+    // For their laws: a minimal pair is accepted, and the table's labels are distinct.
     minimal_pair_is_accepted();
     let _labels = map.labels.len();
     let items = listed(alloc, &trie.root(), trie.node_count())?;
@@ -103,6 +107,7 @@ fn shortest_list(
     requires stands { StandsFor (map_of map.now) (tree_of map.now.labels root.now) 0 0 }
     ensures { IfOk result (λ list. list_of list ≡ shortest_list (map_of map.now) (tree_of map.now.labels root.now)) }
 {
+    // For its law: the table's labels are distinct.
     let _labels = map.labels.len();
     let mut items = Vec::new(alloc);
     push_entries(alloc, &mut items, root, whole, None)?;
@@ -114,6 +119,7 @@ fn shortest_list(
     })
 }
 
+// The same name.
 fn copy_name(alloc: Global, name: &Option<Name>) -> Result<Option<Name>, AllocError>
     ensures { IfOk result (λ copy. copy ≡ name.now) }
 {

@@ -35,8 +35,8 @@ fn lay_out<'a>(
     Ok(())
 }
 
-/// Adds what there is at the place and below it, the place first, then its lower half, then its higher one: in the order of
-/// the nodes' numbers. At most one higher half for each bit of the address waits on the stack.
+/// Adds what there is at the place and below it, the place first, then its lower half, then its higher one: in the
+/// order of the nodes' numbers. At most one higher half for each bit of the address waits on the stack.
 pub fn push_parts(alloc: Global, parts: &mut Vec<Part>, place: &Cursor) -> Result<(), AllocError>
     requires labelled { All (λ leaf. IsSome leaf.label) place.now.leaves }
     ensures { OnOk result (AddsOutline place.now.block place.now.leaves parts.old.items parts.new.items) }

@@ -6,12 +6,12 @@ ghost use Rattle.pmap_minimise.specs.Numbers.{numbers_of};
 use pmap_text::LabelId;
 use std::alloc::{AllocError, Global};
 
-/// Sets of labels in the order in which they were made, each by rising numbers. They lie one behind the other, so that a
-/// set of few labels takes little more than these.
+/// Sets of labels in the order in which they were made, each by rising numbers. They lie one behind the other, so that
+/// a set of few labels takes little more than these.
 #[derive(Drop)]
 pub struct Sets {
     ids: Vec<LabelId>,
-    /// Where each set ends among the labels.
+    // Where each set ends among the labels.
     ends: Vec<usize>,
 }
 

@@ -79,8 +79,8 @@ pub fn either(alloc: Global, low: &[LabelId], high: &[LabelId]) -> Result<SmallS
     Ok(set)
 }
 
-/// The exact set of two halves that claim these: the labels that both have, or where there is none those that one of them
-/// has. With it comes whether both have none.
+/// The exact set of two halves that claim these: the labels that both have, or where there is none those that one of
+/// them has. With it comes whether both have none.
 pub fn exact_set(
     alloc: Global,
     low: &[LabelId],

@@ -1,14 +1,14 @@
 ghost use Rattle.flowlabel.specs.Headline.{ShrunkIsLeast};
 ghost use Rattle.flowlabel.specs.Output.{CheckAcceptsMinimal, CheckIsEnough, HasOutput, OneOutput, SameUnderEquivalents};
 
-use cert_check::laws::no_fault_is_acceptance;
-use label_trie::laws::labelling_has_its_runs;
-use pmap_cert::laws::{
+use cert_check::no_fault_is_acceptance;
+use label_trie::labelling_has_its_runs;
+use pmap_cert::{
     acceptance_is_enough, certificate_text_is_read_or_has_a_fault, map_text_has_a_minimal_pair,
     map_text_has_its_labels, minimal_certificate_is_one, minimal_list_is_in_order,
     minimal_pair_is_accepted, minimal_pair_is_unique,
 };
-use pmap_print::laws::{
+use pmap_print::{
     labelling_has_one_runs_text, minimal_list_can_be_read_again, minimal_list_is_accepted_again,
     printed_list_is_equivalent, printed_list_is_read_back, printed_order_is_one,
 };

@@ -8,7 +8,7 @@ use crate::words::{number_below, split_word};
 use pmap_text::LabelId;
 use std::alloc::{AllocError, Global};
 
-// What the line of a node says: a leaf's label, or the cost and the set of an inner node.
+/// What the line of a node says: a leaf's label, or the cost and the set of an inner node.
 #[derive(Drop)]
 pub enum NodeLine {
     Leaf(LabelId),
@@ -18,7 +18,8 @@ pub enum NodeLine {
 // The labels of a set from their words, in a certificate of so many labels.
 fn read_set(alloc: Global, count: u64, first: Option<&[u8]>) -> Result<Option<LabelSet>, AllocError>
     requires { count ≤ 2 ^ 32 }
-    ensures { IfOk result (λ set. set ≡ rising_numbers count 0 (words_behind (option_map (λ text. text.now) first.entry))) }
+    ensures { IfOk result (λ set. set
+        ≡ rising_numbers count 0 (words_behind (option_map (λ text. text.now) first.entry))) }
 {
     let mut set = LabelSet::new(alloc);
     let mut low = 0u64;
@@ -56,7 +57,8 @@ fn leaf(count: u64, words: Option<&[u8]>) -> Option<NodeLine>
 // An inner node from the words behind its first.
 fn inner(alloc: Global, count: u64, words: Option<&[u8]>) -> Result<Option<NodeLine>, AllocError>
     requires { count ≤ 2 ^ 32 }
-    ensures { IfOk result (λ line. option_map line_model line ≡ inner_by count (words_behind (option_map (λ text. text.now) words.entry))) }
+    ensures { IfOk result (λ line. option_map line_model line
+        ≡ inner_by count (words_behind (option_map (λ text. text.now) words.entry))) }
 {
     let Some(text) = words else {
         return Ok(None);
@@ -71,7 +73,7 @@ fn inner(alloc: Global, count: u64, words: Option<&[u8]>) -> Result<Option<NodeL
     }
 }
 
-// What the line of a node says, in a certificate of so many labels.
+/// What the line of a node says, in a certificate of so many labels.
 pub fn node_line(alloc: Global, count: u64, line: &[u8]) -> Result<Option<NodeLine>, AllocError>
     requires { count ≤ 2 ^ 32 }
     ensures { IfOk result (λ found. option_map line_model found ≡ node_line_of count line.now) }

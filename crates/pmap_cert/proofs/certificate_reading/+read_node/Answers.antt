@@ -4,7 +4,7 @@ use Rattle.pmap_cert.specs.Node.{HasNumberForm, tree_of}
 use Rattle.pmap_cert.specs.declared.node.Node.{Node}
 use Rattle.pmap_cert.specs.declared.node.Node.TheViews.{Inner}
 use Rattle.pmap_cert.proofs.ReadingSteps.{inner_form, node_at-deep, node_at-fault, node_at-inner, node_at-leaf, node_at-lower_fault, node_at-upper_fault}
-use Rattle.pmap_cert.proofs.reading.+read_node.Goals as goal
+use Rattle.pmap_cert.proofs.certificate_reading.+read_node.Goals as goal
 
 pub returns-in_err-line-clause-err : goal.returns-in_err-line-clause-err
 returns-in_err-line-clause-err t c =

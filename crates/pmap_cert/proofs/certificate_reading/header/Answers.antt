@@ -1,6 +1,6 @@
 use Rattle.std.proofs.Common.{sym}
 use Rattle.pmap_cert.proofs.SetWords.{header_of-words_more}
-use Rattle.pmap_cert.proofs.reading.header.Goals as goal
+use Rattle.pmap_cert.proofs.certificate_reading.header.Goals as goal
 
 pub returns-in-Some : goal.returns-in-Some
 returns-in-Some c =

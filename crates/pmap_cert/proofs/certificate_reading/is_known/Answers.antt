@@ -5,7 +5,7 @@ use Rattle.pmap_text.specs.MapModel.{Label}
 use Rattle.pmap_text.specs.declared.label.LabelId.{LabelId}
 use Rattle.pmap_text.proofs.LabelTexts.{has_label-no_number, has_label-number}
 use Rattle.std.proofs.Common.{List}
-use Rattle.pmap_cert.proofs.reading.is_known.Goals as goal
+use Rattle.pmap_cert.proofs.certificate_reading.is_known.Goals as goal
 
 -- a text has a number where it is in the table
 is_some-number : (table : List Label) (text : Label) (found : Option LabelId) → option_map (λ id. id.0) found ≡ number_of table text → is_some found ≡ has_label table text

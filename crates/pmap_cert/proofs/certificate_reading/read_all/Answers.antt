@@ -2,7 +2,7 @@ use Rattle.std.proofs.Common.{◌∙◌, Ok, sym}
 use Rattle.std.proofs.lemmas.Result.{err_from_is_err_and}
 use Rattle.pmap_cert.specs.Node.{tree_of}
 use Rattle.pmap_cert.proofs.Whole.{reading-ended, reading-header_fault, reading-labels_fault, reading-left, reading-root_fault}
-use Rattle.pmap_cert.proofs.reading.read_all.Goals as goal
+use Rattle.pmap_cert.proofs.certificate_reading.read_all.Goals as goal
 
 pub returns-in_err-version-clause-err : goal.returns-in_err-version-clause-err
 returns-in_err-version-clause-err c =

@@ -1,5 +1,5 @@
 use Rattle.pmap_cert.proofs.Whole.{is_only, is_text}
-use Rattle.pmap_cert.proofs.reading.read_cert.Goals as goal
+use Rattle.pmap_cert.proofs.certificate_reading.read_cert.Goals as goal
 
 pub returns-clause-ok : goal.returns-clause-ok
 returns-clause-ok c = is_text c.args.text.now c.read_all.result c.read_all.ensures.ok

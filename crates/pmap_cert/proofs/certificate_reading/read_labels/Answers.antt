@@ -4,7 +4,7 @@ use Rattle.std.proofs.lemmas.List.{length_push}
 use Rattle.pmap_text.proofs.LabelTexts.{with_label-new}
 use Rattle.pmap_text.specs.MapModel.{Label}
 use Rattle.pmap_cert.proofs.ReadingSteps.{labels_at-fault, labels_at-next}
-use Rattle.pmap_cert.proofs.reading.read_labels.Goals as goal
+use Rattle.pmap_cert.proofs.certificate_reading.read_labels.Goals as goal
 
 pub returns-in_err-label-clause-err : goal.returns-in_err-label-clause-err
 returns-in_err-label-clause-err c =

@@ -1,6 +1,6 @@
 use Rattle.std.proofs.Common.{◌≡◌, ◌-◌, ◌≤◌, [], length}
 use Rattle.pmap_cert.specs.CertificateReading.{labels_at}
-use Rattle.pmap_cert.proofs.reading.read_labels.Given as goal
+use Rattle.pmap_cert.proofs.certificate_reading.read_labels.Given as goal
 
 -- the whole table is the labels so far and those of the lines that are left
 abbrev pub invariant-loop-labels : goal.invariant-loop-labels

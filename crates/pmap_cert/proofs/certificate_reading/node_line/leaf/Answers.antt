@@ -1,6 +1,6 @@
 use Rattle.std.proofs.Common.{sym}
 use Rattle.pmap_cert.proofs.SetWords.{leaf_by-words}
-use Rattle.pmap_cert.proofs.reading.node_line.leaf.Goals as goal
+use Rattle.pmap_cert.proofs.certificate_reading.node_line.leaf.Goals as goal
 
 pub returns-in-Some : goal.returns-in-Some
 returns-in-Some c =

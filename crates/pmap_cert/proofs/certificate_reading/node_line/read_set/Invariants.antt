@@ -3,7 +3,7 @@ use Rattle.std.specs.Option.{option_map, unwrap_or}
 use Rattle.pmap_cert.specs.CertificateReading.{rising_numbers}
 use Rattle.pmap_cert.specs.Words.{words_behind}
 use Rattle.pmap_cert.proofs.SetWords.{with_front}
-use Rattle.pmap_cert.proofs.reading.node_line.read_set.Given as goal
+use Rattle.pmap_cert.proofs.certificate_reading.node_line.read_set.Given as goal
 
 -- all numbers are those of the set and then those of the words that are left, which are not below low
 abbrev pub invariant-loop-words : goal.invariant-loop-words

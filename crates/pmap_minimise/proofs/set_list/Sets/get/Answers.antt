@@ -4,7 +4,7 @@ use Rattle.pmap_text.specs.declared.label.LabelId.{LabelId}
 use Rattle.pmap_cert.specs.CertificateForm.{IsRising}
 use Rattle.pmap_minimise.specs.Numbers.{numbers_of}
 use Rattle.pmap_minimise.proofs.Pieces.{cut-length, piece-at}
-use Rattle.pmap_minimise.proofs.kept.Sets.get.Goals as goal
+use Rattle.pmap_minimise.proofs.set_list.Sets.get.Goals as goal
 
 pub start_of-start-requires : goal.start_of-start-requires
 start_of-start-requires c = omega (arith, cut-length 0 c.args.self.now.ids.items c.args.self.now.ends.items)

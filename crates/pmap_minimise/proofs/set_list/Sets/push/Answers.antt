@@ -1,6 +1,6 @@
 use Rattle.std.proofs.Common.{arith}
 use Rattle.pmap_minimise.proofs.Pieces.{kept-push}
-use Rattle.pmap_minimise.proofs.kept.Sets.push.Goals as goal
+use Rattle.pmap_minimise.proofs.set_list.Sets.push.Goals as goal
 
 pub returns : goal.returns
 returns c =
