@@ -1,6 +1,6 @@
 -- The printed text of a list is read as the list, and as a map with the same labels.
-use Rattle.std.proofs.Common.{◌≡◌, ℕ, suc, ◌+◌, ◌-◌, ◌%◌, ◌^◌, ◌<◌, ◌≤◌, ◌==◌, ◌&&◌, ◌⊎◌, ◌∙◌, inl, inr, Bool, true, false, not, List, [], ◌∷◌, ◌++◌, All, Contains, MatchOption, Option, Some, None, Result, Ok, Err, codes, get_or, length, map, refl, sym, ap, slice_get, subst, arith, IsTrue, unwrap_or}
-use Rattle.std.specs.List.{IsDistinct, list_all}
+use Rattle.std.proofs.Common.{◌≡◌, ℕ, suc, ◌-◌, ◌%◌, ◌^◌, ◌<◌, ◌≤◌, ◌==◌, ◌⊎◌, ◌∙◌, inl, inr, true, false, not, List, [], ◌∷◌, ◌++◌, All, MatchOption, Option, Some, None, Result, Ok, codes, get_or, length, map, refl, sym, ap, slice_get, subst, arith, IsTrue, unwrap_or}
+use Rattle.std.specs.List.{IsDistinct}
 use Rattle.std.specs.List.Sorted.{IsPermutation}
 use Rattle.std.specs.Option.{ForSome}
 use Rattle.std.proofs.lemmas.Bool.{and_from, and_parts, both_ways, eq-eqb, eqb-true, false_from_ne_true, not-true}
@@ -16,7 +16,7 @@ use Rattle.prefix_keys.specs.Version.{width_of}
 use Rattle.prefix_keys.specs.declared.version.Version.{Version}
 use Rattle.prefix_keys.specs.declared.version.Version.TheVariants.{V4, V6}
 use Rattle.prefix_keys.proofs.Printed.{Lacks}
-use Rattle.pmap_cert.specs.ListForm.{HasBlock, IsInOrder}
+use Rattle.pmap_cert.specs.ListForm.{HasBlock}
 use Rattle.pmap_text.specs.Label.{IsLabelTable, is_label}
 use Rattle.pmap_text.specs.Lines.{lines_of}
 use Rattle.pmap_text.specs.ListModel.{IsEquivalent, ListModel, Prefix, label_below, list_label}
@@ -26,7 +26,7 @@ use Rattle.pmap_text.specs.MapText.{text_at}
 use Rattle.pmap_text.specs.PrefixList.{list_of, prefix_of}
 use Rattle.pmap_text.specs.declared.entry.Entry.{Entry as ListEntry}
 use Rattle.pmap_text.specs.declared.prefix_list.PrefixList.{PrefixList}
-use Rattle.pmap_text.specs.Reading.{Entry, ReadsList, ReadsMap, ◌>>=◌, earlier_of, entries_from, label_limit, list_from, list_reading, map_from, map_reading, mapping_limit, unknown}
+use Rattle.pmap_text.specs.Reading.{Entry, ReadsList, ReadsMap, ◌>>=◌, earlier_of, entries_from, label_limit, list_from, map_from, mapping_limit, unknown}
 use Rattle.pmap_text.specs.declared.fault.MapFault.{MapFault}
 use Rattle.pmap_text.specs.declared.form.Form.{Form}
 use Rattle.pmap_text.specs.declared.form.Form.TheVariants as form
@@ -36,7 +36,6 @@ use Rattle.pmap_text.proofs.ListLabels.{label-longest, label-same_prefixes, long
 use Rattle.pmap_print.specs.List.{entry_line, list_lines, list_text, mode_line, name_lines}
 use Rattle.pmap_print.specs.Order.{in_order, starts_alike}
 use Rattle.pmap_print.specs.ReadBack.{CanBeReadAgain, IsListAgain, IsMapAgain, IsPrintedEntry, labels_of, mapping_of_prefix}
-use Rattle.pmap_print.specs.Table.{Text}
 use Rattle.pmap_print.proofs.LastMatch.{last-found, match-in}
 use Rattle.pmap_print.proofs.Order.{alike-flips, in_order-moves, in_order-order}
 use Rattle.pmap_print.proofs.ReadLines.{name-high, short}

@@ -1,15 +1,13 @@
 -- Where entries that enclose others come first, the last statement that covers an address is the longest match.
-use Rattle.std.proofs.Common.{◌≡◌, ℕ, suc, ◌+◌, ◌-◌, ◌*◌, ◌/◌, ◌%◌, ◌^◌, ◌<◌, ◌≤◌, ◌==◌, ◌&&◌, ◌⊎◌, ◌∙◌, inl, inr, Bool, true, false, cond, List, [], ◌∷◌, ◌++◌, All, Contains, Option, Some, None, option_map, map, nat_le, refl, sym, ap, subst, arith, pow_pos, unwrap_or}
-use Rattle.std.specs.List.{AllByRecursion}
-use Rattle.std.specs.Option.{option_or}
-use Rattle.std.proofs.lemmas.Bool.{and_from, and_parts, both_ways, cases_lt, false_from_ne_true, le-leb, leb-true}
-use Rattle.std.proofs.lemmas.List.Elements.{All-cons, All-contains, All-from_recursion, All-head, All-nil, All-same, All-tail, All-weaker, Contains-append_right}
+use Rattle.std.proofs.Common.{◌≡◌, ℕ, ◌-◌, ◌^◌, ◌<◌, ◌≤◌, ◌⊎◌, ◌∙◌, inl, inr, Bool, true, false, List, [], ◌∷◌, All, Contains, Some, None, map, nat_le, refl, sym, ap, subst, arith, pow_pos}
+use Rattle.std.proofs.lemmas.Bool.{and_from, and_parts, both_ways, cases_lt, le-leb, leb-true}
+use Rattle.std.proofs.lemmas.List.Elements.{All-cons, All-contains, All-from_recursion, All-head, All-nil, All-tail, All-weaker, Contains-append_right}
 use Rattle.prefix_keys.specs.Block.{block_number, first_of, last_of}
 use Rattle.prefix_keys.proofs.Quotients.{whole}
 use Rattle.pmap_cert.specs.ListForm.{HasBlock, IsInOrder, is_before}
 use Rattle.pmap_text.specs.ListModel.{Prefix}
 use Rattle.pmap_text.specs.LongestMatch.{CoversAddress, IsLongestMatch}
-use Rattle.pmap_text.specs.MapModel.{Mapping, last_such, spans}
+use Rattle.pmap_text.specs.MapModel.{last_such, spans}
 use Rattle.pmap_text.proofs.Blocks.{address-between, address-first, address-last, block_number-shorter}
 use Rattle.pmap_text.proofs.Finds.{Contains-first}
 use Rattle.pmap_print.specs.ReadBack.{mapping_of_prefix}

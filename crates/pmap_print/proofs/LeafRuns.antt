@@ -1,5 +1,5 @@
 -- The leaves of a trie have the runs of what the trie was made of.
-use Rattle.std.proofs.Common.{◌≡◌, ℕ, ◌+◌, ◌^◌, ◌<◌, ◌∙◌, List, [], ◌∷◌, All, Option, Some, None, get_or, length, map, option_and_then, option_map, refl, sym, ap, slice_get, subst, arith, pow_pos}
+use Rattle.std.proofs.Common.{◌≡◌, ℕ, ◌^◌, ◌<◌, ◌∙◌, List, [], ◌∷◌, All, Option, Some, get_or, length, map, option_and_then, option_map, sym, ap, slice_get, subst, arith, pow_pos}
 use Rattle.std.specs.Option.{ForSome}
 use Rattle.std.proofs.lemmas.List.{get_or-map, length-map}
 use Rattle.std.proofs.lemmas.List.Elements.{All-head, All-weaker}

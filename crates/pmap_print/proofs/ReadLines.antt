@@ -1,15 +1,13 @@
 -- What the printed lines of a list say, read as a list and read as a map.
-use Rattle.std.proofs.Common.{◌≡◌, ℕ, zero, suc, ◌+◌, ◌-◌, ◌%◌, ◌^◌, ◌<◌, ◌≤◌, ◌==◌, ◌&&◌, ◌||◌, ◌∙◌, Bool, true, false, cond, List, [], ◌∷◌, ◌++◌, All, Option, Some, None, Result, Ok, Err, codes, fold, length, map, nat_le, nat_lt, refl, sym, ap, subst, arith, IsTrue}
+use Rattle.std.proofs.Common.{◌≡◌, ℕ, ◌+◌, ◌-◌, ◌^◌, ◌<◌, ◌≤◌, ◌==◌, ◌||◌, ◌∙◌, Bool, true, false, [], ◌∷◌, ◌++◌, All, Option, Some, None, Result, Ok, codes, length, nat_le, refl, ap, subst, arith}
 use Rattle.std.specs.Fmt.{decimal}
-use Rattle.std.specs.List.{flat_map, list_any}
-use Rattle.std.specs.Option.{option_or}
+use Rattle.std.specs.List.{list_any}
 use Rattle.std.specs.Str.{bytes_eq}
 use Rattle.std.proofs.lemmas.Bool.{both_ways, false_from_ne_true, leb-true, lt-ltb}
 use Rattle.std.proofs.lemmas.List.Elements.{All-weaker}
 use Rattle.std.proofs.lemmas.List.Sums.{AllPass-from_list_all}
-use Rattle.std.proofs.lemmas.List.{append_assoc, append-nil, length-append}
+use Rattle.std.proofs.lemmas.List.{length-append}
 use Rattle.std.proofs.lemmas.Slice.Eq.{bytes_eq-Decides}
-use Rattle.prefix_keys.specs.Block.{block_number, last_of}
 use Rattle.prefix_keys.specs.Print.{address_text, block_text}
 use Rattle.prefix_keys.specs.Text.{BlockOf, block_of_text}
 use Rattle.prefix_keys.specs.Version.{width_of}
@@ -18,21 +16,18 @@ use Rattle.prefix_keys.specs.declared.text.BlockFault.{BlockFault}
 use Rattle.prefix_keys.specs.declared.version.Version.{Version}
 use Rattle.prefix_keys.specs.declared.version.Version.TheVariants.{V4, V6}
 use Rattle.prefix_keys.proofs.ReadBack.{block_is_read_back}
-use Rattle.pmap_cert.specs.CertificateText.{version_word}
-use Rattle.pmap_cert.specs.ListForm.{HasBlock}
 use Rattle.pmap_text.specs.Declarations.{label_number, meant_text, text_of_number}
-use Rattle.pmap_text.specs.Label.{is_label, with_label}
-use Rattle.pmap_text.specs.Lines.{behind_word, content_of, first_word}
+use Rattle.pmap_text.specs.Label.{is_label}
+use Rattle.pmap_text.specs.Lines.{behind_word, first_word}
 use Rattle.pmap_text.specs.ListModel.{Prefix}
-use Rattle.pmap_text.specs.MapModel.{Label, Mapping}
-use Rattle.pmap_text.specs.Reading.{Decides, Earlier, Entry, Lists, Maps, Names, block_line, content_line, earlier_of, has_prefix, has_room, label_of, line_entry, mapping_limit, name_line, number_in, placed_line, statement_line}
-use Rattle.pmap_text.specs.declared.fault.MapFaultKind.{MapFaultKind}
+use Rattle.pmap_text.specs.MapModel.{Label}
+use Rattle.pmap_text.specs.Reading.{Decides, Earlier, Lists, Maps, Names, block_line, content_line, earlier_of, has_prefix, has_room, label_of, line_entry, mapping_limit, number_in, placed_line, statement_line}
 use Rattle.pmap_text.specs.declared.form.Form.{Form}
 use Rattle.pmap_text.specs.declared.form.Form.TheVariants as form
 use Rattle.pmap_print.specs.List.{entry_line, mode_line}
 use Rattle.pmap_print.specs.ReadBack.{IsPrintedEntry, mapping_of_prefix}
 use Rattle.pmap_print.specs.Table.{Text}
-use Rattle.pmap_print.proofs.WordLines.{high-block, label-parts, line-behind_word, line-content, line-first_word}
+use Rattle.pmap_print.proofs.WordLines.{high-block, line-behind_word, line-content, line-first_word}
 
 -- a line of a word and a label is read by its words
 content-word : (kind : Form) (earlier : Earlier) (text : Text) → 0 < length text

@@ -1,30 +1,26 @@
 -- The printed text of a list, read as a list and as a map.
-use Rattle.std.proofs.Common.{◌≡◌, ℕ, zero, suc, ◌+◌, ◌-◌, ◌^◌, ◌<◌, ◌≤◌, ◌==◌, ◌&&◌, ◌||◌, ◌⊎◌, ◌∙◌, inl, inr, Bool, true, false, cond, List, [], ◌∷◌, ◌++◌, All, Contains, Option, Some, None, Result, Ok, Err, codes, fold, get_or, length, map, nat_lt, option_map, refl, sym, ap, subst, arith, IsTrue, unwrap_or}
+use Rattle.std.proofs.Common.{◌≡◌, ℕ, ◌+◌, ◌≤◌, ◌==◌, ◌&&◌, ◌∙◌, Bool, true, false, cond, List, [], ◌∷◌, ◌++◌, All, Option, Some, None, Ok, codes, fold, get_or, length, map, refl, sym, ap, subst, arith, IsTrue}
 use Rattle.std.specs.List.{AllByRecursion, IsDistinct, list_any}
-use Rattle.std.specs.Option.{ForSome, option_or}
-use Rattle.std.proofs.lemmas.Bool.{and_from, and_parts, both_ways, eq-eqb, eqb-true, false_from_ne_true, lt-ltb, or_left, or_right}
+use Rattle.std.specs.Option.{ForSome}
+use Rattle.std.proofs.lemmas.Bool.{lt-ltb}
 use Rattle.std.proofs.lemmas.List.{append_assoc, append-nil, get_or_append_left, get_or_at, length-append, length-map, map-append}
-use Rattle.std.proofs.lemmas.List.Elements.{All-cons, All-head, All-map, All-nil, All-tail, All-weaker, recursion_from_All}
+use Rattle.std.proofs.lemmas.List.Elements.{recursion_from_All}
 use Rattle.std.proofs.lemmas.List.Folds.{list_any_none}
-use Rattle.std.proofs.lemmas.List.Sorted.{All-permutation, length_permutation}
 use Rattle.std.proofs.lemmas.List.Sums.{fold-append}
-use Rattle.std.proofs.lemmas.Map.Keys.{IsDistinct-IsPermutation, IsDistinct-from_apart, apart_from_distinct}
-use Rattle.prefix_keys.specs.Block.{block_number}
+use Rattle.std.proofs.lemmas.Map.Keys.{apart_from_distinct}
 use Rattle.prefix_keys.specs.Version.{width_of}
 use Rattle.prefix_keys.specs.declared.version.Version.{Version}
 use Rattle.pmap_text.specs.Label.{has_label, is_label, with_label}
-use Rattle.pmap_text.specs.ListModel.{ListModel, Prefix}
-use Rattle.pmap_text.specs.LongestMatch.{HasDistinctPrefixes, is_same_prefix}
+use Rattle.pmap_text.specs.ListModel.{Prefix}
 use Rattle.pmap_text.specs.MapModel.{Label, Mapping}
-use Rattle.pmap_text.specs.Reading.{Decides, Earlier, Entry, Lists, Maps, Names, earlier_of, entries_from, has_prefix, has_room, label_limit, line_entry, mapping_limit}
+use Rattle.pmap_text.specs.Reading.{Decides, Earlier, Entry, Lists, Maps, Names, earlier_of, entries_from, has_room, label_limit, line_entry, mapping_limit}
 use Rattle.pmap_text.specs.Steps.{added}
-use Rattle.pmap_text.specs.declared.fault.MapFaultKind.{MapFaultKind}
 use Rattle.pmap_text.specs.declared.form.Form.{Form}
 use Rattle.pmap_text.specs.declared.form.Form.TheVariants as form
 use Rattle.pmap_text.proofs.LineEntries.{earlier_of-push}
 use Rattle.pmap_text.proofs.ProgressSteps.{length-with_label}
 use Rattle.pmap_print.specs.List.{entry_line, mode_line, name_lines}
-use Rattle.pmap_print.specs.Order.{in_order, starts_alike}
+use Rattle.pmap_print.specs.Order.{starts_alike}
 use Rattle.pmap_print.specs.ReadBack.{IsPrintedEntry, labels_of, mapping_of_prefix}
 use Rattle.pmap_print.specs.Table.{Text}
 use Rattle.pmap_print.proofs.ReadLines.{list-entry, map-entry, mode-entry, mode-entry-named, name-entry}

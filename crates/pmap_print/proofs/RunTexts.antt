@@ -1,6 +1,5 @@
 -- The text of the runs of leaves, one leaf after the other.
 use Rattle.std.proofs.Common.{◌≡◌, ℕ, suc, ◌+◌, ◌^◌, ◌<◌, ◌∙◌, List, [], ◌∷◌, ◌++◌, All, Option, Some, None, drop, get_or, length, map, option_map, refl, sym, ap, subst, arith}
-use Rattle.std.specs.List.{flat_map}
 use Rattle.std.specs.Option.{ForSome}
 use Rattle.std.proofs.Math.Seq.{drop-cons}
 use Rattle.std.proofs.lemmas.List.{get_or-map, length-map}
@@ -17,7 +16,7 @@ use Rattle.label_trie.specs.TrieModel.{LeafModel}
 use Rattle.label_trie.specs.declared.leaf.Leaf.{Leaf}
 use Rattle.pmap_print.specs.Runs.{CoverSpace, IsRunsText, label_of_leaves, leaves_version, run_fields, run_titles}
 use Rattle.pmap_print.specs.Stretches.{Numbered, joined, leaf_view, run_of, stretches_text}
-use Rattle.pmap_print.specs.Table.{Line, Text, line_text}
+use Rattle.pmap_print.specs.Table.{Text, line_text}
 use Rattle.pmap_print.proofs.Stretches.{leaves-runs}
 
 -- the leaf at a place, and those behind it

@@ -1,15 +1,15 @@
 -- A printed line of a word and a label, as it is read: its content is itself, and its words are these two.
-use Rattle.std.proofs.Common.{◌≡◌, ℕ, zero, suc, ◌+◌, ◌-◌, ◌^◌, ◌<◌, ◌≤◌, ◌==◌, ◌&&◌, ◌||◌, ◌∙◌, Bool, true, false, not, cond, List, [], ◌∷◌, ◌++◌, All, drop, length, get_or, take, nat_le, nat_lt, refl, sym, ap, subst, arith, eq-eqb, one-add}
+use Rattle.std.proofs.Common.{◌≡◌, ℕ, ◌+◌, ◌-◌, ◌^◌, ◌<◌, ◌≤◌, ◌==◌, ◌&&◌, ◌∙◌, Bool, true, false, not, cond, List, [], ◌∷◌, ◌++◌, All, drop, length, get_or, take, nat_le, nat_lt, refl, sym, ap, subst, arith, one-add}
 use Rattle.std.specs.Fmt.{decimal, digit_glyph, digits}
-use Rattle.std.specs.List.{before_first, flat_map, join_with_byte, list_all, position_or_len, suffix_len}
+use Rattle.std.specs.List.{before_first, list_all, position_or_len, suffix_len}
 use Rattle.std.proofs.lemmas.Bool.{and_parts, both_ways, leb-true, ne_eqb, not-true}
-use Rattle.std.proofs.lemmas.List.{append_assoc, drop_at, get_or-append-add, get_or_append_left, get_or_at, length-append, take_all, take_at}
-use Rattle.std.proofs.lemmas.List.Elements.{All-append, All-cons, All-drop, All-get_or, All-head, All-nil, All-same, All-tail, All-take, All-weaker}
+use Rattle.std.proofs.lemmas.List.{drop_at, get_or-append-add, get_or_append_left, get_or_at, length-append, take_all, take_at}
+use Rattle.std.proofs.lemmas.List.Elements.{All-append, All-cons, All-drop, All-head, All-nil, All-tail, All-take, All-weaker}
 use Rattle.std.proofs.lemmas.List.Sums.{AllPass-from_list_all, position_or_len_is, suffix_len-take_no}
 use Rattle.prefix_keys.specs.Print.{address_bytes, address_groups, address_text, block_text, groups_text, joined_text, longest_run, shortened_text}
 use Rattle.prefix_keys.specs.declared.version.Version.{Version}
 use Rattle.prefix_keys.specs.declared.version.Version.TheVariants.{V4, V6}
-use Rattle.prefix_keys.proofs.Digits.{All-digits, digits_some}
+use Rattle.prefix_keys.proofs.Digits.{All-digits}
 use Rattle.prefix_keys.proofs.Groups.{bytes-below, groups-below}
 use Rattle.prefix_keys.proofs.Printed.{Lacks}
 use Rattle.pmap_cert.specs.CertificateText.{text_of_lines}

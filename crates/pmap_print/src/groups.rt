@@ -1,3 +1,4 @@
+//! The text of groups.
 ghost use Rattle.std.specs.Prelude.{◌≡◌, ◌+◌, All, IfOk, OnOk, length, map, slice_index};
 ghost use Rattle.flow_uniq.specs.Kept.{group_model};
 ghost use Rattle.flow_uniq.specs.Parts.{part_model};

@@ -1,3 +1,4 @@
+//! The text of counts.
 ghost use Rattle.std.specs.Prelude.{◌≡◌, ◌++◌, IfOk, OnOk};
 ghost use Rattle.flow_rows.specs.Counts.{counts_view};
 ghost use Rattle.pmap_print.specs.Info.{count_text, info_text};

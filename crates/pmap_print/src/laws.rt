@@ -27,8 +27,8 @@ ghost use Rattle.pmap_print.specs.ReadBack.{CanBeReadAgain, IsListAgain, IsMapAg
 ghost use Rattle.pmap_print.specs.Runs.{HaveRunsOf, IsRunsText};
 ghost use Rattle.pmap_print.specs.Table.{Text};
 
-/// A labelling of a version's addresses has one text of its runs, and labellings that agree on each address have the same. So a
-/// list that labels each address as a map does has the map's.
+/// A labelling of a version's addresses has one text of its runs, and labellings that agree on each address have the
+/// same. So a list that labels each address as a map does has the map's.
 pub fn labelling_has_one_runs_text()
     ensures one { (v : Version) (f : ℕ → Option Label) (text other : Text) →
         IsRunsText v f text → IsRunsText v f other → text ≡ other }
@@ -39,8 +39,8 @@ pub fn labelling_has_one_runs_text()
         IsRunsText m.version (λ a. Some (map_label m a)) other → text ≡ other }
 {}
 
-/// The leaves of the trie of a map have the runs of the map's labels: what is said of the trie and of its leaves where they are
-/// made is what it takes to print them.
+/// The leaves of the trie of a map have the runs of the map's labels: what is said of the trie and of its leaves where
+/// they are made is what it takes to print them.
 pub fn map_leaves_have_its_runs()
     ensures { (m : MapText) (t : TrieModel) (leaves : List Leaf) → t.version ≡ m.version →
         IsCut (width_of m.version) 0 (2 ^ width_of m.version) t.leaves → All (IsSettledLeaf (map_of m)) t.leaves →
@@ -60,8 +60,8 @@ pub fn list_leaves_have_its_runs()
         HaveRunsOf l.version (list_label (list_of l)) leaves l.labels }
 {}
 
-/// A list is printed in the one order in which each entry stands before all that follow it. Entries that are in order keep
-/// theirs.
+/// A list is printed in the one order in which each entry stands before all that follow it. Entries that are in order
+/// keep theirs.
 pub fn printed_order_is_one()
     ensures entries { (ps : List Prefix) → IsPermutation ps (in_order ps) }
     ensures order { (ps : List Prefix) → IsDistinct starts_alike ps → IsInOrder (in_order ps) }
@@ -70,9 +70,9 @@ pub fn printed_order_is_one()
     ensures kept { (ps : List Prefix) → IsInOrder ps → in_order ps ≡ ps }
 {}
 
-/// The printed text of a list is read back: as a list it has the same name, version and entries, and as a map the same label
-/// at each address that the list gives one. So it is for each list of blocks that no two are equal, of labels, and within
-/// the limits of a text.
+/// The printed text of a list is read back: as a list it has the same name, version and entries, and as a map the same
+/// label at each address that the list gives one. So it is for each list of blocks that no two are equal, of labels,
+/// and within the limits of a text.
 pub fn printed_list_is_read_back()
     ensures list { (l : ListModel) → CanBeReadAgain l →
         (r : ListModel) × ReadsList (list_text l) r × IsListAgain l r }
@@ -89,32 +89,35 @@ pub fn printed_list_is_equivalent()
         × ((a : ℕ) → a < 2 ^ width_of m.version → map_label again a ≡ map_label m a) }
 {}
 
-/// The printed text of a prefix list is within the limits of a text where the list has at most 1,000,000 entries and they have
-/// at most 65,535 label texts. That its table and its name are of labels is said by `Labels::len` and `Name::as_bytes`.
+/// The printed text of a prefix list is within the limits of a text where the list has at most 1,000,000 entries and
+/// they have at most 65,535 label texts. That its table and its name are of labels is said by `Labels::len` and
+/// `Name::as_bytes`.
 pub fn prefix_list_can_be_read_again()
     ensures { (l : PrefixList) → IsLabelTable l.labels → ForSome l.name (λ name. IsTrue (is_label name)) →
         length l.entries ≤ mapping_limit → length (labels_of (in_order (list_of l).prefixes)) ≤ label_limit →
         CanBeReadAgain (list_of l) }
 {}
 
-/// The list of a minimal pair of a map text can be printed and read again where it has at most 1,000,000 entries and they have at
-/// most 65,535 label texts: its blocks are distinct, and its labels and its name have the form of labels. The limits are no
-/// consequence of the map text, since a range can take several blocks, and a text of 65,535 labels may leave `UNKNOWN` unstated.
+/// The list of a minimal pair of a map text can be printed and read again where it has at most 1,000,000 entries and
+/// they have at most 65,535 label texts: its blocks are distinct, and its labels and its name have the form of labels.
+/// The limits are no consequence of the map text, since a range can take several blocks, and a text of 65,535 labels
+/// may leave `UNKNOWN` unstated.
 pub fn minimal_list_can_be_read_again()
     ensures { (text : List ℕ) (m : MapModel) (l : ListModel) (c : CertificateModel) → ReadsMap text m →
         IsMinimalPair m l c → length l.prefixes ≤ mapping_limit → length (labels_of l.prefixes) ≤ label_limit →
         CanBeReadAgain l }
 {}
 
-/// The entries of a minimal pair's list have no more label texts than the map's table, where that has the map's labels, as that
-/// of a map text does. So a map text of at most 65,535 labels, `UNKNOWN` counted where it has no default, keeps that limit.
+/// The entries of a minimal pair's list have no more label texts than the map's table, where that has the map's labels,
+/// as that of a map text does. So a map text of at most 65,535 labels, `UNKNOWN` counted where it has no default, keeps
+/// that limit.
 pub fn minimal_list_has_few_labels()
     ensures { (m : MapModel) (l : ListModel) (c : CertificateModel) → IsMinimalPair m l c → HasItsLabels m →
         length (labels_of l.prefixes) ≤ length m.table }
 {}
 
-/// The printed list of a minimal pair of a map text, within these limits, is read as a list of as many entries for which the
-/// pair's certificate is accepted.
+/// The printed list of a minimal pair of a map text, within these limits, is read as a list of as many entries for
+/// which the pair's certificate is accepted.
 pub fn minimal_list_is_accepted_again()
     ensures { (text : List ℕ) (m : MapModel) (l : ListModel) (c : CertificateModel) → ReadsMap text m →
         IsMinimalPair m l c → length l.prefixes ≤ mapping_limit → length (labels_of l.prefixes) ≤ label_limit →

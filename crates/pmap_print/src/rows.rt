@@ -1,3 +1,4 @@
+//! The text of flow rows.
 ghost use Rattle.std.specs.Prelude.{◌≡◌, ◌<◌, ◌++◌, IfOk, length, map, slice_index};
 ghost use Rattle.std.specs.Option.{ForSome};
 ghost use Rattle.flow_rows.specs.Row.{row_view};

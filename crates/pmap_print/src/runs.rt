@@ -10,7 +10,7 @@ use pmap_text::{LabelId, Labels};
 use prefix_keys::{Addr, print_addr};
 use std::alloc::{AllocError, Global};
 
-/// The addresses from one to another, with the number of their label, if they have one.
+// The addresses from one to another, with the number of their label, if they have one.
 #[derive(Clone, Copy)]
 struct Stretch {
     low: Addr,
@@ -31,7 +31,8 @@ fn leaf_stretch(leaf: &Leaf) -> Stretch
     }
 }
 
-// Whether both are one number, or both are none. A label table has no text twice, so that the texts are equal just then.
+// Whether both are one number, or both are none. A label table has no text twice, so that the texts are equal just
+// then.
 fn is_same(label: Option<LabelId>, other: Option<LabelId>) -> bool
     ensures { result ≡ is_same_number (option_map (λ id. id.0) label) (option_map (λ id. id.0) other) }
 {
@@ -105,16 +106,16 @@ fn push_runs(
     print_stretch(out, &stretch, labels)
 }
 
-/// The text of the runs of leaves: a title, and a line for each maximal range of consecutive addresses that have one label or
-/// have none, with its first and its last address and the label.
+/// The text of the runs of leaves: a title, and a line for each maximal range of consecutive addresses that have one
+/// label or have none, with its first and its last address and the label.
 pub fn print_runs(alloc: Global, leaves: &[Leaf], labels: &Labels) -> Result<Vec<u8>, AllocError>
     requires space { CoverSpace (leaves_version leaves.now) leaves.now }
     requires known { All (λ leaf. ForSome leaf.label (λ id. id.0 < length labels.now)) leaves.now }
     ensures { let version = leaves_version leaves.now in
         IfOk result (λ out. IsRunsText version (label_of_leaves version labels.now leaves.now) out.items) }
 {
-    // What a table's length is answered with: no two of its texts are equal.
-    prove!(labels.len() <= 65536);
+    // For its law: no two texts of the table are equal.
+    let _count = labels.len();
     let mut out = Vec::new(alloc);
     out.extend_from_slice(b"low|high|label\n")?;
     let Some((first, rest)) = leaves.split_first() else {

@@ -1,3 +1,4 @@
+//! Lines of a table.
 ghost use Rattle.std.specs.Prelude.{◌≡◌, ◌≤◌, ◌<◌, ◌++◌, ℕ, max, length, map, replicate, slice_index, slice_index_or, [], IfOk, OnOk};
 ghost use Rattle.pmap_print.specs.Cell.{cell_text};
 ghost use Rattle.pmap_print.specs.Table.{filled, filled_line, line_text};
@@ -31,7 +32,8 @@ fn cell_length(scratch: &mut Vec<u8>, cell: &Cell<'_>) -> Result<usize, AllocErr
     Ok(scratch.len())
 }
 
-// Appends the text of a cell, with spaces on the left that make it this wide. The scratch is for texts that are measured.
+// Appends the text of a cell, with spaces on the left that make it this wide. The scratch is for texts that are
+// measured.
 fn print_filled(
     out: &mut Vec<u8>,
     scratch: &mut Vec<u8>,

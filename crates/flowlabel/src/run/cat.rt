@@ -8,10 +8,9 @@ ghost use Rattle.flowlabel.specs.Output.{HasRunsText};
 
 use crate::run::loaded::LoadedLabels;
 use label_trie::Trie;
-use pmap_print::laws::{
-    labelling_has_one_runs_text, list_leaves_have_its_runs, map_leaves_have_its_runs,
+use pmap_print::{
+    labelling_has_one_runs_text, list_leaves_have_its_runs, map_leaves_have_its_runs, print_runs,
 };
-use pmap_print::print_runs;
 use pmap_text::{MapText, PrefixList};
 use std::alloc::{AllocError, Global};
 

@@ -1,10 +1,11 @@
+//! Files as hexadecimal digits, which several tests read.
 use flow_rows::{Row, row_of};
 use ipfix_read::{RecordList, Set, read_file};
 use std::alloc::Global;
 use std::test::Fail;
 
-// Worked Files: a template of addresses, protocol, packets and octets; padding, and a set behind a message of
-// another domain; a variable length; IPv6; a withdrawal; two records.
+/// Worked Files: a template of addresses, protocol, packets and octets; padding, and a set behind a message of
+/// another domain; a variable length; IPv6; a withdrawal; two records.
 pub const FIVE_FIELDS: &str =
     "000a0041 60000000 00000000 00000001 0002001c 01000005 00080004 000c0004 00040001 00020004 00010004 01000015 0a000001 08080808 06 00000003 000000b4";
 
@@ -20,7 +21,7 @@ pub const VERSION_SIX: &str =
 pub const WITHDRAWN: &str =
     "000a0049 60000000 00000000 00000001 0002001c 01000005 00080004 000c0004 00040001 00020004 00010004 00020008 01000000 01000015 0a000001 08080808 06 00000003 000000b4";
 
-// The same with a withdrawal of all options templates.
+/// The same with a withdrawal of all options templates.
 pub const OTHERS_WITHDRAWN: &str =
     "000a0049 60000000 00000000 00000001 0002001c 01000005 00080004 000c0004 00040001 00020004 00010004 00030008 00030000 01000015 0a000001 08080808 06 00000003 000000b4";
 
@@ -33,8 +34,8 @@ pub const TWO_RECORDS: &str =
 pub const REVERSE: &str =
     "000a0059 60000000 00000000 00000001 0002002c 01000007 00080004 000c0004 00040001 00020004 00010004 80020004 00007279 80010004 00007279 0100001d 0a000001 08080808 06 00000003 000000b4 00000002 00000064";
 
-// Ports of one byte and of two, flags, counts since the flow began of three bytes and of two, times, octets of nine
-// bytes, and a second source port.
+/// Ports of one byte and of two, flags, counts since the flow began of three bytes and of two, times, octets of nine
+/// bytes, and a second source port.
 pub const TOTALS: &str =
     "000a0075 60000000 00000000 00000001 00020034 0101000b 00080004 000c0004 00070001 000b0002 00060002 00550003 00560002 00980008 00990008 00010009 00070002 01010031 0a000001 08080808 50 01bb 001b 010203 0102 0000018bcfe56800 0000018bcfe56be8 0000000000000000ff 1234";
 

@@ -1,3 +1,4 @@
+//! The runs of maps and lists.
 ghost use Rattle.std.specs.Prelude.{◌≡◌, ◌≤◌, Some, IfOk, length};
 ghost use Rattle.pmap_text.specs.ListModel.{list_label};
 ghost use Rattle.pmap_text.specs.MapModel.{map_label};
@@ -17,6 +18,7 @@ use std::test::*;
 fn map_runs(alloc: Global, map: &MapText) -> Result<Vec<u8>, AllocError>
     ensures { IfOk result (λ out. IsRunsText map.now.version (λ a. Some (map_label (map_of map.now) a)) out.items) }
 {
+    // For its law: the runs of the leaves are those of the map.
     map_leaves_have_its_runs();
     let trie = Trie::build(alloc, map)?;
     let leaves = trie.leaves(alloc)?;
@@ -28,6 +30,7 @@ fn list_runs(alloc: Global, list: &PrefixList) -> Result<Vec<u8>, AllocError>
     requires { length list.now.entries ≤ 1000000 }
     ensures { IfOk result (λ out. IsRunsText list.now.version (list_label (list_of list.now)) out.items) }
 {
+    // For its law: the runs of the leaves are those of the list.
     list_leaves_have_its_runs();
     let trie = Trie::build_list(alloc, list)?;
     let leaves = trie.leaves(alloc)?;

@@ -1,3 +1,4 @@
+//! The printed texts of rows, groups and counts.
 use super::files::*;
 use super::rows_and_counts::counts_of;
 use crate::{RowLabels, print_info, print_rows};

@@ -1,3 +1,4 @@
+//! The rows of records, and the counts of messages.
 use super::files::*;
 use crate::print_rows;
 use flow_rows::Counts;
@@ -34,8 +35,8 @@ const COUNTS: [(&str, [u64; 9]); 5] = [
     ("", [0; 9]),
 ];
 
-// The counts of a File.
-pub(super) fn counts_of(alloc: Global, text: &str) -> Result<Counts, Fail> {
+/// The counts of a File.
+pub fn counts_of(alloc: Global, text: &str) -> Result<Counts, Fail> {
     let bytes = bytes_of(alloc, text)?;
     let file = read_file(alloc, &bytes)?;
     let mut counts = Counts::new();

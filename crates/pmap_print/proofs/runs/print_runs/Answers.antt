@@ -8,6 +8,6 @@ push_runs-requires c = rest-version c.args.leaves.now c.in-Some.first.now c.in-S
 
 pub returns : goal.returns
 returns c =
-    runs-text c.args.labels.now c.len.ensures.table c.args.leaves.now c.in-Some.first.now c.in-Some.rest.now c.push_runs.new.out.items
+    runs-text c.args.labels.now c.len-count.ensures.table c.args.leaves.now c.in-Some.first.now c.in-Some.rest.now c.push_runs.new.out.items
     c.in-Some.ensures.cases.0 c.requires.space c.requires.known
     (title-first _ _ _ (line_text run_titles) _ c.in_ok-push_runs.ensures c.in_ok-extend_from_slice.ensures.items c.new-out.ensures.items)
