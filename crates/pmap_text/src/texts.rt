@@ -1,5 +1,6 @@
 //! Map texts and list texts, which are read line by line.
 ghost use Rattle.std.specs.Prelude.{◌≡◌, ◌≢◌, ◌≤◌, [], List, Ok, Err, length, IfOk, IfErr, IfSome};
+ghost use Rattle.std.specs.Result.{IsErr};
 ghost use Rattle.pmap_text.specs.Filed.{HasOncePlaced};
 ghost use Rattle.pmap_text.specs.Lines.{lines_of};
 ghost use Rattle.pmap_text.specs.MapText.{map_of};
@@ -56,9 +57,9 @@ fn read_lines(alloc: Global, form: Form, text: &[u8]) -> Result<Reading, MapFaul
 }
 
 // Reads the lines of a list text, and doesn't look for the block of an entry among those before. What was read counts
-// where all blocks are distinct, and `None` says nothing.
-fn read_unchecked(alloc: Global, text: &[u8]) -> Option<Reading>
-    ensures { IfSome result (λ lines. HasOncePlaced lines.prefixes →
+// where all blocks are distinct. A fault says nothing of the text, but where it is want of memory.
+fn read_unchecked(alloc: Global, text: &[u8]) -> Result<Reading, MapFaultKind>
+    ensures { IfOk result (λ lines. HasOncePlaced lines.prefixes →
         (entries : List Entry) × (entries_from form.List [] 0 (lines_of text.now) ≡ Ok entries)
         × (lines ≡ earlier_of entries)) }
 {
@@ -66,12 +67,29 @@ fn read_unchecked(alloc: Global, text: &[u8]) -> Option<Reading>
     let mut rest = text;
     while !rest.is_empty() {
         let (content, after) = split_content(rest);
-        let Ok(()) = reading.read_content(Form::List, content) else {
-            return None;
-        };
+        reading.read_content(Form::List, content)?;
         rest = after;
     }
-    Some(reading)
+    Ok(reading)
+}
+
+// What such a reading settles: the lines, where all blocks are distinct, or want of memory, its own or that of the test.
+// `None` says nothing.
+fn settled(unchecked: Result<Reading, MapFaultKind>) -> Result<Option<Reading>, MapFault>
+    ensures found { IfOk result (λ found. IfSome found (λ lines. (unchecked ≡ Ok lines) × HasOncePlaced lines.prefixes)) }
+    ensures fault { IfErr result (λ fault. fault ≡ record { kind = NoMemory; line = 0 }) }
+    ensures memory { unchecked ≡ Err NoMemory → IsErr result }
+{
+    let want = fault_at(MapFaultKind::NoMemory, 0);
+    match unchecked {
+        Ok(reading) => match reading.has_distinct_blocks() {
+            Ok(true) => Ok(Some(reading)),
+            Ok(false) => Ok(None),
+            Err(_) => Err(want),
+        },
+        Err(MapFaultKind::NoMemory) => Err(want),
+        Err(_) => Ok(None),
+    }
 }
 
 /// Reads a map text.
@@ -135,10 +153,8 @@ pub fn read_list(alloc: Global, text: &[u8]) -> Result<PrefixList, MapFault>
     ensures memory { IfErr result (λ fault. fault.kind ≡ NoMemory → fault.line ≡ 0) }
 {
     // Sorting all blocks once is faster than looking for each, and tells of most lists that they have no fault.
-    if let Some(reading) = read_unchecked(alloc, text) {
-        if let Ok(true) = reading.has_distinct_blocks() {
-            return Ok(reading.into_list());
-        }
+    if let Some(reading) = settled(read_unchecked(alloc, text))? {
+        return Ok(reading.into_list());
     }
     let reading = read_lines(alloc, Form::List, text)?;
     Ok(reading.into_list())

@@ -12,7 +12,7 @@ loop-rest-init c = λ once. (0, [], refl, c.new-reading.ensures)
 pub loop-rest-preserved : goal.loop-rest-preserved
 loop-rest-preserved c =
     let cut = c.split_content.ensures.line in
-    let taken = subst (λ (t : List ℕ). Takes c.loop-rest.reading c.read_content.new.self (content_line form.List c.loop-rest.reading t)) cut.2 c.in-Ok.ensures.ok in
+    let taken = subst (λ (t : List ℕ). Takes c.loop-rest.reading c.read_content.new.self (content_line form.List c.loop-rest.reading t)) cut.2 c.in_ok-read_content.ensures.ok in
     read-taken form.List (lines_of c.args.text.now) c.loop-rest.reading c.read_content.new.self cut.0 (lines_of c.loop-rest.rest.now)
     (lines_of c.split_content.result.1.now) cut.1 c.loop-rest.invariant taken
 
