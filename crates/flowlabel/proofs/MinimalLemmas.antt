@@ -59,17 +59,17 @@ shrunk_is_least accepts exists accepted equivalent least labels form can back al
       has_form,
       accepted m l c pair,
       λ fits.
-      let readable : CanBeReadAgain l = can texts.map m l c reads pair fits.0 fits.1 in
-      let (again, reads_list, is_again) = back l readable in
-      let (other, reads_other, is) = alike l m readable (equivalent m l c pair) in
-      let same : other ≡ again = cc in
-      record {
-        again = again;
-        reads = reads_list;
-        version = is_again.version;
-        name = is_again.name;
-        prefixes = is_again.prefixes ∙ kept l.prefixes (form m l c pair (labels texts.map m reads)).order;
-        equivalent = subst (λ (k : ListModel). IsEquivalent k m) same is;
-        checks = λ map list certificate. accepts map list certificate (record texts { list = list_text l; certificate = certificate_text c }) m l c reads pair has_form fits refl refl;
-      },
+          let readable : CanBeReadAgain l = can texts.map m l c reads pair fits.0 fits.1 in
+          let (again, reads_list, is_again) = back l readable in
+          let (other, reads_other, is) = alike l m readable (equivalent m l c pair) in
+          let same : other ≡ again = cc in
+          record {
+            again = again;
+            reads = reads_list;
+            version = is_again.version;
+            name = is_again.name;
+            prefixes = is_again.prefixes ∙ kept l.prefixes (form m l c pair (labels texts.map m reads)).order;
+            equivalent = subst (λ (k : ListModel). IsEquivalent k m) same is;
+            checks = λ map list certificate. accepts map list certificate (record texts { list = list_text l; certificate = certificate_text c }) m l c reads pair has_form fits refl refl;
+          },
     )

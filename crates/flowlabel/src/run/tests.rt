@@ -9,6 +9,7 @@ use std::test::Fail;
 
 mod check;
 mod flows;
+mod order;
 mod prefix_maps;
 
 const MAP: &str = "10.0.0.0/8 A\n10.0.0.0/7 B\n";

@@ -1,7 +1,7 @@
 //! `check` over a map, a list and a certificate.
 use super::*;
 
-const LINE: &str = "flowlabel check --pmap map.txt --list list.txt --cert cert.txt";
+pub const LINE: &str = "flowlabel check --pmap map.txt --list list.txt --cert cert.txt";
 
 const HALVES_MAP: &str = "0.0.0.0/1 A\n128.0.0.0/1 B\n";
 
