@@ -1,10 +1,12 @@
 -- What the end of the program says where a file can't be opened.
-use Rattle.std.proofs.Common.{◌≡◌, List, Result, Ok, Err, inl, inr, subst, sym}
-use Rattle.std.specs.Prelude.{option_map}
+use Rattle.std.proofs.Common.{◌≡◌, List, Option, Result, Ok, Err, false, refl, subst, sym}
+use Rattle.std.specs.Prelude.{IfErr, option_map}
 use Rattle.std.specs.Result.{IsErrAnd}
 use Rattle.flowlabel.specs.Answer.{Answers}
-use Rattle.flowlabel.specs.Opening.{CannotOpenOne, IsEndOf}
+use Rattle.flowlabel.specs.Opening.{CannotOpenFirst, CannotOpenNamed, CanOpenBefore, IsEndOf, name_at}
 use Rattle.flowlabel.specs.Request.{FileNames, Request, Text, files_of, names_of}
+use Rattle.flowlabel.specs.Run.{is_write_stop}
+use Rattle.flowlabel.specs.Turns.{Turn}
 use Rattle.flowlabel.specs.declared.command.Files.{Files}
 use Rattle.flowlabel.specs.declared.fault.RunFault.{RunFault}
 use Rattle.flowlabel.specs.declared.fault.RunFault.TheVariants.{Usage, CannotOpen, CannotRead, CannotWrite, NoMemory, File}
@@ -16,24 +18,43 @@ pub same_names : (files : Files) (names : FileNames) → option_map (λ s. s.now
 same_names files names map list certificate flows =
     λ i. record { map = map i; list = list i; certificate = certificate i; flows = flows i }
 
--- a fault that names a file is none of the words
-no_usage_fault : (names : FileNames) (fault : UsageFault) → CannotOpenOne names (Usage fault) → ⊥
-no_usage_fault names fault (inl h) = h
-no_usage_fault names fault (inr (inl h)) = h
-no_usage_fault names fault (inr (inr (inl h))) = h
-no_usage_fault names fault (inr (inr (inr h))) = h
+-- the fault of the first file that can't be opened, as a `?` hands it on
+pub refused_first : {A R : Type 0} (answers : Text → Option R → Type 0) (names : FileNames) (turn : Turn) (r : Result A RunFault) (fault : RunFault)
+    → IsErrAnd r (λ y. y ≡ fault) → CannotOpenNamed answers (name_at turn names) fault → CanOpenBefore answers turn names
+    → IfErr r (CannotOpenFirst answers names)
+refused_first answers names turn (Ok done) fault is cannot before = absurd is
+refused_first answers names turn (Err other) fault is cannot before =
+    subst (λ (f : RunFault). CannotOpenFirst answers names f) (sym is) (turn, cannot, before)
 
-pub end_of_open : (words : List Text) (request : Request) (fault : RunFault) → Answers words (Ok request) → CannotOpenOne (files_of request) fault
-    → IsEndOf {A = Unit {0}} words (Err fault)
-end_of_open words request (Usage fault) answers is = absurd (no_usage_fault (files_of request) fault is)
-end_of_open words request (CannotOpen file) answers is = (request, answers, is)
-end_of_open words request (CannotRead file) answers is = (request, answers)
-end_of_open words request CannotWrite answers is = (request, answers)
-end_of_open words request NoMemory answers is = (request, answers)
-end_of_open words request (File fault) answers is = (request, answers)
+-- a fault that says so names a file
+pub end_of_open : {R : Type 0} (answers : Text → Option R → Type 0) (words : List Text) (request : Request) (fault : RunFault)
+    → Answers words (Ok request) → CannotOpenFirst answers (files_of request) fault → IsEndOf {A = Unit {0}} answers words (Err fault)
+end_of_open answers words request (Usage fault) is (turn, cannot, before) = absurd cannot
+end_of_open answers words request (CannotOpen file) is first = (request, is, first)
+end_of_open answers words request (CannotRead file) is (turn, cannot, before) = absurd cannot
+end_of_open answers words request CannotWrite is (turn, cannot, before) = absurd cannot
+end_of_open answers words request NoMemory is (turn, cannot, before) = absurd cannot
+end_of_open answers words request (File fault) is (turn, cannot, before) = absurd cannot
 
 -- a fault that a `?` hands on ends the program as it did
-pub passed_up : {A : Type 0} (words : List Text) (r : Result A RunFault) (fault : RunFault) → IsErrAnd r (λ y. y ≡ fault)
-    → IsEndOf {A = Unit {0}} words (Err fault) → IsEndOf {A = A} words r
-passed_up words (Ok done) fault is end = absurd is
-passed_up words (Err other) fault is end = subst (λ (f : RunFault). IsEndOf {A = Unit {0}} words (Err f)) (sym is) end
+pub passed_up : {A R : Type 0} (answers : Text → Option R → Type 0) (words : List Text) (r : Result A RunFault) (fault : RunFault)
+    → IsErrAnd r (λ y. y ≡ fault) → IsEndOf {A = Unit {0}} answers words (Err fault) → IsEndOf {A = A} answers words r
+passed_up answers words (Ok done) fault is end = absurd is
+passed_up answers words (Err other) fault is end =
+    subst (λ (f : RunFault). IsEndOf {A = Unit {0}} answers words (Err f)) (sym is) end
+
+-- and it is none of the writer's
+no_write_stop : (A : Type 0) {R : Type 0} (answers : Text → Option R → Type 0) (names : FileNames) (fault : RunFault)
+    → CannotOpenFirst answers names fault → is_write_stop {A = A} (Err fault) ≡ false
+no_write_stop A answers names (Usage fault) first = refl
+no_write_stop A answers names (CannotOpen file) first = refl
+no_write_stop A answers names (CannotRead file) first = refl
+no_write_stop A answers names CannotWrite (turn, cannot, before) = absurd cannot
+no_write_stop A answers names NoMemory first = refl
+no_write_stop A answers names (File fault) first = refl
+
+pub passed_unwritten : {A R : Type 0} (answers : Text → Option R → Type 0) (names : FileNames) (r : Result A RunFault) (fault : RunFault)
+    → IsErrAnd r (λ y. y ≡ fault) → CannotOpenFirst answers names fault → is_write_stop {A = A} r ≡ false
+passed_unwritten answers names (Ok done) fault is first = absurd is
+passed_unwritten {A = A} answers names (Err other) fault is first =
+    subst (λ (f : RunFault). is_write_stop {A = A} (Err f) ≡ false) (sym is) (no_write_stop A answers names fault first)

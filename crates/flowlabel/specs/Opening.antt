@@ -1,13 +1,21 @@
-use Rattle.std.specs.Prelude.{◌≡◌, ◌⊎◌, List, Option, Some, Result, Ok, Err, option_map}
+use Rattle.std.specs.Prelude.{◌≡◌, List, Option, Some, None, Result, Ok, Err, option_map}
 use Rattle.flowlabel.specs.Answer.{Answers, IsFaultAt}
 use Rattle.flowlabel.specs.Request.{FileNames, Request, Text, files_of}
 use Rattle.flowlabel.specs.Run.{name_of}
+use Rattle.flowlabel.specs.Turns.{CertificateTurn, FlowsTurn, ListTurn, MapTurn, Turn}
 use Rattle.flowlabel.specs.declared.fault.RunFault.{RunFault}
 use Rattle.flowlabel.specs.declared.fault.RunFault.TheVariants.{Usage, CannotOpen}
 use Rattle.flowlabel.specs.declared.inputs.Inputs.{Inputs}
 use Rattle.flowlabel.specs.declared.inputs.Source.{Source}
 
 -- What the program does round a run: it opens the files of the command line's request.
+
+-- the name of the file that is read at a turn, where there is one
+abbrev pub name_at : Turn → FileNames → Option Text
+name_at MapTurn names = names.map
+name_at ListTurn names = names.list
+name_at CertificateTurn names = names.certificate
+name_at FlowsTurn names = names.flows
 
 module _ {R : Type 0} where
   -- each input is there under the name of its file, and no other
@@ -17,21 +25,44 @@ module _ {R : Type 0} where
     pub certificate : name_of inputs.certificate ≡ names.certificate
     pub flows : name_of inputs.flows ≡ names.flows
 
--- the fault says that the file of this name can't be opened
-abbrev pub CannotOpenNamed : Option Text → RunFault → Type 0
-CannotOpenNamed name (CannotOpen file) = name ≡ Some file.now
-CannotOpenNamed name fault = ⊥
+  -- each input is the answer to its name, where `answers` says what may be answered to a name: a reader, or that there is none
+  abbrev pub IsOpened : (Text → Option R → Type 0) → Option (Source R) → Type 0
+  IsOpened answers None = Unit {0}
+  IsOpened answers (Some source) = answers source.name.now (Some source.reader)
 
--- the fault says that of one of the files
-abbrev pub CannotOpenOne : FileNames → RunFault → Type 0
-CannotOpenOne names fault = CannotOpenNamed names.map fault ⊎ (CannotOpenNamed names.list fault
-    ⊎ (CannotOpenNamed names.certificate fault ⊎ CannotOpenNamed names.flows fault))
+  pub record AreOpened (answers : Text → Option R → Type 0) (inputs : Inputs R) : Type 0 where
+    pub map : IsOpened answers inputs.map
+    pub list : IsOpened answers inputs.list
+    pub certificate : IsOpened answers inputs.certificate
+    pub flows : IsOpened answers inputs.flows
 
--- what the end of the program says of its words: a usage fault is theirs, and at any other end they are a request, one of
--- whose files is named where it can't be opened
-abbrev pub IsEndOf : {A : Type 0} → List Text → Result A RunFault → Type 0
-IsEndOf words (Ok done) = (request : Request) × Answers words (Ok request)
-IsEndOf words (Err (Usage fault)) = IsFaultAt words fault
-IsEndOf words (Err (CannotOpen file)) =
-    (request : Request) × Answers words (Ok request) × CannotOpenOne (files_of request) (CannotOpen file)
-IsEndOf words (Err fault) = (request : Request) × Answers words (Ok request)
+  -- where a file is named, a reader may be answered to its name
+  abbrev pub CanOpen : (Text → Option R → Type 0) → Option Text → Type 0
+  CanOpen answers None = Unit {0}
+  CanOpen answers (Some name) = (reader : R) × answers name (Some reader)
+
+  -- so it is with each file whose turn comes before this one
+  abbrev pub CanOpenBefore : (Text → Option R → Type 0) → Turn → FileNames → Type 0
+  CanOpenBefore answers MapTurn names = Unit {0}
+  CanOpenBefore answers ListTurn names = CanOpen answers names.map
+  CanOpenBefore answers CertificateTurn names = CanOpen answers names.map × CanOpen answers names.list
+  CanOpenBefore answers FlowsTurn names = CanOpen answers names.map × CanOpen answers names.list × CanOpen answers names.certificate
+
+  -- the fault says that the file of this name can't be opened
+  abbrev pub CannotOpenNamed : (Text → Option R → Type 0) → Option Text → RunFault → Type 0
+  CannotOpenNamed answers name (CannotOpen file) = (name ≡ Some file.now) × answers file.now None
+  CannotOpenNamed answers name fault = ⊥
+
+  -- the fault says that of the first of the files that can't be opened
+  abbrev pub CannotOpenFirst : (Text → Option R → Type 0) → FileNames → RunFault → Type 0
+  CannotOpenFirst answers names fault =
+      (turn : Turn) × CannotOpenNamed answers (name_at turn names) fault × CanOpenBefore answers turn names
+
+-- what the end of the program says of its words: a usage fault is theirs, and at any other end they are a request, the first of
+-- whose files that can't be opened is named where one can't
+abbrev pub IsEndOf : {A R : Type 0} → (Text → Option R → Type 0) → List Text → Result A RunFault → Type 0
+IsEndOf answers words (Ok done) = (request : Request) × Answers words (Ok request)
+IsEndOf answers words (Err (Usage fault)) = IsFaultAt words fault
+IsEndOf answers words (Err (CannotOpen file)) =
+    (request : Request) × Answers words (Ok request) × CannotOpenFirst answers (files_of request) (CannotOpen file)
+IsEndOf answers words (Err fault) = (request : Request) × Answers words (Ok request)

@@ -9,10 +9,12 @@
 //! the program stand in contracts. That the streams are not mixed up is shown by running the program.
 #![tactic(auto)]
 
-ghost use Rattle.std.specs.Prelude.{◌≡◌};
+ghost use Rattle.std.specs.Prelude.{◌≡◌, false, OnOk};
 ghost use Rattle.clap.specs.Walk.{texts};
+ghost use Rattle.flow_io.specs.declared.last_call.LastCall.TheVariants.{Flush};
 ghost use Rattle.flowlabel.specs.Faults.{exit_status_of};
 ghost use Rattle.flowlabel.specs.Opening.{IsEndOf};
+ghost use Rattle.flowlabel.specs.Run.{is_write_stop};
 
 mod bytes_fault;
 mod command;
@@ -26,10 +28,10 @@ mod usage;
 mod words;
 
 use fault::{RunFault, exit_status, fault_line, help_text};
-use flow_io::Watched;
-use opening::open_all;
+use flow_io::{Output, Watched};
+use opening::{Opener, open_all};
 use run::run;
-use std::alloc::AllocError;
+use std::alloc::{AllocError, Global};
 use std::env;
 use std::io::Write;
 use std::process::ExitCode;
@@ -48,16 +50,23 @@ fn arguments(rt: &HostRuntime) -> Result<Vec<String>, UsageFault> {
 }
 
 // What a command line asks for, carried out.
-fn execute<'a>(rt: &HostRuntime, words: &'a [&'a str]) -> Result<(), RunFault<'a>>
-    ensures { IsEndOf (texts words.entry.now) result }
+fn execute<'a, O: Opener, W: Output>(
+    alloc: Global,
+    words: &'a [&'a str],
+    opener: &O,
+    output: &mut W,
+) -> Result<(), RunFault<'a>>
+    requires { W.failed output.old ≡ false }
+    ensures end { IsEndOf (O.answers opener.now) (texts words.entry.now) result }
+    ensures flushed { OnOk result (W.last_call output.new ≡ Flush) }
+    ensures write_fault { W.failed output.new ≡ is_write_stop result }
 {
-    let command = match parse(rt.alloc(), words) {
+    let command = match parse(alloc, words) {
         Ok(command) => command,
         Err(fault) => return Err(RunFault::Usage(fault)),
     };
-    let mut inputs = open_all(rt, command.files())?;
-    let mut output = Watched::new(rt.stdout());
-    run(rt.alloc(), &command, &mut inputs, &mut output)
+    let mut inputs = open_all(opener, command.files())?;
+    run(alloc, &command, &mut inputs, output)
 }
 
 // Help goes to standard output, and the line of a fault to standard error. Where the line finds no memory, or a stream
@@ -87,7 +96,10 @@ fn answer(rt: &HostRuntime) -> u8 {
     };
     let words = arguments.iter().map(|word| word.as_str());
     match words.collect::<Vec<&str>>(rt.alloc()) {
-        Ok(words) => ended(rt, &execute(rt, words.as_slice())),
+        Ok(words) => {
+            let mut output = Watched::new(rt.stdout());
+            ended(rt, &execute(rt.alloc(), words.as_slice(), rt, &mut output))
+        }
         Err(AllocError) => ended(rt, &Err(RunFault::NoMemory)),
     }
 }

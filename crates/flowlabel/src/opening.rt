@@ -1,6 +1,7 @@
 //! From names to files.
-ghost use Rattle.std.specs.Prelude.{◌≡◌, false, IfErr, IfOk, option_map};
-ghost use Rattle.flowlabel.specs.Opening.{CannotOpenNamed, CannotOpenOne, HaveNames};
+ghost use Rattle.std.specs.Prelude.{◌≡◌, false, IfErr, IfOk, List, Option, ℕ, option_map};
+ghost use Rattle.std.specs.Result.{result_ok};
+ghost use Rattle.flowlabel.specs.Opening.{AreOpened, CannotOpenFirst, CannotOpenNamed, CanOpen, HaveNames, IsOpened};
 ghost use Rattle.flowlabel.specs.Request.{NamesNeeds, names_of};
 ghost use Rattle.flowlabel.specs.Run.{AreNeeded, any_failed, name_of, source_failed};
 ghost use Rattle.flowlabel.specs.declared.command.Needs.{Needs};
@@ -8,27 +9,59 @@ ghost use Rattle.flowlabel.specs.declared.command.Needs.{Needs};
 use crate::command::Files;
 use crate::fault::RunFault;
 use crate::inputs::{Inputs, Source};
-use flow_io::Watched;
+use flow_io::{Input, Watched};
 use std::fs::File;
-use std::rt::Files as FileSystem;
+use thiserror::Error;
 
-type FileSource<'a> = Source<'a, Watched<File>>;
+/// A file can't be opened.
+#[derive(Clone, Copy, Debug, PartialEq, Eq, Error)]
+#[error("the file can't be opened")]
+pub struct OpenFault;
+
+/// What opens files by their names.
+pub trait Opener {
+    type Reader: Input + Drop;
+
+    // What it may answer to a name: a reader, or that there is none.
+    ghost answers: { Self → List ℕ → Option Self.Reader → Type 0 };
+
+    /// Opens the file of this name. Nothing of it is read yet.
+    fn open(&self, name: &str) -> Result<Self::Reader, OpenFault>
+        ensures answer { answers self.now name.now (result_ok result) }
+        ensures fresh { IfOk result (λ reader. Self.Reader.failed reader ≡ false) };
+}
+
+// The files of the system, of which no contract says what they are.
+impl Opener for HostRuntime {
+    type Reader = Watched<File>;
+
+    ghost answers = { λ _ _ _. Unit {0} };
+
+    fn open(&self, name: &str) -> Result<Watched<File>, OpenFault> {
+        match File::open(self, name) {
+            Ok(file) => Ok(Watched::new(file)),
+            Err(_) => Err(OpenFault),
+        }
+    }
+}
 
 // Opens a file, where one is named.
-fn open<'a>(rt: &HostRuntime, name: Option<&'a str>) -> Result<Option<FileSource<'a>>, RunFault<'a>>
+fn open<'a, O: Opener>(
+    opener: &O,
+    name: Option<&'a str>,
+) -> Result<Option<Source<'a, O::Reader>>, RunFault<'a>>
     ensures named { IfOk result (λ source. name_of source ≡ option_map (λ s. s.now) name.entry) }
-    ensures fresh { IfOk result (λ source. source_failed (λ watched. watched.failed) source ≡ false) }
-    ensures err { IfErr result (CannotOpenNamed (option_map (λ s. s.now) name.entry)) }
+    ensures opened { IfOk result (IsOpened (O.answers opener.now)) }
+    ensures can { IfOk result (λ _. CanOpen (O.answers opener.now) (option_map (λ s. s.now) name.entry)) }
+    ensures fresh { IfOk result (λ source. source_failed O.Reader.failed source ≡ false) }
+    ensures err { IfErr result (CannotOpenNamed (O.answers opener.now) (option_map (λ s. s.now) name.entry)) }
 {
     let Some(name) = name else {
         return Ok(None);
     };
-    match File::open(rt, name) {
-        Ok(file) => Ok(Some(Source {
-            name,
-            reader: Watched::new(file),
-        })),
-        Err(_) => Err(RunFault::CannotOpen(name)),
+    match opener.open(name) {
+        Ok(reader) => Ok(Some(Source { name, reader })),
+        Err(OpenFault) => Err(RunFault::CannotOpen(name)),
     }
 }
 
@@ -37,19 +70,20 @@ fn open<'a>(rt: &HostRuntime, name: Option<&'a str>) -> Result<Option<FileSource
 /// # Errors
 ///
 /// `CannotOpen` of the first file that can't be opened.
-pub fn open_all<'a>(
-    rt: &HostRuntime,
+pub fn open_all<'a, O: Opener>(
+    opener: &O,
     files: Files<'a>,
-) -> Result<Inputs<'a, Watched<File>>, RunFault<'a>>
+) -> Result<Inputs<'a, O::Reader>, RunFault<'a>>
     ensures named { IfOk result (HaveNames (names_of files.entry)) }
+    ensures opened { IfOk result (AreOpened (O.answers opener.now)) }
     ensures needed { (needs : Needs) → NamesNeeds needs files.entry → IfOk result (AreNeeded needs) }
-    ensures fresh { IfOk result (λ inputs. any_failed (λ watched. watched.failed) inputs ≡ false) }
-    ensures err { IfErr result (CannotOpenOne (names_of files.entry)) }
+    ensures fresh { IfOk result (λ inputs. any_failed O.Reader.failed inputs ≡ false) }
+    ensures err { IfErr result (CannotOpenFirst (O.answers opener.now) (names_of files.entry)) }
 {
     Ok(Inputs {
-        map: open(rt, files.map)?,
-        list: open(rt, files.list)?,
-        certificate: open(rt, files.certificate)?,
-        flows: open(rt, files.flows)?,
+        map: open(opener, files.map)?,
+        list: open(opener, files.list)?,
+        certificate: open(opener, files.certificate)?,
+        flows: open(opener, files.flows)?,
     })
 }
