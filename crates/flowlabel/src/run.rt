@@ -126,9 +126,9 @@ fn output<'a, R: Input>(
 ///
 /// # Errors
 ///
-/// The first fault of the inputs' bytes, a reader that failed behind files without a fault, want of memory, all before the
-/// writer has a call, and with the files behind the one at fault not read; or a writer that failed, which has taken a prefix of the output, or all of it where the flush failed. Names are those that
-/// the inputs had before the call.
+/// The first fault of the inputs' bytes, a reader that failed behind files without a fault, or want of memory, all before
+/// the writer has a call, and with the files behind the one at fault not read; or a writer that failed, which has taken a
+/// prefix of the output, or all of it where the flush failed. Names are those that the inputs had before the call.
 pub fn run<'a, R: Input, W: Output>(
     alloc: Global,
     command: &Command<'_>,
