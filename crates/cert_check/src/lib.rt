@@ -1,5 +1,16 @@
 //! The independent checker: whether a certificate shows that a prefix list is equivalent to a map and a shortest one.
 //!
+//! ```rust
+//! use cert_check::check;
+//! use pmap_cert::read_cert;
+//! use pmap_text::{read_list, read_map};
+//!
+//! let map = read_map(alloc, b"0.0.0.0/1 A\n128.0.0.0/1 B\n")?;
+//! let list = read_list(alloc, b"0.0.0.0/0 A\n128.0.0.0/1 B\n")?;
+//! let certificate = read_cert(alloc, b"flowlabel-cert 1 ipv4 3\nA\nB\nUNKNOWN\nn 1 0 1\nl 0\nl 1\n")?;
+//! assert!(rt; check(alloc, &map, &list, &certificate)? == 2);
+//! ```
+//!
 //! It stands on prefix_keys (blocks), pmap_text (maps and prefix lists) and pmap_cert (certificates and the law that an
 //! accepted one is enough), and knows neither the trie nor the minimiser. The layer above may rely on this: `check`
 //! answers the number of entries exactly where the certificate is accepted for the map and the list, and then the list

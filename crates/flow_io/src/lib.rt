@@ -1,5 +1,14 @@
 //! Readers and writers that remember whether they failed.
 //!
+//! ```rust
+//! use flow_io::{MemoryInput, read_whole};
+//!
+//! // A reader that gives four bytes a call, and never fails.
+//! let mut reader = MemoryInput::new(b"10.0.0.0/8 A\n", 4, None);
+//! let text = read_whole(alloc, &mut reader)?;
+//! assert!(rt; text.as_slice() == b"10.0.0.0/8 A\n".as_slice());
+//! ```
+//!
 //! The program reads its files and writes its output through the traits `Input` and `Output`. A device
 //! has failed exactly from its first call on that answered `Err`, or, of a writer, that took nothing of
 //! a nonempty slice; `failed` tells it, so the layer above can prove that it answers a read fault or a

@@ -1,11 +1,22 @@
 //! Groups of flow rows by fields of them, with totals.
 //!
-//! It stands on flow_rows, whose rows it takes, and on label_lookup, for the labels of their addresses. `Keys` are the fields
-//! by which rows are grouped, and `Groups` has a group for each key, with its totals. The layer above may rely on this: a text is
-//! read exactly where its items name distinct fields; groups that are those of a list of rows with their keys are, after one
-//! more row, those of the list followed by it, and so after more rows one by one; a row for which memory is refused leaves them
-//! as they were; and sorted groups are the groups in the order of their keys. A row whose key is known takes no memory but for a
-//! scratch that is kept.
+//! ```rust
+//! use flow_uniq::{Groups, Keys};
+//! use label_lookup::Scan;
+//!
+//! // `row` is a row of flow_rows, and no label is asked for.
+//! let keys = Keys::read(alloc, "sip,proto")?;
+//! let mut groups = Groups::new(alloc, &keys)?;
+//! groups.add(&row, None::<&Scan<'_>>)?;
+//! assert!(rt; groups.group_count() == 1);
+//! ```
+//!
+//! It stands on flow_rows, whose rows it takes, and on label_lookup, for the labels of their addresses. `Keys` are the
+//! fields by which rows are grouped, and `Groups` has a group for each key, with its totals. The layer above may rely
+//! on this: a text is read exactly where its items name distinct fields; groups that are those of a list of rows with
+//! their keys are, after one more row, those of the list followed by it, and so after more rows one by one; a row for
+//! which memory is refused leaves them as they were; and sorted groups are the groups in the order of their keys. A row
+//! whose key is known takes no memory but for a scratch that is kept.
 #![tactic(auto)]
 
 mod entry;

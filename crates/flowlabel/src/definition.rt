@@ -6,7 +6,7 @@ ghost use Rattle.flowlabel.specs.Definition.{cat_app, certificate_rule, columns_
 use clap::{Arg, ArgAction, Command};
 use std::alloc::{AllocError, Global};
 
-/// `--pmap FILE`, a prefix map.
+// `--pmap FILE`, a prefix map.
 fn map_argument<'a>(alloc: Global) -> Arg<'a>
     ensures rule { rule_of result ≡ pmap_rule }
     ensures local { result.global ≡ false }
@@ -17,7 +17,7 @@ fn map_argument<'a>(alloc: Global) -> Arg<'a>
         .help("The prefix map")
 }
 
-/// `--list FILE`, a prefix list.
+// `--list FILE`, a prefix list.
 fn list_argument<'a>(alloc: Global) -> Arg<'a>
     ensures rule { rule_of result ≡ list_rule }
     ensures local { result.global ≡ false }
@@ -28,7 +28,7 @@ fn list_argument<'a>(alloc: Global) -> Arg<'a>
         .help("The prefix list")
 }
 
-/// `label [--pmap FILE] [--list FILE] ADDR`.
+// `label [--pmap FILE] [--list FILE] ADDR`.
 fn label<'a>(alloc: Global) -> Result<Command<'a>, AllocError>
     ensures app { IfOk result (λ c. app_of c ≡ label_app) }
     ensures local { IfOk result (λ c. (out-Command c).has_globals ≡ false) }
@@ -44,7 +44,7 @@ fn label<'a>(alloc: Global) -> Result<Command<'a>, AllocError>
         .arg(address)
 }
 
-/// `FILE`, the IPFIX File of `info`, `rows` and `uniq`.
+// `FILE`, the IPFIX File of `info`, `rows` and `uniq`.
 fn flows_argument<'a>(alloc: Global) -> Arg<'a>
     ensures rule { rule_of result ≡ flows_rule }
     ensures local { result.global ≡ false }
@@ -55,7 +55,7 @@ fn flows_argument<'a>(alloc: Global) -> Arg<'a>
         .help("The IPFIX File")
 }
 
-/// `info FILE`.
+// `info FILE`.
 fn info<'a>(alloc: Global) -> Result<Command<'a>, AllocError>
     ensures app { IfOk result (λ c. app_of c ≡ info_app) }
     ensures local { IfOk result (λ c. (out-Command c).has_globals ≡ false) }
@@ -65,7 +65,7 @@ fn info<'a>(alloc: Global) -> Result<Command<'a>, AllocError>
         .arg(flows_argument(alloc))
 }
 
-/// `--columns`.
+// `--columns`.
 fn columns_argument<'a>(alloc: Global) -> Arg<'a>
     ensures rule { rule_of result ≡ columns_rule }
     ensures local { result.global ≡ false }
@@ -180,7 +180,7 @@ fn with_filters<'a>(alloc: Global, command: Command<'a>) -> Result<Command<'a>, 
     with_label_filters(alloc, with_value_filters(alloc, command)?)
 }
 
-/// `rows [--pmap FILE] [--list FILE] [filters] [--columns] FILE`.
+// `rows [--pmap FILE] [--list FILE] [filters] [--columns] FILE`.
 fn rows<'a>(alloc: Global) -> Result<Command<'a>, AllocError>
     ensures app { IfOk result (λ c. app_of c ≡ rows_app) }
     ensures local { IfOk result (λ c. (out-Command c).has_globals ≡ false) }
@@ -219,7 +219,7 @@ fn sort_argument<'a>(alloc: Global) -> Arg<'a>
         .help("Print the groups in the order of their keys")
 }
 
-/// `uniq --fields NAMES [--pmap FILE] [--list FILE] [filters] [--sort-output] [--columns] FILE`.
+// `uniq --fields NAMES [--pmap FILE] [--list FILE] [filters] [--sort-output] [--columns] FILE`.
 fn uniq<'a>(alloc: Global) -> Result<Command<'a>, AllocError>
     ensures app { IfOk result (λ c. app_of c ≡ uniq_app) }
     ensures local { IfOk result (λ c. (out-Command c).has_globals ≡ false) }
@@ -235,7 +235,7 @@ fn uniq<'a>(alloc: Global) -> Result<Command<'a>, AllocError>
         .arg(flows_argument(alloc))
 }
 
-/// `cat [--pmap FILE] [--list FILE]`.
+// `cat [--pmap FILE] [--list FILE]`.
 fn cat<'a>(alloc: Global) -> Result<Command<'a>, AllocError>
     ensures app { IfOk result (λ c. app_of c ≡ cat_app) }
     ensures local { IfOk result (λ c. (out-Command c).has_globals ≡ false) }
@@ -246,7 +246,7 @@ fn cat<'a>(alloc: Global) -> Result<Command<'a>, AllocError>
         .arg(list_argument(alloc))
 }
 
-/// `--pmap FILE` where it has to be there.
+// `--pmap FILE` where it has to be there.
 fn needed_map_argument<'a>(alloc: Global) -> Arg<'a>
     ensures rule { rule_of result ≡ needed_pmap_rule }
     ensures local { result.global ≡ false }
@@ -254,7 +254,7 @@ fn needed_map_argument<'a>(alloc: Global) -> Arg<'a>
     map_argument(alloc).required(true)
 }
 
-/// `--certificate`.
+// `--certificate`.
 fn certificate_flag<'a>(alloc: Global) -> Arg<'a>
     ensures rule { rule_of result ≡ certificate_rule }
     ensures local { result.global ≡ false }
@@ -265,7 +265,7 @@ fn certificate_flag<'a>(alloc: Global) -> Arg<'a>
         .help("Print the certificate in place of the list")
 }
 
-/// `shrink --pmap FILE [--certificate]`.
+// `shrink --pmap FILE [--certificate]`.
 fn shrink<'a>(alloc: Global) -> Result<Command<'a>, AllocError>
     ensures app { IfOk result (λ c. app_of c ≡ shrink_app) }
     ensures local { IfOk result (λ c. (out-Command c).has_globals ≡ false) }
@@ -276,7 +276,7 @@ fn shrink<'a>(alloc: Global) -> Result<Command<'a>, AllocError>
         .arg(certificate_flag(alloc))
 }
 
-/// `--list FILE` where it has to be there.
+// `--list FILE` where it has to be there.
 fn needed_list_argument<'a>(alloc: Global) -> Arg<'a>
     ensures rule { rule_of result ≡ needed_list_rule }
     ensures local { result.global ≡ false }
@@ -284,7 +284,7 @@ fn needed_list_argument<'a>(alloc: Global) -> Arg<'a>
     list_argument(alloc).required(true)
 }
 
-/// `--cert FILE`, a certificate.
+// `--cert FILE`, a certificate.
 fn certificate_argument<'a>(alloc: Global) -> Arg<'a>
     ensures rule { rule_of result ≡ cert_rule }
     ensures local { result.global ≡ false }
@@ -296,7 +296,7 @@ fn certificate_argument<'a>(alloc: Global) -> Arg<'a>
         .help("The certificate")
 }
 
-/// `check --pmap FILE --list FILE --cert FILE`.
+// `check --pmap FILE --list FILE --cert FILE`.
 fn check<'a>(alloc: Global) -> Result<Command<'a>, AllocError>
     ensures app { IfOk result (λ c. app_of c ≡ check_app) }
     ensures local { IfOk result (λ c. (out-Command c).has_globals ≡ false) }
@@ -308,7 +308,7 @@ fn check<'a>(alloc: Global) -> Result<Command<'a>, AllocError>
         .arg(certificate_argument(alloc))
 }
 
-/// The program before its subcommands.
+// The program before its subcommands.
 fn program<'a>(alloc: Global) -> Command<'a>
     ensures app { app_of result ≡ program }
     ensures local { (out-Command result).has_globals ≡ false }

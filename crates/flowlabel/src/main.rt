@@ -1,6 +1,11 @@
 //! `flowlabel`: labels addresses by a prefix map or a prefix list, prints, filters and sums the flows of IPFIX Files, and
 //! makes and checks shortest lists.
 //!
+//! ```text
+//! $ flowlabel label --pmap examples/offices.txt 10.1.20.1
+//! Berlin gateway
+//! ```
+//!
 //! It stands on all the other crates: `parse` reads the command line (clap takes the words apart), `open_all` opens the
 //! files that it names, and `run` reads them, makes the whole output and then writes it. What may be relied on is the
 //! contract of `run`: the bytes written are a stated function of the bytes read, a fault is the first one of those

@@ -20,7 +20,7 @@ use prefix_keys::{Addr, read_addr};
 use std::alloc::Global;
 use std::io;
 
-/// The fault that an error of clap's is to the user, with its text.
+// The fault that an error of clap's is to the user, with its text.
 fn fault_of_error(alloc: Global, error: &clap::Error) -> UsageFault
     ensures { IsFaultOfKind (kind_of error.now) result }
 {
@@ -40,14 +40,14 @@ fn fault_of_error(alloc: Global, error: &clap::Error) -> UsageFault
     }
 }
 
-/// The text of an option or a word, where the line has it.
+// The text of an option or a word, where the line has it.
 fn text_of<'a>(entries: &ArgMatches<'a>, id: &str) -> Option<&'a str>
     ensures { option_map (λ s. s.now) result ≡ first_of id.now (rows_of (found_of entries.now)) }
 {
     entries.get_str(id)
 }
 
-/// The address that the word ADDR stands for.
+// The address that the word ADDR stands for.
 fn address_in(entries: &ArgMatches<'_>) -> Option<Addr>
     ensures { option_map (λ a. (a.version, a.value)) result
         ≡ address_in_rows (rows_of (found_of entries.now)) }
@@ -56,7 +56,7 @@ fn address_in(entries: &ArgMatches<'_>) -> Option<Addr>
     read_addr(text.as_bytes())
 }
 
-/// The file of labels that the line names, if it names one: two are too many.
+// The file of labels that the line names, if it names one: two are too many.
 fn labels_in<'a>(entries: &ArgMatches<'a>) -> Result<Option<LabelFile<'a>>, UsageFault>
     ensures { result_map_both (option_map source_of) (λ fault. fault) result ≡ sources_in_rows (rows_of (found_of entries.now)) }
 {
@@ -68,7 +68,7 @@ fn labels_in<'a>(entries: &ArgMatches<'a>) -> Result<Option<LabelFile<'a>>, Usag
     }
 }
 
-/// The command `label`, or its first usage fault, by the entries that clap found for it.
+// The command `label`, or its first usage fault, by the entries that clap found for it.
 fn label_command<'a>(entries: &ArgMatches<'a>) -> Result<Command<'a>, UsageFault>
     ensures ok { IfOk result (λ command. answer_of_label (rows_of (found_of entries.now)) ≡ Ok (request_of command)) }
     ensures err { IfErr result (λ fault. answer_of_label (rows_of (found_of entries.now)) ≡ Err fault) }
@@ -82,21 +82,21 @@ fn label_command<'a>(entries: &ArgMatches<'a>) -> Result<Command<'a>, UsageFault
     Ok(Command::Label { labels, addr })
 }
 
-/// The file of flows that the word FILE names: clap takes no line of `info`, `rows` or `uniq` without one.
+// The file of flows that the word FILE names: clap takes no line of `info`, `rows` or `uniq` without one.
 fn flows_in<'a>(entries: &ArgMatches<'a>) -> &'a str
     ensures { result.now ≡ flows_in_rows (rows_of (found_of entries.now)) }
 {
     text_of(entries, "flows").unwrap_or("")
 }
 
-/// Whether a flag is given: its text is then `true`.
+// Whether a flag is given: its text is then `true`.
 fn is_given(entries: &ArgMatches<'_>, flag: &str) -> bool
     ensures { result ≡ is_given flag.now (rows_of (found_of entries.now)) }
 {
     text_of(entries, flag).unwrap_or("") == "true"
 }
 
-/// The texts of the filters that the line names.
+// The texts of the filters that the line names.
 fn filter_words_in<'a>(entries: &ArgMatches<'a>) -> FilterWords<'a>
     ensures { words_of result ≡ words_in_rows (rows_of (found_of entries.now)) }
 {
@@ -114,7 +114,7 @@ fn filter_words_in<'a>(entries: &ArgMatches<'a>) -> FilterWords<'a>
     }
 }
 
-/// The filter that the line states, or the fault of the first text that has not its form.
+// The filter that the line states, or the fault of the first text that has not its form.
 fn filter_in<'a>(alloc: Global, entries: &ArgMatches<'a>) -> Result<Filter<'a>, UsageFault>
     ensures ok { IfOk result (λ filter. condition_in_rows (rows_of (found_of entries.now)) ≡ Ok (condition_in filter)) }
     ensures err { IfErr result (λ fault. fault ≢ NoMemory → condition_in_rows (rows_of (found_of entries.now)) ≡ Err fault) }
@@ -131,7 +131,7 @@ fn filter_in<'a>(alloc: Global, entries: &ArgMatches<'a>) -> Result<Filter<'a>, 
     }
 }
 
-/// The command `rows`, or its first usage fault, by the entries that clap found for it.
+// The command `rows`, or its first usage fault, by the entries that clap found for it.
 fn rows_command<'a>(alloc: Global, entries: &ArgMatches<'a>) -> Result<Command<'a>, UsageFault>
     ensures ok { IfOk result (λ command. answer_of_rows (rows_of (found_of entries.now)) ≡ Ok (request_of command)) }
     ensures err { IfErr result (λ fault. fault ≢ NoMemory → answer_of_rows (rows_of (found_of entries.now)) ≡ Err fault) }
@@ -151,14 +151,14 @@ fn rows_command<'a>(alloc: Global, entries: &ArgMatches<'a>) -> Result<Command<'
     })
 }
 
-/// The text of the fields that the line names: clap takes no line of `uniq` without one.
+// The text of the fields that the line names: clap takes no line of `uniq` without one.
 fn field_names_in<'a>(entries: &ArgMatches<'a>) -> &'a str
     ensures { result.now ≡ field_names_in_rows (rows_of (found_of entries.now)) }
 {
     text_of(entries, "fields").unwrap_or("")
 }
 
-/// The fields of keys that the line names, or the fault of their text.
+// The fields of keys that the line names, or the fault of their text.
 fn keys_in(alloc: Global, entries: &ArgMatches<'_>) -> Result<Keys, UsageFault>
     ensures ok { IfOk result (λ keys. fields_in_rows (rows_of (found_of entries.now)) ≡ Ok keys) }
     ensures err { IfErr result (λ fault. fault ≢ NoMemory → fields_in_rows (rows_of (found_of entries.now)) ≡ Err fault) }
@@ -170,7 +170,7 @@ fn keys_in(alloc: Global, entries: &ArgMatches<'_>) -> Result<Keys, UsageFault>
     }
 }
 
-/// The command `uniq`, or its first usage fault, by the entries that clap found for it.
+// The command `uniq`, or its first usage fault, by the entries that clap found for it.
 fn uniq_command<'a>(alloc: Global, entries: &ArgMatches<'a>) -> Result<Command<'a>, UsageFault>
     ensures ok { IfOk result (λ command. answer_of_uniq (rows_of (found_of entries.now)) ≡ Ok (request_of command)) }
     ensures err { IfErr result (λ fault. fault ≢ NoMemory → answer_of_uniq (rows_of (found_of entries.now)) ≡ Err fault) }
@@ -194,7 +194,7 @@ fn uniq_command<'a>(alloc: Global, entries: &ArgMatches<'a>) -> Result<Command<'
     })
 }
 
-/// The command `cat`, or its first usage fault, by the entries that clap found for it.
+// The command `cat`, or its first usage fault, by the entries that clap found for it.
 fn cat_command<'a>(entries: &ArgMatches<'a>) -> Result<Command<'a>, UsageFault>
     ensures ok { IfOk result (λ command. answer_of_cat (rows_of (found_of entries.now)) ≡ Ok (request_of command)) }
     ensures err { IfErr result (λ fault. answer_of_cat (rows_of (found_of entries.now)) ≡ Err fault) }
@@ -205,14 +205,14 @@ fn cat_command<'a>(entries: &ArgMatches<'a>) -> Result<Command<'a>, UsageFault>
     }
 }
 
-/// The file that an entry names: clap takes no line of `shrink` or `check` without those that it needs.
+// The file that an entry names: clap takes no line of `shrink` or `check` without those that it needs.
 fn file_in<'a>(entries: &ArgMatches<'a>, id: &str) -> &'a str
     ensures { result.now ≡ file_in_rows id.now (rows_of (found_of entries.now)) }
 {
     text_of(entries, id).unwrap_or("")
 }
 
-/// The command `shrink`, by the entries that clap found for it.
+// The command `shrink`, by the entries that clap found for it.
 fn shrink_command<'a>(entries: &ArgMatches<'a>) -> Command<'a>
     ensures { answer_of_shrink (rows_of (found_of entries.now)) ≡ Ok (request_of result) }
 {
@@ -221,7 +221,7 @@ fn shrink_command<'a>(entries: &ArgMatches<'a>) -> Command<'a>
     Command::Shrink { map, certificate }
 }
 
-/// The command `check`, by the entries that clap found for it.
+// The command `check`, by the entries that clap found for it.
 fn check_command<'a>(entries: &ArgMatches<'a>) -> Command<'a>
     ensures { answer_of_check (rows_of (found_of entries.now)) ≡ Ok (request_of result) }
 {
@@ -232,7 +232,7 @@ fn check_command<'a>(entries: &ArgMatches<'a>) -> Command<'a>
     }
 }
 
-/// The command of a subcommand, or its first usage fault, by its name and the entries that clap found for it.
+// The command of a subcommand, or its first usage fault, by its name and the entries that clap found for it.
 fn command_of<'a>(
     alloc: Global,
     name: &str,

@@ -1,5 +1,14 @@
 //! IPFIX Files read whole (RFC 5655): messages of RFC 7011 one after the other, as values.
 //!
+//! ```rust
+//! use ipfix_read::read_file;
+//!
+//! // A message without sets: version 10, the length 16, and then export time, sequence number and domain.
+//! let bytes = [0u8, 10, 0, 16, 0x60, 0, 0, 0, 0, 0, 0, 0, 0, 0, 0, 1];
+//! let file = read_file(alloc, &bytes)?;
+//! assert!(rt; file.messages.len() == 1);
+//! ```
+//!
 //! It stands on ipfix_templates, for template sets and the templates in force. `read_file` gives the messages of a
 //! File, each with its sets: template events, data records whose values are slices of the File, and sets that
 //! are skipped. The layer above may rely on this: the File is the concatenation of the messages' bytes, a message

@@ -1,5 +1,16 @@
 //! IPFIX template sets, and the templates in force (RFC 7011 sections 3.2, 3.4 and 8).
 //!
+//! ```rust
+//! use ipfix_templates::{Kind, TemplateEvent, read_template_set};
+//!
+//! // The ID 256 and two fields of 4 bytes: sourceIPv4Address and destinationIPv4Address.
+//! let bytes = [1u8, 0, 0, 2, 0, 8, 0, 4, 0, 12, 0, 4];
+//! let events = read_template_set(alloc, &bytes, Kind::Flow)?;
+//! if let [TemplateEvent::Define(template)] = events.as_slice() {
+//!     assert!(rt; template.id() == 256 && template.least_length() == 8);
+//! }
+//! ```
+//!
 //! It stands on no other crate of this repository. `read_template_set` reads the bytes after the header of a
 //! template set or an options template set into template events: definitions, withdrawals of one template and
 //! withdrawals of all templates of a kind. `TemplateTable` keeps the templates of each observation domain.

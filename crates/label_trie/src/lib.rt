@@ -1,5 +1,15 @@
 //! A labelled binary trie over the addresses of one version.
 //!
+//! ```rust
+//! use label_trie::Trie;
+//! use pmap_text::read_map;
+//!
+//! // Two halves of the address space, and the node above them.
+//! let map = read_map(alloc, b"0.0.0.0/1 A\n128.0.0.0/1 B\n")?;
+//! let trie = Trie::build(alloc, &map)?;
+//! assert!(rt; trie.node_count() == 3);
+//! ```
+//!
 //! It stands on prefix_keys (addresses, statements' spans) and pmap_text (map texts, prefix lists and their label
 //! tables). A trie halves the address space until each piece, a leaf, has one label or none. The layer above may rely
 //! on this: the leaves are blocks in rising order that cover every address once. In the trie of a map each leaf is

@@ -1,5 +1,15 @@
 //! Certificates that a prefix list is a shortest one for its map, and the laws on them.
 //!
+//! ```rust
+//! use pmap_cert::{read_cert, write_cert};
+//!
+//! // That of the map without a mapping: one leaf, whose label is UNKNOWN.
+//! let text = b"flowlabel-cert 1 ipv4 1\nUNKNOWN\nl 0\n".as_slice();
+//! let certificate = read_cert(alloc, text)?;
+//! let written = write_cert(alloc, &certificate)?;
+//! assert!(rt; written.as_slice() == text);
+//! ```
+//!
 //! A certificate is a binary tree over the address space. Each inner node claims a cost and a set of labels, from which
 //! a checker sees that no list that labels every address as the map does is shorter than the one at hand. The crate
 //! stands on prefix_keys (blocks) and pmap_text (maps, prefix lists and their labels). The layers above, the minimiser

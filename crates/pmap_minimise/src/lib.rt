@@ -1,9 +1,21 @@
 //! The shortest prefix list that labels every address as a prefix map does, with the certificate that shows it.
 //!
+//! ```rust
+//! use label_trie::Trie;
+//! use pmap_minimise::minimise;
+//! use pmap_text::read_map;
+//!
+//! // A for all addresses, and B and C for a quarter each.
+//! let map = read_map(alloc, b"0.0.0.0/2 A\n64.0.0.0/2 B\n128.0.0.0/2 A\n192.0.0.0/2 C\n")?;
+//! let trie = Trie::build(alloc, &map)?;
+//! let minimal = minimise(alloc, &map, &trie)?;
+//! assert!(rt; minimal.list.entries.len() == 3);
+//! ```
+//!
 //! It stands on label_trie (the map's trie), pmap_cert (certificates, and the laws on minimal pairs), pmap_text (maps
 //! and lists) and `smallvec` for small sets of labels. The layer above may rely on `minimise`: the list and the
 //! certificate are the map's minimal pair, so the list is equivalent to the map, has the root's cost and one entries,
-//! no equivalent list has fewer, and the certificate is accepted for the two.
+//! no equivalent list has fewer, and the certificate is accepted for the two. `shortest` makes the list alone.
 #![tactic(auto)]
 
 mod certifying;

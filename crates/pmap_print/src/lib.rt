@@ -1,5 +1,15 @@
 //! The printed texts of values.
 //!
+//! ```rust
+//! use pmap_print::print_list;
+//! use pmap_text::read_list;
+//!
+//! // Entries are printed by rising first address, of one address the shorter block first.
+//! let list = read_list(alloc, b"10.0.0.0/16 B\n10.0.0.0/8 A\n")?;
+//! let text = print_list(alloc, &list)?;
+//! assert!(rt; text.as_slice() == b"mode ipv4\n10.0.0.0/8 A\n10.0.0.0/16 B\n".as_slice());
+//! ```
+//!
 //! It stands on the crates of what it prints. `print_rows` gives the text of flow rows, with labels or without, in
 //! columns or not, `print_groups` that of groups, `print_info` that of counts, `print_list` that of a prefix list, and
 //! `print_runs` that of the runs of leaves. The layer above may rely on this: the text is the function of the printed

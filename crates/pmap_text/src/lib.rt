@@ -1,5 +1,13 @@
 //! Texts of prefix maps and prefix lists: their lines and labels, and the reading of a text as a map or as a list.
 //!
+//! ```rust
+//! use pmap_text::read_map;
+//!
+//! let map = read_map(alloc, b"10.0.0.0/8 Inside\n10.1.0.0/16 Guest network\n")?;
+//! assert!(rt; map.statements.len() == 2);
+//! assert!(rt; map.labels.text(map.default) == Some(b"UNKNOWN".as_slice()));
+//! ```
+//!
 //! It stands on `prefix_keys`, which reads addresses and blocks, and on `indexmap` for the tables of labels and of
 //! declared numbers. The layer above may rely on this: `read_map` and `read_list` answer exactly the
 //! map or the list that the text is read as, or the text's first fault with its line, counted from 1.

@@ -1,5 +1,15 @@
 //! IP addresses, CIDR blocks and spans of addresses, and their texts.
 //!
+//! ```rust
+//! use prefix_keys::{print_block, read_block};
+//!
+//! // The host bits are cleared.
+//! let block = read_block(b"10.1.2.3/8")?;
+//! let mut text = Vec::new(alloc);
+//! print_block(&mut text, &block)?;
+//! assert!(rt; text.as_slice() == b"10.0.0.0/8".as_slice());
+//! ```
+//!
 //! It stands on no other crate. An address is a whole number below 2^32 (IPv4) or 2^128 (IPv6), a block is
 //! what shares the leading bits of a prefix (RFC 4632), and a span is the addresses from one to another. The
 //! layer above may rely on this: each call is the quotient and interval arithmetic on those numbers that its
