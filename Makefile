@@ -1,7 +1,20 @@
-# make test: the gate, with as many tasks at a time as there are processors (RT_JOBS=N: with N), and what each crate cost. Every
-# proof from nothing, then the built program as a user runs it, and the examples.
-# make examples: the examples of the README pages. make bench: the speed of the program.
-.PHONY: test examples bench
+# make test: the gate, with as many tasks at a time as there are processors (RT_JOBS=N: with N), and what each crate
+# cost. Every proof from nothing, then the built program as a user runs it, its installation, and the examples that need
+# no other program. make examples: all examples of the pages. make scripts: the scripts of examples/. What needs packages
+# is skipped where they aren't there.
+# make bench: the speed of the program.
+# make install, make uninstall: the proved program with its manual pages and completions, below DESTDIR and PREFIX.
+.PHONY: test examples scripts bench install uninstall
+
+PREFIX = /usr/local
+DESTDIR =
+INSTALL = install
+
+program = crates/flowlabel/out/flowlabel
+to = $(DESTDIR)$(PREFIX)
+files = $(to)/bin/flowlabel $(to)/share/man/man1/flowlabel.1 $(to)/share/man/man5/flowlabel-formats.5 \
+	$(to)/share/bash-completion/completions/flowlabel $(to)/share/zsh/site-functions/_flowlabel \
+	$(to)/share/fish/vendor_completions.d/flowlabel.fish
 
 # The gate builds the program from nothing. So bin/flowlabel is told that the program is as old as the gate's start.
 test:
@@ -10,11 +23,31 @@ test:
 	bench/gate
 	mv -f out/gate out/built
 	tests/program
-	@$(MAKE) --no-print-directory examples
+	tests/install
+	examples/run --without-packages
 
 examples:
 	examples/run
 
+scripts:
+	tests/capture
+	tests/country
+	tests/many
+
 bench:
 	bench/run
 	bench/read_file/run
+
+# bin/flowlabel builds the program where it is missing or older than its sources.
+install:
+	bin/flowlabel --help >/dev/null
+	$(INSTALL) -d $(dir $(files))
+	$(INSTALL) -m 755 $(program) $(to)/bin/flowlabel
+	$(INSTALL) -m 644 man/flowlabel.1 $(to)/share/man/man1/flowlabel.1
+	$(INSTALL) -m 644 man/flowlabel-formats.5 $(to)/share/man/man5/flowlabel-formats.5
+	$(INSTALL) -m 644 completions/flowlabel.bash $(to)/share/bash-completion/completions/flowlabel
+	$(INSTALL) -m 644 completions/_flowlabel $(to)/share/zsh/site-functions/_flowlabel
+	$(INSTALL) -m 644 completions/flowlabel.fish $(to)/share/fish/vendor_completions.d/flowlabel.fish
+
+uninstall:
+	rm -f $(files)

@@ -1,0 +1,46 @@
+# Completion of flowlabel for bash. `make install` puts it where bash-completion finds it.
+
+# The options of a command.
+_flowlabel_options() {
+    local filters='--protocol --sport --dport --saddress --daddress --packets --bytes'
+    filters+=' --src-label --dst-label --any-label'
+    case $1 in
+    label | cat) echo --pmap --list --help ;;
+    info) echo --help ;;
+    rows) echo --pmap --list "$filters" --columns --help ;;
+    uniq) echo --fields --pmap --list "$filters" --sort-output --columns --help ;;
+    shrink) echo --pmap --certificate --help ;;
+    check) echo --pmap --list --cert --help ;;
+    esac
+}
+
+# What may stand behind the comma of a list of fields, or be its first field.
+_flowlabel_fields() {
+    local begun='' field
+    [[ $1 != *,* ]] || begun=${1%,*},
+    for field in sip dip sport dport proto flags src-label dst-label; do
+        [[ ,$begun == *,$field,* ]] || echo "$begun$field"
+    done
+}
+
+_flowlabel() {
+    local word=${COMP_WORDS[COMP_CWORD]} before=${COMP_WORDS[COMP_CWORD - 1]} command=${COMP_WORDS[1]}
+    COMPREPLY=()
+    if ((COMP_CWORD == 1)); then
+        mapfile -t COMPREPLY < <(compgen -W 'label info rows uniq cat shrink check --help' -- "$word")
+        return
+    fi
+    case $before in
+    --fields) mapfile -t COMPREPLY < <(compgen -W "$(_flowlabel_fields "$word")" -- "$word") ;;
+    --pmap | --list | --cert) mapfile -t COMPREPLY < <(compgen -f -- "$word") ;;
+    --protocol | --sport | --dport | --saddress | --daddress | --packets | --bytes | --*-label) ;;
+    *)
+        case $word in
+        -*) mapfile -t COMPREPLY < <(compgen -W "$(_flowlabel_options "$command")" -- "$word") ;;
+        *) [[ $command == label ]] || mapfile -t COMPREPLY < <(compgen -f -- "$word") ;;
+        esac
+        ;;
+    esac
+}
+
+complete -o filenames -F _flowlabel flowlabel
