@@ -48,8 +48,10 @@ flows_fault_name flows.TruncatedMessage = codes "F4 TruncatedMessage"
 flows_fault_name flows.BadSetLength = codes "F5 BadSetLength"
 flows_fault_name (flows.BadTemplate kind) = template_fault_name kind
 flows_fault_name flows.BadRecord = codes "F7 BadRecord"
+flows_fault_name flows.ReadFault = codes "F8 ReadFault"
 flows_fault_name flows.TooManyMessages = codes "F9 TooManyMessages"
 flows_fault_name flows.NoMemory = codes "F10 NoMemory"
+flows_fault_name flows.Failed = codes "F11 Failed"
 
 -- the code and the name of a fault of a certificate's text
 abbrev pub certificate_fault_name : CertFaultKind → List ℕ

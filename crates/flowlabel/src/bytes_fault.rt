@@ -114,8 +114,10 @@ fn flows_fault_name(kind: ReadFaultKind) -> &'static str
         ReadFaultKind::BadSetLength => "F5 BadSetLength",
         ReadFaultKind::BadTemplate(kind) => template_fault_name(kind),
         ReadFaultKind::BadRecord => "F7 BadRecord",
+        ReadFaultKind::ReadFault => "F8 ReadFault",
         ReadFaultKind::TooManyMessages => "F9 TooManyMessages",
         ReadFaultKind::NoMemory => "F10 NoMemory",
+        ReadFaultKind::Failed => "F11 Failed",
     }
 }
 

@@ -3,7 +3,7 @@ pub mod Cuts
 pub mod Records
 pub mod Events
 pub mod Sets
-pub mod Messages
+pub mod MessageLemmas
 pub mod Faults
 pub mod UniqueRecords
 pub mod UniqueSets
@@ -11,3 +11,8 @@ pub mod UniqueMessages
 pub mod OutcomesOfRecords
 pub mod OutcomesOfSets
 pub mod OutcomesOfMessages
+pub mod Headers
+pub mod Filling
+pub mod Gathering
+pub mod Answering
+pub mod Joining

@@ -12,7 +12,7 @@ use Rattle.ipfix_read.specs.File.{events_of_messages, ReadsMessages, ReadsFile, 
 use Rattle.ipfix_read.specs.Laws.{FirstMessageAndRest, OneReading}
 use Rattle.ipfix_read.proofs.Choice.{some_is}
 use Rattle.ipfix_read.proofs.Sets.{behind_cons}
-use Rattle.ipfix_read.proofs.Messages.{messages_shorter}
+use Rattle.ipfix_read.proofs.MessageLemmas.{messages_shorter}
 use Rattle.ipfix_read.proofs.UniqueSets.{Front, one_front, one_sets, sets_or_fault, one_sets_fault}
 
 -- some message stands at the front

@@ -1,11 +1,13 @@
 -- What holds of the definitions.
-use Rattle.std.specs.Prelude.{◌≡◌, ◌≢◌, ℕ, ◌+◌, ◌⊎◌, List, ◌∷◌, ◌++◌, length, None}
+use Rattle.std.specs.Prelude.{◌≡◌, ◌≢◌, ℕ, ◌+◌, ◌⊎◌, List, [], ◌∷◌, ◌++◌, length, Option, None, Result}
 use Rattle.ipfix_templates.specs.declared.event.TemplateEvent.{TemplateEvent}
 use Rattle.ipfix_templates.specs.declared.fault.TemplateFaultKind.TheVariants.{NoMemory as NoTemplateMemory}
+use Rattle.ipfix_templates.specs.Table.{Follows}
 use Rattle.ipfix_read.specs.declared.fault.ReadFault.{ReadFault}
 use Rattle.ipfix_read.specs.declared.fault.ReadFaultKind.TheVariants.{BadTemplate, NoMemory}
 use Rattle.ipfix_read.specs.Message.{MessageView, IsMessage, header_fault, events_of_message}
 use Rattle.ipfix_read.specs.File.{ReadsFile, HasFileFault}
+use Rattle.ipfix_read.specs.Messages.{ProgressView, at_start, AnswersNext, IsReadTo, JoinsFile}
 
 -- the first message of a File stands at the front of its bytes, and what is read after it is as if begun there
 abbrev pub FirstMessageAndRest : Type 0
@@ -30,3 +32,17 @@ OneReading = (history : List (ℕ × TemplateEvent)) (offset count : ℕ) (bytes
 abbrev pub MemoryIsNoFault : Type 0
 MemoryIsNoFault = (history : List (ℕ × TemplateEvent)) (offset count : ℕ) (bytes : List ℕ) (fault : ReadFault) → HasFileFault history offset count bytes fault
     → (fault.kind ≢ NoMemory) × (fault.kind ≢ BadTemplate NoTemplateMemory)
+
+-- calls begin with nothing read of the bytes, behind each history that the table follows
+abbrev pub CallsBegin : Type 0
+CallsBegin = (history : List (ℕ × TemplateEvent)) (bytes : List ℕ) (p : ProgressView) → Follows p.table history → IsReadTo history p.offset p.count bytes [] p bytes
+
+-- so they do at the beginning of a File
+abbrev pub CallsStart : Type 0
+CallsStart = (bytes : List ℕ) → IsReadTo [] 0 0 bytes [] at_start bytes
+
+-- where messages are read so far, the answer of the next call joins them to the whole File
+abbrev pub CallsJoinFile : Type 0
+CallsJoinFile = (history : List (ℕ × TemplateEvent)) (offset count : ℕ) (bytes : List ℕ) (messages : List MessageView) (left : List ℕ)
+    (old new : ProgressView) (result : Result (Option MessageView) ReadFault) (gives : Option (List ℕ))
+    → IsReadTo history offset count bytes messages old left → AnswersNext old left result new gives → JoinsFile history offset count bytes messages old result new gives

@@ -40,6 +40,23 @@ pub record IsMessage (history : List (ℕ × TemplateEvent)) (bytes : List ℕ) 
   pub domain : m.domain ≡ big_number 4 (drop 12 bytes)
   pub sets : ReadsSets history m.domain (drop 16 bytes) m.sets []
 
+-- bytes have a header of version 10 that gives their length, as a message has
+pub record HasHeader (bytes : List ℕ) : Type 0 where
+  pub least : 16 ≤ length bytes
+  pub most : length bytes ≤ 65535
+  pub version : big_number 2 bytes ≡ 10
+  pub whole : written_length bytes ≡ length bytes
+
+-- what is wrong with a header by itself, behind so many messages, however many bytes follow it
+abbrev pub own_fault : ℕ → List ℕ → Option ReadFaultKind
+own_fault count header =
+    if nat_lt count 4294967295 then
+    (if big_number 2 header == 10 then
+    (if nat_lt (written_length header) 16 then Some BadMessageLength
+    else None)
+    else Some BadVersion)
+    else Some TooManyMessages
+
 -- what is wrong with the header at the front, behind so many messages
 abbrev pub header_fault : ℕ → List ℕ → Option ReadFaultKind
 header_fault count bytes =

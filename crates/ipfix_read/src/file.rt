@@ -1,7 +1,7 @@
-ghost use Rattle.std.specs.Prelude.{◌≡◌, ◌≢◌, ◌≤◌, [], ◌⊎◌, length, IfOk, IfErr};
+ghost use Rattle.std.specs.Prelude.{◌≡◌, ◌≢◌, ◌≤◌, [], ◌⊎◌, length, false, IfOk, IfErr};
 ghost use Rattle.ipfix_templates.specs.declared.fault.TemplateFaultKind.TheVariants.{NoMemory};
 ghost use Rattle.ipfix_read.specs.declared.fault.ReadFaultKind.TheVariants.{BadTemplate};
-ghost use Rattle.ipfix_read.specs.Fault.{out_of_memory};
+ghost use Rattle.ipfix_read.specs.Fault.{out_of_memory, is_of_calls};
 ghost use Rattle.ipfix_read.specs.File.{ReadsFile, HasFileFault};
 
 use crate::fault::ReadFault;
@@ -30,6 +30,9 @@ pub fn read_file(alloc: Global, bytes: &[u8]) -> Result<FileEvents<'_>, ReadFaul
 
     // A template record that is none is told by what is wrong with it.
     ensures template { IfErr result (λ fault. fault.kind ≢ BadTemplate NoMemory) }
+
+    // No reader failed here, and no call before.
+    ensures of_bytes { IfErr result (λ fault. is_of_calls fault.kind ≡ false) }
 {
     // For its law: bytes have no fault of memory.
     memory_is_no_fault();

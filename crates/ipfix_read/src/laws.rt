@@ -1,5 +1,5 @@
 //! The laws on the reading of Files.
-ghost use Rattle.ipfix_read.specs.Laws.{FirstMessageAndRest, HasReading, MemoryIsNoFault, OneReading};
+ghost use Rattle.ipfix_read.specs.Laws.{CallsBegin, CallsJoinFile, CallsStart, FirstMessageAndRest, HasReading, MemoryIsNoFault, OneReading};
 
 /// A first message, and the rest begun behind it, are the whole: the messages of the rest follow the first, and a
 /// fault of the rest is the fault of the whole.
@@ -30,3 +30,11 @@ pub fn memory_is_no_fault()
     // For its law, which says the same of template sets.
     ipfix_templates::memory_is_no_fault();
 }
+
+/// Calls for messages join to the whole File: where nothing is read they stand at its beginning, and where messages are
+/// read so far, the next call answers one more of them, that they are all, or the fault of the whole.
+pub fn calls_join_file()
+    ensures begin { CallsBegin }
+    ensures start { CallsStart }
+    ensures join { CallsJoinFile }
+{}

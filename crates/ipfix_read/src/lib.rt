@@ -1,4 +1,4 @@
-//! IPFIX Files read whole (RFC 5655): messages of RFC 7011 one after the other, as values.
+//! IPFIX Files (RFC 5655), read whole or message by message: messages of RFC 7011 one after the other, as values.
 //!
 //! ```rust
 //! use ipfix_read::read_file;
@@ -17,21 +17,36 @@
 //! byte order, where no case fits. Reading may be begun behind any history of template events, offset and number
 //! of messages: a first message, and the rest begun after it, are the whole. Any bytes have such messages or such a
 //! fault, and one of these alone.
+//!
+//! `Messages` reads the same from a reader, a message at a time, into one buffer and lends it out of that. A call
+//! answers what a File begun at its table, offset and number of messages has first in the bytes that the reader still
+//! gives, and by a law the calls so far and the next one are the whole File.
 #![tactic(auto)]
 
+mod buffer;
 mod data_set;
 mod fault;
 mod file;
+mod fill;
 mod laws;
 mod message;
+mod messages;
+mod progress;
 mod record;
 mod set;
+mod state;
 mod value;
 
+pub use buffer::Buffer;
 pub use fault::{ReadFault, ReadFaultKind};
 pub use file::{FileEvents, read_file};
-pub use laws::{first_message_and_rest, has_reading, memory_is_no_fault, one_reading};
+pub use laws::{
+    calls_join_file, first_message_and_rest, has_reading, memory_is_no_fault, one_reading,
+};
 pub use message::{Message, MessageList};
+pub use messages::Messages;
+pub use progress::Progress;
 pub use record::{Record, RecordList};
 pub use set::{Set, SetList};
+pub use state::State;
 pub use value::{FieldValue, FieldValues, Values};

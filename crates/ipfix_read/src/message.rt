@@ -1,9 +1,9 @@
-ghost use Rattle.std.specs.Prelude.{◌≡◌, ◌^◌, ◌+◌, ◌<◌, ◌≤◌, ◌++◌, ◌∷◌, [], ◌⊎◌, ℕ, List, length, IfOk, IfErr, OnOk, OnErr, None, Some};
+ghost use Rattle.std.specs.Prelude.{◌≡◌, ◌^◌, ◌+◌, ◌<◌, ◌≤◌, ◌++◌, ◌∷◌, [], ◌⊎◌, ℕ, List, length, drop, false, IfOk, IfErr, OnOk, OnErr, None, Some};
 ghost use Rattle.ipfix_templates.specs.declared.event.TemplateEvent.{TemplateEvent as Event};
 ghost use Rattle.ipfix_templates.specs.Table.{Follows};
-ghost use Rattle.ipfix_read.specs.Fault.{out_of_memory};
-ghost use Rattle.ipfix_read.specs.Message.{message_size, header_fault, events_of_message, IsMessage, HasMessageFault};
-ghost use Rattle.ipfix_read.specs.Set.{written_length};
+ghost use Rattle.ipfix_read.specs.Fault.{out_of_memory, is_of_calls};
+ghost use Rattle.ipfix_read.specs.Message.{message_size, header_fault, own_fault, events_of_message, IsMessage, HasHeader, HasMessageFault};
+ghost use Rattle.ipfix_read.specs.Set.{written_length, HasSetsFault};
 ghost use Rattle.byteorder.specs.Endian.{big_number};
 
 use crate::fault::{ReadFault, ReadFaultKind};
@@ -122,11 +122,37 @@ impl<'a> MessageList<'a> {
     }
 }
 
-// The length of a message header.
-const HEADER_LENGTH: usize = 16;
+/// The length of a message header.
+pub const HEADER_LENGTH: usize = 16;
 
 // The version of IPFIX.
 const VERSION: u16 = 10;
+
+/// The length that the header at the front gives its message behind so many messages, or what is wrong with the header
+/// by itself.
+pub fn header_length(count: u32, header: &[u8]) -> Result<usize, ReadFaultKind>
+    requires { 16 ≤ length header.now }
+    ensures ok { OnOk result (own_fault count header.now ≡ None) }
+    ensures counted { OnOk result (count < 4294967295) }
+    ensures whole { IfOk result (λ size. size ≡ written_length header.now) }
+    ensures least { IfOk result (λ size. 16 ≤ size) }
+    ensures most { IfOk result (λ size. size ≤ 65535) }
+    ensures version { OnOk result (big_number 2 header.now ≡ 10) }
+    ensures fault { IfErr result (λ kind. own_fault count header.now ≡ Some kind) }
+    ensures of_bytes { IfErr result (λ kind. is_of_calls kind ≡ false) }
+{
+    if count == u32::MAX {
+        return Err(ReadFaultKind::TooManyMessages);
+    }
+    if BigEndian::read_u16(header) != VERSION {
+        return Err(ReadFaultKind::BadVersion);
+    }
+    let size = usize::from(BigEndian::read_u16(&header[2..]));
+    if size < HEADER_LENGTH {
+        return Err(ReadFaultKind::BadMessageLength);
+    }
+    Ok(size)
+}
 
 // The length of the message at the front behind so many messages, or what is wrong with its header.
 fn message_length(count: u32, bytes: &[u8]) -> Result<usize, ReadFaultKind>
@@ -138,24 +164,46 @@ fn message_length(count: u32, bytes: &[u8]) -> Result<usize, ReadFaultKind>
     ensures most { IfOk result (λ size. size ≤ 65535) }
     ensures version { OnOk result (big_number 2 bytes.now ≡ 10) }
     ensures fault { IfErr result (λ kind. header_fault count bytes.now ≡ Some kind) }
+    ensures of_bytes { IfErr result (λ kind. is_of_calls kind ≡ false) }
 {
     if bytes.len() < HEADER_LENGTH {
         return Err(ReadFaultKind::TruncatedHeader);
     }
-    if count == u32::MAX {
-        return Err(ReadFaultKind::TooManyMessages);
-    }
-    if BigEndian::read_u16(bytes) != VERSION {
-        return Err(ReadFaultKind::BadVersion);
-    }
-    let size = usize::from(BigEndian::read_u16(&bytes[2..]));
-    if size < HEADER_LENGTH {
-        return Err(ReadFaultKind::BadMessageLength);
-    }
+    let size = header_length(count, bytes)?;
     if bytes.len() < size {
         return Err(ReadFaultKind::TruncatedMessage);
     }
     Ok(size)
+}
+
+/// The message that these bytes are, whose header gives their length, where they begin at this offset of the File. The
+/// events of its template sets change the table.
+pub fn whole_message<'a>(
+    alloc: Global,
+    table: &mut TemplateTable,
+    bytes: &'a [u8],
+    base: u64,
+) -> Result<Message<'a>, ReadFault>
+    requires header { HasHeader bytes.now }
+    requires room { base + length bytes.now < 2 ^ 64 }
+    ensures ok { IfOk result (λ m. (history : List (ℕ × Event)) → Follows table.old history
+        → IsMessage history bytes.now m × Follows table.new (history ++ events_of_message m)) }
+    ensures fault { IfErr result (λ fault. (fault ≡ out_of_memory)
+        ⊎ ((history : List (ℕ × Event)) → Follows table.old history →
+        HasSetsFault history (big_number 4 (drop 12 bytes.now)) (drop 16 bytes.now) (base + 16) fault)) }
+    ensures of_bytes { IfErr result (λ fault. is_of_calls fault.kind ≡ false) }
+{
+    let export_time = BigEndian::read_u32(&bytes[4..]);
+    let sequence = BigEndian::read_u32(&bytes[8..]);
+    let domain = BigEndian::read_u32(&bytes[12..]);
+    let sets = read_sets(alloc, table, domain, &bytes[HEADER_LENGTH..], base + 16)?;
+    let message = Message {
+        export_time,
+        sequence,
+        domain,
+        sets,
+    };
+    Ok(message)
 }
 
 /// The message at the front behind so many messages, and the bytes after it, where the message begins at this
@@ -177,21 +225,13 @@ pub fn read_message<'a>(
     ensures fault { IfErr result (λ fault. (fault ≡ out_of_memory)
         ⊎ ((history : List (ℕ × Event)) → Follows table.old history →
         HasMessageFault history count bytes.now base fault)) }
+    ensures of_bytes { IfErr result (λ fault. is_of_calls fault.kind ≡ false) }
 {
     let size = match message_length(count, bytes) {
         Ok(size) => size,
         Err(kind) => return Err(ReadFault { kind, offset: base }),
     };
     let (front, after) = bytes.split_at(size);
-    let export_time = BigEndian::read_u32(&front[4..]);
-    let sequence = BigEndian::read_u32(&front[8..]);
-    let domain = BigEndian::read_u32(&front[12..]);
-    let sets = read_sets(alloc, table, domain, &front[HEADER_LENGTH..], base + 16)?;
-    let message = Message {
-        export_time,
-        sequence,
-        domain,
-        sets,
-    };
+    let message = whole_message(alloc, table, front, base)?;
     Ok((message, after))
 }

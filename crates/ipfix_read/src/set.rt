@@ -1,9 +1,9 @@
-ghost use Rattle.std.specs.Prelude.{◌≡◌, ◌≢◌, ◌^◌, ◌+◌, ◌<◌, ◌≤◌, ◌++◌, ◌∷◌, [], ◌⊎◌, ℕ, List, length, IfOk, IfErr, OnOk, OnErr};
+ghost use Rattle.std.specs.Prelude.{◌≡◌, ◌≢◌, ◌^◌, ◌+◌, ◌<◌, ◌≤◌, ◌++◌, ◌∷◌, [], ◌⊎◌, ℕ, List, length, false, IfOk, IfErr, OnOk, OnErr};
 ghost use Rattle.ipfix_templates.specs.declared.event.TemplateEvent.{TemplateEvent as Event};
 ghost use Rattle.ipfix_templates.specs.Table.{Follows};
 ghost use Rattle.ipfix_templates.specs.declared.fault.TemplateFaultKind.TheVariants.{NoMemory};
 ghost use Rattle.ipfix_templates.specs.Kind.{set_id};
-ghost use Rattle.ipfix_read.specs.Fault.{out_of_memory};
+ghost use Rattle.ipfix_read.specs.Fault.{out_of_memory, is_of_calls};
 ghost use Rattle.ipfix_read.specs.Set.{in_domain, in_file, events_of_set, events_of_sets, IsContent, HasContentFault, IsSet, HasSetFault, ReadsSets, HasSetsFault};
 ghost use Rattle.ipfix_read.specs.Message.{set_size, message_size};
 
@@ -121,6 +121,7 @@ fn fault_in_file(fault: TemplateFault, base: u64) -> ReadFault
     requires { base + fault.offset < 2 ^ 64 }
     ensures memory { fault.kind ≡ NoMemory → result ≡ out_of_memory }
     ensures place { fault.kind ≢ NoMemory → result ≡ in_file base fault }
+    ensures of_bytes { is_of_calls result.kind ≡ false }
 {
     if let TemplateFaultKind::NoMemory = fault.kind {
         return ReadFault {
@@ -151,6 +152,7 @@ fn read_templates<'a>(
     ensures fault { IfErr result (λ fault. (fault ≡ out_of_memory)
         ⊎ ((history : List (ℕ × Event)) → Follows table.old history →
         HasContentFault history domain (set_id kind) bytes.now base fault)) }
+    ensures of_bytes { IfErr result (λ fault. is_of_calls fault.kind ≡ false) }
 {
     // For their laws: a set has room for its events, and bytes have no fault of memory.
     events_fit();
@@ -181,6 +183,7 @@ fn read_values_of<'a>(
     ensures fault { IfErr result (λ fault. (fault ≡ out_of_memory)
         ⊎ ((history : List (ℕ × Event)) → Follows table.now history →
         HasContentFault history domain id bytes.now base fault)) }
+    ensures of_bytes { IfErr result (λ fault. is_of_calls fault.kind ≡ false) }
 {
     if id < FIRST_DATA_SET_ID {
         return Ok(Set::Skipped(id));
@@ -213,6 +216,7 @@ fn read_content<'a>(
     ensures fault { IfErr result (λ fault. (fault ≡ out_of_memory)
         ⊎ ((history : List (ℕ × Event)) → Follows table.old history →
         HasContentFault history domain id bytes.now base fault)) }
+    ensures of_bytes { IfErr result (λ fault. is_of_calls fault.kind ≡ false) }
 {
     if id == Kind::Flow.set_id() {
         return read_templates(alloc, table, domain, Kind::Flow, bytes, base);
@@ -239,6 +243,7 @@ fn read_set<'a>(
     ensures fault { IfErr result (λ fault. (fault ≡ out_of_memory)
         ⊎ ((history : List (ℕ × Event)) → Follows table.old history →
         HasSetFault history domain bytes.now base fault)) }
+    ensures of_bytes { IfErr result (λ fault. is_of_calls fault.kind ≡ false) }
 {
     let bad_length = ReadFault {
         kind: ReadFaultKind::BadSetLength,
@@ -273,6 +278,7 @@ pub fn read_sets<'a>(
     ensures fault { IfErr result (λ fault. (fault ≡ out_of_memory)
         ⊎ ((history : List (ℕ × Event)) → Follows table.old history →
         HasSetsFault history domain bytes.now base fault)) }
+    ensures of_bytes { IfErr result (λ fault. is_of_calls fault.kind ≡ false) }
 {
     let mut sets = SetList::new(alloc);
     let mut rest = bytes;

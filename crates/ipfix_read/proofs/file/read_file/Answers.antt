@@ -8,7 +8,7 @@ use Rattle.ipfix_read.specs.Fault.{out_of_memory}
 use Rattle.ipfix_read.specs.Message.{header_fault, events_of_message}
 use Rattle.ipfix_read.specs.File.{HasFileFault, events_of_messages}
 use Rattle.ipfix_read.proofs.Sets.{not_empty, behind_push}
-use Rattle.ipfix_read.proofs.Messages.{messages_more, file_fault}
+use Rattle.ipfix_read.proofs.MessageLemmas.{messages_more, file_fault}
 use Rattle.ipfix_read.proofs.Faults.{no_template}
 use Rattle.ipfix_read.proofs.file.read_file.Goals as goal
 
@@ -32,6 +32,11 @@ returns-in_err-message-clause-template c =
       | inl memory ↦ λ e. no_template (sym (ap (λ (f : ReadFault). f.kind) memory) ∙ e)
       | inr fault ↦ (c.memory_is_no_fault.ensures [] 0 0 c.args.bytes.now _ fault).1
     ])
+
+pub returns-in_err-message-clause-of_bytes : goal.returns-in_err-message-clause-of_bytes
+returns-in_err-message-clause-of_bytes c =
+    let p = err_from_is_err_and c.from_residual.result c.from_residual.ensures.1 in
+    rw (p.1, p.2) c.in_err-message.ensures.of_bytes
 
 pub loop-rest-preserved : goal.loop-rest-preserved
 loop-rest-preserved c =

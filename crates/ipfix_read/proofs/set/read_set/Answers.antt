@@ -19,6 +19,11 @@ returns-in_err-set-clause-fault c =
       | inr fault ↦ inr (λ history follows. set_fault c.args.bytes.now c.split_at.result.0.now c.split_at.result.1.now c.from-length.result cut history c.args.domain c.read_u16-id.result c.args.base c.in_err-set.field-0.0 c.read_u16-id.ensures (fault history follows))
     ])
 
+pub returns-in_err-set-clause-of_bytes : goal.returns-in_err-set-clause-of_bytes
+returns-in_err-set-clause-of_bytes c =
+    let p = err_from_is_err_and c.from_residual.result c.from_residual.ensures.1 in
+    rw (p.1, p.2) c.in_err-set.ensures.of_bytes
+
 pub returns-clause-ok : goal.returns-clause-ok
 returns-clause-ok c =
     let cut : Cut c.args.bytes.now c.split_at.result.0.now c.split_at.result.1.now c.from-length.result = record {

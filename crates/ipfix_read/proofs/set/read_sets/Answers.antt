@@ -19,6 +19,11 @@ returns-in_err-set-clause-fault c =
           (c.loop-rest.sets, c.loop-rest.rest.now, before.0, some, fault (history ++ events_of_sets c.args.domain c.loop-rest.sets) before.1))
     ])
 
+pub returns-in_err-set-clause-of_bytes : goal.returns-in_err-set-clause-of_bytes
+returns-in_err-set-clause-of_bytes c =
+    let p = err_from_is_err_and c.from_residual.result c.from_residual.ensures.1 in
+    rw (p.1, p.2) c.in_err-set.ensures.of_bytes
+
 pub loop-rest-preserved : goal.loop-rest-preserved
 loop-rest-preserved c = record {
   within = rw c.in_ok-push.ensures.ok (omega (arith, message_size_push c.loop-rest.sets c.in_ok-set.set, c.in_ok-set.ensures.size, c.loop-rest.invariant.within));

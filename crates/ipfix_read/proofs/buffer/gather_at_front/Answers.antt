@@ -1,0 +1,57 @@
+use Rattle.std.proofs.Common.{rules, ◌∙◌, sym, arith}
+use Rattle.std.proofs.lemmas.Result.{err_from_is_err_and}
+use Rattle.ipfix_read.proofs.Headers.{not_of_reader}
+use Rattle.ipfix_read.proofs.Gathering.{unread, nothing_left, short_header, faulty_header, short_message, gathered, holds_message}
+use Rattle.ipfix_read.proofs.buffer.gather_at_front.Goals as goal
+
+pub returns-in_err-head-clause-gathers : goal.returns-in_err-head-clause-gathers
+returns-in_err-head-clause-gathers g c =
+    let p = err_from_is_err_and c.from_residual.result c.from_residual.ensures.1 in
+    rw (p.1, p.2) (unread _ c.args.count)
+
+pub returns-in_err-head-clause-device : goal.returns-in_err-head-clause-device
+returns-in_err-head-clause-device g c =
+    let p = err_from_is_err_and c.from_residual.result c.from_residual.ensures.1 in
+    rw (p.1, p.2) (λ none. c.in_err-head.ensures.err)
+
+pub returns-in_err-size-clause-gathers : goal.returns-in_err-size-clause-gathers
+returns-in_err-size-clause-gathers g c =
+    let p = err_from_is_err_and c.from_residual-in_err-size.result c.from_residual-in_err-size.ensures.1 in
+    rw (p.1, p.2) (faulty_header _ _ c.args.count c.in_ok-head.head c.args.buffer.now c.fill.new.bytes c.in_err-size.field-0.0 c.in_ok-head.ensures.given (search rules) (search rules) c.in_err-size.ensures.fault)
+
+pub returns-in_err-size-clause-device : goal.returns-in_err-size-clause-device
+returns-in_err-size-clause-device g c =
+    let p = err_from_is_err_and c.from_residual-in_err-size.result c.from_residual-in_err-size.ensures.1 in
+    rw (p.1, p.2) (λ none. c.in_ok-head.ensures.ok ∙ none ∙ sym (not_of_reader c.in_err-size.field-0.0 c.in_err-size.ensures.of_bytes))
+
+pub returns-in_err-got-clause-gathers : goal.returns-in_err-got-clause-gathers
+returns-in_err-got-clause-gathers g c =
+    let p = err_from_is_err_and c.from_residual-in_err-got.result c.from_residual-in_err-got.ensures.1 in
+    rw (p.1, p.2) (unread _ c.args.count)
+
+pub returns-in_err-got-clause-device : goal.returns-in_err-got-clause-device
+returns-in_err-got-clause-device g c =
+    let p = err_from_is_err_and c.from_residual-in_err-got.result c.from_residual-in_err-got.ensures.1 in
+    rw (p.1, p.2) (λ none. c.in_err-got.ensures.err)
+
+pub returns-then-head-eq0-clause-gathers : goal.returns-then-head-eq0-clause-gathers
+returns-then-head-eq0-clause-gathers g c =
+    nothing_left _ _ c.args.count c.in_ok-head.head c.fill.new.bytes c.in_ok-head.ensures.given (omega arith) (c.in_ok-head.ensures.end (search rules))
+
+pub returns-then-head-lt-HEADER_LENGTH-clause-gathers : goal.returns-then-head-lt-HEADER_LENGTH-clause-gathers
+returns-then-head-lt-HEADER_LENGTH-clause-gathers g c =
+    short_header _ _ c.args.count c.in_ok-head.head c.fill.new.bytes c.in_ok-head.ensures.given (search rules) (omega arith) c.in_ok-head.ensures.within (c.in_ok-head.ensures.end (search rules))
+
+pub returns-then-got-size-clause-gathers : goal.returns-then-got-size-clause-gathers
+returns-then-got-size-clause-gathers g c =
+    short_message _ _ _ c.args.count c.in_ok-size.size c.in_ok-head.head c.in_ok-got.got c.args.buffer.now c.fill.new.bytes c.fill-2.new.bytes c.in_ok-head.ensures.given c.in_ok-got.ensures.given
+    (search rules) (search rules) c.in_ok-size.ensures.ok c.in_ok-size.ensures.whole c.in_ok-got.ensures.within (omega arith) (c.in_ok-got.ensures.end (search rules))
+
+pub returns-clause-gathers : goal.returns-clause-gathers
+returns-clause-gathers g c =
+    gathered _ _ _ c.args.count c.in_ok-size.size c.in_ok-head.head c.in_ok-got.got c.args.buffer.now c.fill.new.bytes c.fill-2.new.bytes c.in_ok-head.ensures.given c.in_ok-got.ensures.given
+    (search rules) (search rules) c.in_ok-size.ensures.ok c.in_ok-size.ensures.whole (search rules) (omega arith)
+
+pub returns-clause-whole : goal.returns-clause-whole
+returns-clause-whole g c =
+    holds_message c.in_ok-size.size c.args.buffer.now c.fill.new.bytes c.fill-2.new.bytes (search rules) (search rules) c.in_ok-size.ensures.most c.in_ok-size.ensures.version c.in_ok-size.ensures.whole

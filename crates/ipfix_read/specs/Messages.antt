@@ -1,0 +1,89 @@
+-- The messages of a File, one call after the other, over the bytes that a reader still gives.
+use Rattle.std.specs.Prelude.{◌≡◌, ℕ, ◌+◌, ◌-◌, ◌<◌, ◌⊎◌, Bool, false, List, [], ◌∷◌, ◌++◌, length, take, Option, Some, None, Result, Ok, Err}
+use Rattle.ipfix_templates.specs.declared.event.TemplateEvent.{TemplateEvent}
+use Rattle.ipfix_templates.specs.Template.{TemplateView}
+use Rattle.ipfix_templates.specs.Table.{Follows}
+use Rattle.ipfix_read.specs.declared.fault.ReadFault.{ReadFault}
+use Rattle.ipfix_read.specs.declared.fault.ReadFaultKind.{ReadFaultKind}
+use Rattle.ipfix_read.specs.declared.fault.ReadFaultKind.TheVariants.{ReadFault as Unread}
+use Rattle.ipfix_read.specs.declared.state.State.{State}
+use Rattle.ipfix_read.specs.declared.state.State.TheVariants.{Going, Ended, Failed}
+use Rattle.ipfix_read.specs.Fault.{out_of_memory, read_fault, is_of_reader}
+use Rattle.ipfix_read.specs.Message.{MessageView, IsMessage, HasHeader, HasMessageFault, header_fault, events_of_message}
+use Rattle.ipfix_read.specs.File.{events_of_messages, ReadsMessages, ReadsFile, HasFileFault}
+
+-- what stands between two calls: the table of templates, the offset and the number of messages that a File is read on from,
+-- and whether calls go on
+pub record ProgressView : Type 0 where
+  pub table : List ((ℕ × ℕ) × TemplateView)
+  pub offset : ℕ
+  pub count : ℕ
+  pub state : State
+
+-- at the beginning of a File
+abbrev pub at_start : ProgressView
+at_start = record { table = []; offset = 0; count = 0; state = Going }
+
+-- What a going call answers where the reader still gives these bytes, and what it leaves behind: the first message of the
+-- File that begins here, whose bytes alone the reader has then given; none where no byte is left; the first fault, where it
+-- is that of the message here; or a refusal of memory or of the reader. Here is at the table, the offset and the number of
+-- messages, and the table stands for each history that it follows.
+abbrev pub AnswersNext : ProgressView → List ℕ → Result (Option MessageView) ReadFault → ProgressView → Option (List ℕ) → Type 0
+AnswersNext old left (Ok (Some m)) new gives =
+    (front : List ℕ) × (after : List ℕ) × (left ≡ front ++ after) × (header_fault old.count left ≡ None)
+    × ((history : List (ℕ × TemplateEvent)) → Follows old.table history → IsMessage history front m × Follows new.table (history ++ events_of_message m))
+    × (new.offset ≡ old.offset + length front) × (new.count ≡ old.count + 1) × (new.state ≡ Going) × (gives ≡ Some after)
+AnswersNext old left (Ok None) new gives = (left ≡ []) × (new.state ≡ Ended) × (gives ≡ Some [])
+AnswersNext old left (Err fault) new gives =
+    (new.state ≡ Failed)
+    × ((fault ≡ out_of_memory)
+    ⊎ ((fault ≡ read_fault old.offset)
+    ⊎ ((0 < length left) × ((history : List (ℕ × TemplateEvent)) → Follows old.table history → HasMessageFault history old.count left old.offset fault))))
+
+-- the same, whatever is left behind
+abbrev pub GivesNext : ProgressView → List ℕ → Result (Option MessageView) ReadFault → Type 0
+GivesNext old left result = (new : ProgressView) × (gives : Option (List ℕ)) × AnswersNext old left result new gives
+
+-- whether an answer says that the reader failed
+abbrev pub is_read_fault : {A : Type 0} → Result A ReadFault → Bool
+is_read_fault (Ok _) = false
+is_read_fault (Err fault) = is_of_reader fault.kind
+
+-- ---- a call over a buffer
+
+-- the bytes of a message, so many, are at the front of the buffer
+pub record HoldsMessage (buffer : List ℕ) (size : ℕ) : Type 0 where
+  pub sized : length (take size buffer) ≡ size
+  pub header : HasHeader (take size buffer)
+
+-- what is gathered at the front of a buffer, behind so many messages, where the reader still gives these bytes: those of the
+-- next message; nothing where no byte is left; or what is wrong with its header
+abbrev pub Gathers : ℕ → List ℕ → Result (Option ℕ) ReadFaultKind → List ℕ → Option (List ℕ) → Type 0
+Gathers count left (Ok (Some size)) buffer gives =
+    (after : List ℕ) × (left ≡ take size buffer ++ after) × (header_fault count left ≡ None) × (gives ≡ Some after)
+Gathers count left (Ok None) buffer gives = (left ≡ []) × (gives ≡ Some [])
+Gathers count left (Err kind) buffer gives = (kind ≡ Unread) ⊎ ((0 < length left) × (header_fault count left ≡ Some kind))
+
+-- whether it says that the reader failed
+abbrev pub is_unread : {A : Type 0} → Result A ReadFaultKind → Bool
+is_unread (Ok _) = false
+is_unread (Err kind) = is_of_reader kind
+
+-- ---- calls one after the other
+
+-- These messages are at the front of the bytes, where reading began behind a history of template events, at an offset and
+-- behind a number of messages; what stands between two calls is that behind them, and these bytes are left.
+pub record IsReadTo (history : List (ℕ × TemplateEvent)) (offset count : ℕ) (bytes : List ℕ) (messages : List MessageView) (p : ProgressView) (left : List ℕ) : Type 0 where
+  pub read : ReadsMessages history count bytes messages left
+  pub follows : Follows p.table (history ++ events_of_messages messages)
+  pub counted : p.count ≡ count + length messages
+  pub placed : p.offset ≡ offset + (length bytes - length left)
+
+-- What an answer says of the File that the bytes are: the messages so far and one more are read of it; it is the messages so
+-- far; or the fault is its first one, where it is none of memory or of the reader.
+abbrev pub JoinsFile : List (ℕ × TemplateEvent) → ℕ → ℕ → List ℕ → List MessageView → ProgressView → Result (Option MessageView) ReadFault → ProgressView → Option (List ℕ) → Type 0
+JoinsFile history offset count bytes messages old (Ok (Some m)) new gives =
+    (left : List ℕ) × (gives ≡ Some left) × IsReadTo history offset count bytes (messages ++ m ∷ []) new left
+JoinsFile history offset count bytes messages old (Ok None) new gives = ReadsFile history count bytes messages
+JoinsFile history offset count bytes messages old (Err fault) new gives =
+    (fault ≡ out_of_memory) ⊎ ((fault ≡ read_fault old.offset) ⊎ HasFileFault history offset count bytes fault)

@@ -1,0 +1,79 @@
+ghost use Rattle.std.specs.Prelude.{◌≡◌, ◌≤◌, ◌<◌, false, IfOk, IfSome, OnSome, length, take, vec_len};
+ghost use Rattle.ipfix_read.specs.Messages.{Gathers, HoldsMessage, is_unread};
+
+use crate::fault::ReadFaultKind;
+use crate::fill::fill;
+use crate::message::{HEADER_LENGTH, header_length};
+use flow_io::Input;
+use std::alloc::{AllocError, Global};
+
+// The length of the longest message.
+const LONGEST_MESSAGE: usize = 65_535;
+
+/// The one buffer that messages are read into and lent out of. It holds the longest message.
+#[derive(Drop)]
+pub struct Buffer {
+    bytes: Vec<u8>,
+    ghost sized: { vec_len bytes ≡ 65535 },
+}
+
+// Gathers the bytes of the next message at the front of a buffer, behind so many messages, and answers how many they
+// are: first those of the header, and then those that it says are left. None at the end of the input.
+fn gather_at_front<R: Input>(
+    reader: &mut R,
+    count: u32,
+    buffer: &mut [u8],
+) -> Result<Option<usize>, ReadFaultKind>
+    requires { length buffer.old ≡ 65535 }
+    ensures gathers { IfSome (R.bytes_left reader.old) (λ left.
+        Gathers count left result buffer.new (R.bytes_left reader.new)) }
+    ensures whole { IfOk result (λ size. IfSome size (HoldsMessage buffer.new)) }
+    ensures counted { IfOk result (λ size. OnSome size (count < 4294967295)) }
+    ensures device { R.failed reader.old ≡ false → R.failed reader.new ≡ is_unread result }
+{
+    let head = fill(reader, &mut buffer[..HEADER_LENGTH])?;
+    if head == 0 {
+        return Ok(None);
+    }
+    if head < HEADER_LENGTH {
+        return Err(ReadFaultKind::TruncatedHeader);
+    }
+    let size = header_length(count, &buffer[..HEADER_LENGTH])?;
+    let got = fill(reader, &mut buffer[HEADER_LENGTH..size])?;
+    if got < size - HEADER_LENGTH {
+        return Err(ReadFaultKind::TruncatedMessage);
+    }
+    Ok(Some(size))
+}
+
+impl Buffer {
+    /// Reserves it.
+    pub fn new(alloc: Global) -> Result<Self, AllocError> {
+        let bytes = vec![in alloc; 0u8; LONGEST_MESSAGE]?;
+        Ok(Buffer { bytes })
+    }
+
+    // Gathers the bytes of the next message at the front, behind so many messages, and answers how many they are. None
+    // at the end of the input.
+    pub(crate) fn gather<R: Input>(
+        &mut self,
+        reader: &mut R,
+        count: u32,
+    ) -> Result<Option<usize>, ReadFaultKind>
+        ensures gathers { IfSome (R.bytes_left reader.old) (λ left.
+            Gathers count left result self.new.bytes.items (R.bytes_left reader.new)) }
+        ensures whole { IfOk result (λ size. IfSome size (HoldsMessage self.new.bytes.items)) }
+        ensures counted { IfOk result (λ size. OnSome size (count < 4294967295)) }
+        ensures device { R.failed reader.old ≡ false → R.failed reader.new ≡ is_unread result }
+    {
+        gather_at_front(reader, count, self.bytes.as_mut_slice())
+    }
+
+    // So many bytes from the front.
+    pub(crate) fn front(&self, size: usize) -> &[u8]
+        requires { size ≤ 65535 }
+        ensures { result.now ≡ take size self.now.bytes.items }
+    {
+        &self.bytes[..size]
+    }
+}

@@ -1,0 +1,26 @@
+//! A slice filled from a reader.
+ghost use Rattle.std.specs.Prelude.{◌≡◌, ◌≤◌, ◌<◌, true, IfOk, OnOk, OnErr, length, take};
+ghost use Rattle.std.specs.Io.KnownBytes.{Consumes, IsAtEnd};
+
+use flow_io::{DeviceFault, Input};
+
+/// Fills the slice, and answers how many bytes it has then: fewer than it holds only at the end of the input. Each read
+/// asks for the bytes that are still lacking, and for no more.
+pub fn fill<R: Input>(reader: &mut R, bytes: &mut [u8]) -> Result<usize, DeviceFault>
+    ensures within { IfOk result (λ count. count ≤ length bytes.new) }
+    ensures given { IfOk result (λ count.
+        Consumes (R.bytes_left reader.old) (R.bytes_left reader.new) (take count bytes.new)) }
+    ensures end { IfOk result (λ count. count < length bytes.new → IsAtEnd (R.bytes_left reader.new)) }
+    ensures ok { OnOk result (R.failed reader.new ≡ R.failed reader.old) }
+    ensures err { OnErr result (R.failed reader.new ≡ true) }
+{
+    let mut filled = 0;
+    while filled < bytes.len() {
+        let count = reader.read(&mut bytes[filled..])?;
+        if count == 0 {
+            return Ok(filled);
+        }
+        filled += count;
+    }
+    Ok(filled)
+}

@@ -1,0 +1,130 @@
+ghost use Rattle.std.specs.Prelude.{◌≡◌, ◌≤◌, ◌+◌, false, IfOk, IfSome, OnSome, Ok, Err, None};
+ghost use Rattle.ipfix_read.specs.declared.state.State.TheVariants.{Going, Ended, Failed};
+ghost use Rattle.ipfix_read.specs.Fault.{failed_before};
+ghost use Rattle.ipfix_read.specs.Messages.{AnswersNext, at_start, is_read_fault};
+
+use crate::buffer::Buffer;
+use crate::fault::{ReadFault, ReadFaultKind};
+use crate::message::{Message, whole_message};
+use crate::state::State;
+use flow_io::Input;
+use ipfix_templates::TemplateTable;
+use std::alloc::Global;
+use std::marker::Model;
+
+/// What stands between two calls for a message: the templates in force, the offset in the File, the number of messages
+/// read, and whether calls go on.
+#[derive(Drop)]
+pub struct Progress {
+    alloc: Global,
+    table: TemplateTable,
+    offset: u64,
+    count: u32,
+    state: State,
+}
+
+impl Model for Progress {
+    ghost use Rattle.std.specs.Prelude.{◌*◌, ◌≤◌};
+    ghost use Rattle.ipfix_read.specs.Messages.{ProgressView};
+
+    ghost Value = { ProgressView };
+
+    ghost view = { λ p. record { table = p.table; offset = p.offset; count = p.count; state = p.state } };
+
+    ghost invariant = { λ p. (p.count ≤ 4294967295) × (p.offset ≤ 65535 * p.count) };
+}
+
+impl Progress {
+    /// At the beginning of a File.
+    pub fn new(alloc: Global) -> Self
+        ensures { result ≡ at_start }
+    {
+        Progress {
+            alloc,
+            table: TemplateTable::new(alloc),
+            offset: 0,
+            count: 0,
+            state: State::Going,
+        }
+    }
+
+    /// Whether calls go on.
+    pub fn state(&self) -> State
+        ensures { result ≡ self.now.state }
+    {
+        self.state
+    }
+
+    /// The next message of the File, lent out of the buffer; none at its end, and none again. The reader is asked for
+    /// the bytes that the message's header still lacks, then for those that the message still lacks, and for no others.
+    ///
+    /// # Errors
+    ///
+    /// The first fault of the File, where it is that of the message that is read; that the reader failed; or that memory
+    /// ran out. After any of them each call answers that a call before had a fault.
+    pub fn next<'b, R: Input>(
+        &mut self,
+        reader: &mut R,
+        buffer: &'b mut Buffer,
+    ) -> Result<Option<Message<'b>>, ReadFault>
+        ensures going { self.old.state ≡ Going → IfSome (R.bytes_left reader.old) (λ left.
+            AnswersNext self.old left result self.new (R.bytes_left reader.new)) }
+        ensures ended { self.old.state ≡ Ended
+            → (result ≡ Ok None) × (self.new ≡ self.old) × (reader.new ≡ reader.old) }
+        ensures failed { self.old.state ≡ Failed
+            → (result ≡ Err failed_before) × (self.new ≡ self.old) × (reader.new ≡ reader.old) }
+
+        // Also of a reader that does not tell its bytes.
+        ensures counted { IfOk result (λ next. OnSome next ((self.new.count ≡ self.old.count + 1)
+            × (self.new.count ≤ 4294967295) × (self.new.state ≡ Going))) }
+        ensures device { R.failed reader.old ≡ false → R.failed reader.new ≡ is_read_fault result }
+    {
+        match self.state() {
+            State::Going => self.read_next(reader, buffer),
+            State::Ended => Ok(None),
+            State::Failed => Err(ReadFault {
+                kind: ReadFaultKind::Failed,
+                offset: 0,
+            }),
+        }
+    }
+
+    // The same where calls go on.
+    fn read_next<'b, R: Input>(
+        &mut self,
+        reader: &mut R,
+        buffer: &'b mut Buffer,
+    ) -> Result<Option<Message<'b>>, ReadFault>
+        requires { self.old.state ≡ Going }
+        ensures going { IfSome (R.bytes_left reader.old) (λ left.
+            AnswersNext self.old left result self.new (R.bytes_left reader.new)) }
+        ensures counted { IfOk result (λ next. OnSome next ((self.new.count ≡ self.old.count + 1)
+            × (self.new.count ≤ 4294967295) × (self.new.state ≡ Going))) }
+        ensures device { R.failed reader.old ≡ false → R.failed reader.new ≡ is_read_fault result }
+    {
+        let offset = self.offset;
+        let gathered = match buffer.gather(reader, self.count) {
+            Ok(gathered) => gathered,
+            Err(kind) => {
+                self.state = State::Failed;
+                return Err(ReadFault { kind, offset });
+            }
+        };
+        let Some(size) = gathered else {
+            self.state = State::Ended;
+            return Ok(None);
+        };
+        let bytes = buffer.front(size);
+        match whole_message(self.alloc, &mut self.table, bytes, offset) {
+            Ok(message) => {
+                self.count += 1;
+                self.offset += size as u64;
+                Ok(Some(message))
+            }
+            Err(fault) => {
+                self.state = State::Failed;
+                Err(fault)
+            }
+        }
+    }
+}
