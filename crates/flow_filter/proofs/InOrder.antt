@@ -45,28 +45,32 @@ module _ (w : Words) (f : FilterFault) where
   bytes = fault_in Bytes BadRange counts_in w.bytes
 
   pub at_saddress : protocol ≡ None → sport ≡ None → dport ≡ None → IsRefused SourceAddress BadBlock addresses_in w.saddress f → IsFault w f
-  at_saddress a b c (inl want) = subst (IsFault w) (sym want.0) (record { given = want.1; sound = λ i. first_some (a i ∷ b i ∷ c i ∷ []) })
+  at_saddress a b c (inl (same, given, sound)) =
+      subst (IsFault w) (sym same) (record { given = given; sound = λ i. first_some (a i ∷ b i ∷ c i ∷ sound i ∷ []) })
   at_saddress a b c (inr is) =
       let same = fault_is SourceAddress BadBlock addresses_in w.saddress f is in
       let first : first_fault w ≡ Some f = λ i. first_some (a i ∷ b i ∷ c i ∷ is i ∷ daddress ∷ packets ∷ bytes ∷ []) in
       subst (IsFault w) (sym same) (refused w f (fault_of SourceAddress BadBlock) same first)
 
   pub at_daddress : protocol ≡ None → sport ≡ None → dport ≡ None → saddress ≡ None → IsRefused DestinationAddress BadBlock addresses_in w.daddress f → IsFault w f
-  at_daddress a b c d (inl want) = subst (IsFault w) (sym want.0) (record { given = want.1; sound = λ i. first_some (a i ∷ b i ∷ c i ∷ d i ∷ []) })
+  at_daddress a b c d (inl (same, given, sound)) =
+      subst (IsFault w) (sym same) (record { given = given; sound = λ i. first_some (a i ∷ b i ∷ c i ∷ d i ∷ sound i ∷ []) })
   at_daddress a b c d (inr is) =
       let same = fault_is DestinationAddress BadBlock addresses_in w.daddress f is in
       let first : first_fault w ≡ Some f = λ i. first_some (a i ∷ b i ∷ c i ∷ d i ∷ is i ∷ packets ∷ bytes ∷ []) in
       subst (IsFault w) (sym same) (refused w f (fault_of DestinationAddress BadBlock) same first)
 
   pub at_packets : protocol ≡ None → sport ≡ None → dport ≡ None → saddress ≡ None → daddress ≡ None → IsRefused Packets BadRange counts_in w.packets f → IsFault w f
-  at_packets a b c d e (inl want) = subst (IsFault w) (sym want.0) (record { given = want.1; sound = λ i. first_some (a i ∷ b i ∷ c i ∷ d i ∷ e i ∷ []) })
+  at_packets a b c d e (inl (same, given, sound)) =
+      subst (IsFault w) (sym same) (record { given = given; sound = λ i. first_some (a i ∷ b i ∷ c i ∷ d i ∷ e i ∷ sound i ∷ []) })
   at_packets a b c d e (inr is) =
       let same = fault_is Packets BadRange counts_in w.packets f is in
       let first : first_fault w ≡ Some f = λ i. first_some (a i ∷ b i ∷ c i ∷ d i ∷ e i ∷ is i ∷ bytes ∷ []) in
       subst (IsFault w) (sym same) (refused w f (fault_of Packets BadRange) same first)
 
   pub at_bytes : protocol ≡ None → sport ≡ None → dport ≡ None → saddress ≡ None → daddress ≡ None → packets ≡ None → IsRefused Bytes BadRange counts_in w.bytes f → IsFault w f
-  at_bytes a b c d e g (inl want) = subst (IsFault w) (sym want.0) (record { given = want.1; sound = λ i. first_some (a i ∷ b i ∷ c i ∷ d i ∷ e i ∷ g i ∷ []) })
+  at_bytes a b c d e g (inl (same, given, sound)) =
+      subst (IsFault w) (sym same) (record { given = given; sound = λ i. first_some (a i ∷ b i ∷ c i ∷ d i ∷ e i ∷ g i ∷ sound i ∷ []) })
   at_bytes a b c d e g (inr is) =
       let same = fault_is Bytes BadRange counts_in w.bytes f is in
       let first : first_fault w ≡ Some f = λ i. first_some (a i ∷ b i ∷ c i ∷ d i ∷ e i ∷ g i ∷ is i ∷ []) in

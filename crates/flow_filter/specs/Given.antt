@@ -17,10 +17,11 @@ pub record IsRead {X : Type 0} (o : FilterOption) (k : FilterFaultKind) (read : 
   pub value : x ≡ option_and_then read text
   pub sound : fault_in o k read text ≡ None
 
--- want of memory where it is given, or the fault of its text
+-- want of memory where it is given and its text has no fault, or the fault of its text
 abbrev pub IsRefused : {X : Type 0} → FilterOption → FilterFaultKind → (List ℕ → Option X) → Option (List ℕ) → FilterFault → Type 0
 IsRefused o k read text fault =
-    ((fault ≡ fault_of o NoMemory) × (is_some text ≡ true)) ⊎ (fault_in o k read text ≡ Some fault)
+    ((fault ≡ fault_of o NoMemory) × (is_some text ≡ true) × (fault_in o k read text ≡ None))
+    ⊎ (fault_in o k read text ≡ Some fault)
 
 -- the addresses whose places are in the ranges
 abbrev pub by_place : List Range → AddressOf → Bool

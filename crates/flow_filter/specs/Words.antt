@@ -1,4 +1,4 @@
-use Rattle.std.specs.Prelude.{◌≡◌, ℕ, Bool, true, List, [], ◌∷◌, Option, Some, None, Result, Ok, Err, option_and_then, option_map, take}
+use Rattle.std.specs.Prelude.{◌≡◌, ℕ, ◌+◌, Bool, true, List, [], ◌∷◌, Option, Some, None, Result, Ok, Err, option_and_then, option_map, take}
 use Rattle.std.specs.Option.{is_some, option_or}
 use Rattle.prefix_keys.specs.Text.{AddressOf}
 use Rattle.flow_filter.specs.Blocks.{items_cover}
@@ -138,12 +138,12 @@ text_of SourceLabel w = w.src_label
 text_of DestinationLabel w = w.dst_label
 text_of AnyLabel w = w.any_label
 
--- the option is given, and no option before it has a fault
+-- the option is given, and neither it nor an option before it has a fault
 pub record IsBeingRead (w : Words) (o : FilterOption) : Type 0 where
   pub given : is_some (text_of o w) ≡ true
-  pub sound : first_some (take (place_of o) (faults w)) ≡ None
+  pub sound : first_some (take (place_of o + 1) (faults w)) ≡ None
 
--- want of memory is answered at the option that is being read, and each other fault is the first of the texts
+-- want of memory is answered at an option that is read without fault, and each other fault is the first of the texts
 abbrev pub IsFaultOfKind : Words → FilterFault → FilterFaultKind → Type 0
 IsFaultOfKind w fault NoMemory = IsBeingRead w fault.option
 IsFaultOfKind w fault BadNumberList = filter_of_words w ≡ Err fault

@@ -1,5 +1,6 @@
 //! What the texts of the options ask for.
-ghost use Rattle.std.specs.Prelude.{◌≡◌, IfErr, IfOk, map, option_map};
+ghost use Rattle.std.specs.Prelude.{◌≡◌, ◌++◌, ◌∷◌, [], IfErr, IfOk, IfSome, Some, is_some, map, option_map};
+ghost use Rattle.std.specs.Result.{IsOkAnd};
 ghost use Rattle.flow_filter.specs.Blocks.{items_cover, view_of};
 ghost use Rattle.flow_filter.specs.Given.{IsRead, IsRefused, by_place, covering};
 ghost use Rattle.flow_filter.specs.Ranges.{in_ranges};
@@ -15,38 +16,47 @@ use crate::ranges::Ranges;
 use prefix_keys::Block;
 use std::alloc::{AllocError, Global};
 
-// The ranges of a number list, or `None` where the text is none.
-fn read_ranges(alloc: Global, text: &[u8], limit: u64) -> Result<Option<Vec<Range>>, AllocError>
-    ensures { IfOk result (λ ranges. option_map (λ v. v.items) ranges ≡ number_list limit text.now) }
+// The items and one more behind them, or want of memory, that of the items first.
+fn with_item<T: Drop>(items: Result<Vec<T>, AllocError>, item: T) -> Result<Vec<T>, AllocError>
+    ensures { IfOk result (λ new. IsOkAnd items (λ old. new.items ≡ old.items ++ item ∷ [])) }
 {
-    let mut ranges = Vec::new(alloc);
-    let mut rest = Some(text);
-    while let Some(part) = rest {
-        let (item, behind) = cut(part, b',');
-        let Some(range) = read_range(item, limit, false) else {
-            return Ok(None);
-        };
-        ranges.push(range)?;
-        rest = behind;
-    }
-    Ok(Some(ranges))
+    let mut items = items?;
+    items.push(item)?;
+    Ok(items)
 }
 
-// The blocks of an address list, or `None` where the text is none.
-fn read_blocks(alloc: Global, text: &[u8]) -> Result<Option<Vec<Block>>, AllocError>
-    ensures { IfOk result (λ blocks. option_map (λ v. map view_of v.items) blocks ≡ address_list text.now) }
+// The ranges of a number list, or `None` where the text is none. Where memory is refused the rest is looked through all the
+// same, so that a fault of the text comes first.
+fn read_ranges(alloc: Global, text: &[u8], limit: u64) -> Option<Result<Vec<Range>, AllocError>>
+    ensures form { is_some result ≡ is_some (number_list limit text.now) }
+    ensures ranges { IfSome result (λ read. IfOk read (λ v. number_list limit text.now ≡ Some v.items)) }
 {
-    let mut blocks = Vec::new(alloc);
+    let mut ranges = Ok(Vec::new(alloc));
     let mut rest = Some(text);
     while let Some(part) = rest {
         let (item, behind) = cut(part, b',');
-        let Some(block) = read_item(item) else {
-            return Ok(None);
-        };
-        blocks.push(block)?;
+        let range = read_range(item, limit, false)?;
+        ranges = with_item(ranges, range);
         rest = behind;
     }
-    Ok(Some(blocks))
+    Some(ranges)
+}
+
+// The blocks of an address list, or `None` where the text is none. Where memory is refused the rest is looked through all
+// the same.
+fn read_blocks(alloc: Global, text: &[u8]) -> Option<Result<Vec<Block>, AllocError>>
+    ensures form { is_some result ≡ is_some (address_list text.now) }
+    ensures blocks { IfSome result (λ read. IfOk read (λ v. address_list text.now ≡ Some (map view_of v.items))) }
+{
+    let mut blocks = Ok(Vec::new(alloc));
+    let mut rest = Some(text);
+    while let Some(part) = rest {
+        let (item, behind) = cut(part, b',');
+        let block = read_item(item)?;
+        blocks = with_item(blocks, block);
+        rest = behind;
+    }
+    Some(blocks)
 }
 
 // The places of the addresses that the blocks cover.
@@ -81,12 +91,12 @@ pub fn numbers(
         kind: FilterFaultKind::NoMemory,
     };
     match read_ranges(alloc, text.as_bytes(), limit) {
-        Err(_) => Err(no_memory),
-        Ok(None) => Err(FilterFault {
+        None => Err(FilterFault {
             option,
             kind: FilterFaultKind::BadNumberList,
         }),
-        Ok(Some(ranges)) => match Ranges::new(alloc, ranges) {
+        Some(Err(_)) => Err(no_memory),
+        Some(Ok(ranges)) => match Ranges::new(alloc, ranges) {
             Err(_) => Err(no_memory),
             Ok(set) => Ok(Some(set)),
         },
@@ -112,12 +122,12 @@ pub fn addresses(
         kind: FilterFaultKind::NoMemory,
     };
     match read_blocks(alloc, text.as_bytes()) {
-        Err(_) => Err(no_memory),
-        Ok(None) => Err(FilterFault {
+        None => Err(FilterFault {
             option,
             kind: FilterFaultKind::BadBlock,
         }),
-        Ok(Some(blocks)) => match places_of_all(alloc, blocks.as_slice()) {
+        Some(Err(_)) => Err(no_memory),
+        Some(Ok(blocks)) => match places_of_all(alloc, blocks.as_slice()) {
             Err(_) => Err(no_memory),
             Ok(set) => Ok(Some(set)),
         },

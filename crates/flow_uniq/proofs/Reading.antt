@@ -1,28 +1,103 @@
 -- What a text that names fields is read as.
-use Rattle.std.proofs.Common.{◌≡◌, ℕ, Bool, true, false, if◌then◌else◌, List, Option, Result, Ok, Err, sym, ap, ◌∙◌}
-use Rattle.std.specs.Prelude.{filter_map, is_none}
-use Rattle.std.specs.List.{list_any}
+use Rattle.std.proofs.Common.{◌≡◌, ℕ, ◌+◌, Bool, true, false, true≢false, cond, ◌||◌, if◌then◌else◌, List, [], ◌∷◌, Option, Some, None, Result, Ok, Err, map, arith, refl, sym, ap, ◌∙◌}
+use Rattle.std.proofs.lemmas.Bool.Decides.{nat_tests}
+use Rattle.std.specs.Prelude.{IfErr, count_by, find, filter_map, is_none, is_some, nat_lt, option_map, filter, length, unwrap_or}
+use Rattle.std.specs.List.{cons_option, list_any, slice_get}
+use Rattle.std.specs.Str.{bytes_eq}
+use Rattle.std.proofs.lemmas.List.Folds.{fold-map}
+use Rattle.std.proofs.lemmas.List.Sums.{length-filter}
+use Rattle.std.proofs.lemmas.Slice.Eq.{bytes_eq-Decides}
+use Rattle.pmap_text.proofs.LabelTexts.{list_any-map}
 use Rattle.flow_uniq.specs.declared.field.KeyField.{KeyField}
 use Rattle.flow_uniq.specs.declared.fault.KeyFault.{KeyFault}
-use Rattle.flow_uniq.specs.declared.fault.KeyFault.TheVariants.{BadField, FieldRepeated}
-use Rattle.flow_uniq.specs.Field.{has_repetition, keys_reading, named_fields}
+use Rattle.flow_uniq.specs.declared.fault.KeyFault.TheVariants.{BadField, FieldRepeated, NoMemory}
+use Rattle.flow_uniq.specs.Field.{all_fields, field_name, field_named, has_repeated, has_repetition, has_unnamed, is_repeated, items_of, keys_reading, named_fields}
 
-module _ (text : List ℕ) (named : List (Option KeyField)) (fields : List KeyField) (is : named ≡ named_fields text)
-    (all : list_any is_none named ≡ false) (given : fields ≡ filter_map (λ field. field) named) where
-  given_is : filter_map (λ (field : Option KeyField). field) (named_fields text) ≡ fields
-  given_is = ap (filter_map (λ (field : Option KeyField). field)) (sym is) ∙ sym given
+count_by-map : {X Y : Type 0} (f : X → Y) (p : Y → Bool) (xs : List X) → count_by p (map f xs) ≡ count_by (λ x. p (f x)) xs
+count_by-map f p xs = fold-map (λ n y. n + cond (p y) 1 0) f 0 xs
 
-  read_as : (b : Bool) → has_repetition fields ≡ b → keys_reading text ≡ (if b then Err FieldRepeated else Ok fields)
-  read_as b r =
-      ap (λ (c : Bool). let R : Result (List KeyField) KeyFault = if c then Err BadField
-      else if has_repetition (filter_map (λ (field : Option KeyField). field) (named_fields text)) then Err FieldRepeated
-      else Ok (filter_map (λ (field : Option KeyField). field) (named_fields text)) in R)
-      (ap (list_any is_none) (sym is) ∙ all)
-      ∙ ap (λ (fs : List KeyField). let R : Result (List KeyField) KeyFault = if has_repetition fs then Err FieldRepeated else Ok fs in R) given_is
-      ∙ ap (λ (c : Bool). let R : Result (List KeyField) KeyFault = if c then Err FieldRepeated else Ok fields in R) r
+-- a field stands more than once exactly where its name does
+repetition_is : (fields : List KeyField) → has_repetition fields ≡ has_repeated (map field_name fields)
+repetition_is fields =
+    ap (λ (p : KeyField → Bool). list_any p fields)
+    (λ i field. nat_lt 1 (sym (count_by-map field_name (λ other. bytes_eq other (field_name field)) fields) i))
+    ∙ sym (list_any-map field_name (is_repeated (map field_name fields)) fields)
 
-  pub read_repeated : has_repetition fields ≡ true → keys_reading text ≡ Err FieldRepeated
-  read_repeated r = read_as true r
+-- a field that is found by a text has it as its name
+has_name : (text : List ℕ) (fields : List KeyField) (found : KeyField) → find (λ field. bytes_eq (field_name field) text) fields ≡ Some found
+    → field_name found ≡ text
+has_name text [] found is = absurd (true≢false (sym (ap (λ (o : Option KeyField). is_some o) is)))
+has_name text (field ∷ fields) found is = by (bytes_eq (field_name field) text) refl (has_name text fields found)
+  where
+    left : (b : Bool) → bytes_eq (field_name field) text ≡ b
+        → cond b (Some field) (find (λ other. bytes_eq (field_name other) text) fields) ≡ Some found
+    left b e = ap (λ c. cond c (Some field) (find (λ other. bytes_eq (field_name other) text) fields)) (sym e) ∙ is
 
-  pub read_ok : has_repetition fields ≡ false → keys_reading text ≡ Ok fields
-  read_ok r = read_as false r
+    by : (b : Bool) → bytes_eq (field_name field) text ≡ b
+        → (find (λ other. bytes_eq (field_name other) text) fields ≡ Some found → field_name found ≡ text) → field_name found ≡ text
+    by true e rest =
+        ap field_name (ap (λ (o : Option KeyField). unwrap_or o field) (sym (left true e))) ∙ (bytes_eq-Decides (field_name field) text).0 e
+    by false e rest = rest (left false e)
+
+-- items that all name fields are the names of these
+names_are : (items : List (List ℕ)) → has_unnamed items ≡ false → map field_name (named_fields items) ≡ items
+names_are [] all = refl
+names_are (item ∷ items) all = by (field_named item) refl (names_are items)
+  where
+    by : (o : Option KeyField) → field_named item ≡ o → (has_unnamed items ≡ false → map field_name (named_fields items) ≡ items)
+        → map field_name (named_fields (item ∷ items)) ≡ item ∷ items
+    by None e rest = absurd (true≢false (ap (λ (o : Option KeyField). is_none o || has_unnamed items) (sym e) ∙ all))
+    by (Some field) e rest =
+        ap (λ (o : Option KeyField). map field_name (cons_option o (named_fields items))) e
+        ∙ ap (λ (name : List ℕ). name ∷ map field_name (named_fields items)) (has_name item all_fields field e)
+        ∙ ap (λ (names : List (List ℕ)). item ∷ names)
+        (rest (ap (λ (o : Option KeyField). is_none o || has_unnamed items) (sym e) ∙ all))
+
+module _ (text : List ℕ) where
+  pub read_bad : has_unnamed (items_of text) ≡ true → keys_reading text ≡ Err BadField
+  read_bad some =
+      ap (λ (b : Bool). let R : Result (List KeyField) KeyFault = if b then Err BadField
+      else if has_repetition (named_fields (items_of text)) then Err FieldRepeated else Ok (named_fields (items_of text)) in R) some
+
+  module _ (all : has_unnamed (items_of text) ≡ false) where
+    repeats : has_repetition (named_fields (items_of text)) ≡ has_repeated (items_of text)
+    repeats = repetition_is (named_fields (items_of text)) ∙ ap has_repeated (names_are (items_of text) all)
+
+    read_as : (b : Bool) → has_repeated (items_of text) ≡ b
+        → keys_reading text ≡ (if b then Err FieldRepeated else Ok (named_fields (items_of text)))
+    read_as b is =
+        ap (λ (c : Bool). let R : Result (List KeyField) KeyFault = if c then Err BadField
+        else if has_repetition (named_fields (items_of text)) then Err FieldRepeated else Ok (named_fields (items_of text)) in R) all
+        ∙ ap (λ (c : Bool). let R : Result (List KeyField) KeyFault = if c then Err FieldRepeated else Ok (named_fields (items_of text)) in R)
+        (repeats ∙ is)
+
+    pub read_repeated : has_repeated (items_of text) ≡ true → keys_reading text ≡ Err FieldRepeated
+    read_repeated = read_as true
+
+    pub read_ok : has_repeated (items_of text) ≡ false → keys_reading text ≡ Ok (named_fields (items_of text))
+    read_ok = read_as false
+
+    pub names_each_once : has_repeated (items_of text) ≡ false → has_repetition (named_fields (items_of text)) ≡ false
+    names_each_once is = repeats ∙ is
+
+-- of a text that is read any fault may say so
+pub had_fields : {A : Type 0} (text : List ℕ) (r : Result A KeyFault) → keys_reading text ≡ Ok (named_fields (items_of text))
+    → IfErr r (λ fault. fault ≡ NoMemory → (fields : List KeyField) × (keys_reading text ≡ Ok fields))
+had_fields text (Ok done) is = tt
+had_fields text (Err fault) is = λ _. (named_fields (items_of text), is)
+
+-- there is a second element exactly where there is more than one
+second_of : {X : Type 0} (xs : List X) → is_some (slice_get xs 1) ≡ nat_lt 1 (length xs)
+second_of [] = refl
+second_of (x ∷ []) = refl
+second_of (x ∷ y ∷ zs) = grind (arith, nat_tests)
+
+is_some-map : {X Y : Type 0} (f : X → Y) (o : Option X) → is_some o ≡ is_some (option_map f o)
+is_some-map f None = refl
+is_some-map f (Some x) = refl
+
+-- the second of the elements that pass is there exactly where more than one passes
+pub second_passes : {X Y : Type 0} (f : X → Y) (p : Y → Bool) (ys : List Y) (o : Option X) → option_map f o ≡ slice_get (filter p ys) 1
+    → is_some o ≡ nat_lt 1 (count_by p ys)
+second_passes f p ys o is =
+    is_some-map f o ∙ ap is_some is ∙ second_of (filter p ys) ∙ ap (nat_lt 1) (length-filter p ys)

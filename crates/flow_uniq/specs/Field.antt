@@ -1,5 +1,5 @@
 -- The fields of keys, and the texts that name them.
-use Rattle.std.specs.Prelude.{ℕ, ◌==◌, Bool, true, false, List, [], ◌∷◌, Option, Result, Ok, Err, codes, count_by, find, filter_map, is_none, map, nat_lt, if◌then◌else◌}
+use Rattle.std.specs.Prelude.{ℕ, ◌==◌, Bool, true, false, List, [], ◌∷◌, Option, Result, Ok, Err, codes, count_by, find, filter_map, is_none, nat_lt, if◌then◌else◌}
 use Rattle.std.specs.List.{list_any, slice_split}
 use Rattle.std.specs.Str.{bytes_eq}
 use Rattle.flow_uniq.specs.declared.field.KeyField.{KeyField}
@@ -37,9 +37,17 @@ need_map fields = list_any is_label_field fields
 abbrev pub field_named : List ℕ → Option KeyField
 field_named text = find (λ field. bytes_eq (field_name field) text) all_fields
 
--- the field that each item of a text names, where it names one. Items have commas between
-abbrev pub named_fields : List ℕ → List (Option KeyField)
-named_fields text = map field_named (slice_split (λ b. b == 44) text)
+-- the items of a text, which have commas between
+abbrev pub items_of : List ℕ → List (List ℕ)
+items_of text = slice_split (λ b. b == 44) text
+
+-- an item names no field
+abbrev pub has_unnamed : List (List ℕ) → Bool
+has_unnamed items = list_any (λ item. is_none (field_named item)) items
+
+-- the fields that items name
+abbrev pub named_fields : List (List ℕ) → List KeyField
+named_fields items = filter_map field_named items
 
 -- how often a field stands among others
 abbrev pub times_named : List KeyField → KeyField → ℕ
@@ -49,9 +57,16 @@ times_named fields field = count_by (λ other. bytes_eq (field_name other) (fiel
 abbrev pub has_repetition : List KeyField → Bool
 has_repetition fields = list_any (λ field. nat_lt 1 (times_named fields field)) fields
 
+-- an item stands more than once, and some item does
+abbrev pub is_repeated : List (List ℕ) → List ℕ → Bool
+is_repeated items item = nat_lt 1 (count_by (λ other. bytes_eq other item) items)
+
+abbrev pub has_repeated : List (List ℕ) → Bool
+has_repeated items = list_any (is_repeated items) items
+
 -- what a text is read as: the fields that its items name, or its fault
 abbrev pub keys_reading : List ℕ → Result (List KeyField) KeyFault
 keys_reading text =
-    if list_any is_none (named_fields text) then Err BadField
-    else if has_repetition (filter_map (λ field. field) (named_fields text)) then Err FieldRepeated
-    else Ok (filter_map (λ field. field) (named_fields text))
+    if has_unnamed (items_of text) then Err BadField
+    else if has_repetition (named_fields (items_of text)) then Err FieldRepeated
+    else Ok (named_fields (items_of text))

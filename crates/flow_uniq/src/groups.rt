@@ -45,11 +45,15 @@ impl Model for Groups {
         (map entry_model g.entries.items) };
 }
 
-// The groups as they are kept.
+// The groups as they are kept. Memory for all is asked for once: where it is refused, `collect` asks for less.
 fn groups_of(alloc: Global, entries: &[Entry]) -> Result<Vec<Group<'_>>, AllocError>
     ensures { IfOk result (λ groups. map group_model groups.items ≡ map entry_model entries.now) }
 {
-    entries.iter().map(|entry| entry.group()).collect(alloc)
+    let mut groups = Vec::with_capacity(alloc, entries.len())?;
+    for entry in entries {
+        groups.push(entry.group())?;
+    }
+    Ok(groups)
 }
 
 // The groups in the order of their keys.

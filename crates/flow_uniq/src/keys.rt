@@ -1,6 +1,6 @@
-ghost use Rattle.std.specs.Prelude.{◌≡◌, ◌≢◌, IfOk, IfErr, filter_map, is_none};
-ghost use Rattle.std.specs.List.{list_any};
-ghost use Rattle.flow_uniq.specs.Field.{field_named, has_repetition, keys_reading, named_fields, need_map, times_named};
+ghost use Rattle.std.specs.Prelude.{◌≡◌, ◌≢◌, List, Ok, Err, IfOk, IfErr};
+ghost use Rattle.flow_uniq.specs.Field.{field_named, has_repeated, has_unnamed, is_repeated, items_of, keys_reading, named_fields, need_map};
+ghost use Rattle.flow_uniq.specs.declared.field.KeyField.{KeyField};
 ghost use Rattle.flow_uniq.specs.declared.fault.KeyFault.TheVariants.{NoMemory};
 
 use crate::fault::KeyFault;
@@ -36,44 +36,43 @@ fn field_named(text: &[u8]) -> Option<KeyField>
         .find(|field| field.name().as_bytes() == text)
 }
 
-// The field that each item of a text names, where it names one.
-fn named_fields(alloc: Global, text: &[u8]) -> Result<Vec<Option<KeyField>>, AllocError>
-    ensures { IfOk result (λ named. named.items ≡ named_fields text.now) }
+// Whether an item of a text names no field.
+fn has_unnamed(text: &[u8]) -> bool
+    ensures { result ≡ has_unnamed (items_of text.now) }
 {
     text.split(|byte| *byte == b',')
-        .map(|item| field_named(item))
-        .collect(alloc)
+        .any(|item| field_named(item).is_none())
 }
 
-// Whether an item names no field.
-fn has_unnamed(named: &[Option<KeyField>]) -> bool
-    ensures { result ≡ list_any is_none named.now }
+// Whether an item stands more than once in a text.
+fn is_repeated(text: &[u8], item: &[u8]) -> bool
+    ensures { result ≡ is_repeated (items_of text.now) item.now }
 {
-    named.iter().any(|field| field.is_none())
+    text.split(|byte| *byte == b',')
+        .filter(|other| *other == item)
+        .nth(1)
+        .is_some()
 }
 
-// The fields that items name.
-fn given(alloc: Global, named: &[Option<KeyField>]) -> Result<Vec<KeyField>, AllocError>
-    ensures { IfOk result (λ fields. fields.items ≡ filter_map (λ field. field) named.now) }
+// Whether some item does. Of nine items that name fields two are the same, so of such a text no more are looked for.
+fn has_repeated(text: &[u8]) -> bool
+    ensures { result ≡ has_repeated (items_of text.now) }
 {
-    named.iter().filter_map(|field| *field).collect(alloc)
+    text.split(|byte| *byte == b',')
+        .any(|item| is_repeated(text, item))
 }
 
-// How often a field stands among others.
-fn times_named(fields: &[KeyField], field: KeyField) -> usize
-    ensures { result ≡ times_named fields.now field }
+// The fields that the items of a text name. Memory for all fields is asked for once: where it is refused, `collect` asks
+// for less.
+fn named_fields(alloc: Global, text: &[u8]) -> Result<Vec<KeyField>, AllocError>
+    ensures { IfOk result (λ fields. fields.items ≡ named_fields (items_of text.now)) }
 {
-    fields
-        .iter()
-        .filter(|other| other.name() == field.name())
-        .count()
-}
-
-// Whether a field stands more than once.
-fn has_repetition(fields: &[KeyField]) -> bool
-    ensures { result ≡ has_repetition fields.now }
-{
-    fields.iter().any(|field| times_named(fields, *field) > 1)
+    let mut fields = Vec::with_capacity(alloc, ALL_FIELDS.len())?;
+    fields.extend(
+        text.split(|byte| *byte == b',')
+            .filter_map(|item| field_named(item)),
+    )?;
+    Ok(fields)
 }
 
 impl Keys {
@@ -81,20 +80,23 @@ impl Keys {
     ///
     /// # Errors
     ///
-    /// `BadField` where an item is no field's name; else `FieldRepeated` where a field stands twice; `NoMemory` where
+    /// `BadField` where an item is no field's name; else `FieldRepeated` where a field stands twice; else `NoMemory` where
     /// memory is refused.
     pub fn read(alloc: Global, text: &str) -> Result<Keys, KeyFault>
         ensures ok { IfOk result (λ keys. keys_reading text.now ≡ Ok keys) }
         ensures fault { IfErr result (λ fault. fault ≢ NoMemory → keys_reading text.now ≡ Err fault) }
+
+        // Memory is wanted only for a text without a fault.
+        ensures memory { IfErr result (λ fault. fault ≡ NoMemory → (fields : List KeyField) × (keys_reading text.now ≡ Ok fields)) }
     {
-        let named = named_fields(alloc, text.as_bytes())?;
-        if has_unnamed(named.as_slice()) {
+        let items = text.as_bytes();
+        if has_unnamed(items) {
             return Err(KeyFault::BadField);
         }
-        let fields = given(alloc, named.as_slice())?;
-        if has_repetition(fields.as_slice()) {
+        if has_repeated(items) {
             return Err(KeyFault::FieldRepeated);
         }
+        let fields = named_fields(alloc, items)?;
         Ok(Keys { fields })
     }
 

@@ -26,14 +26,16 @@ fn are_rising(keys: &[(u128, u32)]) -> bool
     true
 }
 
-// The start and the length of each entry's block.
+// The start and the length of each entry's block. Memory for all is asked for once: where it is refused, `collect` asks
+// for less.
 fn keys_of(alloc: Global, entries: &[Entry]) -> Result<Vec<(u128, u32)>, AllocError>
     ensures { IfOk result (λ keys. keys.items ≡ map (λ e. (e.block.value, e.block.len)) entries.now) }
 {
-    entries
-        .iter()
-        .map(|entry| (entry.block.value, entry.block.len))
-        .collect(alloc)
+    let mut keys = Vec::with_capacity(alloc, entries.len())?;
+    for entry in entries {
+        keys.push((entry.block.value, entry.block.len))?;
+    }
+    Ok(keys)
 }
 
 /// Whether the entries are seen to have distinct blocks, by sorting the starts and lengths. Unlike in a hash table, no

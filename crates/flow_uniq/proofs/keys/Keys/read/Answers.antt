@@ -1,24 +1,32 @@
-use Rattle.std.proofs.Common.{◌≡◌, true, false, ap, ◌∙◌}
-use Rattle.std.specs.Prelude.{filter_map, is_none}
-use Rattle.std.specs.List.{list_any}
-use Rattle.flow_uniq.specs.Field.{has_repetition, named_fields}
-use Rattle.flow_uniq.proofs.Reading.{read_ok, read_repeated}
+use Rattle.std.proofs.Common.{◌≡◌, true, false, Ok, ap, sym, ◌∙◌}
+use Rattle.flow_uniq.specs.Field.{has_repeated, has_repetition, has_unnamed, items_of, named_fields}
+use Rattle.flow_uniq.proofs.Reading.{had_fields, names_each_once, read_ok, read_repeated}
 use Rattle.flow_uniq.proofs.keys.Keys.read.Goals as goal
 
-pub returns-then-has_repetition-clause-fault : goal.returns-then-has_repetition-clause-fault
-returns-then-has_repetition-clause-fault c =
-    let named : c.in_ok-named.named.items ≡ named_fields c.args.text.now = c.in_ok-named.ensures ∙ ap named_fields c.as_bytes.ensures.value in
-    let all : list_any is_none c.in_ok-named.named.items ≡ false = cc (c.has_unnamed.ensures, c.as_slice.ensures.value) in
-    let given : c.in_ok-fields.fields.items ≡ filter_map (λ field. field) c.in_ok-named.named.items
-    = c.in_ok-fields.ensures ∙ ap (filter_map (λ field. field)) c.as_slice-2.ensures.value in
-    let twice : has_repetition c.in_ok-fields.fields.items ≡ true = cc (c.has_repetition.ensures, c.as_slice-3.ensures.value) in
-    λ _. read_repeated c.args.text.now c.in_ok-named.named.items c.in_ok-fields.fields.items named all given twice
+pub returns-then-has_repeated-clause-fault : goal.returns-then-has_repeated-clause-fault
+returns-then-has_repeated-clause-fault c =
+    let all : has_unnamed (items_of c.args.text.now) ≡ false = cc (c.has_unnamed.ensures, c.as_bytes-items.ensures.value) in
+    let twice : has_repeated (items_of c.args.text.now) ≡ true = cc (c.has_repeated.ensures, c.as_bytes-items.ensures.value) in
+    λ _. read_repeated c.args.text.now all twice
+
+pub returns-in_err-fields-clause-memory : goal.returns-in_err-fields-clause-memory
+returns-in_err-fields-clause-memory c =
+    let all : has_unnamed (items_of c.args.text.now) ≡ false = cc (c.has_unnamed.ensures, c.as_bytes-items.ensures.value) in
+    let once : has_repeated (items_of c.args.text.now) ≡ false = cc (c.has_repeated.ensures, c.as_bytes-items.ensures.value) in
+    had_fields c.args.text.now c.from_residual.result (read_ok c.args.text.now all once)
 
 pub returns-clause-ok : goal.returns-clause-ok
 returns-clause-ok c =
-    let named : c.in_ok-named.named.items ≡ named_fields c.args.text.now = c.in_ok-named.ensures ∙ ap named_fields c.as_bytes.ensures.value in
-    let all : list_any is_none c.in_ok-named.named.items ≡ false = cc (c.has_unnamed.ensures, c.as_slice.ensures.value) in
-    let given : c.in_ok-fields.fields.items ≡ filter_map (λ field. field) c.in_ok-named.named.items
-    = c.in_ok-fields.ensures ∙ ap (filter_map (λ field. field)) c.as_slice-2.ensures.value in
-    let once : has_repetition c.in_ok-fields.fields.items ≡ false = cc (c.has_repetition.ensures, c.as_slice-3.ensures.value) in
-    read_ok c.args.text.now c.in_ok-named.named.items c.in_ok-fields.fields.items named all given once
+    let all : has_unnamed (items_of c.args.text.now) ≡ false = cc (c.has_unnamed.ensures, c.as_bytes-items.ensures.value) in
+    let once : has_repeated (items_of c.args.text.now) ≡ false = cc (c.has_repeated.ensures, c.as_bytes-items.ensures.value) in
+    let given : c.in_ok-fields.fields.items ≡ named_fields (items_of c.args.text.now)
+    = c.in_ok-fields.ensures ∙ ap (λ t. named_fields (items_of t)) c.as_bytes-items.ensures.value in
+    read_ok c.args.text.now all once ∙ ap Ok (sym given)
+
+pub invariant_of-result : goal.invariant_of-result
+invariant_of-result c =
+    let all : has_unnamed (items_of c.args.text.now) ≡ false = cc (c.has_unnamed.ensures, c.as_bytes-items.ensures.value) in
+    let once : has_repeated (items_of c.args.text.now) ≡ false = cc (c.has_repeated.ensures, c.as_bytes-items.ensures.value) in
+    let given : c.in_ok-fields.fields.items ≡ named_fields (items_of c.args.text.now)
+    = c.in_ok-fields.ensures ∙ ap (λ t. named_fields (items_of t)) c.as_bytes-items.ensures.value in
+    ap has_repetition given ∙ names_each_once c.args.text.now all once
