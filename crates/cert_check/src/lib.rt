@@ -36,6 +36,3 @@ pub use carrying::{carried, carried_entries};
 pub use checking::check;
 pub use fault::{CheckFault, CheckFaultKind};
 pub use laws::no_fault_is_acceptance;
-
-#[cfg(test)]
-mod tests;

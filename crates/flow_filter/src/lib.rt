@@ -32,8 +32,6 @@ mod options;
 mod passing;
 mod range;
 mod ranges;
-#[cfg(test)]
-mod tests;
 mod words;
 
 pub use fault::{FilterFault, FilterFaultKind, FilterOption};

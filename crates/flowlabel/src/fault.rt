@@ -1,6 +1,6 @@
 ghost use Rattle.std.specs.Prelude.{◌≡◌, IfOk};
 ghost use Rattle.std.specs.String.{string_bytes};
-ghost use Rattle.flowlabel.specs.Faults.{IsInFile, exit_status_of, fault_text, filter_fault_text, filter_option_text, help_text_of, is_memory_fault, is_usage_want, key_fault_text, option_text, own_fault_text, own_status_of, place_text, status_of, usage_fault_text};
+ghost use Rattle.flowlabel.specs.Faults.{IsInFile, exit_status_of, fault_text, filter_fault_text, filter_option_text, is_memory_fault, is_usage_want, key_fault_text, option_text, own_fault_text, own_status_of, place_text, status_of, usage_fault_text};
 
 use crate::bytes_fault::BytesFault;
 use crate::file_fault::FileFault;
@@ -170,16 +170,6 @@ pub fn fault_line(alloc: Global, fault: &RunFault<'_>) -> Result<Vec<u8>, AllocE
     Ok(line.into_bytes())
 }
 
-/// The text for standard output: clap's where it was asked for help, and none for any other fault.
-pub fn help_text<'f>(fault: &'f RunFault<'_>) -> &'f str
-    ensures { result.now ≡ help_text_of fault.now }
-{
-    match fault {
-        RunFault::Usage(UsageFault::Help(text)) => text.as_str(),
-        _ => "",
-    }
-}
-
 // The exit status of a fault other than want of memory.
 fn own_status(fault: &RunFault<'_>) -> u8
     ensures { result ≡ own_status_of fault.now }
@@ -214,6 +204,3 @@ pub fn exit_status(outcome: &Result<(), RunFault<'_>>) -> u8
         Err(fault) => status(fault),
     }
 }
-
-#[cfg(test)]
-mod tests;

@@ -34,6 +34,3 @@ pub use map_labels::MapLabels;
 pub use row::{label_row, label_row_under};
 pub use scan::Scan;
 pub use trie_labeller::TrieLabeller;
-
-#[cfg(test)]
-mod tests;

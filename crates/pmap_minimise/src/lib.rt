@@ -29,6 +29,3 @@ mod sets;
 mod stack;
 
 pub use minimal::{Minimal, minimise, shortest};
-
-#[cfg(test)]
-mod tests;
