@@ -1,16 +1,20 @@
--- What the end of the program says where a file can't be opened.
-use Rattle.std.proofs.Common.{◌≡◌, List, Option, Result, Ok, Err, false, refl, subst, sym}
-use Rattle.std.specs.Prelude.{IfErr, option_map}
+-- What the end of the program says.
+use Rattle.std.proofs.Common.{◌≡◌, ℕ, Bool, List, Option, Some, None, Result, Ok, Err, false, refl, subst, sym}
+use Rattle.std.specs.Prelude.{IfErr, OnOk, option_map}
+use Rattle.std.specs.Io.KnownBytes.{Appends, Keeps}
 use Rattle.std.specs.Result.{IsErrAnd}
+use Rattle.flow_io.specs.declared.last_call.LastCall.{LastCall}
+use Rattle.flow_io.specs.WriterStates.{IsUntouched}
 use Rattle.flowlabel.specs.Answer.{Answers}
-use Rattle.flowlabel.specs.Opening.{CannotOpenFirst, CannotOpenNamed, CanOpenBefore, IsEndOf, name_at}
+use Rattle.flowlabel.specs.Ending.{IsAsked, IsEndOf}
+use Rattle.flowlabel.specs.Opening.{CannotOpenFirst, CannotOpenNamed, CanOpenBefore, name_at}
 use Rattle.flowlabel.specs.Request.{FileNames, Request, Text, files_of, names_of}
-use Rattle.flowlabel.specs.Run.{is_write_stop}
+use Rattle.flowlabel.specs.Run.{IsFaultOfRun, PrintsThen, is_write_stop}
 use Rattle.flowlabel.specs.Turns.{Turn}
 use Rattle.flowlabel.specs.declared.command.Files.{Files}
 use Rattle.flowlabel.specs.declared.fault.RunFault.{RunFault}
 use Rattle.flowlabel.specs.declared.fault.RunFault.TheVariants.{Usage, CannotOpen, CannotRead, CannotWrite, NoMemory, File}
-use Rattle.flowlabel.specs.declared.usage.UsageFault.{UsageFault}
+use Rattle.flowlabel.specs.declared.inputs.Inputs.{Inputs}
 
 -- the names of files are those that their texts are
 pub same_names : (files : Files) (names : FileNames) → option_map (λ s. s.now) files.map ≡ names.map → option_map (λ s. s.now) files.list ≡ names.list
@@ -26,24 +30,48 @@ refused_first answers names turn (Ok done) fault is cannot before = absurd is
 refused_first answers names turn (Err other) fault is cannot before =
     subst (λ (f : RunFault). CannotOpenFirst answers names f) (sym is) (turn, cannot, before)
 
--- a fault that says so names a file
-pub end_of_open : {R : Type 0} (answers : Text → Option R → Type 0) (words : List Text) (request : Request) (fault : RunFault)
-    → Answers words (Ok request) → CannotOpenFirst answers (files_of request) fault → IsEndOf {A = Unit {0}} answers words (Err fault)
-end_of_open answers words request (Usage fault) is (turn, cannot, before) = absurd cannot
-end_of_open answers words request (CannotOpen file) is first = (request, is, first)
-end_of_open answers words request (CannotRead file) is (turn, cannot, before) = absurd cannot
-end_of_open answers words request CannotWrite is (turn, cannot, before) = absurd cannot
-end_of_open answers words request NoMemory is (turn, cannot, before) = absurd cannot
-end_of_open answers words request (File fault) is (turn, cannot, before) = absurd cannot
+-- known bytes are what they were
+kept : (known : Option (List ℕ)) → Keeps known known
+kept None = tt
+kept (Some bytes) = refl
 
--- a fault that a `?` hands on ends the program as it did
-pub passed_up : {A R : Type 0} (answers : Text → Option R → Type 0) (words : List Text) (r : Result A RunFault) (fault : RunFault)
-    → IsErrAnd r (λ y. y ≡ fault) → IsEndOf {A = Unit {0}} answers words (Err fault) → IsEndOf {A = A} answers words r
-passed_up answers words (Ok done) fault is end = absurd is
-passed_up answers words (Err other) fault is end =
-    subst (λ (f : RunFault). IsEndOf {A = Unit {0}} answers words (Err f)) (sym is) end
+module _ {R W : Type 0} (answers : Text → Option R → Type 0) (left : R → Option (List ℕ)) (failed : R → Bool)
+    (taken : W → Option (List ℕ)) (last : W → LastCall) (words : List Text) (old : W) where
+  -- where no file is read yet nothing is written
+  pub untouched : IsUntouched taken last old old
+  untouched = (kept (taken old), refl)
 
--- and it is none of the writer's
+  -- a fault that says that a file can't be opened names it
+  pub end_of_open : (request : Request) (fault : RunFault) → Answers words (Ok request) → CannotOpenFirst answers (files_of request) fault
+      → IsEndOf answers left failed taken last words old old (Err fault)
+  end_of_open request (Usage fault) is (turn, cannot, before) = absurd cannot
+  end_of_open request (CannotOpen file) is first = (request, is, first, untouched)
+  end_of_open request (CannotRead file) is (turn, cannot, before) = absurd cannot
+  end_of_open request CannotWrite is (turn, cannot, before) = absurd cannot
+  end_of_open request NoMemory is (turn, cannot, before) = absurd cannot
+  end_of_open request (File fault) is (turn, cannot, before) = absurd cannot
+
+  -- a fault that a `?` hands on ends the program as it did
+  pub passed_up : (r : Result (Unit {0}) RunFault) (fault : RunFault) → IsErrAnd r (λ y. y ≡ fault)
+      → IsEndOf answers left failed taken last words old old (Err fault) → IsEndOf answers left failed taken last words old old r
+  passed_up (Ok done) fault is end = absurd is
+  passed_up (Err other) fault is end =
+      subst (λ (f : RunFault). IsEndOf answers left failed taken last words old old (Err f)) (sym is) end
+
+  -- the end of a run over the inputs that are opened
+  pub end_of_run : (request : Request) (inputs inputs' : Inputs R) (new : W) (r : Result (Unit {0}) RunFault)
+      → IsAsked answers words request inputs → OnOk r (PrintsThen left inputs request (Appends (taken old) (taken new)))
+      → IfErr r (IsFaultOfRun left failed taken last inputs inputs' old new request)
+      → IsEndOf answers left failed taken last words old new r
+  end_of_run request inputs inputs' new (Ok done) asked ok err = (request, inputs, asked, ok)
+  end_of_run request inputs inputs' new (Err (Usage fault)) asked ok err = absurd err
+  end_of_run request inputs inputs' new (Err (CannotOpen file)) asked ok err = absurd err
+  end_of_run request inputs inputs' new (Err (CannotRead file)) asked ok err = (request, inputs, inputs', asked, err)
+  end_of_run request inputs inputs' new (Err CannotWrite) asked ok err = (request, inputs, inputs', asked, err)
+  end_of_run request inputs inputs' new (Err NoMemory) asked ok err = (request, inputs, inputs', asked, err)
+  end_of_run request inputs inputs' new (Err (File fault)) asked ok err = (request, inputs, inputs', asked, err)
+
+-- that fault is none of the writer's
 no_write_stop : (A : Type 0) {R : Type 0} (answers : Text → Option R → Type 0) (names : FileNames) (fault : RunFault)
     → CannotOpenFirst answers names fault → is_write_stop {A = A} (Err fault) ≡ false
 no_write_stop A answers names (Usage fault) first = refl

@@ -4,9 +4,10 @@ pub mod DefinitionLemmas
 pub mod EndLemmas
 pub mod EquivalentLemmas
 pub mod ExistenceLemmas
-pub mod GroupLemmas
 pub mod LineLemmas
 pub mod LoadingLemmas
 pub mod MinimalLemmas
 pub mod OutputLemmas
 pub mod RequestLemmas
+pub mod RowLemmas
+pub mod TakenLemmas

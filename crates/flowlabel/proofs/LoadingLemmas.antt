@@ -32,7 +32,7 @@ use Rattle.flowlabel.specs.declared.inputs.Source.{Source}
 use Rattle.flowlabel.specs.declared.run.loaded.Loaded.{Loaded}
 
 -- what holds of a fault that a `?` hands on holds of the answer
-pub passed_on : {A : Type 0} (P : RunFault → Type 0) (r : Result A RunFault) (fault : RunFault) → IsErrAnd r (λ y. y ≡ fault) → P fault → IfErr r P
+pub passed_on : {A F : Type 0} (P : F → Type 0) (r : Result A F) (fault : F) → IsErrAnd r (λ y. y ≡ fault) → P fault → IfErr r P
 passed_on P (Ok done) fault is holds = absurd is
 passed_on P (Err other) fault is holds = subst P (sym is) holds
 

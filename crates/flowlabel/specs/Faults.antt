@@ -97,11 +97,6 @@ own_fault_text (File fault) = place_text fault.file.now (bytes_fault_name fault.
 abbrev pub fault_text : RunFault → List ℕ
 fault_text fault = if is_memory_fault fault then out_of_memory else own_fault_text fault
 
--- what is printed on standard output: the text of help, and nothing for a fault
-abbrev pub help_text_of : RunFault → List ℕ
-help_text_of (Usage (usage.Help text)) = text
-help_text_of fault = []
-
 -- the status of a fault that doesn't say that memory ran out, and that of any fault
 abbrev pub own_status_of : RunFault → ℕ
 own_status_of (Usage (usage.Help text)) = 0

@@ -7,5 +7,7 @@ pub mod Output
 pub mod Turns
 pub mod Run
 pub mod Loading
+pub mod Taken
 pub mod Opening
+pub mod Ending
 pub mod Headline

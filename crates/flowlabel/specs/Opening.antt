@@ -1,14 +1,13 @@
-use Rattle.std.specs.Prelude.{◌≡◌, List, Option, Some, None, Result, Ok, Err, option_map}
-use Rattle.flowlabel.specs.Answer.{Answers, IsFaultAt}
-use Rattle.flowlabel.specs.Request.{FileNames, Request, Text, files_of}
+use Rattle.std.specs.Prelude.{◌≡◌, Option, Some, None}
+use Rattle.flowlabel.specs.Request.{FileNames, Text}
 use Rattle.flowlabel.specs.Run.{name_of}
 use Rattle.flowlabel.specs.Turns.{CertificateTurn, FlowsTurn, ListTurn, MapTurn, Turn}
 use Rattle.flowlabel.specs.declared.fault.RunFault.{RunFault}
-use Rattle.flowlabel.specs.declared.fault.RunFault.TheVariants.{Usage, CannotOpen}
+use Rattle.flowlabel.specs.declared.fault.RunFault.TheVariants.{CannotOpen}
 use Rattle.flowlabel.specs.declared.inputs.Inputs.{Inputs}
 use Rattle.flowlabel.specs.declared.inputs.Source.{Source}
 
--- What the program does round a run: it opens the files of the command line's request.
+-- How the files of a request are opened.
 
 -- the name of the file that is read at a turn, where there is one
 abbrev pub name_at : Turn → FileNames → Option Text
@@ -57,12 +56,3 @@ module _ {R : Type 0} where
   abbrev pub CannotOpenFirst : (Text → Option R → Type 0) → FileNames → RunFault → Type 0
   CannotOpenFirst answers names fault =
       (turn : Turn) × CannotOpenNamed answers (name_at turn names) fault × CanOpenBefore answers turn names
-
--- what the end of the program says of its words: a usage fault is theirs, and at any other end they are a request, the first of
--- whose files that can't be opened is named where one can't
-abbrev pub IsEndOf : {A R : Type 0} → (Text → Option R → Type 0) → List Text → Result A RunFault → Type 0
-IsEndOf answers words (Ok done) = (request : Request) × Answers words (Ok request)
-IsEndOf answers words (Err (Usage fault)) = IsFaultAt words fault
-IsEndOf answers words (Err (CannotOpen file)) =
-    (request : Request) × Answers words (Ok request) × CannotOpenFirst answers (files_of request) (CannotOpen file)
-IsEndOf answers words (Err fault) = (request : Request) × Answers words (Ok request)

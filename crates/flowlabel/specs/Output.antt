@@ -128,11 +128,13 @@ PrintsMinimal certificate m outcome =
 abbrev pub row_labels : Labelling → RowView → LabelTexts
 row_labels l row = (label_by l (row.version, row.src), label_by l (row.version, row.dst))
 
--- the rows that meet a condition, with the labels of their addresses where there is a labelling
+-- the text of rows, with the labels of their addresses where there is a labelling
+abbrev pub labelled_rows_text : Option Labelling → Bool → List RowView → List ℕ
+labelled_rows_text labels columns shown = rows_text shown (option_map (λ l. map (row_labels l) shown) labels) columns
+
+-- that of the rows that meet a condition
 abbrev pub report_of_rows : Condition → Bool → Option Labelling → List MessageView → List ℕ
-report_of_rows condition columns labels messages =
-    let rows = passing_rows condition labels messages in
-    rows_text rows (option_map (λ l. map (row_labels l) rows) labels) columns
+report_of_rows condition columns labels messages = labelled_rows_text labels columns (passing_rows condition labels messages)
 
 -- the groups of these rows by fields of them
 abbrev pub report_of_groups : List KeyField → Condition → Bool → Bool → Option Labelling → List MessageView → List ℕ

@@ -157,6 +157,3 @@ pub fn run<'a, R: Input, W: Output>(
         Err(WriteFault) => Err(RunFault::CannotWrite),
     }
 }
-
-#[cfg(test)]
-mod tests;

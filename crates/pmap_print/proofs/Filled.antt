@@ -60,6 +60,21 @@ module _ {C : Type 0} (text_of : C → Text) (width : ℕ → ℕ) (cells : List
       ∙ join_push 124 (so_far i) (filled (width i) (text_of (get_or cells i d)))
       (omega (arith, length-filled_line width (map text_of (take i cells)), length-map (take i cells) text_of, length-take-le i cells (omega arith)))
 
+-- the same of fields as they are
+pub plain-first : {C : Type 0} (text_of : C → Text) (cells : List C) (i : ℕ) (d : C) → i ≡ 0 → i < length cells
+    → join_with_byte 124 (map text_of (take (i + 1) cells)) ≡ text_of (get_or cells i d)
+plain-first text_of cells i d e h =
+    let none : map text_of (take i cells) ≡ [] = rw e refl in
+    ap (join_with_byte 124) (map_more text_of cells i d h ∙ ap (λ (fields : Line). fields ++ text_of (get_or cells i d) ∷ []) none)
+
+pub plain-next : {C : Type 0} (text_of : C → Text) (cells : List C) (i : ℕ) (d : C) → 0 < i → i < length cells
+    → join_with_byte 124 (map text_of (take (i + 1) cells))
+    ≡ join_with_byte 124 (map text_of (take i cells)) ++ (124 ∷ text_of (get_or cells i d))
+plain-next text_of cells i d some h =
+    ap (join_with_byte 124) (map_more text_of cells i d h)
+    ∙ join_push 124 (map text_of (take i cells)) (text_of (get_or cells i d))
+    (omega (arith, length-map (take i cells) text_of, length-take-le i cells (omega arith)))
+
 -- the width of a column after one more line
 pub column_width-more : (lines : List Line) (i place : ℕ) → i < length lines
     → column_width (take (i + 1) lines) place ≡ max (column_width (take i lines) place) (length (get_or (get_or lines i []) place []))

@@ -1,5 +1,5 @@
 -- The printed text of flow rows.
-use Rattle.std.specs.Prelude.{List, [], ◌∷◌, ◌++◌, map, Option, Some, None, Bool, codes, decimal, unwrap_or, option_map, option_copied}
+use Rattle.std.specs.Prelude.{List, [], ◌∷◌, ◌++◌, map, Option, Some, None, Bool, false, true, codes, decimal, unwrap_or, option_map, option_copied}
 use Rattle.std.specs.Borrow.{Bor}
 use Rattle.std.specs.List.{zip}
 use Rattle.prefix_keys.specs.Print.{address_text}
@@ -36,6 +36,16 @@ given_labels labels = option_map (λ given. map label_texts given.now) labels
 -- the fields of labels: without one there is nothing in the field
 abbrev pub label_fields : LabelTexts → Line
 label_fields labels = unwrap_or labels.0 [] ∷ unwrap_or labels.1 [] ∷ []
+
+-- the title of rows, without labels or with them
+abbrev pub title_line : Bool → Line
+title_line false = row_titles
+title_line true = row_titles ++ label_titles
+
+-- the line of a row, with its labels where it is to have them
+abbrev pub row_line : RowView → Option LabelTexts → Line
+row_line row None = row_fields row
+row_line row (Some labels) = row_fields row ++ label_fields labels
 
 -- the lines of rows, and of rows with labels
 abbrev pub row_lines : List RowView → Option (List LabelTexts) → List Line

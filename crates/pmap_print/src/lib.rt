@@ -38,8 +38,5 @@ pub use laws::{
     printed_order_is_one,
 };
 pub use list::print_list;
-pub use rows::print_rows;
+pub use rows::{print_row, print_rows, print_title};
 pub use runs::print_runs;
-
-#[cfg(test)]
-mod tests;

@@ -1,15 +1,15 @@
 //! The text of flow rows.
-ghost use Rattle.std.specs.Prelude.{◌≡◌, ◌<◌, ◌++◌, IfOk, length, map, slice_index};
+ghost use Rattle.std.specs.Prelude.{◌≡◌, ◌<◌, ◌++◌, IfOk, OnOk, length, map, option_map, slice_index};
 ghost use Rattle.std.specs.Option.{ForSome};
 ghost use Rattle.flow_rows.specs.Row.{row_view};
 ghost use Rattle.pmap_print.specs.Cell.{cell_text};
 ghost use Rattle.pmap_print.specs.Parts.{column_count, labels_at};
-ghost use Rattle.pmap_print.specs.Rows.{given_labels, label_fields, label_texts, label_titles, row_fields, row_lines, row_titles, rows_text};
-ghost use Rattle.pmap_print.specs.Table.{filled_line, table_lines};
+ghost use Rattle.pmap_print.specs.Rows.{given_labels, label_fields, label_texts, label_titles, row_fields, row_line, row_lines, row_titles, rows_text, title_line};
+ghost use Rattle.pmap_print.specs.Table.{filled_line, line_text, table_lines};
 
 use crate::cell::Cell;
 use crate::labels::RowLabels;
-use crate::table::{print_line, widen};
+use crate::table::{print_line, print_plain_line, widen};
 use flow_rows::Row;
 use std::alloc::{AllocError, Global};
 
@@ -106,6 +106,41 @@ fn column_widths(
         widen(&mut widths, scratch, &cells[..count])?;
     }
     Ok(widths)
+}
+
+/// Appends the title of rows, and of their labels where they have some.
+pub fn print_title(out: &mut Vec<u8>, labelled: bool) -> Result<(), AllocError>
+    ensures { OnOk result (out.new.items ≡ out.old.items ++ line_text (title_line labelled)) }
+{
+    let title = title_cells();
+    let count = if labelled {
+        COLUMNS_WITH_LABELS
+    } else {
+        COLUMNS
+    };
+    print_plain_line(out, &title[..count])
+}
+
+/// Appends the line of a row, and of its labels where it has some.
+pub fn print_row(
+    out: &mut Vec<u8>,
+    row: &Row,
+    labels: Option<RowLabels<'_>>,
+) -> Result<(), AllocError>
+    ensures { OnOk result (out.new.items
+        ≡ out.old.items ++ line_text (row_line (row_view row.now) (option_map label_texts labels.entry))) }
+{
+    match labels {
+        Some(labels) => print_plain_line(out, &row_cells(row, labels)),
+        None => {
+            let unlabelled = RowLabels {
+                src: None,
+                dst: None,
+            };
+            let cells = row_cells(row, unlabelled);
+            print_plain_line(out, &cells[..COLUMNS])
+        }
+    }
 }
 
 /// The text of rows: a title, and a line for each row. Where labels are given, each line ends in those of its row. With

@@ -88,3 +88,17 @@ pub fn print_line(
     out.push(b'\n')?;
     Ok(())
 }
+
+/// Appends a line of a table with its fields as they are.
+pub fn print_plain_line(out: &mut Vec<u8>, cells: &[Cell<'_>]) -> Result<(), AllocError>
+    ensures { OnOk result (out.new.items ≡ out.old.items ++ line_text (map cell_text cells.now)) }
+{
+    for (i, cell) in cells.iter().enumerate() {
+        if i > 0 {
+            out.push(b'|')?;
+        }
+        print_cell(out, cell)?;
+    }
+    out.push(b'\n')?;
+    Ok(())
+}

@@ -1,7 +1,7 @@
 use Rattle.std.proofs.Common.{◌∙◌, subst, sym}
-use Rattle.flowlabel.specs.Opening.{CannotOpenFirst}
+use Rattle.flowlabel.specs.Opening.{CannotOpenFirst, HaveNames}
 use Rattle.flowlabel.specs.Request.{FileNames, files_of, request_of}
-use Rattle.flowlabel.proofs.EndLemmas.{end_of_open, passed_unwritten, passed_up, same_names}
+use Rattle.flowlabel.proofs.EndLemmas.{end_of_open, end_of_run, passed_unwritten, passed_up, same_names}
 use Rattle.flowlabel.proofs.execute.Goals as goal
 
 pub run-requires-clause-needed : goal.run-requires-clause-needed
@@ -12,9 +12,21 @@ returns-in_err-inputs-clause-end g c =
     let request = request_of c.in-Ok.command in
     let named = same_names c.files.result (files_of request) c.files.ensures.map c.files.ensures.list c.files.ensures.certificate c.files.ensures.flows in
     let fault = c.in_err-inputs.field-0.0 in
-    passed_up (g.O.Opener.answers c.args.opener.now) _ c.from_residual.result fault c.from_residual.ensures.1
-    (end_of_open (g.O.Opener.answers c.args.opener.now) _ request fault c.in-Ok.ensures.answer (subst (λ (names : FileNames). CannotOpenFirst (g.O.Opener.answers c.args.opener.now) names fault) named c.in_err-inputs.ensures.err))
+    passed_up (g.O.Opener.answers c.args.opener.now) g.O.Reader.Input.bytes_left g.O.Reader.Input.failed g.W.Output.bytes_taken g.W.Output.last_call _ _ c.from_residual.result fault c.from_residual.ensures.1
+    (end_of_open (g.O.Opener.answers c.args.opener.now) g.O.Reader.Input.bytes_left g.O.Reader.Input.failed g.W.Output.bytes_taken g.W.Output.last_call _ _ request fault c.in-Ok.ensures.answer (subst (λ (names : FileNames). CannotOpenFirst (g.O.Opener.answers c.args.opener.now) names fault) named c.in_err-inputs.ensures.err))
 
 pub returns-in_err-inputs-clause-write_fault : goal.returns-in_err-inputs-clause-write_fault
 returns-in_err-inputs-clause-write_fault g c =
     c.requires ∙ sym (passed_unwritten (g.O.Opener.answers c.args.opener.now) _ c.from_residual.result c.in_err-inputs.field-0.0 c.from_residual.ensures.1 c.in_err-inputs.ensures.err)
+
+pub returns-clause-end : goal.returns-clause-end
+returns-clause-end g c =
+    let request = request_of c.in-Ok.command in
+    let named = same_names c.files.result (files_of request) c.files.ensures.map c.files.ensures.list c.files.ensures.certificate c.files.ensures.flows in
+    end_of_run (g.O.Opener.answers c.args.opener.now) g.O.Reader.Input.bytes_left g.O.Reader.Input.failed g.W.Output.bytes_taken g.W.Output.last_call _ _ request c.in_ok-inputs.inputs _ _ c.run.result
+    (record {
+      asked = c.in-Ok.ensures.answer;
+      named = subst (λ (names : FileNames). HaveNames names c.in_ok-inputs.inputs) named c.in_ok-inputs.ensures.named;
+      opened = c.in_ok-inputs.ensures.opened;
+    })
+    c.run.ensures.ok c.run.ensures.err

@@ -1,6 +1,5 @@
 //! What `info` prints.
-ghost use Rattle.std.specs.Prelude.{◌≡◌, ◌≤◌, length};
-ghost use Rattle.flow_rows.specs.Counts.{counts_of, counts_view};
+ghost use Rattle.std.specs.Prelude.{◌≡◌};
 
 use crate::run::report::Report;
 use flow_rows::Counts;
@@ -14,29 +13,40 @@ use std::alloc::{AllocError, Global};
 pub struct InfoReport;
 
 impl Report for InfoReport {
-    ghost use Rattle.flow_rows.specs.Counts.{counts_of};
+    ghost use Rattle.std.specs.Prelude.{◌≡◌};
+    ghost use Rattle.flow_rows.specs.Counts.{counts_of, counts_view};
     ghost use Rattle.pmap_print.specs.Info.{info_text};
+
+    type Taken = Counts;
 
     ghost text = { λ report labels messages. info_text (counts_of messages) };
 
-    fn print<L: Labeller>(
+    ghost is_of = { λ report labels messages counts. counts_view counts ≡ counts_of messages };
+
+    fn begin<L: Labeller>(
+        &self,
+        _alloc: Global,
+        _labels: Option<&L>,
+    ) -> Result<Counts, AllocError> {
+        Ok(Counts::new())
+    }
+
+    fn take<L: Labeller>(
+        &self,
+        counts: &mut Counts,
+        message: &Message<'_>,
+        _labels: Option<&L>,
+    ) -> Result<(), AllocError> {
+        counts.add(message);
+        Ok(())
+    }
+
+    fn finish<L: Labeller>(
         &self,
         alloc: Global,
+        counts: Counts,
         _labels: Option<&L>,
-        messages: &[Message<'_>],
     ) -> Result<Vec<u8>, AllocError> {
-        print_info(alloc, &count(messages))
+        print_info(alloc, &counts)
     }
-}
-
-// The counts of messages.
-fn count(messages: &[Message<'_>]) -> Counts
-    requires { length messages.now ≤ 4294967295 }
-    ensures { counts_view result ≡ counts_of messages.now }
-{
-    let mut counts = Counts::new();
-    for message in messages {
-        counts.add(message);
-    }
-    counts
 }

@@ -1,37 +1,100 @@
 //! What is printed of an IPFIX File, under labels or without any.
-ghost use Rattle.std.specs.Prelude.{◌≡◌, ◌≤◌, ℕ, List, Option, Ok, Some, false, true, IfErr, IfOk, is_some, length, option_map};
+ghost use Rattle.std.specs.Prelude.{◌≡◌, ◌≤◌, ◌<◌, ◌++◌, ◌∷◌, [], ℕ, List, OnOk, Option, Ok, Some, false, true, IfErr, IfOk, is_some, length, option_map};
 ghost use Rattle.ipfix_read.specs.Message.{MessageView};
+ghost use Rattle.ipfix_read.specs.Messages.{is_read_fault};
 ghost use Rattle.label_lookup.specs.Labelling.{Labelling, labelling_by, labelling_lent};
 ghost use Rattle.flowlabel.specs.Loading.{IsFaultOfAnswer, labelling_of_either};
 ghost use Rattle.flowlabel.specs.Output.{ReportsOf};
 ghost use Rattle.flowlabel.specs.Run.{HasText, IsStop, any_failed, is_read_stop};
+ghost use Rattle.flowlabel.specs.Taken.{HasTaken, IsFaultOfMessages, IsFaultOfReading};
 ghost use Rattle.flowlabel.specs.Turns.{FlowsTurn};
 
 use crate::bytes_fault::BytesFault;
 use crate::fault::RunFault;
 use crate::inputs::{Inputs, Source};
 use crate::run::loaded::LoadedLabels;
-use crate::run::loading::text_of_file;
 use flow_io::Input;
-use ipfix_read::{Message, read_file};
+use ipfix_read::{Buffer, Message, Progress, ReadFault, ReadFaultKind};
 use label_lookup::{AddressLabels, Labeller, ListIndex, MapLabels, Scan};
 use label_trie::Trie;
 use std::alloc::{AllocError, Global};
 
-/// What may be printed of the messages of a File.
+/// What may be printed of the messages of a File, which are taken one after the other.
 pub trait Report {
+    /// What is had of the messages that are taken.
+    type Taken: Drop;
+
     /// The text of messages under a labelling, or without one.
     ghost text: { Self → Option Labelling → List MessageView → List ℕ };
 
-    /// Prints the report on messages, with the labels of this labeller, if there is one.
-    fn print<L: Labeller>(
+    // What is had is that of these messages under the labelling.
+    ghost is_of: { Self → Option Labelling → List MessageView → Self.Taken → Type 0 };
+
+    /// What is had of no message, with the labels of this labeller, if there is one.
+    fn begin<L: Labeller>(
         &self,
         alloc: Global,
         labels: Option<&L>,
-        messages: &[Message<'_>],
+    ) -> Result<Self::Taken, AllocError>
+        ensures { IfOk result (is_of self.now (labelling_lent L.version_of L.label labels.entry) []) };
+
+    /// Takes one message more.
+    fn take<L: Labeller>(
+        &self,
+        taken: &mut Self::Taken,
+        message: &Message<'_>,
+        labels: Option<&L>,
+    ) -> Result<(), AllocError>
+        requires { (messages : List MessageView) × (length messages < 4294967295)
+            × is_of self.now (labelling_lent L.version_of L.label labels) messages taken.old }
+        ensures { (messages : List MessageView) → length messages < 4294967295
+            → is_of self.now (labelling_lent L.version_of L.label labels.entry) messages taken.old
+            → OnOk result (is_of self.now (labelling_lent L.version_of L.label labels.entry) (messages ++ message.now ∷ []) taken.new) };
+
+    /// Prints the report on the messages that are taken.
+    fn finish<L: Labeller>(
+        &self,
+        alloc: Global,
+        taken: Self::Taken,
+        labels: Option<&L>,
     ) -> Result<Vec<u8>, AllocError>
-        requires { length messages.now ≤ 4294967295 }
-        ensures { IfOk result (λ out. out.items ≡ text self.now (labelling_lent L.version_of L.label labels.entry) messages.now) };
+        ensures { (messages : List MessageView) → is_of self.now (labelling_lent L.version_of L.label labels.entry) messages taken
+            → IfOk result (λ out. out.items ≡ text self.now (labelling_lent L.version_of L.label labels.entry) messages) };
+}
+
+// Takes the messages of the File that a reader still gives, one at a time, into one buffer.
+fn take_messages<R: Input, P: Report, L: Labeller>(
+    alloc: Global,
+    reader: &mut R,
+    report: &P,
+    labels: Option<&L>,
+    taken: &mut P::Taken,
+) -> Result<(), ReadFault>
+    requires reader { R.failed reader.old ≡ false }
+    requires none { P.is_of report.now (labelling_lent L.version_of L.label labels) [] taken.old }
+    ensures ok { OnOk result (HasTaken (P.is_of report.now (labelling_lent L.version_of L.label labels.entry))
+        (R.bytes_left reader.old) taken.new) }
+    ensures err { IfErr result (IsFaultOfMessages (R.bytes_left reader.old)) }
+    ensures device { R.failed reader.new ≡ is_read_fault result }
+{
+    // For its law: the calls so far and the next one are the whole File.
+    ipfix_read::calls_join_file();
+    let mut buffer = Buffer::new(alloc)?;
+    let mut progress = Progress::new(alloc);
+    while let Some(message) = progress.next(reader, &mut buffer)? {
+        report.take(taken, &message, labels)?;
+    }
+    Ok(())
+}
+
+// The fault of the file with this name where its messages can't be had.
+fn fault_of_messages(file: &str, fault: ReadFault) -> RunFault<'_>
+    ensures { IsFaultOfReading file.entry fault result }
+{
+    match fault.kind {
+        ReadFaultKind::ReadFault => RunFault::CannotRead(file),
+        _ => RunFault::in_file(file, BytesFault::Flows(fault)),
+    }
 }
 
 // The report on a File, with the labels of this labeller, if there is one.
@@ -47,10 +110,10 @@ fn report_of_file<'a, R: Input, P: Report, L: Labeller>(
     ensures err { IfErr result (IsStop R.bytes_left R.failed FlowsTurn (Some source.old) (Some source.new)) }
     ensures failed { R.failed source.new.reader ≡ is_read_stop result }
 {
-    let bytes = text_of_file(alloc, source)?;
-    match read_file(alloc, bytes.as_slice()) {
-        Ok(file) => Ok(report.print(alloc, labels, file.messages.as_slice())?),
-        Err(fault) => Err(RunFault::in_file(source.name, BytesFault::Flows(fault))),
+    let mut taken = report.begin(alloc, labels)?;
+    match take_messages(alloc, &mut source.reader, report, labels, &mut taken) {
+        Ok(()) => Ok(report.finish(alloc, taken, labels)?),
+        Err(fault) => Err(fault_of_messages(source.name, fault)),
     }
 }
 

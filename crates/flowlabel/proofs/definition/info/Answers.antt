@@ -1,12 +1,11 @@
-use Rattle.std.proofs.Common.{◌≡◌, ◌∙◌, ap, ap₂, rules, codes}
+use Rattle.std.proofs.Common.{◌≡◌, ◌∙◌, ap₂, rules, codes}
 use Rattle.std.proofs.lemmas.Result.{IfOk-weaker}
 use Rattle.clap.specs.Words.{app_of, new_app, with_rule}
-use Rattle.clap.specs.Simple.{app_of_fields}
 use Rattle.flowlabel.proofs.definition.info.Goals as goal
 
 pub returns-clause-app : goal.returns-clause-app
 returns-clause-app c =
-    let empty : app_of c.about.result ≡ new_app (codes "info") = ap app_of_fields c.about.ensures ∙ c.new.ensures.app in
+    let empty : app_of c.described.result ≡ new_app (codes "info") = c.described.ensures.app in
     IfOk-weaker c.arg.result _ _ (λ r added. added.shape c.flows_argument.ensures.local ∙ ap₂ with_rule empty c.flows_argument.ensures.rule) c.arg.ensures
 
 pub returns-clause-local : goal.returns-clause-local

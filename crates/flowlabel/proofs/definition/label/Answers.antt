@@ -1,14 +1,13 @@
-use Rattle.std.proofs.Common.{◌≡◌, ◌∙◌, ap, ap₂, rules, codes}
+use Rattle.std.proofs.Common.{◌≡◌, ◌∙◌, ap₂, rules, codes}
 use Rattle.std.proofs.lemmas.Result.{IfOk-weaker}
 use Rattle.clap.specs.Words.{app_of, new_app, rule_of, with_rule}
-use Rattle.clap.specs.Simple.{app_of_fields}
 use Rattle.flowlabel.specs.Definition.{address_rule, list_rule, pmap_rule}
 use Rattle.flowlabel.proofs.definition.label.Goals as goal
 
 pub returns-clause-app : goal.returns-clause-app
 returns-clause-app c =
     let address_is : rule_of c.help-address.result ≡ address_rule = search rules in
-    let empty : app_of c.about.result ≡ new_app (codes "label") = ap app_of_fields c.about.ensures ∙ c.new-2.ensures.app in
+    let empty : app_of c.described.result ≡ new_app (codes "label") = c.described.ensures.app in
     let one : app_of c.in_ok-arg.field-0 ≡ with_rule (new_app (codes "label")) pmap_rule =
     c.in_ok-arg.ensures.shape c.map_argument.ensures.local ∙ ap₂ with_rule empty c.map_argument.ensures.rule in
     let two : app_of c.in_ok-arg-2.field-0 ≡ with_rule (with_rule (new_app (codes "label")) pmap_rule) list_rule =

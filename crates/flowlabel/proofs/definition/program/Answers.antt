@@ -11,6 +11,5 @@ without_help a = record a { top = record a.top { disable_help_subcommand = true 
 
 pub returns-clause-app : goal.returns-clause-app
 returns-clause-app c =
-    let named = ap app_of_fields c.about.ensures ∙ c.new.ensures.app in
-    let required = ap app_of_fields c.subcommand_required.ensures ∙ ap requiring named in
+    let required = ap app_of_fields c.subcommand_required.ensures ∙ ap requiring c.described.ensures.app in
     ap app_of_fields c.disable_help_subcommand.ensures ∙ ap without_help required

@@ -1,13 +1,12 @@
 use Rattle.std.proofs.Common.{◌≡◌, ◌∙◌, ap, ap₂, rules, codes}
 use Rattle.std.proofs.lemmas.Result.{IfOk-weaker}
-use Rattle.clap.specs.Words.{App, app_of, new_app, with_rule}
-use Rattle.clap.specs.Simple.{app_of_fields}
+use Rattle.clap.specs.Words.{app_of, new_app, with_rule}
 use Rattle.flowlabel.specs.Definition.{columns_rule, fields_rule, list_rule, pmap_rule, sort_rule, with_filters}
 use Rattle.flowlabel.proofs.definition.uniq.Goals as goal
 
 pub returns-clause-app : goal.returns-clause-app
 returns-clause-app c =
-    let empty : app_of c.about.result ≡ new_app (codes "uniq") = ap app_of_fields c.about.ensures ∙ c.new.ensures.app in
+    let empty : app_of c.described.result ≡ new_app (codes "uniq") = c.described.ensures.app in
     let one : app_of c.in_ok-arg.field-0 ≡ with_rule (new_app (codes "uniq")) fields_rule =
     c.in_ok-arg.ensures.shape c.fields_argument.ensures.local ∙ ap₂ with_rule empty c.fields_argument.ensures.rule in
     let two : app_of c.in_ok-arg-2.field-0 ≡ with_rule (with_rule (new_app (codes "uniq")) fields_rule) pmap_rule =

@@ -1,0 +1,79 @@
+use Rattle.std.specs.Prelude.{◌≡◌, ◌⊎◌, ℕ, Bool, true, List, [], Option, Result, Ok, Err}
+use Rattle.std.specs.Io.KnownBytes.{Appends}
+use Rattle.flow_io.specs.declared.last_call.LastCall.{LastCall}
+use Rattle.flow_io.specs.declared.last_call.LastCall.TheVariants.{Flush}
+use Rattle.flow_io.specs.WriterStates.{IsUntouched, StopsWriting}
+use Rattle.flowlabel.specs.Answer.{Answers, IsFaultAt}
+use Rattle.flowlabel.specs.Faults.{fault_text}
+use Rattle.flowlabel.specs.Opening.{AreOpened, CannotOpenFirst, HaveNames}
+use Rattle.flowlabel.specs.Request.{Request, Text, files_of}
+use Rattle.flowlabel.specs.Run.{IsFaultOfRun, PrintsThen}
+use Rattle.flowlabel.specs.declared.ending.Stream.{Stream}
+use Rattle.flowlabel.specs.declared.ending.Told.{Told}
+use Rattle.flowlabel.specs.declared.ending.Told.TheVariants.{Lent, Made}
+use Rattle.flowlabel.specs.declared.ending.Stream.TheVariants as stream
+use Rattle.flowlabel.specs.declared.fault.RunFault.{RunFault}
+use Rattle.flowlabel.specs.declared.fault.RunFault.TheVariants.{Usage, CannotOpen}
+use Rattle.flowlabel.specs.declared.inputs.Inputs.{Inputs}
+use Rattle.flowlabel.specs.declared.usage.UsageFault.TheVariants as usage
+
+-- How the program ends: what its end says of its words and of its output, and what is told of it on which stream.
+
+-- what is told: help, or the line of a fault
+abbrev pub told_text : {A : Type 0} → Result A RunFault → List ℕ
+told_text (Ok done) = []
+told_text (Err (Usage (usage.Help text))) = text
+told_text (Err fault) = fault_text fault
+
+-- the bytes of a text that is told
+abbrev pub told_bytes : Told → List ℕ
+told_bytes (Lent text) = text.now
+told_bytes (Made line) = line.items
+
+-- the stream on which it is told
+abbrev pub stream_of : {A : Type 0} → Result A RunFault → Stream
+stream_of (Err (Usage (usage.Help text))) = stream.Output
+stream_of result = stream.Error
+
+-- the writer took the text whole and was flushed, or it failed before that
+module _ {W : Type 0} (taken : W → Option (List ℕ)) (last : W → LastCall) (failed : W → Bool) where
+  abbrev pub IsWritten : W → W → List ℕ → Type 0
+  IsWritten old new text =
+      (Appends (taken old) (taken new) text × (last new ≡ Flush)) ⊎ (StopsWriting taken last old new text × (failed new ≡ true))
+
+-- neither standard output nor standard error has a call
+module _ {O E : Type 0} (taken : O → Option (List ℕ)) (last : O → LastCall) (taken' : E → Option (List ℕ)) (last' : E → LastCall) where
+  abbrev pub IsSilent : O → O → E → E → Type 0
+  IsSilent output output' error error' = IsUntouched taken last output output' × IsUntouched taken' last' error error'
+
+module _ {O E : Type 0} (taken : O → Option (List ℕ)) (last : O → LastCall) (failed : O → Bool)
+    (taken' : E → Option (List ℕ)) (last' : E → LastCall) (failed' : E → Bool) where
+  -- the text is written to this stream, and the other one has no call
+  abbrev pub IsTold : Stream → List ℕ → O → O → E → E → Type 0
+  IsTold stream.Output text output output' error error' =
+      IsWritten taken last failed output output' text × IsUntouched taken' last' error error'
+  IsTold stream.Error text output output' error error' =
+      IsUntouched taken last output output' × IsWritten taken' last' failed' error error' text
+
+-- the words are this request, and the inputs are its files, opened by their names
+pub record IsAsked {R : Type 0} (answers : Text → Option R → Type 0) (words : List Text) (request : Request) (inputs : Inputs R) : Type 0 where
+  pub asked : Answers words (Ok request)
+  pub named : HaveNames (files_of request) inputs
+  pub opened : AreOpened answers inputs
+
+module _ {R W : Type 0} (answers : Text → Option R → Type 0) (left : R → Option (List ℕ)) (failed : R → Bool)
+    (taken : W → Option (List ℕ)) (last : W → LastCall) where
+  -- What the end of the program says of its words and of its output, from one state of it to another. A usage fault is one of
+  -- the words. At any other end these are a request; where one of its files can't be opened, the first such file is named. Else
+  -- it is run over its files as they were opened, with the output of that run or its fault.
+  abbrev pub IsEndOf : List Text → W → W → Result (Unit {0}) RunFault → Type 0
+  IsEndOf words old new (Ok done) =
+      (request : Request) × (inputs : Inputs R) × IsAsked answers words request inputs
+      × PrintsThen left inputs request (Appends (taken old) (taken new))
+  IsEndOf words old new (Err (Usage fault)) = IsFaultAt words fault × IsUntouched taken last old new
+  IsEndOf words old new (Err (CannotOpen file)) =
+      (request : Request) × Answers words (Ok request) × CannotOpenFirst answers (files_of request) (CannotOpen file)
+      × IsUntouched taken last old new
+  IsEndOf words old new (Err fault) =
+      (request : Request) × (inputs : Inputs R) × (inputs' : Inputs R) × IsAsked answers words request inputs
+      × IsFaultOfRun left failed taken last inputs inputs' old new request fault

@@ -1,0 +1,49 @@
+use Rattle.std.specs.Prelude.{◌≡◌, ◌≤◌, ◌*◌, ◌⊎◌, ℕ, Bool, true, false, List, [], Option, IfSome, length, map, option_map}
+use Rattle.std.specs.Borrow.{Bor}
+use Rattle.ipfix_read.specs.Fault.{is_of_reader, out_of_memory}
+use Rattle.ipfix_read.specs.File.{HasFileFault, ReadsFile}
+use Rattle.ipfix_read.specs.Message.{MessageView}
+use Rattle.ipfix_read.specs.declared.fault.ReadFault.{ReadFault}
+use Rattle.flow_rows.specs.Row.{row_view}
+use Rattle.flow_rows.specs.declared.row.Row.{Row}
+use Rattle.flow_filter.specs.Condition.{Condition}
+use Rattle.flow_filter.specs.Passing.{passing_rows}
+use Rattle.flow_uniq.specs.Groups.{GroupsModel, groups_of, record_count}
+use Rattle.flow_uniq.specs.declared.field.KeyField.{KeyField}
+use Rattle.label_lookup.specs.Labelling.{Labelling, label_where}
+use Rattle.flowlabel.specs.Faults.{IsInFile}
+use Rattle.flowlabel.specs.Output.{report_of_rows}
+use Rattle.flowlabel.specs.declared.bytes_fault.BytesFault.TheVariants.{Flows}
+use Rattle.flowlabel.specs.declared.fault.RunFault.{RunFault}
+use Rattle.flowlabel.specs.declared.fault.RunFault.TheVariants.{CannotRead}
+use Rattle.flowlabel.specs.declared.run.rows.RowsTaken.{RowsTaken}
+use Rattle.flowlabel.specs.declared.run.rows.RowsTaken.TheVariants.{Lines, Kept}
+
+-- What a report has of the messages of a File that it has taken, for the program's own parts.
+
+-- what is had is that of some messages, which are all those of the File that the reader gave, where it tells its bytes
+abbrev pub HasTaken : {T : Type 0} → (List MessageView → T → Type 0) → Option (List ℕ) → T → Type 0
+HasTaken is_of given taken =
+    (messages : List MessageView) × is_of messages taken × IfSome given (λ bytes. ReadsFile [] 0 bytes messages)
+
+-- a fault of the calls for messages: memory ran out, the reader failed, or it is the first of the bytes that the reader gave
+abbrev pub IsFaultOfMessages : Option (List ℕ) → ReadFault → Type 0
+IsFaultOfMessages given fault =
+    (fault ≡ out_of_memory) ⊎ ((is_of_reader fault.kind ≡ true) ⊎ IfSome given (λ bytes. HasFileFault [] 0 0 bytes fault))
+
+-- the fault of a run that it is: a file that can't be read, or a fault of its bytes, or want of memory
+abbrev pub IsFaultOfReading : Bor (List ℕ) → ReadFault → RunFault → Type 0
+IsFaultOfReading file fault result =
+    ((is_of_reader fault.kind ≡ true) × (result ≡ CannotRead file))
+    ⊎ ((is_of_reader fault.kind ≡ false) × IsInFile file.now (Flows fault) result)
+
+-- the groups of the rows that pass
+pub record HasGroups (keys : List KeyField) (condition : Condition) (labels : Option Labelling) (messages : List MessageView) (had : GroupsModel) : Type 0 where
+  pub fields : had.fields ≡ keys
+  pub count : record_count had.groups ≤ 65535 * length messages
+  pub groups : had.groups ≡ groups_of keys (label_where labels) (passing_rows condition labels messages)
+
+-- the text of the rows that pass, or these rows where their lines wait for the widths of the columns
+abbrev pub HasRows : Condition → Bool → Option Labelling → List MessageView → RowsTaken → Type 0
+HasRows condition columns labels messages (Lines taken) = (columns ≡ false) × (taken.text.items ≡ report_of_rows condition false labels messages)
+HasRows condition columns labels messages (Kept rows) = (columns ≡ true) × (map row_view rows.items ≡ passing_rows condition labels messages)

@@ -1,0 +1,120 @@
+//! How the program ends: the exit status, and what is told on which stream.
+ghost use Rattle.std.specs.Prelude.{◌≡◌, ◌⊎◌, false, true, is_ok, IfOk};
+ghost use Rattle.flowlabel.specs.Ending.{IsSilent, IsTold, stream_of, told_bytes, told_text};
+ghost use Rattle.flowlabel.specs.declared.ending.Stream.TheVariants as stream;
+ghost use Rattle.flowlabel.specs.Faults.{exit_status_of};
+ghost use Rattle.flowlabel.specs.Run.{is_write_stop};
+
+use crate::fault::{RunFault, exit_status, fault_line};
+use crate::usage::UsageFault;
+use flow_io::{Output, write_whole};
+use std::alloc::{AllocError, Global};
+
+/// A standard stream.
+#[derive(Clone, Copy)]
+pub enum Stream {
+    /// Standard output.
+    Output,
+    /// Standard error.
+    Error,
+}
+
+/// What is told.
+#[derive(Drop)]
+pub enum Told<'a> {
+    /// A text of clap's, as it is.
+    Lent(&'a str),
+    /// The line of a fault.
+    Made(Vec<u8>),
+}
+
+impl Told<'_> {
+    // Its bytes.
+    fn as_bytes(&self) -> &[u8]
+        ensures { result.now ≡ told_bytes self.now }
+    {
+        match self {
+            Told::Lent(text) => text.as_bytes(),
+            Told::Made(line) => line.as_slice(),
+        }
+    }
+}
+
+/// How the program ends.
+#[derive(Drop)]
+pub struct Ending<'a> {
+    /// The exit status.
+    pub status: u8,
+    /// The stream on which the text is told.
+    pub stream: Stream,
+    /// The text, where there was memory for it.
+    pub text: Result<Told<'a>, AllocError>,
+}
+
+// The text that is told: help, for which no memory is asked, or the line of a fault.
+fn told_text<'a>(
+    alloc: Global,
+    outcome: &'a Result<(), RunFault<'_>>,
+) -> Result<Told<'a>, AllocError>
+    ensures bytes { IfOk result (λ told. told_bytes told ≡ told_text outcome.entry.now) }
+    ensures help { stream_of outcome.entry.now ≡ stream.Output → is_ok result ≡ true }
+{
+    match outcome {
+        Ok(()) => Ok(Told::Lent("")),
+        Err(RunFault::Usage(UsageFault::Help(text))) => Ok(Told::Lent(text.as_str())),
+        Err(fault) => Ok(Told::Made(fault_line(alloc, fault)?)),
+    }
+}
+
+// The stream on which it is told.
+fn stream_of(outcome: &Result<(), RunFault<'_>>) -> Stream
+    ensures { result ≡ stream_of outcome.now }
+{
+    match outcome {
+        Err(RunFault::Usage(UsageFault::Help(_))) => Stream::Output,
+        _ => Stream::Error,
+    }
+}
+
+/// The end of a run with this outcome: help goes to standard output, and the line of a fault to standard error.
+pub fn ending_of<'a>(alloc: Global, outcome: &'a Result<(), RunFault<'_>>) -> Ending<'a>
+    ensures status { result.status ≡ exit_status_of outcome.entry.now }
+    ensures stream { result.stream ≡ stream_of outcome.entry.now }
+    ensures text { IfOk result.text (λ told. told_bytes told ≡ told_text outcome.entry.now) }
+    ensures help { result.stream ≡ stream.Output → is_ok result.text ≡ true }
+{
+    Ending {
+        status: exit_status(outcome),
+        stream: stream_of(outcome),
+        text: told_text(alloc, outcome),
+    }
+}
+
+/// Tells the text on its stream, which is flushed, and gives the status. Where the stream fails, or there was no memory for
+/// the text, the status stands.
+pub fn end<O: Output, E: Output>(
+    alloc: Global,
+    outcome: &Result<(), RunFault<'_>>,
+    output: &mut O,
+    error: &mut E,
+) -> u8
+    requires output { O.failed output.old ≡ is_write_stop outcome.now }
+    requires error { E.failed error.old ≡ false }
+    ensures status { result ≡ exit_status_of outcome.now }
+
+    // Nothing else is told, and nothing at all only where there was no memory for the line of a fault.
+    ensures told { IsTold O.bytes_taken O.last_call O.failed E.bytes_taken E.last_call E.failed (stream_of outcome.now)
+        (told_text outcome.now) output.old output.new error.old error.new
+        ⊎ ((stream_of outcome.now ≡ stream.Error)
+        × IsSilent O.bytes_taken O.last_call E.bytes_taken E.last_call output.old output.new error.old error.new) }
+{
+    let ending = ending_of(alloc, outcome);
+    let stream = ending.stream;
+    if let Ok(text) = &ending.text {
+        let _ = match stream {
+            Stream::Output => write_whole(output, text.as_bytes()),
+            Stream::Error => write_whole(error, text.as_bytes()),
+        };
+    }
+    ending.status
+}
