@@ -1,10 +1,41 @@
-ghost use Rattle.std.specs.Prelude.{◌≡◌, IfOk, codes, false, true};
-ghost use Rattle.clap.specs.Words.{app_of, rule_of, with_rule, with_subcommand};
+ghost use Rattle.std.specs.Prelude.{◌≡◌, IfOk, Some, codes, false, true};
+ghost use Rattle.clap.specs.Words.{app_of, new_app, rule_of, with_rule, with_subcommand};
 ghost use Rattle.clap.specs.declared.builder.command.Command.TheViews.{out-Command};
 ghost use Rattle.flowlabel.specs.Definition.{cat_app, certificate_rule, columns_rule, flowlabel_app, flows_rule, info_app, label_app, list_rule, needed_pmap_rule, pmap_rule, program, rows_app, shrink_app, cert_rule, check_app, needed_list_rule, value_rule, with_filters, with_label_filters, with_value_filters, fields_rule, sort_rule, uniq_app};
 
 use clap::{Arg, ArgAction, Command};
 use std::alloc::{AllocError, Global};
+
+// The first line of each help: the program and its version.
+const VERSION: &str = "flowlabel 0.1.0-dev";
+
+// The last lines of a help: a command line with what it prints, and where the manual is.
+macro_rules! example {
+    ($what:literal, $line:literal) => {
+        concat!("Example, ", $what, ":\n  ", $line, "\n\nManual: man flowlabel")
+    };
+}
+
+// A command before its arguments, with what its help says besides them.
+fn described<'a>(
+    alloc: Global,
+    name: &'a str,
+    about: &'a str,
+    usage: &'a str,
+    example: &'a str,
+) -> Command<'a>
+    ensures app { app_of result ≡ new_app name.entry.now }
+    ensures local { (out-Command result).has_globals ≡ false }
+    ensures about { (out-Command result).about ≡ Some about.entry }
+    ensures usage { (out-Command result).usage_str ≡ Some usage.entry }
+    ensures example { (out-Command result).after_help ≡ Some example.entry }
+{
+    Command::new(alloc, name)
+        .before_help(VERSION)
+        .about(about)
+        .override_usage(usage)
+        .after_help(example)
+}
 
 // `--pmap FILE`, a prefix map.
 fn map_argument<'a>(alloc: Global) -> Arg<'a>
@@ -14,6 +45,7 @@ fn map_argument<'a>(alloc: Global) -> Arg<'a>
     Arg::new(alloc, "pmap")
         .long("pmap")
         .value_name("FILE")
+        .help_heading("Labels")
         .help("The prefix map")
 }
 
@@ -25,10 +57,11 @@ fn list_argument<'a>(alloc: Global) -> Arg<'a>
     Arg::new(alloc, "list")
         .long("list")
         .value_name("FILE")
+        .help_heading("Labels")
         .help("The prefix list")
 }
 
-// `label [--pmap FILE] [--list FILE] ADDR`.
+// `label (--pmap FILE | --list FILE) ADDR`.
 fn label<'a>(alloc: Global) -> Result<Command<'a>, AllocError>
     ensures app { IfOk result (λ c. app_of c ≡ label_app) }
     ensures local { IfOk result (λ c. (out-Command c).has_globals ≡ false) }
@@ -37,11 +70,21 @@ fn label<'a>(alloc: Global) -> Result<Command<'a>, AllocError>
         .value_name("ADDR")
         .required(true)
         .help("The address to label");
-    Command::new(alloc, "label")
-        .about("Print the label of an address")
-        .arg(map_argument(alloc))?
-        .arg(list_argument(alloc))?
-        .arg(address)
+    let usage = "flowlabel label (--pmap FILE | --list FILE) ADDR";
+    let example = example!(
+        "the label of one address",
+        "flowlabel label --pmap customers.txt 10.2.3.4"
+    );
+    described(
+        alloc,
+        "label",
+        "Print the label of an address",
+        usage,
+        example,
+    )
+    .arg(map_argument(alloc))?
+    .arg(list_argument(alloc))?
+    .arg(address)
 }
 
 // `FILE`, the IPFIX File of `info`, `rows` and `uniq`.
@@ -60,9 +103,19 @@ fn info<'a>(alloc: Global) -> Result<Command<'a>, AllocError>
     ensures app { IfOk result (λ c. app_of c ≡ info_app) }
     ensures local { IfOk result (λ c. (out-Command c).has_globals ≡ false) }
 {
-    Command::new(alloc, "info")
-        .about("Print the counts of an IPFIX File")
-        .arg(flows_argument(alloc))
+    let usage = "flowlabel info FILE";
+    let example = example!(
+        "how many messages, sets and records a File has",
+        "flowlabel info flows.ipfix"
+    );
+    described(
+        alloc,
+        "info",
+        "Print the counts of an IPFIX File",
+        usage,
+        example,
+    )
+    .arg(flows_argument(alloc))
 }
 
 // `--columns`.
@@ -73,10 +126,11 @@ fn columns_argument<'a>(alloc: Global) -> Arg<'a>
     Arg::new(alloc, "columns")
         .long("columns")
         .action(ArgAction::SetTrue)
+        .help_heading("Output")
         .help("Pad the values to columns")
 }
 
-// An option of one value, under its name.
+// A filter: an option of one value, under its name.
 fn value_argument<'a>(alloc: Global, name: &'a str, value: &'a str, help: &'a str) -> Arg<'a>
     ensures rule { rule_of result ≡ value_rule name.entry.now }
     ensures local { result.global ≡ false }
@@ -84,6 +138,7 @@ fn value_argument<'a>(alloc: Global, name: &'a str, value: &'a str, help: &'a st
     Arg::new(alloc, name)
         .long(name)
         .value_name(value)
+        .help_heading("Filters")
         .help(help)
 }
 
@@ -180,15 +235,25 @@ fn with_filters<'a>(alloc: Global, command: Command<'a>) -> Result<Command<'a>, 
     with_label_filters(alloc, with_value_filters(alloc, command)?)
 }
 
-// `rows [--pmap FILE] [--list FILE] [filters] [--columns] FILE`.
+// `rows [--pmap FILE | --list FILE] [filters] [--columns] FILE`.
 fn rows<'a>(alloc: Global) -> Result<Command<'a>, AllocError>
     ensures app { IfOk result (λ c. app_of c ≡ rows_app) }
     ensures local { IfOk result (λ c. (out-Command c).has_globals ≡ false) }
 {
-    let labelled = Command::new(alloc, "rows")
-        .about("Print the rows of an IPFIX File")
-        .arg(map_argument(alloc))?
-        .arg(list_argument(alloc))?;
+    let usage = "flowlabel rows [--pmap FILE | --list FILE] [OPTIONS] FILE";
+    let example = example!(
+        "the flows from the customer Cedar to port 443",
+        "flowlabel rows --pmap customers.txt --src-label Cedar --dport 443 flows.ipfix"
+    );
+    let labelled = described(
+        alloc,
+        "rows",
+        "Print the rows of an IPFIX File",
+        usage,
+        example,
+    )
+    .arg(map_argument(alloc))?
+    .arg(list_argument(alloc))?;
     with_filters(alloc, labelled)?
         .arg(columns_argument(alloc))?
         .arg(flows_argument(alloc))
@@ -203,8 +268,9 @@ fn fields_argument<'a>(alloc: Global) -> Arg<'a>
         .long("fields")
         .value_name("NAMES")
         .required(true)
+        .help_heading("Keys")
         .help(
-            "The fields of keys, as sip,dport: sip, dip, sport, dport, proto, flags, src-label, dst-label",
+            "What to sum by, as sip,dport: sip, dip, sport, dport,\nproto, flags, src-label, dst-label",
         )
 }
 
@@ -216,16 +282,22 @@ fn sort_argument<'a>(alloc: Global) -> Arg<'a>
     Arg::new(alloc, "sort-output")
         .long("sort-output")
         .action(ArgAction::SetTrue)
+        .help_heading("Output")
         .help("Print the groups in the order of their keys")
 }
 
-// `uniq --fields NAMES [--pmap FILE] [--list FILE] [filters] [--sort-output] [--columns] FILE`.
+// `uniq --fields NAMES [--pmap FILE | --list FILE] [filters] [--sort-output] [--columns] FILE`.
 fn uniq<'a>(alloc: Global) -> Result<Command<'a>, AllocError>
     ensures app { IfOk result (λ c. app_of c ≡ uniq_app) }
     ensures local { IfOk result (λ c. (out-Command c).has_globals ≡ false) }
 {
-    let labelled = Command::new(alloc, "uniq")
-        .about("Print the groups of the rows of an IPFIX File")
+    let about = "Print the groups of the rows of an IPFIX File";
+    let usage = "flowlabel uniq --fields NAMES [--pmap FILE | --list FILE] [OPTIONS] FILE";
+    let example = example!(
+        "the sums by the customer that flows went to",
+        "flowlabel uniq --fields dst-label --pmap customers.txt flows.ipfix"
+    );
+    let labelled = described(alloc, "uniq", about, usage, example)
         .arg(fields_argument(alloc))?
         .arg(map_argument(alloc))?
         .arg(list_argument(alloc))?;
@@ -235,15 +307,25 @@ fn uniq<'a>(alloc: Global) -> Result<Command<'a>, AllocError>
         .arg(flows_argument(alloc))
 }
 
-// `cat [--pmap FILE] [--list FILE]`.
+// `cat (--pmap FILE | --list FILE)`.
 fn cat<'a>(alloc: Global) -> Result<Command<'a>, AllocError>
     ensures app { IfOk result (λ c. app_of c ≡ cat_app) }
     ensures local { IfOk result (λ c. (out-Command c).has_globals ≡ false) }
 {
-    Command::new(alloc, "cat")
-        .about("Print the ranges of a map or a list")
-        .arg(map_argument(alloc))?
-        .arg(list_argument(alloc))
+    let usage = "flowlabel cat (--pmap FILE | --list FILE)";
+    let example = example!(
+        "the addresses of each label",
+        "flowlabel cat --pmap customers.txt"
+    );
+    described(
+        alloc,
+        "cat",
+        "Print the ranges of a map or a list",
+        usage,
+        example,
+    )
+    .arg(map_argument(alloc))?
+    .arg(list_argument(alloc))
 }
 
 // `--pmap FILE` where it has to be there.
@@ -251,7 +333,7 @@ fn needed_map_argument<'a>(alloc: Global) -> Arg<'a>
     ensures rule { rule_of result ≡ needed_pmap_rule }
     ensures local { result.global ≡ false }
 {
-    map_argument(alloc).required(true)
+    map_argument(alloc).required(true).help_heading("Files")
 }
 
 // `--certificate`.
@@ -262,6 +344,7 @@ fn certificate_flag<'a>(alloc: Global) -> Arg<'a>
     Arg::new(alloc, "certificate")
         .long("certificate")
         .action(ArgAction::SetTrue)
+        .help_heading("Output")
         .help("Print the certificate in place of the list")
 }
 
@@ -270,8 +353,13 @@ fn shrink<'a>(alloc: Global) -> Result<Command<'a>, AllocError>
     ensures app { IfOk result (λ c. app_of c ≡ shrink_app) }
     ensures local { IfOk result (λ c. (out-Command c).has_globals ≡ false) }
 {
-    Command::new(alloc, "shrink")
-        .about("Print the shortest list that labels as a map does")
+    let about = "Print the shortest list that labels as a map does";
+    let usage = "flowlabel shrink --pmap FILE [--certificate]";
+    let example = example!(
+        "the list of a map",
+        "flowlabel shrink --pmap customers.txt >list.txt"
+    );
+    described(alloc, "shrink", about, usage, example)
         .arg(needed_map_argument(alloc))?
         .arg(certificate_flag(alloc))
 }
@@ -281,7 +369,7 @@ fn needed_list_argument<'a>(alloc: Global) -> Arg<'a>
     ensures rule { rule_of result ≡ needed_list_rule }
     ensures local { result.global ≡ false }
 {
-    list_argument(alloc).required(true)
+    list_argument(alloc).required(true).help_heading("Files")
 }
 
 // `--cert FILE`, a certificate.
@@ -293,6 +381,7 @@ fn certificate_argument<'a>(alloc: Global) -> Arg<'a>
         .long("cert")
         .value_name("FILE")
         .required(true)
+        .help_heading("Files")
         .help("The certificate")
 }
 
@@ -301,8 +390,13 @@ fn check<'a>(alloc: Global) -> Result<Command<'a>, AllocError>
     ensures app { IfOk result (λ c. app_of c ≡ check_app) }
     ensures local { IfOk result (λ c. (out-Command c).has_globals ≡ false) }
 {
-    Command::new(alloc, "check")
-        .about("Check that a list is a shortest one for a map, by a certificate")
+    let about = "Check that a list is a shortest one for a map, by a certificate";
+    let usage = "flowlabel check --pmap FILE --list FILE --cert FILE";
+    let example = example!(
+        "whether list.txt is a shortest list",
+        "flowlabel check --pmap customers.txt --list list.txt --cert cert.txt"
+    );
+    described(alloc, "check", about, usage, example)
         .arg(needed_map_argument(alloc))?
         .arg(needed_list_argument(alloc))?
         .arg(certificate_argument(alloc))
@@ -314,8 +408,9 @@ fn program<'a>(alloc: Global) -> Command<'a>
     ensures local { (out-Command result).has_globals ≡ false }
     ensures required { (out-Command result).subcommand_required ≡ true }
 {
-    Command::new(alloc, "flowlabel")
-        .about("Label addresses by a prefix map, report on network flows, and shrink maps")
+    let about = "Label addresses by a prefix map, report on network flows, and shrink maps";
+    let example = example!("the options of one command", "flowlabel rows --help");
+    described(alloc, "flowlabel", about, "flowlabel COMMAND ...", example)
         .subcommand_required(true)
         .disable_help_subcommand(true)
 }
