@@ -1,7 +1,8 @@
 # make test: the gate, with as many tasks at a time as there are processors (RT_JOBS=N: with N), and what each crate
-# cost. Every proof from nothing, then the built program as a user runs it, its installation, and the examples that need
-# no other program. make examples: all examples of the pages. make scripts: the scripts of examples/. What needs packages
-# is skipped where they aren't there.
+# cost. Every proof from nothing, then the scripts of tests/: calls of the crates, a caller that must not compile, the built
+# program as a user runs it, each request for memory refused, its installation; and the examples that need no other
+# program. make examples: all examples of the pages. make scripts: the scripts of examples/. What needs packages is
+# skipped where they aren't there.
 # make bench: the speed of the program.
 # make install, make uninstall: the proved program with its manual pages and completions, below DESTDIR and PREFIX.
 .PHONY: test examples scripts bench install uninstall
@@ -22,7 +23,10 @@ test:
 	touch out/gate
 	bench/gate
 	mv -f out/gate out/built
+	tests/calls/run
+	tests/borrow
 	tests/program
+	tests/memory
 	tests/install
 	examples/run --without-packages
 
