@@ -40,7 +40,6 @@ scripts:
 
 bench:
 	bench/run
-	bench/read_file/run
 
 # bin/flowlabel builds the program where it is missing or older than its sources.
 install:
