@@ -1,5 +1,5 @@
 //! The yardstick of the bench for IPFIX Files, with no proof: prints what `info`, `rows` and `rows --columns` print of a
-//! File. With `read` it looks at each byte of the File once and prints their exclusive or.
+//! File without elements of enterprises. With `read` it looks at each byte of the File once and prints their exclusive or.
 use std::collections::HashMap;
 use std::error::Error;
 use std::io::{self, Write};

@@ -1,7 +1,8 @@
 -- The rows that pass of a message, and rows that others are added to.
-use Rattle.std.proofs.Common.{◌≡◌, ◌∙◌, ◌+◌, ◌≤◌, Bool, false, List, [], ◌∷◌, ◌++◌, Option, Some, None, Result, Ok, Err, OnOk, arith, filter, length, map, take, true≢false, sym, ap}
-use Rattle.std.proofs.lemmas.List.{length-append, length-map, length-take, take-take}
+use Rattle.std.proofs.Common.{◌≡◌, ◌∙◌, ◌+◌, ◌*◌, ◌<◌, ◌≤◌, ℕ, Bool, false, List, [], ◌∷◌, ◌++◌, Option, Some, None, Result, Ok, Err, OnOk, arith, filter, get_or, length, map, take, true≢false, sym, ap}
+use Rattle.std.proofs.lemmas.List.{append-nil, append_assoc, length-append, length-map, length-take, take-take}
 use Rattle.std.proofs.lemmas.List.Concat.{length-flat_map}
+use Rattle.std.proofs.lemmas.List.Elements.{filter-append}
 use Rattle.std.proofs.lemmas.List.Sums.{count_by-le-length, length-filter, sum_by-le-sum_by}
 use Rattle.std.specs.List.{flat_map}
 use Rattle.std.specs.Option.{option_to_list}
@@ -11,7 +12,7 @@ use Rattle.ipfix_read.specs.declared.record.Record.{Record}
 use Rattle.ipfix_read.specs.declared.set.Set.{Set}
 use Rattle.ipfix_read.specs.declared.set.Set.TheVariants.{Templates, Values, Skipped}
 use Rattle.flow_rows.specs.Content.{records_in, records_of, rows_of}
-use Rattle.flow_rows.specs.Elements.{first_row, rows_of_record}
+use Rattle.flow_rows.specs.Elements.{first_row, rows_of_record, second_row}
 use Rattle.flow_rows.specs.Row.{RowView, row_view}
 use Rattle.flow_rows.specs.declared.row.Row.{Row}
 
@@ -22,17 +23,55 @@ front_within a b h = omega (arith, length-take (length a) b, ap length h)
 pub front_stays : {X : Type 0} (a b c : List X) → take (length a) b ≡ a → take (length b) c ≡ b → take (length a) c ≡ a
 front_stays a b c h k = sym (take-take (length a) (length b) c (front_within a b h)) ∙ ap (take (length a)) k ∙ h
 
--- a message has no more rows that pass than sets and records
+-- what passes of the first row of a record, and then of the second, is what passes of its rows
+pub both_pass : (p : RowView → Bool) (front middle all : List RowView) (first second : Option RowView) (r : Record)
+    → first ≡ first_row r → second ≡ second_row r
+    → middle ≡ front ++ filter p (option_to_list first) → all ≡ middle ++ filter p (option_to_list second)
+    → all ≡ front ++ filter p (rows_of_record r)
+both_pass p front middle all first second r is_first is_second one two =
+    two
+    ∙ ap (λ (rows : List RowView). rows ++ filter p (option_to_list second)) one
+    ∙ append_assoc front (filter p (option_to_list first)) (filter p (option_to_list second))
+    ∙ ap (λ (rows : List RowView). front ++ rows) (sym (filter-append p (option_to_list first) (option_to_list second)))
+    ∙ (λ i. front ++ filter p (option_to_list (is_first i) ++ option_to_list (is_second i)))
+
+-- what passes of one more record, with what passes of those behind it
+pub pass_one : (p : RowView → Bool) (rows : Record → List RowView) (before all whole : List RowView) (left more : List Record) (r : Record)
+    → left ≡ r ∷ more → all ≡ before ++ filter p (rows r)
+    → before ++ filter p (flat_map rows left) ≡ whole → all ++ filter p (flat_map rows more) ≡ whole
+pass_one p rows before all whole left more r begins added so_far =
+    ap (λ (those : List RowView). those ++ filter p (flat_map rows more)) added
+    ∙ append_assoc before (filter p (rows r)) (filter p (flat_map rows more))
+    ∙ ap (λ (those : List RowView). before ++ those) (sym (filter-append p (rows r) (flat_map rows more)))
+    ∙ ap (λ (those : List Record). before ++ filter p (flat_map rows those)) (sym begins)
+    ∙ so_far
+
+-- behind the last record
+pub pass_all : (p : RowView → Bool) (rows : Record → List RowView) (before whole : List RowView) (left : List Record)
+    → left ≡ [] → before ++ filter p (flat_map rows left) ≡ whole → before ≡ whole
+pass_all p rows before whole left none so_far =
+    sym (append-nil before) ∙ ap (λ (those : List Record). before ++ filter p (flat_map rows those)) (sym none) ∙ so_far
+
+-- a message has no more rows that pass than twice its sets and records
 one_at_most : (o : Option RowView) → length (option_to_list o) ≤ 1
 one_at_most None = omega (arith)
 one_at_most (Some row) = omega (arith)
 
-records_within : (records : List Record) → length (flat_map rows_of_record records) ≤ length records
+two_at_most : (r : Record) → length (rows_of_record r) ≤ 2
+two_at_most r =
+    omega (
+      arith,
+      length-append (option_to_list (first_row r)) (option_to_list (second_row r)),
+      one_at_most (first_row r),
+      one_at_most (second_row r),
+    )
+
+records_within : (records : List Record) → length (flat_map rows_of_record records) ≤ 2 * length records
 records_within [] = omega (arith)
 records_within (r ∷ records) =
     let whole : length (flat_map rows_of_record (r ∷ records)) ≡ length (rows_of_record r) + length (flat_map rows_of_record records) =
     length-append (rows_of_record r) (flat_map rows_of_record records) in
-    omega (arith, whole, one_at_most (first_row r), records_within records)
+    omega (arith, whole, two_at_most r, records_within records)
 
 set_within : (set : Set) → length (records_in set) ≤ set_size set
 set_within (Templates kind events) = omega arith
@@ -42,13 +81,13 @@ set_within (Skipped id) = omega arith
 sets_within : (sets : List Set) → length (records_of sets) ≤ message_size sets
 sets_within sets = omega (arith, length-flat_map records_in sets, sum_by-le-sum_by (λ set. length (records_in set)) set_size sets set_within)
 
-rows_within : (p : RowView → Bool) (sets : List Set) → length (filter p (rows_of sets)) ≤ message_size sets
+rows_within : (p : RowView → Bool) (sets : List Set) → length (filter p (rows_of sets)) ≤ 2 * message_size sets
 rows_within p sets =
     omega (arith, length-filter p (rows_of sets), count_by-le-length p (rows_of sets), records_within (records_of sets), sets_within sets)
 
 -- with them there are so many rows more at most
 few_more : (p : RowView → Bool) (sets : List Set) (old new : List Row) → message_size sets ≤ 65535
-    → map row_view new ≡ map row_view old ++ filter p (rows_of sets) → length new ≤ length old + 65535
+    → map row_view new ≡ map row_view old ++ filter p (rows_of sets) → length new ≤ length old + 131070
 few_more p sets old new size added =
     omega (
       arith,
@@ -61,6 +100,6 @@ few_more p sets old new size added =
     )
 
 pub few_added : {E : Type 0} (r : Result (Unit {0}) E) (p : RowView → Bool) (sets : List Set) (old new : List Row) → is_err r ≡ false
-    → message_size sets ≤ 65535 → OnOk r (map row_view new ≡ map row_view old ++ filter p (rows_of sets)) → length new ≤ length old + 65535
+    → message_size sets ≤ 65535 → OnOk r (map row_view new ≡ map row_view old ++ filter p (rows_of sets)) → length new ≤ length old + 131070
 few_added (Ok x) p sets old new is size added = few_more p sets old new size added
 few_added (Err e) p sets old new is size added = absurd (true≢false is)

@@ -1,6 +1,7 @@
 //! The rows of a message that pass a filter.
-ghost use Rattle.std.specs.Prelude.{◌≡◌, ◌+◌, ◌≤◌, ◌++◌, OnErr, OnOk, length, map, take};
+ghost use Rattle.std.specs.Prelude.{◌≡◌, ◌+◌, ◌≤◌, ◌++◌, OnErr, OnOk, length, map, option_map, take};
 ghost use Rattle.std.specs.List.{flat_map};
+ghost use Rattle.std.specs.Option.{option_to_list};
 ghost use Rattle.flow_rows.specs.Content.{rows_of};
 ghost use Rattle.flow_rows.specs.Elements.{rows_of_record};
 ghost use Rattle.flow_rows.specs.Row.{row_view};
@@ -9,15 +10,37 @@ ghost use Rattle.flow_filter.specs.Filters.{condition_in};
 ghost use Rattle.flow_filter.specs.Passing.{passing};
 
 use crate::filter::Filter;
-use flow_rows::{Row, row_of};
-use ipfix_read::{Message, Record, Set};
+use flow_rows::{Row, reverse_row_of, row_of};
+use ipfix_read::{Message, Record, RecordList, Set};
 use label_lookup::Labeller;
 use std::alloc::AllocError;
 
-// Adds the rows of a record that pass.
+// Adds the row that is there, if it passes.
+fn add_row<L: Labeller>(
+    filter: &Filter<'_>,
+    row: &Option<Row>,
+    labeller: Option<&L>,
+    rows: &mut Vec<Row>,
+) -> Result<(), AllocError>
+    ensures ok { let labelling = labelling_lent L.version_of L.label labeller.entry in
+        OnOk result (map row_view rows.new.items
+        ≡ map row_view rows.old.items
+        ++ passing (condition_in filter.now) labelling (option_to_list (option_map row_view row.now))) }
+    ensures front { take (length rows.old.items) rows.new.items ≡ rows.old.items }
+{
+    if let Some(row) = row {
+        if filter.passes(row, labeller) {
+            rows.push(*row)?;
+        }
+    }
+    Ok(())
+}
+
+// Adds the rows of a record that pass, the second right behind the first.
+#[tactic(auto, using(crate::proofs::PassingLemmas::front_stays, crate::proofs::PassingLemmas::both_pass))]
 fn add_rows_of_record<L: Labeller>(
     filter: &Filter<'_>,
-    data_record: &Record<'_>,
+    data_record: &Record<'_, '_>,
     labeller: Option<&L>,
     rows: &mut Vec<Row>,
 ) -> Result<(), AllocError>
@@ -26,19 +49,15 @@ fn add_rows_of_record<L: Labeller>(
         ≡ map row_view rows.old.items ++ passing (condition_in filter.now) labelling (rows_of_record data_record.now)) }
     ensures front { take (length rows.old.items) rows.new.items ≡ rows.old.items }
 {
-    if let Some(row) = row_of(data_record) {
-        if filter.passes(&row, labeller) {
-            rows.push(row)?;
-        }
-    }
-    Ok(())
+    add_row(filter, &row_of(data_record), labeller, rows)?;
+    add_row(filter, &reverse_row_of(data_record), labeller, rows)
 }
 
 // Adds the rows of records that pass.
 #[tactic(auto, using(crate::proofs::PassingLemmas::front_stays))]
 fn add_rows_of_records<L: Labeller>(
     filter: &Filter<'_>,
-    records: &[Record<'_>],
+    records: &RecordList<'_>,
     labeller: Option<&L>,
     rows: &mut Vec<Row>,
 ) -> Result<(), AllocError>
@@ -47,8 +66,8 @@ fn add_rows_of_records<L: Labeller>(
         ≡ map row_view rows.old.items ++ passing (condition_in filter.now) labelling (flat_map rows_of_record records.now)) }
     ensures front { take (length rows.old.items) rows.new.items ≡ rows.old.items }
 {
-    for record in records {
-        add_rows_of_record(filter, record, labeller, rows)?;
+    for record in records.iter() {
+        add_rows_of_record(filter, &record, labeller, rows)?;
     }
     Ok(())
 }
@@ -68,15 +87,16 @@ fn add_rows_of_sets<L: Labeller>(
 {
     for set in sets {
         if let Set::Values(_, records) = set {
-            add_rows_of_records(filter, records.as_slice(), labeller, rows)?;
+            add_rows_of_records(filter, records, labeller, rows)?;
         }
     }
     Ok(())
 }
 
 impl<'a> Filter<'a> {
-    /// Adds the rows of a message that meet each condition that is given, behind those that are there. They are at most
-    /// 65,535. Without a labeller no address has a label.
+    /// Adds the rows of a message that meet each condition that is given, behind those that are there, in order: the second
+    /// row of a record, where it has one, stands right behind the first, and each passes by itself. They are at most
+    /// 131,070. Without a labeller no address has a label.
     ///
     /// # Errors
     ///
@@ -90,7 +110,7 @@ impl<'a> Filter<'a> {
         ensures ok { let labelling = labelling_lent L.version_of L.label labeller.entry in
             OnOk result (map row_view rows.new.items
             ≡ map row_view rows.old.items ++ passing (condition_in self.now) labelling (rows_of message.now.sets)) }
-        ensures few { length rows.new.items ≤ length rows.old.items + 65535 }
+        ensures few { length rows.new.items ≤ length rows.old.items + 131070 }
         ensures err { OnErr result (rows.new.items ≡ rows.old.items) }
     {
         let before = rows.len();

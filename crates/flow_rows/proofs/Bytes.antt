@@ -1,14 +1,14 @@
 -- What a record says of an element is said by a value whose field takes bytes.
 use Rattle.std.proofs.Common.{◌≡◌, ◌∙◌, ℕ, zero, suc, Bool, true, false, not, List, [], ◌∷◌, Option, Some, refl, sym, ap, cond}
 use Rattle.std.specs.Prelude.{◌&&◌, ◌==◌, filter, find, is_none, option_map}
-use Rattle.std.specs.List.{list_all}
+use Rattle.std.specs.List.{list_all, list_any}
 use Rattle.std.specs.Map.{lookup}
 use Rattle.std.specs.Option.{option_map_or}
 use Rattle.std.proofs.Math.Dec.{eqb-suc-zero}
 use Rattle.ipfix_templates.specs.Field.{has_bytes}
 use Rattle.ipfix_read.specs.Value.{FieldValueView, values_with_bytes}
-use Rattle.flow_rows.specs.Element.{big_endian, element, element_lengths, fits, is_usable}
-use Rattle.flow_rows.specs.Elements.{elements_of}
+use Rattle.flow_rows.specs.Element.{big_endian, element, element_lengths, fits, is_reverse_usable, is_usable, reverse_element, reverse_elements, reverse_enterprise}
+use Rattle.flow_rows.specs.Elements.{elements_of, reverse_elements_of}
 
 both-true : (p q : Bool) → (p && q) ≡ true → (p ≡ true) × (q ≡ true)
 both-true true q h = (refl, h)
@@ -40,6 +40,10 @@ usable_has_bytes p q number zero h =
     let never : false ≡ true = sym (fits-zero number) ∙ fitting in
     cc
 usable_has_bytes p q number (suc len) h = ap not (eqb-suc-zero len)
+
+reverse_usable_has_bytes : (p q r : Bool) (number len : ℕ) → (p && (q && (r && fits number len))) ≡ true → not (len == 0) ≡ true
+reverse_usable_has_bytes p q r number len h =
+    usable_has_bytes q r number len (both-true p (q && (r && fits number len)) h).1
 
 -- an element that can't pass isn't found
 find-not : {X : Type 0} (test : X → Bool) (x : X) (xs : List X) → (test x ≡ true → false ≡ true) → find test (x ∷ xs) ≡ find test xs
@@ -75,3 +79,21 @@ element-with_bytes values number =
 
 pub elements_of-with_bytes : (values : List FieldValueView) → elements_of (values_with_bytes values) ≡ elements_of values
 elements_of-with_bytes values = simp element-with_bytes
+
+-- the same of the reverse direction
+reverse_element-with_bytes : (values : List FieldValueView) (number : ℕ)
+    → reverse_element (values_with_bytes values) number ≡ reverse_element values number
+reverse_element-with_bytes values number =
+    ap (option_map (λ v. big_endian v.value))
+    (
+    find-filter
+    (λ v. (v.field.number == number) && is_reverse_usable v.field)
+    (λ v. has_bytes v.field)
+    (λ v. reverse_usable_has_bytes (v.field.number == number) (option_map_or (λ n. n == reverse_enterprise) v.field.enterprise false)
+    (list_any (λ n. v.field.number == n) reverse_elements) v.field.number v.field.length)
+    values
+    )
+
+pub reverse_elements_of-with_bytes : (values : List FieldValueView)
+    → reverse_elements_of (values_with_bytes values) ≡ reverse_elements_of values
+reverse_elements_of-with_bytes values = simp reverse_element-with_bytes

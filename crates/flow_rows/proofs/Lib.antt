@@ -1,3 +1,4 @@
+pub mod Alike
 pub mod Bytes
 pub mod Passes
 pub mod Tallies

@@ -1,6 +1,6 @@
 -- One pass over the values of a record: what is known of each element after some of them, with what the others say.
 use Rattle.std.proofs.Common.{◌≡◌, ◌∙◌, ℕ, Bool, true, false, List, [], ◌∷◌, Option, Some, None, refl, sym, is_some, option_map}
-use Rattle.std.specs.Prelude.{◌||◌, find, if◌then◌else◌}
+use Rattle.std.specs.Prelude.{◌&&◌, ◌||◌, find, if◌then◌else◌}
 use Rattle.std.specs.Option.{option_or}
 use Rattle.prefix_keys.specs.declared.version.Version.{Version}
 use Rattle.prefix_keys.specs.declared.version.Version.TheVariants.{V4, V6}
@@ -8,10 +8,11 @@ use Rattle.ipfix_read.specs.Value.{FieldValueView}
 use Rattle.ipfix_templates.specs.declared.kind.Kind.{Kind}
 use Rattle.ipfix_templates.specs.declared.kind.Kind.TheVariants.{Flow, Options}
 use Rattle.flow_rows.specs.declared.elements.Elements.{Elements}
-use Rattle.flow_rows.specs.Element.{big_endian, element}
-use Rattle.flow_rows.specs.Elements.{elements_of, first_row_of, row_between, row_of_elements}
+use Rattle.flow_rows.specs.declared.reverse.ReverseElements.{ReverseElements}
+use Rattle.flow_rows.specs.Element.{big_endian, element, reverse_element}
+use Rattle.flow_rows.specs.Elements.{elements_of, first_row_of, reverse_elements_of, row_between, row_of_elements}
 use Rattle.flow_rows.specs.Row.{RowView}
-use Rattle.flow_rows.specs.Parts.{after_value, after_values, kept, says}
+use Rattle.flow_rows.specs.Parts.{after_reverse_value, after_reverse_values, after_value, after_values, kept, reverse_says, says}
 
 kept-none : (x : Option ℕ) → kept None x ≡ x
 kept-none None = refl
@@ -29,10 +30,14 @@ kept-chosen : (x : Option ℕ) (test : Bool) (v : FieldValueView) (rest : Option
 kept-chosen x true v rest = kept-kept x (big_endian v.value) (option_map (λ w. big_endian w.value) rest)
 kept-chosen x false v rest = refl
 
--- what one value says, and what those behind it say, is what they say together
+-- what one value says, and what those behind it say, is what they say together, in either direction
 kept-says : (x : Option ℕ) (v : FieldValueView) (vs : List FieldValueView) (number : ℕ)
     → kept (kept x (says v number)) (element vs number) ≡ kept x (element (v ∷ vs) number)
 kept-says x v vs number = kept-chosen x _ v (find _ vs)
+
+kept-reverse_says : (x : Option ℕ) (v : FieldValueView) (vs : List FieldValueView) (number : ℕ)
+    → kept (kept x (reverse_says v number)) (reverse_element vs number) ≡ kept x (reverse_element (v ∷ vs) number)
+kept-reverse_says x v vs number = kept-chosen x _ v (find _ vs)
 
 -- before the first value
 pub after_values-none : (values : List FieldValueView) → after_values (elements_of []) values ≡ elements_of values
@@ -50,11 +55,32 @@ pub after_values-nil : (e : Elements) → after_values e [] ≡ e
 unfolding after_values
 after_values-nil e = refl
 
+-- the same of the reverse direction
+pub after_reverse_values-none : (values : List FieldValueView)
+    → after_reverse_values (reverse_elements_of []) values ≡ reverse_elements_of values
+unfolding after_reverse_values
+after_reverse_values-none values = simp kept-none
+
+pub after_reverse_values-cons : (e : ReverseElements) (v : FieldValueView) (vs : List FieldValueView)
+    → after_reverse_values (after_reverse_value e v) vs ≡ after_reverse_values e (v ∷ vs)
+unfolding after_reverse_values
+after_reverse_values-cons e v vs = simp kept-reverse_says
+
+pub after_reverse_values-nil : (e : ReverseElements) → after_reverse_values e [] ≡ e
+unfolding after_reverse_values
+after_reverse_values-nil e = refl
+
 -- whether there are both
-both : Option ℕ → Option ℕ → Bool
+pub both : Option ℕ → Option ℕ → Bool
 both (Some a) (Some b) = true
 both (Some a) None = false
 both None b = false
+
+pub both_are : (a b : Option ℕ) → both a b ≡ (is_some a && is_some b)
+unfolding both
+both_are None b = refl
+both_are (Some a) None = refl
+both_are (Some a) (Some b) = refl
 
 both-kept : (a b c d : Option ℕ) → both a b ≡ true → both (kept a c) (kept b d) ≡ true
 unfolding both
@@ -75,7 +101,7 @@ is_some-or : (x y : Option RowView) → is_some (option_or x y) ≡ (is_some x |
 is_some-or None y = refl
 is_some-or (Some x) y = refl
 
-is_some-row : (e : Elements) → is_some (row_of_elements e) ≡ (both e.src_v4 e.dst_v4 || both e.src_v6 e.dst_v6)
+pub is_some-row : (e : Elements) → is_some (row_of_elements e) ≡ (both e.src_v4 e.dst_v4 || both e.src_v6 e.dst_v6)
 is_some-row e =
     is_some-or (row_between V4 e.src_v4 e.dst_v4 e) (row_between V6 e.src_v6 e.dst_v6 e)
     ∙ rw (is_some-between V4 e.src_v4 e.dst_v4 e, is_some-between V6 e.src_v6 e.dst_v6 e) refl

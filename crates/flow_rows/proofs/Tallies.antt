@@ -1,5 +1,5 @@
 -- The counts of sets, summed set by set.
-use Rattle.std.proofs.Common.{◌≡◌, ◌∙◌, ℕ, ◌+◌, ◌≤◌, Bool, true, false, List, [], ◌∷◌, ◌++◌, length, Some, None, refl, sym, ap, is_some, cond, arith}
+use Rattle.std.proofs.Common.{◌≡◌, ◌∙◌, ℕ, ◌+◌, ◌≤◌, Bool, true, false, List, [], ◌∷◌, ◌++◌, length, Option, Some, None, refl, sym, ap, is_some, cond, arith}
 use Rattle.std.specs.Prelude.{count_by, sum_by}
 use Rattle.std.specs.List.{flat_map}
 use Rattle.std.specs.Option.{option_to_list}
@@ -14,7 +14,8 @@ use Rattle.ipfix_read.specs.declared.set.Set.TheVariants.{Templates, Values, Ski
 use Rattle.ipfix_read.specs.Message.{MessageView, message_size, set_size}
 use Rattle.flow_rows.specs.Content.{events_in, events_of, records_in, records_of, rows_of, sets_of}
 use Rattle.flow_rows.specs.Counts.{CountsView, counts_of, defines, is_data_set, is_of_kind, is_skipped, is_withdrawal}
-use Rattle.flow_rows.specs.Elements.{first_row, rows_of_record}
+use Rattle.flow_rows.specs.Elements.{first_row, rows_of_record, second_row}
+use Rattle.flow_rows.specs.Row.{RowView}
 
 -- how many pass in lists that stand one after the other
 count_by-flat_map : {X Y : Type 0} (p : Y → Bool) (f : X → List Y) (xs : List X)
@@ -50,18 +51,31 @@ pub fits_message : (f : Set → ℕ) → ((set : Set) → f set ≤ set_size set
     → {shown lent sets : List Set} → shown ≡ lent → lent ≡ sets → message_size sets ≤ 65535 → sum_by f shown ≤ 65535
 fits_message f small {sets} e h size = rw (e, h) (omega (arith, sum_by-le-sum_by f set_size sets small))
 
--- a record has one row or none
-length-rows : (r : Record) → length (rows_of_record r) ≡ cond (is_some (first_row r)) 1 0
-length-rows r = elim (first_row r) as (λ o. length (option_to_list o) ≡ cond (is_some o) 1 0) [ None ↦ refl | Some row ↦ refl ]
+-- a record has a first row or none, and a second one or none
+length-row : (o : Option RowView) → length (option_to_list o) ≡ cond (is_some o) 1 0
+length-row None = refl
+length-row (Some row) = refl
+
+length-rows : (r : Record) → length (rows_of_record r) ≡ cond (is_some (first_row r)) 1 0 + cond (is_some (second_row r)) 1 0
+length-rows r =
+    length-append (option_to_list (first_row r)) (option_to_list (second_row r))
+    ∙ rw (length-row (first_row r), length-row (second_row r)) refl
 
 length-rows_of : (records : List Record)
-    → length (flat_map rows_of_record records) ≡ count_by (λ r. is_some (first_row r)) records
+    → length (flat_map rows_of_record records)
+    ≡ count_by (λ r. is_some (first_row r)) records + count_by (λ r. is_some (second_row r)) records
 length-rows_of [] = refl
 length-rows_of (r ∷ records) =
-    length-append (rows_of_record r) (flat_map rows_of_record records)
-    ∙ ap (λ n. length (rows_of_record r) + n) (length-rows_of records)
-    ∙ ap (λ n. n + count_by (λ r. is_some (first_row r)) records) (length-rows r)
-    ∙ sym (sum_by-cons (λ r. cond (is_some (first_row r)) 1 0) r records)
+    let whole : length (flat_map rows_of_record (r ∷ records)) ≡ length (rows_of_record r) + length (flat_map rows_of_record records) =
+    length-append (rows_of_record r) (flat_map rows_of_record records) in
+    omega (
+      arith,
+      whole,
+      length-rows r,
+      length-rows_of records,
+      sum_by-cons (λ r. cond (is_some (first_row r)) 1 0) r records,
+      sum_by-cons (λ r. cond (is_some (second_row r)) 1 0) r records,
+    )
 
 -- the sets of one more message stand behind those before
 sets_of-more : (messages : List MessageView) (m : MessageView) → sets_of (messages ++ m ∷ []) ≡ sets_of messages ++ m.sets
@@ -86,10 +100,15 @@ records-more p sets more =
 rows-more : (sets more : List Set)
     → length (rows_of (sets ++ more))
     ≡ length (rows_of sets) + sum_by (λ set. count_by (λ r. is_some (first_row r)) (records_in set)) more
+    + sum_by (λ set. count_by (λ r. is_some (second_row r)) (records_in set)) more
 rows-more sets more =
-    length-rows_of (records_of (sets ++ more))
-    ∙ records-more (λ r. is_some (first_row r)) sets more
-    ∙ ap (λ n. n + sum_by (λ set. count_by (λ r. is_some (first_row r)) (records_in set)) more) (sym (length-rows_of (records_of sets)))
+    omega (
+      arith,
+      length-rows_of (records_of (sets ++ more)),
+      length-rows_of (records_of sets),
+      records-more (λ r. is_some (first_row r)) sets more,
+      records-more (λ r. is_some (second_row r)) sets more,
+    )
 
 -- counts, and those of one more message with these sets
 abbrev pub plus_sets : CountsView → List Set → CountsView
@@ -102,7 +121,8 @@ plus_sets c sets = record {
   skipped_sets = c.skipped_sets + count_by is_skipped sets;
   records = c.records + sum_by (λ set. count_by (is_of_kind Flow) (records_in set)) sets;
   options_records = c.options_records + sum_by (λ set. count_by (is_of_kind Options) (records_in set)) sets;
-  rows = c.rows + sum_by (λ set. count_by (λ r. is_some (first_row r)) (records_in set)) sets;
+  rows = c.rows + sum_by (λ set. count_by (λ r. is_some (first_row r)) (records_in set)) sets
+      + sum_by (λ set. count_by (λ r. is_some (second_row r)) (records_in set)) sets;
 }
 
 -- the counts of a list of messages and one more

@@ -1,5 +1,7 @@
--- The information elements of a row, and what a record says of one (RFC 7012, and IANA's registry of IPFIX elements).
+-- The information elements of a row, and what a record says of one (RFC 7012, and IANA's registry of IPFIX elements),
+-- in its own direction and in the reverse one (RFC 5103).
 use Rattle.std.specs.Prelude.{ℕ, List, [], ◌∷◌, length, Bool, false, Option, option_map, is_none, find, nat_le, ◌==◌, ◌&&◌}
+use Rattle.std.specs.List.{list_any}
 use Rattle.std.specs.Option.{option_map_or}
 use Rattle.std.specs.Map.{lookup}
 use Rattle.byteorder.specs.Endian.{big_number}
@@ -43,3 +45,23 @@ big_endian bytes = big_number (length bytes) bytes
 abbrev pub element : List FieldValueView → ℕ → Option ℕ
 element values number =
     option_map (λ v. big_endian v.value) (find (λ v. (v.field.number == number) && is_usable v.field) values)
+
+-- the enterprise number under which an element is that of the reverse direction (RFC 5103 section 6.1)
+abbrev pub reverse_enterprise : ℕ
+reverse_enterprise = 29305
+
+-- the elements that a record may have for the reverse direction: octets, packets, flags, times. Its addresses, ports
+-- and protocol are those of its own direction
+abbrev pub reverse_elements : List ℕ
+reverse_elements = 1 ∷ 2 ∷ 6 ∷ 85 ∷ 86 ∷ 152 ∷ 153 ∷ []
+
+-- a field of a row of the reverse direction: an element of that enterprise number, and its length fits its element
+abbrev pub is_reverse_usable : Field → Bool
+is_reverse_usable field =
+    option_map_or (λ number. number == reverse_enterprise) field.enterprise false
+    && (list_any (λ number. field.number == number) reverse_elements && fits field.number field.length)
+
+-- what values say of an element of the reverse direction
+abbrev pub reverse_element : List FieldValueView → ℕ → Option ℕ
+reverse_element values number =
+    option_map (λ v. big_endian v.value) (find (λ v. (v.field.number == number) && is_reverse_usable v.field) values)

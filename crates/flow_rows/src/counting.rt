@@ -2,10 +2,10 @@
 ghost use Rattle.std.specs.Prelude.{◌≡◌, ◌≤◌, count_by, is_some, sum_by};
 ghost use Rattle.flow_rows.specs.Content.{events_in, records_in};
 ghost use Rattle.flow_rows.specs.Counts.{defines, is_data_set, is_of_kind, is_skipped, is_withdrawal};
-ghost use Rattle.flow_rows.specs.Elements.{first_row};
+ghost use Rattle.flow_rows.specs.Elements.{first_row, second_row};
 
-use crate::record::has_row;
-use ipfix_read::Set;
+use crate::record::{has_reverse_row, has_row, reverse_elements};
+use ipfix_read::{RecordList, Set};
 use ipfix_templates::{Kind, TemplateEvent};
 
 // Whether the event defines a template of the kind.
@@ -60,34 +60,93 @@ fn withdrawals_in(set: &Set<'_>) -> u64
     }
 }
 
+// How many of the records are described by a template of the kind. All of them are, or none is.
+fn of_kind(records: &RecordList<'_>, kind: Kind) -> u64
+    ensures { result ≡ count_by (is_of_kind kind) records.now }
+{
+    if records.kind().is(kind) {
+        records.len() as u64
+    } else {
+        0
+    }
+}
+
+// How many of the records have a first row. All of them have one, or none has: their fields tell it.
+fn with_first_row(records: &RecordList<'_>) -> u64
+    ensures { result ≡ count_by (λ r. is_some (first_row r)) records.now }
+{
+    let _kind = records.kind();
+    let Some(_fields) = records.fields() else {
+        return 0;
+    };
+    let Some(first) = records.iter().next() else {
+        return 0;
+    };
+    if has_row(&first) {
+        records.len() as u64
+    } else {
+        0
+    }
+}
+
+// How many of the records have a second row, each of them looked at.
+fn with_packets_back(records: &RecordList<'_>) -> u64
+    ensures { result ≡ count_by (λ r. is_some (second_row r)) records.now }
+{
+    // It bounds the count.
+    let _most = records.len();
+    let mut count = 0u64;
+    for item in records.iter() {
+        if has_reverse_row(&item) {
+            count += 1;
+        }
+    }
+    count
+}
+
+// The same, where most often none has: their fields tell whether packets back are told at all.
+fn with_second_row(records: &RecordList<'_>) -> u64
+    ensures { result ≡ count_by (λ r. is_some (second_row r)) records.now }
+{
+    let Some(_fields) = records.fields() else {
+        return 0;
+    };
+    let Some(first) = records.iter().next() else {
+        return 0;
+    };
+    let reverse = reverse_elements(&first);
+    if reverse.packets.is_none() && reverse.total_packets.is_none() {
+        return 0;
+    }
+    with_packets_back(records)
+}
+
 // How many records of the set are described by a template of the kind.
 fn records_in(set: &Set<'_>, kind: Kind) -> u64
     ensures { result ≡ count_by (is_of_kind kind) (records_in set.now) }
 {
     match set {
-        Set::Values(_, records) => {
-            records
-                .as_slice()
-                .iter()
-                .filter(|record| record.kind.is(kind))
-                .count() as u64
-        }
+        Set::Values(_, records) => of_kind(records, kind),
         Set::Templates(..) | Set::Skipped(_) => 0,
     }
 }
 
-// How many records of the set have a row.
-fn rows_in(set: &Set<'_>) -> u64
+// How many records of the set have a first row.
+fn first_rows_in(set: &Set<'_>) -> u64
     ensures { result ≡ count_by (λ r. is_some (first_row r)) (records_in set.now) }
 {
     match set {
-        Set::Values(_, records) => {
-            records
-                .as_slice()
-                .iter()
-                .filter(|record| has_row(record))
-                .count() as u64
-        }
+        Set::Values(_, records) => with_first_row(records),
+        Set::Templates(..) | Set::Skipped(_) => 0,
+    }
+}
+
+// How many records of the set have a second row.
+fn second_rows_in(set: &Set<'_>) -> u64
+    ensures { result ≡ count_by (λ r. is_some (second_row r)) (records_in set.now) }
+{
+    match set {
+        Set::Values(_, records) => with_second_row(records),
         Set::Templates(..) | Set::Skipped(_) => 0,
     }
 }
@@ -137,11 +196,20 @@ pub fn records(sets: &[Set<'_>], kind: Kind) -> u64
     sets.iter().map(|set| records_in(set, kind)).sum()
 }
 
-/// How many records of the sets have a row.
-pub fn rows(sets: &[Set<'_>]) -> u64
+/// How many records of the sets have a first row.
+pub fn first_rows(sets: &[Set<'_>]) -> u64
     requires { sum_by (λ set. count_by (λ r. is_some (first_row r)) (records_in set)) sets.now ≤ 65535 }
     ensures value { result ≡ sum_by (λ set. count_by (λ r. is_some (first_row r)) (records_in set)) sets.now }
     ensures bound { result ≤ 65535 }
 {
-    sets.iter().map(|set| rows_in(set)).sum()
+    sets.iter().map(|set| first_rows_in(set)).sum()
+}
+
+/// How many records of the sets have a second row.
+pub fn second_rows(sets: &[Set<'_>]) -> u64
+    requires { sum_by (λ set. count_by (λ r. is_some (second_row r)) (records_in set)) sets.now ≤ 65535 }
+    ensures value { result ≡ sum_by (λ set. count_by (λ r. is_some (second_row r)) (records_in set)) sets.now }
+    ensures bound { result ≤ 65535 }
+{
+    sets.iter().map(|set| second_rows_in(set)).sum()
 }

@@ -1,10 +1,13 @@
 ghost use Rattle.std.specs.Prelude.{◌+◌, ◌*◌, ◌≤◌};
 
-use crate::counting::{data_sets, definitions, records, rows, skipped_sets, withdrawals};
+use crate::counting::{
+    data_sets, definitions, first_rows, records, second_rows, skipped_sets, withdrawals,
+};
 use ipfix_read::Message;
 use ipfix_templates::Kind;
 
-/// The counts of messages: what `info` shows of a File. Each is at most 65,535 for each message.
+/// The counts of messages: what `info` shows of a File. Each is at most 65,535 for each message, and
+/// the rows at most twice as many.
 #[derive(Clone, Copy, Debug, PartialEq, Eq)]
 pub struct Counts {
     /// Messages (RFC 7011 section 3.1).
@@ -23,10 +26,10 @@ pub struct Counts {
     pub records: u64,
     /// Options records.
     pub options_records: u64,
-    /// Rows of the records.
+    /// Rows of the records, of which each has none, one or two.
     pub rows: u64,
     ghost bounded: { templates + options_templates + withdrawals + data_sets + skipped_sets + records + options_records + rows
-        ≤ 524280 * messages },
+        ≤ 589815 * messages },
 }
 
 impl Counts {
@@ -66,6 +69,7 @@ impl Counts {
         self.skipped_sets += skipped_sets(sets);
         self.records += records(sets, Kind::Flow);
         self.options_records += records(sets, Kind::Options);
-        self.rows += rows(sets);
+        self.rows += first_rows(sets);
+        self.rows += second_rows(sets);
     }
 }

@@ -1,12 +1,13 @@
 -- What a call for a message answers, from what it gathered and read.
-use Rattle.std.proofs.Common.{◌≡◌, ℕ, ◌+◌, ◌<◌, List, ◌++◌, length, take, drop, Option, Some, None, IfSome, Ok, Err, ◌⊎◌, inl, inr, refl, subst, sym, ap, ◌∙◌, arith, length-append}
+use Rattle.std.proofs.Common.{◌≡◌, ℕ, false, ◌+◌, ◌<◌, List, ◌++◌, length, take, drop, Option, Some, None, IfSome, Ok, Err, ◌⊎◌, inl, inr, refl, subst, sym, ap, ◌∙◌, arith, length-append}
 use Rattle.byteorder.specs.Endian.{big_number}
 use Rattle.ipfix_templates.specs.declared.event.TemplateEvent.{TemplateEvent}
 use Rattle.ipfix_templates.specs.Table.{Follows}
 use Rattle.ipfix_read.specs.declared.fault.ReadFault.{ReadFault}
 use Rattle.ipfix_read.specs.declared.fault.ReadFaultKind.{ReadFaultKind}
 use Rattle.ipfix_read.specs.declared.state.State.TheVariants.{Going, Ended, Failed}
-use Rattle.ipfix_read.specs.Fault.{out_of_memory}
+use Rattle.ipfix_read.specs.declared.fault.ReadFaultKind.TheVariants.{ReadFault as Unread}
+use Rattle.ipfix_read.specs.Fault.{out_of_memory, read_fault, is_of_calls}
 use Rattle.ipfix_read.specs.Set.{HasSetsFault}
 use Rattle.ipfix_read.specs.Message.{MessageView, IsMessage, HasHeader, events_of_message}
 use Rattle.ipfix_read.specs.Messages.{ProgressView, AnswersNext, Gathers}
@@ -86,3 +87,9 @@ pub answers_message : (view old new : ProgressView) (o n : Option (List ℕ)) (b
 answers_message view old new o n buffer front gathered size m same is some taken sized read offset count state =
     subst (λ (p : ProgressView). IfSome o (λ left. AnswersNext p left (Ok (Some m)) new n)) same
     (lends view new o n buffer front gathered size m is some taken sized read offset count state)
+
+-- whatever the reader tells: it failed, or the fault is none of calls
+pub fault_of_header : (view old : ProgressView) (kind : ReadFaultKind) → view ≡ old → (kind ≡ Unread) ⊎ (is_of_calls kind ≡ false)
+    → (record { kind = kind; offset = view.offset } ≡ read_fault old.offset) ⊎ (is_of_calls kind ≡ false)
+fault_of_header view old kind same (inl unread) = inl (λ i. record { kind = unread i; offset = (same i).offset })
+fault_of_header view old kind same (inr none) = inr none

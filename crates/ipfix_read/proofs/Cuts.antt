@@ -58,7 +58,7 @@ value_front field bytes x e =
       | false ↦ λ p. bytes_front field.length bytes x p
     ] e
 
-values_front : (fields : List Field) (bytes : List ℕ) (x : List FieldValueView × List ℕ) → values_at fields bytes ≡ Some x → Front (values_at fields) bytes x
+pub values_front : (fields : List Field) (bytes : List ℕ) (x : List FieldValueView × List ℕ) → values_at fields bytes ≡ Some x → Front (values_at fields) bytes x
 unfolding values_at
 values_front [] bytes x e = subst (λ (y : List FieldValueView × List ℕ). Front (values_at []) bytes y) (some_is ([], bytes) x e) ([], refl, λ more. refl)
 values_front (field ∷ fields) bytes x e =

@@ -1,6 +1,7 @@
 pub mod Choice
 pub mod Cuts
-pub mod Records
+pub mod RecordBytes
+pub mod PackedRecords
 pub mod Events
 pub mod Sets
 pub mod MessageLemmas

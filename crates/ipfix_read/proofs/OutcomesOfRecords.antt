@@ -16,7 +16,7 @@ use Rattle.ipfix_read.specs.declared.fault.ReadFault.{ReadFault}
 use Rattle.ipfix_read.specs.declared.fault.ReadFaultKind.TheVariants.{BadRecord}
 use Rattle.ipfix_read.specs.Record.{record_at, HasRoom, IsDataSet, HasRecordFault}
 use Rattle.ipfix_read.specs.Set.{IsContent, HasContentFault, in_file}
-use Rattle.ipfix_read.proofs.Records.{record_shorter}
+use Rattle.ipfix_read.proofs.RecordBytes.{record_shorter}
 
 -- ---- records
 

@@ -1,6 +1,7 @@
 pub mod Value
 pub mod Fault
 pub mod Record
+pub mod WholeRecords
 pub mod Set
 pub mod Message
 pub mod File

@@ -1,4 +1,6 @@
-ghost use Rattle.std.specs.Prelude.{◌≡◌, ◌≤◌, ◌<◌, false, IfOk, IfSome, OnSome, length, take, vec_len};
+ghost use Rattle.std.specs.Prelude.{◌≡◌, ◌≤◌, ◌<◌, ◌⊎◌, false, IfErr, IfOk, IfSome, OnSome, length, take, vec_len};
+ghost use Rattle.ipfix_read.specs.declared.fault.ReadFaultKind.TheVariants.{ReadFault as Unread};
+ghost use Rattle.ipfix_read.specs.Fault.{is_of_calls};
 ghost use Rattle.ipfix_read.specs.Messages.{Gathers, HoldsMessage, is_unread};
 
 use crate::fault::ReadFaultKind;
@@ -29,6 +31,7 @@ fn gather_at_front<R: Input>(
         Gathers count left result buffer.new (R.bytes_left reader.new)) }
     ensures whole { IfOk result (λ size. IfSome size (HoldsMessage buffer.new)) }
     ensures counted { IfOk result (λ size. OnSome size (count < 4294967295)) }
+    ensures fault { IfErr result (λ kind. (kind ≡ Unread) ⊎ (is_of_calls kind ≡ false)) }
     ensures device { R.failed reader.old ≡ false → R.failed reader.new ≡ is_unread result }
 {
     let head = fill(reader, &mut buffer[..HEADER_LENGTH])?;
@@ -48,7 +51,9 @@ fn gather_at_front<R: Input>(
 
 impl Buffer {
     /// Reserves it.
-    pub fn new(alloc: Global) -> Result<Self, AllocError> {
+    pub fn new(alloc: Global) -> Result<Self, AllocError>
+        ensures { IfOk result (λ buffer. length buffer.bytes.items ≡ 65535) }
+    {
         let bytes = vec![in alloc; 0u8; LONGEST_MESSAGE]?;
         Ok(Buffer { bytes })
     }
@@ -64,6 +69,7 @@ impl Buffer {
             Gathers count left result self.new.bytes.items (R.bytes_left reader.new)) }
         ensures whole { IfOk result (λ size. IfSome size (HoldsMessage self.new.bytes.items)) }
         ensures counted { IfOk result (λ size. OnSome size (count < 4294967295)) }
+        ensures fault { IfErr result (λ kind. (kind ≡ Unread) ⊎ (is_of_calls kind ≡ false)) }
         ensures device { R.failed reader.old ≡ false → R.failed reader.new ≡ is_unread result }
     {
         gather_at_front(reader, count, self.bytes.as_mut_slice())

@@ -46,7 +46,7 @@ pub use laws::{
 pub use message::{Message, MessageList};
 pub use messages::Messages;
 pub use progress::Progress;
-pub use record::{Record, RecordList};
+pub use record::{Record, RecordList, Records};
 pub use set::{Set, SetList};
 pub use state::State;
 pub use value::{FieldValue, FieldValues, Values};

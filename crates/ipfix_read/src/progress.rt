@@ -1,6 +1,6 @@
-ghost use Rattle.std.specs.Prelude.{◌≡◌, ◌≤◌, ◌+◌, false, IfOk, IfSome, OnSome, Ok, Err, None};
+ghost use Rattle.std.specs.Prelude.{◌≡◌, ◌≤◌, ◌+◌, ◌⊎◌, false, IfErr, IfOk, IfSome, OnSome, Ok, Err, None};
 ghost use Rattle.ipfix_read.specs.declared.state.State.TheVariants.{Going, Ended, Failed};
-ghost use Rattle.ipfix_read.specs.Fault.{failed_before};
+ghost use Rattle.ipfix_read.specs.Fault.{failed_before, is_of_calls, read_fault};
 ghost use Rattle.ipfix_read.specs.Messages.{AnswersNext, at_start, is_read_fault};
 
 use crate::buffer::Buffer;
@@ -75,6 +75,8 @@ impl Progress {
             → (result ≡ Err failed_before) × (self.new ≡ self.old) × (reader.new ≡ reader.old) }
 
         // Also of a reader that does not tell its bytes.
+        ensures fault { self.old.state ≡ Going → IfErr result (λ fault.
+            (fault ≡ read_fault self.old.offset) ⊎ (is_of_calls fault.kind ≡ false)) }
         ensures counted { IfOk result (λ next. OnSome next ((self.new.count ≡ self.old.count + 1)
             × (self.new.count ≤ 4294967295) × (self.new.state ≡ Going))) }
         ensures device { R.failed reader.old ≡ false → R.failed reader.new ≡ is_read_fault result }
@@ -98,6 +100,8 @@ impl Progress {
         requires { self.old.state ≡ Going }
         ensures going { IfSome (R.bytes_left reader.old) (λ left.
             AnswersNext self.old left result self.new (R.bytes_left reader.new)) }
+        ensures fault { IfErr result (λ fault.
+            (fault ≡ read_fault self.old.offset) ⊎ (is_of_calls fault.kind ≡ false)) }
         ensures counted { IfOk result (λ next. OnSome next ((self.new.count ≡ self.old.count + 1)
             × (self.new.count ≤ 4294967295) × (self.new.state ≡ Going))) }
         ensures device { R.failed reader.old ≡ false → R.failed reader.new ≡ is_read_fault result }

@@ -1,81 +1,150 @@
-ghost use Rattle.std.specs.Prelude.{◌≡◌, ◌++◌, ◌∷◌, [], length, IfOk, IsSome, OnOk, OnErr, option_map};
-ghost use Rattle.ipfix_read.specs.Record.{record_at};
+ghost use Rattle.std.specs.Prelude.{◌≡◌, ◌<◌, ◌≤◌, [], All, IfOk, IfSome, MatchOption, OnErr, length, map};
+ghost use Rattle.std.specs.Iterator.{YieldsFirst, item_count};
+ghost use Rattle.ipfix_read.specs.WholeRecords.{whole_records};
 
 use crate::value::{FieldValues, read_values};
-use ipfix_templates::{Kind, Template};
-use std::alloc::{AllocError, Global};
+use ipfix_templates::{Field, Fields, Kind};
+use std::alloc::AllocError;
 use std::marker::Model;
 
 /// A data record (RFC 7011 section 3.4.3): what its template describes, and a value for each of its fields.
 #[derive(Debug, Drop)]
-pub struct Record<'a> {
+pub struct Record<'f, 'a> {
     /// Whether it is a flow record or an options record.
     pub kind: Kind,
     /// The values, in the order of the template's fields.
-    pub fields: FieldValues<'a>,
+    pub fields: FieldValues<'f, 'a>,
 }
 
-/// A list of data records.
+/// The data records of a data set. It keeps their bytes and shares the template's fields; the records are cut out when
+/// they are asked for.
 #[derive(Debug, Drop)]
 pub struct RecordList<'a> {
-    items: Vec<Record<'a>>,
+    kind: Kind,
+    // None where there are no records.
+    specifiers: Option<Fields>,
+    bytes: &'a [u8],
+    count: usize,
 }
 
 impl<'a> Model for RecordList<'a> {
-    ghost use Rattle.std.specs.Prelude.{List};
+    ghost use Rattle.std.specs.Prelude.{◌≡◌, List, length};
+    ghost use Rattle.ipfix_read.specs.WholeRecords.{packed_records};
     ghost use Rattle.ipfix_read.specs.declared.record.Record.{Record};
 
     ghost Value = { List Record };
 
-    ghost view = { λ a. a.items.items };
+    ghost view = { λ a. packed_records a.kind a.specifiers a.count a.bytes.now };
+
+    ghost invariant = { λ a. length (packed_records a.kind a.specifiers a.count a.bytes.now) ≡ a.count };
 }
 
 impl<'a> RecordList<'a> {
-    /// No data records.
-    pub fn new(alloc: Global) -> Self
-        ensures { result ≡ [] }
+    // So many records of these fields, one after the other, which are these bytes.
+    pub(crate) fn new(
+        kind: Kind,
+        fields: &Fields,
+        count: usize,
+        bytes: &'a [u8],
+    ) -> Result<Self, AllocError>
+        requires { length (whole_records kind fields.now count bytes.now) ≡ count }
+        ensures ok { IfOk result (λ records. records ≡ whole_records kind fields.now count bytes.now) }
+        ensures err { OnErr result (0 < count) }
     {
-        RecordList {
-            items: Vec::new(alloc),
+        if count == 0 {
+            return Ok(RecordList {
+                kind,
+                specifiers: None,
+                bytes,
+                count: 0,
+            });
         }
+        Ok(RecordList {
+            kind,
+            specifiers: Some(fields.copy()?),
+            bytes,
+            count,
+        })
     }
 
     /// How many data records.
     pub fn len(&self) -> usize
         ensures { result ≡ length self.now }
     {
-        self.items.len()
+        self.count
+    }
+
+    /// What each record is: a flow record or an options record.
+    pub fn kind(&self) -> Kind
+        ensures { All (λ r. r.kind ≡ result) self.now }
+    {
+        self.kind
+    }
+
+    /// The fields of each record's values in order. None where there are no records.
+    pub fn fields(&self) -> Option<&[Field]>
+        ensures values { MatchOption result (self.now ≡ []) (λ fields.
+            All (λ r. map (λ v. v.field) r.fields ≡ fields.now) self.now) }
+        ensures bound { IfSome result (λ fields. length fields.now ≤ 65535) }
+    {
+        match &self.specifiers {
+            None => None,
+            Some(specifiers) => Some(specifiers.as_slice()),
+        }
     }
 
     /// The data records in order.
-    pub fn as_slice(&self) -> &[Record<'a>]
-        ensures { result.now ≡ self.now }
+    pub fn iter(&self) -> Records<'_, 'a>
+        ensures { result ≡ self.now }
     {
-        self.items.as_slice()
-    }
-
-    /// Adds a record at the end. An `Err` changes nothing.
-    pub fn push(&mut self, next: Record<'a>) -> Result<(), AllocError>
-        ensures ok { OnOk result (self.new ≡ self.old ++ next.entry ∷ []) }
-        ensures err { OnErr result (self.new ≡ self.old) }
-    {
-        self.items.push(next)?;
-        Ok(())
+        Records {
+            kind: self.kind,
+            specifiers: self.specifiers.as_ref(),
+            bytes: self.bytes,
+            count: self.count,
+        }
     }
 }
 
-/// The record of this template at the front, and the bytes after it. None where a part passes the end. Memory is asked
-/// for only where none does.
-pub fn read_record<'a>(
-    template: &Template,
+/// The data records of a data set in order, as an iterator.
+#[derive(Debug, Drop)]
+pub struct Records<'f, 'a> {
+    kind: Kind,
+    specifiers: Option<&'f Fields>,
     bytes: &'a [u8],
-) -> Result<Option<(Record<'a>, &'a [u8])>, AllocError>
-    ensures read { IfOk result (λ read. option_map (λ x. (x.0, x.1.now)) read ≡ record_at template.now bytes.now) }
-    ensures memory { OnErr result (IsSome (record_at template.now bytes.now)) }
-{
-    let kind = template.kind();
-    let Some((fields, rest)) = read_values(template.fields(), bytes)? else {
-        return Ok(None);
-    };
-    Ok(Some((Record { kind, fields }, rest)))
+    count: usize,
+}
+
+impl<'f, 'a> Model for Records<'f, 'a> {
+    ghost use Rattle.std.specs.Prelude.{List, option_map};
+    ghost use Rattle.ipfix_read.specs.WholeRecords.{packed_records};
+    ghost use Rattle.ipfix_read.specs.declared.record.Record.{Record};
+
+    ghost Value = { List Record };
+
+    ghost view = { λ a. packed_records a.kind (option_map (λ f. f.now) a.specifiers) a.count a.bytes.now };
+}
+
+impl<'f, 'a> Iterator for Records<'f, 'a> {
+    type Item = Record<'f, 'a>;
+
+    ghost next_gives = { YieldsFirst (λ records. records) };
+
+    ghost remaining = { item_count (λ records. records) };
+
+    fn next(&mut self) -> Option<Record<'f, 'a>> {
+        let Some(specifiers) = self.specifiers else {
+            return None;
+        };
+        if self.count == 0 {
+            return None;
+        }
+        let (fields, rest) = read_values(specifiers, self.bytes)?;
+        self.bytes = rest;
+        self.count -= 1;
+        Some(Record {
+            kind: self.kind,
+            fields,
+        })
+    }
 }

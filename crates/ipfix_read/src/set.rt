@@ -167,7 +167,6 @@ fn read_templates<'a>(
 
 // The content of a set with this ID, which no template set has.
 fn read_values_of<'a>(
-    alloc: Global,
     table: &TemplateTable,
     domain: u32,
     id: u16,
@@ -191,7 +190,7 @@ fn read_values_of<'a>(
     let Some(template) = table.get(domain, id) else {
         return Ok(Set::Skipped(id));
     };
-    match read_data_set(alloc, template, bytes)? {
+    match read_data_set(template, bytes)? {
         Ok(records) => Ok(Set::Values(template.kind(), records)),
         Err(place) => Err(ReadFault {
             kind: ReadFaultKind::BadRecord,
@@ -224,7 +223,7 @@ fn read_content<'a>(
     if id == Kind::Options.set_id() {
         return read_templates(alloc, table, domain, Kind::Options, bytes, base);
     }
-    read_values_of(alloc, table, domain, id, bytes, base)
+    read_values_of(table, domain, id, bytes, base)
 }
 
 // The set at the front, and the bytes after it.

@@ -1,10 +1,9 @@
-ghost use Rattle.std.specs.Prelude.{◌≡◌, length, IfOk, IfSome, IsSome, OnErr, option_map};
+ghost use Rattle.std.specs.Prelude.{◌≡◌, [], Some, IfSome, length, map, option_map};
 ghost use Rattle.std.specs.Iterator.{YieldsFirst, item_count};
 ghost use Rattle.ipfix_read.specs.Value.{IsValueOf, bytes_at, variable_at, value_at, values_at, values_with_bytes};
 
 use byteorder::{BigEndian, ByteOrder};
 use ipfix_templates::{Field, Fields};
-use std::alloc::AllocError;
 use std::marker::Model;
 
 /// The value of a field in a data record: the field's specifier, and the bytes that stand in the File. A value
@@ -44,26 +43,26 @@ impl<'a> FieldValue<'a> {
     }
 }
 
-/// The values of a data record, one for each field of its template. It keeps the record's bytes and shares the
+/// The values of a data record, one for each field of its template. It keeps the record's bytes and the
 /// template's fields; the values are cut out when they are asked for.
 #[derive(Debug, Drop)]
-pub struct FieldValues<'a> {
-    specifiers: Fields,
+pub struct FieldValues<'f, 'a> {
+    specifiers: &'f Fields,
     bytes: &'a [u8],
 }
 
-impl<'a> Model for FieldValues<'a> {
+impl<'f, 'a> Model for FieldValues<'f, 'a> {
     ghost use Rattle.std.specs.Prelude.{◌≡◌, List, [], Some};
     ghost use Rattle.ipfix_read.specs.Value.{FieldValueView, values_at, whole_values};
 
     ghost Value = { List FieldValueView };
 
-    ghost view = { λ a. whole_values a.specifiers a.bytes.now };
+    ghost view = { λ a. whole_values a.specifiers.now a.bytes.now };
 
-    ghost invariant = { λ a. values_at a.specifiers a.bytes.now ≡ Some (whole_values a.specifiers a.bytes.now, []) };
+    ghost invariant = { λ a. values_at a.specifiers.now a.bytes.now ≡ Some (whole_values a.specifiers.now a.bytes.now, []) };
 }
 
-impl<'a> FieldValues<'a> {
+impl<'f, 'a> FieldValues<'f, 'a> {
     /// How many values.
     pub fn len(&self) -> usize
         ensures { result ≡ length self.now }
@@ -71,8 +70,15 @@ impl<'a> FieldValues<'a> {
         self.specifiers.len()
     }
 
+    /// The bytes that the values stand in, one after the other.
+    pub fn bytes(&self) -> &'a [u8]
+        ensures { values_at (map (λ v. v.field) self.now) result.now ≡ Some (self.now, []) }
+    {
+        self.bytes
+    }
+
     /// The values in order.
-    pub fn iter(&self) -> Values<'_, 'a>
+    pub fn iter(&self) -> Values<'f, 'a>
         ensures { result ≡ self.now }
     {
         Values {
@@ -84,7 +90,7 @@ impl<'a> FieldValues<'a> {
     /// The values of the fields that take bytes, in order: those whose field has a length that is not 0, also a
     /// variable one, of which the value may be empty. They are at most as many as the record has bytes, however many
     /// fields its template has.
-    pub fn with_bytes(&self) -> Values<'_, 'a>
+    pub fn with_bytes(&self) -> Values<'f, 'a>
         ensures { result ≡ values_with_bytes self.now }
     {
         Values {
@@ -164,9 +170,9 @@ fn read_value<'a>(field: Field, bytes: &'a [u8]) -> Option<(FieldValue<'a>, &'a 
     Some((FieldValue { field, value }, rest))
 }
 
-// The bytes after the values of these fields at the front. None where a part passes the end. The fixed lengths between
-// variable fields are skipped together, so that each step but the last takes a byte.
-fn skip_values<'a>(fields: &Fields, bytes: &'a [u8]) -> Option<&'a [u8]>
+/// The bytes after the values of these fields at the front. None where a part passes the end. The fixed lengths between
+/// variable fields are skipped together, so that each step but the last takes a byte.
+pub fn skip_values<'a>(fields: &Fields, bytes: &'a [u8]) -> Option<&'a [u8]>
     ensures { option_map (λ x. x.now) result ≡ option_map (λ x. x.1) (values_at fields.now bytes.now) }
 {
     let mut rest = bytes;
@@ -179,21 +185,17 @@ fn skip_values<'a>(fields: &Fields, bytes: &'a [u8]) -> Option<&'a [u8]>
     Some(after)
 }
 
-/// The values of these fields at the front, and the bytes after them. None where a part passes the end. Memory is
-/// asked for only where none does.
-pub fn read_values<'a>(
-    fields: &Fields,
+/// The values of these fields at the front, and the bytes after them. None where a part passes the end.
+pub fn read_values<'f, 'a>(
+    fields: &'f Fields,
     bytes: &'a [u8],
-) -> Result<Option<(FieldValues<'a>, &'a [u8])>, AllocError>
-    ensures read { IfOk result (λ read. option_map (λ x. (x.0, x.1.now)) read ≡ values_at fields.now bytes.now) }
-    ensures memory { OnErr result (IsSome (values_at fields.now bytes.now)) }
+) -> Option<(FieldValues<'f, 'a>, &'a [u8])>
+    ensures { option_map (λ x. (x.0, x.1.now)) result ≡ values_at fields.now bytes.now }
 {
-    let Some(rest) = skip_values(fields, bytes) else {
-        return Ok(None);
-    };
+    let rest = skip_values(fields, bytes)?;
     let values = FieldValues {
-        specifiers: fields.copy()?,
+        specifiers: fields,
         bytes: &bytes[..bytes.len() - rest.len()],
     };
-    Ok(Some((values, rest)))
+    Some((values, rest))
 }

@@ -1,4 +1,4 @@
--- The rows of the records before the index that pass are added.
+-- The rows that are added, with those of the records that are left, are those of all.
 use Rattle.std.proofs.Common.{◌≡◌, ◌++◌, length, map, take}
 use Rattle.std.specs.List.{flat_map}
 use Rattle.flow_rows.specs.Elements.{rows_of_record}
@@ -11,8 +11,10 @@ use Rattle.flow_filter.proofs.passing.add_rows_of_records.Given as goal
 abbrev pub invariant-loop-record : goal.invariant-loop-record
 invariant-loop-record g l = record {
   ok : map row_view l.rows.items
+      ++ passing (condition_in l.filter) (labelling_lent g.L.Labeller.version_of g.L.Labeller.label l.fn.labeller)
+      (flat_map rows_of_record l.record-iterator)
       ≡ map row_view l.initial.rows.items
       ++ passing (condition_in l.filter) (labelling_lent g.L.Labeller.version_of g.L.Labeller.label l.fn.labeller)
-      (flat_map rows_of_record (take l.record-index l.records));
+      (flat_map rows_of_record l.records);
   front : take (length l.initial.rows.items) l.rows.items ≡ l.initial.rows.items;
 }

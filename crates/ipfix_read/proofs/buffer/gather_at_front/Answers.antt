@@ -1,4 +1,4 @@
-use Rattle.std.proofs.Common.{rules, ◌∙◌, sym, arith}
+use Rattle.std.proofs.Common.{rules, ◌∙◌, inl, inr, refl, sym, arith}
 use Rattle.std.proofs.lemmas.Result.{err_from_is_err_and}
 use Rattle.ipfix_read.proofs.Headers.{not_of_reader}
 use Rattle.ipfix_read.proofs.Gathering.{unread, nothing_left, short_header, faulty_header, short_message, gathered, holds_message}
@@ -55,3 +55,18 @@ returns-clause-gathers g c =
 pub returns-clause-whole : goal.returns-clause-whole
 returns-clause-whole g c =
     holds_message c.in_ok-size.size c.args.buffer.now c.fill.new.bytes c.fill-2.new.bytes (search rules) (search rules) c.in_ok-size.ensures.most c.in_ok-size.ensures.version c.in_ok-size.ensures.whole
+
+pub returns-in_err-head-clause-fault : goal.returns-in_err-head-clause-fault
+returns-in_err-head-clause-fault g c =
+    let p = err_from_is_err_and c.from_residual.result c.from_residual.ensures.1 in
+    rw (p.1, p.2) (inl refl)
+
+pub returns-in_err-size-clause-fault : goal.returns-in_err-size-clause-fault
+returns-in_err-size-clause-fault g c =
+    let p = err_from_is_err_and c.from_residual-in_err-size.result c.from_residual-in_err-size.ensures.1 in
+    rw (p.1, p.2) (inr c.in_err-size.ensures.of_bytes)
+
+pub returns-in_err-got-clause-fault : goal.returns-in_err-got-clause-fault
+returns-in_err-got-clause-fault g c =
+    let p = err_from_is_err_and c.from_residual-in_err-got.result c.from_residual-in_err-got.ensures.1 in
+    rw (p.1, p.2) (inl refl)

@@ -1,5 +1,5 @@
 use Rattle.std.proofs.Common.{arith}
-use Rattle.ipfix_read.proofs.Records.{reads_shorter}
+use Rattle.ipfix_read.proofs.RecordBytes.{reads_shorter}
 use Rattle.ipfix_read.proofs.set.read_values_of.Goals as goal
 
 pub returns-in-Ok-clause-size : goal.returns-in-Ok-clause-size

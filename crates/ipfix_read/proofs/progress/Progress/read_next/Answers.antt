@@ -1,9 +1,9 @@
-use Rattle.std.proofs.Common.{ℕ, ◌+◌, ◌∙◌, List, length, ap, sym, subst, refl}
+use Rattle.std.proofs.Common.{ℕ, inr, ◌+◌, ◌∙◌, List, length, ap, sym, subst, refl}
 use Rattle.ipfix_read.specs.declared.state.State.TheVariants.{Ended, Failed}
 use Rattle.ipfix_read.specs.Message.{HasHeader}
 use Rattle.ipfix_read.specs.Messages.{ProgressView}
 use Rattle.ipfix_read.proofs.Headers.{not_of_reader}
-use Rattle.ipfix_read.proofs.Answering.{answers_end, answers_fault_of_header, answers_fault_of_sets, answers_message}
+use Rattle.ipfix_read.proofs.Answering.{answers_end, answers_fault_of_header, fault_of_header, answers_fault_of_sets, answers_message}
 use Rattle.ipfix_read.proofs.progress.Progress.read_next.Goals as goal
 
 pub returns-in-Err-clause-going : goal.returns-in-Err-clause-going
@@ -41,3 +41,12 @@ returns-in-Err-whole_message-clause-going g c =
 
 pub returns-in-Err-whole_message-clause-device : goal.returns-in-Err-whole_message-clause-device
 returns-in-Err-whole_message-clause-device g c = λ none. c.in-Ok.ensures.device none ∙ sym (not_of_reader c.in-Err-whole_message.fault.kind c.in-Err-whole_message.ensures.of_bytes)
+
+pub returns-in-Err-clause-fault : goal.returns-in-Err-clause-fault
+returns-in-Err-clause-fault g c =
+    let was = c.self.inside in
+    let view : ProgressView = record { table = was.table; offset = was.offset; count = was.count; state = was.state } in
+    fault_of_header view c.args.self.now c.in-Err.kind c.self.view_is c.in-Err.ensures.fault
+
+pub returns-in-Err-whole_message-clause-fault : goal.returns-in-Err-whole_message-clause-fault
+returns-in-Err-whole_message-clause-fault g c = inr c.in-Err-whole_message.ensures.of_bytes

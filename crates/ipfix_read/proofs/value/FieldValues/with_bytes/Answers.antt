@@ -6,5 +6,5 @@ use Rattle.ipfix_read.proofs.value.FieldValues.with_bytes.Goals as goal
 
 pub returns : goal.returns
 returns c =
-    ap (λ (fs : List Field). whole_values fs c.self.inside.bytes.now) c.filled.ensures ∙ filled_values c.self.inside.specifiers c.self.inside.bytes.now
+    ap (λ (fs : List Field). whole_values fs c.self.inside.bytes.now) c.filled.ensures ∙ filled_values c.self.inside.specifiers.now c.self.inside.bytes.now
     ∙ ap values_with_bytes c.self.view_is

@@ -1,0 +1,31 @@
+use Rattle.std.proofs.Common.{◌++◌, map}
+use Rattle.std.specs.List.{flat_map}
+use Rattle.flow_rows.specs.Elements.{rows_of_record}
+use Rattle.flow_rows.specs.Row.{row_view}
+use Rattle.label_lookup.specs.Labelling.{labelling_lent}
+use Rattle.flow_filter.specs.Filters.{condition_in}
+use Rattle.flow_filter.specs.Passing.{passes, passing}
+use Rattle.flow_filter.proofs.PassingLemmas.{front_stays, pass_all, pass_one}
+use Rattle.flow_filter.proofs.passing.add_rows_of_records.Goals as goal
+
+pub loop-record-preserved : goal.loop-record-preserved
+loop-record-preserved g c =
+    let labelling = labelling_lent g.L.Labeller.version_of g.L.Labeller.label c.args.labeller in
+    let condition = condition_in c.args.filter.now in
+    record {
+      ok =
+          pass_one (passes condition labelling) rows_of_record (map row_view c.loop-record.rows.items) (map row_view c.add_rows_of_record.new.rows.items)
+          (map row_view c.args.rows.now.items ++ passing condition labelling (flat_map rows_of_record c.args.records.now))
+          c.loop-record.record-iterator c.next.new.self c.in-Some.record c.in-Some.ensures.steps c.in_ok-add_rows_of_record.ensures.ok c.loop-record.invariant.ok;
+      front =
+          front_stays c.args.rows.now.items c.loop-record.rows.items c.add_rows_of_record.new.rows.items
+          c.loop-record.invariant.front c.add_rows_of_record.ensures.front;
+    }
+
+pub returns-clause-ok : goal.returns-clause-ok
+returns-clause-ok g c =
+    let labelling = labelling_lent g.L.Labeller.version_of g.L.Labeller.label c.args.labeller in
+    let condition = condition_in c.args.filter.now in
+    pass_all (passes condition labelling) rows_of_record (map row_view c.loop-record.rows.items)
+    (map row_view c.args.rows.now.items ++ passing condition labelling (flat_map rows_of_record c.args.records.now))
+    c.loop-record.record-iterator c.in-None.ensures.steps.0 c.loop-record.invariant.ok
