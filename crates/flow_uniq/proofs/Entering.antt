@@ -1,39 +1,64 @@
 -- What a row changes in groups, and at which place.
-use Rattle.std.proofs.Common.{◌≡◌, ℕ, zero, suc, ◌+◌, ◌-◌, ◌*◌, ◌^◌, ◌<◌, ◌≤◌, Bool, true, false, cond, if◌then◌else◌, List, [], ◌∷◌, ◌++◌, map, length, get_or, set, All, Option, Some, None, refl, sym, ap, subst, ◌∙◌, arith}
-use Rattle.std.proofs.lemmas.List.{get_or-map, length-map, map-append, map-set, map_push, set-get_or}
-use Rattle.std.proofs.lemmas.List.Elements.{All-cons, All-head, All-nil, All-tail}
+use Rattle.std.proofs.Common.{◌≡◌, ℕ, zero, suc, ◌+◌, ◌-◌, ◌*◌, ◌^◌, ◌<◌, ◌≤◌, Bool, true, false, not, cond, if◌then◌else◌, List, [], ◌∷◌, ◌++◌, length, get_or, set, All, nat_lt, Option, Some, None, unwrap_or, true≢false, refl, sym, ap, subst, ◌∙◌, arith}
+use Rattle.std.proofs.lemmas.List.{length-append, length-set}
+use Rattle.std.proofs.lemmas.List.Elements.{All-cons, All-head, All-nil, All-push, All-set, All-tail}
 use Rattle.std.proofs.lemmas.List.Quantifiers.{position-Some}
 use Rattle.std.proofs.lemmas.List.Sums.{get_or-le-sum_by, sum_by-cons}
 use Rattle.std.proofs.lemmas.Option.{none-some}
-use Rattle.std.specs.List.{list_any, position, position_or_len}
+use Rattle.std.proofs.lemmas.Slice.Eq.{bytes_eq-Decides}
+use Rattle.std.specs.List.{list_any, position, position_or_len, slice_get}
 use Rattle.std.specs.Str.{bytes_eq}
 use Rattle.flow_rows.specs.Row.{RowView}
-use Rattle.pmap_text.proofs.LabelTexts.{position-any, position-map}
-use Rattle.flow_uniq.specs.declared.entry.Entry.{Entry}
+use Rattle.pmap_text.proofs.LabelTexts.{position-any}
 use Rattle.flow_uniq.specs.declared.totals.Totals.{Totals}
 use Rattle.flow_uniq.specs.Groups.{GroupModel, KeyedRow, groups_of_keyed, record_count}
-use Rattle.flow_uniq.specs.Kept.{AreKept, IsBounded, IsKept, entered, entry_model, first_totals, grown, with_row}
+use Rattle.flow_uniq.specs.Kept.{AreKept, IsBounded, entered, first_totals, grown, kept_group, kept_groups, total_records, with_row}
 use Rattle.flow_uniq.specs.Key.{Key, same_key}
-use Rattle.flow_uniq.specs.Parts.{key_code, part_model}
-use Rattle.flow_uniq.proofs.Codes.{code_same}
+use Rattle.flow_uniq.specs.Parts.{IsSound, key_code, parts_of}
+use Rattle.flow_uniq.proofs.Codes.{same_key-Decides}
+use Rattle.flow_uniq.proofs.Cutting.{length-parts_of}
 use Rattle.flow_uniq.proofs.Grouping.{entered-new, groups-push}
 
 -- the group of a new key
 abbrev pub fresh : Key → RowView → GroupModel
 fresh k row = record { key = k; totals = first_totals row }
 
--- tests that agree have one place
-position_or_len-agree : {X : Type 0} (p q : X → Bool) → ((x : X) → p x ≡ q x) → (xs : List X) → position p xs ≡ position q xs
-position_or_len-agree p q same xs = ap (λ (t : _ → Bool). position t xs) (λ i x. same x i)
+-- codes are equal where their keys are
+same_test : (count : ℕ) (s c : List ℕ) → IsSound count s → IsSound count c → bytes_eq s c ≡ same_key (parts_of count c) (parts_of count s)
+same_test count s c at of = by (bytes_eq s c) (same_key (parts_of count c) (parts_of count s)) refl refl
+  where
+    by : (a b : Bool) → bytes_eq s c ≡ a → same_key (parts_of count c) (parts_of count s) ≡ b → a ≡ b
+    by true true p q = refl
+    by false false p q = refl
+    by true false p q =
+        let e : parts_of count c ≡ parts_of count s = ap (parts_of count) (sym ((bytes_eq-Decides s c).0 p)) in
+        absurd (true≢false (sym ((same_key-Decides (parts_of count c) (parts_of count s)).1 e) ∙ q))
+    by false true p q =
+        let e : s ≡ c = at ∙ ap key_code (sym ((same_key-Decides (parts_of count c) (parts_of count s)).0 q)) ∙ sym of in
+        absurd (true≢false (sym ((bytes_eq-Decides s c).1 e) ∙ p))
 
--- the place of a key's code among those of groups is that of the group with the key
-pub place_is : (k : Key) (codes : List (List ℕ)) (gs : List GroupModel) → codes ≡ map (λ g. key_code g.key) gs
-    → position (bytes_eq (key_code k)) codes ≡ position (λ g. same_key g.key k) gs
-place_is k codes gs e =
-    ap (λ (l : List (List ℕ)). position (bytes_eq (key_code k)) l) e
-    ∙ position-map (λ (g : GroupModel). key_code g.key) (bytes_eq (key_code k)) gs
-    ∙ position_or_len-agree (λ (g : GroupModel). bytes_eq (key_code k) (key_code g.key)) (λ (g : GroupModel). same_key g.key k)
-    (λ g. code_same g.key k) gs
+pub length-kept : (count : ℕ) (codes : List (List ℕ)) (ts : List Totals) → length codes ≡ length ts → length (kept_groups count codes ts) ≡ length codes
+length-kept count [] ts e = refl
+length-kept count (c ∷ codes) [] e = absurd (omega arith)
+length-kept count (c ∷ codes) (t ∷ ts) e = ap suc (length-kept count codes ts (omega arith))
+
+first_is : (count : ℕ) (s : List ℕ) (codes : List (List ℕ)) (ts : List Totals) → length codes ≡ length ts → IsSound count s → All (IsSound count) codes
+    → position_or_len (bytes_eq s) codes ≡ position_or_len (λ g. same_key g.key (parts_of count s)) (kept_groups count codes ts)
+first_is count s [] ts e at all = refl
+first_is count s (c ∷ codes) [] e at all = absurd (omega arith)
+first_is count s (c ∷ codes) (t ∷ ts) e at all =
+    let here = same_test count s c at (All-head (IsSound count) c codes all) in
+    let rest = first_is count s codes ts (omega arith) at (All-tail (IsSound count) c codes all) in
+    (λ i. cond (not (here i)) (1 + rest i) 0)
+
+-- the place of a code is that of the group with its key
+pub place_is : (count : ℕ) (s : List ℕ) (codes : List (List ℕ)) (ts : List Totals) → length codes ≡ length ts → IsSound count s
+    → All (IsSound count) codes
+    → position (bytes_eq s) codes ≡ position (λ g. same_key g.key (parts_of count s)) (kept_groups count codes ts)
+place_is count s codes ts e at all =
+    let first = first_is count s codes ts e at all in
+    let long : length codes ≡ length (kept_groups count codes ts) = sym (length-kept count codes ts e) in
+    (λ i. cond (nat_lt (first i) (long i)) (Some (first i)) None)
 
 -- no place, where no element passes
 pub none_place : {X : Type 0} (p : X → Bool) (xs : List X) → position p xs ≡ None → list_any p xs ≡ false
@@ -75,10 +100,6 @@ record_count-entered k row (g ∷ gs) = by (same_key g.key k) (record_count-ente
     by false ih =
         omega (arith, sum_by-cons (λ (x : GroupModel). x.totals.records) g (entered k row gs), sum_by-cons (λ (x : GroupModel). x.totals.records) g gs, ih)
 
--- no group has more rows than all have
-pub few_records : (gs : List GroupModel) (i : ℕ) (d : GroupModel) → i < length gs → (get_or gs i d).totals.records ≤ record_count gs
-few_records gs i d h = get_or-le-sum_by (λ (g : GroupModel). g.totals.records) gs i d h
-
 one_bound : (most n p q : ℕ) → p ≤ most * n → q ≤ most → p + q ≤ most * (n + 1)
 one_bound most n p q h k = grind arith
 
@@ -89,54 +110,92 @@ bounded-grown t row h p o =
 bounded-first : (row : RowView) → row.packets ≤ 2 ^ 64 - 1 → row.octets ≤ 2 ^ 64 - 1 → IsBounded (first_totals row)
 bounded-first row p o = (p, o)
 
-each-entered : (count : ℕ) (k : Key) (row : RowView) (gs : List GroupModel) → length k ≡ count → row.packets ≤ 2 ^ 64 - 1 → row.octets ≤ 2 ^ 64 - 1
-    → All (IsKept count) gs → All (IsKept count) (entered k row gs)
-each-entered count k row [] n p o all = All-cons (IsKept count) (fresh k row) [] (bounded-first row p o, n) (All-nil (IsKept count))
-each-entered count k row (g ∷ gs) n p o all =
-    by (same_key g.key k) (each-entered count k row gs n p o (All-tail (IsKept count) g gs all))
-  where
-    first : IsKept count g
-    first = All-head (IsKept count) g gs all
+-- no totals are of more rows than all are
+pub few_records : (ts : List Totals) (i : ℕ) (t : Totals) → t ≡ get_or ts i t → i < length ts → total_records ts < 2 ^ 64 - 1 → t.records < 2 ^ 64 - 1
+few_records ts i t is h few =
+    omega (arith, ap (λ (x : Totals). x.records) is, get_or-le-sum_by (λ (x : Totals). x.records) ts i t h, few)
 
-    by : (b : Bool) → All (IsKept count) (entered k row gs) → All (IsKept count) (if b then grown g row ∷ gs else g ∷ entered k row gs)
-    by true ih = All-cons (IsKept count) (grown g row) gs (bounded-grown g.totals row first.0 p o, first.1) (All-tail (IsKept count) g gs all)
-    by false ih = All-cons (IsKept count) g (entered k row gs) first ih
+pub bounded-at : (ts : List Totals) (i : ℕ) (t : Totals) → t ≡ get_or ts i t → i < length ts → All IsBounded ts → IsBounded t
+bounded-at ts i t is h all = subst IsBounded (sym is) (all i t h)
 
--- the codes stay where the key is known
-codes-grown : (row : RowView) (gs : List GroupModel) (i : ℕ) (d : GroupModel) → i < length gs
-    → map (λ g. key_code g.key) (set gs i (grown (get_or gs i d) row)) ≡ map (λ g. key_code g.key) gs
-codes-grown row gs i d h =
-    map-set (λ (g : GroupModel). key_code g.key) gs i (grown (get_or gs i d) row)
-    ∙ sym (map-set (λ (g : GroupModel). key_code g.key) gs i (get_or gs i d))
-    ∙ ap (map (λ (g : GroupModel). key_code g.key)) (set-get_or gs i d)
+-- the groups together have as many rows as the totals
+pub record_count-kept : (count : ℕ) (codes : List (List ℕ)) (ts : List Totals) → length codes ≡ length ts
+    → record_count (kept_groups count codes ts) ≡ total_records ts
+record_count-kept count [] [] e = refl
+record_count-kept count [] (t ∷ ts) e = absurd (omega arith)
+record_count-kept count (c ∷ codes) [] e = absurd (omega arith)
+record_count-kept count (c ∷ codes) (t ∷ ts) e =
+    sum_by-cons (λ (g : GroupModel). g.totals.records) (kept_group count c t) (kept_groups count codes ts)
+    ∙ ap (λ (n : ℕ). t.records + n) (record_count-kept count codes ts (omega arith)) ∙ sym (sum_by-cons (λ (x : Totals). x.records) t ts)
 
--- groups stay kept where a row goes to a known one, and where it makes a new one
-pub kept-known : (count : ℕ) (k : Key) (row : RowView) (codes : List (List ℕ)) (gs : List GroupModel) (i : ℕ) (d : GroupModel)
-    → AreKept count codes gs → length k ≡ count → position (λ g. same_key g.key k) gs ≡ Some i → row.packets ≤ 2 ^ 64 - 1 → row.octets ≤ 2 ^ 64 - 1
-    → AreKept count codes (set gs i (grown (get_or gs i d) row))
-kept-known count k row codes gs i d ok n e p o = record {
-  codes_are = ok.codes_are ∙ sym (codes-grown row gs i d (position-Some (λ (g : GroupModel). same_key g.key k) gs i d e).0);
-  each = subst (All (IsKept count)) (entered-known k row gs i d e) (each-entered count k row gs n p o ok.each);
-}
+-- groups with one row more, and with one group more
+grown-kept : (count : ℕ) (codes : List (List ℕ)) (ts : List Totals) (i : ℕ) (d : Totals) (g : GroupModel) (row : RowView) → i < length ts
+    → length codes ≡ length ts
+    → kept_groups count codes (set ts i (with_row (get_or ts i d) row))
+    ≡ set (kept_groups count codes ts) i (grown (get_or (kept_groups count codes ts) i g) row)
+grown-kept count codes [] i d g row h e = absurd (omega arith)
+grown-kept count [] (t ∷ ts) i d g row h e = absurd (omega arith)
+grown-kept count (c ∷ codes) (t ∷ ts) zero d g row h e = refl
+grown-kept count (c ∷ codes) (t ∷ ts) (suc i) d g row h e =
+    ap (λ (l : List GroupModel). kept_group count c t ∷ l) (grown-kept count codes ts i d g row (omega arith) (omega arith))
 
-pub kept-new : (count : ℕ) (k : Key) (row : RowView) (codes : List (List ℕ)) (gs : List GroupModel)
-    → AreKept count codes gs → length k ≡ count → position (λ g. same_key g.key k) gs ≡ None → row.packets ≤ 2 ^ 64 - 1 → row.octets ≤ 2 ^ 64 - 1
-    → AreKept count (codes ++ key_code k ∷ []) (gs ++ fresh k row ∷ [])
-kept-new count k row codes gs ok n e p o = record {
-  codes_are =
-      ap (λ (l : List (List ℕ)). l ++ key_code k ∷ []) ok.codes_are
-      ∙ sym (map-append (λ (g : GroupModel). key_code g.key) gs (fresh k row ∷ []));
-  each = subst (All (IsKept count)) (entered-new k row gs (none_at k gs e)) (each-entered count k row gs n p o ok.each);
-}
+kept-push : (count : ℕ) (codes : List (List ℕ)) (ts : List Totals) (c : List ℕ) (t : Totals) → length codes ≡ length ts
+    → kept_groups count (codes ++ c ∷ []) (ts ++ t ∷ []) ≡ kept_groups count codes ts ++ kept_group count c t ∷ []
+kept-push count [] [] c t e = refl
+kept-push count [] (u ∷ ts) c t e = absurd (omega arith)
+kept-push count (b ∷ codes) [] c t e = absurd (omega arith)
+kept-push count (b ∷ codes) (u ∷ ts) c t e =
+    ap (λ (l : List GroupModel). kept_group count b u ∷ l) (kept-push count codes ts c t (omega arith))
 
--- the groups after a row are those of the rows followed by it
-pub after-known : (k : Key) (row : RowView) (gs new : List GroupModel) (i : ℕ) → position (λ g. same_key g.key k) gs ≡ Some i
-    → ((d : GroupModel) → new ≡ set gs i (grown (get_or gs i d) row)) → new ≡ entered k row gs
-after-known k row gs new i e h = h (fresh k row) ∙ sym (entered-known k row gs i (fresh k row) e)
+-- what a row whose code has a place makes of the totals
+module _ (codes : List (List ℕ)) (ts new : List Totals) (s : List ℕ) (row : RowView) (i : ℕ) (long : length codes ≡ length ts)
+    (at : position (bytes_eq s) codes ≡ Some i) (now : (d : Totals) → new ≡ set ts i (with_row (get_or ts i d) row)) where
+  pub place_within : i < length ts
+  place_within = omega (arith, (position-Some (bytes_eq s) codes i [] at).0, long)
 
-pub after-new : (k : Key) (row : RowView) (gs new : List GroupModel) → position (λ g. same_key g.key k) gs ≡ None
-    → new ≡ gs ++ fresh k row ∷ [] → new ≡ entered k row gs
-after-new k row gs new e h = h ∙ sym (entered-new k row gs (none_at k gs e))
+  pub known_groups : (count : ℕ) → All (IsSound count) codes → IsSound count s
+      → kept_groups count codes new ≡ entered (parts_of count s) row (kept_groups count codes ts)
+  known_groups count all sound =
+      ap (kept_groups count codes) (now (first_totals row))
+      ∙ grown-kept count codes ts i (first_totals row) (fresh (parts_of count s) row) row place_within long
+      ∙ sym (entered-known (parts_of count s) row (kept_groups count codes ts) i (fresh (parts_of count s) row)
+      (sym (place_is count s codes ts long sound all) ∙ at))
+
+  pub known_kept : (count : ℕ) → All (IsSound count) codes → All IsBounded ts → row.packets ≤ 2 ^ 64 - 1 → row.octets ≤ 2 ^ 64 - 1
+      → AreKept count codes new
+  known_kept count all bounded p o = record {
+    long = long ∙ sym (length-set ts i (with_row (get_or ts i (first_totals row)) row)) ∙ ap length (sym (now (first_totals row)));
+    sound = all;
+    bounded = subst (All IsBounded) (sym (now (first_totals row)))
+        (All-set IsBounded ts i (with_row (get_or ts i (first_totals row)) row)
+        (bounded-grown (get_or ts i (first_totals row)) row (bounded i (first_totals row) place_within) p o) bounded);
+  }
+
+-- what a row whose code has no place makes of codes and totals
+module _ (codes more : List (List ℕ)) (ts new : List Totals) (s c : List ℕ) (t : Totals) (row : RowView) (long : length codes ≡ length ts)
+    (at : position (bytes_eq s) codes ≡ None) (copied : c ≡ s) (first : t ≡ first_totals row)
+    (codes_now : more ≡ codes ++ c ∷ []) (totals_now : new ≡ ts ++ t ∷ []) where
+  codes_are : more ≡ codes ++ s ∷ []
+  codes_are = codes_now ∙ ap (λ (x : List ℕ). codes ++ x ∷ []) copied
+
+  totals_are : new ≡ ts ++ first_totals row ∷ []
+  totals_are = totals_now ∙ ap (λ (x : Totals). ts ++ x ∷ []) first
+
+  pub new_groups : (count : ℕ) → All (IsSound count) codes → IsSound count s
+      → kept_groups count more new ≡ entered (parts_of count s) row (kept_groups count codes ts)
+  new_groups count all sound =
+      (λ i. kept_groups count (codes_are i) (totals_are i)) ∙ kept-push count codes ts s (first_totals row) long
+      ∙ sym (entered-new (parts_of count s) row (kept_groups count codes ts)
+      (none_at (parts_of count s) (kept_groups count codes ts) (sym (place_is count s codes ts long sound all) ∙ at)))
+
+  pub new_kept : (count : ℕ) → All (IsSound count) codes → IsSound count s → All IsBounded ts → row.packets ≤ 2 ^ 64 - 1 → row.octets ≤ 2 ^ 64 - 1
+      → AreKept count more new
+  new_kept count all sound bounded p o = record {
+    long = ap length codes_are ∙ length-append codes (s ∷ []) ∙ ap (λ (n : ℕ). n + 1) long ∙ sym (length-append ts (first_totals row ∷ []))
+        ∙ ap length (sym totals_are);
+    sound = subst (All (IsSound count)) (sym codes_are) (All-push (IsSound count) codes s all sound);
+    bounded = subst (All IsBounded) (sym totals_are) (All-push IsBounded ts (first_totals row) bounded (bounded-first row p o));
+  }
 
 pub then_groups : (rows : List KeyedRow) (k : Key) (row : RowView) (gs new : List GroupModel) → new ≡ entered k row gs
     → gs ≡ groups_of_keyed rows → new ≡ groups_of_keyed (rows ++ (k, row) ∷ [])
@@ -145,57 +204,36 @@ then_groups rows k row gs new h e = h ∙ ap (entered k row) e ∙ sym (groups-p
 pub then_count : (k : Key) (row : RowView) (gs new : List GroupModel) → new ≡ entered k row gs → record_count new ≡ record_count gs + 1
 then_count k row gs new h = ap record_count h ∙ record_count-entered k row gs
 
--- what is kept at a place
-module _ (es : List Entry) (place : ℕ) (e : Entry) (is : e ≡ get_or es place e) (within : place < length es) where
-  inside : place < length (map entry_model es)
-  inside = omega (arith, length-map es entry_model, within)
+-- what two options have is the same
+some-same : {A : Type 0} {a b : A} → Some a ≡ Some b → a ≡ b
+some-same {A} {a} {b} e = ap (λ (o : Option A). unwrap_or o a) e
 
-  entry_is : (d : GroupModel) → get_or (map entry_model es) place d ≡ entry_model e
-  entry_is d = get_or-map entry_model es place e d within ∙ ap entry_model (sym is)
+-- the group at a place
+pub group-some : (count : ℕ) (codes : List (List ℕ)) (ts : List Totals) (i : ℕ) (c : List ℕ) (t : Totals) → slice_get codes i ≡ Some c
+    → slice_get ts i ≡ Some t → slice_get (kept_groups count codes ts) i ≡ Some (kept_group count c t)
+group-some count [] ts i c t p q = absurd (none-some c p)
+group-some count (b ∷ codes) [] i c t p q = absurd (none-some t q)
+group-some count (b ∷ codes) (u ∷ ts) zero c t p q = (λ j. Some (kept_group count (some-same p j) (some-same q j)))
+group-some count (b ∷ codes) (u ∷ ts) (suc i) c t p q = group-some count codes ts i c t p q
 
-  pub bounded-at : All (λ g. IsBounded g.totals) (map entry_model es) → IsBounded e.totals
-  bounded-at all = subst (λ (g : GroupModel). IsBounded g.totals) (entry_is (entry_model e)) (all place (entry_model e) inside)
+pub group-none_code : (count : ℕ) (codes : List (List ℕ)) (ts : List Totals) (i : ℕ) → slice_get codes i ≡ None
+    → slice_get (kept_groups count codes ts) i ≡ None
+group-none_code count [] ts i p = refl
+group-none_code count (b ∷ codes) [] i p = refl
+group-none_code count (b ∷ codes) (u ∷ ts) zero p = absurd (none-some b (sym p))
+group-none_code count (b ∷ codes) (u ∷ ts) (suc i) p = group-none_code count codes ts i p
 
-  pub few-at : record_count (map entry_model es) < 2 ^ 64 - 1 → e.totals.records < 2 ^ 64 - 1
-  few-at h =
-      let n : (get_or (map entry_model es) place (entry_model e)).totals.records ≡ e.totals.records
-      = ap (λ (g : GroupModel). g.totals.records) (entry_is (entry_model e)) in
-      omega (arith, n, h, few_records (map entry_model es) place (entry_model e) inside)
+pub group-none_totals : (count : ℕ) (codes : List (List ℕ)) (ts : List Totals) (i : ℕ) → slice_get ts i ≡ None
+    → slice_get (kept_groups count codes ts) i ≡ None
+group-none_totals count [] ts i p = refl
+group-none_totals count (b ∷ codes) [] i p = refl
+group-none_totals count (b ∷ codes) (u ∷ ts) zero p = absurd (none-some u (sym p))
+group-none_totals count (b ∷ codes) (u ∷ ts) (suc i) p = group-none_totals count codes ts i p
 
-  pub grown-at : (row : RowView) (t : Totals) → t ≡ with_row e.totals row → (d : GroupModel)
-      → map entry_model (set es place (record { key = e.key; totals = t }))
-      ≡ set (map entry_model es) place (grown (get_or (map entry_model es) place d) row)
-  grown-at row t h d =
-      map-set entry_model es place (record { key = e.key; totals = t })
-      ∙ ap (λ (g : GroupModel). set (map entry_model es) place g)
-      ((λ i. record { key = map part_model e.key.items; totals = h i }) ∙ ap (λ (g : GroupModel). grown g row) (sym (entry_is d)))
-
--- the numbers that were read into a scratch that was empty
-pub code_is : (k given : Key) (before out read : List ℕ) → read ≡ out → out ≡ before ++ key_code given → before ≡ [] → given ≡ k → read ≡ key_code k
-code_is k given before out read a b e h = a ∙ b ∙ ap (λ (l : List ℕ). l ++ key_code given) e ∙ ap key_code h
-
-pub place_in : (count : ℕ) (k : Key) (codes : List (List ℕ)) (gs : List GroupModel) (read : List ℕ) (r : Option ℕ)
-    → AreKept count codes gs → read ≡ key_code k → r ≡ position (bytes_eq read) codes → position (λ g. same_key g.key k) gs ≡ r
-place_in count k codes gs read r ok e h =
-    sym (place_is k codes gs ok.codes_are) ∙ ap (λ (t : List ℕ). position (bytes_eq t) codes) (sym e) ∙ sym h
-
-pub stays-known : (count : ℕ) (k : Key) (row : RowView) (codes : List (List ℕ)) (gs new : List GroupModel) (i : ℕ)
-    → AreKept count codes gs → length k ≡ count → position (λ g. same_key g.key k) gs ≡ Some i
-    → ((d : GroupModel) → new ≡ set gs i (grown (get_or gs i d) row)) → row.packets ≤ 2 ^ 64 - 1 → row.octets ≤ 2 ^ 64 - 1
-    → AreKept count codes new
-stays-known count k row codes gs new i ok n e h p o =
-    subst (AreKept count codes) (sym (h (fresh k row))) (kept-known count k row codes gs i (fresh k row) ok n e p o)
-
-pub stays-new : (count : ℕ) (k : Key) (row : RowView) (codes more : List (List ℕ)) (gs new : List GroupModel) (code : List ℕ) (g : GroupModel)
-    → AreKept count codes gs → length k ≡ count → position (λ g. same_key g.key k) gs ≡ None
-    → more ≡ codes ++ code ∷ [] → code ≡ key_code k → new ≡ gs ++ g ∷ [] → g ≡ fresh k row
-    → row.packets ≤ 2 ^ 64 - 1 → row.octets ≤ 2 ^ 64 - 1 → AreKept count more new
-stays-new count k row codes more gs new code g ok n e m c h f p o =
-    let codes_are : codes ++ key_code k ∷ [] ≡ more = ap (λ (t : List ℕ). codes ++ t ∷ []) (sym c) ∙ sym m in
-    let groups_are : gs ++ fresh k row ∷ [] ≡ new = ap (λ (x : GroupModel). gs ++ x ∷ []) (sym f) ∙ sym h in
-    subst (λ (z : List (List ℕ) × List GroupModel). AreKept count z.0 z.1) (λ i. (codes_are i, groups_are i))
-    (kept-new count k row codes gs ok n e p o)
-
--- the groups of a new entry behind the others
-pub entries-push : (es new : List Entry) (e : Entry) → new ≡ es ++ e ∷ [] → map entry_model new ≡ map entry_model es ++ entry_model e ∷ []
-entries-push es new e h = ap (map entry_model) h ∙ map_push entry_model es e
+-- each key has so many parts
+pub parts-kept : (count : ℕ) (codes : List (List ℕ)) (ts : List Totals) → All (λ g. length g.key ≡ count) (kept_groups count codes ts)
+parts-kept count [] ts = All-nil (λ (g : GroupModel). length g.key ≡ count)
+parts-kept count (c ∷ codes) [] = All-nil (λ (g : GroupModel). length g.key ≡ count)
+parts-kept count (c ∷ codes) (t ∷ ts) =
+    All-cons (λ (g : GroupModel). length g.key ≡ count) (kept_group count c t) (kept_groups count codes ts) (length-parts_of count c)
+    (parts-kept count codes ts)

@@ -1,5 +1,7 @@
 pub mod Sorting
 pub mod Codes
+pub mod Cutting
 pub mod Grouping
 pub mod Entering
 pub mod Reading
+pub mod Listing

@@ -1,7 +1,7 @@
 -- What a text that names fields is read as.
 use Rattle.std.proofs.Common.{◌≡◌, ℕ, ◌+◌, Bool, true, false, true≢false, cond, ◌||◌, if◌then◌else◌, List, [], ◌∷◌, Option, Some, None, Result, Ok, Err, map, arith, refl, sym, ap, ◌∙◌}
 use Rattle.std.proofs.lemmas.Bool.Decides.{nat_tests}
-use Rattle.std.specs.Prelude.{IfErr, count_by, find, filter_map, is_none, is_some, nat_lt, option_map, filter, length, unwrap_or}
+use Rattle.std.specs.Prelude.{IfErr, count_by, find, is_none, is_some, nat_lt, option_map, filter, length, unwrap_or}
 use Rattle.std.specs.List.{cons_option, list_any, slice_get}
 use Rattle.std.specs.Str.{bytes_eq}
 use Rattle.std.proofs.lemmas.List.Folds.{fold-map}

@@ -1,18 +1,28 @@
 -- How groups are kept.
-use Rattle.std.specs.Prelude.{◌≡◌, ℕ, ◌+◌, ◌-◌, ◌*◌, ◌^◌, ◌≤◌, List, [], ◌∷◌, length, map, All, if◌then◌else◌}
+use Rattle.std.specs.Prelude.{◌≡◌, ℕ, ◌+◌, ◌-◌, ◌*◌, ◌^◌, ◌≤◌, List, [], ◌∷◌, length, sum_by, All, if◌then◌else◌}
 use Rattle.flow_rows.specs.Row.{RowView}
-use Rattle.flow_uniq.specs.declared.entry.Entry.{Entry}
 use Rattle.flow_uniq.specs.declared.group.Group.{Group}
+use Rattle.flow_uniq.specs.declared.key.Key as lent
 use Rattle.flow_uniq.specs.declared.totals.Totals.{Totals}
 use Rattle.flow_uniq.specs.Key.{Key, same_key}
 use Rattle.flow_uniq.specs.Groups.{GroupModel}
-use Rattle.flow_uniq.specs.Parts.{key_code, part_model}
+use Rattle.flow_uniq.specs.Parts.{IsSound, parts_of}
 
-abbrev pub entry_model : Entry → GroupModel
-entry_model e = record { key = map part_model e.key.items; totals = e.totals }
+-- the parts of a key that is lent, and a group
+abbrev pub key_model : lent.Key → Key
+key_model k = parts_of k.count k.code.now
 
 abbrev pub group_model : Group → GroupModel
-group_model g = record { key = map part_model g.key.now; totals = g.totals }
+group_model g = record { key = key_model g.key; totals = g.totals }
+
+-- the groups of codes of keys of so many parts, and of the totals beside them
+abbrev pub kept_group : ℕ → List ℕ → Totals → GroupModel
+kept_group count code totals = record { key = parts_of count code; totals = totals }
+
+abbrev pub kept_groups : ℕ → List (List ℕ) → List Totals → List GroupModel
+kept_groups count [] totals = []
+kept_groups count (code ∷ codes) [] = []
+kept_groups count (code ∷ codes) (t ∷ totals) = kept_group count code t ∷ kept_groups count codes totals
 
 -- no row has more than 2 ^ 64 - 1 packets or octets
 abbrev pub IsBounded : Totals → Type 0
@@ -44,11 +54,12 @@ entered key row (g ∷ groups) =
     if same_key g.key key then grown g row ∷ groups
     else g ∷ entered key row groups
 
--- a group whose key has so many parts, with bounded totals
-abbrev pub IsKept : ℕ → GroupModel → Type 0
-IsKept count g = IsBounded g.totals × (length g.key ≡ count)
+-- how many rows totals are of together
+abbrev pub total_records : List Totals → ℕ
+total_records totals = sum_by (λ t. t.records) totals
 
--- codes of keys of so many parts stand beside groups
-pub record AreKept (count : ℕ) (codes : List (List ℕ)) (groups : List GroupModel) : Type 0 where
-  pub codes_are : codes ≡ map (λ g. key_code g.key) groups
-  pub each : All (IsKept count) groups
+-- codes of keys of so many parts stand beside bounded totals
+pub record AreKept (count : ℕ) (codes : List (List ℕ)) (totals : List Totals) : Type 0 where
+  pub long : length codes ≡ length totals
+  pub sound : All (IsSound count) codes
+  pub bounded : All IsBounded totals

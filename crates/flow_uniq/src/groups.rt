@@ -1,19 +1,20 @@
-ghost use Rattle.std.specs.Prelude.{All, ◌≡◌, ◌++◌, ℕ, ◌∷◌, [], ◌+◌, ◌-◌, ◌^◌, ◌<◌, List, IfOk, OnOk, OnErr, length, map, option_map, slice_get, take};
+ghost use Rattle.std.specs.Prelude.{All, ◌≡◌, ◌++◌, ℕ, ◌∷◌, [], ◌+◌, ◌-◌, ◌^◌, ◌<◌, List, IfOk, OnOk, OnErr, length, map, option_copied, option_map, slice_get, take};
 ghost use Rattle.std.specs.List.Sorted.{IsPermutation, IsSortedBy};
 ghost use Rattle.flow_rows.specs.Row.{row_view};
 ghost use Rattle.label_lookup.specs.Labelling.{label_where, labelling_lent};
 ghost use Rattle.flow_uniq.specs.Groups.{KeyedRow, groups_of_keyed, keyed, record_count};
 ghost use Rattle.flow_uniq.specs.Key.{key_of};
-ghost use Rattle.flow_uniq.specs.Kept.{entry_model, group_model};
+ghost use Rattle.flow_uniq.specs.Kept.{group_model};
 ghost use Rattle.flow_uniq.specs.Sorted.{is_before, sorted_groups};
 
-use crate::entry::Entry;
+use crate::code::Code;
 use crate::field::KeyField;
 use crate::group::Group;
-use crate::key::{append_key, key_parts};
+use crate::key::Key;
 use crate::keys::Keys;
 use crate::order::compare_keys;
-use crate::placing::{enter, grow, place_of};
+use crate::placing::put;
+use crate::row_key::read_key;
 use crate::totals::Totals;
 use flow_rows::Row;
 use indexmap::IndexSet;
@@ -26,34 +27,42 @@ use std::marker::Model;
 pub struct Groups {
     alloc: Global,
     fields: Vec<KeyField>,
-    codes: IndexSet<Vec<u128>>,
-    entries: Vec<Entry>,
-    scratch: Vec<u128>,
+    codes: IndexSet<Code>,
+    totals: Vec<Totals>,
+    scratch: Code,
 }
 
 impl Model for Groups {
-    ghost use Rattle.std.specs.Prelude.{length, map};
+    ghost use Rattle.std.specs.Prelude.{length};
     ghost use Rattle.flow_uniq.specs.Groups.{GroupsModel};
 
     ghost Value = { GroupsModel };
 
-    ghost use Rattle.flow_uniq.specs.Kept.{AreKept, entry_model};
+    ghost use Rattle.flow_uniq.specs.Kept.{AreKept, kept_groups};
 
-    ghost view = { λ g. record { fields = g.fields.items; groups = map entry_model g.entries.items } };
+    ghost view = { λ g. record { fields = g.fields.items; groups = kept_groups (length g.fields.items) g.codes.keys g.totals.items } };
 
-    ghost invariant = { λ g. AreKept (length g.fields.items) (map (λ code. code.items) g.codes.keys)
-        (map entry_model g.entries.items) };
+    ghost invariant = { λ g. AreKept (length g.fields.items) g.codes.keys g.totals.items };
 }
 
-// The groups as they are kept. Memory for all is asked for once: where it is refused, `collect` asks for less.
-fn groups_of(alloc: Global, entries: &[Entry]) -> Result<Vec<Group<'_>>, AllocError>
-    ensures { IfOk result (λ groups. map group_model groups.items ≡ map entry_model entries.now) }
+// The totals at a place.
+fn totals_at(totals: &[Totals], place: usize) -> Option<&Totals>
+    ensures { option_copied result ≡ slice_get totals.now place }
 {
-    let mut groups = Vec::with_capacity(alloc, entries.len())?;
-    for entry in entries {
-        groups.push(entry.group())?;
+    totals.get(place)
+}
+
+// The groups in the order of their first rows. Memory for all is asked for once: where it is refused, `collect` asks for less.
+fn listed(alloc: Global, groups: &Groups) -> Result<Vec<Group<'_>>, AllocError>
+    ensures { IfOk result (λ listed. map group_model listed.items ≡ groups.now.groups) }
+{
+    let mut listed = Vec::with_capacity(alloc, groups.group_count())?;
+    for place in 0..groups.group_count() {
+        if let Some(group) = groups.group(place) {
+            listed.push(group)?;
+        }
     }
-    Ok(groups)
+    Ok(listed)
 }
 
 // The groups in the order of their keys.
@@ -78,8 +87,8 @@ impl Groups {
             alloc,
             fields: Vec::from_slice(alloc, keys.fields())?,
             codes: IndexSet::new(alloc),
-            entries: Vec::new(alloc),
-            scratch: Vec::new(alloc),
+            totals: Vec::new(alloc),
+            scratch: Code::new(alloc),
         })
     }
 
@@ -97,23 +106,14 @@ impl Groups {
         ensures count { OnOk result (record_count self.new.groups ≡ record_count self.old.groups + 1) }
         ensures err { OnErr result (self.new ≡ self.old) }
     {
-        self.scratch.clear();
-        append_key(&mut self.scratch, self.fields.as_slice(), row, labeller)?;
-        match place_of(&self.codes, self.scratch.as_slice()) {
-            Some(place) => grow(&mut self.entries, place, row),
-            None => {
-                let key = key_parts(self.alloc, self.fields.as_slice(), row, labeller)?;
-                let code = Vec::from_slice(self.alloc, self.scratch.as_slice())?;
-                let totals = Totals::of_row(row);
-                enter(
-                    &mut self.codes,
-                    &mut self.entries,
-                    code,
-                    Entry { key, totals },
-                )?;
-            }
-        }
-        Ok(())
+        read_key(&mut self.scratch, self.fields.as_slice(), row, labeller)?;
+        put(
+            self.alloc,
+            &mut self.codes,
+            &mut self.totals,
+            &self.scratch,
+            row,
+        )
     }
 
     /// Adds rows one after the other, each as `add` does. Where memory is refused at one of them, those before it are added.
@@ -152,16 +152,22 @@ impl Groups {
     pub fn group_count(&self) -> usize
         ensures { result ≡ length self.now.groups }
     {
-        self.entries.len()
+        self.totals.as_slice().len()
     }
 
     /// The group at a place, from 0 in the order of the first rows.
     pub fn group(&self, place: usize) -> Option<Group<'_>>
         ensures { option_map group_model result ≡ slice_get self.now.groups place }
     {
-        match self.entries.as_slice().get(place) {
-            Some(entry) => Some(entry.group()),
-            None => None,
+        match (
+            self.codes.get_index(place),
+            totals_at(self.totals.as_slice(), place),
+        ) {
+            (Some(code), Some(totals)) => Some(Group {
+                key: Key::of_code(self.fields.as_slice().len(), code.bytes()),
+                totals: *totals,
+            }),
+            _ => None,
         }
     }
 
@@ -172,6 +178,6 @@ impl Groups {
         ensures permutation { IfOk result (λ groups. IsPermutation self.now.groups (map group_model groups.items)) }
         ensures rises { IfOk result (λ groups. IsSortedBy is_before (map group_model groups.items)) }
     {
-        in_order(groups_of(self.alloc, self.entries.as_slice())?)
+        in_order(listed(self.alloc, self)?)
     }
 }

@@ -1,46 +1,38 @@
-//! The key of a row, as numbers and as parts.
-ghost use Rattle.std.specs.Prelude.{◌≡◌, ◌++◌, IfOk, OnOk, map};
-ghost use Rattle.flow_rows.specs.Row.{row_view};
-ghost use Rattle.label_lookup.specs.Labelling.{label_where, labelling_lent};
-ghost use Rattle.flow_uniq.specs.Key.{key_of};
-ghost use Rattle.flow_uniq.specs.Parts.{key_code, part_model};
+ghost use Rattle.std.specs.Prelude.{◌≡◌};
 
-use crate::field::KeyField;
+use crate::cut::cut_part;
 use crate::part::KeyPart;
-use crate::value::{append_code, part_of, value_of};
-use flow_rows::Row;
-use label_lookup::Labeller;
-use std::alloc::{AllocError, Global};
 
-/// Appends the numbers of the key of a row.
-pub fn append_key<L: Labeller>(
-    out: &mut Vec<u128>,
-    fields: &[KeyField],
-    row: &Row,
-    labeller: Option<&L>,
-) -> Result<(), AllocError>
-    ensures { let label = label_where (labelling_lent L.version_of L.label labeller.entry) in
-        OnOk result (out.new.items ≡ out.old.items ++ key_code (key_of label fields.now (row_view row.now))) }
-{
-    for field in fields {
-        append_code(out, value_of(*field, row, labeller))?;
-    }
-    Ok(())
+/// The key of a group, lent: a list of parts in the order of the fields. Each is cut out of the bytes of the key when it is
+/// asked for.
+#[derive(Clone, Copy, Debug)]
+pub struct Key<'a> {
+    count: usize,
+    code: &'a [u8],
 }
 
-/// The parts of the key of a row.
-pub fn key_parts<L: Labeller>(
-    alloc: Global,
-    fields: &[KeyField],
-    row: &Row,
-    labeller: Option<&L>,
-) -> Result<Vec<KeyPart>, AllocError>
-    ensures { let label = label_where (labelling_lent L.version_of L.label labeller.entry) in
-        IfOk result (λ key. map part_model key.items ≡ key_of label fields.now (row_view row.now)) }
-{
-    let mut key = Vec::with_capacity(alloc, fields.len())?;
-    for field in fields {
-        key.push(part_of(alloc, value_of(*field, row, labeller))?)?;
+impl<'a> Key<'a> {
+    ghost use Rattle.std.specs.Prelude.{◌∷◌, [], IfNone, IfSome};
+    ghost use Rattle.flow_uniq.specs.Parts.{part_model, parts_of};
+    ghost use Rattle.flow_uniq.specs.Kept.{key_model};
+
+    /// The key of so many parts with these bytes.
+    pub(crate) fn of_code(count: usize, code: &'a [u8]) -> Key<'a>
+        ensures { key_model result ≡ parts_of count code.now }
+    {
+        Key { count, code }
     }
-    Ok(key)
+
+    /// The first part and the key of those behind it, or `None` where there is no part.
+    pub fn split_first(self) -> Option<(KeyPart<'a>, Key<'a>)>
+        ensures some { IfSome result (λ r. key_model self.entry ≡ part_model r.0 ∷ key_model r.1) }
+        ensures none { IfNone result (key_model self.entry ≡ []) }
+    {
+        if self.count == 0 {
+            return None;
+        }
+        let (part, code) = cut_part(self.code);
+        let count = self.count - 1;
+        Some((part, Key { count, code }))
+    }
 }

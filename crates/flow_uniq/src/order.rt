@@ -1,11 +1,13 @@
 //! The order of keys.
-ghost use Rattle.std.specs.Prelude.{◌≡◌, map, option_copied};
+ghost use Rattle.std.specs.Prelude.{◌≡◌, option_copied};
 ghost use Rattle.std.specs.Cmp.Lexicographic.{slice_cmp};
 ghost use Rattle.std.specs.Ordering.{nat_cmp};
 ghost use Rattle.flow_uniq.specs.Key.{AddressPart, label_numbers};
+ghost use Rattle.flow_uniq.specs.Kept.{key_model};
 ghost use Rattle.flow_uniq.specs.Parts.{part_model};
 ghost use Rattle.flow_uniq.specs.Sorted.{key_order, part_order};
 
+use crate::key::Key;
 use crate::part::KeyPart;
 use crate::value::version_number;
 use prefix_keys::Addr;
@@ -34,38 +36,33 @@ fn compare_addresses(a: Addr, b: Addr) -> Ordering
 }
 
 // How two parts compare.
-fn compare_parts(a: &KeyPart, b: &KeyPart) -> Ordering
-    ensures { result ≡ part_order (part_model a.now) (part_model b.now) }
+fn compare_parts(a: KeyPart<'_>, b: KeyPart<'_>) -> Ordering
+    ensures { result ≡ part_order (part_model a.entry) (part_model b.entry) }
 {
     match (a, b) {
-        (KeyPart::Address(a), KeyPart::Address(b)) => compare_addresses(*a, *b),
+        (KeyPart::Address(a), KeyPart::Address(b)) => compare_addresses(a, b),
         (KeyPart::Address(_), KeyPart::Number(_)) => Ordering::Less,
         (KeyPart::Address(_), KeyPart::Label(_)) => Ordering::Less,
         (KeyPart::Number(_), KeyPart::Address(_)) => Ordering::Greater,
-        (KeyPart::Number(a), KeyPart::Number(b)) => a.cmp(b),
+        (KeyPart::Number(a), KeyPart::Number(b)) => a.cmp(&b),
         (KeyPart::Number(_), KeyPart::Label(_)) => Ordering::Less,
         (KeyPart::Label(_), KeyPart::Address(_)) => Ordering::Greater,
         (KeyPart::Label(_), KeyPart::Number(_)) => Ordering::Greater,
-        (KeyPart::Label(a), KeyPart::Label(b)) => compare_labels(a.text(), b.text()),
+        (KeyPart::Label(a), KeyPart::Label(b)) => compare_labels(a, b),
     }
 }
 
 /// How two keys compare: by their parts from the left.
-#[tactic(auto, using(crate::proofs::Codes::longer_is_greater))]
-pub fn compare_keys(a: &[KeyPart], b: &[KeyPart]) -> Ordering
-    ensures { result ≡ key_order (map part_model a.now) (map part_model b.now) }
+pub fn compare_keys(a: Key<'_>, b: Key<'_>) -> Ordering
+    ensures { result ≡ key_order (key_model a.entry) (key_model b.entry) }
 {
-    match a {
-        [] => match b {
-            [] => Ordering::Equal,
-            [_, ..] => Ordering::Less,
-        },
-        [x, xs @ ..] => match b {
-            [] => Ordering::Greater,
-            [y, ys @ ..] => match compare_parts(x, y) {
-                Ordering::Equal => compare_keys(xs, ys),
-                order => order,
-            },
+    match (a.split_first(), b.split_first()) {
+        (None, None) => Ordering::Equal,
+        (None, Some(_)) => Ordering::Less,
+        (Some(_), None) => Ordering::Greater,
+        (Some((x, xs)), Some((y, ys))) => match compare_parts(x, y) {
+            Ordering::Equal => compare_keys(xs, ys),
+            order => order,
         },
     }
 }
