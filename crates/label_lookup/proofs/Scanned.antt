@@ -11,8 +11,7 @@ use Rattle.pmap_text.specs.MapModel.{Label, Mapping, label_or, last_such, map_la
 use Rattle.pmap_text.specs.MapText.{map_of, mapping_of}
 use Rattle.pmap_text.specs.declared.map_text.MapText.{MapText}
 use Rattle.pmap_text.specs.declared.statement.Statement.{Statement}
-use Rattle.label_trie.proofs.Lookup.{known_text}
-use Rattle.label_trie.proofs.Settled.{le_both}
+use Rattle.pmap_text.proofs.Orders.{known_text, le_both}
 
 -- the last of a map's first statements that covers an address, as a mapping
 abbrev pub last_of_first : MapText → ℕ → ℕ → Option Mapping

@@ -12,7 +12,8 @@ use Rattle.pmap_text.specs.MapText.{map_of, text_at}
 use Rattle.pmap_text.specs.declared.label.LabelId.{LabelId}
 use Rattle.pmap_text.specs.declared.map_text.MapText.{MapText}
 use Rattle.pmap_text.specs.declared.statement.Statement.{Statement}
-use Rattle.label_trie.specs.Layers.{AddsTree, IsMapOf, mappings_of, parted_sum}
+use Rattle.label_trie.specs.Layers.{AddsTree, IsMapOf, parted_sum}
+use Rattle.pmap_text.specs.Stretches.{mappings_of}
 use Rattle.label_trie.specs.Nodes.{IsTrie, tree_of}
 use Rattle.label_trie.specs.Tree.{Fits, IsLabelled, leaf_count, leaves_of}
 use Rattle.label_trie.specs.TrieModel.{LeafModel, IsCut}

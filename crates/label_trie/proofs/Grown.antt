@@ -3,11 +3,14 @@ use Rattle.std.proofs.Common.{◌≡◌, ℕ, suc, ◌+◌, ◌-◌, ◌*◌, �
 use Rattle.std.proofs.lemmas.List.{set_at}
 use Rattle.std.proofs.lemmas.List.Elements.{All-contains}
 use Rattle.prefix_keys.specs.Block.{block_number, first_of, last_of}
-use Rattle.pmap_text.specs.MapModel.{Label, MapModel, last_such, meets, settled_by}
+use Rattle.prefix_keys.specs.Version.{width_of}
+use Rattle.prefix_keys.specs.declared.version.Version.{Version}
+use Rattle.pmap_text.specs.MapModel.{Label, Mapping, MapModel, last_such, meets, settled_by}
 use Rattle.pmap_text.specs.MapText.{mapping_of}
+use Rattle.pmap_text.specs.Stretches.{HasStretch, HasSameStatements, label_seen, mappings_of}
 use Rattle.pmap_text.specs.declared.label.LabelId.{LabelId}
 use Rattle.pmap_text.specs.declared.statement.Statement.{Statement}
-use Rattle.label_trie.specs.Layers.{AddsTree, IsBlock, IsMapOf, IsStretch, label_seen, mappings_of, parted_sum}
+use Rattle.label_trie.specs.Layers.{AddsTree, IsBlock, IsMapOf, parted_sum}
 use Rattle.label_trie.specs.Nodes.{encode, leaf_node}
 use Rattle.label_trie.specs.Tree.{Tree, Tip, Fork, Settles, size}
 use Rattle.label_trie.specs.declared.node.Node.{Node}
@@ -16,42 +19,49 @@ use Rattle.label_trie.proofs.Blocks.{halves_ends, has_halves}
 use Rattle.label_trie.proofs.Encoded.{length_encode, size_leaves}
 use Rattle.std.proofs.lemmas.Nat.{pow-add}
 use Rattle.label_trie.proofs.Parted.{next_multiple}
-use Rattle.label_trie.proofs.SeenBlocks.{IsWhole, stretch_split, stretch_whole}
+use Rattle.pmap_text.proofs.SeenBlocks.{IsWhole, ordered_of, stretch_split, stretch_whole}
 use Rattle.label_trie.proofs.Sums.{split_sum}
 
 -- the label of a leaf settles its block
-settles_seen : (W n q : ℕ) (m : MapModel) (ss : List Statement) (default : Option LabelId) (top : Option Statement) → IsMapOf W ss default m
+settles_seen : (n q : ℕ) (m : MapModel) (W : ℕ) (ss : List Statement) (default : Option LabelId) (top : Option Statement) → IsMapOf W ss default m
     → ((s : Statement) → top ≡ Some s → Contains ss s)
-    → IsWhole W n q (mappings_of m.table ss) (option_map (mapping_of m.table) top) → Settles m (label_seen default top) n q
-settles_seen W n q m ss None None is listed whole = rw (is.width, is.mappings) whole.is
-settles_seen W n q m ss (Some id) None is listed whole =
+    → IsWhole (width_of m.version) n q m.mappings (option_map (mapping_of m.table) top) → Settles m (label_seen default top) n q
+settles_seen n q m W ss None None is listed whole = whole.is
+settles_seen n q m W ss (Some id) None is listed whole =
     let known = is.fallback id refl in
-    (known.0, rw (is.width, is.mappings, whole.is) (ap Some (sym known.1)))
-settles_seen W n q m ss default (Some s) is listed whole =
+    (known.0, rw whole.is (ap Some (sym known.1)))
+settles_seen n q m W ss default (Some s) is listed whole =
     let known = All-contains (λ (r : Statement). r.label.0 < length m.table) ss s is.known (listed s refl) in
     let covers = whole.covers (mapping_of m.table s) refl in
-    (known, rw (is.width, is.mappings, whole.is, covers))
+    (known, rw (whole.is, covers))
 
 label_given : (default : Option LabelId) (top : Option Statement) → IsSome default → IsSome (label_seen default top)
 label_given default None some = some
 label_given default (Some s) some = refl
+
+-- a map of statements has them at its addresses
+ordered_map : (W : ℕ) (ss : List Statement) (default : Option LabelId) (m : MapModel) → IsMapOf W ss default m
+    → (s : Mapping) → Contains m.mappings s → s.low ≤ s.high
+ordered_map W ss default m is s has = ordered_of m.table ss s (rw is.mappings at has)
 
 -- a block is not empty
 pub block_some : (W n q : ℕ) → first_of W n q ≤ last_of W n q
 block_some W n q = omega (arith, pow_pos (W - n))
 
 -- a block within a stretch is a leaf
-pub leaf_added : (W n q : ℕ) (ss : List Statement) (default : Option LabelId) (old : List Node) (first last : ℕ) (top : Option Statement)
-    → IsStretch W ss first last top → n ≤ W → first_of W n q ≤ last_of W n q → first ≤ first_of W n q → last_of W n q ≤ last
-    → AddsTree W ss default n q old (old ++ leaf_node (label_seen default top) ∷ [])
-leaf_added W n q ss default old first last top stretch within some from to = record {
-  tree = Tip (label_seen default top);
+pub leaf_added : (W n q : ℕ) (ss : List Statement) (default : Option LabelId) (old : List Node) (first last : ℕ) (label : Option LabelId)
+    → HasStretch W ss default first last label → n ≤ W → first_of W n q ≤ last_of W n q → first ≤ first_of W n q → last_of W n q ≤ last
+    → AddsTree W ss default n q old (old ++ leaf_node label ∷ [])
+leaf_added W n q ss default old first last label has within some from to = record {
+  tree = Tip label;
   nodes = refl;
   fits = λ m is. (
     omega (arith, is.width, within),
-    settles_seen W n q m ss default top is stretch.listed (stretch_whole W n q ss first last top m.table stretch some from to),
+    rw has.label_is (settles_seen n q m W ss default has.top is has.listed
+        (stretch_whole m n q first last (option_map (mapping_of m.table) has.top) (ordered_map W ss default m is)
+        (has.stretch m is.width is.mappings) (rw is.width some) (rw is.width from) (rw is.width to))),
   );
-  labelled = λ some. label_given default top some;
+  labelled = λ some. rw has.label_is (label_given default has.top some);
   few = omega arith;
 }
 
@@ -137,17 +147,22 @@ block_fits W n q first last within first_is last_is below =
     let next = next_multiple P q (2 ^ n) (omega (arith, below, size, first_is)) in
     omega (arith, next, size, last_is, pow_pos (W - n))
 
-pub is_split : (W n first last s_first s_last : ℕ) (ss : List Statement) (top : Option Statement) → IsStretch W ss s_first s_last top → n ≤ W
-    → IsBlock W first last n (block_number W n first) → s_first ≤ first → first ≤ s_last → s_last < last → IsSplit W n first last ss
-is_split W n first last s_first s_last ss top stretch within block begun here beyond =
+pub is_split : (v : Version) (n first last s_first s_last : ℕ) (ss : List Statement) (default label : Option LabelId)
+    → HasStretch (width_of v) ss default s_first s_last label → n ≤ width_of v
+    → IsBlock (width_of v) first last n (block_number (width_of v) n first) → s_first ≤ first → first ≤ s_last → s_last < last
+    → IsSplit (width_of v) n first last ss
+is_split v n first last s_first s_last ss default label has within block begun here beyond =
+    let W = width_of v in
     let q = block_number W n first in
     let first_is = block.first_is in
     let last_is = block.last_is in
     let ends : first_of W n q < last_of W n q = omega (arith, first_is, last_is, here, beyond) in
     let below = has_halves W n q within ends in
-    let fits = block_fits W n q first last within first_is last_is (omega (arith, here, stretch.within)) in
+    let fits = block_fits W n q first last within first_is last_is (omega (arith, here, has.within)) in
     let halves = are_halves W n q first last below block in
-    let unsettled = λ (table : List (List ℕ)) (z : Label). stretch_split W n q ss s_first s_last top table z stretch (omega (arith, begun, first_is))
+    let unsettled = λ (table : List (List ℕ)) (z : Label).
+    let m : MapModel = record { version = v; name = None; fallback = z; mappings = mappings_of table ss; table = table } in
+    stretch_split m n q s_first s_last (option_map (mapping_of table) has.top) (has.stretch m refl refl) (omega (arith, begun, first_is))
     (omega (arith, here, first_is)) (omega (arith, beyond, last_is)) (omega (arith, fits, last_is)) in
     let host : suc (W - suc n) ≡ W - n = omega (arith, below) in
     let sum = rw host at (split_sum W (W - suc n) n q [] [] ss (omega (arith, below)) (unsettled [] [])) in

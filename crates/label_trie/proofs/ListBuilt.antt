@@ -1,4 +1,4 @@
--- A prefix list's entries as statements that lie over one another, the short ones first.
+-- The trie of a prefix list's statements.
 use Rattle.std.proofs.Common.{◌≡◌, ℕ, suc, ◌+◌, ◌-◌, ◌*◌, ◌%◌, ◌^◌, ◌<◌, ◌≤◌, ◌==◌, List, [], ◌∷◌, None, option_and_then, map, length, refl, sym, ap, ◌∙◌, arith, All, Contains, slice_get}
 use Rattle.std.specs.List.{AllZip}
 use Rattle.std.specs.List.Sorted.{IsNonDecreasingBy, IsPermutation}
@@ -19,49 +19,23 @@ use Rattle.pmap_text.specs.PrefixList.{list_of, prefix_of}
 use Rattle.pmap_text.specs.declared.entry.Entry.{Entry}
 use Rattle.pmap_text.specs.declared.prefix_list.PrefixList.{PrefixList}
 use Rattle.pmap_text.specs.declared.statement.Statement.{Statement}
-use Rattle.label_trie.specs.Layers.{AreShortestFirst, HasStatement, IsMapOf, mappings_of, parted_count, parted_sum}
+use Rattle.pmap_text.specs.Painting.{AreShortestFirst, HasStatement}
+use Rattle.label_trie.specs.Layers.{IsMapOf, parted_count, parted_sum}
+use Rattle.pmap_text.specs.Stretches.{mappings_of}
 use Rattle.label_trie.specs.Nodes.{tree_of}
 use Rattle.label_trie.specs.Tree.{Tree, Fits, HasRoom, leaves_of}
 use Rattle.label_trie.specs.TrieModel.{IsDecidedLeaf, label_among}
 use Rattle.label_trie.specs.declared.node.Node.{Node}
 use Rattle.label_trie.proofs.Built.{IsGrown}
 use Rattle.pmap_text.proofs.Finds.{Contains-from_map, distinct_same}
-use Rattle.label_trie.proofs.Longest.{AreBlocks, label_seen, leaf_decided}
+use Rattle.pmap_text.proofs.ListPainted.{list_blocks, zip_all, zip_length, zip_mappings}
+use Rattle.pmap_text.proofs.Longest.{label_seen}
+use Rattle.label_trie.proofs.SeenLeaves.{IsSeenLeaf, leaf_decided, leaves_seen}
 use Rattle.label_trie.proofs.Lookup.{leaf_with}
 use Rattle.label_trie.proofs.NodeLeaves.{length_leaves}
-use Rattle.label_trie.proofs.Painted.{IsSeenLeaf, leaves_seen, painted, painting, rising, seen_permuted}
+use Rattle.pmap_text.proofs.Painted.{painting, rising, seen_permuted}
 use Rattle.label_trie.proofs.Parted.{parted_block}
 use Rattle.label_trie.proofs.Sums.{sum_most}
-
--- what holds of each entry holds of its statement in another form
-zip_all : (P : Entry → Type 0) (Q : Statement → Type 0) → ((e : Entry) (s : Statement) → HasStatement e s → P e → Q s) → (es : List Entry)
-    → (ss : List Statement) → AllZip HasStatement es ss → All P es → All Q ss
-zip_all P Q step [] [] all given = All-nil Q
-zip_all P Q step [] (s ∷ ss) all given = absurd all
-zip_all P Q step (e ∷ es) [] all given = absurd all
-zip_all P Q step (e ∷ es) (s ∷ ss) all given =
-    All-cons Q s ss (step e s all.0 (All-head P e es given)) (zip_all P Q step es ss all.1 (All-tail P e es given))
-
-zip_length : (es : List Entry) (ss : List Statement) → AllZip HasStatement es ss → length es ≡ length ss
-zip_length [] [] all = refl
-zip_length [] (s ∷ ss) all = absurd all
-zip_length (e ∷ es) [] all = absurd all
-zip_length (e ∷ es) (s ∷ ss) all = omega (arith, zip_length es ss all.1)
-
--- an entry's statement is the mapping of its block
-same_mapping : (v : Version) (table : List Label) (e : Entry) (s : Statement) → e.block.version ≡ v → HasStatement e s
-    → painted (width_of v) (prefix_of table e) ≡ mapping_of table s
-same_mapping v table e s same is = let label = is.label in let low = is.low in let high = is.high in rw (← same, label, low, high)
-
-zip_mappings : (v : Version) (table : List Label) (es : List Entry) (ss : List Statement) → AllZip HasStatement es ss
-    → All (λ e. e.block.version ≡ v) es → map (painted (width_of v)) (map (prefix_of table) es) ≡ mappings_of table ss
-zip_mappings v table [] [] all same = refl
-zip_mappings v table [] (s ∷ ss) all same = absurd all
-zip_mappings v table (e ∷ es) [] all same = absurd all
-zip_mappings v table (e ∷ es) (s ∷ ss) all same =
-    let here = same_mapping v table e s (All-head (λ (d : Entry). d.block.version ≡ v) e es same) all.0 in
-    let rest = zip_mappings v table es ss all.1 (All-tail (λ (d : Entry). d.block.version ≡ v) e es same) in
-    rw (here, rest)
 
 -- the statements of a list's entries
 pub record AreListLayers (l : PrefixList) (sorted : List Entry) (ss : List Statement) : Type 0 where
@@ -89,47 +63,6 @@ list_layers l sorted ss moved each =
       parted = sum_most W W ss (zip_all (λ e. e.block.version ≡ l.version) (λ s. parted_count W W 0 0 s.span ≤ W)
           (λ e s is same. parted_block W W 0 0 s.span e.block.len (block_number W e.block.len e.block.value) (omega arith) (rw (← same) e.block.len_in_range)
           (rw (← same) is.low) (rw (← same) is.high)) sorted ss each versions);
-    }
-
--- the entries' blocks are distinct and have no host bits, so entries of one block are one
-block_start : (v : Version) (e : Entry) → e.block.version ≡ v
-    → block_number (width_of v) e.block.len e.block.value * 2 ^ (width_of v - e.block.len) ≡ e.block.value
-block_start v e same =
-    let W = width_of v in
-    let free : e.block.value % 2 ^ (W - e.block.len) ≡ 0 = rw (← same) e.block.no_host_bit in
-    whole e.block.value (2 ^ (W - e.block.len)) (pow_pos (W - e.block.len)) free
-
-block_short : (v : Version) (e : Entry) → e.block.version ≡ v → e.block.len ≤ width_of v
-block_short v e same = rw (← same) e.block.len_in_range
-
-same_start : (W n a b : ℕ) → block_number W n a ≡ block_number W n b → block_number W n a * 2 ^ (W - n) ≡ a
-    → block_number W n b * 2 ^ (W - n) ≡ b → a ≡ b
-same_start W n a b same left right = sym left ∙ ap (λ (k : ℕ). k * 2 ^ (W - n)) same ∙ right
-
-same_entry : (l : PrefixList) (d e : Entry) → Contains l.entries d → Contains l.entries e → d.block.len ≡ e.block.len
-    → block_number (width_of l.version) d.block.len d.block.value ≡ block_number (width_of l.version) e.block.len e.block.value → d ≡ e
-same_entry l d e has has' bits number =
-    let W = width_of l.version in
-    let left = block_start l.version d (All-contains (λ e. e.block.version ≡ l.version) l.entries d l.one_version has) in
-    let right = block_start l.version e (All-contains (λ e. e.block.version ≡ l.version) l.entries e l.one_version has') in
-    let start : d.block.value ≡ e.block.value = same_start W e.block.len d.block.value e.block.value (rw bits at number) (rw bits at left) right in
-    distinct_same same_block l.entries d e l.blocks_distinct has has'
-    (and_from (d.block.value == e.block.value) (d.block.len == e.block.len) (eq-eqb d.block.value e.block.value start) (eq-eqb d.block.len e.block.len bits))
-    (and_from (e.block.value == d.block.value) (e.block.len == d.block.len) (eq-eqb e.block.value d.block.value (sym start)) (eq-eqb e.block.len d.block.len (sym bits)))
-
-list_blocks : (l : PrefixList) → AreBlocks (width_of l.version) (map (prefix_of l.labels) l.entries)
-list_blocks l =
-    let W = width_of l.version in
-    record {
-      short = All-map (λ p. p.bits ≤ W) (prefix_of l.labels) l.entries
-          (All-weaker (λ e. e.block.version ≡ l.version) (λ e. e.block.len ≤ W) (λ e same. block_short l.version e same) l.entries l.one_version);
-      alike = λ p r has has' bits number.
-          let d = Contains-from_map (prefix_of l.labels) l.entries p has in
-          let e = Contains-from_map (prefix_of l.labels) l.entries r has' in
-          let same = same_entry l d.0 e.0 d.1 e.1
-          (ap (λ (s : Prefix). s.bits) d.2 ∙ bits ∙ sym (ap (λ (s : Prefix). s.bits) e.2))
-          (ap (λ (s : Prefix). block_number W s.bits s.start) d.2 ∙ number ∙ sym (ap (λ (s : Prefix). block_number W s.bits s.start) e.2)) in
-          sym (ap (λ (s : Prefix). s.label) d.2) ∙ ap (λ (f : Entry). (prefix_of l.labels f).label) same ∙ ap (λ (s : Prefix). s.label) e.2;
     }
 
 -- what is seen at each leaf

@@ -13,6 +13,7 @@ use Rattle.pmap_text.specs.MapText.{text_at}
 use Rattle.label_trie.specs.TrieModel.{LeafModel, IsSettledLeaf, has_address, label_among}
 use Rattle.label_trie.specs.Tree.{Tree, Tip, Fork, leaves_of, HasRoom}
 use Rattle.pmap_text.proofs.Finds.{find_passes}
+use Rattle.pmap_text.proofs.Orders.{known_text}
 use Rattle.pmap_text.proofs.Settled.{map_label-settled}
 
 -- an address is in the half whose number, halved, is that of its block
@@ -86,22 +87,6 @@ label_below_high W low high h a within positive room odd =
     let inside : 2 * (a / 2 ^ h) + 1 ≡ block_number W (suc (W - h)) a = rw rest (sym here) in
     let bits : W - (h - 1) ≡ suc (W - h) = omega arith in
     rw (bits, here) (sym (label_among_high W low high (W - h) (a / 2 ^ h) h a (omega arith) positive room inside))
-
--- an address of a block is between its ends
-pub block_from : (W n q a : ℕ) → q ≡ block_number W n a → first_of W n q ≤ a
-block_from W n q a inside =
-    let whole = div-add-mod' a (2 ^ (W - n)) in rw inside (omega (arith, whole))
-
-pub block_to : (W n q a : ℕ) → q ≡ block_number W n a → a ≤ last_of W n q
-block_to W n q a inside =
-    let whole = div-add-mod' a (2 ^ (W - n)) in
-    let small = mod_below a (2 ^ (W - n)) (pow_pos (W - n)) in
-    rw inside (omega (arith, whole, small))
-
-pub known_text : (table : List Label) (number : ℕ) → number < length table → slice_get table number ≡ Some (text_at table number)
-known_text table number known =
-    let e = slice_get-get_or table number [] known in
-    e ∙ ap Some (sym (ap (λ (o : Option Label). unwrap_or o []) e))
 
 -- each address of the block is in a leaf
 pub leaf_found : (W : ℕ) (node : Tree) (n q h a : ℕ) → h + n ≡ W → HasRoom node h → q ≡ block_number W n a

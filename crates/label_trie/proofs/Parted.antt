@@ -7,7 +7,7 @@ use Rattle.prefix_keys.specs.Block.{first_of, last_of}
 use Rattle.prefix_keys.specs.declared.span.Span.{Span}
 use Rattle.label_trie.specs.Layers.{parted_count}
 use Rattle.label_trie.proofs.Blocks.{low_lies_in, high_lies_in, halves_ends}
-use Rattle.label_trie.proofs.Settled.{le_both, not_both}
+use Rattle.pmap_text.proofs.Orders.{le_both, not_both}
 
 -- a span that misses a block parts none of its blocks
 pub parted_missed : (W h n q : ℕ) (s : Span) → (s.high.value < first_of W n q) ⊎ (last_of W n q < s.low.value)

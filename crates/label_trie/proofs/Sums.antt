@@ -8,9 +8,10 @@ use Rattle.prefix_keys.specs.declared.span.Span.{Span}
 use Rattle.pmap_text.specs.MapModel.{Label, Mapping, last_such, meets, settled_by, spans_all}
 use Rattle.pmap_text.specs.MapText.{mapping_of}
 use Rattle.pmap_text.specs.declared.statement.Statement.{Statement}
-use Rattle.label_trie.specs.Layers.{mappings_of, parted_count, parted_sum}
+use Rattle.label_trie.specs.Layers.{parted_count, parted_sum}
+use Rattle.pmap_text.specs.Stretches.{mappings_of}
 use Rattle.label_trie.proofs.Blocks.{high_lies_in, low_lies_in}
-use Rattle.label_trie.proofs.Settled.{both_le}
+use Rattle.pmap_text.proofs.Orders.{both_le}
 use Rattle.label_trie.proofs.Parted.{parted_covered, parted_missed, parted_part}
 
 -- a span parts no more blocks of the halves than of the block

@@ -5,8 +5,9 @@ use Rattle.std.specs.Option.{ForSome}
 use Rattle.prefix_keys.specs.Block.{first_of, last_of}
 use Rattle.prefix_keys.specs.Version.{width_of}
 use Rattle.prefix_keys.specs.declared.span.Span.{Span}
-use Rattle.pmap_text.specs.MapModel.{Mapping, MapModel, last_such, spans}
-use Rattle.pmap_text.specs.MapText.{mapping_of, text_at}
+use Rattle.pmap_text.specs.MapModel.{MapModel}
+use Rattle.pmap_text.specs.MapText.{text_at}
+use Rattle.pmap_text.specs.Stretches.{mappings_of}
 use Rattle.pmap_text.specs.declared.label.LabelId.{LabelId}
 use Rattle.pmap_text.specs.declared.statement.Statement.{Statement}
 use Rattle.pmap_text.specs.declared.entry.Entry.{Entry}
@@ -15,28 +16,7 @@ use Rattle.label_trie.specs.Nodes.{encode}
 use Rattle.label_trie.specs.Tree.{Tree, Fits, IsLabelled, leaf_count}
 use Rattle.label_trie.specs.declared.node.Node.{Node}
 
--- Statements that lie over one another like layers: at each address the last that covers it is seen.
-
--- the statements as mappings to the texts of a label table
-abbrev pub mappings_of : List (List ℕ) → List Statement → List Mapping
-mappings_of table ss = map (mapping_of table) ss
-
--- what is seen at an address, as a mapping
-abbrev pub seen_at : List (List ℕ) → List Statement → ℕ → Option Mapping
-seen_at table ss a = last_such (spans a) (mappings_of table ss)
-
--- the label where the statement is seen, or none
-abbrev pub label_seen : Option LabelId → Option Statement → Option LabelId
-label_seen default None = default
-label_seen default (Some s) = Some s.label
-
--- Of addresses of W bits, at those from `first` to `last` the statement `top` is seen, or none. At the next address it is not.
-pub record IsStretch (W : ℕ) (ss : List Statement) (first last : ℕ) (top : Option Statement) : Type 0 where
-  pub ordered : first ≤ last
-  pub within : last < 2 ^ W
-  pub same : (table : List (List ℕ)) (a : ℕ) → first ≤ a → a ≤ last → seen_at table ss a ≡ option_map (mapping_of table) top
-  pub beyond : (table : List (List ℕ)) → last + 1 < 2 ^ W → seen_at table ss (last + 1) ≡ option_map (mapping_of table) top → ⊥
-  pub listed : (s : Statement) → top ≡ Some s → Contains ss s
+-- What the stretches of statements make of a block.
 
 -- of addresses of W bits, those from `first` to `last` are those of the block of n bits with the number q
 pub record IsBlock (W first last n q : ℕ) : Type 0 where
@@ -75,17 +55,3 @@ pub record AddsTree (W : ℕ) (ss : List Statement) (default : Option LabelId) (
   pub fits : (m : MapModel) → IsMapOf W ss default m → Fits m tree n q
   pub labelled : IsSome default → IsLabelled tree
   pub few : leaf_count tree ≤ 1 + parted_sum W (W - n) n q ss
-
--- a statement has the span and the label of an entry
-pub record HasStatement (e : Entry) (s : Statement) : Type 0 where
-  pub version : s.span.low.version ≡ e.block.version
-  pub low : s.span.low.value ≡ first_of (width_of e.block.version) e.block.len (number_of e.block)
-  pub high : s.span.high.value ≡ last_of (width_of e.block.version) e.block.len (number_of e.block)
-  pub label : s.label ≡ e.label
-
--- the statements are those of the entries, in an order in which none has a shorter block than an earlier one
-pub record AreShortestFirst (entries : List Entry) (ss : List Statement) : Type 0 where
-  pub sorted : List Entry
-  pub moved : IsPermutation entries sorted
-  pub rising : IsNonDecreasingBy (λ e. e.block.len) sorted
-  pub each : AllZip HasStatement sorted ss

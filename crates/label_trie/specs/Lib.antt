@@ -5,5 +5,4 @@ pub mod Parts
 pub mod Tree
 pub mod Nodes
 pub mod Layers
-pub mod Sweep
 pub mod Runs

@@ -10,7 +10,7 @@
 //! assert!(rt; trie.node_count() == 3);
 //! ```
 //!
-//! It stands on prefix_keys (addresses, statements' spans) and pmap_text (map texts, prefix lists and their label
+//! It stands on prefix_keys (blocks) and pmap_text (map texts, prefix lists, their stretches and label
 //! tables). A trie halves the address space until each piece, a leaf, has one label or none. The layer above may rely
 //! on this: the leaves are blocks in rising order that cover every address once. In the trie of a map each leaf is
 //! settled by the map and has the label that settles it, no block round a leaf is settled, and so the label that the
@@ -25,12 +25,9 @@
 mod cursor;
 mod growing;
 mod laws;
-mod layers;
 mod leaf;
 mod leaves;
 mod node;
-mod start;
-mod sweep;
 mod trie;
 
 pub use cursor::{Cursor, Parts};

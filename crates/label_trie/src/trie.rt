@@ -4,18 +4,16 @@ ghost use Rattle.pmap_text.specs.ListModel.{list_label};
 ghost use Rattle.pmap_text.specs.PrefixList.{list_of};
 ghost use Rattle.pmap_text.specs.MapModel.{map_label};
 ghost use Rattle.pmap_text.specs.MapText.{map_of};
-ghost use Rattle.label_trie.specs.Layers.{AddsTree, AreShortestFirst};
+ghost use Rattle.label_trie.specs.Layers.{AddsTree};
 ghost use Rattle.label_trie.specs.Leaf.{model_of};
 ghost use Rattle.label_trie.specs.TrieModel.{IsCut, IsDecidedLeaf, IsSettledLeaf, IsUndivided, label_in};
 
 use crate::cursor::{Cursor, Parts, cursor_at};
 use crate::growing::push_block;
-use crate::layers::Layers;
 use crate::leaf::Leaf;
 use crate::leaves::Leaves;
 use crate::node::Node;
-use crate::sweep::{Sweep, last_address};
-use pmap_text::{Entry, LabelId, MapText, PrefixList, Statement};
+use pmap_text::{LabelId, MapText, PrefixList, Stretches, last_address, statements_of_list};
 use prefix_keys::{Addr, Version, whole_space};
 use std::alloc::{AllocError, Global};
 use std::marker::Model;
@@ -59,15 +57,10 @@ impl Trie {
         ensures bounded { IfOk result (λ t. 2 * length t.leaves
             ≤ 2 + 4 * width_of map.now.version * length map.now.statements) }
     {
-        let statements = map.statements.as_slice();
-        let layers = Layers {
-            version: map.version,
-            default: Some(map.default),
-            statements,
-        };
+        let mut stretches = Stretches::of_map(alloc, map)?;
         Ok(Trie {
             version: map.version,
-            nodes: grow(alloc, &layers)?,
+            nodes: grow(alloc, &mut stretches)?,
         })
     }
 
@@ -83,15 +76,11 @@ impl Trie {
         ensures bounded { IfOk result (λ t. 2 * length t.leaves
             ≤ 2 + 2 * width_of list.now.version * length list.now.entries) }
     {
-        let statements = shortest_first(alloc, list.entries.as_slice())?;
-        let layers = Layers {
-            version: list.version,
-            default: None,
-            statements: statements.as_slice(),
-        };
+        let statements = statements_of_list(alloc, list)?;
+        let mut stretches = Stretches::new(alloc, list.version, None, statements.as_slice())?;
         Ok(Trie {
             version: list.version,
-            nodes: grow(alloc, &layers)?,
+            nodes: grow(alloc, &mut stretches)?,
         })
     }
 
@@ -169,23 +158,16 @@ impl Trie {
     }
 }
 
-// The nodes of the trie of some statements.
-fn grow(alloc: Global, layers: &Layers) -> Result<Vec<Node>, AllocError>
-    requires version { All (λ s. s.span.low.version ≡ layers.now.version) layers.now.statements.now }
-    requires few { length layers.now.statements.now ≤ 1000000 }
-    ensures { IfOk result (λ nodes.
-        AddsTree (width_of layers.now.version) layers.now.statements.now layers.now.default 0 0 [] nodes.items) }
+// The nodes of the trie of some statements, from a walk that stands at their first stretch.
+fn grow(alloc: Global, stretches: &mut Stretches) -> Result<Vec<Node>, AllocError>
+    requires few { length stretches.old.statements ≤ 1000000 }
+    requires first { stretches.old.first ≡ 0 }
+    ensures { IfOk result (λ nodes. AddsTree (width_of stretches.old.version) stretches.old.statements
+        stretches.old.default 0 0 [] nodes.items) }
 {
     let mut nodes = Vec::new(alloc);
-    let mut sweep = Sweep::new(alloc, layers)?;
-    push_block(
-        &mut nodes,
-        &mut sweep,
-        layers,
-        0,
-        0,
-        last_address(layers.version),
-    )?;
+    let last = last_address(stretches.version());
+    push_block(&mut nodes, stretches, 0, 0, last)?;
     Ok(nodes)
 }
 
@@ -205,20 +187,4 @@ fn push_leaves(leaves: &mut Leaves, place: &Cursor) -> Result<(), AllocError>
             push_leaves(leaves, &high)
         }
     }
-}
-
-// The entries as statements, in an order in which those of shorter blocks come before those of longer ones.
-fn shortest_first(alloc: Global, entries: &[Entry]) -> Result<Vec<Statement>, AllocError>
-    ensures { IfOk result (λ statements. AreShortestFirst entries.now statements.items) }
-{
-    let mut sorted = Vec::from_slice(alloc, entries)?;
-    sorted.sort_by_key(|entry| entry.block.len)?;
-    let mut statements = Vec::with_capacity(alloc, sorted.len())?;
-    for entry in sorted.as_slice() {
-        statements.push(Statement {
-            span: entry.block.span(),
-            label: entry.label,
-        })?;
-    }
-    Ok(statements)
 }

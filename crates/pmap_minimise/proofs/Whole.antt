@@ -20,6 +20,7 @@ use Rattle.pmap_cert.specs.declared.node.Node.{Node}
 use Rattle.label_trie.specs.Leaf.{number_of}
 use Rattle.label_trie.specs.TrieModel.{IsSettledLeaf, IsUndivided, LeafModel}
 use Rattle.pmap_cert.specs.CertificateForm.{HasTextForm}
+use Rattle.pmap_cert.proofs.Plain.{plain-tree_of}
 use Rattle.pmap_cert.proofs.Written.{node_form}
 use Rattle.pmap_text.specs.ListEntries.{HasDistinctBlocks}
 use Rattle.pmap_cert.specs.MinimalPair.{HasItsLabels, IsMinimalPair, StandsFor, entries_of}
@@ -49,13 +50,14 @@ own-labels m = record {
 
 -- the list of a root that stands for the address space, with a certificate of that root, is the map's minimal one
 pub minimal : (m : MapModel) (l : ListModel) (c : CertificateModel) (root : Tree) → StandsFor m root 0 0 → l ≡ shortest_list m root
-    → c ≡ record { version = m.version; table = m.table; root = root } → IsMinimalPair m l c
+    → c ≡ record { format = 1; version = m.version; table = m.table; root = root } → IsMinimalPair m l c
 minimal m l c root stands list certificate =
     subst (λ (k : ListModel). IsMinimalPair m k c) (sym list)
     (subst (λ (d : CertificateModel). IsMinimalPair m (shortest_list m root) d) (sym certificate) pair)
   where
-    pair : IsMinimalPair m (shortest_list m root) (record { version = m.version; table = m.table; root = root })
+    pair : IsMinimalPair m (shortest_list m root) (record { format = 1; version = m.version; table = m.table; root = root })
     pair = record {
+      certificate_format = refl;
       certificate_version = refl;
       certificate_table = refl;
       root = stands;
@@ -67,7 +69,7 @@ minimal m l c root stands list certificate =
 
 pub shortest-form : (m : MapModel) (root : Tree) → StandsFor m root 0 0 → HasItsLabels m → HasListForm (shortest_list m root)
 shortest-form m root stands inside =
-    list-form m (shortest_list m root) (record { version = m.version; table = m.table; root = root }) (minimal m _ _ root stands refl refl) inside
+    list-form m (shortest_list m root) (record { format = 1; version = m.version; table = m.table; root = root }) (minimal m _ _ root stands refl refl) inside
 
 -- the entries of the root, from the whole address space down
 pub whole-entries : (m : MapText) (root : Node) (whole : Block) (old new : List Entry) → IsWhole m.version whole → IsLabelTable m.labels
@@ -125,9 +127,9 @@ module _ (m : MapText) (items : List Entry) (l : ListModel) (ok : IsLabelTable m
 
   pub listed-pair : (c : CertificateModel) × IsMinimalPair (map_of m) l c × HasTextForm c
   listed-pair = (
-    record { version = m.version; table = m.labels; root = root_tree },
-    minimal (map_of m) l (record { version = m.version; table = m.labels; root = root_tree }) root_tree shortest.stands listed-is refl,
-    record { table = ok; root = node_form m.labels ok shortest.root (width_of m.version) shortest.form },
+    record { format = 1; version = m.version; table = m.labels; root = root_tree },
+    minimal (map_of m) l (record { format = 1; version = m.version; table = m.labels; root = root_tree }) root_tree shortest.stands listed-is refl,
+    record { format = refl; plain = plain-tree_of m.labels shortest.root; table = ok; root = node_form m.labels ok shortest.root (width_of m.version) shortest.form },
   )
 
   pub listed-form : HasListForm l

@@ -31,7 +31,7 @@ use Rattle.pmap_text.specs.declared.fault.MapFault.{MapFault}
 use Rattle.pmap_text.specs.declared.form.Form.{Form}
 use Rattle.pmap_text.specs.declared.form.Form.TheVariants as form
 use Rattle.pmap_text.proofs.ListBlocks.{distinct-list_of}
-use Rattle.label_trie.proofs.Lookup.{known_text}
+use Rattle.pmap_text.proofs.Orders.{known_text}
 use Rattle.pmap_text.proofs.ListLabels.{label-longest, label-same_prefixes, longest-match, once-distinct, same_prefixes-permuted}
 use Rattle.pmap_print.specs.List.{entry_line, list_lines, list_text, mode_line, name_lines}
 use Rattle.pmap_print.specs.Order.{in_order, starts_alike}

@@ -1,19 +1,19 @@
 -- The lines of groups, one by one.
-use Rattle.std.proofs.Common.{ℕ, zero, suc, Bool, true, false, Some, None, subst, drop, if◌then◌else◌, ◌≡◌, ◌+◌, ◌<◌, ◌≤◌, ◌∙◌, List, [], ◌∷◌, ◌++◌, All, length, map, take, get_or, add-one, ap, sym, refl, arith}
+use Rattle.std.proofs.Common.{ℕ, suc, Bool, true, false, subst, drop, if◌then◌else◌, ◌≡◌, ◌+◌, ◌<◌, ◌≤◌, ◌∙◌, List, [], ◌∷◌, ◌++◌, All, length, map, take, get_or, add-one, ap, sym, refl, arith}
 use Rattle.std.specs.Prelude.{decimal}
-use Rattle.std.specs.List.{slice_get}
-use Rattle.std.proofs.lemmas.List.{append-nil, drop_all, get_or-map, length-append, length-map, map_push, take_all, take_more}
-use Rattle.std.proofs.lemmas.Option.{get_or_from_slice_get, none-some, slice_get_within}
+use Rattle.std.proofs.lemmas.List.{append-nil, append_assoc, drop_all, get_or-map, length-append, length-map, map_push, take_all}
 use Rattle.std.proofs.lemmas.List.Elements.{All-cons, All-head, All-nil, All-tail}
 use Rattle.flow_uniq.specs.declared.field.KeyField.{KeyField}
 use Rattle.flow_uniq.specs.declared.group.Group.{Group}
 use Rattle.flow_uniq.specs.Field.{field_name}
 use Rattle.flow_uniq.specs.Groups.{GroupModel}
-use Rattle.flow_uniq.specs.Kept.{group_model}
-use Rattle.flow_uniq.specs.Parts.{part_model}
+use Rattle.flow_uniq.specs.Kept.{group_model, key_model}
+use Rattle.flow_uniq.specs.Key.{Key, KeyPartModel}
 use Rattle.flow_uniq.specs.Sorted.{in_order, is_before, shown_groups, with_in_order}
 use Rattle.pmap_print.specs.Groups.{group_fields, group_lines, group_titles, part_text, total_titles}
-use Rattle.pmap_print.specs.Table.{filled_line}
+use Rattle.pmap_print.specs.Cell.{cell_text}
+use Rattle.pmap_print.specs.Table.{Line, filled_line}
+use Rattle.pmap_print.specs.declared.cell.Cell.{Cell}
 use Rattle.pmap_print.proofs.Filled.{filled_line-same}
 
 pub length-group_titles : (fields : List KeyField) → length (group_titles fields) ≡ length fields + 3
@@ -25,20 +25,14 @@ length-group_fields g count h = omega (arith, length-append (map part_text g.key
 pub length-group_lines : (fields : List KeyField) (groups : List Group) → length (group_lines fields (map group_model groups)) ≡ suc (length groups)
 length-group_lines fields groups = omega (arith, length-map (map group_model groups) group_fields, length-map groups group_model)
 
--- each key has so many parts
-pub parts_at : (count : ℕ) (groups : List Group) (i : ℕ) (g : Group) → All (λ x. length x.key.now ≡ count) groups
-    → g ≡ get_or groups i g → i < length groups → length (group_model g).key ≡ count
-parts_at count groups i g all is h =
-    length-map g.key.now part_model ∙ ap (λ (x : Group). length x.key.now) is ∙ all i g h
-
 -- the line of a group that stands at a place
-pub group_lines-group : (fields : List KeyField) (groups : List Group) (i : ℕ) (g : Group) → g ≡ get_or groups i g → i < length groups
-    → get_or (group_lines fields (map group_model groups)) (i + 1) [] ≡ group_fields (group_model g)
-group_lines-group fields groups i g is h =
-    let inside : i < length (map group_model groups) = omega (arith, length-map groups group_model) in
+pub group_lines-group : (fields : List KeyField) (groups : List Group) (i : ℕ) (d : Group) → i < length groups
+    → get_or (group_lines fields (map group_model groups)) (i + 1) [] ≡ group_fields (group_model (get_or groups i d))
+group_lines-group fields groups i d h =
+    let inside : i < length (map group_model groups) = omega (arith, length-map groups group_model, h) in
     rw add-one (
-    get_or-map group_fields (map group_model groups) i (group_model g) [] inside
-    ∙ ap group_fields (get_or-map group_model groups i g (group_model g) h ∙ ap group_model (sym is))
+    get_or-map group_fields (map group_model groups) i (group_model d) [] inside
+    ∙ ap group_fields (get_or-map group_model groups i d (group_model d) h)
     )
 
 -- all lines, behind the last group
@@ -48,18 +42,17 @@ all_group_lines fields groups i h =
     take_all (i + 1) (group_lines fields (map group_model groups)) (omega (arith, length-group_lines fields groups))
 
 -- lines of groups are filled alike by widths that agree at all columns
-groups-same : (w v : ℕ → ℕ) (count : ℕ) (groups : List Group) → All (λ x. length x.key.now ≡ count) groups
+groups-same : (w v : ℕ → ℕ) (count : ℕ) (groups : List Group) → All (λ x. length (key_model x.key) ≡ count) groups
     → ((k : ℕ) → k < count + 3 → w k ≡ v k)
     → map (filled_line w) (map group_fields (map group_model groups)) ≡ map (filled_line v) (map group_fields (map group_model groups))
 groups-same w v count [] all same = refl
 groups-same w v count (g ∷ groups) all same =
-    let parts : length (group_model g).key ≡ count =
-    length-map g.key.now part_model ∙ All-head (λ (x : Group). length x.key.now ≡ count) g groups all in
+    let parts : length (group_model g).key ≡ count = All-head (λ (x : Group). length (key_model x.key) ≡ count) g groups all in
     let first = filled_line-same w v (count + 3) (group_fields (group_model g)) (length-group_fields (group_model g) count parts) same in
-    let rest = groups-same w v count groups (All-tail (λ (x : Group). length x.key.now ≡ count) g groups all) same in
+    let rest = groups-same w v count groups (All-tail (λ (x : Group). length (key_model x.key) ≡ count) g groups all) same in
     (λ i. first i ∷ rest i)
 
-pub group_lines-same : (w v : ℕ → ℕ) (fields : List KeyField) (groups : List Group) → All (λ x. length x.key.now ≡ length fields) groups
+pub group_lines-same : (w v : ℕ → ℕ) (fields : List KeyField) (groups : List Group) → All (λ x. length (key_model x.key) ≡ length fields) groups
     → ((k : ℕ) → k < length fields + 3 → w k ≡ v k)
     → map (filled_line w) (group_lines fields (map group_model groups)) ≡ map (filled_line v) (group_lines fields (map group_model groups))
 group_lines-same w v fields groups all same =
@@ -76,18 +69,15 @@ whole_slice len new given old n m e =
     ap (λ (l : List ℕ). take len (new ++ l)) (drop_all (length new) old short)
     ∙ ap (λ (l : List ℕ). take len l) (append-nil new) ∙ take_all len new all
 
--- one more group
-pub shown-more : (items new : List Group) (x : Group) (groups : List GroupModel) (i : ℕ) → map group_model items ≡ take i groups
-    → new ≡ items ++ x ∷ [] → slice_get groups i ≡ Some (group_model x) → map group_model new ≡ take (i + 1) groups
-shown-more items new x groups i so_far h at =
-    ap (map group_model) h ∙ map_push group_model items x
-    ∙ (λ j. so_far j ++ sym (get_or_from_slice_get groups i (group_model x) (group_model x) at) j ∷ [])
-    ∙ sym (take_more groups i (group_model x) (slice_get_within groups i (group_model x) at))
-
-pub none_past : (groups : List GroupModel) (i : ℕ) → slice_get groups i ≡ None → length groups ≤ i
-none_past [] i e = omega arith
-none_past (g ∷ groups) zero e = absurd (none-some g (sym e))
-none_past (g ∷ groups) (suc i) e = omega (arith, none_past groups i e)
+-- one more cell of a key
+pub more_cell : (cells new : List Cell) (x : Cell) (p : KeyPartModel) (rest behind : Key) (all : Line) → map cell_text cells ++ map part_text rest ≡ all
+    → rest ≡ p ∷ behind → cell_text x ≡ part_text p → new ≡ cells ++ x ∷ [] → map cell_text new ++ map part_text behind ≡ all
+more_cell cells new x p rest behind all so_far is cell h =
+    ap (λ (l : List Cell). map cell_text l ++ map part_text behind) h
+    ∙ ap (λ (l : Line). l ++ map part_text behind) (map_push cell_text cells x)
+    ∙ append_assoc (map cell_text cells) (cell_text x ∷ []) (map part_text behind)
+    ∙ (λ i. map cell_text cells ++ cell i ∷ map part_text behind)
+    ∙ ap (λ (k : Key). map cell_text cells ++ map part_text k) (sym is) ∙ so_far
 
 -- what all elements have, they have in order
 module _ {X : Type 0} (lt : X → X → Bool) (P : X → Type 0) where
@@ -110,11 +100,10 @@ shown_all count true groups all = All-in_order is_before (λ (g : GroupModel). l
 shown_all count false groups all = all
 
 pub shown_parts : (count : ℕ) (sorted : Bool) (groups : List GroupModel) (shown : List Group) → All (λ g. length g.key ≡ count) groups
-    → map group_model shown ≡ shown_groups sorted groups → All (λ x. length x.key.now ≡ count) shown
+    → map group_model shown ≡ shown_groups sorted groups → All (λ x. length (key_model x.key) ≡ count) shown
 shown_parts count sorted groups shown all e = λ k d h.
     let each : All (λ g. length g.key ≡ count) (map group_model shown)
     = subst (All (λ (g : GroupModel). length g.key ≡ count)) (sym e) (shown_all count sorted groups all) in
     let within : k < length (map group_model shown) = omega (arith, length-map shown group_model, h) in
-    sym (length-map (get_or shown k d).key.now part_model)
-    ∙ ap (λ (g : GroupModel). length g.key) (sym (get_or-map group_model shown k d (group_model d) h))
+    ap (λ (g : GroupModel). length g.key) (sym (get_or-map group_model shown k d (group_model d) h))
     ∙ each k (group_model d) within

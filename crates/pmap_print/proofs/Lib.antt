@@ -3,10 +3,8 @@ pub mod Lines
 pub mod Stretches
 pub mod Order
 pub mod WordLines
-pub mod RunTexts
 pub mod LastMatch
 pub mod ReadLines
-pub mod LeafRuns
 pub mod ReadList
 pub mod Again
 pub mod MapTexts

@@ -1,20 +1,31 @@
--- The stretches of leaves, neighbours of one label joined, are the runs of the labels that the leaves give.
-use Rattle.std.proofs.Common.{◌≡◌, ◌≢◌, ℕ, ◌+◌, ◌-◌, ◌^◌, ◌<◌, ◌≤◌, ◌==◌, ◌⊎◌, inl, inr, Bool, true, false, cond, List, [], ◌∷◌, Option, Some, None, All, refl, sym, ◌∙◌, ap, subst, arith, length, map, option_and_then, slice_get, pow_pos}
+-- Stretches of a walk, neighbours of one label joined, are the runs of the labels that the statements give.
+use Rattle.std.proofs.Common.{◌≡◌, ◌≢◌, ℕ, ◌+◌, ◌^◌, ◌<◌, ◌≤◌, ◌==◌, ◌⊎◌, inl, inr, Bool, true, false, List, [], ◌∷◌, ◌++◌, Option, Some, None, All, Contains, refl, sym, ◌∙◌, ap, subst, arith, length, option_and_then, option_map, slice_get, append_assoc}
+use Rattle.std.proofs.lemmas.List.{append-nil}
+use Rattle.std.specs.List.{flat_map}
 use Rattle.std.specs.Option.{ForSome}
-use Rattle.std.proofs.lemmas.Bool.{both_ways, cases_lt, eq-eqb, eqb-true, ne_eqb}
-use Rattle.std.proofs.lemmas.List.Elements.{All-head, All-tail}
-use Rattle.prefix_keys.specs.Block.{block_number, first_of, last_of}
+use Rattle.std.proofs.lemmas.Bool.{both_ways, cases_lt, eq-eqb}
+use Rattle.std.proofs.lemmas.List.Elements.{All-contains}
+use Rattle.std.proofs.lemmas.Grind.{flat_map-append}
+use Rattle.std.proofs.lemmas.List.Folds.{flat_map-map}
+use Rattle.std.proofs.lemmas.Bool.{eqb-true}
+use Rattle.std.proofs.lemmas.Option.{none-some, same_Some}
+use Rattle.prefix_keys.specs.Version.{width_of}
+use Rattle.prefix_keys.specs.declared.version.Version.{Version}
 use Rattle.pmap_text.specs.Label.{IsLabelTable}
-use Rattle.pmap_text.specs.MapModel.{Label}
-use Rattle.pmap_text.specs.MapText.{text_at}
-use Rattle.pmap_text.proofs.Blocks.{address-between, address-last}
-use Rattle.label_trie.specs.Runs.{AreRuns, DiffersFromNext, HasOneLabel, Run}
-use Rattle.label_trie.specs.TrieModel.{IsCut, LeafModel, has_address, label_among}
-use Rattle.label_trie.proofs.Lookup.{known_text}
-use Rattle.pmap_print.specs.Stretches.{Numbered, is_same_number, joined, leaf_view, run_of}
+use Rattle.pmap_text.specs.MapModel.{Label, MapModel, last_such, spans}
+use Rattle.pmap_text.specs.MapText.{mapping_of, text_at}
+use Rattle.pmap_text.specs.Stretches.{HasSameStatements, StandsAt, StretchesModel, label_seen, mappings_of, text_or, text_won}
+use Rattle.pmap_text.specs.declared.label.LabelId.{LabelId}
+use Rattle.pmap_text.specs.declared.statement.Statement.{Statement}
+use Rattle.pmap_text.proofs.Orders.{known_text}
+use Rattle.label_trie.specs.Runs.{AreRuns, AreRunsOf, HasOneLabel, Run}
+use Rattle.pmap_print.specs.Runs.{IsRunsText, run_fields, run_text, run_titles, runs_text}
+use Rattle.pmap_print.specs.Stretches.{IsPrinted, IsPrintedTo, Numbered, is_same_number, run_of, stretch_view, walk_view}
+use Rattle.pmap_print.specs.declared.runs.Stretch.{Stretch}
+use Rattle.pmap_print.specs.Table.{Text, line_text}
 
 -- one number or another
-same-number : (x y : Option ℕ) → is_same_number x y ≡ true → x ≡ y
+pub same-number : (x y : Option ℕ) → is_same_number x y ≡ true → x ≡ y
 same-number None None e = refl
 same-number None (Some j) e = absurd (both_ways false refl e)
 same-number (Some i) None e = absurd (both_ways false refl e)
@@ -33,32 +44,15 @@ other-text table is i j ki kj ne same =
     let e : i ≡ j = cc in
     both_ways (i == j) ne (eq-eqb i j e)
 
-other-label : (table : List Label) → IsLabelTable table → (x y : Option ℕ) → ForSome x (λ id. id < length table) → ForSome y (λ id. id < length table)
+pub other-label : (table : List Label) → IsLabelTable table → (x y : Option ℕ) → ForSome x (λ id. id < length table) → ForSome y (λ id. id < length table)
     → is_same_number x y ≡ false → option_and_then (slice_get table) x ≢ option_and_then (slice_get table) y
 other-label table is None None kx ky e = absurd (both_ways true e refl)
 other-label table is None (Some j) kx ky e = none-text table j (ky j refl)
 other-label table is (Some i) None kx ky e = λ same. none-text table i (kx i refl) (sym same)
 other-label table is (Some i) (Some j) kx ky e = other-text table is i j (kx i refl) (ky j refl) e
 
--- stretches that follow one another from an address to another, each with its label at all of its addresses
-abbrev pub Follow : (ℕ → Option Label) → List Label → ℕ → ℕ → List Numbered → Type 0
-Follow f table from to [] = from ≡ to
-Follow f table from to (s ∷ ss) =
-    (s.low ≡ from) × HasOneLabel f (run_of table s) × ForSome s.label (λ id. id < length table) × Follow f table (s.high + 1) to ss
-
--- what differs from a stretch differs from what it is joined to
-joined-differs : (table : List Label) (r : Run) (s : Numbered) (ss : List Numbered) → r.label ≢ option_and_then (slice_get table) s.label
-    → DiffersFromNext r (map (run_of table) (joined s ss))
-joined-differs table r s [] ne = ne
-joined-differs table r s (t ∷ ts) ne = by (is_same_number s.label t.label) (joined-differs table r (record s { high = t.high }) ts ne)
-  where
-    by : (b : Bool) → DiffersFromNext r (map (run_of table) (joined (record s { high = t.high }) ts))
-        → DiffersFromNext r (map (run_of table) (cond b (joined (record s { high = t.high }) ts) (s ∷ joined t ts)))
-    by true ih = ih
-    by false ih = ne
-
 -- a stretch that another of the same label is joined to
-one-joined : (f : ℕ → Option Label) (table : List Label) (s t : Numbered) → HasOneLabel f (run_of table s) → HasOneLabel f (run_of table t)
+pub one-joined : (f : ℕ → Option Label) (table : List Label) (s t : Numbered) → HasOneLabel f (run_of table s) → HasOneLabel f (run_of table t)
     → t.low ≡ s.high + 1 → s.label ≡ t.label → HasOneLabel f (run_of table (record s { high = t.high }))
 one-joined f table s t one more follows same =
     record { some = omega (arith, one.some, more.some, follows); each = λ a ge le. by a ge le (cases_lt s.high a) }
@@ -67,83 +61,192 @@ one-joined f table s t one more follows same =
     by a ge le (inl behind) = more.each a (omega (arith, follows, behind)) le ∙ ap (option_and_then (slice_get table)) (sym same)
     by a ge le (inr within) = one.each a ge within
 
--- joined stretches are runs
-pub joined-runs : (f : ℕ → Option Label) (table : List Label) → IsLabelTable table → (to : ℕ) (s : Numbered) (ss : List Numbered)
-    → HasOneLabel f (run_of table s) → ForSome s.label (λ id. id < length table) → Follow f table (s.high + 1) to ss
-    → AreRuns f s.low to (map (run_of table) (joined s ss))
-joined-runs f table is to s [] one known follow = (refl, one, tt, follow)
-joined-runs f table is to s (t ∷ ts) one known follow =
-    by (is_same_number s.label t.label) refl (joined-runs f table is to (record s { high = t.high }) ts) (joined-runs f table is to t ts)
-  where
-    by : (b : Bool) → is_same_number s.label t.label ≡ b
-        → (HasOneLabel f (run_of table (record s { high = t.high })) → ForSome s.label (λ id. id < length table) → Follow f table (t.high + 1) to ts
-        → AreRuns f s.low to (map (run_of table) (joined (record s { high = t.high }) ts)))
-        → (HasOneLabel f (run_of table t) → ForSome t.label (λ id. id < length table) → Follow f table (t.high + 1) to ts
-        → AreRuns f t.low to (map (run_of table) (joined t ts)))
-        → AreRuns f s.low to (map (run_of table) (cond b (joined (record s { high = t.high }) ts) (s ∷ joined t ts)))
-    by true e merged apart =
-        merged (one-joined f table s t one follow.1 follow.0 (same-number s.label t.label e)) known follow.3
-    by false e merged apart = (
-      refl,
-      one,
-      joined-differs table (run_of table s) t ts (other-label table is s.label t.label known follow.2 e),
-      subst (λ from. AreRuns f from to (map (run_of table) (joined t ts))) follow.0 (apart follow.1 follow.2 follow.3),
-    )
+-- the label of a stretch has a text, and that is the text of the statement that wins there, or of the default
+known_label : (table : List Label) (ss : List Statement) (default : Option LabelId) (top : Option Statement) → All (λ s. s.label.0 < length table) ss
+    → ForSome default (λ id. id.0 < length table) → ((s : Statement) → top ≡ Some s → Contains ss s)
+    → ForSome (label_seen default top) (λ id. id.0 < length table)
+known_label table ss default None known fallback listed = fallback
+known_label table ss default (Some s) known fallback listed =
+    λ id is. subst (λ (i : LabelId). i.0 < length table) (same_Some s.label id is)
+    (All-contains (λ (r : Statement). r.label.0 < length table) ss s known (listed s refl))
 
--- the leaf has its addresses and none behind them
-has-within : (W : ℕ) (leaf : LeafModel) (a : ℕ) → first_of W leaf.bits leaf.number ≤ a → a ≤ last_of W leaf.bits leaf.number
-    → has_address W a leaf ≡ true
-has-within W leaf a low high = eq-eqb leaf.number (block_number W leaf.bits a) (sym (address-between W leaf.bits leaf.number a low high))
+number_of_known : (n : ℕ) (label : Option LabelId) → ForSome label (λ id. id.0 < n) → ForSome (option_map (λ id. id.0) label) (λ i. i < n)
+number_of_known n None known = λ i e. absurd (none-some i e)
+number_of_known n (Some id) known = λ i e. subst (λ (j : ℕ). j < n) (same_Some id.0 i e) (known id refl)
 
-has-behind : (W : ℕ) (leaf : LeafModel) (a : ℕ) → last_of W leaf.bits leaf.number < a → has_address W a leaf ≡ false
-has-behind W leaf a behind =
-    ne_eqb leaf.number (block_number W leaf.bits a) (λ same. omega (arith, behind, address-last W leaf.bits leaf.number a (sym same)))
+label_text : (table : List Label) (default : Option LabelId) (top : Option Statement) → ForSome (label_seen default top) (λ id. id.0 < length table)
+    → text_or (option_map (mapping_of table) top) (option_map (λ id. text_at table id.0) default)
+    ≡ option_and_then (slice_get table) (option_map (λ id. id.0) (label_seen default top))
+label_text table None None known = refl
+label_text table (Some id) None known = sym (known_text table id.0 (known id refl))
+label_text table default (Some s) known = sym (known_text table s.label.0 (known s.label refl))
 
--- the label of an address of the first leaf, and of one behind it
-label-within : (W : ℕ) (leaf : LeafModel) (leaves : List LeafModel) (a : ℕ) → has_address W a leaf ≡ true
-    → label_among W (leaf ∷ leaves) a ≡ leaf.label
-label-within W leaf leaves a e = rw e refl
+pub walk_known : (s : StretchesModel) (table : List Label) → StandsAt s → All (λ r. r.label.0 < length table) s.statements
+    → ForSome s.default (λ id. id.0 < length table) → ForSome (walk_view s).label (λ i. i < length table)
+walk_known s table stands known fallback =
+    let is = stands.label_is in
+    number_of_known (length table) s.label (rw is (known_label table s.statements s.default stands.top known fallback stands.listed))
 
-label-behind : (W : ℕ) (leaf : LeafModel) (leaves : List LeafModel) (a : ℕ) → has_address W a leaf ≡ false
-    → label_among W (leaf ∷ leaves) a ≡ label_among W leaves a
-label-behind W leaf leaves a e = rw e refl
+pub walk_label : (s : StretchesModel) (table : List Label) → StandsAt s → All (λ r. r.label.0 < length table) s.statements
+    → ForSome s.default (λ id. id.0 < length table) → HasOneLabel (text_won table s.default s.statements) (run_of table (walk_view s))
+walk_label s table stands known fallback =
+    let m : MapModel = record { version = s.version; name = None; fallback = []; mappings = mappings_of table s.statements; table = table } in
+    let stretch = stands.stretch m refl refl in
+    let is = stands.label_is in
+    record {
+      some = stands.ordered;
+      each = λ a ge le.
+          let seen : last_such (spans a) (mappings_of table s.statements) ≡ option_map (mapping_of table) stands.top = stretch.same a ge le in
+          rw (seen, is)
+          (label_text table s.default stands.top (known_label table s.statements s.default stands.top known fallback stands.listed));
+    }
 
--- a leaf has an address
-some-address : (W n q : ℕ) → first_of W n q ≤ last_of W n q
-some-address W n q = let some : 0 < 2 ^ (W - n) = pow_pos (W - n) in omega (arith, some)
-
--- the label text of an address among leaves
-abbrev pub text_among : ℕ → List Label → List LeafModel → ℕ → Option Label
-text_among W table leaves a = option_and_then (slice_get table) (label_among W leaves a)
-
--- leaves that cut the addresses follow one another, each with its label
-one-leaf : (W : ℕ) (table : List Label) (f : ℕ → Option Label) (leaf : LeafModel) (leaves : List LeafModel)
-    → ((a : ℕ) → first_of W leaf.bits leaf.number ≤ a → f a ≡ text_among W table (leaf ∷ leaves) a)
-    → HasOneLabel f (run_of table (leaf_view W leaf))
-one-leaf W table f leaf leaves agree = record {
-  some = some-address W leaf.bits leaf.number;
-  each = λ a ge le. agree a ge ∙ ap (option_and_then (slice_get table)) (label-within W leaf leaves a (has-within W leaf a ge le));
+-- the first stretch
+pub printed_first : (f : ℕ → Option Label) (table : List Label) (v : Version) (end : ℕ) (out : Text) (s : Numbered) → s.low ≡ 0
+    → IsPrinted f table v end out out s
+printed_first f table v end out s first = record {
+  runs = [];
+  text = sym (append-nil out);
+  goes_on = λ high rest are. subst (λ (from : ℕ). AreRuns f from end (run_of table (record s { high = high }) ∷ rest)) first are;
 }
 
-pub leaves-follow : (W : ℕ) (table : List Label) (f : ℕ → Option Label) (from to : ℕ) (leaves : List LeafModel) → IsCut W from to leaves
-    → All (λ leaf. ForSome leaf.label (λ id. id < length table)) leaves
-    → ((a : ℕ) → from ≤ a → f a ≡ text_among W table leaves a) → Follow f table from to (map (leaf_view W) leaves)
-leaves-follow W table f from to [] cut known agree = cut
-leaves-follow W table f from to (leaf ∷ leaves) cut known agree = (
-  cut.1,
-  one-leaf W table f leaf leaves (λ a ge. agree a (omega (arith, ge, cut.1))),
-  All-head (λ (l : LeafModel). ForSome l.label (λ id. id < length table)) leaf leaves known,
-  leaves-follow W table f (last_of W leaf.bits leaf.number + 1) to leaves cut.2 (All-tail (λ (l : LeafModel). ForSome l.label (λ id. id < length table)) leaf leaves known)
-      (λ a ge. agree a (omega (arith, ge, cut.1, some-address W leaf.bits leaf.number))
-      ∙ ap (option_and_then (slice_get table)) (label-behind W leaf leaves a (has-behind W leaf a (omega (arith, ge))))),
-)
+-- one that is joined
+pub printed_joined : (f : ℕ → Option Label) (table : List Label) (v : Version) (end high : ℕ) (before out : Text) (s : Numbered)
+    → IsPrinted f table v end before out s → IsPrinted f table v end before out (record s { high = high })
+printed_joined f table v end high before out s is = record { runs = is.runs; text = is.text; goes_on = is.goes_on }
 
--- the runs of leaves
-pub leaves-runs : (W : ℕ) (table : List Label) → IsLabelTable table → (to : ℕ) (leaf : LeafModel) (leaves : List LeafModel)
-    → IsCut W 0 to (leaf ∷ leaves) → All (λ leaf. ForSome leaf.label (λ id. id < length table)) (leaf ∷ leaves)
-    → AreRuns (text_among W table (leaf ∷ leaves)) 0 to (map (run_of table) (joined (leaf_view W leaf) (map (leaf_view W) leaves)))
-leaves-runs W table is to leaf leaves cut known =
-    let f = text_among W table (leaf ∷ leaves) in
-    let follow = leaves-follow W table f 0 to (leaf ∷ leaves) cut known (λ a ge. refl) in
-    subst (λ from. AreRuns f from to (map (run_of table) (joined (leaf_view W leaf) (map (leaf_view W) leaves)))) follow.0
-    (joined-runs f table is to (leaf_view W leaf) (map (leaf_view W) leaves) follow.1 follow.2 follow.3)
+-- one that is printed, as the next has another label
+pub printed_more : (f : ℕ → Option Label) (table : List Label) (v : Version) (end : ℕ) (before out new : Text) (s t : Numbered)
+    → IsPrinted f table v end before out s → new ≡ out ++ run_text v (run_of table s) → HasOneLabel f (run_of table s) → t.low ≡ s.high + 1
+    → (run_of table s).label ≢ (run_of table t).label → IsPrinted f table v end before new t
+printed_more f table v end before out new s t is text one next other = record {
+  runs = is.runs ++ run_of table s ∷ [];
+  text = text ∙ ap (λ (x : Text). x ++ run_text v (run_of table s)) is.text ∙ append_assoc before (flat_map (run_text v) is.runs) (run_text v (run_of table s))
+      ∙ ap (λ (x : Text). before ++ x) (sym (flat_map-append (run_text v) is.runs (run_of table s ∷ [])
+      ∙ ap (λ (x : Text). flat_map (run_text v) is.runs ++ x) (append-nil (run_text v (run_of table s)))));
+  goes_on = λ high rest are. subst (AreRuns f 0 end) (sym (append_assoc is.runs (run_of table s ∷ []) (run_of table (record t { high = high }) ∷ rest)))
+      (is.goes_on s.high (run_of table (record t { high = high }) ∷ rest) (
+        refl,
+        one,
+        other,
+        subst (λ (from : ℕ). AreRuns f from end (run_of table (record t { high = high }) ∷ rest)) next are,
+      ));
+}
+
+-- the last one
+pub printed_last : (f : ℕ → Option Label) (table : List Label) (v : Version) (before out new : Text) (s : Numbered)
+    → IsPrinted f table v (2 ^ width_of v) before out s → new ≡ out ++ run_text v (run_of table s) → HasOneLabel f (run_of table s)
+    → s.high + 1 ≡ 2 ^ width_of v → before ≡ line_text run_titles → IsRunsText v f new
+printed_last f table v before out new s is text one end title =
+    let runs = is.runs ++ run_of table s ∷ [] in
+    record {
+      runs = runs;
+      are = is.goes_on s.high [] (refl, one, tt, end);
+      is = text ∙ ap (λ (x : Text). x ++ run_text v (run_of table s)) is.text ∙ append_assoc before (flat_map (run_text v) is.runs) (run_text v (run_of table s))
+          ∙ ap (λ (x : Text). before ++ x) (sym (flat_map-append (run_text v) is.runs (run_of table s ∷ [])
+          ∙ ap (λ (x : Text). flat_map (run_text v) is.runs ++ x) (append-nil (run_text v (run_of table s)))))
+          ∙ ap (λ (x : Text). x ++ flat_map (run_text v) runs) title
+          ∙ ap (λ (x : Text). line_text run_titles ++ x) (sym (flat_map-map line_text (run_fields v) runs));
+    }
+
+-- what is known where a walk over the same statements stands
+record IsKnown (table : List Label) (start next : StretchesModel) : Type 0 where
+  known : ForSome (walk_view next).label (λ i. i < length table)
+  one : HasOneLabel (text_won table start.default start.statements) (run_of table (walk_view next))
+
+walk_facts : (table : List Label) (start next : StretchesModel) → HasSameStatements start next → StandsAt next
+    → All (λ r. r.label.0 < length table) start.statements → ForSome start.default (λ id. id.0 < length table) → IsKnown table start next
+walk_facts table start next same stands known fallback =
+    let statements = same.statements in
+    let default = same.default in
+    let known' : All (λ r. r.label.0 < length table) next.statements = rw statements at known in
+    let fallback' : ForSome next.default (λ id. id.0 < length table) = rw default at fallback in
+    record {
+      known = walk_known next table stands known' fallback';
+      one = rw (statements, default) (walk_label next table stands known' fallback');
+    }
+
+pub run_begins : (table : List Label) (start : StretchesModel) (out : Text) (s : Stretch) → StandsAt start → stretch_view s ≡ walk_view start
+    → s.low.version ≡ start.version → s.high.version ≡ start.version → start.first ≡ 0
+    → All (λ r. r.label.0 < length table) start.statements → ForSome start.default (λ id. id.0 < length table)
+    → IsPrintedTo table start start out out s
+run_begins table start out s stands view low high first known fallback =
+    let facts = walk_facts table start start (record { version = refl; default = refl; statements = refl }) stands known fallback in
+    record {
+      same = record { version = refl; default = refl; statements = refl };
+      stands = stands;
+      low_version = low;
+      high_version = high;
+      last = ap (λ (n : Numbered). n.high) view;
+      known = subst (λ (n : Numbered). ForSome n.label (λ i. i < length table)) (sym view) facts.known;
+      one = subst (λ (n : Numbered). HasOneLabel (text_won table start.default start.statements) (run_of table n)) (sym view) facts.one;
+      printed = printed_first (text_won table start.default start.statements) table start.version (2 ^ width_of start.version) out (stretch_view s)
+          (ap (λ (n : Numbered). n.low) view ∙ first);
+    }
+
+same_walks : (start now next : StretchesModel) → HasSameStatements start now → HasSameStatements now next → HasSameStatements start next
+same_walks start now next first second = record {
+  version = first.version ∙ second.version;
+  default = first.default ∙ second.default;
+  statements = first.statements ∙ second.statements;
+}
+
+-- the walk goes on to a stretch of the same label
+pub run_goes_on : (table : List Label) (start now next : StretchesModel) (before out : Text) (s t : Stretch) → IsPrintedTo table start now before out s
+    → HasSameStatements now next → StandsAt next → next.first ≡ now.last + 1 → stretch_view t ≡ walk_view next → t.high.version ≡ next.version
+    → All (λ r. r.label.0 < length table) start.statements → ForSome start.default (λ id. id.0 < length table)
+    → is_same_number (stretch_view s).label (stretch_view t).label ≡ true → IsPrintedTo table start next before out (record s { high = t.high })
+run_goes_on table start now next before out s t is more stands first view high known fallback e =
+    let f = text_won table start.default start.statements in
+    let same = same_walks start now next is.same more in
+    let facts = walk_facts table start next same stands known fallback in
+    let last = is.last in
+    let low : t.low.value ≡ s.high.value + 1 = ap (λ (n : Numbered). n.low) view ∙ first ∙ ap (λ (k : ℕ). k + 1) (sym last) in
+    record {
+      same = same;
+      stands = stands;
+      low_version = is.low_version;
+      high_version = high ∙ sym same.version;
+      last = ap (λ (n : Numbered). n.high) view;
+      known = is.known;
+      one = one-joined f table (stretch_view s) (stretch_view t) is.one (subst (λ (n : Numbered). HasOneLabel f (run_of table n)) (sym view) facts.one) low (same-number (stretch_view s).label (stretch_view t).label e);
+      printed = printed_joined f table start.version (2 ^ width_of start.version) t.high.value before out (stretch_view s) is.printed;
+    }
+
+-- or to one of another label, where the run so far is printed
+pub run_ends : (table : List Label) → IsLabelTable table → (start now next : StretchesModel) (before out new : Text) (s t : Stretch)
+    → IsPrintedTo table start now before out s
+    → HasSameStatements now next → StandsAt next → next.first ≡ now.last + 1 → stretch_view t ≡ walk_view next → t.low.version ≡ next.version
+    → t.high.version ≡ next.version → All (λ r. r.label.0 < length table) start.statements → ForSome start.default (λ id. id.0 < length table)
+    → is_same_number (stretch_view s).label (stretch_view t).label ≡ false → new ≡ out ++ run_text s.low.version (run_of table (stretch_view s))
+    → IsPrintedTo table start next before new t
+run_ends table distinct start now next before out new s t is more stands first view low_is high_is known fallback e text =
+    let f = text_won table start.default start.statements in
+    let same = same_walks start now next is.same more in
+    let facts = walk_facts table start next same stands known fallback in
+    let last = is.last in
+    let known' : ForSome (stretch_view t).label (λ i. i < length table) = subst (λ (n : Numbered). ForSome n.label (λ i. i < length table)) (sym view) facts.known in
+    let low : t.low.value ≡ s.high.value + 1 = ap (λ (n : Numbered). n.low) view ∙ first ∙ ap (λ (k : ℕ). k + 1) (sym last) in
+    let text' = text ∙ ap (λ (v : Version). out ++ run_text v (run_of table (stretch_view s))) is.low_version in
+    record {
+      same = same;
+      stands = stands;
+      low_version = low_is ∙ sym same.version;
+      high_version = high_is ∙ sym same.version;
+      last = ap (λ (n : Numbered). n.high) view;
+      known = known';
+      one = subst (λ (n : Numbered). HasOneLabel f (run_of table n)) (sym view) facts.one;
+      printed = printed_more f table start.version (2 ^ width_of start.version) before out new (stretch_view s) (stretch_view t) is.printed text' is.one low
+          (other-label table distinct (stretch_view s).label (stretch_view t).label is.known known' e);
+    }
+
+-- the last run is printed
+pub runs_end : (table : List Label) (start now : StretchesModel) (before out new : Text) (s : Stretch) → IsPrintedTo table start now before out s
+    → now.last + 1 ≡ 2 ^ width_of now.version → before ≡ line_text run_titles → new ≡ out ++ run_text s.low.version (run_of table (stretch_view s))
+    → IsRunsText start.version (text_won table start.default start.statements) new
+runs_end table start now before out new s is end title text =
+    let version = is.same.version in
+    let last = is.last in
+    let text' = text ∙ ap (λ (v : Version). out ++ run_text v (run_of table (stretch_view s))) is.low_version in
+    printed_last (text_won table start.default start.statements) table start.version before out new (stretch_view s) is.printed text' is.one
+    (rw (last, version) end) title

@@ -1,4 +1,4 @@
-ghost use Rattle.std.specs.Prelude.{◌≡◌, ◌++◌, OnOk, decimal};
+ghost use Rattle.std.specs.Prelude.{◌≡◌, ◌<◌, ◌++◌, OnOk, decimal, length};
 ghost use Rattle.pmap_print.specs.Cell.{cell_text};
 
 use itoa::Buffer;
@@ -25,6 +25,36 @@ pub fn print_number(out: &mut Vec<u8>, number: u64) -> Result<(), AllocError>
 {
     let mut buffer = Buffer::new();
     out.extend_from_slice(buffer.format(number).as_bytes())
+}
+
+// How many digits a number below 10,000 has.
+#[inline]
+fn short_length(number: u64) -> usize
+    requires { number < 10000 }
+    ensures { result ≡ length (decimal number) }
+{
+    if number < 10 {
+        1
+    } else if number < 100 {
+        2
+    } else if number < 1000 {
+        3
+    } else {
+        4
+    }
+}
+
+/// How many digits a number has.
+pub fn number_length(number: u64) -> usize
+    ensures { result ≡ length (decimal number) }
+{
+    let mut left = number;
+    let mut length = 0;
+    while left >= 10_000 {
+        left /= 10_000;
+        length += 4;
+    }
+    length + short_length(left)
 }
 
 // Appends a number that may have more than 64 bits, in decimal.

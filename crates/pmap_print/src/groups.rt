@@ -1,6 +1,6 @@
 //! The text of groups.
 ghost use Rattle.std.specs.Prelude.{◌≡◌, ◌+◌, All, IfOk, OnOk, length, map, slice_index};
-ghost use Rattle.flow_uniq.specs.Kept.{group_model};
+ghost use Rattle.flow_uniq.specs.Kept.{group_model, key_model};
 ghost use Rattle.flow_uniq.specs.Parts.{part_model};
 ghost use Rattle.flow_uniq.specs.Sorted.{shown_groups};
 ghost use Rattle.pmap_print.specs.Cell.{cell_text};
@@ -16,13 +16,13 @@ use std::alloc::{AllocError, Global};
 const TOTALS: usize = 3;
 
 // The cell of a part of a key. Without a label there is nothing in it.
-fn part_cell(part: &KeyPart) -> Cell<'_>
-    ensures { cell_text result ≡ part_text (part_model part.now) }
+fn part_cell(part: KeyPart<'_>) -> Cell<'_>
+    ensures { cell_text result ≡ part_text (part_model part.entry) }
 {
     match part {
-        KeyPart::Address(addr) => Cell::Address(*addr),
-        KeyPart::Number(number) => Cell::Number(u64::from(*number)),
-        KeyPart::Label(label) => Cell::Bytes(label.text().unwrap_or(b"")),
+        KeyPart::Address(addr) => Cell::Address(addr),
+        KeyPart::Number(number) => Cell::Number(u64::from(number)),
+        KeyPart::Label(label) => Cell::Bytes(label.unwrap_or(b"")),
     }
 }
 
@@ -45,9 +45,10 @@ fn fill_group<'a>(cells: &mut Vec<Cell<'a>>, group: &Group<'a>) -> Result<(), Al
     ensures { OnOk result (map cell_text cells.new.items ≡ group_fields (group_model group.now)) }
 {
     cells.clear();
-    let key = group.key;
-    for part in key {
+    let mut rest = group.key;
+    while let Some((part, behind)) = rest.split_first() {
         cells.push(part_cell(part))?;
+        rest = behind;
     }
     cells.push(Cell::Number(group.totals.records))?;
     cells.push(Cell::Total(group.totals.packets))?;
@@ -63,7 +64,7 @@ fn column_widths<'a>(
     groups: &[Group<'a>],
     columns: bool,
 ) -> Result<Vec<usize>, AllocError>
-    requires { All (λ g. length g.key.now ≡ length fields.now) groups.now }
+    requires { All (λ g. length (key_model g.key) ≡ length fields.now) groups.now }
     ensures len { IfOk result (λ widths. length widths.items ≡ length fields.now + 3) }
     ensures widths { let lines = group_lines fields.now (map group_model groups.now) in
         IfOk result (λ widths. map (filled_line (slice_index widths.items)) lines ≡ table_lines columns lines) }
@@ -105,7 +106,7 @@ fn print_shown<'a>(
     groups: &[Group<'a>],
     columns: bool,
 ) -> Result<Vec<u8>, AllocError>
-    requires { All (λ g. length g.key.now ≡ length fields.now) groups.now }
+    requires { All (λ g. length (key_model g.key) ≡ length fields.now) groups.now }
     ensures { IfOk result (λ out. out.items ≡ groups_text fields.now (map group_model groups.now) columns) }
 {
     let mut cells: Vec<Cell<'a>> = Vec::new(alloc);

@@ -1,6 +1,6 @@
 //! The laws on printed texts.
 
-ghost use Rattle.std.specs.Prelude.{◌≡◌, ◌<◌, ◌≤◌, ◌^◌, ℕ, All, IsTrue, List, Option, Some, length, map, option_and_then, slice_get};
+ghost use Rattle.std.specs.Prelude.{◌≡◌, ◌<◌, ◌≤◌, ◌^◌, ℕ, IsTrue, List, Option, Some, length};
 ghost use Rattle.std.specs.List.{IsDistinct};
 ghost use Rattle.std.specs.List.Sorted.{IsPermutation};
 ghost use Rattle.std.specs.Option.{ForSome};
@@ -13,18 +13,13 @@ ghost use Rattle.pmap_cert.specs.MinimalPair.{HasItsLabels, IsMinimalPair};
 ghost use Rattle.pmap_text.specs.Label.{IsLabelTable, is_label};
 ghost use Rattle.pmap_text.specs.ListModel.{IsEquivalent, ListModel, Prefix, list_label};
 ghost use Rattle.pmap_text.specs.MapModel.{Label, MapModel, map_label};
-ghost use Rattle.pmap_text.specs.MapText.{map_of};
 ghost use Rattle.pmap_text.specs.PrefixList.{list_of};
 ghost use Rattle.pmap_text.specs.Reading.{ReadsList, ReadsMap, label_limit, mapping_limit};
-ghost use Rattle.pmap_text.specs.declared.map_text.MapText.{MapText};
 ghost use Rattle.pmap_text.specs.declared.prefix_list.PrefixList.{PrefixList};
-ghost use Rattle.label_trie.specs.Leaf.{model_of};
-ghost use Rattle.label_trie.specs.TrieModel.{IsCut, IsDecidedLeaf, IsSettledLeaf, TrieModel, label_in};
-ghost use Rattle.label_trie.specs.declared.leaf.Leaf.{Leaf};
 ghost use Rattle.pmap_print.specs.List.{list_text};
 ghost use Rattle.pmap_print.specs.Order.{in_order, starts_alike};
 ghost use Rattle.pmap_print.specs.ReadBack.{CanBeReadAgain, IsListAgain, IsMapAgain, labels_of};
-ghost use Rattle.pmap_print.specs.Runs.{HaveRunsOf, IsRunsText};
+ghost use Rattle.pmap_print.specs.Runs.{IsRunsText};
 ghost use Rattle.pmap_print.specs.Table.{Text};
 
 /// A labelling of a version's addresses has one text of its runs, and labellings that agree on each address have the
@@ -37,27 +32,6 @@ pub fn labelling_has_one_runs_text()
     ensures equivalent { (l : ListModel) (m : MapModel) (text other : Text) → IsEquivalent l m →
         IsRunsText l.version (list_label l) text →
         IsRunsText m.version (λ a. Some (map_label m a)) other → text ≡ other }
-{}
-
-/// The leaves of the trie of a map have the runs of the map's labels: what is said of the trie and of its leaves where
-/// they are made is what it takes to print them.
-pub fn map_leaves_have_its_runs()
-    ensures { (m : MapText) (t : TrieModel) (leaves : List Leaf) → t.version ≡ m.version →
-        IsCut (width_of m.version) 0 (2 ^ width_of m.version) t.leaves → All (IsSettledLeaf (map_of m)) t.leaves →
-        ((a : ℕ) → a < 2 ^ width_of m.version →
-        option_and_then (slice_get m.labels) (label_in t a) ≡ Some (map_label (map_of m) a)) →
-        All (λ leaf. leaf.block.version ≡ t.version) leaves → map model_of leaves ≡ t.leaves →
-        HaveRunsOf m.version (λ a. Some (map_label (map_of m) a)) leaves m.labels }
-{}
-
-/// The leaves of the trie of a prefix list have the runs of the list's labels.
-pub fn list_leaves_have_its_runs()
-    ensures { (l : PrefixList) (t : TrieModel) (leaves : List Leaf) → t.version ≡ l.version →
-        IsCut (width_of l.version) 0 (2 ^ width_of l.version) t.leaves → All (IsDecidedLeaf (list_of l)) t.leaves →
-        ((a : ℕ) → a < 2 ^ width_of l.version →
-        option_and_then (slice_get l.labels) (label_in t a) ≡ list_label (list_of l) a) →
-        All (λ leaf. leaf.block.version ≡ t.version) leaves → map model_of leaves ≡ t.leaves →
-        HaveRunsOf l.version (list_label (list_of l)) leaves l.labels }
 {}
 
 /// A list is printed in the one order in which each entry stands before all that follow it. Entries that are in order

@@ -12,7 +12,7 @@
 //!
 //! It stands on the crates of what it prints. `print_rows` gives the text of flow rows, with labels or without, in
 //! columns or not, `print_groups` that of groups, `print_info` that of counts, `print_list` that of a prefix list, and
-//! `print_runs` that of the runs of leaves. The layer above may rely on this: the text is the function of the printed
+//! `print_runs` that of the runs of stretches. The layer above may rely on this: the text is the function of the printed
 //! list that the definitions say, byte for byte. Nothing else is answered than that text or want of memory. By the laws
 //! the printed text of a list is read back, and that of a minimal pair's list as one for which the pair's certificate
 //! is accepted.
@@ -32,10 +32,9 @@ pub use groups::print_groups;
 pub use info::print_info;
 pub use labels::RowLabels;
 pub use laws::{
-    labelling_has_one_runs_text, list_leaves_have_its_runs, map_leaves_have_its_runs,
-    minimal_list_can_be_read_again, minimal_list_has_few_labels, minimal_list_is_accepted_again,
-    prefix_list_can_be_read_again, printed_list_is_equivalent, printed_list_is_read_back,
-    printed_order_is_one,
+    labelling_has_one_runs_text, minimal_list_can_be_read_again, minimal_list_has_few_labels,
+    minimal_list_is_accepted_again, prefix_list_can_be_read_again, printed_list_is_equivalent,
+    printed_list_is_read_back, printed_order_is_one,
 };
 pub use list::print_list;
 pub use rows::{print_row, print_rows, print_title};

@@ -1,9 +1,10 @@
 //! The text of flow rows.
-ghost use Rattle.std.specs.Prelude.{◌≡◌, ◌<◌, ◌++◌, IfOk, OnOk, length, map, option_map, slice_index};
+ghost use Rattle.std.specs.Prelude.{◌≡◌, ◌+◌, ◌<◌, ◌≤◌, [], ◌∷◌, ◌++◌, IfOk, OnOk, drop, length, map, option_map, slice_index};
+ghost use Rattle.std.specs.Fmt.{decimal};
 ghost use Rattle.std.specs.Option.{ForSome};
 ghost use Rattle.flow_rows.specs.Row.{row_view};
 ghost use Rattle.pmap_print.specs.Cell.{cell_text};
-ghost use Rattle.pmap_print.specs.Parts.{column_count, labels_at};
+ghost use Rattle.pmap_print.specs.Parts.{barred, column_count, labels_at, number_fields};
 ghost use Rattle.pmap_print.specs.Rows.{given_labels, label_fields, label_texts, label_titles, row_fields, row_line, row_lines, row_titles, rows_text, title_line};
 ghost use Rattle.pmap_print.specs.Table.{filled_line, line_text, table_lines};
 
@@ -11,12 +12,17 @@ use crate::cell::Cell;
 use crate::labels::RowLabels;
 use crate::table::{print_line, print_plain_line, widen};
 use flow_rows::Row;
+use itoa::write_digits;
+use prefix_keys::print_addr;
 use std::alloc::{AllocError, Global};
 
 // How many columns rows have, and how many with labels.
 const COLUMNS: usize = 10;
 
 const COLUMNS_WITH_LABELS: usize = 12;
+
+// How many bytes the eight numbers of a row have at most, each behind a `|`, and one byte behind them.
+const NUMBERS: usize = 169;
 
 // The cells of a title.
 fn title_cells() -> [Cell<'static>; COLUMNS_WITH_LABELS]
@@ -121,6 +127,48 @@ pub fn print_title(out: &mut Vec<u8>, labelled: bool) -> Result<(), AllocError>
     print_plain_line(out, &title[..count])
 }
 
+// Writes a number behind a `|` so that it ends at `end`, and returns where the `|` stands.
+#[inline(always)]
+fn write_number(number: u64, buf: &mut [u8], end: usize) -> usize
+    requires room { 21 ≤ end }
+    requires within { end ≤ length buf.old }
+    ensures start { result ≤ end }
+    ensures room { end ≤ result + 21 }
+    ensures written { drop result buf.new ≡ 124 ∷ decimal number ++ drop end buf.old }
+{
+    let at = write_digits(number, buf, end) - 1;
+    buf[at] = b'|';
+    at
+}
+
+// Appends the numbers of a row, each behind a `|`, and a byte behind them.
+fn print_numbers(out: &mut Vec<u8>, row: &Row, last: u8) -> Result<(), AllocError>
+    ensures { OnOk result (out.new.items ≡ out.old.items ++ barred (number_fields (row_view row.now)) (last ∷ [])) }
+{
+    let mut line = [0; NUMBERS];
+    line[NUMBERS - 1] = last;
+    let at = write_number(row.end_ms, &mut line, NUMBERS - 1);
+    let at = write_number(row.start_ms, &mut line, at);
+    let at = write_number(row.octets, &mut line, at);
+    let at = write_number(row.packets, &mut line, at);
+    let at = write_number(u64::from(row.flags), &mut line, at);
+    let at = write_number(u64::from(row.protocol), &mut line, at);
+    let at = write_number(u64::from(row.dport), &mut line, at);
+    let at = write_number(u64::from(row.sport), &mut line, at);
+    out.extend_from_slice(&line[at..])
+}
+
+// Appends the labels of a row, and the end of its line. Without a label there is nothing in the field.
+fn print_labels(out: &mut Vec<u8>, labels: RowLabels<'_>) -> Result<(), AllocError>
+    ensures { OnOk result (out.new.items ≡ out.old.items ++ line_text (label_fields (label_texts labels.entry))) }
+{
+    out.extend_from_slice(labels.src.unwrap_or(b""))?;
+    out.push(b'|')?;
+    out.extend_from_slice(labels.dst.unwrap_or(b""))?;
+    out.push(b'\n')?;
+    Ok(())
+}
+
 /// Appends the line of a row, and of its labels where it has some.
 pub fn print_row(
     out: &mut Vec<u8>,
@@ -130,15 +178,15 @@ pub fn print_row(
     ensures { OnOk result (out.new.items
         ≡ out.old.items ++ line_text (row_line (row_view row.now) (option_map label_texts labels.entry))) }
 {
+    print_addr(out, row.src)?;
+    out.push(b'|')?;
+    print_addr(out, row.dst)?;
     match labels {
-        Some(labels) => print_plain_line(out, &row_cells(row, labels)),
-        None => {
-            let unlabelled = RowLabels {
-                src: None,
-                dst: None,
-            };
-            let cells = row_cells(row, unlabelled);
-            print_plain_line(out, &cells[..COLUMNS])
+        None => print_numbers(out, row, b'\n'),
+        Some(labels) => {
+            print_numbers(out, row, b'|')?;
+            print_labels(out, labels)?;
+            Ok(())
         }
     }
 }

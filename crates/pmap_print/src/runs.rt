@@ -1,12 +1,13 @@
-ghost use Rattle.std.specs.Prelude.{◌≡◌, ◌<◌, ◌++◌, ◌∷◌, All, List, IfOk, OnOk, length, map, option_map};
+ghost use Rattle.std.specs.Prelude.{◌≡◌, ◌+◌, ◌^◌, ◌<◌, ◌++◌, [], ◌∷◌, All, IfOk, OnOk, length, option_map};
 ghost use Rattle.std.specs.Option.{ForSome};
 ghost use Rattle.prefix_keys.specs.Version.{width_of};
-ghost use Rattle.label_trie.specs.Leaf.{model_of};
-ghost use Rattle.pmap_print.specs.Runs.{CoverSpace, IsRunsText, label_of_leaves, leaves_version, run_text};
-ghost use Rattle.pmap_print.specs.Stretches.{Numbered, is_same_number, joined, leaf_view, run_of, stretch_view, stretches_text};
+ghost use Rattle.pmap_text.specs.Stretches.{StandsAt, text_won};
+ghost use Rattle.label_trie.specs.Runs.{HasOneLabel};
+ghost use Rattle.pmap_print.specs.Runs.{IsRunsText, run_text, run_titles};
+ghost use Rattle.pmap_print.specs.Stretches.{IsPrinted, is_same_number, run_of, stretch_view, walk_view};
+ghost use Rattle.pmap_print.specs.Table.{line_text};
 
-use label_trie::Leaf;
-use pmap_text::{LabelId, Labels};
+use pmap_text::{LabelId, Labels, Stretches};
 use prefix_keys::{Addr, print_addr};
 use std::alloc::{AllocError, Global};
 
@@ -18,16 +19,26 @@ struct Stretch {
     label: Option<LabelId>,
 }
 
-// The addresses of a leaf.
-fn leaf_stretch(leaf: &Leaf) -> Stretch
-    ensures low { result.low.version ≡ leaf.now.block.version }
-    ensures high { result.high.version ≡ leaf.now.block.version }
-    ensures view { stretch_view result ≡ leaf_view (width_of leaf.now.block.version) (model_of leaf.now) }
+// The stretch at which a walk stands.
+fn here(stretches: &Stretches) -> Stretch
+    ensures low { result.low.version ≡ stretches.now.version }
+    ensures high { result.high.version ≡ stretches.now.version }
+    ensures view { stretch_view result ≡ walk_view stretches.now }
+    ensures stretch { StandsAt stretches.now }
 {
+    let version = stretches.version();
+    let low = stretches.first();
+    let high = stretches.last();
     Stretch {
-        low: leaf.block.low(),
-        high: leaf.block.high(),
-        label: leaf.label,
+        low: Addr {
+            version,
+            value: low,
+        },
+        high: Addr {
+            version,
+            value: high,
+        },
+        label: stretches.label(),
     }
 }
 
@@ -60,67 +71,51 @@ fn print_stretch(out: &mut Vec<u8>, stretch: &Stretch, labels: &Labels) -> Resul
     Ok(())
 }
 
-// Goes on from the stretch so far to the next one: joins them where they have one label, else prints the first.
-fn go_on(
-    out: &mut Vec<u8>,
-    stretch: &mut Stretch,
-    next: Stretch,
-    labels: &Labels,
-) -> Result<(), AllocError>
-    requires high { stretch.old.high.version ≡ stretch.old.low.version }
-    requires next { next.low.version ≡ stretch.old.low.version }
-    requires next_high { next.high.version ≡ stretch.old.low.version }
-    ensures low { OnOk result (stretch.new.low.version ≡ stretch.old.low.version) }
-    ensures high { OnOk result (stretch.new.high.version ≡ stretch.old.low.version) }
-    ensures text { let text = stretches_text stretch.old.low.version labels.now in
-        OnOk result ((rest : List Numbered) → out.new.items ++ text (joined (stretch_view stretch.new) rest)
-        ≡ out.old.items ++ text (joined (stretch_view stretch.old) (stretch_view next ∷ rest))) }
-{
-    if is_same(stretch.label, next.label) {
-        stretch.high = next.high;
-    } else {
-        print_stretch(out, stretch, labels)?;
-        *stretch = next;
-    }
-    Ok(())
-}
-
-// Appends the lines of the runs of leaves, the first of which is given for itself.
+// Appends the lines of the runs of a walk that stands at its first stretch, behind the title.
 fn push_runs(
     out: &mut Vec<u8>,
-    first: &Leaf,
-    rest: &[Leaf],
+    stretches: &mut Stretches,
     labels: &Labels,
 ) -> Result<(), AllocError>
-    requires { All (λ leaf. leaf.block.version ≡ first.now.block.version) rest.now }
-    ensures { let version = first.now.block.version in
-        let view = leaf_view (width_of version) in
-        OnOk result (out.new.items ≡ out.old.items
-        ++ stretches_text version labels.now (joined (view (model_of first.now)) (map view (map model_of rest.now)))) }
+    requires title { out.old.items ≡ line_text run_titles }
+    requires first { stretches.old.first ≡ 0 }
+    requires known { All (λ s. s.label.0 < length labels.now) stretches.old.statements }
+    requires default { ForSome stretches.old.default (λ id. id.0 < length labels.now) }
+    ensures { OnOk result (IsRunsText stretches.old.version
+        (text_won labels.now stretches.old.default stretches.old.statements) out.new.items) }
 {
-    let mut stretch = leaf_stretch(first);
-    for leaf in rest {
-        let next = leaf_stretch(leaf);
-        go_on(out, &mut stretch, next, labels)?;
+    // For its law: no two texts of the table are equal.
+    let _count = labels.len();
+    let mut stretch = here(stretches);
+    while !stretches.is_at_end() {
+        let next = stretches.last() + 1;
+        stretches.reach(next)?;
+        let next = here(stretches);
+        if is_same(stretch.label, next.label) {
+            stretch.high = next.high;
+        } else {
+            print_stretch(out, &stretch, labels)?;
+            stretch = next;
+        }
     }
     print_stretch(out, &stretch, labels)
 }
 
-/// The text of the runs of leaves: a title, and a line for each maximal range of consecutive addresses that have one
-/// label or have none, with its first and its last address and the label.
-pub fn print_runs(alloc: Global, leaves: &[Leaf], labels: &Labels) -> Result<Vec<u8>, AllocError>
-    requires space { CoverSpace (leaves_version leaves.now) leaves.now }
-    requires known { All (λ leaf. ForSome leaf.label (λ id. id.0 < length labels.now)) leaves.now }
-    ensures { let version = leaves_version leaves.now in
-        IfOk result (λ out. IsRunsText version (label_of_leaves version labels.now leaves.now) out.items) }
+/// The text of the runs of a walk over stretches, which stands at the first one: a title, and a line for each maximal
+/// range of consecutive addresses that have one label or have none, with its first and its last address and the label.
+pub fn print_runs(
+    alloc: Global,
+    stretches: &mut Stretches,
+    labels: &Labels,
+) -> Result<Vec<u8>, AllocError>
+    requires first { stretches.old.first ≡ 0 }
+    requires known { All (λ s. s.label.0 < length labels.now) stretches.old.statements }
+    requires default { ForSome stretches.old.default (λ id. id.0 < length labels.now) }
+    ensures { IfOk result (λ out. IsRunsText stretches.old.version
+        (text_won labels.now stretches.old.default stretches.old.statements) out.items) }
 {
-    // For its law: no two texts of the table are equal.
-    let _count = labels.len();
     let mut out = Vec::new(alloc);
     out.extend_from_slice(b"low|high|label\n")?;
-    let Some((first, rest)) = leaves.split_first() else {
-        unreachable!()
-    };
-    push_runs(&mut out, first, rest, labels)?;
+    push_runs(&mut out, stretches, labels)?;
     Ok(out)
 }

@@ -3,7 +3,8 @@ ghost use Rattle.std.specs.Prelude.{◌≡◌, ◌≤◌, ◌<◌, ◌++◌, ℕ
 ghost use Rattle.pmap_print.specs.Cell.{cell_text};
 ghost use Rattle.pmap_print.specs.Table.{filled, filled_line, line_text};
 
-use crate::cell::{Cell, print_cell};
+use crate::cell::{Cell, number_length, print_cell};
+use itoa::Buffer;
 use std::alloc::AllocError;
 
 // Spaces to fill fields with.
@@ -22,18 +23,34 @@ fn print_spaces(out: &mut Vec<u8>, count: usize) -> Result<(), AllocError>
     Ok(())
 }
 
-// The length of the text of a cell, which is printed into the scratch.
-fn cell_length(scratch: &mut Vec<u8>, cell: &Cell<'_>) -> Result<usize, AllocError>
-    ensures text { OnOk result (scratch.new.items ≡ cell_text cell.now) }
-    ensures len { IfOk result (λ len. len ≡ length (cell_text cell.now)) }
+// Appends a text, with spaces on the left that make it this wide.
+fn print_padded(out: &mut Vec<u8>, text: &[u8], width: usize) -> Result<(), AllocError>
+    ensures { OnOk result (out.new.items ≡ out.old.items ++ filled width text.now) }
 {
-    scratch.clear();
-    print_cell(scratch, cell)?;
-    Ok(scratch.len())
+    if text.len() < width {
+        print_spaces(out, width - text.len())?;
+    }
+    out.extend_from_slice(text)
 }
 
-// Appends the text of a cell, with spaces on the left that make it this wide. The scratch is for texts that are
-// measured.
+// The length of the text of a cell. The scratch is for texts that are measured.
+#[inline]
+fn cell_length(scratch: &mut Vec<u8>, cell: &Cell<'_>) -> Result<usize, AllocError>
+    ensures { IfOk result (λ len. len ≡ length (cell_text cell.now)) }
+{
+    match cell {
+        Cell::Number(number) => Ok(number_length(*number)),
+        Cell::Bytes(bytes) => Ok(bytes.len()),
+        Cell::Address(_) | Cell::Total(_) => {
+            scratch.clear();
+            print_cell(scratch, cell)?;
+            Ok(scratch.len())
+        }
+    }
+}
+
+// Appends the text of a cell, with spaces on the left that make it this wide.
+#[inline]
 fn print_filled(
     out: &mut Vec<u8>,
     scratch: &mut Vec<u8>,
@@ -42,13 +59,18 @@ fn print_filled(
 ) -> Result<(), AllocError>
     ensures { OnOk result (out.new.items ≡ out.old.items ++ filled width (cell_text cell.now)) }
 {
-    if width == 0 {
-        return print_cell(out, cell);
+    match cell {
+        Cell::Number(number) => {
+            let mut buffer = Buffer::new();
+            print_padded(out, buffer.format(*number).as_bytes(), width)
+        }
+        Cell::Bytes(bytes) => print_padded(out, bytes, width),
+        Cell::Address(_) | Cell::Total(_) => {
+            scratch.clear();
+            print_cell(scratch, cell)?;
+            print_padded(out, scratch.as_slice(), width)
+        }
     }
-    let length = cell_length(scratch, cell)?;
-    print_spaces(out, width.saturating_sub(length))?;
-    out.extend_from_slice(scratch.as_slice())?;
-    Ok(())
 }
 
 /// Makes the width at each place at least the length of the cell there.

@@ -13,3 +13,13 @@ pub mod Settled
 pub mod ListLabels
 pub mod ListBlocks
 pub mod Entering
+pub mod Orders
+pub mod Starts
+pub mod Swept
+pub mod Seen
+pub mod Stretched
+pub mod SeenBlocks
+pub mod Layered
+pub mod Painted
+pub mod Longest
+pub mod ListPainted

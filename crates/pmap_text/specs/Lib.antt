@@ -12,3 +12,6 @@ pub mod Reading
 pub mod Steps
 pub mod Filed
 pub mod Progress
+pub mod Stretches
+pub mod Sweep
+pub mod Painting

@@ -1,19 +1,30 @@
 //! The laws on maps and prefix lists.
 
-ghost use Rattle.std.specs.Prelude.{◌≡◌, ℕ, Some, MatchOption, All};
+ghost use Rattle.std.specs.Prelude.{◌≡◌, ◌<◌, ◌≤◌, ◌^◌, ℕ, Option, Some, None, MatchOption, All, nat_le, if◌then◌else◌};
 ghost use Rattle.std.specs.List.Sorted.{IsPermutation};
-ghost use Rattle.prefix_keys.specs.Block.{block_number};
+ghost use Rattle.prefix_keys.specs.Block.{block_number, first_of, last_of};
 ghost use Rattle.prefix_keys.specs.Version.{width_of};
 ghost use Rattle.pmap_text.specs.ListModel.{ListModel, Prefix, list_label};
 ghost use Rattle.pmap_text.specs.LongestMatch.{CoversAddress, HasDistinctPrefixes, HasSamePrefixes, IsLongestMatch, LabelsBlocksOnce};
-ghost use Rattle.pmap_text.specs.MapModel.{IsSettled, Label, MapModel, map_label};
+ghost use Rattle.pmap_text.specs.MapModel.{IsSettled, Label, MapModel, Mapping, label_or, map_label, settled_label};
 ghost use Rattle.pmap_text.specs.PrefixList.{list_of};
+ghost use Rattle.pmap_text.specs.Stretches.{HaveAddresses, IsStretch};
 ghost use Rattle.pmap_text.specs.declared.prefix_list.PrefixList.{PrefixList};
 
 /// A settled block has its label at each of its addresses.
 pub fn settled_block_has_its_label()
     ensures { (m : MapModel) (n q a : ℕ) (x : Label) → block_number (width_of m.version) n a ≡ q →
         IsSettled m n q x → map_label m a ≡ x }
+{}
+
+/// A block is settled exactly where one stretch holds it. So it is told by the stretch that has the block's first
+/// address: that one has the last address too, and gives the block its label, or the block isn't settled.
+pub fn block_is_settled_in_one_stretch()
+    ensures { (m : MapModel) (n q first last : ℕ) (top : Option Mapping) → HaveAddresses m.mappings →
+        IsStretch m first last top → first ≤ first_of (width_of m.version) n q →
+        first_of (width_of m.version) n q ≤ last → last_of (width_of m.version) n q < 2 ^ width_of m.version →
+        settled_label m n q ≡ (if nat_le (last_of (width_of m.version) n q) last
+        then Some (label_or top m.fallback) else None) }
 {}
 
 /// A list's label of an address is that of the longest entry that covers it, of equal blocks the first. Where no entry

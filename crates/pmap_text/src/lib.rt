@@ -27,16 +27,21 @@ mod form;
 mod label;
 mod labels;
 mod laws;
+mod layers;
 mod lines;
 mod map_text;
 mod name;
+mod painting;
 mod placing;
 mod prefix_list;
 mod reading;
 mod recent;
 mod repeats;
+mod start;
 mod statement;
 mod statements;
+mod stretches;
+mod sweep;
 mod texts;
 
 pub use entries::Entries;
@@ -45,11 +50,17 @@ pub use fault::{MapFault, MapFaultKind};
 pub use form::Form;
 pub use label::{LabelId, is_label};
 pub use labels::Labels;
-pub use laws::{longest_match_counts, order_of_entries_is_free, settled_block_has_its_label};
+pub use laws::{
+    block_is_settled_in_one_stretch, longest_match_counts, order_of_entries_is_free,
+    settled_block_has_its_label,
+};
 pub use map_text::MapText;
 pub use name::Name;
+pub use painting::statements_of_list;
 pub use prefix_list::PrefixList;
 pub use reading::{LABEL_LIMIT, MAPPING_LIMIT};
 pub use statement::Statement;
 pub use statements::Statements;
+pub use stretches::Stretches;
+pub use sweep::last_address;
 pub use texts::{read_list, read_map};

@@ -1,7 +1,7 @@
-use Rattle.std.proofs.Common.{ℕ, ◌≡◌, ◌+◌, ◌<◌, ◌∙◌, false, List, [], ◌∷◌, ◌++◌, length, map, take, get_or, ap, sym, refl, arith}
+use Rattle.std.proofs.Common.{ℕ, ◌≡◌, ◌+◌, ◌<◌, ◌∙◌, false, List, [], ◌∷◌, ◌++◌, length, map, drop, get_or, ap, sym, refl, arith}
 use Rattle.std.specs.List.{join_with_byte}
 use Rattle.std.specs.Fmt.{digits}
-use Rattle.std.proofs.lemmas.List.{append_assoc, map_more, length-map, length-take-le}
+use Rattle.std.proofs.lemmas.List.{append_assoc, drop_more, drop_all, length-drop, length-map}
 use Rattle.prefix_keys.specs.Print.{joined_text}
 
 -- Numbers with a separator between each two.
@@ -15,15 +15,24 @@ join_push c (x ∷ y ∷ rest) piece h =
     ap (λ text. x ++ (c ∷ text)) (join_push c (y ∷ rest) piece (omega arith))
     ∙ sym (append_assoc x (c ∷ join_with_byte c (y ∷ rest)) (c ∷ piece))
 
-module _ (base separator : ℕ) (numbers : List ℕ) where
-  pub joined-first : (d : ℕ) → 0 < length numbers →
-      joined_text base separator (take (0 + 1) numbers) ≡ digits base false (get_or numbers 0 d)
-  joined-first d h = ap (join_with_byte separator) (map_more (digits base false) numbers 0 d h)
+-- one more piece before others, or before none
+pub join_before : (c : ℕ) (piece : List ℕ) (pieces : List (List ℕ)) → 0 < length pieces →
+    join_with_byte c (piece ∷ pieces) ≡ piece ++ (c ∷ join_with_byte c pieces)
+join_before c piece [] h = absurd (omega arith)
+join_before c piece (x ∷ rest) h = refl
 
-  pub joined-next : (i d : ℕ) → 0 < i → i < length numbers →
-      joined_text base separator (take (i + 1) numbers)
-      ≡ joined_text base separator (take i numbers) ++ (separator ∷ digits base false (get_or numbers i d))
-  joined-next i d some h =
-      ap (join_with_byte separator) (map_more (digits base false) numbers i d h)
-      ∙ join_push separator (map (digits base false) (take i numbers)) (digits base false (get_or numbers i d))
-      (omega (arith, length-map (take i numbers) (digits base false), length-take-le i numbers (omega arith)))
+-- the numbers from a place on: the number there, and behind a separator those from the next place on
+module _ (base separator : ℕ) (numbers : List ℕ) (i d : ℕ) (inside : i < length numbers) where
+  pub joined-last : i + 1 ≡ length numbers → joined_text base separator (drop i numbers) ≡ digits base false (get_or numbers i d)
+  joined-last e =
+      let none : drop (i + 1) numbers ≡ [] = drop_all (i + 1) numbers (omega arith) in
+      ap (joined_text base separator) (drop_more numbers i d inside)
+      ∙ ap (λ (rest : List ℕ). joined_text base separator (get_or numbers i d ∷ rest)) none
+
+  pub joined-before : i + 1 < length numbers →
+      joined_text base separator (drop i numbers)
+      ≡ digits base false (get_or numbers i d) ++ (separator ∷ joined_text base separator (drop (i + 1) numbers))
+  joined-before h =
+      ap (joined_text base separator) (drop_more numbers i d inside)
+      ∙ join_before separator (digits base false (get_or numbers i d)) (map (digits base false) (drop (i + 1) numbers))
+      (omega (arith, length-map (drop (i + 1) numbers) (digits base false), length-drop (i + 1) numbers))

@@ -2,6 +2,7 @@ pub mod Quotients
 pub mod Covering
 pub mod Pieces
 pub mod Digits
+pub mod Places
 pub mod Joined
 pub mod Groups
 pub mod Runs

@@ -1,14 +1,17 @@
 //! The texts of addresses and blocks.
-ghost use Rattle.std.specs.Prelude.{◌≡◌, ◌+◌, ◌*◌, ◌/◌, ◌%◌, ◌^◌, ◌<◌, ◌≤◌, ◌++◌, OnOk, OnErr, length};
-ghost use Rattle.prefix_keys.specs.Print.{address_bytes, address_groups, address_text, block_text, colon_text, dotted_text, longest_run};
+ghost use Rattle.std.specs.Prelude.{◌≡◌, ◌+◌, ◌*◌, ◌/◌, ◌%◌, ◌^◌, ◌<◌, ◌≤◌, ◌++◌, OnOk, OnErr, drop, length};
+ghost use Rattle.prefix_keys.specs.Print.{address_groups, address_text, block_text, colon_text, dotted_text, longest_run};
 
-mod buffer;
+mod digits;
 
 use crate::addr::Addr;
 use crate::block::Block;
 use crate::version::Version;
-use buffer::TextBuffer;
+use digits::{write_groups, write_octet};
 use std::alloc::AllocError;
+
+// How many bytes the text of a block has at most: eight groups of four digits, each with a separator, and `/128`.
+const CAPACITY: usize = 44;
 
 // How many zero groups `::` stands for at least.
 const SHORTEST_GAP: usize = 2;
@@ -20,18 +23,6 @@ fn part(value: u128, bits: u32, place: u32) -> u16
     ensures { result ≡ value / 2 ^ (bits * place) % 2 ^ bits }
 {
     ((value >> (bits * place)) % (1 << bits)) as u16
-}
-
-// The four bytes of an IPv4 address, the highest first.
-fn bytes_of(value: u128) -> [u16; 4]
-    ensures { result ≡ address_bytes value }
-{
-    [
-        part(value, 8, 3),
-        part(value, 8, 2),
-        part(value, 8, 1),
-        part(value, 8, 0),
-    ]
 }
 
 // The eight groups of an IPv6 address, the highest first.
@@ -69,43 +60,55 @@ fn longest_zeros(groups: &[u16]) -> (usize, usize)
     (start, len)
 }
 
-// The text of an IPv4 address.
-fn dotted(value: u128) -> TextBuffer
-    ensures text { result ≡ dotted_text value }
-    ensures len { length result ≤ 40 }
+// Writes the text of an IPv4 address so that it ends at `end`, and returns where it starts.
+#[inline(always)]
+fn write_dotted(value: u128, buf: &mut [u8], end: usize) -> usize
+    requires room { 16 ≤ end }
+    requires within { end ≤ length buf.old }
+    ensures start { result ≤ end }
+    ensures room { end ≤ result + 15 }
+    ensures written { drop result buf.new ≡ dotted_text value ++ drop end buf.old }
 {
-    let mut text = TextBuffer::new();
-    text.push_joined(&bytes_of(value), 10, b'.');
-    text
+    let at = write_octet(part(value, 8, 0), buf, end) - 1;
+    buf[at] = b'.';
+    let at = write_octet(part(value, 8, 1), buf, at) - 1;
+    buf[at] = b'.';
+    let at = write_octet(part(value, 8, 2), buf, at) - 1;
+    buf[at] = b'.';
+    write_octet(part(value, 8, 3), buf, at)
 }
 
-// The text of an IPv6 address.
-fn colon(value: u128) -> TextBuffer
-    ensures text { result ≡ colon_text value }
-    ensures len { length result ≤ 40 }
+// The same of an IPv6 address.
+fn write_colon(value: u128, buf: &mut [u8], end: usize) -> usize
+    requires room { 40 ≤ end }
+    requires within { end ≤ length buf.old }
+    ensures start { result ≤ end }
+    ensures room { end ≤ result + 40 }
+    ensures written { drop result buf.new ≡ colon_text value ++ drop end buf.old }
 {
     let groups = groups_of(value);
     let (start, len) = longest_zeros(&groups);
-    let mut text = TextBuffer::new();
     if len < SHORTEST_GAP {
-        text.push_joined(&groups, 16, b':');
-    } else {
-        text.push_joined(&groups[..start], 16, b':');
-        text.push(b':');
-        text.push(b':');
-        text.push_joined(&groups[start + len..], 16, b':');
+        return write_groups(&groups, buf, end);
     }
-    text
+    let at = write_groups(&groups[start + len..], buf, end);
+    buf[at - 1] = b':';
+    buf[at - 2] = b':';
+    write_groups(&groups[..start], buf, at - 2)
 }
 
-// The text of an address.
-fn text_of(version: Version, value: u128) -> TextBuffer
-    ensures text { result ≡ address_text version value }
-    ensures len { length result ≤ 40 }
+// The same of an address.
+#[inline(always)]
+fn write_address(version: Version, value: u128, buf: &mut [u8], end: usize) -> usize
+    requires room { 40 ≤ end }
+    requires within { end ≤ length buf.old }
+    ensures start { result ≤ end }
+    ensures room { end ≤ result + 40 }
+    ensures written { drop result buf.new ≡ address_text version value ++ drop end buf.old }
 {
     match version {
-        Version::V4 => dotted(value),
-        Version::V6 => colon(value),
+        Version::V4 => write_dotted(value, buf, end),
+        Version::V6 => write_colon(value, buf, end),
     }
 }
 
@@ -119,7 +122,9 @@ pub fn print_addr(out: &mut Vec<u8>, addr: Addr) -> Result<(), AllocError>
     ensures ok { OnOk result (out.new.items ≡ out.old.items ++ address_text addr.version addr.value) }
     ensures err { OnErr result (out.new.items ≡ out.old.items) }
 {
-    out.extend_from_slice(text_of(addr.version, addr.value).as_slice())
+    let mut bytes = [0; CAPACITY];
+    let start = write_address(addr.version, addr.value, &mut bytes, CAPACITY);
+    out.extend_from_slice(&bytes[start..])
 }
 
 /// Appends the text of a block: its address, `/` and its length.
@@ -132,8 +137,9 @@ pub fn print_block(out: &mut Vec<u8>, block: &Block) -> Result<(), AllocError>
         ≡ out.old.items ++ block_text block.now.version block.now.value block.now.len) }
     ensures err { OnErr result (out.new.items ≡ out.old.items) }
 {
-    let mut text = text_of(block.version, block.value);
-    text.push(b'/');
-    text.push_number(block.len, 10);
-    out.extend_from_slice(text.as_slice())
+    let mut bytes = [0; CAPACITY];
+    let at = write_octet(block.len as u16, &mut bytes, CAPACITY) - 1;
+    bytes[at] = b'/';
+    let at = write_address(block.version, block.value, &mut bytes, at);
+    out.extend_from_slice(&bytes[at..])
 }

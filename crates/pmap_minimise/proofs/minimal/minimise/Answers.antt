@@ -28,8 +28,8 @@ returns-clause-minimal c =
     let certificate = certificate_of c.new-certificate.result in
     let tree = tree_of m.table root in
     let table = c.new-certificate.ensures.labels ∙ c.in_ok-copy.ensures in
-    let same : certificate ≡ record { version = m.version; table = m.table; root = tree } =
-    λ i. record { version = c.new-certificate.ensures.version i; table = table i; root = tree_of (table i) (c.new-certificate.ensures.root i) } in
+    let same : certificate ≡ record { format = 1; version = m.version; table = m.table; root = tree } =
+    λ i. record { format = 1; version = c.new-certificate.ensures.version i; table = table i; root = tree_of (table i) (c.new-certificate.ensures.root i) } in
     let pair = minimal m l certificate tree stands c.in_ok-list.ensures same in
     pair
 
@@ -43,8 +43,8 @@ returns-clause-equivalent c =
     let certificate = certificate_of c.new-certificate.result in
     let tree = tree_of m.table root in
     let table = c.new-certificate.ensures.labels ∙ c.in_ok-copy.ensures in
-    let same : certificate ≡ record { version = m.version; table = m.table; root = tree } =
-    λ i. record { version = c.new-certificate.ensures.version i; table = table i; root = tree_of (table i) (c.new-certificate.ensures.root i) } in
+    let same : certificate ≡ record { format = 1; version = m.version; table = m.table; root = tree } =
+    λ i. record { format = 1; version = c.new-certificate.ensures.version i; table = table i; root = tree_of (table i) (c.new-certificate.ensures.root i) } in
     let pair = minimal m l certificate tree stands c.in_ok-list.ensures same in
     c.minimal_pair_is_accepted.ensures.equivalent m l certificate pair
 
@@ -58,8 +58,8 @@ returns-clause-count c =
     let certificate = certificate_of c.new-certificate.result in
     let tree = tree_of m.table root in
     let table = c.new-certificate.ensures.labels ∙ c.in_ok-copy.ensures in
-    let same : certificate ≡ record { version = m.version; table = m.table; root = tree } =
-    λ i. record { version = c.new-certificate.ensures.version i; table = table i; root = tree_of (table i) (c.new-certificate.ensures.root i) } in
+    let same : certificate ≡ record { format = 1; version = m.version; table = m.table; root = tree } =
+    λ i. record { format = 1; version = c.new-certificate.ensures.version i; table = table i; root = tree_of (table i) (c.new-certificate.ensures.root i) } in
     let pair = minimal m l certificate tree stands c.in_ok-list.ensures same in
     let count = c.minimal_pair_is_accepted.ensures.count m l certificate pair in
     let entries : length l.prefixes ≡ length c.in_ok-list.list.entries = length-map c.in_ok-list.list.entries (prefix_of c.in_ok-list.list.labels) in
@@ -76,8 +76,8 @@ returns-clause-least c =
     let certificate = certificate_of c.new-certificate.result in
     let tree = tree_of m.table root in
     let table = c.new-certificate.ensures.labels ∙ c.in_ok-copy.ensures in
-    let same : certificate ≡ record { version = m.version; table = m.table; root = tree } =
-    λ i. record { version = c.new-certificate.ensures.version i; table = table i; root = tree_of (table i) (c.new-certificate.ensures.root i) } in
+    let same : certificate ≡ record { format = 1; version = m.version; table = m.table; root = tree } =
+    λ i. record { format = 1; version = c.new-certificate.ensures.version i; table = table i; root = tree_of (table i) (c.new-certificate.ensures.root i) } in
     let pair = minimal m l certificate tree stands c.in_ok-list.ensures same in
     c.minimal_pair_is_accepted.ensures.least m l certificate pair
 
@@ -91,8 +91,8 @@ returns-clause-accepted c =
     let certificate = certificate_of c.new-certificate.result in
     let tree = tree_of m.table root in
     let table = c.new-certificate.ensures.labels ∙ c.in_ok-copy.ensures in
-    let same : certificate ≡ record { version = m.version; table = m.table; root = tree } =
-    λ i. record { version = c.new-certificate.ensures.version i; table = table i; root = tree_of (table i) (c.new-certificate.ensures.root i) } in
+    let same : certificate ≡ record { format = 1; version = m.version; table = m.table; root = tree } =
+    λ i. record { format = 1; version = c.new-certificate.ensures.version i; table = table i; root = tree_of (table i) (c.new-certificate.ensures.root i) } in
     let pair = minimal m l certificate tree stands c.in_ok-list.ensures same in
     c.minimal_pair_is_accepted.ensures.accepted m l certificate pair
 

@@ -6,7 +6,7 @@ use Rattle.pmap_print.specs.Cell.{cell_text}
 use Rattle.pmap_print.specs.Groups.{group_fields, group_lines}
 use Rattle.pmap_print.specs.Table.{Line, column_width, table_lines}
 use Rattle.pmap_print.proofs.Filled.{map-filled_line-zero, slice_index-zeros}
-use Rattle.pmap_print.proofs.GroupLines.{all_group_lines, group_lines-group, group_lines-same, length-group_fields, length-group_lines, parts_at, whole_slice}
+use Rattle.pmap_print.proofs.GroupLines.{all_group_lines, group_lines-group, group_lines-same, length-group_fields, length-group_lines, whole_slice}
 use Rattle.pmap_print.proofs.Lines.{widened}
 use Rattle.pmap_print.proofs.groups.column_widths.Goals as goal
 
@@ -18,11 +18,9 @@ returns-then-not-columns-clause-widths c =
 
 pub widen-requires-in-loop-group : goal.widen-requires-in-loop-group
 widen-requires-in-loop-group c =
-    let parts : length (group_model c.group-item.result).key ≡ length c.args.fields.now
-    = parts_at (length c.args.fields.now) c.args.groups.now c.loop-group.group-index c.group-item.result c.requires c.group-item.is c.loop-group-test.true in
     let cells : length c.as_slice-in-loop-group.result.now ≡ length c.args.fields.now + 3
     = ap length c.as_slice-in-loop-group.ensures.value ∙ sym (length-map c.fill_group.new.cells.items cell_text) ∙ ap length c.in_ok-fill_group.ensures
-    ∙ length-group_fields (group_model c.group-item.result) (length c.args.fields.now) parts in
+    ∙ length-group_fields _ (length c.args.fields.now) (c.requires c.loop-group.group-index _ c.loop-group-test.true) in
     let widths : length c.as_mut_slice-in-loop-group.result.now ≡ length c.args.fields.now + 3
     = ap length c.as_mut_slice-in-loop-group.ensures.value ∙ c.loop-group.invariant.long in
     omega (arith, cells, widths)
@@ -30,8 +28,6 @@ widen-requires-in-loop-group c =
 pub loop-group-preserved : goal.loop-group-preserved
 loop-group-preserved c =
     let lines : List Line = group_lines c.args.fields.now (map group_model c.args.groups.now) in
-    let parts : length (group_model c.group-item.result).key ≡ length c.args.fields.now
-    = parts_at (length c.args.fields.now) c.args.groups.now c.loop-group.group-index c.group-item.result c.requires c.group-item.is c.loop-group-test.true in
     let kept : length c.widen-in-loop-group.new.widths ≡ length c.as_mut_slice-in-loop-group.result.now = omega (arith, c.widen-in-loop-group.auto.widths) in
     let same = whole_slice c.loop-group.widths.len c.widen-in-loop-group.new.widths c.as_mut_slice-in-loop-group.result.now c.loop-group.widths.items kept
     c.as_mut_slice-in-loop-group.ensures.len c.as_mut_slice-in-loop-group.ensures.value in
@@ -39,12 +35,12 @@ loop-group-preserved c =
       long = ap length same ∙ kept ∙ ap length c.as_mut_slice-in-loop-group.ensures.value ∙ c.loop-group.invariant.long;
       wide = λ k h.
           ap (λ (l : List ℕ). slice_index l k) same
-          ∙ widened c.as_slice-in-loop-group.result.now (group_fields (group_model c.group-item.result)) c.as_mut_slice-in-loop-group.result.now
+          ∙ widened c.as_slice-in-loop-group.result.now _ c.as_mut_slice-in-loop-group.result.now
           c.widen-in-loop-group.new.widths lines (c.loop-group.group-index + 1) (length c.args.fields.now + 3)
           (ap (map cell_text) c.as_slice-in-loop-group.ensures.value ∙ c.in_ok-fill_group.ensures)
-          (group_lines-group c.args.fields.now c.args.groups.now c.loop-group.group-index c.group-item.result c.group-item.is c.loop-group-test.true)
+          (group_lines-group c.args.fields.now c.args.groups.now c.loop-group.group-index _ c.loop-group-test.true)
           (omega (arith, length-group_lines c.args.fields.now c.args.groups.now))
-          (length-group_fields (group_model c.group-item.result) (length c.args.fields.now) parts)
+          (length-group_fields _ (length c.args.fields.now) (c.requires c.loop-group.group-index _ c.loop-group-test.true))
           (λ j below. ap (λ (l : List ℕ). slice_index l j) c.as_mut_slice-in-loop-group.ensures.value ∙ c.loop-group.invariant.wide j below)
           c.in_ok-widen-2.ensures k h;
     }

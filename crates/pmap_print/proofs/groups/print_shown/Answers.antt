@@ -3,7 +3,7 @@ use Rattle.std.specs.Prelude.{slice_index}
 use Rattle.std.specs.List.{flat_map}
 use Rattle.flow_uniq.specs.Kept.{group_model}
 use Rattle.pmap_print.specs.Cell.{cell_text}
-use Rattle.pmap_print.specs.Groups.{group_fields, group_lines}
+use Rattle.pmap_print.specs.Groups.{group_lines}
 use Rattle.pmap_print.specs.Table.{Line, filled_line, line_text}
 use Rattle.pmap_print.proofs.GroupLines.{all_group_lines, group_lines-group, length-group_lines}
 use Rattle.pmap_print.proofs.Lines.{printed}
@@ -12,9 +12,9 @@ use Rattle.pmap_print.proofs.groups.print_shown.Goals as goal
 pub loop-group-preserved : goal.loop-group-preserved
 loop-group-preserved c =
     printed (slice_index c.in_ok-widths.widths.items) (group_lines c.args.fields.now (map group_model c.args.groups.now)) (c.loop-group.group-index + 1)
-    c.as_slice-in-loop-group.result.now (group_fields (group_model c.group-item.result)) c.loop-group.out.items c.print_line-in-loop-group.new.out.items
+    c.as_slice-in-loop-group.result.now _ c.loop-group.out.items c.print_line-in-loop-group.new.out.items
     (ap (map cell_text) c.as_slice-in-loop-group.ensures.value ∙ c.in_ok-fill_group.ensures)
-    (group_lines-group c.args.fields.now c.args.groups.now c.loop-group.group-index c.group-item.result c.group-item.is c.loop-group-test.true)
+    (group_lines-group c.args.fields.now c.args.groups.now c.loop-group.group-index _ c.loop-group-test.true)
     (omega (arith, length-group_lines c.args.fields.now c.args.groups.now))
     c.loop-group.invariant
     (c.in_ok-print_line-2.ensures

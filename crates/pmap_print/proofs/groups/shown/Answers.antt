@@ -1,7 +1,7 @@
 use Rattle.std.proofs.Common.{◌≡◌, None, map, option_map, sym, ap, ◌∙◌, arith}
 use Rattle.std.specs.List.{slice_get}
 use Rattle.flow_uniq.specs.Kept.{group_model}
-use Rattle.pmap_print.proofs.GroupLines.{none_past, shown-more}
+use Rattle.flow_uniq.proofs.Listing.{listed-more, none_past}
 use Rattle.pmap_print.proofs.groups.shown.Goals as goal
 use Rattle.pmap_print.proofs.groups.shown.Goals.{in-Some+in_ok-push, in_default}
 
@@ -10,7 +10,7 @@ loop-place-preserved c =
     elim c.match-group.branch [
       | in-Some+in_ok-push w ↦
           ap (λ v. map group_model v.items) w.shown-is
-          ∙ shown-more c.loop-place.shown.items _ w.in-Some.group c.args.groups.now.groups c.loop-place.place c.loop-place.invariant
+          ∙ listed-more c.loop-place.shown.items _ w.in-Some.group c.args.groups.now.groups c.loop-place.place c.loop-place.invariant
           w.in_ok-push.ensures.items (sym c.group.ensures ∙ ap (option_map group_model) w.in-Some.is)
       | in_default w ↦
           let at : slice_get c.args.groups.now.groups c.loop-place.place ≡ None = sym c.group.ensures ∙ ap (option_map group_model) w.in_default.is in

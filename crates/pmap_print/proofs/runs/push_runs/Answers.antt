@@ -1,16 +1,35 @@
-use Rattle.std.proofs.Common.{◌∙◌, ap}
-use Rattle.label_trie.specs.declared.leaf.Leaf.{Leaf}
-use Rattle.pmap_print.specs.Stretches.{stretch_view}
-use Rattle.pmap_print.proofs.RunTexts.{text-step}
+use Rattle.std.proofs.Common.{◌≡◌, ◌+◌, ◌∙◌, sym, arith}
+use Rattle.std.proofs.lemmas.Result.{on_ok_weaker}
+use Rattle.pmap_print.proofs.Stretches.{run_begins, run_ends, run_goes_on, runs_end}
 use Rattle.pmap_print.proofs.runs.push_runs.Goals as goal
 
-pub loop-leaf-preserved : goal.loop-leaf-preserved
-loop-leaf-preserved c =
-    let own = ap (λ (leaf : Leaf). leaf.block.version) c.leaf-item.is ∙ c.requires c.loop-leaf.leaf-index c.leaf-item.result c.loop-leaf-test.true in (
-      c.in_ok-go_on.ensures.low ∙ c.loop-leaf.invariant.0,
-      c.in_ok-go_on.ensures.high ∙ c.loop-leaf.invariant.0,
-      text-step c.args.labels.now c.args.first.now.block.version c.loop-leaf.stretch.low.version c.loop-leaf.invariant.0 c.loop-leaf.out.items
-          c.go_on.new.out.items (stretch_view c.loop-leaf.stretch) (stretch_view c.go_on.new.stretch) (stretch_view c.leaf_stretch-next.result)
-          c.args.rest.now c.loop-leaf.leaf-index c.leaf-item.result c.leaf-item.is c.loop-leaf-test.true own c.leaf_stretch-next.ensures.view
-          c.in_ok-go_on.ensures.text _ c.loop-leaf.invariant.2,
-    )
+pub loop-stretches-init : goal.loop-stretches-init
+loop-stretches-init c =
+    run_begins c.args.labels.now c.args.stretches.now c.args.out.now.items c.here-stretch.result c.here-stretch.ensures.stretch
+    c.here-stretch.ensures.view c.here-stretch.ensures.low c.here-stretch.ensures.high c.requires.first c.requires.known c.requires.default
+
+pub loop-stretches-preserved-then-is_same : goal.loop-stretches-preserved-then-is_same
+loop-stretches-preserved-then-is_same c =
+    let last = c.last-next.ensures.value in
+    let next = c.in_ok-reach.ensures.next (omega (arith, last)) in
+    run_goes_on c.args.labels.now c.args.stretches.now c.loop-stretches.stretches c.reach.new.self c.args.out.now.items c.loop-stretches.out.items
+    c.loop-stretches.stretch c.here-next.result c.loop-stretches.invariant c.reach.ensures.same c.here-next.ensures.stretch
+    (omega (arith, next, last)) c.here-next.ensures.view c.here-next.ensures.high c.requires.known c.requires.default
+    (sym c.is_same.ensures ∙ c.if-is_same.true)
+
+pub loop-stretches-preserved : goal.loop-stretches-preserved
+loop-stretches-preserved c =
+    let last = c.last-next.ensures.value in
+    let next = c.in_ok-reach.ensures.next (omega (arith, last)) in
+    run_ends c.args.labels.now c.len-count.ensures.table c.args.stretches.now c.loop-stretches.stretches c.reach.new.self c.args.out.now.items
+    c.loop-stretches.out.items c.print_stretch.new.out.items c.loop-stretches.stretch c.here-next.result c.loop-stretches.invariant
+    c.reach.ensures.same c.here-next.ensures.stretch (omega (arith, next, last)) c.here-next.ensures.view c.here-next.ensures.low
+    c.here-next.ensures.high c.requires.known c.requires.default (sym c.is_same.ensures ∙ c.if-is_same.false) c.in_ok-print_stretch.ensures
+
+pub returns : goal.returns
+returns c =
+    on_ok_weaker c.print_stretch-2.result
+    (λ text. runs_end c.args.labels.now c.args.stretches.now c.loop-stretches.stretches c.args.out.now.items c.loop-stretches.out.items
+    c.print_stretch-2.new.out.items c.loop-stretches.stretch c.loop-stretches.invariant (c.is_at_end.ensures.0 c.loop-stretches-test.false)
+    c.requires.title text)
+    c.print_stretch-2.ensures

@@ -3,7 +3,7 @@ use Rattle.std.proofs.lemmas.List.Elements.{All-contains}
 use Rattle.std.proofs.lemmas.List.Sorted.{IsPartitionPoint-from_clause, IsPartitionedBy-leb}
 use Rattle.pmap_text.specs.ListModel.{ListModel, list_label}
 use Rattle.pmap_text.specs.declared.entry.Entry.{Entry}
-use Rattle.label_trie.proofs.Lookup.{known_text}
+use Rattle.pmap_text.proofs.Orders.{known_text}
 use Rattle.label_lookup.specs.EntryOrder.{IsIndex}
 use Rattle.label_lookup.proofs.Indexed.{none_covers, top_label, top_listed}
 use Rattle.label_lookup.proofs.list_index.ListIndexLabeller.label_of.Goals as goal

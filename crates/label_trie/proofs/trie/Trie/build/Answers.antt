@@ -1,4 +1,4 @@
-use Rattle.std.proofs.Common.{◌≤◌, Some, length, refl}
+use Rattle.std.proofs.Common.{Some, refl}
 use Rattle.prefix_keys.specs.Version.{width_of}
 use Rattle.pmap_text.specs.MapText.{map_of}
 use Rattle.label_trie.specs.Nodes.{tree_of}
@@ -10,21 +10,26 @@ use Rattle.label_trie.proofs.trie.Trie.build.Goals as goal
 pub invariant_of-result : goal.invariant_of-result
 invariant_of-result c =
     let text = c.args.map.now in
-    let ss = c.as_slice-statements.result.now in
-    let nodes = c.in_ok-grow.field-0.items in
-    let same = c.as_slice-statements.ensures in
-    let few : length ss ≤ 1000000 = rw same text.within_limit in
-    (grown_trie text.version ss (Some text.default) nodes (map_of text) (map_layers text ss same) c.in_ok-grow.ensures few).trie
+    let walk = c.in_ok-stretches.ensures in
+    let version = walk.version in
+    let statements = walk.statements in
+    let default = walk.default in
+    let added = rw (version, statements, default) at c.in_ok-grow.ensures in
+    (grown_trie text.version text.statements (Some text.default) c.in_ok-grow.field-0.items (map_of text) (map_layers text text.statements refl)
+    added text.within_limit).trie
 
 pub returns : goal.returns
 returns c =
     let text = c.args.map.now in
-    let ss = c.as_slice-statements.result.now in
+    let ss = text.statements in
     let nodes = c.in_ok-grow.field-0.items in
-    let same = c.as_slice-statements.ensures in
-    let layers = map_layers text ss same in
-    let few : length ss ≤ 1000000 = rw same text.within_limit in
-    let grown = grown_trie text.version ss (Some text.default) nodes (map_of text) layers c.in_ok-grow.ensures few in
+    let walk = c.in_ok-stretches.ensures in
+    let version = walk.version in
+    let statements = walk.statements in
+    let default = walk.default in
+    let added = rw (version, statements, default) at c.in_ok-grow.ensures in
+    let layers = map_layers text ss refl in
+    let grown = grown_trie text.version ss (Some text.default) nodes (map_of text) layers added text.within_limit in
     let tree = tree_of nodes in
     let fits = grown.fits (map_of text) layers in
     let settled = leaves_settled (map_of text) tree fits (grown.labelled refl) in
@@ -34,5 +39,5 @@ returns c =
       settled = settled;
       undivided = leaves_undivided (map_of text) tree fits (grown.labelled refl);
       labels = λ a below. labels_fit (map_of text) tree a grown.trie.room settled below;
-      bounded = rw (← same) (map_bounded (width_of text.version) ss (Some text.default) nodes grown);
+      bounded = map_bounded (width_of text.version) ss (Some text.default) nodes grown;
     }

@@ -4,37 +4,53 @@ use Rattle.pmap_text.specs.PrefixList.{prefix_of}
 use Rattle.label_trie.specs.Nodes.{tree_of}
 use Rattle.label_trie.proofs.Built.{grown_trie, trie_cut}
 use Rattle.label_trie.proofs.ListBuilt.{list_bounded, list_decided, list_labels, list_ready, list_seen}
-use Rattle.label_trie.proofs.Painted.{painting}
+use Rattle.pmap_text.proofs.Painted.{painting}
 use Rattle.label_trie.proofs.trie.Trie.build_list.Goals as goal
 
-pub grow-requires-clause-version : goal.grow-requires-clause-version
-grow-requires-clause-version c =
-    let ready = list_ready c.args.list.now _ _ c.as_slice-2.result.now c.as_slice.ensures.value c.as_slice-2.ensures.value c.in_ok-statements.ensures in
+pub new-requires-clause-version : goal.new-requires-clause-version
+new-requires-clause-version c =
+    let ready = list_ready c.args.list.now c.args.list.now.entries _ c.as_slice.result.now refl c.as_slice.ensures.value c.in_ok-statements.ensures.order in
     ready.layers.version
+
+pub new-requires-clause-few : goal.new-requires-clause-few
+new-requires-clause-few c =
+    let ready = list_ready c.args.list.now c.args.list.now.entries _ c.as_slice.result.now refl c.as_slice.ensures.value c.in_ok-statements.ensures.order in
+    omega (arith, ready.layers.count, c.requires)
 
 pub grow-requires-clause-few : goal.grow-requires-clause-few
 grow-requires-clause-few c =
-    let ready = list_ready c.args.list.now _ _ c.as_slice-2.result.now c.as_slice.ensures.value c.as_slice-2.ensures.value c.in_ok-statements.ensures in
-    omega (arith, ready.layers.count, c.requires)
+    let ready = list_ready c.args.list.now c.args.list.now.entries _ c.as_slice.result.now refl c.as_slice.ensures.value c.in_ok-statements.ensures.order in
+    let statements = c.in_ok-stretches.ensures.statements in
+    rw statements (omega (arith, ready.layers.count, c.requires))
 
 pub invariant_of-result : goal.invariant_of-result
 invariant_of-result c =
     let list = c.args.list.now in
-    let ss = c.as_slice-2.result.now in
-    let ready = list_ready list _ _ ss c.as_slice.ensures.value c.as_slice-2.ensures.value c.in_ok-statements.ensures in
+    let ss = c.as_slice.result.now in
+    let ready = list_ready list list.entries _ ss refl c.as_slice.ensures.value c.in_ok-statements.ensures.order in
     let few : length ss ≤ 1000000 = omega (arith, ready.layers.count, c.requires) in
     let m = painting list.version list.labels (map (prefix_of list.labels) ready.sorted) [] in
-    (grown_trie list.version ss None c.in_ok-grow.field-0.items m (ready.layers.layers []) c.in_ok-grow.ensures few).trie
+    let walk = c.in_ok-stretches.ensures in
+    let version = walk.version in
+    let statements = walk.statements in
+    let default = walk.default in
+    let added = rw (version, statements, default) at c.in_ok-grow.ensures in
+    (grown_trie list.version ss None c.in_ok-grow.field-0.items m (ready.layers.layers []) added few).trie
 
 pub returns : goal.returns
 returns c =
     let list = c.args.list.now in
-    let ss = c.as_slice-2.result.now in
+    let ss = c.as_slice.result.now in
     let nodes = c.in_ok-grow.field-0.items in
-    let ready = list_ready list _ _ ss c.as_slice.ensures.value c.as_slice-2.ensures.value c.in_ok-statements.ensures in
+    let ready = list_ready list list.entries _ ss refl c.as_slice.ensures.value c.in_ok-statements.ensures.order in
     let few : length ss ≤ 1000000 = omega (arith, ready.layers.count, c.requires) in
     let m = painting list.version list.labels (map (prefix_of list.labels) ready.sorted) [] in
-    let grown = grown_trie list.version ss None nodes m (ready.layers.layers []) c.in_ok-grow.ensures few in
+    let walk = c.in_ok-stretches.ensures in
+    let version = walk.version in
+    let statements = walk.statements in
+    let default = walk.default in
+    let added = rw (version, statements, default) at c.in_ok-grow.ensures in
+    let grown = grown_trie list.version ss None nodes m (ready.layers.layers []) added few in
     let tree = tree_of nodes in
     let seen = list_seen list ready.sorted tree ready.moved ready.up
     (λ fallback. grown.fits (painting list.version list.labels (map (prefix_of list.labels) ready.sorted) fallback) (ready.layers.layers fallback)) in

@@ -1,0 +1,197 @@
+-- A prefix list's entries as statements that lie over one another, the short ones first.
+use Rattle.std.proofs.Common.{◌≡◌, ℕ, suc, ◌+◌, ◌-◌, ◌*◌, ◌%◌, ◌^◌, ◌<◌, ◌≤◌, ◌==◌, List, [], ◌∷◌, Option, Some, None, option_and_then, map, length, refl, sym, ap, ◌∙◌, subst, arith, All, Contains, slice_get}
+use Rattle.std.specs.List.{AllZip}
+use Rattle.std.specs.List.Sorted.{IsNonDecreasingBy, IsPermutation}
+use Rattle.std.proofs.lemmas.Bool.{and_from, eq-eqb}
+use Rattle.std.proofs.lemmas.List.Elements.{All-contains, All-cons, All-head, All-map, All-nil, All-tail, All-weaker}
+use Rattle.std.proofs.lemmas.List.Sorted.{All-permutation, IsPermutation-map, IsPermutation-sym, length_permutation}
+use Rattle.std.proofs.lemmas.Nat.{pow_pos}
+use Rattle.prefix_keys.specs.Block.{block_number}
+use Rattle.prefix_keys.specs.Version.{width_of}
+use Rattle.prefix_keys.specs.declared.version.Version.{Version}
+use Rattle.prefix_keys.proofs.Quotients.{whole}
+use Rattle.pmap_text.specs.ListEntries.{same_block}
+use Rattle.pmap_text.specs.ListModel.{Prefix, list_label}
+use Rattle.pmap_text.specs.MapModel.{Label, Mapping, label_or, last_such, map_label, spans}
+use Rattle.pmap_text.specs.MapText.{map_of, mapping_of, text_at}
+use Rattle.pmap_text.specs.Painting.{AreShortestFirst, HasStatement}
+use Rattle.pmap_text.specs.PrefixList.{list_of, prefix_of}
+use Rattle.pmap_text.specs.Stretches.{StretchesModel, mappings_of, text_or, text_won}
+use Rattle.std.specs.Prelude.{Result, Ok, Err, IfOk}
+use Rattle.pmap_text.specs.declared.entry.Entry.{Entry}
+use Rattle.pmap_text.specs.declared.label.LabelId.{LabelId}
+use Rattle.std.specs.Option.{ForSome}
+use Rattle.std.proofs.lemmas.Option.{same_Some}
+use Rattle.pmap_text.specs.declared.map_text.MapText.{MapText}
+use Rattle.pmap_text.specs.declared.prefix_list.PrefixList.{PrefixList}
+use Rattle.pmap_text.specs.declared.statement.Statement.{Statement}
+use Rattle.pmap_text.proofs.Finds.{Contains-from_map, distinct_same}
+use Rattle.pmap_text.proofs.Longest.{AreBlocks, label_seen}
+use Rattle.pmap_text.proofs.Orders.{known_text}
+use Rattle.pmap_text.proofs.Painted.{IsRising, IsSeen, painted, rising, seen_by, seen_permuted, unmet}
+use Rattle.pmap_text.proofs.Seen.{last_such-is}
+use Rattle.pmap_text.proofs.SeenBlocks.{IsWhole, address_whole, ordered_of}
+
+-- what holds of each entry holds of its statement in another form
+pub zip_all : (P : Entry → Type 0) (Q : Statement → Type 0) → ((e : Entry) (s : Statement) → HasStatement e s → P e → Q s) → (es : List Entry)
+    → (ss : List Statement) → AllZip HasStatement es ss → All P es → All Q ss
+zip_all P Q step [] [] all given = All-nil Q
+zip_all P Q step [] (s ∷ ss) all given = absurd all
+zip_all P Q step (e ∷ es) [] all given = absurd all
+zip_all P Q step (e ∷ es) (s ∷ ss) all given =
+    All-cons Q s ss (step e s all.0 (All-head P e es given)) (zip_all P Q step es ss all.1 (All-tail P e es given))
+
+pub zip_length : (es : List Entry) (ss : List Statement) → AllZip HasStatement es ss → length es ≡ length ss
+zip_length [] [] all = refl
+zip_length [] (s ∷ ss) all = absurd all
+zip_length (e ∷ es) [] all = absurd all
+zip_length (e ∷ es) (s ∷ ss) all = omega (arith, zip_length es ss all.1)
+
+-- an entry's statement is the mapping of its block
+same_mapping : (v : Version) (table : List Label) (e : Entry) (s : Statement) → e.block.version ≡ v → HasStatement e s
+    → painted (width_of v) (prefix_of table e) ≡ mapping_of table s
+same_mapping v table e s same is = let label = is.label in let low = is.low in let high = is.high in rw (← same, label, low, high)
+
+pub zip_mappings : (v : Version) (table : List Label) (es : List Entry) (ss : List Statement) → AllZip HasStatement es ss
+    → All (λ e. e.block.version ≡ v) es → map (painted (width_of v)) (map (prefix_of table) es) ≡ mappings_of table ss
+zip_mappings v table [] [] all same = refl
+zip_mappings v table [] (s ∷ ss) all same = absurd all
+zip_mappings v table (e ∷ es) [] all same = absurd all
+zip_mappings v table (e ∷ es) (s ∷ ss) all same =
+    let here = same_mapping v table e s (All-head (λ (d : Entry). d.block.version ≡ v) e es same) all.0 in
+    let rest = zip_mappings v table es ss all.1 (All-tail (λ (d : Entry). d.block.version ≡ v) e es same) in
+    rw (here, rest)
+
+-- the entries' blocks are distinct and have no host bits, so entries of one block are one
+block_start : (v : Version) (e : Entry) → e.block.version ≡ v
+    → block_number (width_of v) e.block.len e.block.value * 2 ^ (width_of v - e.block.len) ≡ e.block.value
+block_start v e same =
+    let W = width_of v in
+    let free : e.block.value % 2 ^ (W - e.block.len) ≡ 0 = rw (← same) e.block.no_host_bit in
+    whole e.block.value (2 ^ (W - e.block.len)) (pow_pos (W - e.block.len)) free
+
+block_short : (v : Version) (e : Entry) → e.block.version ≡ v → e.block.len ≤ width_of v
+block_short v e same = rw (← same) e.block.len_in_range
+
+same_start : (W n a b : ℕ) → block_number W n a ≡ block_number W n b → block_number W n a * 2 ^ (W - n) ≡ a
+    → block_number W n b * 2 ^ (W - n) ≡ b → a ≡ b
+same_start W n a b same left right = sym left ∙ ap (λ (k : ℕ). k * 2 ^ (W - n)) same ∙ right
+
+same_entry : (l : PrefixList) (d e : Entry) → Contains l.entries d → Contains l.entries e → d.block.len ≡ e.block.len
+    → block_number (width_of l.version) d.block.len d.block.value ≡ block_number (width_of l.version) e.block.len e.block.value → d ≡ e
+same_entry l d e has has' bits number =
+    let W = width_of l.version in
+    let left = block_start l.version d (All-contains (λ e. e.block.version ≡ l.version) l.entries d l.one_version has) in
+    let right = block_start l.version e (All-contains (λ e. e.block.version ≡ l.version) l.entries e l.one_version has') in
+    let start : d.block.value ≡ e.block.value = same_start W e.block.len d.block.value e.block.value (rw bits at number) (rw bits at left) right in
+    distinct_same same_block l.entries d e l.blocks_distinct has has'
+    (and_from (d.block.value == e.block.value) (d.block.len == e.block.len) (eq-eqb d.block.value e.block.value start) (eq-eqb d.block.len e.block.len bits))
+    (and_from (e.block.value == d.block.value) (e.block.len == d.block.len) (eq-eqb e.block.value d.block.value (sym start)) (eq-eqb e.block.len d.block.len (sym bits)))
+
+pub list_blocks : (l : PrefixList) → AreBlocks (width_of l.version) (map (prefix_of l.labels) l.entries)
+list_blocks l =
+    let W = width_of l.version in
+    record {
+      short = All-map (λ p. p.bits ≤ W) (prefix_of l.labels) l.entries
+          (All-weaker (λ e. e.block.version ≡ l.version) (λ e. e.block.len ≤ W) (λ e same. block_short l.version e same) l.entries l.one_version);
+      alike = λ p r has has' bits number.
+          let d = Contains-from_map (prefix_of l.labels) l.entries p has in
+          let e = Contains-from_map (prefix_of l.labels) l.entries r has' in
+          let same = same_entry l d.0 e.0 d.1 e.1
+          (ap (λ (s : Prefix). s.bits) d.2 ∙ bits ∙ sym (ap (λ (s : Prefix). s.bits) e.2))
+          (ap (λ (s : Prefix). block_number W s.bits s.start) d.2 ∙ number ∙ sym (ap (λ (s : Prefix). block_number W s.bits s.start) e.2)) in
+          sym (ap (λ (s : Prefix). s.label) d.2) ∙ ap (λ (f : Entry). (prefix_of l.labels f).label) same ∙ ap (λ (s : Prefix). s.label) e.2;
+    }
+
+-- what is seen of prefixes at an address, the short ones first, by the statement that wins there
+record IsWon (W a : ℕ) (table : List Label) (ps : List Prefix) (o : Option Mapping) : Type 0 where
+  label : Option ℕ
+  seen : IsSeen W table ps W a label
+  text : text_or o None ≡ option_and_then (slice_get table) label
+
+won : (W a : ℕ) (table : List Label) (ps : List Prefix) (ss : List Statement) → IsRising ps → All (λ s. s.label.0 < length table) ss
+    → (o : Option Mapping) → last_such (spans a) (mappings_of table ss) ≡ o → IsWhole W W a (map (painted W) ps) o → IsWon W a table ps o
+won W a table ps ss up known None last whole = record { label = None; seen = unmet W W a ps whole.is; text = refl }
+won W a table ps ss up known (Some m) last whole =
+    let found = last_such-is (spans a) (mappings_of table ss) m last in
+    let from = Contains-from_map (mapping_of table) ss m found.0 in
+    let s = from.0 in
+    let below = All-contains (λ (r : Statement). r.label.0 < length table) ss s known from.1 in
+    let text : m.label ≡ text_at table s.label.0 = sym (ap (λ (r : Mapping). r.label) from.2) in
+    let covers = whole.covers m refl in
+    record {
+      label = Some s.label.0;
+      seen = (below, seen_by W W a ps (text_at table s.label.0) up (Some m) whole.is (λ fallback. rw covers (ap Some text)));
+      text = ap Some text ∙ sym (known_text table s.label.0 below);
+    }
+
+single : (W a : ℕ) → a ≡ block_number W W a
+single W a = let none : W - W ≡ 0 = omega arith in rw none (omega arith)
+
+-- the statement that wins at an address is that of the longest entry that covers it
+pub list_wins : (l : PrefixList) (ss : List Statement) (a : ℕ) → AreShortestFirst l.entries ss → text_won l.labels None ss a ≡ list_label (list_of l) a
+list_wins l ss a first =
+    let W = width_of l.version in
+    let sorted = first.sorted in
+    let ps = map (prefix_of l.labels) l.entries in
+    let rs = map (prefix_of l.labels) sorted in
+    let versions = All-permutation (λ (e : Entry). e.block.version ≡ l.version) l.entries sorted first.moved l.one_version in
+    let numbers = All-permutation (λ (e : Entry). e.label.0 < length l.labels) l.entries sorted first.moved l.numbers_known in
+    let known = zip_all (λ e. e.label.0 < length l.labels) (λ s. s.label.0 < length l.labels)
+    (λ e s is below. let same = ap (λ (id : _). id.0) is.label in omega (arith, same, below)) sorted ss first.each numbers in
+    let mappings : map (painted W) rs ≡ mappings_of l.labels ss = zip_mappings l.version l.labels sorted ss first.each versions in
+    let ordered = λ (m : Mapping) (has : Contains (map (painted W) rs) m).
+    ordered_of l.labels ss m (subst (λ (ms : List Mapping). Contains ms m) mappings has) in
+    let here = subst (λ (ms : List Mapping). IsWhole W W a (map (painted W) rs) (last_such (spans a) ms)) mappings
+    (address_whole W a (map (painted W) rs) ordered) in
+    let is = won W a l.labels rs ss (rising (prefix_of l.labels) sorted first.rising) known (last_such (spans a) (mappings_of l.labels ss)) refl here in
+    let back = IsPermutation-map (prefix_of l.labels) sorted l.entries (IsPermutation-sym l.entries sorted first.moved) in
+    is.text ∙ sym (label_seen W l.labels ps W a a (suc W) is.label (list_blocks l) (single W a) (λ bits most fits. omega (arith, fits))
+    (seen_permuted W l.labels rs ps back W a is.label is.seen))
+
+-- so it is with a map's statements and its default
+text_of : (fallback : Label) (o : Option Mapping) → text_or o (Some fallback) ≡ Some (label_or o fallback)
+text_of fallback None = refl
+text_of fallback (Some m) = refl
+
+pub map_wins : (m : MapText) (ss : List Statement) (a : ℕ) → ss ≡ m.statements
+    → text_won m.labels (Some m.default) ss a ≡ Some (map_label (map_of m) a)
+map_wins m ss a same = rw same (text_of (text_at m.labels m.default.0) (last_such (spans a) (mappings_of m.labels m.statements)))
+
+-- what is known of a list's statements
+pub record AreStatementsOf (l : PrefixList) (ss : List Statement) : Type 0 where
+  pub version : All (λ s. s.span.low.version ≡ l.version) ss
+  pub known : All (λ s. s.label.0 < length l.labels) ss
+  pub count : length ss ≡ length l.entries
+  pub labels : (a : ℕ) → text_won l.labels None ss a ≡ list_label (list_of l) a
+
+pub statements_of : (l : PrefixList) (ss : List Statement) → AreShortestFirst l.entries ss → AreStatementsOf l ss
+statements_of l ss first =
+    let sorted = first.sorted in
+    let versions = All-permutation (λ (e : Entry). e.block.version ≡ l.version) l.entries sorted first.moved l.one_version in
+    let numbers = All-permutation (λ (e : Entry). e.label.0 < length l.labels) l.entries sorted first.moved l.numbers_known in
+    record {
+      version = zip_all (λ e. e.block.version ≡ l.version) (λ s. s.span.low.version ≡ l.version) (λ e s is same. is.version ∙ same) sorted ss first.each versions;
+      known = zip_all (λ e. e.label.0 < length l.labels) (λ s. s.label.0 < length l.labels)
+          (λ e s is below. let same = ap (λ (id : _). id.0) is.label in omega (arith, same, below)) sorted ss first.each numbers;
+      count = sym (zip_length sorted ss first.each) ∙ length_permutation l.entries sorted first.moved;
+      labels = λ a. list_wins l ss a first;
+    }
+
+-- so it is with a walk over a map
+pub walk_labels : {E : Type 0} (m : MapText) (r : Result StretchesModel E) (ss : List Statement) → ss ≡ m.statements
+    → IfOk r (λ s. s.default ≡ Some m.default) → IfOk r (λ s. s.statements ≡ ss)
+    → IfOk r (λ s. (a : ℕ) → text_won m.labels s.default s.statements a ≡ Some (map_label (map_of m) a))
+walk_labels m (Ok s) ss same default statements = λ a. rw default (map_wins m s.statements a (statements ∙ same))
+walk_labels m (Err e) ss same default statements = tt
+
+pub walk_known : {E : Type 0} (m : MapText) (r : Result StretchesModel E) (ss : List Statement) → ss ≡ m.statements
+    → IfOk r (λ s. s.statements ≡ ss) → IfOk r (λ s. All (λ x. x.label.0 < length m.labels) s.statements)
+walk_known m (Ok s) ss same statements = rw (statements, same) m.numbers_known
+walk_known m (Err e) ss same statements = tt
+
+pub walk_default : {E : Type 0} (m : MapText) (r : Result StretchesModel E) → IfOk r (λ s. s.default ≡ Some m.default)
+    → IfOk r (λ s. ForSome s.default (λ id. id.0 < length m.labels))
+walk_default m (Ok s) default =
+    rw default (λ id is. subst (λ (i : LabelId). i.0 < length m.labels) (same_Some m.default id is) m.default_known)
+walk_default m (Err e) default = tt

@@ -1,0 +1,145 @@
+-- Prefixes painted over one another, the short ones first: what is seen of them at a block.
+use Rattle.std.proofs.Common.{◌≡◌, ℕ, suc, ◌+◌, ◌*◌, ◌<◌, ◌≤◌, Bool, true, false, cond, List, [], ◌∷◌, Option, Some, None, option_map, length, map, refl, sym, ap, ◌∙◌, subst, arith, All, Contains, le_refl}
+use Rattle.std.specs.List.Sorted.{IsNonDecreasingBy, IsPermutation}
+use Rattle.std.specs.Option.{option_or}
+use Rattle.std.proofs.lemmas.Bool.{both_ways}
+use Rattle.std.proofs.lemmas.Option.{cond_some, same_Some}
+use Rattle.std.proofs.lemmas.List.Elements.{All-nil, All-cons, All-append, All-map, All-weaker, All-contains}
+use Rattle.std.proofs.lemmas.List.Sorted.{All-permutation, Contains-permutation}
+use Rattle.prefix_keys.specs.Block.{block_number, first_of, last_of}
+use Rattle.prefix_keys.specs.Version.{width_of}
+use Rattle.prefix_keys.specs.declared.version.Version.{Version}
+use Rattle.pmap_text.specs.ListModel.{Prefix}
+use Rattle.pmap_text.specs.MapModel.{Label, Mapping, MapModel, last_such, meets, settled_by, spans_all}
+use Rattle.pmap_text.specs.MapText.{text_at}
+use Rattle.pmap_text.proofs.Finds.{Contains-first, Contains-later}
+
+-- the mapping of a prefix's block to its label
+abbrev pub painted : ℕ → Prefix → Mapping
+painted W p = record {
+  low = first_of W p.bits (block_number W p.bits p.start);
+  high = last_of W p.bits (block_number W p.bits p.start);
+  label = p.label;
+}
+
+-- the map of such mappings, with a label for the addresses that none covers
+abbrev pub painting : Version → List Label → List Prefix → Label → MapModel
+painting version table ps fallback = record {
+  version = version;
+  name = None;
+  fallback = fallback;
+  mappings = map (painted (width_of version)) ps;
+  table = table;
+}
+
+-- the prefix covers the block, and no longer one meets it
+pub record IsTop (W : ℕ) (ps : List Prefix) (n q : ℕ) (top : Prefix) : Type 0 where
+  pub listed : Contains ps top
+  pub covers : spans_all W n q (painted W top) ≡ true
+  pub longest : All (λ p. meets W n q (painted W p) ≡ true → p.bits ≤ top.bits) ps
+
+-- a label that is in the table is the text of the prefix on top; where there is none, no prefix meets the block
+abbrev pub IsSeen : ℕ → List Label → List Prefix → ℕ → ℕ → Option ℕ → Type 0
+IsSeen W table ps n q None = All (λ p. meets W n q (painted W p) ≡ false) ps
+IsSeen W table ps n q (Some id) =
+    (id < length table) × ((top : Prefix) × (top.label ≡ text_at table id) × IsTop W ps n q top)
+
+-- prefixes of which none is shorter than an earlier one
+abbrev pub IsRising : List Prefix → Type 0
+IsRising [] = Unit {0}
+IsRising (p ∷ ps) = All (λ r. p.bits ≤ r.bits) ps × IsRising ps
+
+pub rising : {X : Type 0} (f : X → Prefix) (xs : List X) → IsNonDecreasingBy (λ x. (f x).bits) xs → IsRising (map f xs)
+rising f [] up = tt
+rising f (x ∷ xs) up = (
+  All-map (λ r. (f x).bits ≤ r.bits) f xs (λ k d below. up 0 (suc k) d (omega arith) (omega (arith, below))),
+  rising f xs (λ i j d le below. up (suc i) (suc j) d (omega (arith, le)) (omega (arith, below))),
+)
+
+-- none meets the block
+unmet-step : (b : Bool) (m : Mapping) (o : Option Mapping) → option_or o (cond b (Some m) None) ≡ None → (b ≡ false) × (o ≡ None)
+unmet-step b m (Some s) e = absurd (let h : Some s ≡ None = e in cc)
+unmet-step true m None e = absurd (let h : Some m ≡ None = e in cc)
+unmet-step false m None e = (refl, refl)
+
+pub unmet : (W n q : ℕ) (ps : List Prefix) → last_such (meets W n q) (map (painted W) ps) ≡ None
+    → All (λ p. meets W n q (painted W p) ≡ false) ps
+unmet W n q [] e = All-nil (λ p. meets W n q (painted W p) ≡ false)
+unmet W n q (p ∷ ps) e =
+    let here = unmet-step (meets W n q (painted W p)) (painted W p) (last_such (meets W n q) (map (painted W) ps)) e in
+    All-cons (λ p. meets W n q (painted W p) ≡ false) p ps here.0 (unmet W n q ps here.1)
+
+-- the last that meets the block is the longest
+record IsLast (W n q : ℕ) (ps : List Prefix) (m : Mapping) : Type 0 where
+  last : Prefix
+  is : painted W last ≡ m
+  listed : Contains ps last
+  longest : All (λ p. meets W n q (painted W p) ≡ true → p.bits ≤ last.bits) ps
+
+last_met-step : (W n q : ℕ) (p : Prefix) (ps : List Prefix) (m : Mapping) → All (λ r. p.bits ≤ r.bits) ps
+    → ((s : Mapping) → last_such (meets W n q) (map (painted W) ps) ≡ Some s → IsLast W n q ps s)
+    → (b : Bool) (o : Option Mapping) → last_such (meets W n q) (map (painted W) ps) ≡ o
+    → option_or o (cond b (Some (painted W p)) None) ≡ Some m → IsLast W n q (p ∷ ps) m
+last_met-step W n q p ps m up later b (Some s) last e =
+    let same = same_Some s m e in
+    let rest = later m (last ∙ ap Some same) in
+    record {
+      last = rest.last;
+      is = rest.is;
+      listed = Contains-later p ps rest.last rest.listed;
+      longest = All-cons (λ r. meets W n q (painted W r) ≡ true → r.bits ≤ rest.last.bits) p ps
+          (λ met. All-contains (λ r. p.bits ≤ r.bits) ps rest.last up rest.listed) rest.longest;
+    }
+last_met-step W n q p ps m up later true None last e = record {
+  last = p;
+  is = same_Some (painted W p) m e;
+  listed = Contains-first p ps;
+  longest = All-cons (λ r. meets W n q (painted W r) ≡ true → r.bits ≤ p.bits) p ps (λ met. le_refl p.bits)
+      (All-weaker (λ r. meets W n q (painted W r) ≡ false) (λ r. meets W n q (painted W r) ≡ true → r.bits ≤ p.bits)
+      (λ r miss met. absurd (both_ways (meets W n q (painted W r)) miss met)) ps (unmet W n q ps last));
+}
+last_met-step W n q p ps m up later false None last e = absurd (let h : None ≡ Some m = e in cc)
+
+last_met : (W n q : ℕ) (ps : List Prefix) (m : Mapping) → IsRising ps → last_such (meets W n q) (map (painted W) ps) ≡ Some m
+    → IsLast W n q ps m
+last_met W n q [] m up e = absurd (let h : None ≡ Some m = e in cc)
+last_met W n q (p ∷ ps) m up e =
+    last_met-step W n q p ps m up.0 (λ s. last_met W n q ps s up.1) (meets W n q (painted W p))
+    (last_such (meets W n q) (map (painted W) ps)) refl e
+
+-- what settles a block, whatever the label of the addresses that no prefix covers, is the prefix on top
+pub seen_by : (W n q : ℕ) (ps : List Prefix) (x : Label) → IsRising ps → (o : Option Mapping)
+    → last_such (meets W n q) (map (painted W) ps) ≡ o → ((fallback : Label) → settled_by W n q fallback o ≡ Some x)
+    → (top : Prefix) × (top.label ≡ x) × IsTop W ps n q top
+seen_by W n q ps x up None last settled =
+    absurd (let e : Some [] ≡ Some x = settled [] in let f : Some (0 ∷ []) ≡ Some x = settled (0 ∷ []) in cc)
+seen_by W n q ps x up (Some m) last settled =
+    let parts = cond_some (spans_all W n q m) m.label x (settled []) in
+    let top = last_met W n q ps m up last in (
+      top.last,
+      ap (λ (s : Mapping). s.label) top.is ∙ parts.1,
+      record {
+        listed = top.listed;
+        covers = subst (λ (s : Mapping). spans_all W n q s ≡ true) (sym top.is) parts.0;
+        longest = top.longest;
+      },
+    )
+
+-- the order of the prefixes does not matter for what is on top
+pub seen_permuted : (W : ℕ) (table : List Label) (ps rs : List Prefix) → IsPermutation ps rs → (n q : ℕ) (label : Option ℕ)
+    → IsSeen W table ps n q label → IsSeen W table rs n q label
+seen_permuted W table ps rs moved n q None f = All-permutation (λ p. meets W n q (painted W p) ≡ false) ps rs moved f
+seen_permuted W table ps rs moved n q (Some id) f =
+    let top = (f.1).0 in
+    let is = (f.1).2 in (
+      f.0,
+      (
+        top,
+        (f.1).1,
+        record {
+          listed = Contains-permutation ps rs top moved is.listed;
+          covers = is.covers;
+          longest = All-permutation (λ p. meets W n q (painted W p) ≡ true → p.bits ≤ top.bits) ps rs moved is.longest;
+        },
+      ),
+    )

@@ -1,0 +1,190 @@
+ghost use Rattle.std.specs.Prelude.{◌≡◌, ℕ, ◌+◌, ◌<◌, ◌≤◌, ◌^◌, ◌↔◌, All, IfOk, IsTrue, OnErr, OnOk, drop, length};
+ghost use Rattle.std.specs.BinaryHeap.{IsHeap, heap_items};
+ghost use Rattle.std.specs.List.Sorted.{IsNonDecreasingBy};
+ghost use Rattle.std.specs.Ordering.{nat_cmp};
+ghost use Rattle.prefix_keys.specs.Version.{width_of};
+ghost use Rattle.pmap_text.specs.Stretches.{HasStretch};
+ghost use Rattle.pmap_text.specs.Sweep.{AreBehind, AreStarts, Closes, IsEdge, IsFree, IsOver, IsStill, IsSwept, IsSweeping, IsTop};
+
+use crate::label::LabelId;
+use crate::layers::Layers;
+use crate::start::Start;
+use crate::statement::Statement;
+use prefix_keys::Version;
+use std::alloc::{AllocError, Global};
+use std::collections::BinaryHeap;
+
+/// A sweep over the addresses from the first to the last: the stretch of addresses from `first` to `last` at which one
+/// statement wins, or none, its label, and what is needed to find the next stretch.
+#[derive(Drop)]
+pub struct Sweep {
+    pub first: u128,
+    pub last: u128,
+    pub label: Option<LabelId>,
+    /// Where the statements begin, in rising order, of which those before `next` have been opened.
+    pub starts: Vec<Start>,
+    pub next: usize,
+    /// The numbers of the statements that have been opened and not yet been found to end.
+    pub opened: BinaryHeap<u32>,
+}
+
+/// Where the statements begin, in rising order.
+pub fn starts_of(alloc: Global, statements: &[Statement]) -> Result<Vec<Start>, AllocError>
+    requires { length statements.now ≤ 1000000 }
+    ensures { IfOk result (λ starts. AreStarts statements.now starts.items) }
+{
+    let mut starts = Vec::with_capacity(alloc, statements.len())?;
+    for (number, statement) in statements.iter().enumerate() {
+        starts.push(Start {
+            low: statement.span.low.value,
+            number: number as u32,
+        })?;
+    }
+    starts.sort_unstable_by_key(|start| start.low);
+    Ok(starts)
+}
+
+// Opens the statements that begin at the address or before it.
+fn open_begun(sweep: &mut Sweep, statements: &[Statement], first: u128) -> Result<(), AllocError>
+    requires starts { AreStarts statements.now sweep.old.starts.items }
+    requires swept { IsSwept statements.now sweep.old.starts.items sweep.old.next (heap_items sweep.old.opened) first }
+    ensures still { IsStill statements.now first sweep.old sweep.new }
+    ensures behind { OnOk result (AreBehind first (drop sweep.new.next sweep.new.starts.items)) }
+{
+    while sweep.next < sweep.starts.len() {
+        let start = sweep.starts[sweep.next];
+        if first < start.low {
+            return Ok(());
+        }
+        sweep.opened.push(start.number)?;
+        sweep.next += 1;
+    }
+    Ok(())
+}
+
+// Drops statements that end before the address, up to the last one that goes on to it.
+fn top_at(opened: &mut BinaryHeap<u32>, statements: &[Statement], first: u128) -> Option<u32>
+    requires ordered { IsHeap nat_cmp (heap_items opened.old) }
+    requires known { All (λ j. j < length statements.now) (heap_items opened.old) }
+    ensures closes { Closes statements.now first (heap_items opened.old) (heap_items opened.new) }
+    ensures top { IsTop statements.now first (heap_items opened.new) result }
+{
+    while let Some(top) = opened.peek() {
+        let number = *top;
+        let statement = &statements[number as usize];
+        if first <= statement.span.high.value {
+            return Some(number);
+        }
+        let _ = opened.pop();
+    }
+    None
+}
+
+// Where one of the statements to come begins that is seen over the top, the address before; else `high`.
+fn end_before(top: Option<u32>, coming: &[Start], first: u128, high: u128) -> u128
+    requires ordered { first ≤ high }
+    requires behind { AreBehind first coming.now }
+    requires rising { IsNonDecreasingBy (λ start. start.low) coming.now }
+    ensures { IsFree top coming.now first high result }
+{
+    for start in coming {
+        if high < start.low {
+            return high;
+        }
+        if is_over(top, start.number) {
+            return start.low - 1;
+        }
+    }
+    high
+}
+
+// Whether the statement with the number comes later than the top.
+fn is_over(top: Option<u32>, number: u32) -> bool
+    ensures { IsTrue result ↔ IsOver top number }
+{
+    match top {
+        Some(top) => top < number,
+        None => true,
+    }
+}
+
+/// The highest address of a version.
+pub fn last_address(version: Version) -> u128
+    ensures { result + 1 ≡ 2 ^ width_of version }
+{
+    match version {
+        Version::V4 => u128::from(u32::MAX),
+        Version::V6 => u128::MAX,
+    }
+}
+
+impl Sweep {
+    /// A sweep that stands at the first stretch.
+    pub fn new(alloc: Global, layers: &Layers) -> Result<Sweep, AllocError>
+        requires version { All (λ s. s.span.low.version ≡ layers.now.version) layers.now.statements.now }
+        requires few { length layers.now.statements.now ≤ 1000000 }
+        ensures first { IfOk result (λ sweep. sweep.first ≡ 0) }
+        ensures sweeping { IfOk result
+            (IsSweeping (width_of layers.now.version) layers.now.statements.now layers.now.default) }
+    {
+        let mut sweep = Sweep {
+            first: 0,
+            last: 0,
+            label: None,
+            starts: starts_of(alloc, layers.statements)?,
+            next: 0,
+            opened: BinaryHeap::new(alloc),
+        };
+        sweep.move_to(layers, 0)?;
+        Ok(sweep)
+    }
+
+    /// Goes on to the stretch that begins at the address.
+    pub fn move_to(&mut self, layers: &Layers, first: u128) -> Result<(), AllocError>
+        requires version { All (λ s. s.span.low.version ≡ layers.now.version) layers.now.statements.now }
+        requires within { first < 2 ^ width_of layers.now.version }
+        requires starts { AreStarts layers.now.statements.now self.old.starts.items }
+        requires swept { IsSwept layers.now.statements.now self.old.starts.items self.old.next
+            (heap_items self.old.opened) first }
+        requires edge { IsEdge layers.now.statements.now first }
+        ensures first { OnOk result (self.new.first ≡ first) }
+        ensures sweeping { OnOk result
+            (IsSweeping (width_of layers.now.version) layers.now.statements.now layers.now.default self.new) }
+        ensures err { OnErr result (IsStill layers.now.statements.now first self.old self.new) }
+    {
+        open_begun(self, layers.statements, first)?;
+        let top = top_at(&mut self.opened, layers.statements, first);
+        let (label, last) = self.stretch_at(layers, top, first);
+        self.first = first;
+        self.last = last;
+        self.label = label;
+        Ok(())
+    }
+
+    // The label and the last address of the stretch that begins at the address.
+    fn stretch_at(&self, layers: &Layers, top: Option<u32>, first: u128) -> (Option<LabelId>, u128)
+        requires version { All (λ s. s.span.low.version ≡ layers.now.version) layers.now.statements.now }
+        requires within { first < 2 ^ width_of layers.now.version }
+        requires starts { AreStarts layers.now.statements.now self.now.starts.items }
+        requires swept { IsSwept layers.now.statements.now self.now.starts.items self.now.next
+            (heap_items self.now.opened) first }
+        requires behind { AreBehind first (drop self.now.next self.now.starts.items) }
+        requires top { IsTop layers.now.statements.now first (heap_items self.now.opened) top }
+        requires edge { IsEdge layers.now.statements.now first }
+        ensures { HasStretch (width_of layers.now.version) layers.now.statements.now layers.now.default
+            first result.1 result.0 }
+    {
+        let coming = &self.starts[self.next..];
+        match top {
+            Some(number) => {
+                let statement = &layers.statements[number as usize];
+                let last = end_before(top, coming, first, statement.span.high.value);
+                (Some(statement.label), last)
+            }
+            None => {
+                let last = end_before(top, coming, first, last_address(layers.version));
+                (layers.default, last)
+            }
+        }
+    }
+}

@@ -1,0 +1,110 @@
+-- Bytes that are written before a place of a buffer, from the last of them on.
+use Rattle.std.proofs.Common.{ℕ, ◌≡◌, ◌+◌, ◌-◌, ◌/◌, ◌%◌, ◌<◌, ◌≤◌, ◌∙◌, false, List, [], ◌∷◌, ◌++◌, length, drop, set, ap, arith, length-set}
+use Rattle.std.specs.Fmt.{decimal, digit_glyph, digits}
+use Rattle.std.proofs.lemmas.Fmt.{decimal_digit, decimal_step}
+use Rattle.std.proofs.lemmas.List.{drop-set, drop-set-lt}
+use Rattle.prefix_keys.proofs.Digits.{digits_last, digits_next}
+
+-- a byte that is written just before a place
+pub put : (xs : List ℕ) (i j b : ℕ) → i + 1 ≡ j → j ≤ length xs → drop i (set xs i b) ≡ b ∷ drop j xs
+put xs i j b e h = drop-set xs i b (omega arith) ∙ ap (λ k. b ∷ drop k xs) e
+
+module _ (buf : List ℕ) (end : ℕ) (within : end ≤ length buf) (a b c d : ℕ) where
+  abbrev one : List ℕ
+  one = set buf (end - 1) a
+
+  abbrev two : List ℕ
+  two = set one (end - 2) b
+
+  abbrev three : List ℕ
+  three = set two (end - 3) c
+
+  abbrev four : List ℕ
+  four = set three (end - 4) d
+
+  put_one : 1 ≤ end → drop (end - 1) one ≡ a ∷ drop end buf
+  put_one h = put buf (end - 1) end a (omega arith) within
+
+  put_two : 2 ≤ end → drop (end - 2) two ≡ b ∷ a ∷ drop end buf
+  put_two h =
+      put one (end - 2) (end - 1) b (omega arith) (omega (arith, length-set buf (end - 1) a))
+      ∙ ap (λ text. b ∷ text) (put_one (omega arith))
+
+  put_three : 3 ≤ end → drop (end - 3) three ≡ c ∷ b ∷ a ∷ drop end buf
+  put_three h =
+      put two (end - 3) (end - 2) c (omega arith) (omega (arith, length-set buf (end - 1) a, length-set one (end - 2) b))
+      ∙ ap (λ text. c ∷ text) (put_two (omega arith))
+
+  put_four : 4 ≤ end → drop (end - 4) four ≡ d ∷ c ∷ b ∷ a ∷ drop end buf
+  put_four h =
+      put three (end - 4) (end - 3) d (omega arith)
+      (omega (arith, length-set buf (end - 1) a, length-set one (end - 2) b, length-set two (end - 3) c))
+      ∙ ap (λ text. d ∷ text) (put_three (omega arith))
+
+  -- what stands behind the bytes that are written further ahead
+  pub last_of_three : 3 ≤ end → drop (end - 1) three ≡ a ∷ drop end buf
+  last_of_three h =
+      drop-set-lt (end - 1) two (end - 3) c (omega arith) ∙ drop-set-lt (end - 1) one (end - 2) b (omega arith)
+      ∙ put_one (omega arith)
+
+  pub last_two_of_three : 3 ≤ end → drop (end - 2) three ≡ b ∷ a ∷ drop end buf
+  last_two_of_three h = drop-set-lt (end - 2) two (end - 3) c (omega arith) ∙ put_two (omega arith)
+
+  pub all_of_three : 3 ≤ end → drop (end - 3) three ≡ c ∷ b ∷ a ∷ drop end buf
+  all_of_three h = put_three h
+
+  pub last_of_four : 4 ≤ end → drop (end - 1) four ≡ a ∷ drop end buf
+  last_of_four h = drop-set-lt (end - 1) three (end - 4) d (omega arith) ∙ last_of_three (omega arith)
+
+  pub last_two_of_four : 4 ≤ end → drop (end - 2) four ≡ b ∷ a ∷ drop end buf
+  last_two_of_four h = drop-set-lt (end - 2) three (end - 4) d (omega arith) ∙ last_two_of_three (omega arith)
+
+  pub last_three_of_four : 4 ≤ end → drop (end - 3) four ≡ c ∷ b ∷ a ∷ drop end buf
+  last_three_of_four h = drop-set-lt (end - 3) three (end - 4) d (omega arith) ∙ put_three (omega arith)
+
+  pub all_of_four : 4 ≤ end → drop (end - 4) four ≡ d ∷ c ∷ b ∷ a ∷ drop end buf
+  all_of_four h = put_four h
+
+-- numbers of one, two and three decimal digits
+pub one_digit : (n : ℕ) → n < 10 → decimal n ≡ (48 + n % 10) ∷ []
+one_digit n h = let e : n ≡ n % 10 = omega arith in decimal_digit n h ∙ ap (λ m. (48 + m) ∷ []) e
+
+pub two_digits : (n : ℕ) → 10 ≤ n → n < 100 → decimal n ≡ (48 + n / 10 % 10) ∷ (48 + n % 10) ∷ []
+two_digits n low high =
+    decimal_step n low (omega arith) ∙ ap (λ (text : List ℕ). text ++ (48 + n % 10) ∷ []) (one_digit (n / 10) (omega arith))
+
+pub three_digits : (n : ℕ) → 100 ≤ n → n < 1000 → decimal n ≡ (48 + n / 100) ∷ (48 + n / 10 % 10) ∷ (48 + n % 10) ∷ []
+three_digits n low high =
+    let front : n / 10 / 10 % 10 ≡ n / 100 = omega arith in
+    decimal_step n (omega arith) (omega arith)
+    ∙ ap (λ (text : List ℕ). text ++ (48 + n % 10) ∷ []) (two_digits (n / 10) (omega arith) (omega arith))
+    ∙ ap (λ m. (48 + m) ∷ (48 + n / 10 % 10) ∷ (48 + n % 10) ∷ []) front
+
+-- numbers of one to four hexadecimal digits
+abbrev pub hex : ℕ → ℕ
+hex = digit_glyph false
+
+pub one_hex : (n : ℕ) → n < 16 → digits 16 false n ≡ hex (n % 16) ∷ []
+one_hex n h = digits_last 16 (omega arith) n h
+
+more_hex : (n : ℕ) (text : List ℕ) → 16 ≤ n → n < 65536 → digits 16 false (n / 16) ≡ text → digits 16 false n ≡ text ++ hex (n % 16) ∷ []
+more_hex n text low high front =
+    digits_next 16 (omega arith) n low (omega arith) ∙ ap (λ (t : List ℕ). t ++ hex (n % 16) ∷ []) front
+
+pub two_hex : (n : ℕ) → 16 ≤ n → n < 256 → digits 16 false n ≡ hex (n / 16 % 16) ∷ hex (n % 16) ∷ []
+two_hex n low high = more_hex n _ low (omega arith) (one_hex (n / 16) (omega arith))
+
+pub three_hex : (n : ℕ) → 256 ≤ n → n < 4096 → digits 16 false n ≡ hex (n / 256 % 16) ∷ hex (n / 16 % 16) ∷ hex (n % 16) ∷ []
+three_hex n low high =
+    let front : n / 16 / 16 ≡ n / 256 = omega arith in
+    more_hex n _ (omega arith) (omega arith) (two_hex (n / 16) (omega arith) (omega arith))
+    ∙ ap (λ m. hex (m % 16) ∷ hex (n / 16 % 16) ∷ hex (n % 16) ∷ []) front
+
+pub four_hex : (n : ℕ) → 4096 ≤ n → n < 65536
+    → digits 16 false n ≡ hex (n / 4096) ∷ hex (n / 256 % 16) ∷ hex (n / 16 % 16) ∷ hex (n % 16) ∷ []
+four_hex n low high =
+    let front : n / 16 / 256 % 16 ≡ n / 4096 = omega arith in
+    let second : n / 16 / 16 ≡ n / 256 = omega arith in
+    more_hex n _ (omega arith) high (three_hex (n / 16) (omega arith) (omega arith))
+    ∙ ap (λ m. hex m ∷ hex (n / 16 / 16 % 16) ∷ hex (n / 16 % 16) ∷ hex (n % 16) ∷ []) front
+    ∙ ap (λ m. hex (n / 4096) ∷ hex (m % 16) ∷ hex (n / 16 % 16) ∷ hex (n % 16) ∷ []) second

@@ -1,0 +1,83 @@
+//! Numbers that are written from their last digit on.
+ghost use Rattle.std.specs.Prelude.{◌≡◌, ◌+◌, ◌*◌, ◌<◌, ◌≤◌, ◌++◌, drop, false, length};
+ghost use Rattle.std.specs.Fmt.{decimal, digit_glyph, digits};
+ghost use Rattle.prefix_keys.specs.Print.{groups_text};
+
+// The lower-case digit.
+#[inline(always)]
+fn glyph(digit: u16) -> u8
+    requires { digit < 16 }
+    ensures { result ≡ digit_glyph false digit }
+{
+    if digit < 10 {
+        b'0' + digit as u8
+    } else {
+        b'a' + (digit - 10) as u8
+    }
+}
+
+/// Writes a number below 256 in decimal so that it ends at `end`, and returns where it starts. It takes all three
+/// places that it may need, whatever its length: what stands before its start is lost, and no branch is guessed wrong.
+#[inline(always)]
+pub fn write_octet(octet: u16, buf: &mut [u8], end: usize) -> usize
+    requires small { octet < 256 }
+    requires room { 3 ≤ end }
+    requires within { end ≤ length buf.old }
+    ensures start { result ≤ end }
+    ensures room { end ≤ result + 3 }
+    ensures written { drop result buf.new ≡ decimal octet ++ drop end buf.old }
+{
+    buf[end - 1] = b'0' + (octet % 10) as u8;
+    buf[end - 2] = b'0' + (octet / 10 % 10) as u8;
+    buf[end - 3] = b'0' + (octet / 100) as u8;
+    if octet < 10 {
+        end - 1
+    } else if octet < 100 {
+        end - 2
+    } else {
+        end - 3
+    }
+}
+
+/// Writes a group of an IPv6 address, in the same way: in lower-case hexadecimal, in up to four places.
+#[inline(always)]
+fn write_group(group: u16, buf: &mut [u8], end: usize) -> usize
+    requires room { 4 ≤ end }
+    requires within { end ≤ length buf.old }
+    ensures start { result ≤ end }
+    ensures room { end ≤ result + 4 }
+    ensures written { drop result buf.new ≡ digits 16 false group ++ drop end buf.old }
+{
+    buf[end - 1] = glyph(group % 16);
+    buf[end - 2] = glyph(group / 16 % 16);
+    buf[end - 3] = glyph(group / 256 % 16);
+    buf[end - 4] = glyph(group / 4096);
+    if group < 16 {
+        end - 1
+    } else if group < 256 {
+        end - 2
+    } else if group < 4096 {
+        end - 3
+    } else {
+        end - 4
+    }
+}
+
+/// Writes groups with `:` between each two so that they end at `end`, and returns where they start.
+pub fn write_groups(groups: &[u16], buf: &mut [u8], end: usize) -> usize
+    requires room { 5 * length groups.now ≤ end }
+    requires within { end ≤ length buf.old }
+    ensures start { result ≤ end }
+    ensures room { end ≤ result + 5 * length groups.now }
+    ensures written { drop result buf.new ≡ groups_text groups.now ++ drop end buf.old }
+{
+    let mut at = end;
+    for i in (0..groups.len()).rev() {
+        if i + 1 < groups.len() {
+            at -= 1;
+            buf[at] = b':';
+        }
+        at = write_group(groups[i], buf, at);
+    }
+    at
+}
