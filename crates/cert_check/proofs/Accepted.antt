@@ -11,14 +11,17 @@ use Rattle.prefix_keys.specs.declared.version.Version.{Version}
 use Rattle.prefix_keys.specs.declared.version.Version.TheVariants.{V4, V6}
 use Rattle.pmap_text.specs.ListModel.{ListModel, Prefix, label_below, lies_inside}
 use Rattle.pmap_text.specs.MapModel.{IsSettled, Label, MapModel, settled_label}
-use Rattle.pmap_cert.specs.Acceptance.{IsAccepted, IsDecided, IsNodeAccepted, IsWithinExact}
-use Rattle.pmap_cert.specs.CertificateForm.{HasNodeForm, HasTextForm}
-use Rattle.pmap_cert.specs.CertificateModel.{CertificateModel, InnerNode, LeafNode, Pair, Tree, claim_of, has}
+use Rattle.pmap_cert.specs.Acceptance.{AreBitsAccepted, IsAccepted, IsLeafAccepted, IsDecided, IsNodeAccepted, IsWithinExact}
+use Rattle.pmap_cert.specs.CertificateForm.{HasNodeForm, HasRoomBelow}
+use Rattle.pmap_cert.specs.CertificateModel.{CertificateModel, ChainNode, InnerNode, LeafNode, Pair, Tree, claim_of, has}
+use Rattle.pmap_cert.specs.Chain.{chain_pair, chosen_half, side_half}
 use Rattle.pmap_cert.specs.ExactPair.{exact_pair}
+use Rattle.pmap_cert.proofs.ChainWords.{other-room}
 use Rattle.pmap_cert.proofs.Sets.{bytes_eq-same}
-use Rattle.cert_check.specs.Checking.{claim_fault, fault_at, first_fault, is_decided, is_label_of, leaf_fault, node_count, node_fault, whole_fault}
+use Rattle.cert_check.specs.Checking.{bits_fault, claim_fault, fault_at, first_fault, is_decided, is_label_of, leaf_fault, node_count, node_fault, whole_fault}
 use Rattle.cert_check.specs.Sources.{HasRoom}
 use Rattle.cert_check.specs.Versions.{is_same_version}
+use Rattle.cert_check.specs.declared.fault.CheckFault.{CheckFault}
 use Rattle.cert_check.specs.declared.fault.CheckFaultKind.TheVariants.{BoundNotMet, CostTooHigh, LeafNotUniform, ListDiffers, SetTooSmall, VersionDiffers}
 use Rattle.cert_check.proofs.Lists.{any-filtered, none_kept}
 
@@ -148,6 +151,34 @@ room-from_form table (LeafNode x) room h = tt
 room-from_form table (InnerNode claim lower upper) zero h = absurd h
 room-from_form table (InnerNode claim lower upper) (suc room) h =
     (room-from_form table lower room h.2, room-from_form table upper room h.3)
+room-from_form table (ChainNode claim bits side end) room h =
+    (h.3, other-room (HasNodeForm table end) (HasRoom end) (room-from_form table end) bits room h.4)
+
+-- along a chain's bits
+bits-accepted : (m : MapModel) (ps : List Prefix) (side : Label) (k : ℕ) (end : ℕ → ℕ → Option CheckFault) (IsEnd : ℕ → ℕ → Type 0) (Fits : ℕ → Type 0)
+    → ((room n q : ℕ) → Fits room → n + room ≡ width_of m.version → end n q ≡ None → IsEnd n q)
+    → (bits : List Bool) (room n q : ℕ) → HasRoomBelow Fits bits room → n + room ≡ width_of m.version
+    → bits_fault m ps side k end bits n q ≡ None → AreBitsAccepted m ps side IsEnd bits n q
+bits-accepted m ps side k end IsEnd Fits ends [] room n q fits deep none = ends room n q fits deep none
+bits-accepted m ps side k end IsEnd Fits ends (bit ∷ bits) zero n q fits deep none = absurd fits
+bits-accepted m ps side k end IsEnd Fits ends (bit ∷ bits) (suc room) n q fits deep none =
+    let beside = leaf_fault m ps (suc n) (side_half bit q) side in
+    let parts = or_none-parts (bits_fault m ps side k end bits (suc n) (chosen_half bit q)) (option_map (fault_at k) beside) none in (
+      omega (arith, deep),
+      leaf-accepted m ps (suc n) (side_half bit q) side (map_none-part (fault_at k) beside parts.1),
+      bits-accepted m ps side k end IsEnd Fits ends bits room (suc n) (chosen_half bit q) fits (omega (arith, deep)) parts.0,
+    )
+
+bits-none : (m : MapModel) (ps : List Prefix) (side : Label) (k : ℕ) (end : ℕ → ℕ → Option CheckFault) (IsEnd : ℕ → ℕ → Type 0)
+    → ((n q : ℕ) → IsEnd n q → end n q ≡ None)
+    → (bits : List Bool) (n q : ℕ) → AreBitsAccepted m ps side IsEnd bits n q → bits_fault m ps side k end bits n q ≡ None
+bits-none m ps side k end IsEnd ends [] n q h = ends n q h
+bits-none m ps side k end IsEnd ends (bit ∷ bits) n q h =
+    let leaf = h.1 in
+    or_none-from (bits_fault m ps side k end bits (suc n) (chosen_half bit q))
+    (option_map (fault_at k) (leaf_fault m ps (suc n) (side_half bit q) side))
+    (bits-none m ps side k end IsEnd ends bits (suc n) (chosen_half bit q) h.2)
+    (ap (option_map (fault_at k)) (leaf-none m ps (suc n) (side_half bit q) side leaf.0 leaf.1))
 
 -- nodes
 node-accepted : (m : MapModel) (ps : List Prefix) (t : Tree) (room k n q : ℕ) → HasRoom t room → n + room ≡ width_of m.version
@@ -165,6 +196,15 @@ node-accepted m ps (InnerNode claim lower upper) (suc room) k n q fits deep none
       node-accepted m ps upper room (k + 1 + node_count lower) (suc n) (2 * q + 1) fits.1 (omega (arith, deep)) second.0,
       claim-within claim exact (map_none-part (fault_at k) (claim_fault claim exact) second.1),
     )
+node-accepted m ps (ChainNode claim bits side end) room k n q fits deep none =
+    let exact = chain_pair (length bits) side (claim_of end) in
+    let own = option_map (fault_at k) (claim_fault claim exact) in
+    let parts = or_none-parts (bits_fault m ps side k (node_fault m ps end (k + 1)) bits n q) own none in (
+      fits.0,
+      bits-accepted m ps side k (node_fault m ps end (k + 1)) (IsNodeAccepted m ps end) (HasRoom end)
+          (λ room' n' q' fits' deep' none'. node-accepted m ps end room' (k + 1) n' q' fits' deep' none') bits room n q fits.1 deep parts.0,
+      claim-within claim exact (map_none-part (fault_at k) (claim_fault claim exact) parts.1),
+    )
 
 node-none : (m : MapModel) (ps : List Prefix) (t : Tree) (k n q : ℕ) → IsNodeAccepted m ps t n q → node_fault m ps t k n q ≡ None
 node-none m ps (LeafNode x) k n q h = ap (option_map (fault_at k)) (leaf-none m ps n q x h.0 h.1)
@@ -175,9 +215,14 @@ node-none m ps (InnerNode claim lower upper) k n q h =
     or_none-from (node_fault m ps lower (k + 1) (suc n) (2 * q)) (option_or high own) (node-none m ps lower (k + 1) (suc n) (2 * q) h.1)
     (or_none-from high own (node-none m ps upper (k + 1 + node_count lower) (suc n) (2 * q + 1) h.2)
     (ap (option_map (fault_at k)) (claim-none claim exact h.3)))
+node-none m ps (ChainNode claim bits side end) k n q h =
+    let exact = chain_pair (length bits) side (claim_of end) in
+    or_none-from (bits_fault m ps side k (node_fault m ps end (k + 1)) bits n q) (option_map (fault_at k) (claim_fault claim exact))
+    (bits-none m ps side k (node_fault m ps end (k + 1)) (IsNodeAccepted m ps end) (λ n' q' h'. node-none m ps end (k + 1) n' q' h') bits n q h.1)
+    (ap (option_map (fault_at k)) (claim-none claim exact h.2))
 
 -- the whole
-pub certificate-accepted : (m : MapModel) (l : ListModel) (c : CertificateModel) → HasTextForm c → first_fault m l c ≡ None → IsAccepted m l c
+pub certificate-accepted : (m : MapModel) (l : ListModel) (c : CertificateModel) → HasNodeForm c.table c.root (width_of c.version) → first_fault m l c ≡ None → IsAccepted m l c
 certificate-accepted m l c form none =
     let bound = cond (nat_lt ((claim_of c.root).cost + 1) (length l.prefixes)) (Some (whole_fault BoundNotMet)) None in
     let nodes = node_fault m l.prefixes c.root 1 0 0 in
@@ -187,7 +232,7 @@ certificate-accepted m l c form none =
     let third = cond_none-then (nat_lt ((claim_of c.root).cost + 1) (length l.prefixes)) None (whole_fault BoundNotMet) second.1 in
     let version : c.version ≡ m.version = same_version-true c.version m.version versions.1 in
     let fits : HasRoom c.root (width_of m.version) =
-    subst (λ (v : Version). HasRoom c.root (width_of v)) version (room-from_form c.table c.root (width_of c.version) form.root) in
+    subst (λ (v : Version). HasRoom c.root (width_of v)) version (room-from_form c.table c.root (width_of c.version) form) in
     record {
       list_version = same_version-true l.version m.version versions.0;
       certificate_version = version;

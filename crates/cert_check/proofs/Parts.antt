@@ -1,5 +1,5 @@
 -- What is carried down to a block decides each node's fault in it.
-use Rattle.std.proofs.Common.{◌≡◌, ℕ, zero, suc, ◌+◌, ◌-◌, ◌*◌, ◌/◌, ◌^◌, ◌<◌, ◌≤◌, Bool, true, false, cond, not, ◌&&◌, ◌||◌, ◌==◌, List, [], ◌∷◌, Some, None, All, filter, get_or, map, nat_le, option_map, sym, ap, ◌∙◌, arith}
+use Rattle.std.proofs.Common.{◌≡◌, ℕ, zero, suc, ◌+◌, ◌-◌, ◌*◌, ◌/◌, ◌^◌, ◌<◌, ◌≤◌, Bool, true, false, cond, not, ◌&&◌, ◌||◌, ◌==◌, List, [], ◌∷◌, Option, Some, None, All, filter, get_or, map, nat_le, option_map, sym, ap, ◌∙◌, arith}
 use Rattle.std.specs.List.{list_any}
 use Rattle.std.specs.Option.{option_or}
 use Rattle.std.proofs.lemmas.Bool.{and_parts, leb-true}
@@ -21,10 +21,13 @@ use Rattle.pmap_text.specs.declared.prefix_list.PrefixList.{PrefixList}
 use Rattle.pmap_text.specs.declared.statement.Statement.{Statement}
 use Rattle.pmap_text.proofs.Blocks.{address-between, address-first, address-last, block_number-first_of}
 use Rattle.pmap_text.proofs.Carried.{IsWithin, carried_as_prefixes, carried_below, carried_inside, carried_settled, carried_statements}
-use Rattle.pmap_cert.specs.CertificateModel.{InnerNode, LeafNode, Tree, claim_of}
+use Rattle.pmap_cert.specs.CertificateForm.{HasRoomBelow}
+use Rattle.pmap_cert.specs.CertificateModel.{ChainNode, InnerNode, LeafNode, Tree, claim_of}
+use Rattle.pmap_cert.specs.Chain.{chain_pair}
+use Rattle.cert_check.specs.declared.fault.CheckFault.{CheckFault}
 use Rattle.pmap_cert.specs.ExactPair.{exact_pair}
 use Rattle.cert_check.specs.Carrying.{carried_to, entries_carried_to, number_of}
-use Rattle.cert_check.specs.Checking.{claim_fault, fault_at, is_label_of, leaf_fault, node_count, node_fault}
+use Rattle.cert_check.specs.Checking.{bits_fault, claim_fault, fault_at, is_label_of, leaf_fault, node_count, node_fault}
 use Rattle.cert_check.specs.Sources.{AreEntriesOf, AreStatementsOf, HasRoom, map_with, prefixes_with}
 use Rattle.cert_check.specs.Versions.{is_same_version}
 use Rattle.cert_check.specs.declared.fault.CheckFaultKind.TheVariants.{LeafNotUniform, ListDiffers}
@@ -98,6 +101,23 @@ leaf-carried m ps n q n' q' x under fits =
     omega (arith, leb-true p.bits n parts.0, under.deep)) in
     λ i. cond (is_label_of (settled i) x) (cond (not (inside i) && is_label_of (longest i) x) None (Some ListDiffers)) (Some LeafNotUniform)
 
+-- along a chain's bits
+bits-carried : (m m' : MapModel) (ps ps' : List Prefix) (side : Label) (k n q : ℕ) (end end' : ℕ → ℕ → Option CheckFault) (Fits : ℕ → Type 0)
+    → ((n' q' : ℕ) → n' ≤ width_of m.version → IsUnder n q n' q' → leaf_fault m' ps' n' q' side ≡ leaf_fault m ps n' q' side)
+    → ((room n' q' : ℕ) → Fits room → n' + room ≡ width_of m.version → IsUnder n q n' q' → end' n' q' ≡ end n' q')
+    → (bits : List Bool) (room n' q' : ℕ) → HasRoomBelow Fits bits room → n' + room ≡ width_of m.version → IsUnder n q n' q'
+    → bits_fault m' ps' side k end' bits n' q' ≡ bits_fault m ps side k end bits n' q'
+bits-carried m m' ps ps' side k n q end end' Fits leaf ends [] room n' q' fits deep under = ends room n' q' fits deep under
+bits-carried m m' ps ps' side k n q end end' Fits leaf ends (bit ∷ bits) zero n' q' fits deep under = absurd fits
+bits-carried m m' ps ps' side k n q end end' Fits leaf ends (true ∷ bits) (suc room) n' q' fits deep under =
+    let rest = bits-carried m m' ps ps' side k n q end end' Fits leaf ends bits room (suc n') (2 * q' + 1) fits (omega (arith, deep)) (under-upper n q n' q' under) in
+    let own = leaf (suc n') (2 * q') (omega (arith, deep)) (under-lower n q n' q' under) in
+    λ i. option_or (rest i) (option_map (fault_at k) (own i))
+bits-carried m m' ps ps' side k n q end end' Fits leaf ends (false ∷ bits) (suc room) n' q' fits deep under =
+    let rest = bits-carried m m' ps ps' side k n q end end' Fits leaf ends bits room (suc n') (2 * q') fits (omega (arith, deep)) (under-lower n q n' q' under) in
+    let own = leaf (suc n') (2 * q' + 1) (omega (arith, deep)) (under-upper n q n' q' under) in
+    λ i. option_or (rest i) (option_map (fault_at k) (own i))
+
 -- and so has each node
 pub node-carried : (m : MapModel) (ps : List Prefix) (n q : ℕ) (t : Tree) (room k n' q' : ℕ) → HasRoom t room → n' + room ≡ width_of m.version → IsUnder n q n' q'
     → node_fault (record m { mappings = carried_mappings (width_of m.version) n q m.mappings }) (carried_prefixes (width_of m.version) n q ps) t k n' q'
@@ -109,6 +129,13 @@ node-carried m ps n q (InnerNode claim lower upper) (suc room) k n' q' fits deep
     let low = node-carried m ps n q lower room (k + 1) (suc n') (2 * q') fits.0 (omega (arith, deep)) (under-lower n q n' q' under) in
     let high = node-carried m ps n q upper room (k + 1 + node_count lower) (suc n') (2 * q' + 1) fits.1 (omega (arith, deep)) (under-upper n q n' q' under) in
     λ i. option_or (low i) (option_or (high i) (option_map (fault_at k) (claim_fault claim (exact_pair (claim_of lower) (claim_of upper)))))
+node-carried m ps n q (ChainNode claim bits side end) room k n' q' fits deep under =
+    let m' : MapModel = record m { mappings = carried_mappings (width_of m.version) n q m.mappings } in
+    let ps' : List Prefix = carried_prefixes (width_of m.version) n q ps in
+    let way = bits-carried m m' ps ps' side k n q (node_fault m ps end (k + 1)) (node_fault m' ps' end (k + 1)) (HasRoom end)
+    (λ a b le under'. leaf-carried m ps n q a b side under' le)
+    (λ room' a b fits' deep' under'. node-carried m ps n q end room' (k + 1) a b fits' deep' under') bits room n' q' fits.1 deep under in
+    λ i. option_or (way i) (option_map (fault_at k) (claim_fault claim (chain_pair (length bits) side (claim_of end))))
 
 -- of statements and entries of the block's version
 statements-of : (b : Block) (ss : List Statement) → All (λ s. s.span.low.version ≡ b.version) ss → carried_to b ss ≡ carried (width_of b.version) b.len (number_of b) ss

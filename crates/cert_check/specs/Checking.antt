@@ -1,4 +1,4 @@
-use Rattle.std.specs.Prelude.{ℕ, suc, ◌+◌, ◌-◌, ◌*◌, ◌^◌, ◌&&◌, ◌==◌, Bool, false, not, List, Option, Some, None, length, nat_lt, option_map, if◌then◌else◌}
+use Rattle.std.specs.Prelude.{ℕ, suc, List, [], ◌∷◌, ◌+◌, ◌-◌, ◌*◌, ◌^◌, ◌&&◌, ◌==◌, Bool, false, not, Option, Some, None, length, nat_lt, option_map, if◌then◌else◌}
 use Rattle.std.specs.List.{list_all, list_any}
 use Rattle.std.specs.Option.{option_or}
 use Rattle.std.specs.Str.{bytes_eq}
@@ -6,7 +6,8 @@ use Rattle.prefix_keys.specs.Block.{first_of}
 use Rattle.prefix_keys.specs.Version.{width_of}
 use Rattle.pmap_text.specs.ListModel.{ListModel, Prefix, label_below, lies_inside}
 use Rattle.pmap_text.specs.MapModel.{Label, MapModel, settled_label}
-use Rattle.pmap_cert.specs.CertificateModel.{CertificateModel, InnerNode, LeafNode, Pair, Tree, claim_of, has}
+use Rattle.pmap_cert.specs.CertificateModel.{CertificateModel, ChainNode, InnerNode, LeafNode, Pair, Tree, claim_of, has}
+use Rattle.pmap_cert.specs.Chain.{chain_pair, chosen_half, side_half}
 use Rattle.pmap_cert.specs.ExactPair.{exact_pair}
 use Rattle.cert_check.specs.Versions.{is_same_version}
 use Rattle.cert_check.specs.declared.fault.CheckFault.{CheckFault}
@@ -45,6 +46,7 @@ claim_fault claim exact =
 abbrev pub node_count : Tree → ℕ
 node_count (LeafNode x) = 1
 node_count (InnerNode claim lower upper) = 1 + node_count lower + node_count upper
+node_count (ChainNode claim bits side end) = 1 + node_count end
 
 -- a node's number as a fault tells it, which has no greater one than 2 ^ 64 - 1
 abbrev pub told : ℕ → ℕ
@@ -53,6 +55,14 @@ told number = if nat_lt number (2 ^ 64) then number else 2 ^ 64 - 1
 -- a fault of the node with this number
 abbrev pub fault_at : ℕ → CheckFaultKind → CheckFault
 fault_at number kind = record { kind = kind; node = told number }
+
+-- The first fault along a chain's bits, where the chain has this number: first that of its end, then those of the side blocks
+-- from the deepest up.
+abbrev pub bits_fault : MapModel → List Prefix → Label → ℕ → (ℕ → ℕ → Option CheckFault) → List Bool → ℕ → ℕ → Option CheckFault
+bits_fault m ps side number end [] n q = end n q
+bits_fault m ps side number end (bit ∷ bits) n q =
+    option_or (bits_fault m ps side number end bits (suc n) (chosen_half bit q))
+    (option_map (fault_at number) (leaf_fault m ps (suc n) (side_half bit q) side))
 
 -- The first fault of a node and those below it, where the node has this number and stands for the block of n bits with the
 -- number q: those of the lower node come first, then those of the upper, then the node's own. Nodes are numbered as
@@ -63,6 +73,9 @@ node_fault m ps (InnerNode claim lower upper) number n q =
     option_or (node_fault m ps lower (number + 1) (suc n) (2 * q))
     (option_or (node_fault m ps upper (number + 1 + node_count lower) (suc n) (2 * q + 1))
     (option_map (fault_at number) (claim_fault claim (exact_pair (claim_of lower) (claim_of upper)))))
+node_fault m ps (ChainNode claim bits side end) number n q =
+    option_or (bits_fault m ps side number (node_fault m ps end (number + 1)) bits n q)
+    (option_map (fault_at number) (claim_fault claim (chain_pair (length bits) side (claim_of end))))
 
 -- a fault that no node has
 abbrev pub whole_fault : CheckFaultKind → CheckFault

@@ -15,7 +15,8 @@ use Rattle.pmap_text.specs.declared.label.LabelId.{LabelId}
 use Rattle.pmap_text.specs.declared.map_text.MapText.{MapText}
 use Rattle.pmap_text.specs.declared.prefix_list.PrefixList.{PrefixList}
 use Rattle.pmap_text.specs.declared.statement.Statement.{Statement}
-use Rattle.pmap_cert.specs.CertificateModel.{Tree, InnerNode, LeafNode}
+use Rattle.pmap_cert.specs.CertificateForm.{HasRoomBelow}
+use Rattle.pmap_cert.specs.CertificateModel.{ChainNode, InnerNode, LeafNode, Tree}
 use Rattle.pmap_cert.specs.declared.node.Node.{Node}
 use Rattle.pmap_cert.specs.declared.node.Node.TheVariants.{Inner', Leaf}
 use Rattle.cert_check.specs.Carrying.{number_of}
@@ -106,8 +107,9 @@ set_of (Inner' cost set p left q right) = set
 abbrev pub has_number : List ℕ → ℕ → Bool
 has_number ns n = list_any (λ i. i == n) ns
 
--- there are at most so many inner nodes one inside the other
+-- there are at most so many inner nodes one inside the other, each bit of a chain counting as one
 abbrev pub HasRoom : Tree → ℕ → Type 0
 HasRoom (LeafNode x) room = Unit {0}
 HasRoom (InnerNode claim lower upper) zero = ⊥
 HasRoom (InnerNode claim lower upper) (suc room) = HasRoom lower room × HasRoom upper room
+HasRoom (ChainNode claim bits side end) room = (0 < length bits) × HasRoomBelow (HasRoom end) bits room

@@ -4,14 +4,16 @@ ghost use Rattle.std.specs.Prelude.{◌≡◌, None};
 ghost use Rattle.pmap_text.specs.ListModel.{ListModel};
 ghost use Rattle.pmap_text.specs.MapModel.{MapModel};
 ghost use Rattle.pmap_cert.specs.Acceptance.{IsAccepted};
-ghost use Rattle.pmap_cert.specs.CertificateForm.{HasTextForm};
+ghost use Rattle.pmap_cert.specs.CertificateForm.{HasFormatText, HasTextForm};
 ghost use Rattle.pmap_cert.specs.CertificateModel.{CertificateModel};
 ghost use Rattle.cert_check.specs.Checking.{first_fault};
 
-/// A certificate that has a text has no fault exactly where it is accepted. Each `Certificate` has a text, and an
+/// A certificate that has a text, of either format, has no fault exactly where it is accepted. Each `Certificate` has a text, and an
 /// accepted certificate has no fault whether it has a text or not.
 pub fn no_fault_is_acceptance()
     ensures accepted { (m : MapModel) (l : ListModel) (c : CertificateModel) → HasTextForm c →
+        first_fault m l c ≡ None → IsAccepted m l c }
+    ensures format { (m : MapModel) (l : ListModel) (c : CertificateModel) → HasFormatText c →
         first_fault m l c ≡ None → IsAccepted m l c }
     ensures no_fault { (m : MapModel) (l : ListModel) (c : CertificateModel) → IsAccepted m l c →
         first_fault m l c ≡ None }

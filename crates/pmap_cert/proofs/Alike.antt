@@ -8,7 +8,7 @@ use Rattle.prefix_keys.specs.Block.{first_of}
 use Rattle.prefix_keys.specs.Version.{width_of}
 use Rattle.pmap_text.specs.ListModel.{ListModel}
 use Rattle.pmap_text.specs.MapModel.{Label, MapModel, Mapping, last_such, meets, settled_by, spans_all}
-use Rattle.pmap_cert.specs.CertificateModel.{CertificateModel, InnerNode, LeafNode, Pair, Tree, claim_of, has}
+use Rattle.pmap_cert.specs.CertificateModel.{CertificateModel, ChainNode, InnerNode, LeafNode, Pair, Tree, claim_of, has}
 use Rattle.pmap_cert.specs.ExactPair.{IsSamePair, common_labels, exact_pair, exact_pair_by}
 use Rattle.pmap_cert.specs.MinimalPair.{HasItsLabels, IsSameCertificate, IsSameTree, IsMinimalPair, StandsFor, entries_of, first_label, handed_on, has_inherited, least_label, own_entry}
 use Rattle.pmap_cert.proofs.ExactPairs.{same-exact_pair}
@@ -30,6 +30,9 @@ same-claim : (t t' : Tree) → IsSameTree t t' → IsSamePair (claim_of t) (clai
 same-claim (LeafNode x) (LeafNode y) e = record { cost = refl; labels = λ z. ap (λ (u : Label). has (u ∷ []) z) e }
 same-claim (LeafNode x) (InnerNode p l r) e = absurd e
 same-claim (InnerNode p l r) (LeafNode y) e = absurd e
+same-claim (LeafNode x) (ChainNode p bits side end) e = absurd e
+same-claim (InnerNode p' l r) (ChainNode p bits side end) e = absurd e
+same-claim (ChainNode p bits side end) t e = absurd e
 same-claim (InnerNode p l r) (InnerNode p' l' r') e = e.0
 
 -- two nodes that stand for one block are alike
@@ -37,6 +40,9 @@ pub alike : (m : MapModel) (t t' : Tree) (n q : ℕ) → StandsFor m t n q → S
 alike m (LeafNode x) (LeafNode y) n q h h' = same_Some x y (sym h ∙ h')
 alike m (LeafNode x) (InnerNode p l r) n q h h' = none-some x (sym h'.0 ∙ h)
 alike m (InnerNode p l r) (LeafNode y) n q h h' = none-some y (sym h.0 ∙ h')
+alike m (LeafNode x) (ChainNode p bits side end) n q h h' = absurd h'
+alike m (InnerNode p' l r) (ChainNode p bits side end) n q h h' = absurd h'
+alike m (ChainNode p bits side end) t n q h h' = absurd h
 alike m (InnerNode p l r) (InnerNode p' l' r') n q h h' =
     let lower = alike m l l' (suc n) (2 * q) h.2 h'.2 in
     let upper = alike m r r' (suc n) (2 * q + 1) h.3 h'.3 in (
@@ -110,6 +116,7 @@ table-node m inside (LeafNode y) n q stands x h =
     subst (λ (z : Label). has m.table z ≡ true) (has-single y x h)
     (table-settled_by (width_of m.version) n q m.table m.fallback y m.mappings
     (last_such (meets (width_of m.version) n q) m.mappings) inside.fallback inside.mappings refl stands)
+table-node m inside (ChainNode p bits side end) n q stands x h = absurd stands
 table-node m inside (InnerNode p l r) n q stands x h =
     let same = stands.1 in
     ⊎_elim (table-node m inside l (suc n) (2 * q) stands.2 x) (table-node m inside r (suc n) (2 * q + 1) stands.3 x)
@@ -133,6 +140,9 @@ entries-alike m inside (LeafNode x) (LeafNode y) h n q stands e stands' =
     ap (λ (z : Label). own_entry (width_of m.version) m.table (z ∷ []) h n q) e
 entries-alike m inside (LeafNode x) (InnerNode p l r) h n q stands e stands' = absurd e
 entries-alike m inside (InnerNode p l r) (LeafNode y) h n q stands e stands' = absurd e
+entries-alike m inside (LeafNode x) (ChainNode p bits side end) h n q stands e stands' = absurd e
+entries-alike m inside (InnerNode p' l r) (ChainNode p bits side end) h n q stands e stands' = absurd e
+entries-alike m inside (ChainNode p bits side end) t h n q stands e stands' = absurd stands
 entries-alike m inside (InnerNode p l r) (InnerNode p' l' r') h n q stands e stands' =
     let same = e.0 in
     let some = inhabited m (InnerNode p l r) n q stands in
@@ -153,6 +163,7 @@ entries-alike m inside (InnerNode p l r) (InnerNode p' l' r') h n q stands e sta
 pub certificate-unique : (m : MapModel) (l l' : ListModel) (c c' : CertificateModel) → IsMinimalPair m l c → IsMinimalPair m l' c' →
     IsSameCertificate c c'
 certificate-unique m l l' c c' pair pair' = record {
+  format = pair.certificate_format ∙ sym pair'.certificate_format;
   version = pair.certificate_version ∙ sym pair'.certificate_version;
   table = pair.certificate_table ∙ sym pair'.certificate_table;
   root = alike m c.root c'.root 0 0 pair.root pair'.root;

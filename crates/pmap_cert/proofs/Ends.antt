@@ -14,7 +14,7 @@ use Rattle.pmap_text.specs.MapModel.{Label, MapModel, Mapping, last_such, meets,
 use Rattle.pmap_text.specs.Reading.{mapping_limit}
 use Rattle.pmap_cert.proofs.Counts.{one_if}
 use Rattle.pmap_cert.proofs.Sets.{exact_pair-cost}
-use Rattle.pmap_cert.specs.CertificateModel.{InnerNode, LeafNode, Tree, claim_of}
+use Rattle.pmap_cert.specs.CertificateModel.{ChainNode, InnerNode, LeafNode, Tree, claim_of}
 use Rattle.pmap_cert.specs.ExactPair.{exact_pair}
 use Rattle.pmap_cert.specs.MinimalPair.{StandsFor}
 
@@ -127,6 +127,7 @@ sum-bound cost lower upper left a b e most l u halves some =
 -- a node costs no more than the ends inside its block, once for each length
 cost-ends : (m : MapModel) (t : Tree) (left n q : ℕ) → n + left ≡ width_of m.version → StandsFor m t n q → (claim_of t).cost ≤ block_ends m n q * left
 cost-ends m (LeafNode x) left n q e stands = omega arith
+cost-ends m (ChainNode p bits side end) left n q e stands = absurd stands
 cost-ends m (InnerNode p l r) zero n q e stands =
     let below : n < width_of m.version = unsettled-halves m n q (omega arith) stands.0 in
     absurd (omega arith)

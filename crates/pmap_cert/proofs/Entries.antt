@@ -5,7 +5,7 @@ use Rattle.prefix_keys.specs.Block.{block_number, first_of}
 use Rattle.prefix_keys.specs.Version.{width_of}
 use Rattle.pmap_text.specs.ListModel.{Prefix}
 use Rattle.pmap_text.specs.MapModel.{Label, MapModel}
-use Rattle.pmap_cert.specs.CertificateModel.{InnerNode, LeafNode, Pair, Tree, claim_of}
+use Rattle.pmap_cert.specs.CertificateModel.{ChainNode, InnerNode, LeafNode, Pair, Tree, claim_of}
 use Rattle.pmap_cert.specs.ExactPair.{IsSamePair, exact_pair}
 use Rattle.pmap_cert.specs.MinimalPair.{StandsFor, entries_of, handed_on, has_inherited, least_label, own_entry}
 use Rattle.pmap_text.proofs.Blocks.{block_number-first_of, block_number-half}
@@ -39,6 +39,7 @@ halves-cost table claim p r h some same =
 pub length-entries_of : (m : MapModel) (table : List Label) (t : Tree) (h : Option Label) (n q : ℕ) → StandsFor m t n q →
     length (entries_of (width_of m.version) table t h n q) ≡ (claim_of t).cost + miss h (claim_of t).labels
 length-entries_of m table (LeafNode x) h n q stands = length-own_entry (width_of m.version) table (x ∷ []) h n q ∙ omega arith
+length-entries_of m table (ChainNode p bits side end) h n q stands = absurd stands
 length-entries_of m table (InnerNode claim lower upper) h n q stands =
     omega (
       arith,
@@ -94,6 +95,7 @@ pub filter-entries_of : (m : MapModel) (table : List Label) (test : Prefix → B
 filter-entries_of m table test b (LeafNode x) h n q le stands alike =
     filter-own_entry (width_of m.version) table test b (x ∷ []) h n q
     (λ y. alike (record { start = first_of (width_of m.version) n q; bits = n; label = y }) (own-within (width_of m.version) n q y))
+filter-entries_of m table test b (ChainNode p bits side end) h n q le stands alike = absurd stands
 filter-entries_of m table test b (InnerNode claim lower upper) h n q le stands alike =
     let below : n < width_of m.version = unsettled-halves m n q le stands.0 in
     filter-joined test b (own_entry (width_of m.version) table claim.labels h n q)

@@ -8,7 +8,7 @@ use Rattle.pmap_text.specs.MapModel.{Label, MapModel}
 use Rattle.pmap_text.specs.ListModel.{ListModel}
 use Rattle.pmap_text.specs.MapText.{text_at}
 use Rattle.pmap_cert.specs.CertificateForm.{HasNodeForm, HasTextForm, IsRising}
-use Rattle.pmap_cert.specs.CertificateModel.{CertificateModel, InnerNode, LeafNode, Tree, has}
+use Rattle.pmap_cert.specs.CertificateModel.{CertificateModel, ChainNode, InnerNode, LeafNode, Tree, has}
 use Rattle.pmap_cert.specs.CertificateText.{place_of}
 use Rattle.pmap_cert.specs.MinimalPair.{IsMinimalPair, IsSameCertificate, IsSameTree}
 use Rattle.pmap_cert.proofs.Alike.{certificate-unique}
@@ -71,6 +71,9 @@ module _ (table : List Label) where
   tree-equal (LeafNode x) (LeafNode y) room f g e = ap LeafNode e
   tree-equal (LeafNode x) (InnerNode p l r) room f g e = absurd e
   tree-equal (InnerNode p l r) (LeafNode y) room f g e = absurd e
+  tree-equal (LeafNode x) (ChainNode p bits side end) room f g e = absurd e
+  tree-equal (InnerNode p' l r) (ChainNode p bits side end) room f g e = absurd e
+  tree-equal (ChainNode p bits side end) t room f g e = absurd e
   tree-equal (InnerNode p l r) (InnerNode p' l' r') zero f g e = absurd f
   tree-equal (InnerNode p l r) (InnerNode p' l' r') (suc room) f g e =
       let labels = listed-equal 0 p.labels p'.labels f.1 g.1 e.0.labels in
@@ -84,7 +87,7 @@ certificates-equal c c' form form' same =
     subst (λ (v : Version). HasNodeForm c.table c'.root (width_of v)) (sym same.version)
     (subst (λ (t : List Label). HasNodeForm t c'.root (width_of c'.version)) (sym same.table) form'.root) in
     let root = tree-equal c.table c.root c'.root (width_of c.version) form.root root' same.root in
-    λ i. record { version = same.version i; table = same.table i; root = root i }
+    λ i. record { format = same.format i; version = same.version i; table = same.table i; root = root i }
 
 pub certificate-equal : (m : MapModel) (l l' : ListModel) (c c' : CertificateModel) → IsMinimalPair m l c → IsMinimalPair m l' c'
     → HasTextForm c → HasTextForm c' → c ≡ c'

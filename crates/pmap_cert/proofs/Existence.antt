@@ -47,8 +47,9 @@ pair_of m node = (
     prefixes = entries_of (width_of m.version) m.table node.0 None 0 0;
     table = m.table;
   },
-  record { version = m.version; table = m.table; root = node.0 },
+  record { format = 1; version = m.version; table = m.table; root = node.0 },
   record {
+    certificate_format = refl;
     certificate_version = refl;
     certificate_table = refl;
     root = node.1;

@@ -2,7 +2,7 @@ use Rattle.std.proofs.Common.{◌≡◌, ℕ, ◌+◌, Bool, true, false, cond, 
 use Rattle.std.proofs.lemmas.Bool.{or_left}
 use Rattle.pmap_text.specs.MapModel.{Label, MapModel}
 use Rattle.pmap_text.proofs.Finds.{find_passes}
-use Rattle.pmap_cert.specs.CertificateModel.{InnerNode, LeafNode, Pair, Tree, claim_of, has}
+use Rattle.pmap_cert.specs.CertificateModel.{ChainNode, InnerNode, LeafNode, Pair, Tree, claim_of, has}
 use Rattle.pmap_cert.specs.ExactPair.{common_labels, exact_pair, exact_pair_by}
 use Rattle.pmap_cert.specs.MinimalPair.{StandsFor, first_label, handed_on, least_label}
 use Rattle.pmap_cert.proofs.Sets.{bytes_eq-same, has-append, has-filter, has-own, has-single, miss}
@@ -51,6 +51,7 @@ inhabited-exact_pair_by p r (x ∷ xs) some = (x, or_left (bytes_eq x x) (has xs
 -- each node's set has a label
 pub inhabited : (m : MapModel) (t : Tree) (n q : ℕ) → StandsFor m t n q → IsInhabited (claim_of t).labels
 inhabited m (LeafNode x) n q h = (x, has-own x)
+inhabited m (ChainNode p bits side end) n q h = absurd h
 inhabited m (InnerNode claim lower upper) n q h =
     let below = inhabited m lower _ _ h.2 in
     let exact = inhabited-exact_pair_by (claim_of lower) (claim_of upper) (common_labels (claim_of lower) (claim_of upper)) below in

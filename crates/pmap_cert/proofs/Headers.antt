@@ -76,7 +76,7 @@ named_version-found word v e = by (bytes_eq word (codes "ipv4")) (bytes_eq word 
         absurd (none-some v (sym (cond-false (bytes_eq word (codes "ipv4")) (Some V4) (cond (bytes_eq word (codes "ipv6")) (Some V6) None) four
         ∙ cond-false (bytes_eq word (codes "ipv6")) (Some V6) None six) ∙ e))
 
-named_version-word : (v : Version) → named_version (version_word v) ≡ Some v
+pub named_version-word : (v : Version) → named_version (version_word v) ≡ Some v
 named_version-word V4 = refl
 named_version-word V6 = refl
 

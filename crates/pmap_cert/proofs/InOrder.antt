@@ -8,7 +8,7 @@ use Rattle.prefix_keys.specs.Block.{block_number, first_of, last_of}
 use Rattle.prefix_keys.specs.Version.{width_of}
 use Rattle.pmap_text.specs.ListModel.{ListModel, Prefix}
 use Rattle.pmap_text.specs.MapModel.{Label, MapModel}
-use Rattle.pmap_cert.specs.CertificateModel.{CertificateModel, InnerNode, LeafNode, Tree, claim_of, has}
+use Rattle.pmap_cert.specs.CertificateModel.{CertificateModel, ChainNode, InnerNode, LeafNode, Tree, claim_of, has}
 use Rattle.pmap_cert.specs.ListForm.{HasBlock, HasListForm, IsInOrder, is_before}
 use Rattle.pmap_cert.specs.MinimalPair.{HasItsLabels, IsMinimalPair, StandsFor, entries_of, handed_on, has_inherited, least_label, own_entry}
 use Rattle.pmap_cert.proofs.Alike.{table-node}
@@ -108,6 +108,7 @@ module _ (m : MapModel) (table : List Label) where
 
   pub in_order : (t : Tree) (h : Option Label) (n q : ℕ) → n ≤ W → StandsFor m t n q → IsInOrder (entries_of W table t h n q)
   in_order (LeafNode x) h n q le stands = own-order (x ∷ []) h n q
+  in_order (ChainNode p bits side end) h n q le stands = absurd stands
   in_order (InnerNode claim lower upper) h n q le stands =
       let below : n < W = unsettled-halves m n q le stands.0 in
       let on : Option Label = handed_on table claim.labels h in
@@ -147,6 +148,7 @@ module _ (m : MapModel) (inside_table : HasItsLabels m) where
   entries-fit : (t : Tree) (h : Option Label) (n q : ℕ) → n ≤ width_of m.version → q < 2 ^ n → StandsFor m t n q → AllByRecursion FitsMap (entries_of (width_of m.version) m.table t h n q)
   entries-fit (LeafNode x) h n q le small stands =
       own-all m m.table FitsMap (x ∷ []) h n q (own-block (width_of m.version) n q (least_label m.table (x ∷ [])) le small, own-label m inside_table (LeafNode x) n q stands)
+  entries-fit (ChainNode p bits side end) h n q le small stands = absurd stands
   entries-fit (InnerNode claim lower upper) h n q le small stands =
       let below : n < width_of m.version = unsettled-halves m n q le stands.0 in
       let on : Option Label = handed_on m.table claim.labels h in

@@ -8,6 +8,7 @@ use Rattle.pmap_text.specs.Label.{IsLabelTable}
 use Rattle.pmap_text.specs.ListModel.{ListModel}
 use Rattle.pmap_text.specs.MapModel.{Label, MapModel}
 use Rattle.pmap_text.specs.Reading.{ReadsMap, mapping_limit}
+use Rattle.pmap_cert.proofs.Plain.{plain-stands}
 use Rattle.pmap_cert.proofs.Alike.{same-between, table-node}
 use Rattle.pmap_cert.proofs.Ends.{cost-fits}
 use Rattle.pmap_cert.proofs.ExactPairs.{same-exact_pair}
@@ -17,7 +18,7 @@ use Rattle.pmap_cert.proofs.MapLimits.{limits-read}
 use Rattle.pmap_cert.proofs.Pieces.{found_at}
 use Rattle.pmap_cert.proofs.Sets.{has-filter, has-own}
 use Rattle.pmap_cert.specs.CertificateForm.{HasNodeForm, HasTextForm, IsRising}
-use Rattle.pmap_cert.specs.CertificateModel.{CertificateModel, InnerNode, LeafNode, Pair, Tree, claim_of, has}
+use Rattle.pmap_cert.specs.CertificateModel.{CertificateModel, ChainNode, InnerNode, LeafNode, Pair, Tree, claim_of, has}
 use Rattle.pmap_cert.specs.CertificateText.{place_of}
 use Rattle.pmap_cert.specs.ExactPair.{IsSamePair, exact_pair}
 use Rattle.pmap_cert.specs.MinimalPair.{HasItsLabels, IsMinimalPair, StandsFor}
@@ -51,6 +52,7 @@ listed : List Label → Tree → Tree
 listed table (LeafNode x) = LeafNode x
 listed table (InnerNode claim lower upper) =
     InnerNode (record { cost = claim.cost; labels = filter (has claim.labels) table }) (listed table lower) (listed table upper)
+listed table (ChainNode claim bits side end) = ChainNode claim bits side (listed table end)
 
 implied : (a b : Bool) → (b ≡ true → a ≡ true) → (a && b) ≡ b
 implied true b h = refl
@@ -61,6 +63,7 @@ claim-listed : (table : List Label) (t : Tree) → ((x : Label) → has (claim_o
     → IsSamePair (claim_of (listed table t)) (claim_of t)
 unfolding listed
 claim-listed table (LeafNode x) inside = record { cost = refl; labels = λ y. refl }
+claim-listed table (ChainNode p bits side end) inside = record { cost = refl; labels = λ y. refl }
 claim-listed table (InnerNode p l r) inside = record {
   cost = refl;
   labels = λ x. has-filter p.labels table x ∙ implied (has table x) (has p.labels x) (inside x);
@@ -76,6 +79,7 @@ module _ (m : MapModel) (inside : HasItsLabels m) where
   stands-listed : (t : Tree) (n q : ℕ) → StandsFor m t n q → StandsFor m (listed m.table t) n q
   unfolding listed
   stands-listed (LeafNode x) n q stands = stands
+  stands-listed (ChainNode p bits side end) n q stands = absurd stands
   stands-listed (InnerNode p l r) n q stands =
       let l' : Tree = listed m.table l in
       let r' : Tree = listed m.table r in
@@ -94,6 +98,7 @@ module _ (m : MapModel) (inside : HasItsLabels m) where
     form-listed (LeafNode x) left n q e stands =
         ltb-true (place_of m.table x) (length m.table)
         (any_place (bytes_eq x) m.table ∙ table-node m inside (LeafNode x) n q stands x (has-own x))
+    form-listed (ChainNode p bits side end) left n q e stands = absurd stands
     form-listed (InnerNode p l r) zero n q e stands =
         let below : n < width_of m.version = unsettled-halves m n q (omega arith) stands.0 in
         absurd (omega arith)
@@ -109,7 +114,7 @@ module _ (m : MapModel) (inside : HasItsLabels m) where
         let root = (minimal_pair m).1.root in
         let stands : StandsFor m root 0 0 = (minimal_pair m).2.root in
         let pair = pair_of m (listed m.table root, stands-listed root 0 0 stands) in
-        (pair.0, pair.1, pair.2, record { table = ok; root = form-listed root (width_of m.version) 0 0 (omega arith) stands })
+        (pair.0, pair.1, pair.2, record { format = refl; plain = plain-stands m (listed m.table root) 0 0 (stands-listed root 0 0 stands); table = ok; root = form-listed root (width_of m.version) 0 0 (omega arith) stands })
 
 -- so the map of each text that is read has a minimal pair whose certificate has a text
 pub minimal-read : (text : List ℕ) (m : MapModel) → ReadsMap text m → (l : ListModel) × (c : CertificateModel) × IsMinimalPair m l c × HasTextForm c

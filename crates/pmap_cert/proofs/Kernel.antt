@@ -4,7 +4,8 @@ use Rattle.prefix_keys.specs.Version.{width_of}
 use Rattle.pmap_text.specs.ListModel.{Prefix, label_at, label_below}
 use Rattle.pmap_text.specs.MapModel.{IsSettled, Label, MapModel, map_label}
 use Rattle.pmap_cert.specs.Acceptance.{IsNodeAccepted, IsWithinExact}
-use Rattle.pmap_cert.specs.CertificateModel.{InnerNode, LeafNode, Pair, Tree, claim_of, has}
+use Rattle.pmap_cert.specs.CertificateModel.{ChainNode, InnerNode, LeafNode, Pair, Tree, claim_of, has}
+use Rattle.pmap_cert.specs.Chain.{IsPlain}
 use Rattle.pmap_cert.specs.ExactPair.{exact_pair}
 use Rattle.pmap_text.proofs.Blocks.{block_number-first_of, block_number-half, first_of-below, first_of-lower}
 use Rattle.pmap_cert.proofs.Counts.{count_of, count_of-halves, is_at, is_within}
@@ -119,12 +120,13 @@ module _ (m : MapModel) (es ps : List Prefix)
       by_count zero missed le h = omega (arith, h refl)
       by_count (suc k) missed le h = omega arith
 
-  -- the bound at a node
-  pub kernel : (t : Tree) (n q : ℕ) → n ≤ width_of m.version → q < 2 ^ n → IsNodeAccepted m es t n q →
+  -- the bound at a node of a tree without chains
+  pub kernel : (t : Tree) (n q : ℕ) → IsPlain t → n ≤ width_of m.version → q < 2 ^ n → IsNodeAccepted m es t n q →
       (claim_of t).cost + miss (label_below (width_of m.version) ps n (first_of (width_of m.version) n q)) (claim_of t).labels
       ≤ count_of (is_within (width_of m.version) n q) ps
-  kernel (LeafNode x) n q le below h = let k = leaf-bound x n q le below h.0 in omega arith
-  kernel (InnerNode claim lower upper) n q le below h =
+  kernel (LeafNode x) n q plain le below h = let k = leaf-bound x n q le below h.0 in omega arith
+  kernel (ChainNode claim bits side end) n q plain le below h = absurd plain
+  kernel (InnerNode claim lower upper) n q plain le below h =
       halves-bound (width_of m.version) ps n q claim (claim_of lower) (claim_of upper) h.0 h.3
-      (kernel lower (suc n) (2 * q) h.0 (omega (arith, upper-below n q below)) h.1)
-      (kernel upper (suc n) (2 * q + 1) h.0 (upper-below n q below) h.2)
+      (kernel lower (suc n) (2 * q) plain.0 h.0 (omega (arith, upper-below n q below)) h.1)
+      (kernel upper (suc n) (2 * q + 1) plain.1 h.0 (upper-below n q below) h.2)

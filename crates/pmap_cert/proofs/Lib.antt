@@ -27,3 +27,14 @@ pub mod MapLimits
 pub mod Ends
 pub mod InTableOrder
 pub mod InOrder
+pub mod Chains
+pub mod Opening
+pub mod Runs
+pub mod Plain
+pub mod Compacts
+pub mod ChainWords
+pub mod CompactForms
+pub mod ChainLines
+pub mod FormatHeaders
+pub mod FormatTrees
+pub mod FormatWhole

@@ -7,7 +7,7 @@ use Rattle.prefix_keys.specs.Version.{width_of}
 use Rattle.pmap_text.specs.ListModel.{ListModel, Prefix, covers, label_below, lies_inside}
 use Rattle.pmap_text.specs.MapModel.{Label, MapModel}
 use Rattle.pmap_cert.specs.Acceptance.{IsAccepted, IsDecided, IsNodeAccepted, IsWithinExact}
-use Rattle.pmap_cert.specs.CertificateModel.{CertificateModel, InnerNode, LeafNode, Pair, Tree, claim_of}
+use Rattle.pmap_cert.specs.CertificateModel.{CertificateModel, ChainNode, InnerNode, LeafNode, Pair, Tree, claim_of}
 use Rattle.pmap_cert.specs.ExactPair.{IsSamePair, exact_pair}
 use Rattle.pmap_cert.specs.MinimalPair.{IsMinimalPair, StandsFor, entries_of, handed_on, has_inherited, least_label, own_entry}
 use Rattle.pmap_text.proofs.Blocks.{block_number-first_of}
@@ -166,6 +166,7 @@ module _ (m : MapModel) (table : List Label) (ps : List Prefix) where
       label_below (width_of m.version) ps n (first_of (width_of m.version) n q) ≡ h →
       IsNodeAccepted m ps t n q
   accepted-node (LeafNode x) h n q le stands given inherited = (stands, leaf-decided x h n q given inherited)
+  accepted-node (ChainNode p bits side end) h n q le stands given inherited = absurd stands
   accepted-node (InnerNode claim lower upper) h n q le stands given inherited =
       let below : n < width_of m.version = unsettled-halves m n q le stands.0 in
       let handed : label_below (width_of m.version) ps (suc n) (first_of (width_of m.version) n q) ≡ handed_on table claim.labels h =

@@ -6,6 +6,7 @@ use Rattle.pmap_text.specs.Label.{IsLabelTable}
 use Rattle.pmap_text.specs.MapModel.{Label}
 use Rattle.pmap_text.specs.MapText.{text_at}
 use Rattle.pmap_cert.specs.CertificateForm.{HasNodeForm}
+use Rattle.pmap_cert.specs.Chain.{IsPlain}
 use Rattle.pmap_cert.specs.CertificateModel.{InnerNode, LeafNode, Pair, Tree}
 use Rattle.pmap_cert.specs.CertificateReading.{◌>>=◌, InnerLine, LeafLine, NodeLine, Place, due_at, due_by, fault_at, line_from, node_at, node_by, node_line, or_fault, words_of}
 use Rattle.pmap_cert.specs.CertificateText.{inner_line, leaf_line, node_lines, place_of}
@@ -37,9 +38,9 @@ pub due_at-found : (count : ℕ) (place : Place) (x : NodeLine × Place) → due
     → (text : List ℕ) × (place.pieces ≡ text ∷ x.1.pieces) × SaysNode count x.0 (words_of text)
 due_at-found count place x e = due_by-found count place place.number place.pieces x e
 
--- what was read is the lines of the tree, which has its form
+-- what was read is the lines of the tree, which has its form and no chain
 abbrev pub IsRead : List Label → ℕ → Place → Tree × Place → Type 0
-IsRead table room place x = (place.pieces ≡ node_lines table x.0 ++ x.1.pieces) × HasNodeForm table x.0 room
+IsRead table room place x = (place.pieces ≡ node_lines table x.0 ++ x.1.pieces) × HasNodeForm table x.0 room × IsPlain x.0
 
 module _ (table : List Label) (ok : IsLabelTable table) where
   leaf-read : (room : ℕ) (number : ℕ) (text : List ℕ) (place after : Place) (x : Tree × Place) → place.pieces ≡ text ∷ after.pieces → SaysNode (length table) (LeafLine number) (words_of text)
@@ -49,6 +50,7 @@ module _ (table : List Label) (ok : IsLabelTable table) where
       subst (IsRead table room place) (ok_is (LeafNode (text_at table number), after) x e) (
         pieces ∙ ap (λ (t : List ℕ). t ∷ after.pieces) (line-words text (codes "l" ∷ decimal number ∷ []) says.0 ∙ ap leaf_line (sym place_is)),
         rw place_is says.1,
+        tt,
       )
 
   inner-read : (room cost : ℕ) (numbers : List ℕ) (text : List ℕ) (place after : Place) (x lower upper : Tree × Place) → place.pieces ≡ text ∷ after.pieces → SaysNode (length table) (InnerLine cost numbers) (words_of text)
@@ -60,6 +62,7 @@ module _ (table : List Label) (ok : IsLabelTable table) where
         pieces
             ∙ (λ i. (line-words text (codes "n" ∷ decimal cost ∷ map decimal numbers) says.0 ∙ ap (inner_line cost) (sym places)) i ∷ (low.0 ∙ ap (λ (more : List (List ℕ)). node_lines table lower.0 ++ more) up.0 ∙ sym (append_assoc (node_lines table lower.0) (node_lines table upper.0) upper.1.pieces)) i),
         (says.1, rw places says.2, low.1, up.1),
+        (low.2, up.2),
       )
 
   pub node_at-found : (room : ℕ) (place : Place) (x : Tree × Place) → node_at table room place ≡ Ok x → IsRead table room place x

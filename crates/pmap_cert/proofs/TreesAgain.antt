@@ -7,7 +7,8 @@ use Rattle.pmap_text.specs.Label.{IsLabelTable}
 use Rattle.pmap_text.specs.MapModel.{Label}
 use Rattle.pmap_text.specs.MapText.{text_at}
 use Rattle.pmap_cert.specs.CertificateForm.{HasNodeForm, IsRising}
-use Rattle.pmap_cert.specs.CertificateModel.{InnerNode, LeafNode, Pair, Tree}
+use Rattle.pmap_cert.specs.Chain.{IsPlain}
+use Rattle.pmap_cert.specs.CertificateModel.{ChainNode, InnerNode, LeafNode, Pair, Tree}
 use Rattle.pmap_cert.specs.CertificateReading.{◌>>=◌, InnerLine, LeafLine, NodeLine, Place, due_at, due_by, fault_at, line_from, node_at, node_by, node_words, or_fault, words_of}
 use Rattle.pmap_cert.specs.CertificateText.{inner_line, leaf_line, node_lines, place_of}
 use Rattle.pmap_cert.specs.declared.fault.CertFault.{CertFault}
@@ -67,27 +68,28 @@ module _ (table : List Label) (ok : IsLabelTable table) where
   IsAgain tree room rest number =
       (n : ℕ) × (node_at table room (at number (node_lines table tree ++ rest)) ≡ Ok (tree, at n rest))
 
-  pub node_at-again : (tree : Tree) (room : ℕ) (rest : List (List ℕ)) (number : ℕ) → HasNodeForm table tree room → 0 < length rest → IsAgain tree room rest number
+  pub node_at-again : (tree : Tree) (room : ℕ) (rest : List (List ℕ)) (number : ℕ) → HasNodeForm table tree room → IsPlain tree → 0 < length rest → IsAgain tree room rest number
   unfolding node_at
-  node_at-again (LeafNode x) zero rest number form some = (
+  node_at-again (LeafNode x) zero rest number form plain some = (
     number + 1,
     ap (λ (r : Result (NodeLine × Place) CertFault). r >>= (λ due. node_by table (λ after. Err (fault_at (at number (leaf_line (place_of table x) ∷ rest)) TooDeep)) due.0 due.1)) (leaf-due x number rest form some)
         ∙ ap (λ (t : Tree). Ok (t, at (number + 1) rest)) (leaf-is x form),
   )
-  node_at-again (LeafNode x) (suc room) rest number form some = (
+  node_at-again (LeafNode x) (suc room) rest number form plain some = (
     number + 1,
     ap (λ (r : Result (NodeLine × Place) CertFault). r >>= (λ due. node_by table (node_at table room) due.0 due.1)) (leaf-due x number rest form some)
         ∙ ap (λ (t : Tree). Ok (t, at (number + 1) rest)) (leaf-is x form),
   )
-  node_at-again (InnerNode claim lower upper) zero rest number form some = absurd form
-  node_at-again (InnerNode claim lower upper) (suc room) rest number form some =
+  node_at-again (ChainNode p bits side end) room rest number form plain some = absurd plain
+  node_at-again (InnerNode claim lower upper) zero rest number form plain some = absurd form
+  node_at-again (InnerNode claim lower upper) (suc room) rest number form plain some =
       let numbers : List ℕ = map (place_of table) claim.labels in
       let low : List (List ℕ) = node_lines table lower in
       let up : List (List ℕ) = node_lines table upper in
       let behind : 0 < length (up ++ rest) = omega (arith, length-append up rest) in
       let due = inner-due claim.cost numbers number (low ++ (up ++ rest)) form.0 form.1 (omega (arith, length-append low (up ++ rest))) in
-      let first = node_at-again lower room (up ++ rest) (number + 1) form.2 behind in
-      let second = node_at-again upper room rest first.0 form.3 some in
+      let first = node_at-again lower room (up ++ rest) (number + 1) form.2 plain.0 behind in
+      let second = node_at-again upper room rest first.0 form.3 plain.1 some in
       let node : Tree = InnerNode (claim_at claim.cost numbers) lower upper in (
         second.0,
         ap (λ (lines : List (List ℕ)). node_at table (suc room) (at number (inner_line claim.cost numbers ∷ lines))) (append_assoc low up rest)

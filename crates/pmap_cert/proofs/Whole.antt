@@ -13,14 +13,15 @@ use Rattle.pmap_text.specs.Label.{IsLabelTable}
 use Rattle.pmap_text.specs.MapModel.{Label}
 use Rattle.pmap_cert.specs.Certificate.{certificate_of}
 use Rattle.pmap_cert.specs.CertificateForm.{HasNodeForm, HasTextForm}
-use Rattle.pmap_cert.specs.CertificateModel.{CertificateModel, InnerNode, LeafNode, Tree}
+use Rattle.pmap_cert.specs.CertificateModel.{CertificateModel, ChainNode, InnerNode, LeafNode, Tree}
 use Rattle.pmap_cert.specs.CertificateReading.{◌>>=◌, Place, certificate_reading, ended_by, fault_at, header_at, is_ended, labels_at, node_at, pieces_of, start_of}
-use Rattle.pmap_cert.specs.CertificateText.{certificate_lines, certificate_text, header_line, node_lines, place_of}
+use Rattle.pmap_cert.specs.CertificateText.{bit_digits, certificate_lines, certificate_text, header_line, node_lines, place_of}
 use Rattle.pmap_cert.specs.declared.fault.CertFault.{CertFault}
 use Rattle.pmap_cert.specs.declared.certificate.Certificate.{Certificate}
 use Rattle.pmap_cert.specs.declared.fault.CertFaultKind.{CertFaultKind}
 use Rattle.pmap_cert.specs.declared.fault.CertFaultKind.TheVariants.{BadHeader, BadLabelTable, BadNode, NoMemory, NodesLeft, NodesMissing, TooDeep}
 use Rattle.pmap_cert.proofs.Headers.{Lacks-line, Lacks-tested, header-no_feed, header_at-again, header_at-found, table-lacks}
+use Rattle.pmap_cert.proofs.ChainWords.{Lacks-bits, end-room}
 use Rattle.pmap_cert.proofs.Numbers.{Lacks-decimal, Lacks-decimals}
 use Rattle.pmap_cert.proofs.Pieces.{pieces-lines, text_from_pieces}
 use Rattle.pmap_cert.proofs.Tables.{bind_ok, labels_at-again, labels_at-found, ok_is}
@@ -37,7 +38,7 @@ ended-is ([] ∷ []) h = refl
 ended-is ([] ∷ next ∷ pieces) h = absurd cc
 ended-is ((b ∷ bs) ∷ pieces) h = absurd cc
 
-ended_by-found : (c : CertificateModel) (place : Place) (x : CertificateModel) → ended_by c place ≡ Ok x → (place.pieces ≡ [] ∷ []) × (c ≡ x)
+pub ended_by-found : (c : CertificateModel) (place : Place) (x : CertificateModel) → ended_by c place ≡ Ok x → (place.pieces ≡ [] ∷ []) × (c ≡ x)
 ended_by-found c place x e = by (is_ended place.pieces) refl
   where
     failed : ◌≡◌ {A = Result CertificateModel CertFault} (Err (fault_at place NodesLeft)) (Ok x) → ⊥
@@ -58,34 +59,41 @@ joined-pieces all behind_header behind_labels behind_nodes version count table l
 pub reading-found : (text : List ℕ) (c : CertificateModel) → certificate_reading text ≡ Ok c → HasTextForm c × (text ≡ certificate_text c)
 unfolding certificate_reading
 reading-found text c e =
-    let header = bind_ok (header_at (start_of text)) (λ (header : (Version × ℕ) × Place). labels_at header.0.1 [] header.1 >>= (λ (labels : List Label × Place). node_at labels.0 (width_of header.0.0) labels.1 >>= (λ (root : Tree × Place). ended_by (record { version = header.0.0; table = labels.0; root = root.0 }) root.1))) c e in
+    let header = bind_ok (header_at (start_of text)) (λ (header : (Version × ℕ) × Place). labels_at header.0.1 [] header.1 >>= (λ (labels : List Label × Place). node_at labels.0 (width_of header.0.0) labels.1 >>= (λ (root : Tree × Place). ended_by (record { format = 1; version = header.0.0; table = labels.0; root = root.0 }) root.1))) c e in
     let version : Version = header.0.0.0 in
     let count : ℕ = header.0.0.1 in
-    let labels = bind_ok (labels_at count [] header.0.1) (λ (labels : List Label × Place). node_at labels.0 (width_of version) labels.1 >>= (λ (root : Tree × Place). ended_by (record { version = version; table = labels.0; root = root.0 }) root.1)) c header.2 in
+    let labels = bind_ok (labels_at count [] header.0.1) (λ (labels : List Label × Place). node_at labels.0 (width_of version) labels.1 >>= (λ (root : Tree × Place). ended_by (record { format = 1; version = version; table = labels.0; root = root.0 }) root.1)) c header.2 in
     let table : List Label = labels.0.0 in
-    let root = bind_ok (node_at table (width_of version) labels.0.1) (λ (root : Tree × Place). ended_by (record { version = version; table = table; root = root.0 }) root.1) c labels.2 in
-    let end = ended_by-found (record { version = version; table = table; root = root.0.0 }) root.0.1 c root.2 in
+    let root = bind_ok (node_at table (width_of version) labels.0.1) (λ (root : Tree × Place). ended_by (record { format = 1; version = version; table = table; root = root.0 }) root.1) c labels.2 in
+    let end = ended_by-found (record { format = 1; version = version; table = table; root = root.0.0 }) root.0.1 c root.2 in
     let head = header_at-found (start_of text) header.0 header.1 in
     let few : 0 + count ≤ 65536 = omega (arith, head.1) in
     let read = labels_at-found count [] header.0.1 labels.0 labels.1 no_labels few in
     let nodes = node_at-found table read.3 (width_of version) labels.0.1 root.0 root.1 in
     let count_is : count ≡ length table = sym read.4 ∙ ap (λ (t : List Label). length t) (sym read.1) in
-    let pieces : pieces_of text ≡ certificate_lines (record { version = version; table = table; root = root.0.0 }) ++ [] ∷ [] =
+    let pieces : pieces_of text ≡ certificate_lines (record { format = 1; version = version; table = table; root = root.0.0 }) ++ [] ∷ [] =
     joined-pieces (pieces_of text) header.0.1.pieces labels.0.1.pieces root.0.1.pieces version count table (node_lines table root.0.0)
     head.0 (read.2 ∙ ap (λ (t : List Label). t ++ labels.0.1.pieces) (sym read.1)) nodes.0 end.0 count_is in
     subst (λ (c : CertificateModel). HasTextForm c × (text ≡ certificate_text c)) end.1
-    (record { table = read.3; root = nodes.1 }, text_from_pieces text (certificate_lines (record { version = version; table = table; root = root.0.0 })) pieces)
+    (record { format = refl; plain = nodes.2; table = read.3; root = nodes.1 }, text_from_pieces text (certificate_lines (record { format = 1; version = version; table = table; root = root.0.0 })) pieces)
 
 -- no line of a certificate has a line feed inside
-lacks-append : (c : ℕ) (lines more : List (List ℕ)) → AllByRecursion (Lacks c) lines → AllByRecursion (Lacks c) more → AllByRecursion (Lacks c) (lines ++ more)
+pub lacks-append : (c : ℕ) (lines more : List (List ℕ)) → AllByRecursion (Lacks c) lines → AllByRecursion (Lacks c) more → AllByRecursion (Lacks c) (lines ++ more)
 lacks-append c [] more all rest = rest
 lacks-append c (line ∷ lines) more all rest = (all.0, lacks-append c lines more all.1 rest)
 
-nodes-lack : (table : List Label) (tree : Tree) (room : ℕ) → IsLabelTable table → HasNodeForm table tree room → AllByRecursion (Lacks 10) (node_lines table tree)
+pub nodes-lack : (table : List Label) (tree : Tree) (room : ℕ) → IsLabelTable table → HasNodeForm table tree room → AllByRecursion (Lacks 10) (node_lines table tree)
 nodes-lack table (LeafNode x) room ok form =
     let few = ok.few in
     let less : place_of table x < length table = form in
     (Lacks-line 10 (codes "l" ∷ decimal (place_of table x) ∷ []) refl (Lacks-tested 10 (codes "l") refl, (Lacks-decimal 10 (place_of table x) (omega arith) (omega arith), tt)), tt)
+nodes-lack table (ChainNode claim bits side end) room ok form =
+    let few = ok.few in
+    let last = end-room (HasNodeForm table end) bits room form.4 in (
+      Lacks-line 10 (codes "c" ∷ decimal claim.cost ∷ bit_digits bits ∷ decimal (place_of table side) ∷ map decimal (map (place_of table) claim.labels)) refl
+          (Lacks-tested 10 (codes "c") refl, (Lacks-decimal 10 claim.cost (omega arith) (omega (arith, form.0)), (Lacks-bits 10 bits refl refl, (Lacks-decimal 10 (place_of table side) (omega arith) (omega (arith, form.2)), Lacks-decimals 10 (length table) 0 (map (place_of table) claim.labels) (omega arith) (omega arith) form.1)))),
+      nodes-lack table end last.0 ok last.1,
+    )
 nodes-lack table (InnerNode claim lower upper) zero ok form = absurd form
 nodes-lack table (InnerNode claim lower upper) (suc room) ok form =
     let few = ok.few in (
@@ -95,27 +103,35 @@ nodes-lack table (InnerNode claim lower upper) (suc room) ok form =
     )
 
 -- the text of a certificate is read as that certificate
-pub reading-again : (c : CertificateModel) → HasTextForm c → certificate_reading (certificate_text c) ≡ Ok c
+abbrev of_first : CertificateModel → CertificateModel
+of_first c = record { format = 1; version = c.version; table = c.table; root = c.root }
+
+reading-first : (c : CertificateModel) → HasTextForm c → certificate_reading (certificate_text (of_first c)) ≡ Ok (of_first c)
 unfolding certificate_reading
-reading-again c form =
+reading-first c form =
     let version : Version = c.version in
     let table : List Label = c.table in
     let count : ℕ = length table in
     let few : length table ≤ 65536 = form.table.few in
     let nodes : List (List ℕ) = node_lines table c.root in
     let behind : 0 < length (nodes ++ [] ∷ []) = omega (arith, length-append nodes ([] ∷ [])) in
-    let pieces : pieces_of (certificate_text c) ≡ header_line version count ∷ (table ++ (nodes ++ [] ∷ [])) =
-    pieces-lines (certificate_lines c)
+    let pieces : pieces_of (certificate_text (of_first c)) ≡ header_line version count ∷ (table ++ (nodes ++ [] ∷ [])) =
+    pieces-lines (certificate_lines (of_first c))
     (header-no_feed version count (omega arith), lacks-append 10 table nodes (table-lacks table form.table) (nodes-lack table c.root (width_of version) form.table form.root))
     ∙ ap (λ (rest : List (List ℕ)). header_line version count ∷ rest) (append_assoc table nodes ([] ∷ [])) in
     let head = header_at-again version count 0 (table ++ (nodes ++ [] ∷ [])) (omega arith) (omega (arith, length-append table (nodes ++ [] ∷ []))) in
     let labels = labels_at-again table [] 1 (nodes ++ [] ∷ []) form.table behind in
-    let root = node_at-again table form.table c.root (width_of version) ([] ∷ []) labels.0 form.root (omega arith) in
-    ap (λ (place : Place). header_at place >>= (λ header. labels_at header.0.1 [] header.1 >>= (λ labels. node_at labels.0 (width_of header.0.0) labels.1 >>= (λ root. ended_by (record { version = header.0.0; table = labels.0; root = root.0 }) root.1))))
+    let root = node_at-again table form.table c.root (width_of version) ([] ∷ []) labels.0 form.root form.plain (omega arith) in
+    ap (λ (place : Place). header_at place >>= (λ header. labels_at header.0.1 [] header.1 >>= (λ labels. node_at labels.0 (width_of header.0.0) labels.1 >>= (λ root. ended_by (record { format = 1; version = header.0.0; table = labels.0; root = root.0 }) root.1))))
     (λ i. record { number = 0; pieces = pieces i })
-    ∙ ap (λ (r : Result ((Version × ℕ) × Place) CertFault). r >>= (λ header. labels_at header.0.1 [] header.1 >>= (λ labels. node_at labels.0 (width_of header.0.0) labels.1 >>= (λ root. ended_by (record { version = header.0.0; table = labels.0; root = root.0 }) root.1)))) head
-    ∙ ap (λ (r : Result (List Label × Place) CertFault). r >>= (λ labels. node_at labels.0 (width_of version) labels.1 >>= (λ root. ended_by (record { version = version; table = labels.0; root = root.0 }) root.1))) labels.1
-    ∙ ap (λ (r : Result (Tree × Place) CertFault). r >>= (λ root. ended_by (record { version = version; table = table; root = root.0 }) root.1)) root.1
+    ∙ ap (λ (r : Result ((Version × ℕ) × Place) CertFault). r >>= (λ header. labels_at header.0.1 [] header.1 >>= (λ labels. node_at labels.0 (width_of header.0.0) labels.1 >>= (λ root. ended_by (record { format = 1; version = header.0.0; table = labels.0; root = root.0 }) root.1)))) head
+    ∙ ap (λ (r : Result (List Label × Place) CertFault). r >>= (λ labels. node_at labels.0 (width_of version) labels.1 >>= (λ root. ended_by (record { format = 1; version = version; table = labels.0; root = root.0 }) root.1))) labels.1
+    ∙ ap (λ (r : Result (Tree × Place) CertFault). r >>= (λ root. ended_by (record { format = 1; version = version; table = table; root = root.0 }) root.1)) root.1
+
+pub reading-again : (c : CertificateModel) → HasTextForm c → certificate_reading (certificate_text c) ≡ Ok c
+reading-again c form =
+    subst (λ (k : CertificateModel). certificate_reading (certificate_text k) ≡ Ok k)
+    (λ i. record { format = sym form.format i; version = c.version; table = c.table; root = c.root }) (reading-first c form)
 
 -- so a text is read or has a fault, and never both
 pub reading-iff : (text : List ℕ) (c : CertificateModel) → certificate_reading text ≡ Ok c ↔ (HasTextForm c × (text ≡ certificate_text c))
@@ -165,31 +181,31 @@ is_only text (Err f) read fault c form e = (tt, memory f.kind (λ other. wrong (
 module _ (text : List ℕ) where
   pub reading-header_fault : (fault : CertFault) → header_at (start_of text) ≡ Err fault → certificate_reading text ≡ Err fault
   unfolding certificate_reading
-  reading-header_fault fault e = ap (λ (r : Result ((Version × ℕ) × Place) CertFault). r >>= (λ header. labels_at header.0.1 [] header.1 >>= (λ labels. node_at labels.0 (width_of header.0.0) labels.1 >>= (λ root. ended_by (record { version = header.0.0; table = labels.0; root = root.0 }) root.1)))) e
+  reading-header_fault fault e = ap (λ (r : Result ((Version × ℕ) × Place) CertFault). r >>= (λ header. labels_at header.0.1 [] header.1 >>= (λ labels. node_at labels.0 (width_of header.0.0) labels.1 >>= (λ root. ended_by (record { format = 1; version = header.0.0; table = labels.0; root = root.0 }) root.1)))) e
 
   module _ (version : Version) (count : ℕ) (after : Place) (header : header_at (start_of text) ≡ Ok ((version, count), after)) where
-    behind_header : certificate_reading text ≡ (labels_at count [] after >>= (λ labels. node_at labels.0 (width_of version) labels.1 >>= (λ root. ended_by (record { version = version; table = labels.0; root = root.0 }) root.1)))
+    behind_header : certificate_reading text ≡ (labels_at count [] after >>= (λ labels. node_at labels.0 (width_of version) labels.1 >>= (λ root. ended_by (record { format = 1; version = version; table = labels.0; root = root.0 }) root.1)))
     unfolding certificate_reading
-    behind_header = ap (λ (r : Result ((Version × ℕ) × Place) CertFault). r >>= (λ header. labels_at header.0.1 [] header.1 >>= (λ labels. node_at labels.0 (width_of header.0.0) labels.1 >>= (λ root. ended_by (record { version = header.0.0; table = labels.0; root = root.0 }) root.1)))) header
+    behind_header = ap (λ (r : Result ((Version × ℕ) × Place) CertFault). r >>= (λ header. labels_at header.0.1 [] header.1 >>= (λ labels. node_at labels.0 (width_of header.0.0) labels.1 >>= (λ root. ended_by (record { format = 1; version = header.0.0; table = labels.0; root = root.0 }) root.1)))) header
 
     pub reading-labels_fault : (fault : CertFault) → labels_at count [] after ≡ Err fault → certificate_reading text ≡ Err fault
-    reading-labels_fault fault e = behind_header ∙ ap (λ (r : Result (List Label × Place) CertFault). r >>= (λ labels. node_at labels.0 (width_of version) labels.1 >>= (λ root. ended_by (record { version = version; table = labels.0; root = root.0 }) root.1))) e
+    reading-labels_fault fault e = behind_header ∙ ap (λ (r : Result (List Label × Place) CertFault). r >>= (λ labels. node_at labels.0 (width_of version) labels.1 >>= (λ root. ended_by (record { format = 1; version = version; table = labels.0; root = root.0 }) root.1))) e
 
     module _ (table : List Label) (nodes : Place) (labels : labels_at count [] after ≡ Ok (table, nodes)) where
-      behind_labels : certificate_reading text ≡ (node_at table (width_of version) nodes >>= (λ root. ended_by (record { version = version; table = table; root = root.0 }) root.1))
-      behind_labels = behind_header ∙ ap (λ (r : Result (List Label × Place) CertFault). r >>= (λ labels. node_at labels.0 (width_of version) labels.1 >>= (λ root. ended_by (record { version = version; table = labels.0; root = root.0 }) root.1))) labels
+      behind_labels : certificate_reading text ≡ (node_at table (width_of version) nodes >>= (λ root. ended_by (record { format = 1; version = version; table = table; root = root.0 }) root.1))
+      behind_labels = behind_header ∙ ap (λ (r : Result (List Label × Place) CertFault). r >>= (λ labels. node_at labels.0 (width_of version) labels.1 >>= (λ root. ended_by (record { format = 1; version = version; table = labels.0; root = root.0 }) root.1))) labels
 
       pub reading-root_fault : (fault : CertFault) → node_at table (width_of version) nodes ≡ Err fault → certificate_reading text ≡ Err fault
-      reading-root_fault fault e = behind_labels ∙ ap (λ (r : Result (Tree × Place) CertFault). r >>= (λ root. ended_by (record { version = version; table = table; root = root.0 }) root.1)) e
+      reading-root_fault fault e = behind_labels ∙ ap (λ (r : Result (Tree × Place) CertFault). r >>= (λ root. ended_by (record { format = 1; version = version; table = table; root = root.0 }) root.1)) e
 
-      pub reading-ended : (root : Tree) (end : Place) → node_at table (width_of version) nodes ≡ Ok (root, end) → is_ended end.pieces ≡ true → certificate_reading text ≡ Ok (record { version = version; table = table; root = root })
+      pub reading-ended : (root : Tree) (end : Place) → node_at table (width_of version) nodes ≡ Ok (root, end) → is_ended end.pieces ≡ true → certificate_reading text ≡ Ok (record { format = 1; version = version; table = table; root = root })
       reading-ended root end e h =
           behind_labels
-          ∙ ap (λ (r : Result (Tree × Place) CertFault). r >>= (λ root. ended_by (record { version = version; table = table; root = root.0 }) root.1)) e
-          ∙ cond-true (is_ended end.pieces) (Ok (record { version = version; table = table; root = root })) (Err (fault_at end NodesLeft)) h
+          ∙ ap (λ (r : Result (Tree × Place) CertFault). r >>= (λ root. ended_by (record { format = 1; version = version; table = table; root = root.0 }) root.1)) e
+          ∙ cond-true (is_ended end.pieces) (Ok (record { format = 1; version = version; table = table; root = root })) (Err (fault_at end NodesLeft)) h
 
       pub reading-left : (root : Tree) (end : Place) → node_at table (width_of version) nodes ≡ Ok (root, end) → is_ended end.pieces ≡ false → certificate_reading text ≡ Err (fault_at end NodesLeft)
       reading-left root end e h =
           behind_labels
-          ∙ ap (λ (r : Result (Tree × Place) CertFault). r >>= (λ root. ended_by (record { version = version; table = table; root = root.0 }) root.1)) e
-          ∙ cond-false (is_ended end.pieces) (Ok (record { version = version; table = table; root = root })) (Err (fault_at end NodesLeft)) h
+          ∙ ap (λ (r : Result (Tree × Place) CertFault). r >>= (λ root. ended_by (record { format = 1; version = version; table = table; root = root.0 }) root.1)) e
+          ∙ cond-false (is_ended end.pieces) (Ok (record { format = 1; version = version; table = table; root = root })) (Err (fault_at end NodesLeft)) h

@@ -14,18 +14,25 @@ pub record Pair : Type 0 where
 abbrev pub has : List Label → Label → Bool
 has s x = has_label s x
 
--- a node: a leaf with a label, or an inner node with what it claims of its block and the nodes of the block's halves
+-- A node: a leaf with a label, an inner node with what it claims of its block and the nodes of the block's halves, or a
+-- chain. A chain stands for inner nodes one inside the other, each with a leaf in one half and the way on in the other:
+-- it has what the first of them claims, for each from there down whether the way goes on in the upper half, the one
+-- label of all the leaves beside the way, and the node at the way's end.
 pub data Tree : Type 0 where
   LeafNode : (x : Label) → Tree
   InnerNode : (claim : Pair) (lower upper : Tree) → Tree
+  ChainNode : (claim : Pair) (bits : List Bool) (side : Label) (end : Tree) → Tree
 
 -- what a node claims: a leaf the cost 0 and its label alone
 abbrev pub claim_of : Tree → Pair
 claim_of (LeafNode x) = record { cost = 0; labels = x ∷ [] }
 claim_of (InnerNode claim lower upper) = claim
+claim_of (ChainNode claim bits side end) = claim
 
--- a certificate: the version of its addresses, its label table and its root, which stands for the address space
+-- a certificate: its format, 1 or 2, of which 1 never has chains, the version of its addresses, its label table and its
+-- root, which stands for the address space
 pub record CertificateModel : Type 0 where
+  pub format : ℕ
   pub version : Version
   pub table : List Label
   pub root : Tree

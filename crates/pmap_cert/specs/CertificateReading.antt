@@ -175,4 +175,4 @@ certificate_reading text =
     header_at (start_of text) >>= (λ header.
     labels_at header.0.1 [] header.1 >>= (λ labels.
     node_at labels.0 (width_of header.0.0) labels.1 >>= (λ root.
-    ended_by (record { version = header.0.0; table = labels.0; root = root.0 }) root.1)))
+    ended_by (record { format = 1; version = header.0.0; table = labels.0; root = root.0 }) root.1)))

@@ -1,14 +1,14 @@
-use Rattle.std.specs.Prelude.{ℕ, List, [], ◌∷◌, ◌++◌, codes, length, map}
+use Rattle.std.specs.Prelude.{ℕ, ◌==◌, Bool, List, [], ◌∷◌, ◌++◌, codes, length, map, if◌then◌else◌}
 use Rattle.std.specs.List.{flat_map, join_with_byte, position_or_len}
 use Rattle.std.specs.Fmt.{decimal}
 use Rattle.std.specs.Str.{bytes_eq}
 use Rattle.prefix_keys.specs.declared.version.Version.{Version}
 use Rattle.prefix_keys.specs.declared.version.Version.TheVariants.{V4, V6}
 use Rattle.pmap_text.specs.MapModel.{Label}
-use Rattle.pmap_cert.specs.CertificateModel.{CertificateModel, InnerNode, LeafNode, Tree}
+use Rattle.pmap_cert.specs.CertificateModel.{CertificateModel, ChainNode, InnerNode, LeafNode, Tree}
 
--- The text of a certificate, version 1 of the format: lines of words with a space between each two, and a line feed
--- behind each line.
+-- The text of a certificate of either format: lines of words with a space between each two, and a line feed behind each
+-- line.
 
 -- the number of a label: its place in the table, from 0, or the table's length where the table hasn't got it
 abbrev pub place_of : List Label → Label → ℕ
@@ -22,9 +22,18 @@ abbrev pub version_word : Version → List ℕ
 version_word V4 = codes "ipv4"
 version_word V6 = codes "ipv6"
 
--- `flowlabel-cert 1 VERSION COUNT`
+-- the word of a format
+abbrev pub format_word : ℕ → List ℕ
+format_word format = if format == 1 then codes "1" else codes "2"
+
+-- `flowlabel-cert FORMAT VERSION COUNT`
+abbrev pub format_header : ℕ → Version → ℕ → List ℕ
+format_header format version count =
+    line_of (codes "flowlabel-cert" ∷ format_word format ∷ version_word version ∷ decimal count ∷ [])
+
+-- that of format 1
 abbrev pub header_line : Version → ℕ → List ℕ
-header_line version count = line_of (codes "flowlabel-cert" ∷ codes "1" ∷ version_word version ∷ decimal count ∷ [])
+header_line version count = format_header 1 version count
 
 -- `l NUMBER`: a leaf with the number of its label
 abbrev pub leaf_line : ℕ → List ℕ
@@ -34,15 +43,28 @@ leaf_line number = line_of (codes "l" ∷ decimal number ∷ [])
 abbrev pub inner_line : ℕ → List ℕ → List ℕ
 inner_line cost numbers = line_of (codes "n" ∷ decimal cost ∷ map decimal numbers)
 
--- the lines of a node and of those below it in preorder: first the node, then all of the lower half, then all of the upper
+-- the digits of a chain's bits: 1 where the way goes on in the upper half
+abbrev pub bit_digits : List Bool → List ℕ
+bit_digits bits = map (λ bit. if bit then 49 else 48) bits
+
+-- `c COST BITS SIDE NUMBER NUMBER ..`: a chain with the cost that it claims, its bits, the number of its side label and
+-- the numbers of its set
+abbrev pub chain_line : ℕ → List Bool → ℕ → List ℕ → List ℕ
+chain_line cost bits side numbers =
+    line_of (codes "c" ∷ decimal cost ∷ bit_digits bits ∷ decimal side ∷ map decimal numbers)
+
+-- the lines of a node and of those below it in preorder: first the node, then all of the lower half, then all of the
+-- upper, or all of a chain's end
 abbrev pub node_lines : List Label → Tree → List (List ℕ)
 node_lines table (LeafNode x) = leaf_line (place_of table x) ∷ []
 node_lines table (InnerNode claim lower upper) =
     inner_line claim.cost (map (place_of table) claim.labels) ∷ (node_lines table lower ++ node_lines table upper)
+node_lines table (ChainNode claim bits side end) =
+    chain_line claim.cost bits (place_of table side) (map (place_of table) claim.labels) ∷ node_lines table end
 
 -- the header, the labels of the table in order, and the nodes
 abbrev pub certificate_lines : CertificateModel → List (List ℕ)
-certificate_lines c = header_line c.version (length c.table) ∷ (c.table ++ node_lines c.table c.root)
+certificate_lines c = format_header c.format c.version (length c.table) ∷ (c.table ++ node_lines c.table c.root)
 
 -- each line with its line feed
 abbrev pub text_of_lines : List (List ℕ) → List ℕ

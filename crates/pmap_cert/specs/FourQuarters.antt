@@ -46,6 +46,7 @@ two_leaves x y = InnerNode (record { cost = 1; labels = x ∷ y ∷ [] }) (LeafN
 -- the certificate  n 2 {A}  over  n 1 {A, B}  and  n 1 {A, C}
 abbrev pub four_quarters_certificate : CertificateModel
 four_quarters_certificate = record {
+  format = 1;
   version = V4;
   table = four_quarters_table;
   root =

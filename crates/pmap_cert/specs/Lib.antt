@@ -1,12 +1,16 @@
 pub mod CertificateModel
 pub mod ExactPair
+pub mod Chain
 pub mod Acceptance
 pub mod MinimalPair
 pub mod FourQuarters
 pub mod ListForm
+pub mod Compacting
+pub mod LastAddress
 pub mod CertificateText
 pub mod CertificateForm
 pub mod CertificateReading
+pub mod FormatReading
 pub mod Node
 pub mod LabelSet
 pub mod Certificate

@@ -3,7 +3,7 @@ use Rattle.prefix_keys.specs.Block.{first_of}
 use Rattle.prefix_keys.specs.Version.{width_of}
 use Rattle.pmap_text.specs.ListModel.{ListModel, Prefix}
 use Rattle.pmap_text.specs.MapModel.{IsSettled, Label, MapModel, settled_label}
-use Rattle.pmap_cert.specs.CertificateModel.{CertificateModel, InnerNode, LeafNode, Tree, claim_of, has}
+use Rattle.pmap_cert.specs.CertificateModel.{CertificateModel, ChainNode, InnerNode, LeafNode, Tree, claim_of, has}
 use Rattle.pmap_cert.specs.ExactPair.{IsSamePair, exact_pair}
 
 -- The minimal pair of a map: its certificate of exact pairs and the prefix list read off that.
@@ -15,6 +15,7 @@ StandsFor m (LeafNode x) n q = IsSettled m n q x
 StandsFor m (InnerNode claim lower upper) n q =
     (settled_label m n q ≡ None) × IsSamePair claim (exact_pair (claim_of lower) (claim_of upper))
     × StandsFor m lower (suc n) (2 * q) × StandsFor m upper (suc n) (2 * q + 1)
+StandsFor m (ChainNode claim bits side end) n q = ⊥
 
 -- the first label of a set's list
 abbrev pub first_label : List Label → Label
@@ -48,10 +49,13 @@ entries_of W table (InnerNode claim lower upper) inherited n q =
     own_entry W table claim.labels inherited n q
     ++ (entries_of W table lower (handed_on table claim.labels inherited) (suc n) (2 * q)
     ++ entries_of W table upper (handed_on table claim.labels inherited) (suc n) (2 * q + 1))
+entries_of W table (ChainNode claim bits side end) inherited n q = []
 
 -- the list and the certificate are a minimal pair of the map: the certificate's root stands for the address space, the
--- list has its entries from the root down, at which nothing is inherited, and both have the map's version and label table
+-- list has its entries from the root down, at which nothing is inherited, both have the map's version and label table,
+-- and the certificate is of format 1
 pub record IsMinimalPair (m : MapModel) (l : ListModel) (c : CertificateModel) : Type 0 where
+  pub certificate_format : c.format ≡ 1
   pub certificate_version : c.version ≡ m.version
   pub certificate_table : c.table ≡ m.table
   pub root : StandsFor m c.root 0 0
@@ -68,6 +72,7 @@ IsSameTree _ _ = ⊥
 
 -- two certificates are the same but for the order in which their sets are listed
 pub record IsSameCertificate (c c' : CertificateModel) : Type 0 where
+  pub format : c.format ≡ c'.format
   pub version : c.version ≡ c'.version
   pub table : c.table ≡ c'.table
   pub root : IsSameTree c.root c'.root

@@ -18,11 +18,13 @@
 //! map text has a certificate with a text. Each `Certificate` keeps in its type that its labels are in its table, that
 //! its sets rise, and that no node lies deeper than an address has bits. `write_cert` gives the one text of a
 //! certificate; `read_cert` reads a text exactly where it is the text of a certificate, and else names its first fault:
-//! each text is the one or has the other.
+//! each text is the one or has the other. Chains, what a certificate is compacted to and the text of format 2 stand in
+//! the definitions and their laws alone: no certificate of the code has a chain.
 #![tactic(auto)]
 
 mod certificate;
 mod certificate_reading;
+mod chain_laws;
 mod fault;
 mod label_set;
 mod laws;
@@ -33,6 +35,12 @@ mod writing;
 
 pub use certificate::Certificate;
 pub use certificate_reading::read_cert;
+pub use chain_laws::{
+    chain_pair_is_bit_by_bit, compact_gives_back_equal, compact_has_a_text,
+    compact_has_no_more_lines, compact_keeps_acceptance, compact_opens_to_the_same,
+    compacting_is_by_longest_runs, last_address_is_one_chain, opened_is_accepted,
+    text_of_format_is_read_or_has_a_fault,
+};
 pub use fault::{CertFault, CertFaultKind};
 pub use label_set::LabelSet;
 pub use laws::{

@@ -36,6 +36,7 @@ returns-then-is_ended-clause-ok c =
     labels.labels labels.lines labels.ensures.ok (tree_of labels.labels root.root) root.rest (rw c.width.ensures at root.ensures.ok)
     (sym c.is_ended.ensures ∙ c.if-is_ended.true)
     ∙ (λ i. Ok (record {
+      format = 1;
       version = sym made.version i;
       table = sym made.labels i;
       root = tree_of (sym made.labels i) (sym made.root i);

@@ -1,0 +1,249 @@
+use Rattle.std.proofs.Common.{◌≡◌, ℕ, zero, suc, ◌+◌, ◌*◌, ◌<◌, ◌≤◌, Bool, true, false, cond, ◌&&◌, ◌||◌, List, [], ◌∷◌, IsTrue, arith, length, refl, sym, ap₂, ◌∙◌, subst, bytes_eq}
+use Rattle.std.proofs.lemmas.Bool.{or_left}
+use Rattle.pmap_text.specs.ListModel.{ListModel, Prefix}
+use Rattle.pmap_text.specs.MapModel.{Label, MapModel}
+use Rattle.prefix_keys.specs.Version.{width_of}
+use Rattle.pmap_cert.specs.Acceptance.{AreBitsAccepted, IsAccepted, IsLeafAccepted, IsNodeAccepted, IsWithinExact}
+use Rattle.pmap_cert.specs.CertificateModel.{CertificateModel, ChainNode, InnerNode, LeafNode, Pair, Tree, claim_of, has}
+use Rattle.pmap_cert.specs.Chain.{IsPlain, chain_labels, chain_opened, chain_pair, chosen_half, link, link_pair, links, opened, opened_certificate, pair_by_bits, side_half}
+use Rattle.pmap_cert.specs.ExactPair.{IsSamePair, exact_pair}
+use Rattle.pmap_cert.proofs.ExactPairs.{exact_pair-apart, exact_pair-common, same-exact_pair}
+use Rattle.pmap_cert.proofs.Sets.{bytes_eq-same, has-own, has-single}
+
+-- A chain's exact pair is the exact pair taken bit by bit, and an accepted certificate with chains is accepted with
+-- each chain opened.
+
+-- the leaf beside the way
+abbrev side_pair : Label → Pair
+side_pair side = claim_of (LeafNode side)
+
+-- pairs that are the same, one after the other
+same-then : (a b c : Pair) → IsSamePair a b → IsSamePair b c → IsSamePair a c
+same-then a b c e f = record { cost = e.cost ∙ f.cost; labels = λ x. e.labels x ∙ f.labels x }
+
+same-itself : (a : Pair) → IsSamePair a a
+same-itself a = record { cost = refl; labels = λ x. refl }
+
+-- a label of the side leaf is the side label
+both-own : (a b : Bool) → (a ≡ true → b ≡ true) → a ≡ (a && b)
+both-own a b h = grind arith
+
+both-own-after : (a b : Bool) → (a ≡ true → b ≡ true) → a ≡ (b && a)
+both-own-after a b h = grind arith
+
+none-own : (a b : Bool) → (a ≡ true → b ≡ false) → (a && b) ≡ false
+none-own a b h = grind arith
+
+none-own-after : (a b : Bool) → (a ≡ true → b ≡ false) → (b && a) ≡ false
+none-own-after a b h = grind arith
+
+or-either : (a b : Bool) → (a || b) ≡ ((a || false) || b)
+or-either a b = grind arith
+
+or-either-after : (a b : Bool) → (a || b) ≡ (b || (a || false))
+or-either-after a b = grind arith
+
+-- what holds of the side label holds of each label that the side leaf has
+at-own : (s : List Label) (side x : Label) (b : Bool) → has s side ≡ b → has (side ∷ []) x ≡ true → has s x ≡ b
+at-own s side x b known own = subst (λ (y : Label). has s y ≡ b) (has-single side x own) known
+
+-- a side leaf beside a node whose set has the side label
+link-has : (bit : Bool) (side : Label) (p : Pair) → has p.labels side ≡ true →
+    IsSamePair (record { cost = p.cost; labels = side ∷ [] }) (link_pair bit side p)
+link-has true side p known =
+    let h = exact_pair-common (side_pair side) p side (has-own side) known in
+    record {
+      cost = omega (arith, h.cost);
+      labels = λ x. both-own (has (side ∷ []) x) (has p.labels x) (at-own p.labels side x true known) ∙ sym (h.labels x);
+    }
+link-has false side p known =
+    let h = exact_pair-common p (side_pair side) side known (has-own side) in
+    record {
+      cost = omega (arith, h.cost);
+      labels = λ x. both-own-after (has (side ∷ []) x) (has p.labels x) (at-own p.labels side x true known) ∙ sym (h.labels x);
+    }
+
+-- and beside one whose set lacks it
+link-lacks : (bit : Bool) (side : Label) (p : Pair) → has p.labels side ≡ false →
+    IsSamePair (record { cost = p.cost + 1; labels = side ∷ p.labels }) (link_pair bit side p)
+link-lacks true side p known =
+    let h = exact_pair-apart (side_pair side) p
+    (λ x. none-own (has (side ∷ []) x) (has p.labels x) (at-own p.labels side x false known)) in
+    record {
+      cost = omega (arith, h.cost);
+      labels = λ x. or-either (bytes_eq x side) (has p.labels x) ∙ sym (h.labels x);
+    }
+link-lacks false side p known =
+    let h = exact_pair-apart p (side_pair side)
+    (λ x. none-own-after (has (side ∷ []) x) (has p.labels x) (at-own p.labels side x false known)) in
+    record {
+      cost = omega (arith, h.cost);
+      labels = λ x. or-either-after (bytes_eq x side) (has p.labels x) ∙ sym (h.labels x);
+    }
+
+-- links of pairs that are the same are the same
+same-link : (bit : Bool) (side : Label) (p r : Pair) → IsSamePair p r → IsSamePair (link_pair bit side p) (link_pair bit side r)
+same-link true side p r same = same-exact_pair (side_pair side) p (side_pair side) r (same-itself (side_pair side)) same
+same-link false side p r same = same-exact_pair p (side_pair side) r (side_pair side) same (same-itself (side_pair side))
+
+-- the pair of one bit
+pair-first : (bit : Bool) (side : Label) (e : Pair) → IsSamePair (chain_pair (suc zero) side e) (link_pair bit side e)
+pair-first bit side e = by_test (has e.labels side) refl
+  where
+    by_test : (b : Bool) → has e.labels side ≡ b →
+        IsSamePair
+        (cond b (record { cost = e.cost; labels = side ∷ [] }) (record { cost = e.cost + 1; labels = side ∷ e.labels }))
+        (link_pair bit side e)
+    by_test true known = link-has bit side e known
+    by_test false known = link-lacks bit side e known
+
+-- a set of a chain with a bit has the side label
+has-chain_labels : (n : ℕ) (side : Label) (s : List Label) → has (chain_labels (suc n) side s) side ≡ true
+has-chain_labels zero side s = or_left (bytes_eq side side) (has s side) (bytes_eq-same side)
+has-chain_labels (suc n) side s = has-own side
+
+-- the pair of one bit more
+pair-more : (bit : Bool) (n : ℕ) (side : Label) (e : Pair) →
+    IsSamePair (chain_pair (suc (suc n)) side e) (link_pair bit side (chain_pair (suc n) side e))
+pair-more bit n side e = by_test (has e.labels side)
+  where
+    by_test : (b : Bool) →
+        IsSamePair
+        (cond b (record { cost = e.cost; labels = side ∷ [] }) (record { cost = e.cost + 1; labels = side ∷ [] }))
+        (link_pair bit side
+        (cond b (record { cost = e.cost; labels = side ∷ [] })
+        (record { cost = e.cost + 1; labels = chain_labels (suc n) side e.labels })))
+    by_test true = link-has bit side (record { cost = e.cost; labels = side ∷ [] }) (has-own side)
+    by_test false =
+        link-has bit side (record { cost = e.cost + 1; labels = chain_labels (suc n) side e.labels })
+        (has-chain_labels n side e.labels)
+
+-- the chain's pair in one step is the pair taken bit by bit
+pub pair-by_bits : (bit : Bool) (bits : List Bool) (side : Label) (e : Pair) →
+    IsSamePair (chain_pair (length (bit ∷ bits)) side e) (pair_by_bits (bit ∷ bits) side e)
+pair-by_bits bit [] side e = pair-first bit side e
+pair-by_bits bit (next ∷ bits) side e =
+    same-then (chain_pair (length (bit ∷ next ∷ bits)) side e) (link_pair bit side (chain_pair (length (next ∷ bits)) side e))
+    (pair_by_bits (bit ∷ next ∷ bits) side e)
+    (pair-more bit (length bits) side e)
+    (same-link bit side (chain_pair (length (next ∷ bits)) side e) (pair_by_bits (next ∷ bits) side e) (pair-by_bits next bits side e))
+
+-- what an opened node claims is what the node claims
+claim-link : (claim : Pair) (bit : Bool) (side : Label) (t : Tree) → claim_of (link claim bit side t) ≡ claim
+claim-link claim true side t = refl
+claim-link claim false side t = refl
+
+claim-chain_opened : (claim : Pair) (bits : List Bool) (side : Label) (t : Tree) → 0 < length bits →
+    claim_of (chain_opened claim bits side t) ≡ claim
+claim-chain_opened claim [] side t some = absurd (omega arith)
+claim-chain_opened claim (bit ∷ bits) side t some = claim-link claim bit side (links bits side t)
+
+pub claim-opened : (m : MapModel) (ps : List Prefix) (t : Tree) (n q : ℕ) → IsNodeAccepted m ps t n q →
+    claim_of (opened t) ≡ claim_of t
+claim-opened m ps (LeafNode x) n q h = refl
+claim-opened m ps (InnerNode claim lower upper) n q h = refl
+claim-opened m ps (ChainNode claim bits side end) n q h = claim-chain_opened claim bits side (opened end) h.0
+
+-- a claim within a pair is within one that is the same
+pub within-same_pair : (claim e e' : Pair) → IsSamePair e e' → IsWithinExact claim e → IsWithinExact claim e'
+within-same_pair claim e e' same within = record {
+  cost = omega (arith, same.cost, within.cost);
+  labels = λ cost x h. within.labels (cost ∙ sym same.cost) x (subst IsTrue (sym (same.labels x)) h);
+}
+
+pub within-itself : (e : Pair) → IsWithinExact e e
+within-itself e = record { cost = omega arith; labels = λ cost x h. h }
+
+-- the pair of a link by what stands at its end: the end itself or a link more
+pair-links : (bit : Bool) (bits : List Bool) (side : Label) (t : Tree) →
+    IsSamePair (chain_pair (suc (length bits)) side (claim_of t)) (link_pair bit side (claim_of (links bits side t)))
+pair-links bit [] side t = pair-first bit side (claim_of t)
+pair-links bit (next ∷ bits) side t =
+    subst (λ (p : Pair). IsSamePair (chain_pair (suc (length (next ∷ bits))) side (claim_of t)) (link_pair bit side p))
+    (sym (claim-link (chain_pair (suc (length bits)) side (claim_of t)) next side (links bits side t)))
+    (pair-more bit (length bits) side (claim_of t))
+
+module _ (m : MapModel) (ps : List Prefix) (side : Label) where
+  -- a link is accepted where its leaf, its other node and its claim are
+  link-accepted : (claim : Pair) (bit : Bool) (t : Tree) (n q : ℕ) → n < width_of m.version →
+      IsLeafAccepted m ps side (suc n) (side_half bit q) → IsNodeAccepted m ps t (suc n) (chosen_half bit q) →
+      IsWithinExact claim (link_pair bit side (claim_of t)) → IsNodeAccepted m ps (link claim bit side t) n q
+  link-accepted claim true t n q below leaf node within = (below, leaf, node, within)
+  link-accepted claim false t n q below leaf node within = (below, node, leaf, within)
+
+  -- the links above an accepted end are accepted
+  links-accepted : (bits : List Bool) (t : Tree) (n q : ℕ) → AreBitsAccepted m ps side (IsNodeAccepted m ps t) bits n q →
+      IsNodeAccepted m ps (links bits side t) n q
+  links-accepted [] t n q h = h
+  links-accepted (bit ∷ bits) t n q h =
+      link-accepted (chain_pair (suc (length bits)) side (claim_of t)) bit (links bits side t) n q h.0 h.1
+      (links-accepted bits t (suc n) (chosen_half bit q) h.2)
+      (within-same_pair (chain_pair (suc (length bits)) side (claim_of t)) (chain_pair (suc (length bits)) side (claim_of t))
+      (link_pair bit side (claim_of (links bits side t))) (pair-links bit bits side t)
+      (within-itself (chain_pair (suc (length bits)) side (claim_of t))))
+
+  -- and so is the top, with the chain's claim
+  top-accepted : (claim : Pair) (bits : List Bool) (t : Tree) (n q : ℕ) → 0 < length bits →
+      AreBitsAccepted m ps side (IsNodeAccepted m ps t) bits n q →
+      IsWithinExact claim (chain_pair (length bits) side (claim_of t)) →
+      IsNodeAccepted m ps (chain_opened claim bits side t) n q
+  top-accepted claim [] t n q some h within = absurd (omega arith)
+  top-accepted claim (bit ∷ bits) t n q some h within =
+      link-accepted claim bit (links bits side t) n q h.0 h.1 (links-accepted bits t (suc n) (chosen_half bit q) h.2)
+      (within-same_pair claim (chain_pair (suc (length bits)) side (claim_of t))
+      (link_pair bit side (claim_of (links bits side t))) (pair-links bit bits side t) within)
+
+  -- what holds of the end of the way can be put in the place of what is asked there
+  pub bits-end : (IsEnd IsOther : ℕ → ℕ → Type 0) → ((n q : ℕ) → IsEnd n q → IsOther n q) → (bits : List Bool) (n q : ℕ) →
+      AreBitsAccepted m ps side IsEnd bits n q → AreBitsAccepted m ps side IsOther bits n q
+  bits-end IsEnd IsOther other [] n q h = other n q h
+  bits-end IsEnd IsOther other (bit ∷ bits) n q h =
+      (h.0, h.1, bits-end IsEnd IsOther other bits (suc n) (chosen_half bit q) h.2)
+
+  -- some block stands at the end of the way
+  at-end : (IsEnd : ℕ → ℕ → Type 0) (bits : List Bool) (n q : ℕ) → AreBitsAccepted m ps side IsEnd bits n q →
+      (n' : ℕ) × (q' : ℕ) × IsEnd n' q'
+  at-end IsEnd [] n q h = (n, q, h)
+  at-end IsEnd (bit ∷ bits) n q h = at-end IsEnd bits (suc n) (chosen_half bit q) h.2
+
+-- an accepted node is accepted with its chains opened
+pub opened-node : (m : MapModel) (ps : List Prefix) (t : Tree) (n q : ℕ) → IsNodeAccepted m ps t n q →
+    IsNodeAccepted m ps (opened t) n q
+opened-node m ps (LeafNode x) n q h = h
+opened-node m ps (InnerNode claim lower upper) n q h = (
+  h.0,
+  opened-node m ps lower (suc n) (2 * q) h.1,
+  opened-node m ps upper (suc n) (2 * q + 1) h.2,
+  subst (IsWithinExact claim)
+      (ap₂ exact_pair (sym (claim-opened m ps lower (suc n) (2 * q) h.1)) (sym (claim-opened m ps upper (suc n) (2 * q + 1) h.2))) h.3,
+)
+opened-node m ps (ChainNode claim bits side end) n q h =
+    let last = at-end m ps side (IsNodeAccepted m ps end) bits n q h.1 in
+    top-accepted m ps side claim bits (opened end) n q h.0
+    (bits-end m ps side (IsNodeAccepted m ps end) (IsNodeAccepted m ps (opened end)) (opened-node m ps end) bits n q h.1)
+    (subst (λ (p : Pair). IsWithinExact claim (chain_pair (length bits) side p)) (sym (claim-opened m ps end last.0 last.1 last.2)) h.2)
+
+-- an opened tree has no chain
+plain-links : (bits : List Bool) (side : Label) (t : Tree) → IsPlain t → IsPlain (links bits side t)
+plain-links [] side t h = h
+plain-links (true ∷ bits) side t h = (tt, plain-links bits side t h)
+plain-links (false ∷ bits) side t h = (plain-links bits side t h, tt)
+
+plain-chain_opened : (claim : Pair) (bits : List Bool) (side : Label) (t : Tree) → IsPlain t → IsPlain (chain_opened claim bits side t)
+plain-chain_opened claim [] side t h = h
+plain-chain_opened claim (true ∷ bits) side t h = (tt, plain-links bits side t h)
+plain-chain_opened claim (false ∷ bits) side t h = (plain-links bits side t h, tt)
+
+pub opened-plain : (t : Tree) → IsPlain (opened t)
+opened-plain (LeafNode x) = tt
+opened-plain (InnerNode claim lower upper) = (opened-plain lower, opened-plain upper)
+opened-plain (ChainNode claim bits side end) = plain-chain_opened claim bits side (opened end) (opened-plain end)
+
+-- an accepted certificate is accepted with its chains opened
+pub opened-accepted : (m : MapModel) (l : ListModel) (c : CertificateModel) → IsAccepted m l c → IsAccepted m l (opened_certificate c)
+opened-accepted m l c h = record {
+  list_version = h.list_version;
+  certificate_version = h.certificate_version;
+  root = opened-node m l.prefixes c.root 0 0 h.root;
+  count = subst (λ (p : Pair). length l.prefixes ≤ p.cost + 1) (sym (claim-opened m l.prefixes c.root 0 0 h.root)) h.count;
+}

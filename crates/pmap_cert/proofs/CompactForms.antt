@@ -1,0 +1,80 @@
+-- What is compacted keeps the form of a text.
+use Rattle.std.proofs.Common.{◌≡◌, ℕ, zero, suc, ◌<◌, Bool, true, false, cond, List, [], ◌∷◌, Some, inl, inr, arith, length, refl, subst}
+use Rattle.std.proofs.lemmas.Bool.{leb-true}
+use Rattle.std.proofs.lemmas.Option.{none-some, same_Some}
+use Rattle.prefix_keys.specs.Version.{width_of}
+use Rattle.pmap_text.specs.MapModel.{Label}
+use Rattle.pmap_cert.specs.CertificateForm.{HasFormatText, HasNodeForm, HasRoomBelow, HasTextForm}
+use Rattle.pmap_cert.specs.CertificateModel.{CertificateModel, ChainNode, InnerNode, LeafNode, Tree}
+use Rattle.pmap_cert.specs.CertificateText.{place_of}
+use Rattle.pmap_cert.specs.Chain.{IsPlain}
+use Rattle.pmap_cert.specs.Compacting.{compact, compacted_in, is_side, line_count, run_bits, run_end, side_of}
+use Rattle.pmap_cert.proofs.ChainWords.{other-room}
+use Rattle.pmap_cert.proofs.Compacts.{by_format}
+use Rattle.pmap_cert.proofs.Runs.{by_run, plain-run}
+
+module _ (table : List Label) where
+  -- below a run's bits its end has its form
+  form-run : (side : Label) (t : Tree) (room : ℕ) → HasNodeForm table t room →
+      HasRoomBelow (HasNodeForm table (run_end side t)) (run_bits side t) room
+  form-run side (LeafNode x) room h = h
+  form-run side (ChainNode claim bits s end) room h = h
+  form-run side (InnerNode claim lower upper) zero h = absurd h
+  form-run side (InnerNode claim lower upper) (suc room) h =
+      by_test (is_side side lower) (is_side side upper) (form-run side lower room h.2) (form-run side upper room h.3)
+    where
+      by_test : (b c : Bool) → HasRoomBelow (HasNodeForm table (run_end side lower)) (run_bits side lower) room →
+          HasRoomBelow (HasNodeForm table (run_end side upper)) (run_bits side upper) room →
+          HasRoomBelow (HasNodeForm table (cond b (run_end side upper) (cond c (run_end side lower) (InnerNode claim lower upper))))
+          (cond b (true ∷ run_bits side upper) (cond c (false ∷ run_bits side lower) [])) (suc room)
+      by_test true c low up = up
+      by_test false true low up = low
+      by_test false false low up = h
+
+  -- the side label is that of a leaf
+  side-known : (lower upper : Tree) (room : ℕ) (side : Label) → HasNodeForm table lower room → HasNodeForm table upper room →
+      side_of lower upper ≡ Some side → place_of table side < length table
+  side-known (LeafNode x) upper room side low up e =
+      subst (λ (y : Label). place_of table y < length table) (same_Some x side e) low
+  side-known (InnerNode p l r) (LeafNode x) room side low up e =
+      subst (λ (y : Label). place_of table y < length table) (same_Some x side e) up
+  side-known (ChainNode p bs s end) (LeafNode x) room side low up e =
+      subst (λ (y : Label). place_of table y < length table) (same_Some x side e) up
+  side-known (InnerNode p l r) (InnerNode p' l' r') room side low up e = absurd (none-some side e)
+  side-known (InnerNode p l r) (ChainNode p' bs' s' end') room side low up e = absurd (none-some side e)
+  side-known (ChainNode p bs s end) (InnerNode p' l' r') room side low up e = absurd (none-some side e)
+  side-known (ChainNode p bs s end) (ChainNode p' bs' s' end') room side low up e = absurd (none-some side e)
+
+  pub form-compacted : (steps : ℕ) (t : Tree) (room : ℕ) → IsPlain t → HasNodeForm table t room →
+      HasNodeForm table (compacted_in steps t) room
+  unfolding compacted_in
+  form-compacted zero t room plain h = h
+  form-compacted (suc steps) (LeafNode x) room plain h = h
+  form-compacted (suc steps) (ChainNode claim bits side end) room plain h = absurd plain
+  form-compacted (suc steps) (InnerNode claim lower upper) zero plain h = absurd h
+  form-compacted (suc steps) (InnerNode claim lower upper) (suc room) plain h =
+      by_run (compacted_in steps) claim lower upper (λ c. HasNodeForm table c (suc room)) (side_of lower upper)
+      (λ side e long.
+      let end : Tree = run_end side (InnerNode claim lower upper) in (
+        h.0,
+        h.1,
+        side-known lower upper room side h.2 h.3 e,
+        omega (arith, leb-true 2 (length (run_bits side (InnerNode claim lower upper))) long),
+        other-room (HasNodeForm table end) (HasNodeForm table (compacted_in steps end))
+            (λ left fits. form-compacted steps end left (plain-run side (InnerNode claim lower upper) plain) fits)
+            (run_bits side (InnerNode claim lower upper)) (suc room) (form-run side (InnerNode claim lower upper) (suc room) h),
+      ))
+      (λ short. (h.0, h.1, form-compacted steps lower room plain.0 h.2, form-compacted steps upper room plain.1 h.3))
+
+-- so a certificate with a text has one compacted
+pub compact-text : (c : CertificateModel) → HasFormatText c → HasFormatText (compact c)
+compact-text c h =
+    by_format c HasFormatText h.format
+    (λ first plain. record {
+      format = inr refl;
+      table = h.table;
+      root = form-compacted c.table (line_count c.root) c.root (width_of c.version) plain h.root;
+    }) (λ second. h)
+
+pub plain-text : (c : CertificateModel) → HasTextForm c → HasFormatText c
+plain-text c h = record { format = inl (h.format, h.plain); table = h.table; root = h.root }

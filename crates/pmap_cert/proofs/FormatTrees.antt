@@ -1,0 +1,312 @@
+-- The nodes of a certificate of either format, read and written.
+use Rattle.std.proofs.Common.{◌≡◌, ℕ, zero, suc, ◌+◌, ◌^◌, ◌<◌, ◌≤◌, ◌∙◌, ◌==◌, ◌⊎◌, inl, inr, Bool, true, false, List, [], ◌∷◌, ◌++◌, Option, Some, Result, Ok, Err, cond, length, map, nat_le, refl, sym, ap, subst, arith, codes}
+use Rattle.std.specs.Fmt.{decimal}
+use Rattle.std.proofs.lemmas.Bool.{cond-false, cond-true, le-leb, leb-true}
+use Rattle.std.proofs.lemmas.List.{append_assoc, length-append}
+use Rattle.prefix_keys.proofs.Printed.{Lacks}
+use Rattle.pmap_text.specs.Label.{IsLabelTable}
+use Rattle.pmap_text.specs.MapModel.{Label}
+use Rattle.pmap_text.specs.MapText.{text_at}
+use Rattle.pmap_cert.specs.CertificateForm.{HasNodeForm, IsRising}
+use Rattle.pmap_cert.specs.CertificateModel.{ChainNode, InnerNode, LeafNode, Pair, Tree}
+use Rattle.pmap_cert.specs.CertificateReading.{◌>>=◌, InnerLine, LeafLine, Place, fault_at, line_from, or_fault, words_of}
+use Rattle.pmap_cert.specs.CertificateText.{bit_digits, chain_line, inner_line, leaf_line, node_lines, place_of}
+use Rattle.pmap_cert.specs.Chain.{IsPlain}
+use Rattle.pmap_cert.specs.FormatReading.{ChainLine, DueLine, PlainLine, due_node, due_words, line_due_at, line_due_by, nodes_at}
+use Rattle.pmap_cert.specs.declared.fault.CertFault.{CertFault}
+use Rattle.pmap_cert.specs.declared.fault.CertFaultKind.TheVariants.{BadNode, TooDeep}
+use Rattle.pmap_cert.proofs.ChainLines.{SaysDue, due_words-chain, due_words-found, due_words-inner, due_words-leaf}
+use Rattle.pmap_cert.proofs.ChainWords.{Lacks-bits, left-room, room-left}
+use Rattle.pmap_cert.proofs.FormatHeaders.{or_fault-parts}
+use Rattle.pmap_cert.proofs.Numbers.{Lacks-decimal, Lacks-decimals}
+use Rattle.pmap_cert.proofs.Pieces.{line-words, line_from-cons, words-line}
+use Rattle.pmap_cert.proofs.Tables.{bind_ok, ok_is, place_of-text_at, places-texts, text_at-place_of, texts-places}
+
+-- the line of a node says it by its words
+line_due_by-found : (format most count : ℕ) (place : Place) (number : ℕ) (pieces : List (List ℕ)) (x : DueLine × Place) →
+    line_due_by format most count place (line_from number pieces) ≡ Ok x →
+    (text : List ℕ) × (pieces ≡ text ∷ x.1.pieces) × SaysDue format most count x.0 (words_of text)
+line_due_by-found format most count place number [] x e = absurd cc
+line_due_by-found format most count place number (text ∷ []) x e = absurd cc
+line_due_by-found format most count place number (text ∷ piece ∷ pieces) x e =
+    let found = or_fault-parts (fault_at place BadNode) (record { number = number + 1; pieces = piece ∷ pieces })
+    (due_words format most count (words_of text)) x e in (
+      text,
+      ap (λ (after : Place). text ∷ after.pieces) found.1,
+      due_words-found format most count (words_of text) x.0 found.0,
+    )
+
+line_due-found : (format most count : ℕ) (place : Place) (x : DueLine × Place) → line_due_at format most count place ≡ Ok x →
+    (text : List ℕ) × (place.pieces ≡ text ∷ x.1.pieces) × SaysDue format most count x.0 (words_of text)
+line_due-found format most count place x e = line_due_by-found format most count place place.number place.pieces x e
+
+-- what was read is the lines of the tree, which has its form, and no chain in format 1
+abbrev pub IsReadIn : List Label → ℕ → ℕ → Place → Tree × Place → Type 0
+IsReadIn table format room place x =
+    (place.pieces ≡ node_lines table x.0 ++ x.1.pieces) × HasNodeForm table x.0 room × (format ≡ 1 → IsPlain x.0)
+
+-- what is at most a number, and the rest
+rest-of : (a b : ℕ) → b ≤ a → (l : ℕ) × (a ≡ b + l)
+rest-of zero b le = (zero, omega (arith, le))
+rest-of (suc a) zero le = (suc a, omega arith)
+rest-of (suc a) (suc b) le = let rest = rest-of a b (omega (arith, le)) in (rest.0, omega (arith, rest.1))
+
+either-same : {A : Type 0} (b : Bool) (y : A) → cond b y y ≡ y
+either-same true y = refl
+either-same false y = refl
+
+not-ok : (fault : CertFault) (x : Tree × Place) → ◌≡◌ {A = Result (Tree × Place) CertFault} (Err fault) (Ok x) → ⊥
+not-ok fault x e = cc
+
+module _ (table : List Label) (ok : IsLabelTable table) (format most : ℕ) where
+  abbrev due : Place → Result (DueLine × Place) CertFault
+  due = line_due_at format most (length table)
+
+  abbrev claim_at : ℕ → List ℕ → Pair
+  claim_at cost numbers = record { cost = cost; labels = map (text_at table) numbers }
+
+  leaf-read : (room number : ℕ) (text : List ℕ) (place after : Place) (x : Tree × Place) → place.pieces ≡ text ∷ after.pieces →
+      SaysDue format most (length table) (PlainLine (LeafLine number)) (words_of text) →
+      ◌≡◌ {A = Result (Tree × Place) CertFault} (Ok (LeafNode (text_at table number), after)) (Ok x) → IsReadIn table format room place x
+  leaf-read room number text place after x pieces says e =
+      let place_is : place_of table (text_at table number) ≡ number = place_of-text_at table number ok says.1 in
+      subst (IsReadIn table format room place) (ok_is (LeafNode (text_at table number), after) x e) (
+        pieces ∙ ap (λ (t : List ℕ). t ∷ after.pieces) (line-words text (codes "l" ∷ decimal number ∷ []) says.0 ∙ ap leaf_line (sym place_is)),
+        rw place_is says.1,
+        λ first. tt,
+      )
+
+  inner-read : (room cost : ℕ) (numbers : List ℕ) (text : List ℕ) (place after : Place) (x lower upper : Tree × Place) →
+      place.pieces ≡ text ∷ after.pieces → SaysDue format most (length table) (PlainLine (InnerLine cost numbers)) (words_of text) →
+      IsReadIn table format room after lower → IsReadIn table format room lower.1 upper →
+      (InnerNode (claim_at cost numbers) lower.0 upper.0, upper.1) ≡ x → IsReadIn table format (suc room) place x
+  inner-read room cost numbers text place after x lower upper pieces says low up e =
+      let places = places-texts table 0 numbers ok says.2 in
+      subst (IsReadIn table format (suc room) place) e (
+        pieces
+            ∙ (λ i. (line-words text (codes "n" ∷ decimal cost ∷ map decimal numbers) says.0 ∙ ap (inner_line cost) (sym places)) i
+            ∷ (low.0 ∙ ap (λ (more : List (List ℕ)). node_lines table lower.0 ++ more) up.0
+            ∙ sym (append_assoc (node_lines table lower.0) (node_lines table upper.0) upper.1.pieces)) i),
+        (says.1, rw places says.2, low.1, up.1),
+        λ first. (low.2 first, up.2 first),
+      )
+
+  not-both : format ≡ 1 → format ≡ 2 → ⊥
+  not-both one two = omega (arith, one, two)
+
+  chain-read : (room left cost : ℕ) (bits : List Bool) (side : ℕ) (numbers : List ℕ) (text : List ℕ) (place after : Place) (x last : Tree × Place) →
+      place.pieces ≡ text ∷ after.pieces → SaysDue format most (length table) (ChainLine cost bits side numbers) (words_of text) →
+      room ≡ length bits + left → IsReadIn table format left after last →
+      (ChainNode (claim_at cost numbers) bits (text_at table side) last.0, last.1) ≡ x → IsReadIn table format room place x
+  chain-read room left cost bits side numbers text place after x last pieces says deep end e =
+      let places = places-texts table 0 numbers ok says.6 in
+      let side_is : place_of table (text_at table side) ≡ side = place_of-text_at table side ok says.5 in
+      subst (IsReadIn table format room place) e (
+        pieces
+            ∙ (λ i. (line-words text (codes "c" ∷ decimal cost ∷ bit_digits bits ∷ decimal side ∷ map decimal numbers) says.0
+            ∙ (λ j. chain_line cost bits (sym side_is j) (sym places j))) i ∷ end.0 i),
+        (
+          says.2,
+          rw places says.6,
+          rw side_is says.5,
+          says.3,
+          room-left (HasNodeForm table last.0) bits room left deep end.1,
+        ),
+        λ first. absurd (not-both first says.1),
+      )
+
+  -- the node that was read down a way of bits
+  pub nodes_at-found : (room down left : ℕ) (place : Place) (x : Tree × Place) → room ≡ down + left →
+      nodes_at due table room down place ≡ Ok x → IsReadIn table format left place x
+  unfolding nodes_at
+  nodes_at-found zero down left place x deep e =
+      let found = bind_ok (due place) (λ (line : DueLine × Place). due_node table zero place (λ deeper after. Err (fault_at place TooDeep)) line.0 line.1) x e in
+      let said = line_due-found format most (length table) place found.0 found.1 in
+      by found.0.0 found.0.1 said.0 said.1 said.2 found.2
+    where
+      by : (line : DueLine) (after : Place) (text : List ℕ) → place.pieces ≡ text ∷ after.pieces → SaysDue format most (length table) line (words_of text) →
+          due_node table zero place (λ deeper after. Err (fault_at place TooDeep)) line after ≡ Ok x → IsReadIn table format left place x
+      by (PlainLine (LeafLine number)) after text pieces says e = leaf-read left number text place after x pieces says e
+      by (PlainLine (InnerLine cost numbers)) after text pieces says e = absurd cc
+      by (ChainLine cost [] side numbers) after text pieces says e = absurd cc
+      by (ChainLine cost (bit ∷ bits) side numbers) after text pieces says e =
+          absurd (not-ok (fault_at place TooDeep) x
+          (sym (either-same (nat_le (suc (length bits)) zero) (Err (fault_at place TooDeep))) ∙ e))
+  nodes_at-found (suc room) zero left place x deep e =
+      let found = bind_ok (due place) (λ (line : DueLine × Place). due_node table (suc room) place (nodes_at due table room) line.0 line.1) x e in
+      let said = line_due-found format most (length table) place found.0 found.1 in
+      let same : suc room ≡ left = omega (arith, deep) in
+      subst (λ (r : ℕ). IsReadIn table format r place x) same
+      (by found.0.0 found.0.1 said.0 said.1 said.2 (λ down left place x deep e. nodes_at-found room down left place x deep e) found.2)
+    where
+      by : (line : DueLine) (after : Place) (text : List ℕ) → place.pieces ≡ text ∷ after.pieces → SaysDue format most (length table) line (words_of text) →
+          ((down left : ℕ) (place : Place) (x : Tree × Place) → room ≡ down + left →
+          nodes_at due table room down place ≡ Ok x → IsReadIn table format left place x) →
+          due_node table (suc room) place (nodes_at due table room) line after ≡ Ok x → IsReadIn table format (suc room) place x
+      by (PlainLine (LeafLine number)) after text pieces says below e = leaf-read (suc room) number text place after x pieces says e
+      by (PlainLine (InnerLine cost numbers)) after text pieces says below e =
+          let claim : Pair = claim_at cost numbers in
+          let low = bind_ok (nodes_at due table room 0 after) (λ (lower : Tree × Place). nodes_at due table room 0 lower.1 >>= (λ (upper : Tree × Place). Ok (InnerNode claim lower.0 upper.0, upper.1))) x e in
+          let up = bind_ok (nodes_at due table room 0 low.0.1) (λ (upper : Tree × Place). Ok (InnerNode claim low.0.0 upper.0, upper.1)) x low.2 in
+          inner-read room cost numbers text place after x low.0 up.0 pieces says
+          (below 0 room after low.0 (omega arith) low.1) (below 0 room low.0.1 up.0 (omega arith) up.1)
+          (ok_is (InnerNode claim low.0.0 up.0.0, up.0.1) x up.2)
+      by (ChainLine cost [] side numbers) after text pieces says below e = absurd cc
+      by (ChainLine cost (bit ∷ bits) side numbers) after text pieces says below e =
+          by_test (nat_le (suc (length bits)) (suc room)) refl
+        where
+          chain : Tree × Place → Result (Tree × Place) CertFault
+          chain last = Ok (ChainNode (claim_at cost numbers) (bit ∷ bits) (text_at table side) last.0, last.1)
+
+          by_test : (b : Bool) → nat_le (suc (length bits)) (suc room) ≡ b → IsReadIn table format (suc room) place x
+          by_test false h =
+              absurd (not-ok (fault_at place TooDeep) x
+              (sym (cond-false (nat_le (suc (length bits)) (suc room)) (nodes_at due table room (length bits) after >>= chain) (Err (fault_at place TooDeep)) h) ∙ e))
+          by_test true h =
+              let fits : suc (length bits) ≤ suc room = leb-true (suc (length bits)) (suc room) h in
+              let left : (l : ℕ) × (room ≡ length bits + l) = rest-of room (length bits) (omega (arith, fits)) in
+              let last = bind_ok (nodes_at due table room (length bits) after) chain x
+              (sym (cond-true (nat_le (suc (length bits)) (suc room)) (nodes_at due table room (length bits) after >>= chain) (Err (fault_at place TooDeep)) h) ∙ e) in
+              chain-read (suc room) left.0 cost (bit ∷ bits) side numbers text place after x last.0 pieces says (omega (arith, left.1))
+              (below (length bits) left.0 after last.0 left.1 last.1)
+              (ok_is (ChainNode (claim_at cost numbers) (bit ∷ bits) (text_at table side) last.0.0, last.0.1) x last.2)
+  nodes_at-found (suc room) (suc down) left place x deep e = nodes_at-found room down left place x (omega (arith, deep)) e
+
+  -- down a way of bits so many fewer can stand below one another
+  pub nodes_at-down : (room down left : ℕ) (place : Place) → room ≡ down + left →
+      nodes_at due table room down place ≡ nodes_at due table left zero place
+  unfolding nodes_at
+  nodes_at-down zero down left place deep =
+      let same : zero ≡ left = omega (arith, deep) in
+      subst (λ (l : ℕ). nodes_at due table zero down place ≡ nodes_at due table l zero place) same refl
+  nodes_at-down (suc room) zero left place deep =
+      let same : suc room ≡ left = omega (arith, deep) in
+      ap (λ (l : ℕ). nodes_at due table l zero place) same
+  nodes_at-down (suc room) (suc down) left place deep = nodes_at-down room down left place (omega (arith, deep))
+
+  -- lines of nodes
+  letter-lacks : (c b : ℕ) → (b == c) ≡ false → Lacks c (b ∷ [])
+  letter-lacks c b apart zero d h = apart
+  letter-lacks c b apart (suc k) d h = absurd (omega arith)
+
+  abbrev at : ℕ → List (List ℕ) → Place
+  at number pieces = record { number = number; pieces = pieces }
+
+  due-again : (place after : Place) (text : List ℕ) (words : List (List ℕ)) (line : DueLine) → 0 < length after.pieces → after.number ≡ place.number + 1 →
+      place.pieces ≡ text ∷ after.pieces → words_of text ≡ words → due_words format most (length table) words ≡ Some line → due place ≡ Ok (line, after)
+  due-again place after text words line some next pieces said is =
+      ap (λ (rest : List (List ℕ)). line_due_by format most (length table) place (line_from place.number rest)) pieces
+      ∙ ap (line_due_by format most (length table) place) (line_from-cons place.number text after.pieces some)
+      ∙ ap (λ (o : Option DueLine). or_fault (fault_at place BadNode) (record { number = place.number + 1; pieces = after.pieces }) o)
+      (ap (due_words format most (length table)) said ∙ is)
+      ∙ ap (λ (n : ℕ). Ok (line, record { number = n; pieces = after.pieces })) (sym next)
+
+  leaf-due : (x : Label) (number : ℕ) (rest : List (List ℕ)) → place_of table x < length table → 0 < length rest →
+      due (at number (leaf_line (place_of table x) ∷ rest)) ≡ Ok (PlainLine (LeafLine (place_of table x)), at (number + 1) rest)
+  leaf-due x number rest h some =
+      let few = ok.few in
+      due-again (at number (leaf_line (place_of table x) ∷ rest)) (at (number + 1) rest) (leaf_line (place_of table x))
+      (codes "l" ∷ decimal (place_of table x) ∷ []) (PlainLine (LeafLine (place_of table x))) some refl refl
+      (words-line (codes "l") (decimal (place_of table x) ∷ []) (letter-lacks 32 108 refl) (Lacks-decimal 32 (place_of table x) (omega arith) (omega arith), tt))
+      (due_words-leaf format most (length table) (place_of table x) h (omega arith))
+
+  inner-due : (cost : ℕ) (numbers : List ℕ) (number : ℕ) (rest : List (List ℕ)) → cost < 2 ^ 32 → IsRising (length table) 0 numbers → 0 < length rest →
+      due (at number (inner_line cost numbers ∷ rest)) ≡ Ok (PlainLine (InnerLine cost numbers), at (number + 1) rest)
+  inner-due cost numbers number rest h rising some =
+      let few = ok.few in
+      due-again (at number (inner_line cost numbers ∷ rest)) (at (number + 1) rest) (inner_line cost numbers)
+      (codes "n" ∷ decimal cost ∷ map decimal numbers) (PlainLine (InnerLine cost numbers)) some refl refl
+      (words-line (codes "n") (decimal cost ∷ map decimal numbers) (letter-lacks 32 110 refl)
+      (Lacks-decimal 32 cost (omega arith) (omega arith), Lacks-decimals 32 (length table) 0 numbers (omega arith) (omega arith) rising))
+      (due_words-inner format most (length table) cost numbers h rising (omega arith))
+
+  chain-due : (cost : ℕ) (bits : List Bool) (side : ℕ) (numbers : List ℕ) (number : ℕ) (rest : List (List ℕ)) → format ≡ 2 → cost < 2 ^ 32 →
+      0 < length bits → length bits ≤ most → side < length table → IsRising (length table) 0 numbers → 0 < length rest →
+      due (at number (chain_line cost bits side numbers ∷ rest)) ≡ Ok (ChainLine cost bits side numbers, at (number + 1) rest)
+  chain-due cost bits side numbers number rest two h bit few known rising some =
+      let limit = ok.few in
+      due-again (at number (chain_line cost bits side numbers ∷ rest)) (at (number + 1) rest) (chain_line cost bits side numbers)
+      (codes "c" ∷ decimal cost ∷ bit_digits bits ∷ decimal side ∷ map decimal numbers) (ChainLine cost bits side numbers) some refl refl
+      (words-line (codes "c") (decimal cost ∷ bit_digits bits ∷ decimal side ∷ map decimal numbers) (letter-lacks 32 99 refl) (
+        Lacks-decimal 32 cost (omega arith) (omega arith),
+        (Lacks-bits 32 bits refl refl, (Lacks-decimal 32 side (omega arith) (omega arith), Lacks-decimals 32 (length table) 0 numbers (omega arith) (omega arith) rising)),
+      ))
+      (due_words-chain format most (length table) cost bits side numbers two h bit few known rising (omega arith))
+
+  claim-is : (claim : Pair) → IsRising (length table) 0 (map (place_of table) claim.labels) → claim_at claim.cost (map (place_of table) claim.labels) ≡ claim
+  claim-is claim rising = λ i. record { cost = claim.cost; labels = texts-places table 0 claim.labels rising i }
+
+  -- a tree of the format: without chains, or in format 2
+  abbrev pub IsKind : Tree → Type 0
+  IsKind tree = IsPlain tree ⊎ (format ≡ 2)
+
+  lower-kind : (claim : Pair) (lower upper : Tree) → IsKind (InnerNode claim lower upper) → IsKind lower
+  lower-kind claim lower upper (inl plain) = inl plain.0
+  lower-kind claim lower upper (inr two) = inr two
+
+  upper-kind : (claim : Pair) (lower upper : Tree) → IsKind (InnerNode claim lower upper) → IsKind upper
+  upper-kind claim lower upper (inl plain) = inl plain.1
+  upper-kind claim lower upper (inr two) = inr two
+
+  chain-kind : (claim : Pair) (bits : List Bool) (side : Label) (end : Tree) → IsKind (ChainNode claim bits side end) → format ≡ 2
+  chain-kind claim bits side end (inl plain) = absurd plain
+  chain-kind claim bits side end (inr two) = two
+
+  abbrev IsAgain : Tree → ℕ → List (List ℕ) → ℕ → Type 0
+  IsAgain tree room rest number =
+      (n : ℕ) × (nodes_at due table room zero (at number (node_lines table tree ++ rest)) ≡ Ok (tree, at n rest))
+
+  leaf-is : (x : Label) → place_of table x < length table → LeafNode (text_at table (place_of table x)) ≡ LeafNode x
+  leaf-is x h = ap LeafNode (text_at-place_of table x h)
+
+  pub nodes_at-again : (tree : Tree) (room : ℕ) (rest : List (List ℕ)) (number : ℕ) → room ≤ most → HasNodeForm table tree room → IsKind tree →
+      0 < length rest → IsAgain tree room rest number
+  unfolding nodes_at
+  nodes_at-again (LeafNode x) zero rest number most_room form kind some = (
+    number + 1,
+    ap (λ (r : Result (DueLine × Place) CertFault). r >>= (λ line. due_node table zero (at number (leaf_line (place_of table x) ∷ rest)) (λ deeper after. Err (fault_at (at number (leaf_line (place_of table x) ∷ rest)) TooDeep)) line.0 line.1)) (leaf-due x number rest form some)
+        ∙ ap (λ (t : Tree). Ok (t, at (number + 1) rest)) (leaf-is x form),
+  )
+  nodes_at-again (LeafNode x) (suc room) rest number most_room form kind some = (
+    number + 1,
+    ap (λ (r : Result (DueLine × Place) CertFault). r >>= (λ line. due_node table (suc room) (at number (leaf_line (place_of table x) ∷ rest)) (nodes_at due table room) line.0 line.1)) (leaf-due x number rest form some)
+        ∙ ap (λ (t : Tree). Ok (t, at (number + 1) rest)) (leaf-is x form),
+  )
+  nodes_at-again (InnerNode claim lower upper) zero rest number most_room form kind some = absurd form
+  nodes_at-again (InnerNode claim lower upper) (suc room) rest number most_room form kind some =
+      let numbers : List ℕ = map (place_of table) claim.labels in
+      let low : List (List ℕ) = node_lines table lower in
+      let up : List (List ℕ) = node_lines table upper in
+      let behind : 0 < length (up ++ rest) = omega (arith, length-append up rest) in
+      let line = inner-due claim.cost numbers number (low ++ (up ++ rest)) form.0 form.1 (omega (arith, length-append low (up ++ rest))) in
+      let first = nodes_at-again lower room (up ++ rest) (number + 1) (omega arith) form.2 (lower-kind claim lower upper kind) behind in
+      let second = nodes_at-again upper room rest first.0 (omega arith) form.3 (upper-kind claim lower upper kind) some in
+      let here : Place = at number (inner_line claim.cost numbers ∷ (low ++ (up ++ rest))) in (
+        second.0,
+        ap (λ (lines : List (List ℕ)). nodes_at due table (suc room) zero (at number (inner_line claim.cost numbers ∷ lines))) (append_assoc low up rest)
+            ∙ ap (λ (r : Result (DueLine × Place) CertFault). r >>= (λ line. due_node table (suc room) here (nodes_at due table room) line.0 line.1)) line
+            ∙ ap (λ (r : Result (Tree × Place) CertFault). r >>= (λ l. nodes_at due table room 0 l.1 >>= (λ u. Ok (InnerNode (claim_at claim.cost numbers) l.0 u.0, u.1)))) first.1
+            ∙ ap (λ (r : Result (Tree × Place) CertFault). r >>= (λ u. Ok (InnerNode (claim_at claim.cost numbers) lower u.0, u.1))) second.1
+            ∙ ap (λ (c : Pair). Ok (InnerNode c lower upper, at second.0 rest)) (claim-is claim form.1),
+      )
+  nodes_at-again (ChainNode claim [] side end) room rest number most_room form kind some =
+      absurd (omega (arith, form.3))
+  nodes_at-again (ChainNode claim (bit ∷ bits) side end) zero rest number most_room form kind some = absurd form.4
+  nodes_at-again (ChainNode claim (bit ∷ bits) side end) (suc room) rest number most_room form kind some =
+      let two : format ≡ 2 = chain-kind claim (bit ∷ bits) side end kind in
+      let numbers : List ℕ = map (place_of table) claim.labels in
+      let below = left-room (HasNodeForm table end) bits room form.4 in
+      let lines : List (List ℕ) = node_lines table end in
+      let line = chain-due claim.cost (bit ∷ bits) (place_of table side) numbers number (lines ++ rest) two form.0 (omega arith) (omega (arith, below.1)) form.2 form.1
+      (omega (arith, length-append lines rest)) in
+      let last = nodes_at-again end below.0 rest (number + 1) (omega (arith, below.1)) below.2 (inr two) some in
+      let here : Place = at number (chain_line claim.cost (bit ∷ bits) (place_of table side) numbers ∷ (lines ++ rest)) in
+      let chain : Tree × Place → Result (Tree × Place) CertFault =
+      λ e. Ok (ChainNode (claim_at claim.cost numbers) (bit ∷ bits) (text_at table (place_of table side)) e.0, e.1) in (
+        last.0,
+        ap (λ (r : Result (DueLine × Place) CertFault). r >>= (λ line. due_node table (suc room) here (nodes_at due table room) line.0 line.1)) line
+            ∙ cond-true (nat_le (suc (length bits)) (suc room)) (nodes_at due table room (length bits) (at (number + 1) (lines ++ rest)) >>= chain) (Err (fault_at here TooDeep))
+            (le-leb (suc (length bits)) (suc room) (omega (arith, below.1)))
+            ∙ ap (λ (r : Result (Tree × Place) CertFault). r >>= chain) (nodes_at-down room (length bits) below.0 (at (number + 1) (lines ++ rest)) below.1 ∙ last.1)
+            ∙ (λ i. Ok (ChainNode (claim-is claim form.1 i) (bit ∷ bits) (text_at-place_of table side form.2 i) end, at last.0 rest)),
+      )

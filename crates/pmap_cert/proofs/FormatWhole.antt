@@ -1,0 +1,143 @@
+-- A text of either format is read exactly where it is the text of a certificate.
+use Rattle.std.proofs.Common.{◌≡◌, ℕ, ◌+◌, ◌<◌, ◌≤◌, ◌∙◌, ◌⊎◌, ◌↔◌, inl, inr, List, [], ◌∷◌, ◌++◌, Result, Ok, Err, length, sym, ap, subst, arith}
+use Rattle.std.proofs.lemmas.List.{append_assoc, length-append}
+use Rattle.prefix_keys.specs.Version.{width_of}
+use Rattle.prefix_keys.specs.declared.version.Version.{Version}
+use Rattle.pmap_text.specs.Label.{IsLabelTable}
+use Rattle.pmap_text.specs.MapModel.{Label}
+use Rattle.pmap_cert.specs.CertificateForm.{HasFormatText}
+use Rattle.pmap_cert.specs.CertificateModel.{CertificateModel, Tree}
+use Rattle.pmap_cert.specs.CertificateReading.{◌>>=◌, Place, certificate_reading, ended_by, labels_at, pieces_of, start_of}
+use Rattle.pmap_cert.specs.CertificateText.{certificate_lines, certificate_text, format_header, node_lines}
+use Rattle.pmap_cert.specs.Chain.{IsOfFormat, IsPlain}
+use Rattle.pmap_cert.specs.FormatReading.{DueLine, format_header_at, format_reading, line_due_at, nodes_at}
+use Rattle.pmap_cert.specs.declared.fault.CertFault.{CertFault}
+use Rattle.pmap_cert.proofs.CompactForms.{plain-text}
+use Rattle.pmap_cert.proofs.FormatHeaders.{IsNumbered, format_header-no_feed, format_header_at-again, format_header_at-found}
+use Rattle.pmap_cert.proofs.FormatTrees.{IsKind, nodes_at-again, nodes_at-found}
+use Rattle.pmap_cert.proofs.Headers.{table-lacks}
+use Rattle.pmap_cert.proofs.Pieces.{pieces-lines, text_from_pieces}
+use Rattle.pmap_cert.proofs.Tables.{bind_ok, labels_at-again, labels_at-found}
+use Rattle.pmap_cert.proofs.Whole.{ended_by-found, lacks-append, no_labels, nodes-lack, reading-found}
+
+-- the steps behind the header, the labels and the nodes
+abbrev Said : Type 0
+Said = ℕ × (Version × ℕ)
+
+abbrev certificate_at : ℕ → Version → List Label → Tree → CertificateModel
+certificate_at format version table root = record { format = format; version = version; table = table; root = root }
+
+abbrev due : ℕ → Version → List Label → Place → Result (DueLine × Place) CertFault
+due format version table = line_due_at format (width_of version) (length table)
+
+abbrev root_then : ℕ → Version → List Label → Result (Tree × Place) CertFault → Result CertificateModel CertFault
+root_then format version table r = r >>= (λ root. ended_by (certificate_at format version table root.0) root.1)
+
+abbrev labels_then : ℕ → Version → Result (List Label × Place) CertFault → Result CertificateModel CertFault
+labels_then format version r =
+    r >>= (λ labels. root_then format version labels.0 (nodes_at (due format version labels.0) labels.0 (width_of version) 0 labels.1))
+
+abbrev header_then : Result (Said × Place) CertFault → Result CertificateModel CertFault
+header_then r = r >>= (λ header. labels_then header.0.0 header.0.1.0 (labels_at header.0.1.1 [] header.1))
+
+reading-steps : (text : List ℕ) → format_reading text ≡ header_then (format_header_at (start_of text))
+unfolding format_reading
+reading-steps text = λ i. header_then (format_header_at (start_of text))
+
+-- the pieces that each step leaves are those of the lines of a certificate
+joined-pieces : (all behind_header behind_labels behind_nodes : List (List ℕ)) (format : ℕ) (version : Version) (count : ℕ) (table : List Label)
+    (lines : List (List ℕ)) → all ≡ format_header format version count ∷ behind_header → behind_header ≡ table ++ behind_labels →
+    behind_labels ≡ lines ++ behind_nodes → behind_nodes ≡ [] ∷ [] → count ≡ length table →
+    all ≡ (format_header format version (length table) ∷ (table ++ lines)) ++ [] ∷ []
+joined-pieces all behind_header behind_labels behind_nodes format version count table lines e f g h is =
+    e
+    ∙ (λ i. format_header format version (is i)
+    ∷ (f ∙ ap (λ rest. table ++ rest) (g ∙ ap (λ rest. lines ++ rest) h) ∙ sym (append_assoc table lines ([] ∷ []))) i)
+
+of-format : (c : CertificateModel) → IsNumbered c.format → (c.format ≡ 1 → IsPlain c.root) → IsOfFormat c
+of-format c (inl first) plain = inl (first, plain first)
+of-format c (inr second) plain = inr second
+
+-- what is read is the text of the certificate, which has its form
+pub format-found : (text : List ℕ) (c : CertificateModel) → format_reading text ≡ Ok c → HasFormatText c × (text ≡ certificate_text c)
+format-found text c e =
+    let header = bind_ok (format_header_at (start_of text)) (λ (header : Said × Place). labels_then header.0.0 header.0.1.0 (labels_at header.0.1.1 [] header.1)) c
+    (sym (reading-steps text) ∙ e) in
+    let format : ℕ = header.0.0.0 in
+    let version : Version = header.0.0.1.0 in
+    let count : ℕ = header.0.0.1.1 in
+    let labels = bind_ok (labels_at count [] header.0.1) (λ (labels : List Label × Place). root_then format version labels.0 (nodes_at (due format version labels.0) labels.0 (width_of version) 0 labels.1)) c header.2 in
+    let table : List Label = labels.0.0 in
+    let root = bind_ok (nodes_at (due format version table) table (width_of version) 0 labels.0.1) (λ (root : Tree × Place). ended_by (certificate_at format version table root.0) root.1) c labels.2 in
+    let end = ended_by-found (certificate_at format version table root.0.0) root.0.1 c root.2 in
+    let head = format_header_at-found (start_of text) header.0 header.1 in
+    let few : 0 + count ≤ 65536 = omega (arith, head.1) in
+    let read = labels_at-found count [] header.0.1 labels.0 labels.1 no_labels few in
+    let nodes = nodes_at-found table read.3 format (width_of version) (width_of version) 0 (width_of version) labels.0.1 root.0 (omega arith) root.1 in
+    let count_is : count ≡ length table = sym read.4 ∙ ap (λ (t : List Label). length t) (sym read.1) in
+    let made : CertificateModel = certificate_at format version table root.0.0 in
+    let pieces : pieces_of text ≡ certificate_lines made ++ [] ∷ [] =
+    joined-pieces (pieces_of text) header.0.1.pieces labels.0.1.pieces root.0.1.pieces format version count table (node_lines table root.0.0)
+    head.0 (read.2 ∙ ap (λ (t : List Label). t ++ labels.0.1.pieces) (sym read.1)) nodes.0 end.0 count_is in
+    subst (λ (c : CertificateModel). HasFormatText c × (text ≡ certificate_text c)) end.1
+    (record { format = of-format made head.2 nodes.2; table = read.3; root = nodes.1 }, text_from_pieces text (certificate_lines made) pieces)
+
+numbered : (c : CertificateModel) → IsOfFormat c → IsNumbered c.format
+numbered c (inl first) = inl first.0
+numbered c (inr second) = inr second
+
+kind : (c : CertificateModel) (ok : IsLabelTable c.table) → IsOfFormat c → IsKind c.table ok c.format (width_of c.version) c.root
+kind c ok (inl first) = inl first.1
+kind c ok (inr second) = inr second
+
+-- the text of a certificate is read as that certificate
+pub format-again : (c : CertificateModel) → HasFormatText c → format_reading (certificate_text c) ≡ Ok c
+format-again c form =
+    let format : ℕ = c.format in
+    let version : Version = c.version in
+    let table : List Label = c.table in
+    let count : ℕ = length table in
+    let few : length table ≤ 65536 = form.table.few in
+    let nodes : List (List ℕ) = node_lines table c.root in
+    let number = numbered c form.format in
+    let behind : 0 < length (nodes ++ [] ∷ []) = omega (arith, length-append nodes ([] ∷ [])) in
+    let pieces : pieces_of (certificate_text c) ≡ format_header format version count ∷ (table ++ (nodes ++ [] ∷ [])) =
+    pieces-lines (certificate_lines c) (
+      format_header-no_feed format version count number (omega arith),
+      lacks-append 10 table nodes (table-lacks table form.table) (nodes-lack table c.root (width_of version) form.table form.root),
+    )
+    ∙ ap (λ (rest : List (List ℕ)). format_header format version count ∷ rest) (append_assoc table nodes ([] ∷ [])) in
+    let head = format_header_at-again format version count 0 (table ++ (nodes ++ [] ∷ [])) number (omega arith) (omega (arith, length-append table (nodes ++ [] ∷ []))) in
+    let labels = labels_at-again table [] 1 (nodes ++ [] ∷ []) form.table behind in
+    let root = nodes_at-again table form.table format (width_of version) c.root (width_of version) ([] ∷ []) labels.0 (omega arith) form.root
+    (kind c form.table form.format) (omega arith) in
+    reading-steps (certificate_text c)
+    ∙ ap (λ (place : Place). header_then (format_header_at place)) (λ i. record { number = 0; pieces = pieces i })
+    ∙ ap header_then head
+    ∙ ap (labels_then format version) labels.1
+    ∙ ap (root_then format version table) root.1
+
+-- so a text is read or has a fault, and never both
+pub format-iff : (text : List ℕ) (c : CertificateModel) → format_reading text ≡ Ok c ↔ (HasFormatText c × (text ≡ certificate_text c))
+format-iff text c = (format-found text c, λ found. ap format_reading found.1 ∙ format-again c found.0)
+
+pub format-either : (text : List ℕ) → ((fault : CertFault) × (format_reading text ≡ Err fault))
+    ⊎ ((c : CertificateModel) × HasFormatText c × (text ≡ certificate_text c))
+format-either text = by (format_reading text) (λ i. format_reading text)
+  where
+    by : (r : Result CertificateModel CertFault) → format_reading text ≡ r → ((fault : CertFault) × (format_reading text ≡ Err fault))
+        ⊎ ((c : CertificateModel) × HasFormatText c × (text ≡ certificate_text c))
+    by (Ok c) read = let found = format-found text c read in inr (c, found.0, found.1)
+    by (Err fault) read = inl (fault, read)
+
+pub format-apart : (text : List ℕ) (fault : CertFault) (c : CertificateModel) → format_reading text ≡ Err fault → HasFormatText c →
+    text ≡ certificate_text c → ⊥
+format-apart text fault c failed form e = both_results (sym failed ∙ ap format_reading e ∙ format-again c form)
+  where
+    both_results : ◌≡◌ {A = Result CertificateModel CertFault} (Err fault) (Ok c) → ⊥
+    both_results e = cc
+
+-- what is read as format 1 alone is read so
+pub format-first : (text : List ℕ) (c : CertificateModel) → certificate_reading text ≡ Ok c → format_reading text ≡ Ok c
+format-first text c e =
+    let found = reading-found text c e in ap format_reading found.1 ∙ format-again c (plain-text c found.0)

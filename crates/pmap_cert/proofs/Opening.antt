@@ -1,0 +1,204 @@
+use Rattle.std.proofs.Common.{◌≡◌, ℕ, suc, ◌+◌, ◌*◌, ◌<◌, ◌≤◌, Bool, true, false, ◌&&◌, ◌||◌, List, [], ◌∷◌, ◌++◌, arith, length, sym, ap, ap₂, ◌∙◌, subst, bytes_eq}
+use Rattle.std.proofs.lemmas.Bool.{or_left}
+use Rattle.pmap_text.specs.ListModel.{Prefix}
+use Rattle.pmap_text.specs.MapModel.{Label, MapModel}
+use Rattle.pmap_cert.specs.Acceptance.{AreBitsAccepted, IsNodeAccepted, IsWithinExact}
+use Rattle.pmap_cert.specs.CertificateModel.{ChainNode, InnerNode, LeafNode, Pair, Tree, claim_of, has}
+use Rattle.pmap_cert.specs.Chain.{chain_pair, link_pair, pair_by_bits}
+use Rattle.pmap_cert.specs.Compacting.{IsWay, OpensTo, line_count}
+use Rattle.pmap_cert.specs.ExactPair.{IsSamePair, common_labels, exact_pair, exact_pair_by}
+use Rattle.pmap_cert.proofs.Chains.{bits-end, pair-by_bits, within-itself, within-same_pair}
+use Rattle.pmap_cert.proofs.Sets.{bytes_eq-same, has-append, has-filter}
+
+-- What holds no more than exact pairs along a chain's way holds no more than the chain's pair, so a node with chains is
+-- accepted where the one that it opens to is.
+
+-- holding no more carries over
+within-then : (a b c : Pair) → IsWithinExact a b → IsWithinExact b c → IsWithinExact a c
+within-then a b c e f = record {
+  cost = omega (arith, e.cost, f.cost);
+  labels = λ cost x h.
+      e.labels (omega (arith, e.cost, f.cost)) x (f.labels (omega (arith, e.cost, f.cost)) x h);
+}
+
+-- a label of a set that comes first isn't missing in it
+own-first : (y : Label) (ys : List Label) → has (y ∷ ys) y ≡ true
+own-first y ys = or_left (bytes_eq y y) (has ys y) (bytes_eq-same y)
+
+-- the exact pair of pairs that hold no more holds no more
+less-apart : (k l k' l' : ℕ) → k ≤ k' → l ≤ l' → k + l + 1 ≡ k' + l' + 1 → (k ≡ k') × (l ≡ l')
+less-apart k l k' l' h h' e = (omega arith, omega arith)
+
+less-common : (k l k' l' : ℕ) → k ≤ k' → l ≤ l' → k + l ≡ k' + l' → (k ≡ k') × (l ≡ l')
+less-common k l k' l' h h' e = (omega arith, omega arith)
+
+-- where the lower pairs have no common label, but the upper ones have one, one of the lower costs is less
+within-either : (k l k' l' : ℕ) (a b c d : Bool) → k ≤ k' → l ≤ l' → k + l + 1 ≡ k' + l' → (k ≡ k' → c ≡ true → a ≡ true) →
+    (l ≡ l' → d ≡ true → b ≡ true) → (c && d) ≡ true → (a || b) ≡ true
+within-either k l k' l' a b c d h h' e f g known = grind arith
+
+not-equal : (k l k' l' : ℕ) (a b c d : Bool) → k ≤ k' → l ≤ l' → (k ≡ k' → c ≡ true → a ≡ true) →
+    (l ≡ l' → d ≡ true → b ≡ true) → (c && d) ≡ true → (a && b) ≡ false → k + l + 1 ≤ k' + l'
+not-equal k l k' l' a b c d h h' f g known none = grind arith
+
+within-union : (a b c d e f : Bool) → e ≡ (a || b) → f ≡ (c || d) → (c ≡ true → a ≡ true) → (d ≡ true → b ≡ true) → f ≡ true → e ≡ true
+within-union a b c d e f is is' h h' known = grind arith
+
+within-common : (a b c d e f : Bool) → e ≡ (a && b) → f ≡ (c && d) → (c ≡ true → a ≡ true) → (d ≡ true → b ≡ true) → f ≡ true → e ≡ true
+within-common a b c d e f is is' h h' known = grind arith
+
+-- the labels that two pairs have in common, as a list
+abbrev IsCommon : Pair → Pair → List Label → Type 0
+IsCommon p r common = (x : Label) → has common x ≡ (has p.labels x && has r.labels x)
+
+exact-within_by : (p r p' r' : Pair) (common common' : List Label) → IsCommon p r common → IsCommon p' r' common' →
+    IsWithinExact p p' → IsWithinExact r r' → IsWithinExact (exact_pair_by p r common) (exact_pair_by p' r' common')
+exact-within_by p r p' r' [] [] both both' e f = record {
+  cost = omega (arith, e.cost, f.cost);
+  labels = λ cost x h.
+      let parts = less-apart p.cost r.cost p'.cost r'.cost e.cost f.cost cost in
+      within-union (has p.labels x) (has r.labels x) (has p'.labels x) (has r'.labels x) (has (p.labels ++ r.labels) x)
+      (has (p'.labels ++ r'.labels) x) (has-append p.labels r.labels x) (has-append p'.labels r'.labels x)
+      (e.labels parts.0 x) (f.labels parts.1 x) h;
+}
+exact-within_by p r p' r' [] (y ∷ ys) both both' e f = record {
+  cost =
+      not-equal p.cost r.cost p'.cost r'.cost (has p.labels y) (has r.labels y) (has p'.labels y) (has r'.labels y) e.cost f.cost
+      (λ same. e.labels same y) (λ same. f.labels same y) (sym (both' y) ∙ own-first y ys) (sym (both y));
+  labels = λ cost x h.
+      has-append p.labels r.labels x
+      ∙ within-either p.cost r.cost p'.cost r'.cost (has p.labels x) (has r.labels x) (has p'.labels x) (has r'.labels x)
+      e.cost f.cost cost (λ same. e.labels same x) (λ same. f.labels same x) (sym (both' x) ∙ h);
+}
+exact-within_by p r p' r' (y ∷ ys) [] both both' e f = record {
+  cost = omega (arith, e.cost, f.cost);
+  labels = λ cost x h. absurd (omega (arith, e.cost, f.cost));
+}
+exact-within_by p r p' r' (y ∷ ys) (z ∷ zs) both both' e f = record {
+  cost = omega (arith, e.cost, f.cost);
+  labels = λ cost x h.
+      let parts = less-common p.cost r.cost p'.cost r'.cost e.cost f.cost cost in
+      within-common (has p.labels x) (has r.labels x) (has p'.labels x) (has r'.labels x) (has (y ∷ ys) x)
+      (has (z ∷ zs) x) (both x) (both' x) (e.labels parts.0 x) (f.labels parts.1 x) h;
+}
+
+pub exact-within : (p r p' r' : Pair) → IsWithinExact p p' → IsWithinExact r r' → IsWithinExact (exact_pair p r) (exact_pair p' r')
+exact-within p r p' r' e f =
+    exact-within_by p r p' r' (common_labels p r) (common_labels p' r') (has-filter r.labels p.labels) (has-filter r'.labels p'.labels) e f
+
+link-within : (bit : Bool) (side : Label) (p r : Pair) → IsWithinExact p r → IsWithinExact (link_pair bit side p) (link_pair bit side r)
+link-within true side p r within =
+    exact-within (claim_of (LeafNode side)) p (claim_of (LeafNode side)) r (within-itself (claim_of (LeafNode side))) within
+link-within false side p r within =
+    exact-within p (claim_of (LeafNode side)) r (claim_of (LeafNode side)) within (within-itself (claim_of (LeafNode side)))
+
+-- a node claims what that which it opens to does
+pub claim-opening : (c : Tree) (t : Tree) → OpensTo c t → claim_of t ≡ claim_of c
+claim-opening (LeafNode x) (LeafNode y) h = ap (λ (z : Label). claim_of (LeafNode z)) (sym h)
+claim-opening (LeafNode x) (InnerNode claim lower upper) h = absurd h
+claim-opening (LeafNode x) (ChainNode claim bits side end) h = absurd h
+claim-opening (InnerNode claim lower upper) (ChainNode claim' bits side end) h = absurd h
+claim-opening (InnerNode claim lower upper) (LeafNode y) h = absurd h
+claim-opening (InnerNode claim lower upper) (InnerNode claim' lower' upper') h = sym h.0
+claim-opening (ChainNode claim bits side end) t h = sym h.1
+
+module _ (m : MapModel) (ps : List Prefix) (side : Label) (IsEnd : Tree → Type 0) (e : Pair) where
+  -- an accepted node at the way's end, which claims e
+  abbrev IsEndAccepted : ℕ → ℕ → Type 0
+  IsEndAccepted n q = (t : Tree) × IsEnd t × IsNodeAccepted m ps t n q
+
+  abbrev IsAlong : List Bool → Tree → ℕ → ℕ → Type 0
+  IsAlong bits t n q = AreBitsAccepted m ps side IsEndAccepted bits n q × IsWithinExact (claim_of t) (pair_by_bits bits side e)
+
+  module _ (claims : (t : Tree) → IsEnd t → claim_of t ≡ e) where
+    leaf-of : (x : Label) (n q : ℕ) → x ≡ side → IsNodeAccepted m ps (LeafNode x) n q → IsNodeAccepted m ps (LeafNode side) n q
+    leaf-of x n q is h = subst (λ (y : Label). IsNodeAccepted m ps (LeafNode y) n q) is h
+
+    step : (bit : Bool) (bits : List Bool) (claim p : Pair) (x : Label) → x ≡ side → IsWithinExact claim (link_pair bit x p) →
+        IsWithinExact p (pair_by_bits bits side e) → IsWithinExact claim (pair_by_bits (bit ∷ bits) side e)
+    step bit bits claim p x is within rest =
+        within-then claim (link_pair bit side p) (pair_by_bits (bit ∷ bits) side e)
+        (subst (λ (y : Label). IsWithinExact claim (link_pair bit y p)) is within)
+        (link-within bit side p (pair_by_bits bits side e) rest)
+
+    along : (bits : List Bool) (t : Tree) (n q : ℕ) → IsWay IsEnd side bits t → IsNodeAccepted m ps t n q → IsAlong bits t n q
+    along [] t n q way h =
+        ((t, way, h), subst (λ (p : Pair). IsWithinExact (claim_of t) p) (claims t way) (within-itself (claim_of t)))
+    along (true ∷ bits) (LeafNode x) n q way h = absurd way
+    along (true ∷ bits) (InnerNode claim (InnerNode p l r) upper) n q way h = absurd way
+    along (true ∷ bits) (InnerNode claim (ChainNode p bs s end) upper) n q way h = absurd way
+    along (true ∷ bits) (ChainNode p bs s end) n q way h = absurd way
+    along (false ∷ bits) (InnerNode claim lower (ChainNode p bs s end)) n q way h = absurd way
+    along (false ∷ bits) (ChainNode p bs s end) n q way h = absurd way
+    along (true ∷ bits) (InnerNode claim (LeafNode x) upper) n q way h =
+        let rest = along bits upper (suc n) (2 * q + 1) way.1 h.2 in
+        ((h.0, leaf-of x (suc n) (2 * q) way.0 h.1, rest.0), step true bits claim (claim_of upper) x way.0 h.3 rest.1)
+    along (false ∷ bits) (LeafNode x) n q way h = absurd way
+    along (false ∷ bits) (InnerNode claim lower (InnerNode p l r)) n q way h = absurd way
+    along (false ∷ bits) (InnerNode claim lower (LeafNode x)) n q way h =
+        let rest = along bits lower (suc n) (2 * q) way.1 h.1 in
+        ((h.0, leaf-of x (suc n) (2 * q + 1) way.0 h.2, rest.0), step false bits claim (claim_of lower) x way.0 h.3 rest.1)
+
+-- the pair of a chain with a bit
+same-back : (p r : Pair) → IsSamePair p r → IsSamePair r p
+same-back p r same = record { cost = sym same.cost; labels = λ x. sym (same.labels x) }
+
+within-chain : (claim : Pair) (bits : List Bool) (side : Label) (e : Pair) → 0 < length bits →
+    IsWithinExact claim (pair_by_bits bits side e) → IsWithinExact claim (chain_pair (length bits) side e)
+within-chain claim [] side e some within = absurd (omega arith)
+within-chain claim (bit ∷ bits) side e some within =
+    within-same_pair claim (pair_by_bits (bit ∷ bits) side e) (chain_pair (length (bit ∷ bits)) side e)
+    (same-back (chain_pair (length (bit ∷ bits)) side e) (pair_by_bits (bit ∷ bits) side e) (pair-by_bits bit bits side e)) within
+
+-- where what a node opens to is accepted, so is the node
+pub opening-accepted : (m : MapModel) (ps : List Prefix) (c : Tree) (t : Tree) (n q : ℕ) → OpensTo c t →
+    IsNodeAccepted m ps t n q → IsNodeAccepted m ps c n q
+opening-accepted m ps (LeafNode x) (LeafNode y) n q is h = subst (λ (z : Label). IsNodeAccepted m ps (LeafNode z) n q) (sym is) h
+opening-accepted m ps (LeafNode x) (InnerNode claim lower upper) n q is h = absurd is
+opening-accepted m ps (LeafNode x) (ChainNode p bs s end) n q is h = absurd is
+opening-accepted m ps (InnerNode claim lower upper) (ChainNode p bs s end) n q is h = absurd is
+opening-accepted m ps (InnerNode claim lower upper) (LeafNode y) n q is h = absurd is
+opening-accepted m ps (InnerNode claim lower upper) (InnerNode claim' lower' upper') n q is h = (
+  h.0,
+  opening-accepted m ps lower lower' (suc n) (2 * q) is.1 h.1,
+  opening-accepted m ps upper upper' (suc n) (2 * q + 1) is.2 h.2,
+  subst (λ (p : Pair). IsWithinExact p (exact_pair (claim_of lower) (claim_of upper))) (sym is.0)
+      (subst (IsWithinExact claim') (ap₂ exact_pair (claim-opening lower lower' is.1) (claim-opening upper upper' is.2)) h.3),
+)
+opening-accepted m ps (ChainNode claim bits side end) t n q is h =
+    let way = along m ps side (OpensTo end) (claim_of end) (claim-opening end) bits t n q is.2 h in (
+      is.0,
+      bits-end m ps side (IsEndAccepted m ps side (OpensTo end) (claim_of end)) (IsNodeAccepted m ps end)
+          (λ n' q' last. opening-accepted m ps end last.0 n' q' last.1 last.2) bits n q way.0,
+      within-chain claim bits side (claim_of end) is.0
+          (subst (λ (p : Pair). IsWithinExact p (pair_by_bits bits side (claim_of end))) (sym is.1) way.1),
+    )
+
+-- a node has no more lines than what it opens to
+lines-way : (IsEnd : Tree → Type 0) (side : Label) (k : ℕ) → ((t : Tree) → IsEnd t → k ≤ line_count t) → (bits : List Bool) (t : Tree) →
+    IsWay IsEnd side bits t → k + 2 * length bits ≤ line_count t
+lines-way IsEnd side k ends [] t way = omega (arith, ends t way)
+lines-way IsEnd side k ends (true ∷ bits) (LeafNode x) way = absurd way
+lines-way IsEnd side k ends (true ∷ bits) (InnerNode claim (InnerNode p l r) upper) way = absurd way
+lines-way IsEnd side k ends (true ∷ bits) (InnerNode claim (ChainNode p bs s end) upper) way = absurd way
+lines-way IsEnd side k ends (true ∷ bits) (ChainNode p bs s end) way = absurd way
+lines-way IsEnd side k ends (false ∷ bits) (InnerNode claim lower (ChainNode p bs s end)) way = absurd way
+lines-way IsEnd side k ends (false ∷ bits) (ChainNode p bs s end) way = absurd way
+lines-way IsEnd side k ends (true ∷ bits) (InnerNode claim (LeafNode x) upper) way =
+    let rest = lines-way IsEnd side k ends bits upper way.1 in omega arith
+lines-way IsEnd side k ends (false ∷ bits) (LeafNode x) way = absurd way
+lines-way IsEnd side k ends (false ∷ bits) (InnerNode claim lower (InnerNode p l r)) way = absurd way
+lines-way IsEnd side k ends (false ∷ bits) (InnerNode claim lower (LeafNode x)) way =
+    let rest = lines-way IsEnd side k ends bits lower way.1 in omega arith
+
+pub lines-opening : (c : Tree) (t : Tree) → OpensTo c t → line_count c ≤ line_count t
+lines-opening (LeafNode x) (LeafNode y) is = omega arith
+lines-opening (LeafNode x) (InnerNode claim lower upper) is = absurd is
+lines-opening (LeafNode x) (ChainNode p bs s end) is = absurd is
+lines-opening (InnerNode claim lower upper) (ChainNode p bs s end) is = absurd is
+lines-opening (InnerNode claim lower upper) (LeafNode y) is = absurd is
+lines-opening (InnerNode claim lower upper) (InnerNode claim' lower' upper') is =
+    let low = lines-opening lower lower' is.1 in let up = lines-opening upper upper' is.2 in omega arith
+lines-opening (ChainNode claim bits side end) t is =
+    let way = lines-way (OpensTo end) side (line_count end) (lines-opening end) bits t is.2 in
+    let some = is.0 in omega arith

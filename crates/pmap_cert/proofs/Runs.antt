@@ -1,0 +1,366 @@
+-- What is compacted opens to what it was made from, and has no run left.
+use Rattle.std.proofs.Common.{◌≡◌, ℕ, zero, suc, ◌+◌, ◌*◌, ◌<◌, ◌≤◌, ◌∙◌, Bool, true, false, cond, ◌||◌, List, [], ◌∷◌, Option, Some, None, arith, length, nat_le, refl, sym, ap, ap₂, subst, bytes_eq}
+use Rattle.std.specs.Fmt.{digits}
+use Rattle.std.proofs.lemmas.Bool.{cond-false, cond-true, false≢true, le-leb, leb-true}
+use Rattle.std.proofs.lemmas.Option.{none-some, same_Some}
+use Rattle.std.proofs.lemmas.Slice.Eq.{bytes_eq-Decides}
+use Rattle.pmap_text.specs.MapModel.{Label}
+use Rattle.pmap_cert.specs.CertificateModel.{ChainNode, InnerNode, LeafNode, Pair, Tree}
+use Rattle.pmap_cert.specs.Chain.{IsPlain, chain_opened, links, opened}
+use Rattle.pmap_cert.specs.CertificateText.{certificate_lines}
+use Rattle.pmap_cert.specs.Compacting.{HasNoRun, IsSameShape, IsWay, OpensTo, compact, compacted, compacted_in, has_side, is_side, line_count, run_bits, run_compacted, run_end, side_of}
+use Rattle.pmap_cert.specs.LastAddress.{last_address_certificate, last_address_lines, last_address_opened}
+use Rattle.pmap_cert.proofs.Sets.{bytes_eq-same}
+
+-- the lines of a run
+pub lines-run : (side : Label) (node : Tree) → line_count (run_end side node) + 2 * length (run_bits side node) ≤ line_count node
+lines-run side (LeafNode x) = omega arith
+lines-run side (ChainNode claim bits s end) = omega arith
+lines-run side (InnerNode claim lower upper) =
+    by_test (is_side side lower) (is_side side upper) refl refl (lines-run side lower) (lines-run side upper)
+  where
+    some : (t : Tree) → 1 ≤ line_count t
+    some (LeafNode x) = omega arith
+    some (InnerNode claim lower upper) = omega arith
+    some (ChainNode claim bits side end) = omega arith
+
+    by_test : (b c : Bool) → is_side side lower ≡ b → is_side side upper ≡ c →
+        line_count (run_end side lower) + 2 * length (run_bits side lower) ≤ line_count lower →
+        line_count (run_end side upper) + 2 * length (run_bits side upper) ≤ line_count upper →
+        line_count (cond b (run_end side upper) (cond c (run_end side lower) (InnerNode claim lower upper)))
+        + 2 * length (cond b (true ∷ run_bits side upper) (cond c (false ∷ run_bits side lower) []))
+        ≤ 1 + line_count lower + line_count upper
+    by_test true c e f low up = let one = some lower in omega arith
+    by_test false true e f low up = let one = some upper in omega arith
+    by_test false false e f low up = omega arith
+
+pub plain-run : (side : Label) (node : Tree) → IsPlain node → IsPlain (run_end side node)
+plain-run side (LeafNode x) h = h
+plain-run side (ChainNode claim bits s end) h = absurd h
+plain-run side (InnerNode claim lower upper) h =
+    by_test (is_side side lower) (is_side side upper) (plain-run side lower h.0) (plain-run side upper h.1)
+  where
+    by_test : (b c : Bool) → IsPlain (run_end side lower) → IsPlain (run_end side upper) →
+        IsPlain (cond b (run_end side upper) (cond c (run_end side lower) (InnerNode claim lower upper)))
+    by_test true c low up = up
+    by_test false true low up = low
+    by_test false false low up = h
+
+-- a run is a way
+module _ (IsEnd : Tree → Type 0) (side : Label) where
+  lower-way : (claim : Pair) (bits : List Bool) (lower upper : Tree) → is_side side lower ≡ true →
+      IsWay IsEnd side bits upper → IsWay IsEnd side (true ∷ bits) (InnerNode claim lower upper)
+  lower-way claim bits (LeafNode x) upper is way = ((bytes_eq-Decides x side).0 is, way)
+  lower-way claim bits (InnerNode p l r) upper is way = absurd (false≢true is)
+  lower-way claim bits (ChainNode p bs s end) upper is way = absurd (false≢true is)
+
+  upper-way : (claim : Pair) (bits : List Bool) (lower upper : Tree) → is_side side upper ≡ true →
+      IsWay IsEnd side bits lower → IsWay IsEnd side (false ∷ bits) (InnerNode claim lower upper)
+  upper-way claim bits lower (LeafNode x) is way = ((bytes_eq-Decides x side).0 is, way)
+  upper-way claim bits lower (InnerNode p l r) is way = absurd (false≢true is)
+  upper-way claim bits lower (ChainNode p bs s end) is way = absurd (false≢true is)
+
+  pub way-run : (node : Tree) → IsEnd (run_end side node) → IsWay IsEnd side (run_bits side node) node
+  way-run (LeafNode x) h = h
+  way-run (ChainNode claim bits s end) h = h
+  way-run (InnerNode claim lower upper) h =
+      by_test (is_side side lower) (is_side side upper) refl refl (way-run lower) (way-run upper) h
+    where
+      by_test : (b c : Bool) → is_side side lower ≡ b → is_side side upper ≡ c →
+          (IsEnd (run_end side lower) → IsWay IsEnd side (run_bits side lower) lower) →
+          (IsEnd (run_end side upper) → IsWay IsEnd side (run_bits side upper) upper) →
+          IsEnd (cond b (run_end side upper) (cond c (run_end side lower) (InnerNode claim lower upper))) →
+          IsWay IsEnd side (cond b (true ∷ run_bits side upper) (cond c (false ∷ run_bits side lower) []))
+          (InnerNode claim lower upper)
+      by_test true c e f low up h = lower-way claim (run_bits side upper) lower upper e (up h)
+      by_test false true e f low up h = upper-way claim (run_bits side lower) lower upper f (low h)
+      by_test false false e f low up h = h
+
+-- it leads to its end
+pub run-way : (side : Label) (node : Tree) → IsWay (λ end. end ≡ run_end side node) side (run_bits side node) node
+run-way side node = way-run (λ end. end ≡ run_end side node) side node refl
+
+-- and no way with that side label is longer
+no-bits : (side : Label) (bits : List Bool) (node : Tree) → is_side side node ≡ true → IsWay (λ end. Unit {0}) side bits node → length bits ≡ 0
+no-bits side [] node e way = refl
+no-bits side (true ∷ bits) (LeafNode x) e way = absurd way
+no-bits side (false ∷ bits) (LeafNode x) e way = absurd way
+no-bits side (bit ∷ bits) (InnerNode claim lower upper) e way = absurd (false≢true e)
+no-bits side (bit ∷ bits) (ChainNode claim bs s end) e way = absurd (false≢true e)
+
+pub run-longest : (side : Label) (node : Tree) (bits : List Bool) → IsWay (λ end. Unit {0}) side bits node →
+    length bits ≤ length (run_bits side node)
+run-longest side node [] way = omega arith
+run-longest side (LeafNode x) (true ∷ bits) way = absurd way
+run-longest side (LeafNode x) (false ∷ bits) way = absurd way
+run-longest side (ChainNode claim bs s end) (true ∷ bits) way = absurd way
+run-longest side (ChainNode claim bs s end) (false ∷ bits) way = absurd way
+run-longest side (InnerNode claim (InnerNode p l r) upper) (true ∷ bits) way = absurd way
+run-longest side (InnerNode claim (ChainNode p bs s end) upper) (true ∷ bits) way = absurd way
+run-longest side (InnerNode claim (LeafNode x) upper) (true ∷ bits) way =
+    by_test (bytes_eq x side) ((bytes_eq-Decides x side).1 way.0) (run-longest side upper bits way.1)
+  where
+    by_test : (b : Bool) → b ≡ true → length bits ≤ length (run_bits side upper) →
+        suc (length bits)
+        ≤ length (cond b (true ∷ run_bits side upper) (cond (is_side side upper) (false ∷ run_bits side (LeafNode x)) []))
+    by_test true e longest = omega arith
+    by_test false e longest = absurd (false≢true e)
+run-longest side (InnerNode claim lower (InnerNode p l r)) (false ∷ bits) way = absurd way
+run-longest side (InnerNode claim lower (ChainNode p bs s end)) (false ∷ bits) way = absurd way
+run-longest side (InnerNode claim lower (LeafNode x)) (false ∷ bits) way =
+    by_test (is_side side lower) (bytes_eq x side) refl ((bytes_eq-Decides x side).1 way.0) (run-longest side lower bits way.1)
+  where
+    by_test : (b c : Bool) → is_side side lower ≡ b → c ≡ true → length bits ≤ length (run_bits side lower) →
+        suc (length bits) ≤ length (cond b (true ∷ run_bits side (LeafNode x)) (cond c (false ∷ run_bits side lower) []))
+    by_test true c e f longest = let none = no-bits side bits lower e way.1 in omega arith
+    by_test false true e f longest = omega arith
+    by_test false false e f longest = absurd (false≢true f)
+
+-- a tree without chains opens to itself
+opens-itself : (t : Tree) → IsPlain t → OpensTo t t
+opens-itself (LeafNode x) h = refl
+opens-itself (InnerNode claim lower upper) h = (refl, opens-itself lower h.0, opens-itself upper h.1)
+opens-itself (ChainNode claim bits side end) h = absurd h
+
+-- by the side label of an inner node, and whether its run is long
+run_compacted-chain : (inside : Tree → Tree) (claim : Pair) (lower upper : Tree) (side : Label) →
+    nat_le 2 (length (run_bits side (InnerNode claim lower upper))) ≡ true →
+    run_compacted inside claim lower upper (Some side)
+    ≡ ChainNode claim (run_bits side (InnerNode claim lower upper)) side (inside (run_end side (InnerNode claim lower upper)))
+run_compacted-chain inside claim lower upper side long =
+    cond-true (nat_le 2 (length (run_bits side (InnerNode claim lower upper)))) _ (InnerNode claim (inside lower) (inside upper)) long
+
+run_compacted-node : (inside : Tree → Tree) (claim : Pair) (lower upper : Tree) (side : Label) →
+    nat_le 2 (length (run_bits side (InnerNode claim lower upper))) ≡ false →
+    run_compacted inside claim lower upper (Some side) ≡ InnerNode claim (inside lower) (inside upper)
+run_compacted-node inside claim lower upper side short =
+    cond-false (nat_le 2 (length (run_bits side (InnerNode claim lower upper))))
+    (ChainNode claim (run_bits side (InnerNode claim lower upper)) side (inside (run_end side (InnerNode claim lower upper)))) _ short
+
+-- what is said of an inner node compacted is said of a chain and of the node itself
+module _ (inside : Tree → Tree) (claim : Pair) (lower upper : Tree) (Is : Tree → Type 0) where
+  pub by_run : (o : Option Label) →
+      ((side : Label) → o ≡ Some side → nat_le 2 (length (run_bits side (InnerNode claim lower upper))) ≡ true →
+      Is (ChainNode claim (run_bits side (InnerNode claim lower upper)) side (inside (run_end side (InnerNode claim lower upper))))) →
+      (((side : Label) → o ≡ Some side → nat_le 2 (length (run_bits side (InnerNode claim lower upper))) ≡ false) →
+      Is (InnerNode claim (inside lower) (inside upper))) →
+      Is (run_compacted inside claim lower upper o)
+  by_run None chain node = node (λ side e. absurd (none-some side e))
+  by_run (Some side) chain node = by_test (nat_le 2 (length (run_bits side (InnerNode claim lower upper)))) refl
+    where
+      by_test : (b : Bool) → nat_le 2 (length (run_bits side (InnerNode claim lower upper))) ≡ b →
+          Is (run_compacted inside claim lower upper (Some side))
+      by_test true e = subst Is (sym (run_compacted-chain inside claim lower upper side e)) (chain side refl e)
+      by_test false e =
+          subst Is (sym (run_compacted-node inside claim lower upper side e))
+          (node (λ other same. subst (λ (s : Label). nat_le 2 (length (run_bits s (InnerNode claim lower upper))) ≡ false) (same_Some side other same) e))
+
+-- what a tree without chains is compacted to opens to that tree
+pub compacted_in-opens : (steps : ℕ) (t : Tree) → IsPlain t → OpensTo (compacted_in steps t) t
+unfolding compacted_in
+compacted_in-opens zero t h = opens-itself t h
+compacted_in-opens (suc steps) (LeafNode x) h = refl
+compacted_in-opens (suc steps) (ChainNode claim bits side end) h = absurd h
+compacted_in-opens (suc steps) (InnerNode claim lower upper) h =
+    by_run (compacted_in steps) claim lower upper (λ c. OpensTo c (InnerNode claim lower upper)) (side_of lower upper)
+    (λ side e long. (
+      omega (arith, leb-true 2 (length (run_bits side (InnerNode claim lower upper))) long),
+      refl,
+      way-run (OpensTo (compacted_in steps (run_end side (InnerNode claim lower upper)))) side (InnerNode claim lower upper)
+          (compacted_in-opens steps (run_end side (InnerNode claim lower upper)) (plain-run side (InnerNode claim lower upper) h)),
+    ))
+    (λ short. (refl, compacted_in-opens steps lower h.0, compacted_in-opens steps upper h.1))
+
+-- what opens to a tree has, opened, its shape and its labels
+module _ (side : Label) (IsEnd : Tree → Type 0) (end : Tree) (shapes : (t : Tree) → IsEnd t → IsSameShape end t) where
+  shape-way : (bits : List Bool) (t : Tree) → IsWay IsEnd side bits t → IsSameShape (links bits side end) t
+  shape-way [] t way = shapes t way
+  shape-way (true ∷ bits) (LeafNode x) way = absurd way
+  shape-way (true ∷ bits) (InnerNode claim (LeafNode x) upper) way = (sym way.0, shape-way bits upper way.1)
+  shape-way (true ∷ bits) (InnerNode claim (InnerNode p l r) upper) way = absurd way
+  shape-way (true ∷ bits) (InnerNode claim (ChainNode p bs s e) upper) way = absurd way
+  shape-way (true ∷ bits) (ChainNode p bs s e) way = absurd way
+  shape-way (false ∷ bits) (LeafNode x) way = absurd way
+  shape-way (false ∷ bits) (InnerNode claim lower (LeafNode x)) way = (shape-way bits lower way.1, sym way.0)
+  shape-way (false ∷ bits) (InnerNode claim lower (InnerNode p l r)) way = absurd way
+  shape-way (false ∷ bits) (InnerNode claim lower (ChainNode p bs s e)) way = absurd way
+  shape-way (false ∷ bits) (ChainNode p bs s e) way = absurd way
+
+  shape-chain : (claim : Pair) (bits : List Bool) (t : Tree) → 0 < length bits → IsWay IsEnd side bits t →
+      IsSameShape (chain_opened claim bits side end) t
+  shape-chain claim [] t some way = absurd (omega arith)
+  shape-chain claim (true ∷ bits) t some way = shape-way (true ∷ bits) t way
+  shape-chain claim (false ∷ bits) t some way = shape-way (false ∷ bits) t way
+
+pub shape-opens : (c t : Tree) → OpensTo c t → IsSameShape (opened c) t
+shape-opens (LeafNode x) (LeafNode y) h = h
+shape-opens (LeafNode x) (InnerNode claim lower upper) h = absurd h
+shape-opens (LeafNode x) (ChainNode claim bits side end) h = absurd h
+shape-opens (InnerNode claim lower upper) (LeafNode y) h = absurd h
+shape-opens (InnerNode claim lower upper) (ChainNode claim' bits side end) h = absurd h
+shape-opens (InnerNode claim lower upper) (InnerNode claim' lower' upper') h =
+    (shape-opens lower lower' h.1, shape-opens upper upper' h.2)
+shape-opens (ChainNode claim bits side end) t h =
+    shape-chain side (OpensTo end) (opened end) (shape-opens end) claim bits t h.0 h.2
+
+-- a leaf stays the leaf that it is
+side-same : (x : Label) (steps : ℕ) (t : Tree) → IsPlain t → is_side x (compacted_in steps t) ≡ is_side x t
+unfolding compacted_in
+side-same x zero t h = refl
+side-same x (suc steps) (LeafNode y) h = refl
+side-same x (suc steps) (ChainNode claim bits side end) h = absurd h
+side-same x (suc steps) (InnerNode claim lower upper) h =
+    by_run (compacted_in steps) claim lower upper (λ c. is_side x c ≡ false) (side_of lower upper) (λ side e long. refl) (λ short. refl)
+
+-- and an inner node with a leaf in a half was one before
+side-less : (x : Label) (steps : ℕ) (t : Tree) → IsPlain t → has_side x (compacted_in steps t) ≡ true → has_side x t ≡ true
+unfolding compacted_in
+side-less x zero t h has = has
+side-less x (suc steps) (LeafNode y) h has = has
+side-less x (suc steps) (ChainNode claim bits side end) h has = absurd h
+side-less x (suc steps) (InnerNode claim lower upper) h has =
+    by_run (compacted_in steps) claim lower upper (λ c. has_side x c ≡ true → has_side x (InnerNode claim lower upper) ≡ true)
+    (side_of lower upper) (λ side e long known. absurd (false≢true known))
+    (λ short known. ap₂ ◌||◌ (sym (side-same x steps lower h.0)) (sym (side-same x steps upper h.1)) ∙ known) has
+
+-- where a node has a leaf with the label in a half, a run of that label has a bit
+run-some : (x : Label) (t : Tree) → has_side x t ≡ true → 0 < length (run_bits x t)
+run-some x (LeafNode y) h = absurd (false≢true h)
+run-some x (ChainNode claim bits side end) h = absurd (false≢true h)
+run-some x (InnerNode claim lower upper) h = by_test (is_side x lower) (is_side x upper) h
+  where
+    by_test : (b c : Bool) → (b || c) ≡ true → 0 < length (cond b (true ∷ run_bits x upper) (cond c (false ∷ run_bits x lower) []))
+    by_test true c h = omega arith
+    by_test false true h = omega arith
+    by_test false false h = absurd (false≢true h)
+
+-- so beside a leaf no inner node with a leaf of the same label stands where the run is short
+abbrev IsLong : Pair → Tree → Tree → Type 0
+IsLong claim lower upper =
+    (side : Label) × (side_of lower upper ≡ Some side) × (nat_le 2 (length (run_bits side (InnerNode claim lower upper))) ≡ true)
+
+long-lower : (claim : Pair) (lower upper : Tree) (x : Label) → is_side x lower ≡ true → has_side x upper ≡ true → IsLong claim lower upper
+long-lower claim (InnerNode p l r) upper x e h = absurd (false≢true e)
+long-lower claim (ChainNode p bs s end) upper x e h = absurd (false≢true e)
+long-lower claim (LeafNode y) upper x e h =
+    let known : has_side y upper ≡ true = subst (λ (z : Label). has_side z upper ≡ true) (sym ((bytes_eq-Decides y x).0 e)) h in (
+      y,
+      refl,
+      subst (λ (b : Bool). nat_le 2 (length (cond b (true ∷ run_bits y upper) (cond (is_side y upper) (false ∷ run_bits y (LeafNode y)) []))) ≡ true)
+          (sym (bytes_eq-same y)) (le-leb 2 (suc (length (run_bits y upper))) (omega (arith, run-some y upper known))),
+    )
+
+long-upper : (claim : Pair) (lower upper : Tree) (x : Label) → is_side x upper ≡ true → has_side x lower ≡ true → IsLong claim lower upper
+long-upper claim (LeafNode y) upper x e h = absurd (false≢true h)
+long-upper claim (ChainNode p bs s end) upper x e h = absurd (false≢true h)
+long-upper claim (InnerNode p l r) (InnerNode p' l' r') x e h = absurd (false≢true e)
+long-upper claim (InnerNode p l r) (ChainNode p' bs s end) x e h = absurd (false≢true e)
+long-upper claim (InnerNode p l r) (LeafNode y) x e h =
+    let lower : Tree = InnerNode p l r in
+    let known : has_side y lower ≡ true = subst (λ (z : Label). has_side z lower ≡ true) (sym ((bytes_eq-Decides y x).0 e)) h in (
+      y,
+      refl,
+      subst (λ (b : Bool). nat_le 2 (length (cond b (false ∷ run_bits y lower) [])) ≡ true)
+          (sym (bytes_eq-same y)) (le-leb 2 (suc (length (run_bits y lower))) (omega (arith, run-some y lower known))),
+    )
+
+not-long : (claim : Pair) (lower upper : Tree) →
+    ((side : Label) → side_of lower upper ≡ Some side → nat_le 2 (length (run_bits side (InnerNode claim lower upper))) ≡ false) →
+    IsLong claim lower upper → ⊥
+not-long claim lower upper short long = false≢true (sym (short long.0 long.1) ∙ long.2)
+
+some-line : (t : Tree) → 1 ≤ line_count t
+some-line (LeafNode x) = omega arith
+some-line (InnerNode claim lower upper) = omega arith
+some-line (ChainNode claim bits side end) = omega arith
+
+-- a run of two bits leaves less to be compacted
+less-run : (claim : Pair) (lower upper : Tree) (side : Label) (steps : ℕ) → line_count (InnerNode claim lower upper) ≤ suc steps →
+    nat_le 2 (length (run_bits side (InnerNode claim lower upper))) ≡ true →
+    line_count (run_end side (InnerNode claim lower upper)) ≤ steps
+less-run claim lower upper side steps few long =
+    omega (arith, few, lines-run side (InnerNode claim lower upper), leb-true 2 (length (run_bits side (InnerNode claim lower upper))) long)
+
+-- what a tree without chains is compacted to has no run left
+pub compacted_in-no_run : (steps : ℕ) (t : Tree) → IsPlain t → line_count t ≤ steps → HasNoRun (compacted_in steps t)
+unfolding compacted_in
+compacted_in-no_run zero t h few = let one = some-line t in absurd (omega (arith, one, few))
+compacted_in-no_run (suc steps) (LeafNode x) h few = tt
+compacted_in-no_run (suc steps) (ChainNode claim bits side end) h few = absurd h
+compacted_in-no_run (suc steps) (InnerNode claim lower upper) h few =
+    by_run (compacted_in steps) claim lower upper HasNoRun (side_of lower upper)
+    (λ side e long. compacted_in-no_run steps (run_end side (InnerNode claim lower upper)) (plain-run side (InnerNode claim lower upper) h)
+    (less-run claim lower upper side steps few long))
+    (λ short. (
+      λ x e has. not-long claim lower upper short
+          (long-lower claim lower upper x (sym (side-same x steps lower h.0) ∙ e) (side-less x steps upper h.1 has)),
+      λ x e has. not-long claim lower upper short
+          (long-upper claim lower upper x (sym (side-same x steps upper h.1) ∙ e) (side-less x steps lower h.0 has)),
+      compacted_in-no_run steps lower h.0 (omega (arith, few)),
+      compacted_in-no_run steps upper h.1 (omega (arith, few)),
+    ))
+
+-- more steps than enough change nothing
+run_compacted-same : (inside inside' : Tree → Tree) (claim : Pair) (lower upper : Tree) →
+    inside lower ≡ inside' lower → inside upper ≡ inside' upper →
+    ((side : Label) → nat_le 2 (length (run_bits side (InnerNode claim lower upper))) ≡ true →
+    inside (run_end side (InnerNode claim lower upper)) ≡ inside' (run_end side (InnerNode claim lower upper))) →
+    (o : Option Label) → run_compacted inside claim lower upper o ≡ run_compacted inside' claim lower upper o
+run_compacted-same inside inside' claim lower upper low up run None = ap₂ (InnerNode claim) low up
+run_compacted-same inside inside' claim lower upper low up run (Some side) =
+    by_test (nat_le 2 (length (run_bits side (InnerNode claim lower upper)))) refl
+  where
+    by_test : (b : Bool) → nat_le 2 (length (run_bits side (InnerNode claim lower upper))) ≡ b →
+        run_compacted inside claim lower upper (Some side) ≡ run_compacted inside' claim lower upper (Some side)
+    by_test true long =
+        run_compacted-chain inside claim lower upper side long
+        ∙ ap (ChainNode claim (run_bits side (InnerNode claim lower upper)) side) (run side long)
+        ∙ sym (run_compacted-chain inside' claim lower upper side long)
+    by_test false short =
+        run_compacted-node inside claim lower upper side short
+        ∙ ap₂ (InnerNode claim) low up
+        ∙ sym (run_compacted-node inside' claim lower upper side short)
+
+pub enough-steps : (steps steps' : ℕ) (t : Tree) → line_count t ≤ steps → line_count t ≤ steps' →
+    compacted_in steps t ≡ compacted_in steps' t
+unfolding compacted_in
+enough-steps zero steps' t few few' = let one = some-line t in absurd (omega (arith, one, few))
+enough-steps (suc steps) zero t few few' = let one = some-line t in absurd (omega (arith, one, few'))
+enough-steps (suc steps) (suc steps') (LeafNode x) few few' = refl
+enough-steps (suc steps) (suc steps') (ChainNode claim bits side end) few few' =
+    ap (ChainNode claim bits side) (enough-steps steps steps' end (omega (arith, few)) (omega (arith, few')))
+enough-steps (suc steps) (suc steps') (InnerNode claim lower upper) few few' =
+    run_compacted-same (compacted_in steps) (compacted_in steps') claim lower upper
+    (enough-steps steps steps' lower (omega (arith, few)) (omega (arith, few')))
+    (enough-steps steps steps' upper (omega (arith, few)) (omega (arith, few')))
+    (λ side long. enough-steps steps steps' (run_end side (InnerNode claim lower upper))
+    (less-run claim lower upper side steps few long) (less-run claim lower upper side steps' few' long)) (side_of lower upper)
+
+-- an inner node compacted, by its run
+pub compacted-inner : (claim : Pair) (lower upper : Tree) →
+    compacted (InnerNode claim lower upper) ≡ run_compacted compacted claim lower upper (side_of lower upper)
+unfolding compacted_in
+compacted-inner claim lower upper =
+    ap (λ (steps : ℕ). compacted_in steps (InnerNode claim lower upper)) one_more
+    ∙ run_compacted-same (compacted_in (line_count lower + line_count upper)) compacted claim lower upper
+    (enough-steps (line_count lower + line_count upper) (line_count lower) lower (omega arith) (omega arith))
+    (enough-steps (line_count lower + line_count upper) (line_count upper) upper (omega arith) (omega arith))
+    (λ side long. enough-steps (line_count lower + line_count upper) (line_count (run_end side (InnerNode claim lower upper)))
+    (run_end side (InnerNode claim lower upper)) (less-run claim lower upper side (line_count lower + line_count upper) (omega arith) long) (omega arith))
+    (side_of lower upper)
+  where
+    one_more : line_count (InnerNode claim lower upper) ≡ suc (line_count lower + line_count upper)
+    one_more = omega arith
+
+pub compacted-leaf : (x : Label) → compacted (LeafNode x) ≡ LeafNode x
+unfolding compacted_in
+compacted-leaf x = refl
+
+-- the worked example
+pub last-compacted : compact last_address_opened ≡ last_address_certificate
+unfolding compacted_in
+last-compacted = refl
+
+pub last-lines : certificate_lines last_address_certificate ≡ last_address_lines
+unfolding digits
+last-lines = refl

@@ -1,0 +1,109 @@
+use Rattle.std.specs.Prelude.{◌≡◌, ℕ, zero, suc, ◌+◌, ◌<◌, ◌||◌, ◌==◌, Bool, true, false, List, [], ◌∷◌, Option, Some, None, IsTrue, length, nat_le, if◌then◌else◌}
+use Rattle.std.specs.Option.{option_or}
+use Rattle.std.specs.Str.{bytes_eq}
+use Rattle.pmap_text.specs.MapModel.{Label}
+use Rattle.pmap_cert.specs.CertificateModel.{CertificateModel, ChainNode, InnerNode, LeafNode, Pair, Tree, claim_of}
+
+-- Compacting: a chain in the place of each run of inner nodes that each have a leaf of one label in one half.
+
+-- how many lines a certificate's nodes have
+abbrev pub line_count : Tree → ℕ
+line_count (LeafNode x) = 1
+line_count (InnerNode claim lower upper) = 1 + line_count lower + line_count upper
+line_count (ChainNode claim bits side end) = 1 + line_count end
+
+-- the label of a leaf
+abbrev pub leaf_label : Tree → Option Label
+leaf_label (LeafNode x) = Some x
+leaf_label _ = None
+
+-- the node is a leaf with this label
+abbrev pub is_side : Label → Tree → Bool
+is_side side (LeafNode x) = bytes_eq x side
+is_side side _ = false
+
+-- The longest run of a side label from a node down: the halves that are chosen as long as the other half is a leaf with
+-- the side label (where both are, the upper one is chosen) ..
+abbrev pub run_bits : Label → Tree → List Bool
+run_bits side (InnerNode claim lower upper) =
+    if is_side side lower then true ∷ run_bits side upper
+    else (if is_side side upper then false ∷ run_bits side lower else [])
+run_bits side _ = []
+
+-- .. and the node at its end
+abbrev pub run_end : Label → Tree → Tree
+run_end side (InnerNode claim lower upper) =
+    if is_side side lower then run_end side upper
+    else (if is_side side upper then run_end side lower else InnerNode claim lower upper)
+run_end side node = node
+
+-- the side label of an inner node's run: that of its lower half where that is a leaf, else that of its upper half
+abbrev pub side_of : Tree → Tree → Option Label
+side_of lower upper = option_or (leaf_label lower) (leaf_label upper)
+
+-- An inner node compacted, where `inside` compacts what is below: where its run has two bits or more, a chain with its
+-- claim and those bits, whose end is that of the run compacted, else the node itself with its halves compacted.
+abbrev pub run_compacted : (Tree → Tree) → Pair → Tree → Tree → Option Label → Tree
+run_compacted inside claim lower upper None = InnerNode claim (inside lower) (inside upper)
+run_compacted inside claim lower upper (Some side) =
+    if nat_le 2 (length (run_bits side (InnerNode claim lower upper)))
+    then ChainNode claim (run_bits side (InnerNode claim lower upper)) side (inside (run_end side (InnerNode claim lower upper)))
+    else InnerNode claim (inside lower) (inside upper)
+
+-- a node compacted, in so many steps down from it
+unfoldable pub compacted_in : ℕ → Tree → Tree
+compacted_in zero node = node
+compacted_in (suc steps) (LeafNode x) = LeafNode x
+compacted_in (suc steps) (InnerNode claim lower upper) =
+    run_compacted (compacted_in steps) claim lower upper (side_of lower upper)
+compacted_in (suc steps) (ChainNode claim bits side end) = ChainNode claim bits side (compacted_in steps end)
+
+-- a node compacted: it has no more steps down than lines
+abbrev pub compacted : Tree → Tree
+compacted node = compacted_in (line_count node) node
+
+-- a certificate compacted: one of format 1 has its root compacted and is of format 2, one of format 2 is given back
+-- equal
+abbrev pub compact : CertificateModel → CertificateModel
+compact c =
+    if c.format == 1
+    then record { format = 2; version = c.version; table = c.table; root = compacted c.root }
+    else c
+
+-- The way of a chain's bits down a tree: at each inner node the leaf beside the way has the side label, and what stands
+-- at the way's end is as it has to be.
+abbrev pub IsWay : (Tree → Type 0) → Label → List Bool → Tree → Type 0
+IsWay IsEnd side [] t = IsEnd t
+IsWay IsEnd side (true ∷ bits) (InnerNode claim (LeafNode x) upper) = (x ≡ side) × IsWay IsEnd side bits upper
+IsWay IsEnd side (false ∷ bits) (InnerNode claim lower (LeafNode x)) = (x ≡ side) × IsWay IsEnd side bits lower
+IsWay IsEnd side _ _ = ⊥
+
+-- The first tree with its chains opened is the second, with the same labels and, but for the inner nodes that a chain
+-- takes in below its top, the same claims.
+abbrev pub OpensTo : Tree → Tree → Type 0
+OpensTo (LeafNode x) (LeafNode y) = x ≡ y
+OpensTo (InnerNode claim lower upper) (InnerNode claim' lower' upper') =
+    (claim ≡ claim') × OpensTo lower lower' × OpensTo upper upper'
+OpensTo (ChainNode claim bits side end) t = (0 < length bits) × (claim ≡ claim_of t) × IsWay (OpensTo end) side bits t
+OpensTo _ _ = ⊥
+
+-- two trees have one shape and the same labels at their leaves, whatever their inner nodes claim
+abbrev pub IsSameShape : Tree → Tree → Type 0
+IsSameShape (LeafNode x) (LeafNode y) = x ≡ y
+IsSameShape (InnerNode claim lower upper) (InnerNode claim' lower' upper') =
+    IsSameShape lower lower' × IsSameShape upper upper'
+IsSameShape _ _ = ⊥
+
+-- the node is an inner node with a leaf with the label in one half
+abbrev pub has_side : Label → Tree → Bool
+has_side side (InnerNode claim lower upper) = is_side side lower || is_side side upper
+has_side side _ = false
+
+-- Nowhere in it is there a chance for a chain left: no inner node has a leaf in one half and in the other an inner node
+-- that has a leaf of the same label.
+abbrev pub HasNoRun : Tree → Type 0
+HasNoRun (LeafNode x) = Unit {0}
+HasNoRun (InnerNode claim lower upper) =
+    ((x : Label) → IsTrue (is_side x lower) → ¬ IsTrue (has_side x upper))
+    × ((x : Label) → IsTrue (is_side x upper) → ¬ IsTrue (has_side x lower)) × HasNoRun lower × HasNoRun upper
+HasNoRun (ChainNode claim bits side end) = HasNoRun end
