@@ -40,7 +40,7 @@ IsFaultOfReading file fault result =
 -- the groups of the rows that pass
 pub record HasGroups (keys : List KeyField) (condition : Condition) (labels : Option Labelling) (messages : List MessageView) (had : GroupsModel) : Type 0 where
   pub fields : had.fields ≡ keys
-  pub count : record_count had.groups ≤ 65535 * length messages
+  pub count : record_count had.groups ≤ 131070 * length messages
   pub groups : had.groups ≡ groups_of keys (label_where labels) (passing_rows condition labels messages)
 
 -- the text of the rows that pass, or these rows where their lines wait for the widths of the columns

@@ -7,23 +7,18 @@ ghost use Rattle.flowlabel.specs.Loading.{HasFewLabels, labelling_of_either};
 ghost use Rattle.flowlabel.specs.Output.{HasRunsText};
 
 use crate::run::loaded::LoadedLabels;
-use label_trie::Trie;
-use pmap_print::{
-    labelling_has_one_runs_text, list_leaves_have_its_runs, map_leaves_have_its_runs, print_runs,
-};
-use pmap_text::{MapText, PrefixList};
+use pmap_print::{labelling_has_one_runs_text, print_runs};
+use pmap_text::{MapText, PrefixList, Stretches, statements_of_list};
 use std::alloc::{AllocError, Global};
 
 // The text of the runs of a map.
 fn runs_of_map(alloc: Global, map: &MapText) -> Result<Vec<u8>, AllocError>
     ensures { IfOk result (λ out. HasRunsText (labelling_of_map (map_of map.now)) out.items) }
 {
-    // For their laws: the leaves of a trie have the runs of its map, and a labelling one text of them.
-    map_leaves_have_its_runs();
+    // For its law: labellings that agree on each address have one text of their runs.
     labelling_has_one_runs_text();
-    let trie = Trie::build(alloc, map)?;
-    let leaves = trie.leaves(alloc)?;
-    print_runs(alloc, leaves.as_slice(), &map.labels)
+    let mut stretches = Stretches::of_map(alloc, map)?;
+    print_runs(alloc, &mut stretches, &map.labels)
 }
 
 // The text of the runs of a prefix list.
@@ -31,12 +26,11 @@ fn runs_of_list(alloc: Global, list: &PrefixList) -> Result<Vec<u8>, AllocError>
     requires { length list.now.entries ≤ 1000000 }
     ensures { IfOk result (λ out. HasRunsText (labelling_of_list (list_of list.now)) out.items) }
 {
-    // For their laws, as above.
-    list_leaves_have_its_runs();
+    // For its law, as above.
     labelling_has_one_runs_text();
-    let trie = Trie::build_list(alloc, list)?;
-    let leaves = trie.leaves(alloc)?;
-    print_runs(alloc, leaves.as_slice(), &list.labels)
+    let statements = statements_of_list(alloc, list)?;
+    let mut stretches = Stretches::new(alloc, list.version, None, statements.as_slice())?;
+    print_runs(alloc, &mut stretches, &list.labels)
 }
 
 /// The text of the runs of the labels of a map or a list.

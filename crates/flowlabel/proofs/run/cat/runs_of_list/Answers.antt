@@ -1,33 +1,35 @@
-use Rattle.std.proofs.Common.{List, sym, subst}
+use Rattle.std.proofs.Common.{◌≡◌, ◌∙◌, None, arith}
+use Rattle.std.proofs.lemmas.Option.{none-some}
 use Rattle.std.proofs.lemmas.Result.{IfOk-weaker}
 use Rattle.pmap_text.specs.ListModel.{list_label}
 use Rattle.pmap_text.specs.PrefixList.{list_of}
-use Rattle.label_trie.specs.declared.leaf.Leaf.{Leaf}
-use Rattle.pmap_print.specs.Runs.{HaveRunsOf}
+use Rattle.pmap_text.specs.Stretches.{text_won}
 use Rattle.label_lookup.proofs.Labellings.{same_at_addresses}
 use Rattle.flowlabel.proofs.run.cat.runs_of_list.Goals as goal
 
-have : (c : goal.After-as_slice) → HaveRunsOf c.args.list.now.version (list_label (list_of c.args.list.now)) c.as_slice.result.now c.args.list.now.labels
-have c =
-    subst (λ (leaves : List Leaf). HaveRunsOf c.args.list.now.version (list_label (list_of c.args.list.now)) leaves c.args.list.now.labels)
-    (sym c.as_slice.ensures)
-    (c.list_leaves_have_its_runs.ensures c.args.list.now c.in_ok-trie.trie c.in_ok-leaves.leaves c.in_ok-trie.ensures.version
-    c.in_ok-trie.ensures.cut c.in_ok-trie.ensures.decided c.in_ok-trie.ensures.labels c.in_ok-leaves.ensures.version c.in_ok-leaves.ensures.leaves)
+pub new-requires-clause-version : goal.new-requires-clause-version
+new-requires-clause-version c = rw c.as_slice.ensures.value c.in_ok-statements.ensures.version
 
-pub print_runs-requires-clause-space : goal.print_runs-requires-clause-space
-print_runs-requires-clause-space c = (have c).space
+pub new-requires-clause-few : goal.new-requires-clause-few
+new-requires-clause-few c = rw c.as_slice.ensures.value (omega (arith, c.in_ok-statements.ensures.count, c.requires))
 
 pub print_runs-requires-clause-known : goal.print_runs-requires-clause-known
-print_runs-requires-clause-known c = (have c).known
+print_runs-requires-clause-known c = rw (c.in_ok-stretches.ensures.statements, c.as_slice.ensures.value) c.in_ok-statements.ensures.known
+
+pub print_runs-requires-clause-default : goal.print_runs-requires-clause-default
+print_runs-requires-clause-default c = rw c.in_ok-stretches.ensures.default (λ id is. absurd (none-some id is))
 
 pub returns : goal.returns
 returns c =
-    let version = c.args.list.now.version in
-    let have : HaveRunsOf version (list_label (list_of c.args.list.now)) c.as_slice.result.now c.args.list.now.labels =
-    subst (λ (leaves : List Leaf). HaveRunsOf c.args.list.now.version (list_label (list_of c.args.list.now)) leaves c.args.list.now.labels)
-    (sym c.as_slice.ensures)
-    (c.list_leaves_have_its_runs.ensures c.args.list.now c.in_ok-trie.trie c.in_ok-leaves.leaves c.in_ok-trie.ensures.version
-    c.in_ok-trie.ensures.cut c.in_ok-trie.ensures.decided c.in_ok-trie.ensures.labels c.in_ok-leaves.ensures.version c.in_ok-leaves.ensures.leaves) in
+    let list = c.args.list.now in
+    let s = c.in_ok-stretches.stretches in
+    let ss = c.in_ok-statements.statements.items in
+    let version = c.in_ok-stretches.ensures.version in
+    let default = c.in_ok-stretches.ensures.default in
+    let statements : s.statements ≡ ss = c.in_ok-stretches.ensures.statements ∙ c.as_slice.ensures.value in
+    let alike = c.labelling_has_one_runs_text.ensures.alike in
     IfOk-weaker c.print_runs.result _ _
-    (λ out is. c.labelling_has_one_runs_text.ensures.alike version (list_label (list_of c.args.list.now)) _ out.items (same_at_addresses version (list_label (list_of c.args.list.now))) (have.text out.items is))
+    (λ out is. alike list.version (list_label (list_of list)) _ out.items (same_at_addresses list.version (list_label (list_of list)))
+    (alike list.version (text_won list.labels None ss) (list_label (list_of list)) out.items (λ a below. c.in_ok-statements.ensures.labels a)
+    (rw (version, default, statements) at is)))
     c.print_runs.ensures
