@@ -1,6 +1,7 @@
 use Rattle.std.specs.Prelude.{ℕ, Bool, true, false, List, codes}
 use Rattle.ipfix_read.specs.declared.fault.ReadFaultKind.{ReadFaultKind}
 use Rattle.ipfix_read.specs.declared.fault.ReadFaultKind.TheVariants as flows
+use Rattle.ipfix_read.specs.Fault.{is_of_calls}
 use Rattle.ipfix_templates.specs.declared.fault.TemplateFaultKind.{TemplateFaultKind}
 use Rattle.ipfix_templates.specs.declared.fault.TemplateFaultKind.TheVariants as template
 use Rattle.pmap_text.specs.declared.fault.MapFaultKind.{MapFaultKind}
@@ -117,3 +118,11 @@ is_want_of_memory (InList fault) = is_map_want fault.kind
 is_want_of_memory (InFlows fault) = is_flows_want fault.kind
 is_want_of_memory (InCertificate fault) = is_certificate_want fault.kind
 is_want_of_memory (InCheck fault) = is_check_want fault.kind
+
+-- the fault is no first one of a file's bytes: only calls for messages answer it, where a reader failed or a call before had a fault
+abbrev pub is_answer_of_calls : BytesFault → Bool
+is_answer_of_calls (InMap fault) = false
+is_answer_of_calls (InList fault) = false
+is_answer_of_calls (InFlows fault) = is_of_calls fault.kind
+is_answer_of_calls (InCertificate fault) = false
+is_answer_of_calls (InCheck fault) = false

@@ -1,6 +1,6 @@
 use Rattle.std.specs.Prelude.{◌≡◌, ◌≤◌, ◌*◌, ◌⊎◌, ℕ, Bool, true, false, List, [], Option, IfSome, length, map, option_map}
 use Rattle.std.specs.Borrow.{Bor}
-use Rattle.ipfix_read.specs.Fault.{is_of_reader, out_of_memory}
+use Rattle.ipfix_read.specs.Fault.{is_of_calls, is_of_reader, out_of_memory}
 use Rattle.ipfix_read.specs.File.{HasFileFault, ReadsFile}
 use Rattle.ipfix_read.specs.Message.{MessageView}
 use Rattle.ipfix_read.specs.declared.fault.ReadFault.{ReadFault}
@@ -30,6 +30,10 @@ HasTaken is_of given taken =
 abbrev pub IsFaultOfMessages : Option (List ℕ) → ReadFault → Type 0
 IsFaultOfMessages given fault =
     (fault ≡ out_of_memory) ⊎ ((is_of_reader fault.kind ≡ true) ⊎ IfSome given (λ bytes. HasFileFault [] 0 0 bytes fault))
+
+-- it is no answer that a call before had a fault, of a reader that doesn't tell its bytes neither
+abbrev pub IsFirstAnswer : ReadFault → Type 0
+IsFirstAnswer fault = (is_of_reader fault.kind ≡ true) ⊎ (is_of_calls fault.kind ≡ false)
 
 -- the fault of a run that it is: a file that can't be read, or a fault of its bytes, or want of memory
 abbrev pub IsFaultOfReading : Bor (List ℕ) → ReadFault → RunFault → Type 0

@@ -1,5 +1,6 @@
-ghost use Rattle.std.specs.Prelude.{◌≡◌, IfOk};
+ghost use Rattle.std.specs.Prelude.{◌≡◌, IfOk, false};
 ghost use Rattle.std.specs.String.{string_bytes};
+ghost use Rattle.flowlabel.specs.BytesFault.{is_answer_of_calls};
 ghost use Rattle.flowlabel.specs.Faults.{IsInFile, exit_status_of, fault_text, filter_fault_text, filter_option_text, is_memory_fault, is_usage_want, key_fault_text, option_text, own_fault_text, own_status_of, place_text, status_of, usage_fault_text};
 
 use crate::bytes_fault::BytesFault;
@@ -29,6 +30,7 @@ pub enum RunFault<'a> {
 impl<'a> RunFault<'a> {
     /// The fault of the bytes of the file with this name: want of memory is that of the run.
     pub fn in_file(file: &'a str, fault: BytesFault) -> RunFault<'a>
+        requires { is_answer_of_calls fault ≡ false }
         ensures { IsInFile file.now fault result }
     {
         if fault.is_want_of_memory() {

@@ -1,6 +1,6 @@
 //! From files to what they hold: each is read whole and decoded before the next.
 ghost use Rattle.std.specs.Prelude.{◌≡◌, ℕ, List, Some, false, IfErr, IfOk, IfSome, is_some};
-ghost use Rattle.flowlabel.specs.BytesFault.{is_want_of_memory};
+ghost use Rattle.flowlabel.specs.BytesFault.{is_answer_of_calls, is_want_of_memory};
 ghost use Rattle.flowlabel.specs.Loading.{AreLoaded, ArePresent, HasFewEntries, Holds, IsFirstFault};
 ghost use Rattle.flowlabel.specs.Output.{FileTexts};
 ghost use Rattle.flowlabel.specs.Run.{AreNeeded, AreReadBefore, HasText, HaveTexts, IsFaultOfBytes, IsStop, any_failed, is_read_stop, name_of, source_failed};
@@ -32,6 +32,7 @@ trait Decode {
         ensures ok { IfOk result (reads text.now) }
         ensures limits { IfOk result limits }
         ensures turn { IfErr result (λ fault. turn_of fault ≡ turn) }
+        ensures first { IfErr result (λ fault. is_answer_of_calls fault ≡ false) }
         ensures err { IfErr result (λ fault. is_want_of_memory fault ≡ false → IsFaultOfText fault text.now) };
 }
 

@@ -6,7 +6,7 @@ ghost use Rattle.label_lookup.specs.Labelling.{Labelling, labelling_by, labellin
 ghost use Rattle.flowlabel.specs.Loading.{IsFaultOfAnswer, labelling_of_either};
 ghost use Rattle.flowlabel.specs.Output.{ReportsOf};
 ghost use Rattle.flowlabel.specs.Run.{HasText, IsStop, any_failed, is_read_stop};
-ghost use Rattle.flowlabel.specs.Taken.{HasTaken, IsFaultOfMessages, IsFaultOfReading};
+ghost use Rattle.flowlabel.specs.Taken.{HasTaken, IsFaultOfMessages, IsFaultOfReading, IsFirstAnswer};
 ghost use Rattle.flowlabel.specs.Turns.{FlowsTurn};
 
 use crate::bytes_fault::BytesFault;
@@ -75,6 +75,7 @@ fn take_messages<R: Input, P: Report, L: Labeller>(
     ensures ok { OnOk result (HasTaken (P.is_of report.now (labelling_lent L.version_of L.label labels.entry))
         (R.bytes_left reader.old) taken.new) }
     ensures err { IfErr result (IsFaultOfMessages (R.bytes_left reader.old)) }
+    ensures first { IfErr result IsFirstAnswer }
     ensures device { R.failed reader.new ≡ is_read_fault result }
 {
     // For its law: the calls so far and the next one are the whole File.
@@ -89,6 +90,7 @@ fn take_messages<R: Input, P: Report, L: Labeller>(
 
 // The fault of the file with this name where its messages can't be had.
 fn fault_of_messages(file: &str, fault: ReadFault) -> RunFault<'_>
+    requires { IsFirstAnswer fault }
     ensures { IsFaultOfReading file.entry fault result }
 {
     match fault.kind {
