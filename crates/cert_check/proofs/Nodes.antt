@@ -1,5 +1,5 @@
 -- The fault of a node by those of its halves.
-use Rattle.std.proofs.Common.{◌≡◌, ℕ, zero, suc, ◌+◌, ◌-◌, ◌*◌, ◌^◌, List, Option, Some, None, min, option_map, refl, sym, ap, ◌∙◌, subst, arith}
+use Rattle.std.proofs.Common.{◌≡◌, ℕ, zero, suc, ◌+◌, ◌-◌, ◌*◌, ◌^◌, ◌<◌, List, [], ◌∷◌, length, Option, Some, None, min, option_map, refl, sym, ap, ◌∙◌, subst, arith}
 use Rattle.std.specs.Option.{option_or}
 use Rattle.std.proofs.lemmas.Bool.Decides.{nat_tests}
 use Rattle.prefix_keys.specs.Block.{block_number}
@@ -14,12 +14,12 @@ use Rattle.pmap_cert.specs.CertificateForm.{IsRising}
 use Rattle.pmap_cert.specs.CertificateModel.{Tree, claim_of}
 use Rattle.pmap_cert.specs.ExactPair.{exact_pair}
 use Rattle.pmap_text.specs.ListModel.{Prefix}
-use Rattle.pmap_cert.specs.Node.{HasNumberForm, tree_of}
-use Rattle.pmap_cert.specs.declared.node.Node.{Node}
-use Rattle.pmap_cert.specs.declared.node.Node.TheVariants.{Inner', Leaf}
+use Rattle.pmap_cert.specs.Node.{HasNumberForm, Inner, Leaf, Node, behind, first_node, from_next_line, label_of, set_of, tree_of}
+use Rattle.std.proofs.lemmas.Option.{none-some}
+use Rattle.std.specs.Option.{unwrap_or}
 use Rattle.cert_check.specs.Carrying.{carried_to, entries_carried_to, number_of}
 use Rattle.cert_check.specs.Checking.{claim_fault, fault_at, node_count, node_fault, told}
-use Rattle.cert_check.specs.Sources.{AreEntriesOf, AreStatementsOf, HasRoom, map_with, prefixes_with, set_of}
+use Rattle.cert_check.specs.Sources.{AreEntriesOf, AreStatementsOf, HasRoom, map_with, prefixes_with}
 use Rattle.cert_check.specs.declared.fault.CheckFault.{CheckFault}
 use Rattle.cert_check.specs.declared.fault.CheckFaultKind.{CheckFaultKind}
 use Rattle.cert_check.proofs.Parts.{entries-part, fault-carried, statements-part}
@@ -41,13 +41,13 @@ or-neither a b e f = ap (λ o. option_or o b) e ∙ f
 -- the form of a node
 pub room-of : (table : List Label) (node : Node) (count room : ℕ) → HasNumberForm count node room → HasRoom (tree_of table node) room
 room-of table (Leaf id) count room h = tt
-room-of table (Inner' cost set p left q right) count zero h = absurd h
-room-of table (Inner' cost set p left q right) count (suc room) h = (room-of table left count room h.2, room-of table right count room h.3)
+room-of table (Inner cost set left right) count zero h = absurd h
+room-of table (Inner cost set left right) count (suc room) h = (room-of table left count room h.2, room-of table right count room h.3)
 
 pub rising-of : (node : Node) (count room : ℕ) → HasNumberForm count node room → IsRising count 0 (set_of node)
 rising-of (Leaf id) count room h = (omega arith, h, tt)
-rising-of (Inner' cost set p left q right) count zero h = absurd h
-rising-of (Inner' cost set p left q right) count (suc room) h = h.1
+rising-of (Inner cost set left right) count zero h = absurd h
+rising-of (Inner cost set left right) count (suc room) h = h.1
 
 -- a half of a block, and what is carried to it
 module _ (m : MapText) (l : PrefixList) (ss : List Statement) (es : List Entry) (block half : Block) (q : ℕ)
@@ -82,7 +82,7 @@ module _ (m : MapText) (l : PrefixList) (ss : List Statement) (es : List Entry) 
 -- an inner node with the nodes of its halves
 abbrev pub IsInner : Node → Node → Node → Type 0
 IsInner (Leaf id) left right = ⊥
-IsInner (Inner' cost set p l q r) left right = (l ≡ left) × (r ≡ right)
+IsInner (Inner cost set l r) left right = (l ≡ left) × (r ≡ right)
 
 -- its fault by those of its nodes and its own
 pub inner-fault : (labels : List Label) (m : MapModel) (ps : List Prefix) (node left right : Node) → IsInner node left right → (k n q : ℕ)
@@ -91,21 +91,21 @@ pub inner-fault : (labels : List Label) (m : MapModel) (ps : List Prefix) (node 
     (option_or (node_fault m ps (tree_of labels right) (k + 1 + node_count (tree_of labels left)) (suc n) (2 * q + 1))
     (option_map (fault_at k) (claim_fault (claim_of (tree_of labels node)) (exact_pair (claim_of (tree_of labels left)) (claim_of (tree_of labels right))))))
 inner-fault labels m ps (Leaf id) left right h k n q = absurd h
-inner-fault labels m ps (Inner' cost set p l s r) left right h k n q =
+inner-fault labels m ps (Inner cost set l r) left right h k n q =
     λ i. option_or (node_fault m ps (tree_of labels (h.0 i)) (k + 1) (suc n) (2 * q))
     (option_or (node_fault m ps (tree_of labels (h.1 i)) (k + 1 + node_count (tree_of labels (h.0 i))) (suc n) (2 * q + 1))
-    (option_map (fault_at k) (claim_fault (claim_of (tree_of labels (Inner' cost set p l s r))) (exact_pair (claim_of (tree_of labels (h.0 i))) (claim_of (tree_of labels (h.1 i)))))))
+    (option_map (fault_at k) (claim_fault (claim_of (tree_of labels (Inner cost set l r))) (exact_pair (claim_of (tree_of labels (h.0 i))) (claim_of (tree_of labels (h.1 i)))))))
 
 pub inner-count : (labels : List Label) (node left right : Node) → IsInner node left right
     → node_count (tree_of labels node) ≡ 1 + node_count (tree_of labels left) + node_count (tree_of labels right)
 inner-count labels (Leaf id) left right h = absurd h
-inner-count labels (Inner' cost set p l s r) left right h = λ i. 1 + node_count (tree_of labels (h.0 i)) + node_count (tree_of labels (h.1 i))
+inner-count labels (Inner cost set l r) left right h = λ i. 1 + node_count (tree_of labels (h.0 i)) + node_count (tree_of labels (h.1 i))
 
 pub inner-form : (count room : ℕ) (node left right : Node) → IsInner node left right → HasNumberForm count node room
     → (less : ℕ) × (room ≡ suc less) × HasNumberForm count left less × HasNumberForm count right less
 inner-form count room (Leaf id) left right h form = absurd h
-inner-form count zero (Inner' cost set p l s r) left right h form = absurd form
-inner-form count (suc room) (Inner' cost set p l s r) left right h form =
+inner-form count zero (Inner cost set l r) left right h form = absurd form
+inner-form count (suc room) (Inner cost set l r) left right h form =
     (room, refl, subst (λ (x : Node). HasNumberForm count x room) h.0 form.2, subst (λ (x : Node). HasNumberForm count x room) h.1 form.3)
 
 -- a fault of the lower node, of the upper, of its own, and none
@@ -178,3 +178,26 @@ passed-on m l ss es block half q ss' es' h labels count less node' node same roo
 -- a fault with the node's number as it is told
 pub at-number : (k number : ℕ) (kind : CheckFaultKind) → told k ≡ number → option_map (fault_at k) (Some kind) ≡ Some (record { kind = kind; node = number })
 at-number k number kind is = λ i. Some (record { kind = kind; node = is i })
+
+-- a place of an inner node, and those of its halves: the lower half's is that of the next line, and behind its nodes comes the
+-- upper half
+pub record HasHalves (nodes : List Node) : Type 0 where
+  pub left : Node
+  pub right : Node
+  pub inner : IsInner (first_node nodes) left right
+  pub below : from_next_line nodes ≡ left ∷ right ∷ behind nodes
+
+pub half-nodes : (nodes : List Node) → 0 < length nodes → label_of (first_node nodes) ≡ None → HasHalves nodes
+half-nodes [] some none = absurd (omega arith)
+half-nodes (Leaf number ∷ nodes) some none = absurd (none-some number (sym none))
+half-nodes (Inner cost set left right ∷ nodes) some none = record { left = left; right = right; inner = (refl, refl); below = refl }
+
+-- a place of a leaf
+pub leaf-node : (node : Node) (n : ℕ) → label_of node ≡ Some n → node ≡ Leaf n
+leaf-node (Leaf number) n is = ap Leaf (ap (λ (o : Option ℕ). unwrap_or o 0) is)
+leaf-node (Inner cost set left right) n is = absurd (none-some n is)
+
+pub leaf-next : (nodes : List Node) (n : ℕ) → label_of (first_node nodes) ≡ Some n → from_next_line nodes ≡ behind nodes
+leaf-next [] n is = refl
+leaf-next (Leaf number ∷ nodes) n is = refl
+leaf-next (Inner cost set left right ∷ nodes) n is = absurd (none-some n is)

@@ -14,14 +14,12 @@ use Rattle.pmap_text.specs.MapText.{text_at}
 use Rattle.pmap_text.specs.declared.label.LabelId.{LabelId}
 use Rattle.pmap_cert.specs.CertificateForm.{IsRising}
 use Rattle.pmap_cert.specs.CertificateModel.{Pair, claim_of, has}
-use Rattle.pmap_cert.specs.Node.{tree_of}
-use Rattle.pmap_cert.specs.declared.node.Node.{Node}
-use Rattle.pmap_cert.specs.declared.node.Node.TheVariants.{Inner', Leaf}
+use Rattle.pmap_cert.specs.Node.{Inner, Leaf, Node, cost_of, set_of, tree_of}
 use Rattle.pmap_cert.specs.CertificateText.{place_of}
 use Rattle.pmap_cert.specs.ExactPair.{exact_pair, exact_pair_by}
 use Rattle.pmap_cert.proofs.Tables.{place_of-text_at}
 use Rattle.cert_check.specs.Checking.{claim_fault}
-use Rattle.cert_check.specs.Sources.{cost_of, has_number, set_of}
+use Rattle.cert_check.specs.Sources.{has_number}
 use Rattle.cert_check.specs.declared.fault.CheckFaultKind.{CheckFaultKind}
 use Rattle.cert_check.specs.declared.fault.CheckFaultKind.TheVariants.{CostTooHigh, SetTooSmall}
 
@@ -251,7 +249,7 @@ both-rising lower upper both e h =
 -- a node's claim by its numbers
 pub claim-numbers : (table : List Label) (node : Node) → claim_of (tree_of table node) ≡ pair_of table (cost_of node) (set_of node)
 claim-numbers table (Leaf id) = refl
-claim-numbers table (Inner' cost set p left q right) = refl
+claim-numbers table (Inner cost set left right) = refl
 
 -- a test of all labels of a set by their numbers
 all-numbers : (set ids : List LabelId) (ns ms : List ℕ) → numbers set ≡ ns → numbers ids ≡ ms → list_all (λ i. has_number (numbers set) i.0) ids ≡ list_all (has_number ns) ms

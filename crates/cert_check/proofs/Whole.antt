@@ -14,8 +14,7 @@ use Rattle.pmap_text.specs.declared.map_text.MapText.{MapText}
 use Rattle.pmap_text.specs.declared.prefix_list.PrefixList.{PrefixList}
 use Rattle.pmap_text.specs.declared.statement.Statement.{Statement}
 use Rattle.pmap_cert.specs.CertificateModel.{Tree}
-use Rattle.pmap_cert.specs.Node.{HasNumberForm, tree_of}
-use Rattle.pmap_cert.specs.declared.node.Node.{Node}
+use Rattle.pmap_cert.specs.Node.{HasNumberForm, Node, tree_of}
 use Rattle.cert_check.specs.Carrying.{number_of}
 use Rattle.cert_check.specs.Checking.{node_fault}
 use Rattle.cert_check.specs.Sources.{AreEntriesOf, AreStatementsOf, HasRoom, map_with, prefixes_with}

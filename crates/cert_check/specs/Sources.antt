@@ -17,8 +17,6 @@ use Rattle.pmap_text.specs.declared.prefix_list.PrefixList.{PrefixList}
 use Rattle.pmap_text.specs.declared.statement.Statement.{Statement}
 use Rattle.pmap_cert.specs.CertificateForm.{HasRoomBelow}
 use Rattle.pmap_cert.specs.CertificateModel.{ChainNode, InnerNode, LeafNode, Tree}
-use Rattle.pmap_cert.specs.declared.node.Node.{Node}
-use Rattle.pmap_cert.specs.declared.node.Node.TheVariants.{Inner', Leaf}
 use Rattle.cert_check.specs.Carrying.{number_of}
 use Rattle.cert_check.specs.Versions.{is_same_version}
 
@@ -93,15 +91,6 @@ pub record AreEntriesOf (l : PrefixList) (es : List Entry) : Type 0 where
 pub record AreNumbers (numbers : List (Option LabelId)) (from to : List Label) : Type 0 where
   pub each : map (option_map (λ id. id.0)) numbers ≡ map (number_of_label to) from
   pub table : IsLabelTable to
-
--- the cost that a node claims, and the numbers of its set
-abbrev pub cost_of : Node → ℕ
-cost_of (Leaf id) = 0
-cost_of (Inner' cost set p left q right) = cost
-
-abbrev pub set_of : Node → List ℕ
-set_of (Leaf id) = id.0 ∷ []
-set_of (Inner' cost set p left q right) = set
 
 -- the set has the number
 abbrev pub has_number : List ℕ → ℕ → Bool

@@ -1,34 +1,34 @@
 //! The check of a certificate: its nodes, and the whole.
-ghost use Rattle.std.specs.Prelude.{◌≡◌, ◌≢◌, ℕ, ◌+◌, ◌-◌, ◌≤◌, Some, None, drop, length, take, IfErr, IfOk, OnOk};
+ghost use Rattle.std.specs.Prelude.{◌≡◌, ◌≢◌, ℕ, ◌+◌, ◌-◌, ◌<◌, ◌≤◌, Some, None, drop, length, take, IfErr, IfOk, OnOk};
 ghost use Rattle.prefix_keys.specs.Version.{width_of};
 ghost use Rattle.pmap_text.specs.ListModel.{IsEquivalent};
 ghost use Rattle.pmap_text.specs.MapText.{map_of};
 ghost use Rattle.pmap_text.specs.PrefixList.{list_of};
 ghost use Rattle.pmap_cert.specs.Acceptance.{IsAccepted, IsLeast};
 ghost use Rattle.pmap_cert.specs.Certificate.{certificate_of};
-ghost use Rattle.pmap_cert.specs.Node.{HasNumberForm, tree_of};
+ghost use Rattle.pmap_cert.specs.Node.{HasNumberForm, behind, first_node, tree_of};
 ghost use Rattle.cert_check.specs.Carrying.{number_of};
 ghost use Rattle.cert_check.specs.Checking.{first_fault, node_count, node_fault, told};
 ghost use Rattle.cert_check.specs.Kept.{AreSources};
 ghost use Rattle.cert_check.specs.Sources.{AreEntriesOf, AreStatementsOf, map_with, named, prefixes_with};
 ghost use Rattle.cert_check.specs.declared.fault.CheckFaultKind.TheVariants.{NoMemory};
 
-use crate::claims::{claim_fault, cost_of};
+use crate::claims::claim_fault;
 use crate::fault::{CheckFault, CheckFaultKind};
 use crate::labels::numbers_in;
 use crate::laws::no_fault_is_acceptance;
 use crate::leaves::leaf_fault;
 use crate::part_stack::{PartStack, PartStart, divide};
 use crate::sources::Sources;
-use pmap_cert::{Certificate, Node, acceptance_is_enough};
+use pmap_cert::{Certificate, Cursor, acceptance_is_enough};
 use pmap_text::{MapText, PrefixList};
 use prefix_keys::{Block, whole_space};
 use std::alloc::{AllocError, Global};
 
 // A node of the certificate with its number and the block that it stands for.
-#[derive(Clone, Copy)]
+#[derive(Drop)]
 struct Place<'a> {
-    node: &'a Node,
+    node: Cursor<'a>,
     block: Block,
     number: u64,
 }
@@ -36,24 +36,25 @@ struct Place<'a> {
 // Checks the node and those below it, where the last part of `own`, which begins at `start`, has a say in its block.
 // That part is let go, and `lower` and `upper` take those of the halves for a while. So of the parts on the way down
 // only those of the upper halves to come lie at once, and of these no two have one statement's end. The answer is the
-// number of the node that comes next.
-fn check_node<'a>(
+// node that comes next, and its number.
+fn check_node<'a, 'b>(
     sources: &Sources,
     own: &mut PartStack<'a>,
     start: PartStart,
     lower: &mut PartStack<'a>,
     upper: &mut PartStack<'a>,
-    place: Place,
-) -> Result<u64, CheckFault>
+    place: &Place<'b>,
+) -> Result<(Cursor<'b>, u64), CheckFault>
     requires sources { AreSources sources.now }
     requires statements { start.statements ≤ length (named own.old.statements.items) }
     requires entries { start.entries ≤ length (named own.old.entries.items) }
     requires statements_part { AreStatementsOf sources.now.map.now
         (drop start.statements (named own.old.statements.items)) }
     requires entries_part { AreEntriesOf sources.now.list.now (drop start.entries (named own.old.entries.items)) }
-    requires version { place.block.version ≡ sources.now.map.now.version }
-    requires form { HasNumberForm (length sources.now.certificate.now.labels) place.node.now
-        (width_of place.block.version - place.block.len) }
+    requires version { place.now.block.version ≡ sources.now.map.now.version }
+    requires here { 0 < length place.now.node }
+    requires form { HasNumberForm (length sources.now.certificate.now.labels) (first_node place.now.node)
+        (width_of place.now.block.version - place.now.block.len) }
     ensures own_statements { OnOk result (named own.new.statements.items
         ≡ take start.statements (named own.old.statements.items)) }
     ensures own_entries { OnOk result (named own.new.entries.items ≡ take start.entries (named own.old.entries.items)) }
@@ -61,67 +62,58 @@ fn check_node<'a>(
     ensures lower_entries { OnOk result (named lower.new.entries.items ≡ named lower.old.entries.items) }
     ensures upper_statements { OnOk result (named upper.new.statements.items ≡ named upper.old.statements.items) }
     ensures upper_entries { OnOk result (named upper.new.entries.items ≡ named upper.old.entries.items) }
-    ensures ok { IfOk result (λ next. (k : ℕ) → told k ≡ place.entry.number →
-        (next ≡ told (k + node_count (tree_of sources.now.certificate.now.labels place.entry.node.now)))
+    ensures behind { IfOk result (λ next. next.0 ≡ behind place.now.node) }
+    ensures ok { IfOk result (λ next. (k : ℕ) → told k ≡ place.now.number →
+        (next.1 ≡ told (k + node_count (tree_of sources.now.certificate.now.labels (first_node place.now.node))))
         × (node_fault (map_with sources.now.map.now (drop start.statements (named own.old.statements.items)))
         (prefixes_with sources.now.list.now (drop start.entries (named own.old.entries.items)))
-        (tree_of sources.now.certificate.now.labels place.entry.node.now) k place.entry.block.len
-        (number_of place.entry.block) ≡ None)) }
-    ensures err { IfErr result (λ fault. fault.kind ≢ NoMemory → (k : ℕ) → told k ≡ place.entry.number →
+        (tree_of sources.now.certificate.now.labels (first_node place.now.node)) k place.now.block.len
+        (number_of place.now.block) ≡ None)) }
+    ensures err { IfErr result (λ fault. fault.kind ≢ NoMemory → (k : ℕ) → told k ≡ place.now.number →
         node_fault (map_with sources.now.map.now (drop start.statements (named own.old.statements.items)))
         (prefixes_with sources.now.list.now (drop start.entries (named own.old.entries.items)))
-        (tree_of sources.now.certificate.now.labels place.entry.node.now) k place.entry.block.len
-        (number_of place.entry.block) ≡ Some fault) }
+        (tree_of sources.now.certificate.now.labels (first_node place.now.node)) k place.now.block.len
+        (number_of place.now.block) ≡ Some fault) }
     ensures memory { IfErr result (λ fault. fault.kind ≡ NoMemory → fault.node ≡ 0) }
 {
-    match place.node {
-        Node::Leaf(id) => {
-            let fault = leaf_fault(sources, own.last(start), &place.block, *id);
+    let next = place.node.next();
+    let number = place.number.saturating_add(1);
+    match place.node.label() {
+        Some(id) => {
+            let fault = leaf_fault(sources, own.last(start), &place.block, id);
             own.cut(start);
             match fault {
                 Some(kind) => Err(CheckFault {
                     kind,
                     node: place.number,
                 }),
-                None => Ok(place.number.saturating_add(1)),
+                None => Ok((next, number)),
             }
         }
-        Node::Inner { left, right, .. } => {
+        None => {
             let Some((low, high)) = place.block.halves() else {
                 unreachable!()
             };
             let (low_start, high_start) = divide(own, start, lower, upper, &low, &high)?;
-            let next = place.number.saturating_add(1);
-            let next = check_node(
-                sources,
-                lower,
-                low_start,
-                own,
-                upper,
-                Place {
-                    node: left,
-                    block: low,
-                    number: next,
-                },
-            )?;
-            let next = check_node(
-                sources,
-                upper,
-                high_start,
-                own,
-                lower,
-                Place {
-                    node: right,
-                    block: high,
-                    number: next,
-                },
-            )?;
-            match claim_fault(&sources.certificate.labels, place.node, left, right) {
+            let low_place = Place {
+                node: next,
+                block: low,
+                number,
+            };
+            let (next, number) = check_node(sources, lower, low_start, own, upper, &low_place)?;
+            let high_place = Place {
+                node: next,
+                block: high,
+                number,
+            };
+            let (next, number) = check_node(sources, upper, high_start, own, lower, &high_place)?;
+            let labels = &sources.certificate.labels;
+            match claim_fault(labels, &place.node, &low_place.node, &high_place.node) {
                 Some(kind) => Err(CheckFault {
                     kind,
                     node: place.number,
                 }),
-                None => Ok(next),
+                None => Ok((next, number)),
             }
         }
     }
@@ -164,7 +156,7 @@ fn check_nodes(
         block: whole,
         number: 1,
     };
-    check_node(&sources, &mut own, start, &mut lower, &mut upper, place)?;
+    check_node(&sources, &mut own, start, &mut lower, &mut upper, &place)?;
     Ok(())
 }
 
@@ -195,7 +187,7 @@ fn count_entries(
     check_nodes(alloc, map, list, certificate)?;
     let count = list.entries.len() as u64;
     let root = certificate.root();
-    if count > cost_of(root) + 1 {
+    if count > u64::from(root.cost()) + 1 {
         return Err(whole_fault(CheckFaultKind::BoundNotMet));
     }
     Ok(count)

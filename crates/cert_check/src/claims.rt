@@ -7,36 +7,14 @@ ghost use Rattle.pmap_text.specs.MapText.{text_at};
 ghost use Rattle.pmap_cert.specs.CertificateForm.{IsRising};
 ghost use Rattle.pmap_cert.specs.CertificateModel.{claim_of};
 ghost use Rattle.pmap_cert.specs.ExactPair.{exact_pair};
-ghost use Rattle.pmap_cert.specs.Node.{HasNumberForm, tree_of};
+ghost use Rattle.pmap_cert.specs.Node.{HasNumberForm, cost_of, first_node, set_of, tree_of};
 ghost use Rattle.cert_check.specs.Checking.{claim_fault as claim_fault_of};
 ghost use Rattle.cert_check.specs.declared.fault.CheckFaultKind.TheVariants.{CostTooHigh, SetTooSmall};
-ghost use Rattle.cert_check.specs.Sources.{cost_of as cost_of_node, has_number, set_of as set_of_node};
+ghost use Rattle.cert_check.specs.Sources.{has_number};
 
 use crate::fault::CheckFaultKind;
-use pmap_cert::Node;
+use pmap_cert::Cursor;
 use pmap_text::{LabelId, Labels};
-use std::slice;
-
-/// What the node claims to cost.
-pub fn cost_of(node: &Node) -> u64
-    ensures value { result ≡ cost_of_node node.now }
-    ensures fits { result < 2 ^ 32 }
-{
-    match node {
-        Node::Leaf(_) => 0,
-        Node::Inner { cost, .. } => u64::from(*cost),
-    }
-}
-
-// The set that the node claims.
-fn set_of(node: &Node) -> &[LabelId]
-    ensures { map (λ id. id.0) result.now ≡ set_of_node node.now }
-{
-    match node {
-        Node::Leaf(id) => slice::from_ref(id),
-        Node::Inner { set, .. } => set.as_slice(),
-    }
-}
 
 // What is left of the set from the number on.
 fn rest_from<'a>(set: &'a [LabelId], id: LabelId) -> &'a [LabelId]
@@ -130,11 +108,13 @@ fn has_both(set: &[LabelId], lower: &[LabelId], upper: &[LabelId]) -> bool
 }
 
 // What the nodes of both halves claim to cost together.
-fn cost_below(left: &Node, right: &Node) -> u64
-    ensures value { result ≡ cost_of_node left.now + cost_of_node right.now }
+fn cost_below(left: &Cursor, right: &Cursor) -> u64
+    requires left { 0 < length left.now }
+    requires right { 0 < length right.now }
+    ensures value { result ≡ cost_of (first_node left.now) + cost_of (first_node right.now) }
     ensures fits { result < 2 ^ 33 }
 {
-    cost_of(left) + cost_of(right)
+    u64::from(left.cost()) + u64::from(right.cost())
 }
 
 // What is wrong with the claim of a cost and a set, by the exact pair of the nodes below it.
@@ -154,22 +134,25 @@ fn fault_by(cost: u64, exact_cost: u64, has_exact_set: bool) -> Option<CheckFaul
 /// What is wrong with the claim of an inner node, by the claims of the nodes of its halves.
 pub fn claim_fault(
     labels: &Labels,
-    claim: &Node,
-    left: &Node,
-    right: &Node,
+    claim: &Cursor,
+    left: &Cursor,
+    right: &Cursor,
 ) -> Option<CheckFaultKind>
-    requires claim { IsRising (length labels.now) 0 (set_of_node claim.now) }
-    requires left { IsRising (length labels.now) 0 (set_of_node left.now) }
-    requires right { IsRising (length labels.now) 0 (set_of_node right.now) }
-    ensures { result ≡ claim_fault_of (claim_of (tree_of labels.now claim.now))
-        (exact_pair (claim_of (tree_of labels.now left.now)) (claim_of (tree_of labels.now right.now))) }
+    requires here { 0 < length claim.now }
+    requires below { (0 < length left.now) × (0 < length right.now) }
+    requires claim { IsRising (length labels.now) 0 (set_of (first_node claim.now)) }
+    requires left { IsRising (length labels.now) 0 (set_of (first_node left.now)) }
+    requires right { IsRising (length labels.now) 0 (set_of (first_node right.now)) }
+    ensures { result ≡ claim_fault_of (claim_of (tree_of labels.now (first_node claim.now)))
+        (exact_pair (claim_of (tree_of labels.now (first_node left.now)))
+        (claim_of (tree_of labels.now (first_node right.now)))) }
 {
     // For its law: a table has at most 65536 labels.
     let _count = labels.len();
-    let cost = cost_of(claim);
-    let set = set_of(claim);
-    let lower = set_of(left);
-    let upper = set_of(right);
+    let cost = u64::from(claim.cost());
+    let set = claim.set();
+    let lower = left.set();
+    let upper = right.set();
     let below = cost_below(left, right);
     if are_apart(lower, upper) {
         fault_by(cost, below + 1, has_both(set, lower, upper))

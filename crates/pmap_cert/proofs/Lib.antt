@@ -19,6 +19,8 @@ pub mod TreesAgain
 pub mod Headers
 pub mod Whole
 pub mod SetWords
+pub mod PackedLines
+pub mod NodeWalk
 pub mod ReadingSteps
 pub mod Written
 pub mod Equal

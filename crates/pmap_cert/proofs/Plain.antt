@@ -4,9 +4,7 @@ use Rattle.pmap_text.specs.MapModel.{Label, MapModel}
 use Rattle.pmap_cert.specs.CertificateModel.{ChainNode, InnerNode, LeafNode, Tree}
 use Rattle.pmap_cert.specs.Chain.{IsPlain}
 use Rattle.pmap_cert.specs.MinimalPair.{StandsFor}
-use Rattle.pmap_cert.specs.Node.{tree_of}
-use Rattle.pmap_cert.specs.declared.node.Node.{Node}
-use Rattle.pmap_cert.specs.declared.node.Node.TheVariants.{Inner', Leaf}
+use Rattle.pmap_cert.specs.Node.{Inner, Leaf, Node, tree_of}
 
 -- a node that stands for a block has no chain
 pub plain-stands : (m : MapModel) (t : Tree) (n q : ℕ) → StandsFor m t n q → IsPlain t
@@ -17,5 +15,5 @@ plain-stands m (ChainNode claim bits side end) n q h = absurd h
 
 -- the code keeps no chains
 pub plain-tree_of : (table : List Label) (node : Node) → IsPlain (tree_of table node)
-plain-tree_of table (Leaf id) = tt
-plain-tree_of table (Inner' cost set p left q right) = (plain-tree_of table left, plain-tree_of table right)
+plain-tree_of table (Leaf number) = tt
+plain-tree_of table (Inner cost set lower upper) = (plain-tree_of table lower, plain-tree_of table upper)

@@ -1,13 +1,15 @@
 -- Reading one after the other, as the code does.
-use Rattle.std.proofs.Common.{◌≡◌, ℕ, zero, suc, ◌+◌, ◌-◌, ◌^◌, ◌<◌, ◌≤◌, ◌∙◌, List, [], ◌∷◌, ◌++◌, Result, Ok, Err, length, map, sym, ap, arith}
+use Rattle.std.proofs.Common.{◌≡◌, ℕ, zero, suc, ◌+◌, ◌-◌, ◌^◌, ◌<◌, ◌≤◌, ◌∙◌, List, [], ◌∷◌, ◌++◌, Result, Ok, Err, length, map, sym, ap, subst, arith}
 use Rattle.pmap_text.specs.MapModel.{Label}
 use Rattle.pmap_text.specs.MapText.{text_at}
-use Rattle.std.proofs.lemmas.List.{length_push}
+use Rattle.std.proofs.lemmas.List.{append_assoc, length_push}
 use Rattle.pmap_cert.specs.CertificateForm.{IsRising}
 use Rattle.pmap_cert.specs.CertificateModel.{InnerNode, LeafNode, Pair, Tree}
 use Rattle.pmap_cert.specs.CertificateReading.{◌>>=◌, InnerLine, LeafLine, NodeLine, Place, due_at, fault_at, label_at, labels_at, node_at, node_by}
 use Rattle.pmap_cert.specs.declared.fault.CertFault.{CertFault}
 use Rattle.pmap_cert.specs.declared.fault.CertFaultKind.TheVariants.{TooDeep}
+use Rattle.pmap_cert.specs.Node.{HasNumberForm, Inner, Leaf, Node, lines_of, tree_of}
+use Rattle.pmap_cert.specs.ReadNodes.{IsReadNode}
 use Rattle.pmap_cert.proofs.Trees.{due_at-found}
 
 -- labels
@@ -90,3 +92,39 @@ module _ (table : List Label) (place after : Place) (cost : ℕ) (numbers : List
   -- the cost and the numbers that the line says
   pub inner_form : (cost < 2 ^ 32) × IsRising (length table) 0 numbers
   inner_form = let found = due_at-found (length table) place (InnerLine cost numbers, after) due in (found.2.1, found.2.2)
+
+-- the number that the line of a leaf says
+pub leaf_form : (table : List Label) (place after : Place) (number : ℕ) → due_at (length table) place ≡ Ok (LeafLine number, after) → number < length table
+leaf_form table place after number due = (due_at-found (length table) place (LeafLine number, after) due).2.1
+
+-- a node and its lines behind the old ones
+pub read-leaf : (table : List Label) (room : ℕ) (place after : Place) (number : ℕ) (old new : List NodeLine) → due_at (length table) place ≡ Ok (LeafLine number, after)
+    → new ≡ old ++ LeafLine number ∷ [] → IsReadNode table room place old new after
+read-leaf table room place after number old new due is = record {
+  node = Leaf number;
+  read = node_at-leaf table room place after number due;
+  form = leaf_form table place after number due;
+  lines = is;
+}
+
+pub read-inner : (table : List Label) (room : ℕ) (place after middle end : Place) (cost : ℕ) (numbers : List ℕ) (old first second third : List NodeLine)
+    → due_at (length table) place ≡ Ok (InnerLine cost numbers, after) → 0 < room → first ≡ old ++ InnerLine cost numbers ∷ []
+    → IsReadNode table (room - 1) after first second middle → IsReadNode table (room - 1) middle second third end → IsReadNode table room place old third end
+read-inner table room place after middle end cost numbers old first second third due some is low up = record {
+  node = node;
+  read = node_at-inner table place after cost numbers due room some (tree_of table low.node) middle low.read (tree_of table up.node) end up.read;
+  form = subst (HasNumberForm (length table) node) more (says.0, says.1, low.form, up.form);
+  lines =
+      up.lines ∙ ap (λ (ls : List NodeLine). ls ++ lines_of up.node) (low.lines ∙ ap (λ (ls : List NodeLine). ls ++ lines_of low.node) is)
+      ∙ append_assoc (old ++ InnerLine cost numbers ∷ []) (lines_of low.node) (lines_of up.node)
+      ∙ append_assoc old (InnerLine cost numbers ∷ []) (lines_of low.node ++ lines_of up.node);
+}
+  where
+    node : Node
+    node = Inner cost numbers low.node up.node
+
+    says : (cost < 2 ^ 32) × IsRising (length table) 0 numbers
+    says = inner_form table place after cost numbers due
+
+    more : suc (room - 1) ≡ room
+    more = omega arith

@@ -1,8 +1,8 @@
 -- What is written of a node by its numbers is the text of the tree that it is.
-use Rattle.std.proofs.Common.{◌≡◌, ℕ, zero, suc, ◌+◌, ◌<◌, ◌∙◌, List, [], ◌∷◌, ◌++◌, Some, length, map, take, sym, ap, subst}
+use Rattle.std.proofs.Common.{◌≡◌, ℕ, zero, suc, ◌+◌, ◌<◌, ◌∙◌, List, [], ◌∷◌, ◌++◌, Some, length, map, take, get_or, sym, ap, subst}
 use Rattle.std.specs.Fmt.{decimal}
 use Rattle.std.specs.List.{flat_map, join_with_byte, slice_get}
-use Rattle.std.proofs.lemmas.List.{append-nil, append_assoc, take_more}
+use Rattle.std.proofs.lemmas.List.{append-nil, append_assoc, map-append, take_more}
 use Rattle.std.proofs.lemmas.List.Concat.{flat_map-append}
 use Rattle.std.proofs.lemmas.Option.{get_or_from_slice_get, slice_get_within}
 use Rattle.prefix_keys.specs.Version.{width_of}
@@ -11,10 +11,9 @@ use Rattle.pmap_text.specs.MapModel.{Label}
 use Rattle.pmap_cert.specs.Certificate.{certificate_of}
 use Rattle.pmap_cert.specs.CertificateForm.{HasNodeForm, IsRising}
 use Rattle.pmap_cert.specs.CertificateText.{certificate_text, header_line, inner_line, leaf_line, node_lines, text_of_lines}
-use Rattle.pmap_cert.specs.Node.{HasNumberForm, number_lines, tree_of}
+use Rattle.pmap_cert.specs.CertificateReading.{NodeLine}
+use Rattle.pmap_cert.specs.Node.{HasNumberForm, Inner, Leaf, Node, line_text, lines_of, tree_of}
 use Rattle.pmap_cert.specs.declared.certificate.Certificate.{Certificate}
-use Rattle.pmap_cert.specs.declared.node.Node.{Node}
-use Rattle.pmap_cert.specs.declared.node.Node.TheVariants.{Inner', Leaf}
 use Rattle.pmap_cert.proofs.Tables.{place_of-text_at, places-texts}
 
 -- numbers behind a word, each with the space before it
@@ -27,20 +26,21 @@ pub text_of_lines-append : (lines more : List (List ℕ)) → text_of_lines (lin
 text_of_lines-append lines more = flat_map-append (λ line. line ++ 10 ∷ []) lines more
 
 module _ (table : List Label) (ok : IsLabelTable table) where
-  pub number_lines-tree : (node : Node) (room : ℕ) → HasNumberForm (length table) node room → number_lines node ≡ node_lines table (tree_of table node)
-  number_lines-tree (Leaf id) room form = ap (λ (n : ℕ). leaf_line n ∷ []) (sym (place_of-text_at table id.0 ok form))
-  number_lines-tree (Inner' cost set p left q right) zero form = absurd form
-  number_lines-tree (Inner' cost set p left q right) (suc room) form =
-      λ i. ap (inner_line cost) (sym (places-texts table 0 set ok form.1)) i ∷ (number_lines-tree left room form.2 i ++ number_lines-tree right room form.3 i)
+  pub line_texts-tree : (node : Node) (room : ℕ) → HasNumberForm (length table) node room → map line_text (lines_of node) ≡ node_lines table (tree_of table node)
+  line_texts-tree (Leaf number) room form = ap (λ (n : ℕ). leaf_line n ∷ []) (sym (place_of-text_at table number ok form))
+  line_texts-tree (Inner cost set lower upper) zero form = absurd form
+  line_texts-tree (Inner cost set lower upper) (suc room) form =
+      ap (λ (lines : List (List ℕ)). inner_line cost set ∷ lines) (map-append line_text (lines_of lower) (lines_of upper))
+      ∙ (λ i. ap (inner_line cost) (sym (places-texts table 0 set ok form.1)) i ∷ (line_texts-tree lower room form.2 i ++ line_texts-tree upper room form.3 i))
 
   pub node_form : (node : Node) (room : ℕ) → HasNumberForm (length table) node room → HasNodeForm table (tree_of table node) room
-  node_form (Leaf id) room form = subst (λ (n : ℕ). n < length table) (sym (place_of-text_at table id.0 ok form)) form
-  node_form (Inner' cost set p left q right) zero form = absurd form
-  node_form (Inner' cost set p left q right) (suc room) form = (
+  node_form (Leaf number) room form = subst (λ (n : ℕ). n < length table) (sym (place_of-text_at table number ok form)) form
+  node_form (Inner cost set lower upper) zero form = absurd form
+  node_form (Inner cost set lower upper) (suc room) form = (
     form.0,
     subst (IsRising (length table) 0) (sym (places-texts table 0 set ok form.1)) form.1,
-    node_form left room form.2,
-    node_form right room form.3,
+    node_form lower room form.2,
+    node_form upper room form.3,
   )
 
 -- four pieces are appended one after the other
@@ -60,17 +60,29 @@ pushed-label out o o1 o2 table i x e e1 e2 there =
     e2 ∙ ap (λ t. t ++ 10 ∷ []) (e1 ∙ ap (λ t. t ++ x) e) ∙ append_assoc (out ++ text_of_lines lines) x (10 ∷ [])
     ∙ append_assoc out (text_of_lines lines) (x ++ 10 ∷ []) ∙ ap (λ t. out ++ t) (sym last)
 
+-- one more line of the nodes
+pub pushed-line : (out o o1 : List ℕ) (lines : List NodeLine) (i : ℕ) (z : NodeLine) → o ≡ out ++ text_of_lines (map line_text (take i lines)) → i < length lines
+    → o1 ≡ o ++ (line_text (get_or lines i z) ++ 10 ∷ []) → o1 ≡ out ++ text_of_lines (map line_text (take (i + 1) lines))
+pushed-line out o o1 lines i z e inside e1 =
+    let text : List ℕ = line_text (get_or lines i z) in
+    let before : List (List ℕ) = map line_text (take i lines) in
+    let last : text_of_lines (map line_text (take (i + 1) lines)) ≡ text_of_lines before ++ (text ++ 10 ∷ []) =
+    ap (λ (ls : List NodeLine). text_of_lines (map line_text ls)) (take_more lines i z inside)
+    ∙ ap text_of_lines (map-append line_text (take i lines) (get_or lines i z ∷ []))
+    ∙ text_of_lines-append before (text ∷ []) ∙ ap (λ t. text_of_lines before ++ t) (append-nil (text ++ 10 ∷ [])) in
+    e1 ∙ ap (λ t. t ++ (text ++ 10 ∷ [])) e ∙ append_assoc out (text_of_lines before) (text ++ 10 ∷ []) ∙ ap (λ t. out ++ t) (sym last)
+
 -- the header, the labels and the nodes are the text
-pub whole_text : (c : Certificate) (count : ℕ) (node : Node) (o1 o2 o3 : List ℕ) → IsLabelTable c.labels → HasNumberForm (length c.labels) c.root (width_of c.version) → count ≡ length c.labels → node ≡ c.root
-    → o1 ≡ header_line c.version count ++ 10 ∷ [] → o2 ≡ o1 ++ text_of_lines c.labels → o3 ≡ o2 ++ text_of_lines (number_lines node) → o3 ≡ certificate_text (certificate_of c)
-whole_text c count node o1 o2 o3 ok form is same e1 e2 e3 =
+pub whole_text : (c : Certificate) (count : ℕ) (nodes : List NodeLine) (o1 o2 o3 : List ℕ) → IsLabelTable c.labels → HasNumberForm (length c.labels) c.root (width_of c.version) → count ≡ length c.labels → nodes ≡ lines_of c.root
+    → o1 ≡ header_line c.version count ++ 10 ∷ [] → o2 ≡ o1 ++ text_of_lines c.labels → o3 ≡ o2 ++ text_of_lines (map line_text nodes) → o3 ≡ certificate_text (certificate_of c)
+whole_text c count nodes o1 o2 o3 ok form is same e1 e2 e3 =
     let header : List ℕ = header_line c.version (length c.labels) ++ 10 ∷ [] in
     let labels : List ℕ = text_of_lines c.labels in
     let lines : List (List ℕ) = node_lines c.labels (tree_of c.labels c.root) in
-    let nodes : text_of_lines (number_lines node) ≡ text_of_lines lines =
-    ap (λ (n : Node). text_of_lines (number_lines n)) same ∙ ap text_of_lines (number_lines-tree c.labels ok c.root (width_of c.version) form) in
+    let texts : text_of_lines (map line_text nodes) ≡ text_of_lines lines =
+    ap (λ (ls : List NodeLine). text_of_lines (map line_text ls)) same ∙ ap text_of_lines (line_texts-tree c.labels ok c.root (width_of c.version) form) in
     let first : o1 ≡ header = e1 ∙ ap (λ (n : ℕ). header_line c.version n ++ 10 ∷ []) is in
-    e3 ∙ ap (λ t. t ++ text_of_lines (number_lines node)) (e2 ∙ ap (λ t. t ++ labels) first)
-    ∙ ap (λ t. (header ++ labels) ++ t) nodes
+    e3 ∙ ap (λ t. t ++ text_of_lines (map line_text nodes)) (e2 ∙ ap (λ t. t ++ labels) first)
+    ∙ ap (λ t. (header ++ labels) ++ t) texts
     ∙ append_assoc header labels (text_of_lines lines)
     ∙ ap (λ t. header ++ t) (sym (text_of_lines-append c.labels lines))

@@ -12,6 +12,7 @@ pub mod CertificateForm
 pub mod CertificateReading
 pub mod FormatReading
 pub mod Node
-pub mod LabelSet
+pub mod Packed
 pub mod Certificate
 pub mod Words
+pub mod ReadNodes

@@ -1,9 +1,10 @@
-ghost use Rattle.std.specs.Prelude.{◌≡◌, length};
+ghost use Rattle.std.specs.Prelude.{◌≡◌, ◌∷◌, [], length};
 ghost use Rattle.prefix_keys.specs.Version.{width_of};
 ghost use Rattle.pmap_cert.specs.CertificateForm.{HasTextForm};
 ghost use Rattle.pmap_cert.specs.Node.{HasNumberForm, HasNumberForm-prop, tree_of};
 
-use crate::node::Node;
+use crate::cursor::{Cursor, cursor_of};
+use crate::root::Root;
 use pmap_text::Labels;
 use prefix_keys::Version;
 
@@ -13,7 +14,7 @@ use prefix_keys::Version;
 pub struct Certificate {
     pub version: Version,
     pub labels: Labels,
-    pub root: Node,
+    pub root: Root,
     ghost form: { HasNumberForm (length labels) root (width_of version) } by { HasNumberForm-prop (length labels) root
         (width_of version) },
 }
@@ -22,7 +23,7 @@ impl Certificate {
     ghost use Rattle.pmap_cert.specs.Certificate.{certificate_of};
 
     /// The certificate of its parts.
-    pub fn new(version: Version, labels: Labels, root: Node) -> Certificate
+    pub fn new(version: Version, labels: Labels, root: Root) -> Certificate
         requires { HasNumberForm (length labels) root (width_of version) }
         ensures version { result.version ≡ version }
         ensures labels { result.labels ≡ labels }
@@ -36,13 +37,13 @@ impl Certificate {
     }
 
     /// The node that stands for the address space. With the label table and the version it has a text.
-    pub fn root(&self) -> &Node
-        ensures value { result.now ≡ self.now.root }
+    pub fn root(&self) -> Cursor<'_>
+        ensures value { result ≡ self.now.root ∷ [] }
         ensures numbers { HasNumberForm (length self.now.labels) self.now.root (width_of self.now.version) }
         ensures form { HasTextForm (certificate_of self.now) }
     {
         // For its law: the table has at most 65536 labels, no two equal.
         let _count = self.labels.len();
-        &self.root
+        cursor_of(&self.root)
     }
 }

@@ -8,16 +8,18 @@ ghost use Rattle.pmap_cert.specs.CertificateModel.{CertificateModel};
 ghost use Rattle.pmap_cert.specs.CertificateReading.{certificate_reading, due_at, header_at, header_of, label_at, labels_at, named_version, node_at, words_of};
 ghost use Rattle.pmap_cert.specs.CertificateText.{certificate_text};
 ghost use Rattle.pmap_cert.specs.Node.{HasNumberForm, tree_of};
+ghost use Rattle.pmap_cert.specs.ReadNodes.{IsReadNode};
 ghost use Rattle.pmap_cert.specs.Words.{line_model};
 ghost use Rattle.pmap_cert.specs.declared.fault.CertFaultKind.TheVariants.{NoMemory};
 
 use crate::certificate::Certificate;
 use crate::fault::{CertFault, CertFaultKind};
 use crate::lines::Lines;
-use crate::node::Node;
+use crate::nodes::Nodes;
+use crate::root::Root;
 use crate::words::{number_below, split_word};
 use node_line::{NodeLine, node_line};
-use pmap_text::{Labels, is_label};
+use pmap_text::{LabelId, Labels, is_label};
 use prefix_keys::Version;
 use std::alloc::Global;
 
@@ -124,18 +126,18 @@ fn read_labels<'a>(
     Ok((labels, lines))
 }
 
-// The line of the node that is due.
+// The line of the node that is due. The set of an inner node is kept.
 fn read_due<'a>(
-    alloc: Global,
+    set: &mut Vec<LabelId>,
     labels: &Labels,
     lines: &Lines<'a>,
 ) -> Result<(NodeLine, Lines<'a>), CertFault>
-    ensures ok { IfOk result (λ x. due_at (length labels.now) lines.now ≡ Ok (line_model x.0, x.1)) }
+    ensures ok { IfOk result (λ x. due_at (length labels.now) lines.now ≡ Ok (line_model set.new.items x.0, x.1)) }
     ensures err { IfErr result (λ fault. fault.kind ≢ NoMemory → due_at (length labels.now) lines.now ≡ Err fault) }
     ensures memory { IfErr result (λ fault. fault.kind ≡ NoMemory → fault.line ≡ 0) }
 {
     match lines.next() {
-        Some((line, after)) => match node_line(alloc, labels.len() as u64, line)? {
+        Some((line, after)) => match node_line(set, labels.len() as u64, line)? {
             Some(found) => Ok((found, after)),
             None => Err(lines.fault(CertFaultKind::BadNode)),
         },
@@ -149,38 +151,52 @@ fn read_due<'a>(
     }
 }
 
-// The node that is due and those below it, with at most so many inner nodes one inside the other.
+// Adds the node that is due and those below it, with at most so many inner nodes one inside the other.
 fn read_node<'a>(
+    nodes: &mut Nodes,
+    set: &mut Vec<LabelId>,
+    labels: &Labels,
+    room: u32,
+    lines: &Lines<'a>,
+) -> Result<Lines<'a>, CertFault>
+    ensures ok { IfOk result (IsReadNode labels.now room lines.now nodes.old nodes.new) }
+    ensures err { IfErr result (λ fault. fault.kind ≢ NoMemory → node_at labels.now room lines.now ≡ Err fault) }
+    ensures memory { IfErr result (λ fault. fault.kind ≡ NoMemory → fault.line ≡ 0) }
+{
+    let (line, after) = read_due(set, labels, lines)?;
+    match line {
+        NodeLine::Leaf(id) => {
+            nodes.push_leaf(id)?;
+            Ok(after)
+        }
+        NodeLine::Inner(cost) => {
+            if room == 0 {
+                return Err(lines.fault(CertFaultKind::TooDeep));
+            }
+            nodes.push_inner(cost, set.as_slice())?;
+            let middle = read_node(nodes, set, labels, room - 1, &after)?;
+            let end = read_node(nodes, set, labels, room - 1, &middle)?;
+            Ok(end)
+        }
+    }
+}
+
+// The root with all nodes below it, with at most so many inner nodes one inside the other.
+fn read_root<'a>(
     alloc: Global,
     labels: &Labels,
     room: u32,
     lines: &Lines<'a>,
-) -> Result<(Node, Lines<'a>), CertFault>
+) -> Result<(Root, Lines<'a>), CertFault>
     ensures ok { IfOk result (λ x. node_at labels.now room lines.now ≡ Ok (tree_of labels.now x.0, x.1)) }
     ensures form { IfOk result (λ x. HasNumberForm (length labels.now) x.0 room) }
     ensures err { IfErr result (λ fault. fault.kind ≢ NoMemory → node_at labels.now room lines.now ≡ Err fault) }
     ensures memory { IfErr result (λ fault. fault.kind ≡ NoMemory → fault.line ≡ 0) }
 {
-    let (line, after) = read_due(alloc, labels, lines)?;
-    match line {
-        NodeLine::Leaf(id) => Ok((Node::Leaf(id), after)),
-        NodeLine::Inner(cost, set) => {
-            if room == 0 {
-                return Err(lines.fault(CertFaultKind::TooDeep));
-            }
-            let (left, after) = read_node(alloc, labels, room - 1, &after)?;
-            let (right, after) = read_node(alloc, labels, room - 1, &after)?;
-            let left = Box::new(alloc, left)?;
-            let right = Box::new(alloc, right)?;
-            let node = Node::Inner {
-                cost,
-                set,
-                left,
-                right,
-            };
-            Ok((node, after))
-        }
-    }
+    let mut nodes = Nodes::new(alloc);
+    let mut set = Vec::new(alloc);
+    let rest = read_node(&mut nodes, &mut set, labels, room, lines)?;
+    Ok((Root::new(nodes), rest))
 }
 
 // The certificate of a text, or the first fault.
@@ -191,7 +207,7 @@ fn read_all(alloc: Global, text: &[u8]) -> Result<Certificate, CertFault>
 {
     let ((version, count), lines) = read_header(&Lines::new(text))?;
     let (labels, lines) = read_labels(alloc, count, lines)?;
-    let (root, rest) = read_node(alloc, &labels, version.width(), &lines)?;
+    let (root, rest) = read_root(alloc, &labels, version.width(), &lines)?;
     if rest.is_ended() {
         Ok(Certificate::new(version, labels, root))
     } else {

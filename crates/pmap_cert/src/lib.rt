@@ -25,11 +25,12 @@
 mod certificate;
 mod certificate_reading;
 mod chain_laws;
+mod cursor;
 mod fault;
-mod label_set;
 mod laws;
 mod lines;
-mod node;
+mod nodes;
+mod root;
 mod words;
 mod writing;
 
@@ -41,13 +42,14 @@ pub use chain_laws::{
     compacting_is_by_longest_runs, last_address_is_one_chain, opened_is_accepted,
     text_of_format_is_read_or_has_a_fault,
 };
+pub use cursor::Cursor;
 pub use fault::{CertFault, CertFaultKind};
-pub use label_set::LabelSet;
 pub use laws::{
     acceptance_is_enough, certificate_is_read_back, certificate_text_is_read_or_has_a_fault,
     exact_pair_is_of_sets, four_quarters_pair_is_minimal, map_text_has_a_minimal_pair,
     map_text_has_its_labels, minimal_certificate_is_one, minimal_list_is_in_order,
     minimal_pair_exists, minimal_pair_is_accepted, minimal_pair_is_unique,
 };
-pub use node::Node;
+pub use nodes::Nodes;
+pub use root::Root;
 pub use writing::write_cert;

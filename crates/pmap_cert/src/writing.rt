@@ -1,14 +1,14 @@
 //! The text of a certificate.
-ghost use Rattle.std.specs.Prelude.{◌≡◌, ◌++◌, ◌∷◌, [], IfOk, OnOk};
+ghost use Rattle.std.specs.Prelude.{◌≡◌, ◌<◌, ◌++◌, ◌∷◌, [], IfOk, OnOk, length, map, slice_index_or};
 ghost use Rattle.std.specs.List.{flat_map};
 ghost use Rattle.std.specs.Fmt.{decimal};
 ghost use Rattle.pmap_cert.specs.Certificate.{certificate_of};
-ghost use Rattle.pmap_cert.specs.CertificateText.{certificate_text, header_line, inner_line, text_of_lines, version_word};
-ghost use Rattle.pmap_cert.specs.Node.{number_lines};
+ghost use Rattle.pmap_cert.specs.CertificateText.{certificate_text, header_line, inner_line, leaf_line, text_of_lines, version_word};
+ghost use Rattle.pmap_cert.specs.CertificateReading.{LeafLine};
+ghost use Rattle.pmap_cert.specs.Node.{line_text};
 
 use crate::certificate::Certificate;
-use crate::label_set::LabelSet;
-use crate::node::Node;
+use crate::nodes::Nodes;
 use itoa::Buffer;
 use pmap_text::{LabelId, Labels};
 use prefix_keys::Version;
@@ -25,18 +25,28 @@ fn push_number(out: &mut Vec<u8>, number: u32) -> Result<(), AllocError>
 }
 
 // Appends the numbers of a set, with a space before each.
-fn push_set(out: &mut Vec<u8>, set: &LabelSet) -> Result<(), AllocError>
-    ensures { OnOk result (out.new.items ≡ out.old.items ++ flat_map (λ n. 32 ∷ decimal n) set.now) }
+fn push_set(out: &mut Vec<u8>, set: &[LabelId]) -> Result<(), AllocError>
+    ensures { OnOk result (out.new.items ≡ out.old.items ++ flat_map (λ n. 32 ∷ decimal n) (map (λ id. id.0) set.now)) }
 {
-    for id in set.as_slice() {
+    for id in set {
         push_number(out, id.0)?;
     }
     Ok(())
 }
 
+// Appends the line of a leaf.
+fn push_leaf(out: &mut Vec<u8>, id: LabelId) -> Result<(), AllocError>
+    ensures { OnOk result (out.new.items ≡ out.old.items ++ (leaf_line id.0 ++ 10 ∷ [])) }
+{
+    out.push(b'l')?;
+    push_number(out, id.0)?;
+    out.push(b'\n')?;
+    Ok(())
+}
+
 // Appends the line of an inner node.
-fn push_inner(out: &mut Vec<u8>, cost: u32, set: &LabelSet) -> Result<(), AllocError>
-    ensures { OnOk result (out.new.items ≡ out.old.items ++ (inner_line cost set.now ++ 10 ∷ [])) }
+fn push_inner(out: &mut Vec<u8>, cost: u32, set: &[LabelId]) -> Result<(), AllocError>
+    ensures { OnOk result (out.new.items ≡ out.old.items ++ (inner_line cost (map (λ id. id.0) set.now) ++ 10 ∷ [])) }
 {
     out.push(b'n')?;
     push_number(out, cost)?;
@@ -45,28 +55,26 @@ fn push_inner(out: &mut Vec<u8>, cost: u32, set: &LabelSet) -> Result<(), AllocE
     Ok(())
 }
 
-// Appends the lines of a node and of those below it.
-fn push_node(out: &mut Vec<u8>, node: &Node) -> Result<(), AllocError>
-    ensures { OnOk result (out.new.items ≡ out.old.items ++ text_of_lines (number_lines node.now)) }
+// Appends the line with a number.
+fn push_line(out: &mut Vec<u8>, nodes: &Nodes, number: usize) -> Result<(), AllocError>
+    requires { number < length nodes.now }
+    ensures { OnOk result (out.new.items ≡ out.old.items
+        ++ (line_text (slice_index_or nodes.now number (LeafLine 0)) ++ 10 ∷ [])) }
 {
-    match node {
-        Node::Leaf(id) => {
-            out.push(b'l')?;
-            push_number(out, id.0)?;
-            out.push(b'\n')?;
-            Ok(())
-        }
-        Node::Inner {
-            cost,
-            set,
-            left,
-            right,
-        } => {
-            push_inner(out, *cost, set)?;
-            push_node(out, left)?;
-            push_node(out, right)
-        }
+    match nodes.label(number) {
+        Some(id) => push_leaf(out, id),
+        None => push_inner(out, nodes.cost(number), nodes.set(number)),
     }
+}
+
+// Appends all lines.
+fn push_nodes(out: &mut Vec<u8>, nodes: &Nodes) -> Result<(), AllocError>
+    ensures { OnOk result (out.new.items ≡ out.old.items ++ text_of_lines (map line_text nodes.now)) }
+{
+    for number in 0..nodes.len() {
+        push_line(out, nodes, number)?;
+    }
+    Ok(())
 }
 
 // Appends the labels of a table, each on a line.
@@ -119,6 +127,6 @@ pub fn write_cert(alloc: Global, certificate: &Certificate) -> Result<Vec<u8>, A
         certificate.labels.len() as u32,
     )?;
     push_labels(&mut out, &certificate.labels)?;
-    push_node(&mut out, certificate.root())?;
+    push_nodes(&mut out, certificate.root.nodes())?;
     Ok(out)
 }

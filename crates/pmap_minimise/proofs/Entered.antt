@@ -19,13 +19,11 @@ use Rattle.pmap_text.proofs.MovedBlocks.{first_of-whole}
 use Rattle.pmap_cert.specs.CertificateForm.{IsRising}
 use Rattle.pmap_cert.specs.CertificateModel.{Tree}
 use Rattle.pmap_cert.specs.MinimalPair.{entries_of, handed_on, has_inherited, least_label, own_entry}
-use Rattle.pmap_cert.specs.Node.{HasNumberForm, tree_of}
-use Rattle.pmap_cert.specs.declared.node.Node.{Node}
-use Rattle.pmap_cert.specs.declared.node.Node.TheVariants.{Inner', Leaf}
+use Rattle.pmap_cert.specs.Node.{HasNumberForm, Inner, Leaf, Node, set_of, tree_of}
 use Rattle.label_trie.specs.Leaf.{number_of}
 use Rattle.label_trie.specs.Parts.{IsHalf}
 use Rattle.pmap_minimise.specs.Entered.{AddsEntries, IsEntryOf, text_of}
-use Rattle.pmap_minimise.specs.Numbers.{IsOwn, IsOwnBy, IsSound, keeps, numbers_of, set_of, HasHalves}
+use Rattle.pmap_minimise.specs.Numbers.{IsOwn, IsOwnBy, IsSound, keeps, numbers_of, HasHalves}
 use Rattle.pmap_minimise.proofs.Joined.{half-room}
 use Rattle.pmap_minimise.proofs.Texts.{keeps-texts, least-texts}
 
@@ -106,7 +104,7 @@ own-fit count ids block inherited old new id rising known own all = by (keeps id
         )
 
 pub leaf-adds : (x : LabelId) (block : Block) (inherited : Option LabelId) (old new : List Entry) (ids : List LabelId) (id : LabelId) → numbers_of ids ≡ x.0 ∷ []
-    → IsOwn ids block inherited old new id → AddsEntries (Leaf x) block inherited old new
+    → IsOwn ids block inherited old new id → AddsEntries (Leaf x.0) block inherited old new
 leaf-adds x block inherited old new ids id is own = record {
   texts = λ table ok known form.
       (handed table ok ids block inherited old new id (subst (λ (l : List ℕ). IsRising (length table) 0 l) (sym is) (omega arith, form, tt)) known (x.0 ∷ []) is own).entries;
@@ -130,7 +128,7 @@ pub inner-adds : (node left right : Node) (block low high : Block) (inherited : 
     → HasHalves node left right → numbers_of ids ≡ set_of node → IsOwn ids block inherited old new0 id → IsHalf 0 block low → IsHalf 1 block high
     → AddsEntries left low (Some id) new0 new1 → AddsEntries right high (Some id) new1 new2 → AddsEntries node block inherited old new2
 inner-adds (Leaf x) left right block low high inherited old new0 new1 new2 ids id halves is own low_half high_half lower upper = absurd halves
-inner-adds (Inner' cost set p l q r) left right block low high inherited old new0 new1 new2 ids id halves is own low_half high_half lower upper = record {
+inner-adds (Inner cost set l r) left right block low high inherited old new0 new1 new2 ids id halves is own low_half high_half lower upper = record {
   texts = λ table ok known form.
       let inner = opened (length table) form in
       let up = subst (λ (ns : List ℕ). IsRising (length table) 0 ns) (sym is) inner.1 in
@@ -156,9 +154,9 @@ inner-adds (Inner' cost set p l q r) left right block low high inherited old new
       All-weaker (IsEntryOf high count) (IsEntryOf block count) (λ e fits. record { version = fits.version ∙ high_half.version; known = fits.known }) new2 high_all;
 }
   where
-    opened : (count : ℕ) → HasNumberForm count (Inner' cost set p l q r) (width_of block.version - block.len)
-        → HasNumberForm count (Inner' cost set p l q r) (suc (width_of low.version - low.len))
-    opened count form = subst (λ (k : ℕ). HasNumberForm count (Inner' cost set p l q r) k) (half-room 0 block low low_half) form
+    opened : (count : ℕ) → HasNumberForm count (Inner cost set l r) (width_of block.version - block.len)
+        → HasNumberForm count (Inner cost set l r) (suc (width_of low.version - low.len))
+    opened count form = subst (λ (k : ℕ). HasNumberForm count (Inner cost set l r) k) (half-room 0 block low low_half) form
 
     left_form : (count : ℕ) → HasNumberForm count l (width_of low.version - low.len) → HasNumberForm count left (width_of low.version - low.len)
     left_form count form = subst (λ (n : Node). HasNumberForm count n (width_of low.version - low.len)) halves.0 form
@@ -174,10 +172,10 @@ inner-adds (Inner' cost set p l q r) left right block low high inherited old new
 pub sound-halves : (node left right : Node) (block low high : Block) → HasHalves node left right → IsHalf 0 block low → IsHalf 1 block high
     → IsSound node (width_of block.version - block.len) → IsSound left (width_of low.version - low.len) × IsSound right (width_of high.version - high.len)
 sound-halves (Leaf x) left right block low high halves low_half high_half sound = absurd halves
-sound-halves (Inner' cost set p l q r) left right block low high halves low_half high_half sound =
+sound-halves (Inner cost set l r) left right block low high halves low_half high_half sound =
     let a = half-room 0 block low low_half in
     let b = half-room 1 block high high_half in
-    let inner : IsSound (Inner' cost set p l q r) (suc (width_of low.version - low.len)) = subst (λ (k : ℕ). IsSound (Inner' cost set p l q r) k) a sound in (
+    let inner : IsSound (Inner cost set l r) (suc (width_of low.version - low.len)) = subst (λ (k : ℕ). IsSound (Inner cost set l r) k) a sound in (
       subst (λ (n : Node). IsSound n (width_of low.version - low.len)) halves.0 inner.1,
       subst (λ (n : Node). IsSound n (width_of high.version - high.len)) halves.1 (subst (λ (k : ℕ). IsSound r k) (omega arith) inner.2),
     )

@@ -13,14 +13,12 @@ use Rattle.pmap_cert.specs.CertificateForm.{IsRising}
 use Rattle.pmap_cert.specs.CertificateModel.{Pair, Tree, claim_of}
 use Rattle.pmap_cert.specs.ExactPair.{IsSamePair, exact_pair}
 use Rattle.pmap_cert.specs.MinimalPair.{StandsFor}
-use Rattle.pmap_cert.specs.Node.{HasNumberForm, tree_of}
-use Rattle.pmap_cert.specs.declared.node.Node.{Node}
-use Rattle.pmap_cert.specs.declared.node.Node.TheVariants.{Inner', Leaf}
+use Rattle.pmap_cert.specs.Node.{HasNumberForm, Inner, Leaf, Node, cost_of, set_of, tree_of}
 use Rattle.label_trie.specs.Leaf.{model_of, number_of}
 use Rattle.label_trie.specs.Parts.{IsHalf}
 use Rattle.label_trie.specs.TrieModel.{IsSettledLeaf, IsUndivided, LeafModel}
 use Rattle.pmap_minimise.specs.Certified.{IsCertified, IsKnownLeaf}
-use Rattle.pmap_minimise.specs.Numbers.{IsExact, IsJoined, IsSound, cost_of, set_of}
+use Rattle.pmap_minimise.specs.Numbers.{IsExact, IsJoined, IsSound}
 use Rattle.pmap_minimise.proofs.Texts.{exact-cost, exact-rising, exact-some, same_pair}
 
 -- what holds of two lists together holds of each
@@ -39,21 +37,21 @@ all-right {X} P all xs ys is holds =
 -- a node's claim by its numbers
 claim-is : (table : List Label) (node : Node) → claim_of (tree_of table node) ≡ record { cost = cost_of node; labels = map (text_at table) (set_of node) }
 claim-is table (Leaf id) = refl
-claim-is table (Inner' cost set p left q right) = refl
+claim-is table (Inner cost set left right) = refl
 
 pub claim-cost : (table : List Label) (node : Node) → (claim_of (tree_of table node)).cost ≡ cost_of node
 claim-cost table (Leaf id) = refl
-claim-cost table (Inner' cost set p left q right) = refl
+claim-cost table (Inner cost set left right) = refl
 
 set-rising : (count : ℕ) (node : Node) (room : ℕ) → HasNumberForm count node room → IsRising count 0 (set_of node)
 set-rising count (Leaf id) room form = (omega arith, form, tt)
-set-rising count (Inner' cost set p left q right) zero form = absurd form
-set-rising count (Inner' cost set p left q right) (suc room) form = form.1
+set-rising count (Inner cost set left right) zero form = absurd form
+set-rising count (Inner cost set left right) (suc room) form = form.1
 
 pub set-some : (node : Node) (room : ℕ) → IsSound node room → 0 < length (set_of node)
 set-some (Leaf id) room sound = omega arith
-set-some (Inner' cost set p left q right) zero sound = absurd sound
-set-some (Inner' cost set p left q right) (suc room) sound = sound.0
+set-some (Inner cost set left right) zero sound = absurd sound
+set-some (Inner cost set left right) (suc room) sound = sound.0
 
 pub moved : (m : MapModel) (t : Tree) (n n' q q' : ℕ) → n ≡ n' → q ≡ q' → StandsFor m t n q → StandsFor m t n' q'
 moved m t n n' q q' e f stands = subst (λ (k : ℕ). StandsFor m t k q') e (subst (λ (k : ℕ). StandsFor m t n k) f stands)
@@ -75,7 +73,7 @@ whole-number block value =
     ap (λ (a : ℕ). a / 2 ^ (width_of block.version - block.len)) value ∙ no_number (2 ^ (width_of block.version - block.len))
 
 pub leaf-certified : (block : Block) (leaves : List LeafModel) (id : LabelId) → leaves ≡ model_of (record { block = block; label = Some id }) ∷ []
-    → IsCertified block leaves (Leaf id)
+    → IsCertified block leaves (Leaf id.0)
 leaf-certified block leaves id is = record {
   stands = λ m ok settled undivided.
       let own = All-head (IsSettledLeaf m) (model_of (record { block = block; label = Some id })) [] (subst (λ (l : List LeafModel). All (IsSettledLeaf m) l) is settled) in
@@ -159,7 +157,7 @@ module _ (block low_block high_block : Block) (leaves low_leaves high_leaves : L
 
   pub joined-certified : (node : Node) → IsJoined low high node → IsCertified block leaves node
   joined-certified (Leaf id) joined = absurd joined
-  joined-certified (Inner' cost set p left q right) joined = record {
+  joined-certified (Inner cost set left right) joined = record {
     stands = λ m ok settled undivided. (
       unsettled m undivided,
       subst (λ (n : Node). IsSamePair (record { cost = cost; labels = map (text_at m.table) set }) (exact_pair (claim_of (tree_of m.table n)) (claim_of (tree_of m.table right)))) (sym joined.0)
@@ -169,14 +167,14 @@ module _ (block low_block high_block : Block) (leaves low_leaves high_leaves : L
       subst (λ (n : Node). StandsFor m (tree_of m.table n) (suc block.len) (2 * number_of block + 1)) (sym joined.1) (stands_high m ok settled undivided),
     );
     form = λ count known.
-        subst (λ (r : ℕ). HasNumberForm count (Inner' cost set p left q right) r) (sym room_is) (
+        subst (λ (r : ℕ). HasNumberForm count (Inner cost set left right) r) (sym room_is) (
           (let small = cheap cost set joined.2 in omega arith),
           rising count cost set known joined.2,
           subst (λ (n : Node). HasNumberForm count n room) (sym joined.0) (low_form count known),
           subst (λ (n : Node). HasNumberForm count n room) (sym joined.1) (high_form count known),
         );
     sound =
-        subst (λ (r : ℕ). IsSound (Inner' cost set p left q right) r) (sym room_is) (
+        subst (λ (r : ℕ). IsSound (Inner cost set left right) r) (sym room_is) (
           exact-some (cost_of low) (cost_of high) (set_of low) (set_of high) cost set (set-some low room lower.sound) joined.2,
           subst (λ (n : Node). IsSound n room) (sym joined.0) lower.sound,
           subst (λ (n : Node). IsSound n room) (sym joined.1) (subst (λ (r : ℕ). IsSound high r) same_room upper.sound),

@@ -6,8 +6,9 @@ pub mod Distinct
 pub mod Whole
 pub mod Outlined
 pub mod Walked
-pub mod Pended
 pub mod Laid
 pub mod Pieces
 pub mod Claimed
+pub mod Waiting
 pub mod Listed
+pub mod MadeLines

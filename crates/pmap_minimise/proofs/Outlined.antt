@@ -3,19 +3,18 @@ use Rattle.std.proofs.Common.{◌≡◌, ℕ, zero, suc, ◌+◌, ◌*◌, ◌^�
 use Rattle.std.proofs.lemmas.List.{append-nil, append_assoc, drop_all, same_from_push}
 use Rattle.prefix_keys.specs.declared.block.Block.{Block}
 use Rattle.pmap_text.specs.declared.label.LabelId.{LabelId}
-use Rattle.pmap_cert.specs.declared.node.Node.{Node}
-use Rattle.pmap_cert.specs.declared.node.Node.TheVariants.{Inner', Leaf}
 use Rattle.label_trie.specs.CursorModel.{CursorModel}
 use Rattle.label_trie.specs.Leaf.{model_of}
 use Rattle.label_trie.specs.Parts.{IsDivided}
 use Rattle.label_trie.specs.TrieModel.{LeafModel}
 use Rattle.pmap_minimise.specs.Certified.{IsCertified}
-use Rattle.pmap_minimise.specs.Numbers.{IsJoined, cost_of, set_of}
+use Rattle.pmap_minimise.specs.Numbers.{IsJoined}
 use Rattle.pmap_minimise.specs.Outline.{AddsOutline, AreNodesFrom, AreStacked, AreWhole, Fork, IsAdded, IsNodeFor, IsOutline, IsPlanOf, IsReady, Plan, Tip, forked, parts_of, plans_of, tips}
 use Rattle.pmap_minimise.specs.declared.outline.Part.{Part}
 use Rattle.pmap_minimise.specs.declared.outline.Part.TheVariants.{Divided, Labelled}
 use Rattle.pmap_minimise.proofs.Joined.{joined-certified, leaf-certified}
 use Rattle.pmap_minimise.proofs.Texts.{exact-cost}
+use Rattle.pmap_cert.specs.Node.{Inner, Leaf, Node, cost_of, set_of}
 
 -- a leaf's part, and the parts of two halves behind their block's
 pub leaf-outline : (block : Block) (leaves : List LeafModel) (id : LabelId) (old new : List Part) → new ≡ old ++ Labelled id ∷ []
@@ -47,7 +46,7 @@ halves-outline whole low high old new0 new1 new2 divided is lower upper = record
 -- the node of a tree costs less than its leaves
 joined-cost : (low high node : Node) → IsJoined low high node → cost_of node ≤ cost_of low + cost_of high + 1
 joined-cost low high (Leaf id) joined = absurd joined
-joined-cost low high (Inner' cost set p left q right) joined = exact-cost (cost_of low) (cost_of high) (set_of low) (set_of high) cost set joined.2
+joined-cost low high (Inner cost set left right) joined = exact-cost (cost_of low) (cost_of high) (set_of low) (set_of high) cost set joined.2
 
 node-cost : (plan : Plan) (node : Node) → IsNodeFor plan node → cost_of node < tips plan
 node-cost (Tip id) node is = subst (λ (n : Node). cost_of n < 1) (sym is) (omega arith)
@@ -214,7 +213,7 @@ module _ (parts : List Part) (left next : ℕ) (nodes : List Node) (outline : Is
       record {
         within = omega arith;
         stacked = subst (λ (l : List Part). AreStacked (plans_of l) new) (sym before)
-            (record { rest = nodes; top = Leaf id; nodes_are = added; top_is = refl; rest_is = stack });
+            (record { rest = nodes; top = Leaf id.0; nodes_are = added; top_is = refl; rest_is = stack });
       }
   add-step Divided d new is added =
       let before = from-before parts left Divided d inside is in

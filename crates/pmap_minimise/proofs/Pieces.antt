@@ -1,4 +1,4 @@
--- Sets that are kept one behind the other.
+-- Claims that are kept, their sets one behind the other.
 use Rattle.std.proofs.Common.{◌≡◌, ℕ, zero, suc, ◌-◌, ◌^◌, ◌<◌, ◌≤◌, ◌∙◌, List, [], ◌∷◌, ◌++◌, All, length, get_or, take, drop, refl, sym, ap, subst, arith, length-append, length-drop}
 use Rattle.std.specs.List.{slice_range}
 use Rattle.std.proofs.Math.Seq.{drop-append_seam, take-length}
@@ -6,38 +6,45 @@ use Rattle.std.proofs.lemmas.List.{drop-append-le, take-append-le}
 use Rattle.std.proofs.lemmas.List.Elements.{All-get_or, All-push}
 use Rattle.pmap_text.specs.declared.label.LabelId.{LabelId}
 use Rattle.pmap_cert.specs.CertificateForm.{IsRising}
-use Rattle.pmap_minimise.specs.Kept.{AreEnds, AreKept, AreLabelsBehind, IsKeptBehind, cut, sets_in, start_of}
-use Rattle.pmap_minimise.specs.Numbers.{numbers_of}
-use Rattle.pmap_minimise.specs.declared.set_list.Sets.{Sets}
+use Rattle.pmap_minimise.specs.Kept.{AreEnds, AreKept, AreLabelsBehind, IsKeptBehind, IsRisingClaim, claims_in, cut, end_at, start_of}
+use Rattle.pmap_minimise.specs.Numbers.{Claim, no_claim, numbers_of}
+use Rattle.pmap_minimise.specs.declared.claim_list.Claims.{Claims}
+use Rattle.pmap_minimise.specs.declared.claim_list.Kept.{Kept}
 
-pub cut-length : (from : ℕ) (ids : List LabelId) (ends : List ℕ) → length (cut from ids ends) ≡ length ends
+pub cut-length : (from : ℕ) (ids : List LabelId) (ks : List Kept) → length (cut from ids ks) ≡ length ks
 cut-length from ids [] = refl
-cut-length from ids (end ∷ ends) = ap suc (cut-length end ids ends)
+cut-length from ids (k ∷ ks) = ap suc (cut-length k.end ids ks)
 
 -- where the pieces begin and end
-ends-within : (from count : ℕ) (ends : List ℕ) → AreEnds from count ends → from ≤ count
+ends-within : (from count : ℕ) (ks : List Kept) → AreEnds from count ks → from ≤ count
 ends-within from count [] ends = omega arith
-ends-within from count (end ∷ ends) ends_are = let here = ends_are.0 in let rest = ends-within end count ends ends_are.1 in omega arith
+ends-within from count (k ∷ ks) ends = let here = ends.0 in let rest = ends-within k.end count ks ends.1 in omega arith
 
-next-start : (from end : ℕ) (ends : List ℕ) (k : ℕ) → start_of end ends k ≡ start_of from (end ∷ ends) (suc k)
-next-start from end ends zero = refl
-next-start from end ends (suc k) = refl
+next-start : (from : ℕ) (k : Kept) (ks : List Kept) (n : ℕ) → start_of k.end ks n ≡ start_of from (k ∷ ks) (suc n)
+next-start from k ks zero = refl
+next-start from k ks (suc n) = refl
 
-pub end-at : (from count : ℕ) (ends : List ℕ) (k : ℕ) → AreEnds from count ends → k < length ends
-    → (start_of from ends k ≤ get_or ends k 0) × (get_or ends k 0 ≤ count)
-end-at from count [] k are inside = absurd (omega arith)
-end-at from count (end ∷ ends) zero are inside = (are.0, ends-within end count ends are.1)
-end-at from count (end ∷ ends) (suc k) are inside =
-    let rest = end-at end count ends k are.1 (omega arith) in
-    (subst (λ (s : ℕ). s ≤ get_or ends k 0) (next-start from end ends k) rest.0, rest.1)
+ends-at : (from count : ℕ) (ks : List Kept) (n : ℕ) → AreEnds from count ks → n < length ks
+    → (start_of from ks n ≤ end_at ks n) × (end_at ks n ≤ count)
+ends-at from count [] n are inside = absurd (omega arith)
+ends-at from count (k ∷ ks) zero are inside = (are.0, ends-within k.end count ks are.1)
+ends-at from count (k ∷ ks) (suc n) are inside =
+    let rest = ends-at k.end count ks n are.1 (omega arith) in
+    (subst (λ (s : ℕ). s ≤ end_at ks n) (next-start from k ks n) rest.0, rest.1)
 
-pub cut-at : (from : ℕ) (ids : List LabelId) (ends : List ℕ) (k : ℕ) → k < length ends
-    → get_or (cut from ids ends) k [] ≡ numbers_of (slice_range ids (start_of from ends k) (get_or ends k 0))
-cut-at from ids [] k inside = absurd (omega arith)
-cut-at from ids (end ∷ ends) zero inside = refl
-cut-at from ids (end ∷ ends) (suc k) inside =
-    cut-at end ids ends k (omega arith)
-    ∙ ap (λ (s : ℕ). numbers_of (slice_range ids s (get_or ends k 0))) (next-start from end ends k)
+cut-at : (from : ℕ) (ids : List LabelId) (ks : List Kept) (n : ℕ) → n < length ks
+    → (get_or (cut from ids ks) n no_claim).set ≡ numbers_of (slice_range ids (start_of from ks n) (end_at ks n))
+cut-at from ids [] n inside = absurd (omega arith)
+cut-at from ids (k ∷ ks) zero inside = refl
+cut-at from ids (k ∷ ks) (suc n) inside =
+    cut-at k.end ids ks n (omega arith)
+    ∙ ap (λ (s : ℕ). numbers_of (slice_range ids s (end_at ks n))) (next-start from k ks n)
+
+pub cost-at : (from : ℕ) (ids : List LabelId) (ks : List Kept) (n : ℕ) (k : Kept) → n < length ks → k ≡ get_or ks n k
+    → k.cost ≡ (get_or (cut from ids ks) n no_claim).cost
+cost-at from ids [] n k inside is = absurd (omega arith)
+cost-at from ids (h ∷ ks) zero k inside is = ap (λ (k : Kept). k.cost) is
+cost-at from ids (h ∷ ks) (suc n) k inside is = cost-at h.end ids ks n k (omega arith) is
 
 -- one more piece
 last-piece : (ids more : List LabelId) (from : ℕ) → from ≡ length ids → slice_range (ids ++ more) from (length (ids ++ more)) ≡ more
@@ -52,61 +59,65 @@ same-piece ids more from end le within =
     ap (take (end - from)) (drop-append-le from ids more (omega arith))
     ∙ take-append-le (end - from) (drop from ids) more (omega (arith, length-drop from ids))
 
-cut-push : (from : ℕ) (ids more : List LabelId) (ends : List ℕ) → AreEnds from (length ids) ends
-    → cut from (ids ++ more) (ends ++ length (ids ++ more) ∷ []) ≡ cut from ids ends ++ numbers_of more ∷ []
-cut-push from ids more [] are = ap (λ (l : List LabelId). numbers_of l ∷ []) (last-piece ids more from are)
-cut-push from ids more (end ∷ ends) are =
-    let piece = same-piece ids more from end are.0 (ends-within end (length ids) ends are.1) in
-    let rest = cut-push end ids more ends are.1 in
-    λ i. numbers_of (piece i) ∷ rest i
+cut-push : (from cost : ℕ) (ids more : List LabelId) (ks : List Kept) → AreEnds from (length ids) ks
+    → cut from (ids ++ more) (ks ++ record { cost = cost; end = length (ids ++ more) } ∷ [])
+    ≡ cut from ids ks ++ record { cost = cost; set = numbers_of more } ∷ []
+cut-push from cost ids more [] are = ap (λ (l : List LabelId). record { cost = cost; set = numbers_of l } ∷ []) (last-piece ids more from are)
+cut-push from cost ids more (k ∷ ks) are =
+    let piece = same-piece ids more from k.end are.0 (ends-within k.end (length ids) ks are.1) in
+    let rest = cut-push k.end cost ids more ks are.1 in
+    λ i. record { cost = k.cost; set = numbers_of (piece i) } ∷ rest i
 
-ends-push : (from count next : ℕ) (ends : List ℕ) → AreEnds from count ends → count ≤ next → AreEnds from next (ends ++ next ∷ [])
-ends-push from count next [] are le = (omega arith, refl)
-ends-push from count next (end ∷ ends) are le = (are.0, ends-push end count next ends are.1 le)
+ends-push : (from cost count next : ℕ) (ks : List Kept) → AreEnds from count ks → count ≤ next
+    → AreEnds from next (ks ++ record { cost = cost; end = next } ∷ [])
+ends-push from cost count next [] are le = (omega arith, refl)
+ends-push from cost count next (k ∷ ks) are le = (are.0, ends-push k.end cost count next ks are.1 le)
 
-pub kept-push : (old new : Sets) (set : List ℕ) (count : ℕ) → AreKept old → IsRising (2 ^ 32) 0 set → AreLabelsBehind old.ids.items set new.ids.items
-    → count ≡ length new.ids.items → new.ends.items ≡ old.ends.items ++ count ∷ [] → IsKeptBehind old new set
-kept-push old new set count kept rising behind count_is put = record {
+pub kept-push : (old new : Claims) (cost : ℕ) (set : List ℕ) (count : ℕ) → AreKept old → IsRising (2 ^ 32) 0 set → AreLabelsBehind old.ids.items set new.ids.items
+    → count ≡ length new.ids.items → new.kept.items ≡ old.kept.items ++ record { cost = cost; end = count } ∷ [] → IsKeptBehind old new cost set
+kept-push old new cost set count kept rising behind count_is put = record {
   kept = record {
     ends =
-        subst (λ (es : List ℕ). AreEnds 0 (length new.ids.items) es) (sym ends_are)
-        (ends-push 0 (length old.ids.items) (length new.ids.items) old.ends.items kept.ends (let e = ap length behind.new_is in omega (arith, length-append old.ids.items behind.more)));
-    rising = subst (λ (s : List (List ℕ)). All (IsRising (2 ^ 32) 0) s) (sym sets) (All-push (IsRising (2 ^ 32) 0) (sets_in old) set kept.rising rising);
+        subst (λ (ks : List Kept). AreEnds 0 (length new.ids.items) ks) (sym kept_are)
+        (ends-push 0 cost (length old.ids.items) (length new.ids.items) old.kept.items kept.ends (let e = ap length behind.new_is in omega (arith, length-append old.ids.items behind.more)));
+    rising =
+        subst (λ (s : List Claim). All IsRisingClaim s) (sym claims)
+        (All-push IsRisingClaim (claims_in old) (record { cost = cost; set = set }) kept.rising rising);
   };
-  sets = sets;
+  claims = claims;
 }
   where
-    ends_are : new.ends.items ≡ old.ends.items ++ length new.ids.items ∷ []
-    ends_are = put ∙ ap (λ (n : ℕ). old.ends.items ++ n ∷ []) count_is
+    kept_are : new.kept.items ≡ old.kept.items ++ record { cost = cost; end = length new.ids.items } ∷ []
+    kept_are = put ∙ ap (λ (n : ℕ). old.kept.items ++ record { cost = cost; end = n } ∷ []) count_is
 
-    sets : sets_in new ≡ sets_in old ++ set ∷ []
-    sets =
-        ap (λ (es : List ℕ). cut 0 new.ids.items es) ends_are
-        ∙ ap (λ (l : List LabelId). cut 0 l (old.ends.items ++ length l ∷ [])) behind.new_is
-        ∙ cut-push 0 old.ids.items behind.more old.ends.items kept.ends
-        ∙ ap (λ (s : List ℕ). sets_in old ++ s ∷ []) behind.numbers_are
+    claims : claims_in new ≡ claims_in old ++ record { cost = cost; set = set } ∷ []
+    claims =
+        ap (λ (ks : List Kept). cut 0 new.ids.items ks) kept_are
+        ∙ ap (λ (l : List LabelId). cut 0 l (old.kept.items ++ record { cost = cost; end = length l } ∷ [])) behind.new_is
+        ∙ cut-push 0 cost old.ids.items behind.more old.kept.items kept.ends
+        ∙ ap (λ (s : List ℕ). claims_in old ++ record { cost = cost; set = s } ∷ []) behind.numbers_are
 
 -- the set with a number lies between its ends
-pub record IsPiece (s : Sets) (number first last : ℕ) : Type 0 where
+pub record IsPiece (c : Claims) (number first last : ℕ) : Type 0 where
   pub start : first ≤ last
-  pub end : last ≤ length s.ids.items
-  pub value : numbers_of (slice_range s.ids.items first last) ≡ get_or (sets_in s) number []
-  pub rising : IsRising (2 ^ 32) 0 (numbers_of (slice_range s.ids.items first last))
+  pub end : last ≤ length c.ids.items
+  pub value : numbers_of (slice_range c.ids.items first last) ≡ (get_or (claims_in c) number no_claim).set
+  pub rising : IsRising (2 ^ 32) 0 (numbers_of (slice_range c.ids.items first last))
 
-pub piece-at : (s : Sets) (number start end : ℕ) → AreKept s → number < length (sets_in s) → start ≡ start_of 0 s.ends.items number → end ≡ get_or s.ends.items number 0
-    → IsPiece s number start end
-piece-at s number start end kept inside start_is end_is =
-    let within : number < length s.ends.items = omega (arith, cut-length 0 s.ids.items s.ends.items) in
-    let ends = end-at 0 (length s.ids.items) s.ends.items number kept.ends within in
+pub piece-at : (c : Claims) (number start end : ℕ) → AreKept c → number < length (claims_in c) → start ≡ start_of 0 c.kept.items number → end ≡ end_at c.kept.items number
+    → IsPiece c number start end
+piece-at c number start end kept inside start_is end_is =
+    let within : number < length c.kept.items = omega (arith, cut-length 0 c.ids.items c.kept.items) in
+    let ends = ends-at 0 (length c.ids.items) c.kept.items number kept.ends within in
     let lower = ends.0 in
     let upper = ends.1 in
-    let value : numbers_of (slice_range s.ids.items start end) ≡ get_or (sets_in s) number [] =
-    ap (λ (a : ℕ). numbers_of (slice_range s.ids.items a end)) start_is
-    ∙ ap (λ (b : ℕ). numbers_of (slice_range s.ids.items (start_of 0 s.ends.items number) b)) end_is
-    ∙ sym (cut-at 0 s.ids.items s.ends.items number within) in
+    let value : numbers_of (slice_range c.ids.items start end) ≡ (get_or (claims_in c) number no_claim).set =
+    ap (λ (a : ℕ). numbers_of (slice_range c.ids.items a end)) start_is
+    ∙ ap (λ (b : ℕ). numbers_of (slice_range c.ids.items (start_of 0 c.kept.items number) b)) end_is
+    ∙ sym (cut-at 0 c.ids.items c.kept.items number within) in
     record {
       start = omega arith;
       end = omega arith;
       value = value;
-      rising = subst (IsRising (2 ^ 32) 0) (sym value) (All-get_or (IsRising (2 ^ 32) 0) (sets_in s) number [] inside kept.rising);
+      rising = subst (IsRising (2 ^ 32) 0) (sym value) (All-get_or IsRisingClaim (claims_in c) number no_claim inside kept.rising);
     }

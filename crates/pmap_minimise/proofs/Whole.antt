@@ -1,6 +1,6 @@
 -- The map's label table has the map's labels, and a list and a certificate by numbers that are the map's minimal pair.
 use Rattle.std.proofs.Common.{◌≡◌, ℕ, ◌-◌, ◌<◌, ◌∙◌, List, [], ◌++◌, None, All, IsTrue, length, map, refl, sym, ap, subst, arith}
-use Rattle.std.proofs.lemmas.List.Elements.{All-map, All-weaker}
+use Rattle.std.proofs.lemmas.List.Elements.{All-from_recursion, All-map, All-weaker}
 use Rattle.std.proofs.lemmas.List.Folds.{list_any_at}
 use Rattle.std.proofs.lemmas.Option.{none-some, unwrap_or-slice_get}
 use Rattle.std.specs.Str.{bytes_eq}
@@ -15,8 +15,7 @@ use Rattle.pmap_text.specs.declared.entry.Entry.{Entry}
 use Rattle.pmap_text.specs.declared.map_text.MapText.{MapText}
 use Rattle.pmap_cert.specs.CertificateModel.{CertificateModel, Tree, has}
 use Rattle.pmap_cert.specs.ListForm.{HasListForm, IsInOrder}
-use Rattle.pmap_cert.specs.Node.{HasNumberForm, tree_of}
-use Rattle.pmap_cert.specs.declared.node.Node.{Node}
+use Rattle.pmap_cert.specs.Node.{HasNumberForm, Node, tree_of}
 use Rattle.label_trie.specs.Leaf.{number_of}
 use Rattle.label_trie.specs.TrieModel.{IsSettledLeaf, IsUndivided, LeafModel}
 use Rattle.pmap_cert.specs.CertificateForm.{HasTextForm}
@@ -26,12 +25,12 @@ use Rattle.pmap_text.specs.ListEntries.{HasDistinctBlocks}
 use Rattle.pmap_cert.specs.MinimalPair.{HasItsLabels, IsMinimalPair, StandsFor, entries_of}
 use Rattle.pmap_cert.proofs.InOrder.{list-form}
 use Rattle.pmap_cert.proofs.Sets.{bytes_eq-same}
-use Rattle.pmap_minimise.specs.Entered.{AddsEntries}
-use Rattle.pmap_minimise.specs.Shortest.{IsWhole, shortest_list}
+use Rattle.pmap_minimise.specs.Entered.{AddsEntries, IsEntryOf}
+use Rattle.pmap_minimise.specs.Shortest.{IsWhole, list_with, shortest_list}
 use Rattle.pmap_minimise.proofs.Distinct.{order-distinct}
 use Rattle.pmap_minimise.proofs.Entered.{half-entries}
 use Rattle.pmap_minimise.specs.Certified.{IsKnownLeaf}
-use Rattle.pmap_minimise.specs.Listing.{IsListed}
+use Rattle.pmap_minimise.specs.Listing.{IsListedBy}
 use Rattle.pmap_minimise.proofs.Joined.{root-stands, settled-known, whole-number}
 
 table-has : (table : List Label) (n : ℕ) → n < length table → IsTrue (has table (text_at table n))
@@ -85,52 +84,55 @@ whole-entries m root whole old new is ok form none adds =
     ∙ half-entries m.labels (tree_of m.labels root) None None (width_of m.version) (width_of whole.version) 0 whole.len 0 (number_of whole) width refl bits
     (whole-number whole is.start)
 
--- so their blocks are distinct
-pub whole-distinct : (m : MapText) (root : Node) (new : List Entry) → StandsFor (map_of m) (tree_of m.labels root) 0 0
-    → map (prefix_of m.labels) new ≡ entries_of (width_of m.version) m.labels (tree_of m.labels root) None 0 0 → HasDistinctBlocks new
-whole-distinct m root new stands is =
-    let form = shortest-form (map_of m) (tree_of m.labels root) stands (own-labels m) in
-    order-distinct m.labels new (subst IsInOrder (sym is) form.order)
-
--- the entries that are listed for a map's trie are those of a certificate's root, which stands for the address space
-pub record IsShortest (m : MapText) (items : List Entry) : Type 0 where
-  pub root : Node
+-- the entries are those of a certificate's root, which stands for the address space
+pub record IsShortestBy (m : MapText) (root : Node) (items : List Entry) : Type 0 where
+  pub versions : All (λ e. e.block.version ≡ m.version) items
+  pub known : All (λ e. e.label.0 < length m.labels) items
   pub stands : StandsFor (map_of m) (tree_of m.labels root) 0 0
   pub form : HasNumberForm (length m.labels) root (width_of m.version)
   pub entries : map (prefix_of m.labels) items ≡ entries_of (width_of m.version) m.labels (tree_of m.labels root) None 0 0
 
-pub listed-shortest : (m : MapText) (block : Block) (all leaves : List LeafModel) (items : List Entry) → IsListed block leaves items → leaves ≡ all → IsLabelTable m.labels
-    → All (IsSettledLeaf (map_of m)) all → All (IsUndivided (map_of m)) all → IsWhole m.version block → IsShortest m items
-listed-shortest m block all leaves items listed is ok settled undivided whole =
+pub listed-shortest : (m : MapText) (block : Block) (all leaves : List LeafModel) (root : Node) (items : List Entry) → IsListedBy block leaves root items → leaves ≡ all
+    → IsLabelTable m.labels → All (IsSettledLeaf (map_of m)) all → All (IsUndivided (map_of m)) all → IsWhole m.version block → IsShortestBy m root items
+listed-shortest m block all leaves root items listed is ok settled undivided whole =
     let version = whole.version_is in
     let bits = whole.bits in
     let width : width_of block.version ≡ width_of m.version = ap width_of version in
     let room : width_of block.version - block.len ≡ width_of m.version = omega arith in
     let known = All-weaker (IsSettledLeaf (map_of m)) (IsKnownLeaf (length m.labels)) (settled-known (map_of m)) leaves (subst (λ (l : List LeafModel). All (IsSettledLeaf (map_of m)) l) (sym is) settled) in
-    let form : HasNumberForm (length m.labels) listed.node (width_of m.version) =
-    subst (λ (r : ℕ). HasNumberForm (length m.labels) listed.node r) room (listed.certified.form (length m.labels) known) in
+    let form : HasNumberForm (length m.labels) root (width_of m.version) =
+    subst (λ (r : ℕ). HasNumberForm (length m.labels) root r) room (listed.certified.form (length m.labels) known) in
+    let fit : All (IsEntryOf block (length m.labels)) items =
+    listed.adds.fit (length m.labels) (λ x e. absurd (none-some x e)) (listed.certified.form (length m.labels) known) (All-from_recursion (IsEntryOf block (length m.labels)) [] tt) in
     record {
-      root = listed.node;
-      stands = root-stands (map_of m) listed.node block all leaves listed.certified is ok settled undivided bits whole.start;
+      versions = All-weaker (IsEntryOf block (length m.labels)) (λ e. e.block.version ≡ m.version) (λ e fits. fits.version ∙ version) items fit;
+      known = All-weaker (IsEntryOf block (length m.labels)) (λ e. e.label.0 < length m.labels) (λ e fits. fits.known) items fit;
+      stands = root-stands (map_of m) root block all leaves listed.certified is ok settled undivided bits whole.start;
       form = form;
-      entries = whole-entries m listed.node block [] items whole ok form refl listed.adds;
+      entries = whole-entries m root block [] items whole ok form refl listed.adds;
     }
 
--- a list of these entries is the map's minimal one
-module _ (m : MapText) (items : List Entry) (l : ListModel) (ok : IsLabelTable m.labels) (shortest : IsShortest m items)
-    (is : l ≡ record { version = m.version; name = m.name; prefixes = map (prefix_of m.labels) items; table = m.labels }) where
-  abbrev root_tree : Tree
-  root_tree = tree_of m.labels shortest.root
+module _ (m : MapText) (root : Node) (items : List Entry) (shortest : IsShortestBy m root items) where
+  -- their blocks are distinct
+  pub shortest-distinct : HasDistinctBlocks items
+  shortest-distinct =
+      let form = shortest-form (map_of m) (tree_of m.labels root) shortest.stands (own-labels m) in
+      order-distinct m.labels items (subst IsInOrder (sym shortest.entries) form.order)
 
-  listed-is : l ≡ shortest_list (map_of m) root_tree
-  listed-is = is ∙ (λ i. record { version = m.version; name = m.name; prefixes = shortest.entries i; table = m.labels })
+  -- a list of these entries is the map's minimal one
+  module _ (l : ListModel) (is : l ≡ list_with m items) where
+    listed-is : l ≡ shortest_list (map_of m) (tree_of m.labels root)
+    listed-is = is ∙ (λ i. record { version = m.version; name = m.name; prefixes = shortest.entries i; table = m.labels })
 
-  pub listed-pair : (c : CertificateModel) × IsMinimalPair (map_of m) l c × HasTextForm c
-  listed-pair = (
-    record { format = 1; version = m.version; table = m.labels; root = root_tree },
-    minimal (map_of m) l (record { format = 1; version = m.version; table = m.labels; root = root_tree }) root_tree shortest.stands listed-is refl,
-    record { format = refl; plain = plain-tree_of m.labels shortest.root; table = ok; root = node_form m.labels ok shortest.root (width_of m.version) shortest.form },
-  )
+    pub listed-form : HasListForm l
+    listed-form = subst HasListForm (sym listed-is) (shortest-form (map_of m) (tree_of m.labels root) shortest.stands (own-labels m))
 
-  pub listed-form : HasListForm l
-  listed-form = subst HasListForm (sym listed-is) (shortest-form (map_of m) root_tree shortest.stands (own-labels m))
+    pub listed-minimal : (c : CertificateModel) → c ≡ record { format = 1; version = m.version; table = m.labels; root = tree_of m.labels root } → IsMinimalPair (map_of m) l c
+    listed-minimal c certificate = minimal (map_of m) l c (tree_of m.labels root) shortest.stands listed-is certificate
+
+    pub listed-pair : IsLabelTable m.labels → (c : CertificateModel) × IsMinimalPair (map_of m) l c × HasTextForm c
+    listed-pair ok = (
+      record { format = 1; version = m.version; table = m.labels; root = tree_of m.labels root },
+      listed-minimal (record { format = 1; version = m.version; table = m.labels; root = tree_of m.labels root }) refl,
+      record { format = refl; plain = plain-tree_of m.labels root; table = ok; root = node_form m.labels ok root (width_of m.version) shortest.form },
+    )

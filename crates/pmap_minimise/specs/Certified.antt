@@ -5,11 +5,10 @@ use Rattle.prefix_keys.specs.declared.block.Block.{Block}
 use Rattle.pmap_text.specs.Label.{IsLabelTable}
 use Rattle.pmap_text.specs.MapModel.{MapModel}
 use Rattle.pmap_cert.specs.MinimalPair.{StandsFor}
-use Rattle.pmap_cert.specs.Node.{HasNumberForm, tree_of}
-use Rattle.pmap_cert.specs.declared.node.Node.{Node}
+use Rattle.pmap_cert.specs.Node.{HasNumberForm, Node, cost_of, tree_of}
 use Rattle.label_trie.specs.Leaf.{number_of}
 use Rattle.label_trie.specs.TrieModel.{IsSettledLeaf, IsUndivided, LeafModel}
-use Rattle.pmap_minimise.specs.Numbers.{IsSound, cost_of}
+use Rattle.pmap_minimise.specs.Numbers.{IsSound}
 
 -- the number of the leaf's label is below the bound
 abbrev pub IsKnownLeaf : ℕ → LeafModel → Type 0

@@ -9,8 +9,7 @@ use Rattle.pmap_text.specs.PrefixList.{prefix_of}
 use Rattle.pmap_text.specs.declared.entry.Entry.{Entry}
 use Rattle.pmap_text.specs.declared.label.LabelId.{LabelId}
 use Rattle.pmap_cert.specs.MinimalPair.{entries_of}
-use Rattle.pmap_cert.specs.Node.{HasNumberForm, tree_of}
-use Rattle.pmap_cert.specs.declared.node.Node.{Node}
+use Rattle.pmap_cert.specs.Node.{HasNumberForm, Node, tree_of}
 use Rattle.label_trie.specs.Leaf.{number_of}
 
 -- the text of an inherited label

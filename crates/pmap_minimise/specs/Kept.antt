@@ -1,25 +1,29 @@
-use Rattle.std.specs.Prelude.{◌≡◌, ℕ, zero, suc, ◌^◌, ◌≤◌, List, [], ◌∷◌, ◌++◌, All, length, slice_index, slice_range}
+use Rattle.std.specs.Prelude.{◌≡◌, ℕ, zero, suc, ◌^◌, ◌≤◌, List, [], ◌∷◌, ◌++◌, All, length, slice_index_or, slice_range}
 use Rattle.pmap_text.specs.declared.label.LabelId.{LabelId}
 use Rattle.pmap_cert.specs.CertificateForm.{IsRising}
-use Rattle.pmap_minimise.specs.Numbers.{numbers_of}
-use Rattle.pmap_minimise.specs.declared.set_list.Sets.{Sets}
+use Rattle.pmap_minimise.specs.Numbers.{Claim, numbers_of}
+use Rattle.pmap_minimise.specs.declared.claim_list.Claims.{Claims}
+use Rattle.pmap_minimise.specs.declared.claim_list.Kept.{Kept}
 
--- Sets of labels that are kept one behind the other.
+-- Claims that are kept, their sets of labels one behind the other.
 
--- the pieces of the labels from a place on, which end at these places
-abbrev pub cut : ℕ → List LabelId → List ℕ → List (List ℕ)
+-- the claims whose sets are the pieces of the labels from a place on, which end where these say
+abbrev pub cut : ℕ → List LabelId → List Kept → List Claim
 cut from ids [] = []
-cut from ids (end ∷ ends) = numbers_of (slice_range ids from end) ∷ cut end ids ends
+cut from ids (k ∷ ks) = record { cost = k.cost; set = numbers_of (slice_range ids from k.end) } ∷ cut k.end ids ks
 
 -- the places don't fall, and the last is the end of the labels
-abbrev pub AreEnds : ℕ → ℕ → List ℕ → Type 0
+abbrev pub AreEnds : ℕ → ℕ → List Kept → Type 0
 AreEnds from count [] = from ≡ count
-AreEnds from count (end ∷ ends) = (from ≤ end) × AreEnds end count ends
+AreEnds from count (k ∷ ks) = (from ≤ k.end) × AreEnds k.end count ks
 
--- where the piece with a number begins
-abbrev pub start_of : ℕ → List ℕ → ℕ → ℕ
-start_of from ends zero = from
-start_of from ends (suc number) = slice_index ends number
+-- where the piece with a number ends and begins
+abbrev pub end_at : List Kept → ℕ → ℕ
+end_at ks number = (slice_index_or ks number (record { cost = 0; end = 0 })).end
+
+abbrev pub start_of : ℕ → List Kept → ℕ → ℕ
+start_of from ks zero = from
+start_of from ks (suc number) = end_at ks number
 
 -- the new labels are the old ones and those with these numbers
 pub record AreLabelsBehind (old : List LabelId) (numbers : List ℕ) (new : List LabelId) : Type 0 where
@@ -27,15 +31,19 @@ pub record AreLabelsBehind (old : List LabelId) (numbers : List ℕ) (new : List
   pub new_is : new ≡ old ++ more
   pub numbers_are : numbers_of more ≡ numbers
 
--- the sets that are kept
-abbrev pub sets_in : Sets → List (List ℕ)
-sets_in s = cut 0 s.ids.items s.ends.items
+-- the claims that are kept
+abbrev pub claims_in : Claims → List Claim
+claims_in c = cut 0 c.ids.items c.kept.items
 
-pub record AreKept (s : Sets) : Type 0 where
-  pub ends : AreEnds 0 (length s.ids.items) s.ends.items
-  pub rising : All (IsRising (2 ^ 32) 0) (sets_in s)
+-- the set is listed by rising numbers
+abbrev pub IsRisingClaim : Claim → Type 0
+IsRisingClaim claim = IsRising (2 ^ 32) 0 claim.set
 
--- one more set is kept
-pub record IsKeptBehind (old new : Sets) (set : List ℕ) : Type 0 where
+pub record AreKept (c : Claims) : Type 0 where
+  pub ends : AreEnds 0 (length c.ids.items) c.kept.items
+  pub rising : All IsRisingClaim (claims_in c)
+
+-- one more claim is kept
+pub record IsKeptBehind (old new : Claims) (cost : ℕ) (set : List ℕ) : Type 0 where
   pub kept : AreKept new
-  pub sets : sets_in new ≡ sets_in old ++ set ∷ []
+  pub claims : claims_in new ≡ claims_in old ++ record { cost = cost; set = set } ∷ []

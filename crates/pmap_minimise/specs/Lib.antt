@@ -4,8 +4,8 @@ pub mod Entered
 pub mod Shortest
 pub mod Outline
 pub mod Walk
-pub mod Pending
 pub mod Laid
 pub mod Kept
 pub mod Claiming
 pub mod Listing
+pub mod MadeLines

@@ -4,8 +4,7 @@ use Rattle.prefix_keys.specs.declared.block.Block.{Block}
 use Rattle.pmap_text.specs.declared.entry.Entry.{Entry}
 use Rattle.pmap_text.specs.declared.label.LabelId.{LabelId}
 use Rattle.pmap_cert.specs.CertificateForm.{IsRising}
-use Rattle.pmap_cert.specs.declared.node.Node.{Node}
-use Rattle.pmap_cert.specs.declared.node.Node.TheVariants.{Inner', Leaf}
+use Rattle.pmap_cert.specs.Node.{Inner, Leaf, Node, cost_of, set_of}
 
 -- Sets of labels, claims and entries by the numbers of labels, as the code has them.
 
@@ -33,14 +32,16 @@ IsExactSetBy low high apart (n ∷ ns) set = (apart ≡ false) × (set ≡ n ∷
 abbrev pub IsExactSet : List ℕ → List ℕ → Bool → List ℕ → Type 0
 IsExactSet low high apart set = IsExactSetBy low high apart (common_numbers low high) set
 
--- what a node claims: the numbers of its set, and its cost
-abbrev pub set_of : Node → List ℕ
-set_of (Leaf id) = id.0 ∷ []
-set_of (Inner' cost set p left q right) = set
+-- a cost and the numbers of a set, as an inner node claims them
+pub record Claim : Type 0 where
+  pub cost : ℕ
+  pub set : List ℕ
 
-abbrev pub cost_of : Node → ℕ
-cost_of (Leaf id) = 0
-cost_of (Inner' cost set p left q right) = cost
+abbrev pub no_claim : Claim
+no_claim = record { cost = 0; set = [] }
+
+abbrev pub node_claim : Node → Claim
+node_claim node = record { cost = cost_of node; set = set_of node }
 
 -- The cost and the set are the exact ones of two costs and sets with the common numbers in the fifth place: where some are
 -- common the sum of the costs and just these, else one more and the numbers of either.
@@ -48,6 +49,10 @@ abbrev pub IsExactBy : ℕ → ℕ → List ℕ → List ℕ → List ℕ → �
 IsExactBy low_cost high_cost low high [] cost set =
     (cost ≡ low_cost + high_cost + 1) × IsUnion low high set × IsRising (2 ^ 32) 0 set
 IsExactBy low_cost high_cost low high (n ∷ ns) cost set = (cost ≡ low_cost + high_cost) × (set ≡ n ∷ ns)
+
+-- the claim is the exact one of two claims
+abbrev pub IsExactClaim : Claim → Claim → Claim → Type 0
+IsExactClaim low high claim = IsExactBy low.cost high.cost low.set high.set (common_numbers low.set high.set) claim.cost claim.set
 
 -- the cost and the set are the exact ones of what two nodes claim
 abbrev pub IsExact : Node → Node → ℕ → List ℕ → Type 0
@@ -57,18 +62,18 @@ IsExact low high cost set =
 -- the node is the one of two halves with the exact claim
 abbrev pub IsJoined : Node → Node → Node → Type 0
 IsJoined low high (Leaf id) = ⊥
-IsJoined low high (Inner' cost set p left q right) = (left ≡ low) × (right ≡ high) × IsExact low high cost set
+IsJoined low high (Inner cost set left right) = (left ≡ low) × (right ≡ high) × IsExact low high cost set
 
 -- the node is an inner one with these two nodes
 abbrev pub HasHalves : Node → Node → Node → Type 0
 HasHalves (Leaf id) low high = ⊥
-HasHalves (Inner' cost set p left q right) low high = (left ≡ low) × (right ≡ high)
+HasHalves (Inner cost set left right) low high = (left ≡ low) × (right ≡ high)
 
 -- each set has a number, and at most so many inner nodes stand one inside the other
 abbrev pub IsSound : Node → ℕ → Type 0
 IsSound (Leaf id) room = Unit {0}
-IsSound (Inner' cost set p left q right) zero = ⊥
-IsSound (Inner' cost set p left q right) (suc room) = (0 < length set) × IsSound left room × IsSound right room
+IsSound (Inner cost set left right) zero = ⊥
+IsSound (Inner cost set left right) (suc room) = (0 < length set) × IsSound left room × IsSound right room
 
 -- the labels have the one that is inherited
 abbrev pub keeps : List LabelId → Option LabelId → Bool

@@ -2,14 +2,13 @@ use Rattle.std.specs.Prelude.{◌≡◌, ℕ, ◌+◌, ◌^◌, ◌<◌, ◌≤�
 use Rattle.prefix_keys.specs.declared.block.Block.{Block}
 use Rattle.pmap_text.specs.MapModel.{MapModel, settled_label}
 use Rattle.pmap_text.specs.declared.label.LabelId.{LabelId}
-use Rattle.pmap_cert.specs.declared.node.Node.{Node}
-use Rattle.pmap_cert.specs.declared.node.Node.TheVariants.{Leaf}
 use Rattle.label_trie.specs.Leaf.{model_of, number_of}
 use Rattle.label_trie.specs.Parts.{IsHalf}
 use Rattle.label_trie.specs.TrieModel.{IsUndivided, LeafModel}
-use Rattle.pmap_minimise.specs.Numbers.{IsJoined, cost_of}
+use Rattle.pmap_minimise.specs.Numbers.{IsJoined}
 use Rattle.pmap_minimise.specs.declared.outline.Part.{Part}
 use Rattle.pmap_minimise.specs.declared.outline.Part.TheVariants.{Divided, Labelled}
+use Rattle.pmap_cert.specs.Node.{Leaf, Node, cost_of}
 
 -- The outline of a trie, and the certificate's nodes made of it from its end: how the code goes over a trie.
 
@@ -62,7 +61,7 @@ pub record IsNodeOver (Low High : Node → Type 0) (node : Node) : Type 0 where
 
 -- the node is the certificate's for the tree
 abbrev pub IsNodeFor : Plan → Node → Type 0
-IsNodeFor (Tip id) node = node ≡ Leaf id
+IsNodeFor (Tip id) node = node ≡ Leaf id.0
 IsNodeFor (Fork low high) node = IsNodeOver (IsNodeFor low) (IsNodeFor high) node
 
 -- the trees that parts are those of, one after the other
@@ -128,5 +127,5 @@ pub record JoinsTwo (old new : List Node) : Type 0 where
 
 -- the part's node goes onto the stack
 abbrev pub IsAdded : Part → List Node → List Node → Type 0
-IsAdded (Labelled id) old new = new ≡ old ++ Leaf id ∷ []
+IsAdded (Labelled id) old new = new ≡ old ++ Leaf id.0 ∷ []
 IsAdded Divided old new = JoinsTwo old new

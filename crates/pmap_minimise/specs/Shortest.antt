@@ -1,9 +1,12 @@
-use Rattle.std.specs.Prelude.{◌≡◌, None}
+use Rattle.std.specs.Prelude.{◌≡◌, List, None, map}
 use Rattle.prefix_keys.specs.Version.{width_of}
 use Rattle.prefix_keys.specs.declared.block.Block.{Block}
 use Rattle.prefix_keys.specs.declared.version.Version.{Version}
 use Rattle.pmap_text.specs.ListModel.{ListModel}
 use Rattle.pmap_text.specs.MapModel.{MapModel}
+use Rattle.pmap_text.specs.PrefixList.{prefix_of}
+use Rattle.pmap_text.specs.declared.entry.Entry.{Entry}
+use Rattle.pmap_text.specs.declared.map_text.MapText.{MapText}
 use Rattle.pmap_cert.specs.CertificateModel.{Tree}
 use Rattle.pmap_cert.specs.MinimalPair.{entries_of}
 
@@ -21,3 +24,7 @@ shortest_list m root = record {
   prefixes = entries_of (width_of m.version) m.table root None 0 0;
   table = m.table;
 }
+
+-- the prefix list of the map's name and label table with these entries
+abbrev pub list_with : MapText → List Entry → ListModel
+list_with m items = record { version = m.version; name = m.name; prefixes = map (prefix_of m.labels) items; table = m.labels }

@@ -1,20 +1,21 @@
-//! The sets that the inner nodes of a certificate claim, without these nodes: all that the list is told by.
+//! What the inner nodes of a certificate claim, without these nodes: all that the list and the certificate are told by.
 ghost use Rattle.std.specs.Prelude.{◌≡◌, ◌^◌, ◌≤◌, IfOk, OnOk, length};
 ghost use Rattle.pmap_cert.specs.CertificateForm.{IsRising};
-ghost use Rattle.pmap_minimise.specs.Kept.{AreKept, sets_in};
-ghost use Rattle.pmap_minimise.specs.Claiming.{AreSetsOf, IsExactOf, IsHalfAdded, IsHalfIn, IsHalfJoined, IsHalfReady, claimed_by};
-ghost use Rattle.pmap_minimise.specs.Numbers.{numbers_of};
+ghost use Rattle.pmap_cert.specs.Node.{Node};
+ghost use Rattle.pmap_minimise.specs.Kept.{AreKept, claims_in};
+ghost use Rattle.pmap_minimise.specs.Claiming.{AreCheap, AreClaimsOf, IsHalfAdded, IsHalfIn, IsHalfJoined, IsHalfReady, claimed_by};
+ghost use Rattle.pmap_minimise.specs.Numbers.{IsExactClaim, numbers_of};
 ghost use Rattle.pmap_minimise.specs.Outline.{IsOutline};
 
+use crate::claim_list::Claims;
 use crate::outline::Part;
-use crate::set_list::Sets;
 use crate::sets::{SmallSet, exact_set};
 use crate::stack::pop;
 use pmap_text::LabelId;
 use std::alloc::{AllocError, Global};
 use std::slice;
 
-/// What the node of a half of a block claims: the label of a leaf, or the kept set with a number.
+/// What the node of a half of a block claims: the label of a leaf, or the kept claim with a number.
 #[derive(Clone, Copy)]
 pub enum Half {
     Labelled(LabelId),
@@ -22,10 +23,10 @@ pub enum Half {
 }
 
 // The labels that a half claims, by rising numbers.
-fn labels_at<'a>(sets: &'a Sets, half: &'a Half) -> &'a [LabelId]
-    requires kept { AreKept sets.now }
-    requires inside { IsHalfIn (sets_in sets.now) half.now }
-    ensures value { numbers_of result.now ≡ claimed_by (sets_in sets.now) half.now }
+fn labels_at<'a>(claims: &'a Claims, half: &'a Half) -> &'a [LabelId]
+    requires kept { AreKept claims.now }
+    requires inside { IsHalfIn (claims_in claims.now) half.now }
+    ensures value { numbers_of result.now ≡ (claimed_by (claims_in claims.now) half.now).set }
     ensures rising { IsRising (2 ^ 32) 0 (numbers_of result.now) }
 {
     match half {
@@ -34,33 +35,52 @@ fn labels_at<'a>(sets: &'a Sets, half: &'a Half) -> &'a [LabelId]
             let _number = id.0;
             slice::from_ref(id)
         }
-        Half::Claiming(number) => sets.get(*number),
+        Half::Claiming(number) => claims.set(*number),
     }
 }
 
-// The exact set of two halves.
-fn exact_of(alloc: Global, sets: &Sets, low: &Half, high: &Half) -> Result<SmallSet, AllocError>
-    requires kept { AreKept sets.now }
-    requires low { IsHalfIn (sets_in sets.now) low.now }
-    requires high { IsHalfIn (sets_in sets.now) high.now }
-    ensures exact { IfOk result (λ set. IsExactOf (claimed_by (sets_in sets.now) low.now)
-        (claimed_by (sets_in sets.now) high.now) set.items) }
-    ensures rising { IfOk result (λ set. IsRising (2 ^ 32) 0 set.items) }
+// The cost that a half claims.
+fn cost_at(claims: &Claims, half: &Half) -> u32
+    requires { IsHalfIn (claims_in claims.now) half.now }
+    ensures { result ≡ (claimed_by (claims_in claims.now) half.now).cost }
 {
-    let (set, _) = exact_set(alloc, labels_at(sets, low), labels_at(sets, high))?;
-    Ok(set)
+    match half {
+        Half::Labelled(_) => 0,
+        Half::Claiming(number) => claims.cost(*number),
+    }
 }
 
-// Keeps the exact set of two halves, and answers what their block claims by it.
-fn join(alloc: Global, sets: &mut Sets, low: Half, high: Half) -> Result<Half, AllocError>
-    requires kept { AreKept sets.old }
-    requires low { IsHalfIn (sets_in sets.old) low }
-    requires high { IsHalfIn (sets_in sets.old) high }
-    ensures { IfOk result (IsHalfJoined low high sets.old sets.new) }
+// The exact cost and set of two halves.
+fn exact_of(
+    alloc: Global,
+    claims: &Claims,
+    low: &Half,
+    high: &Half,
+) -> Result<(u32, SmallSet), AllocError>
+    requires kept { AreKept claims.now }
+    requires low { IsHalfIn (claims_in claims.now) low.now }
+    requires high { IsHalfIn (claims_in claims.now) high.now }
+    requires cheap { AreCheap (claims_in claims.now) low.now high.now }
+    ensures exact { IfOk result (λ exact. IsExactClaim (claimed_by (claims_in claims.now) low.now)
+        (claimed_by (claims_in claims.now) high.now) (record { cost = exact.0; set = exact.1.items })) }
+    ensures rising { IfOk result (λ exact. IsRising (2 ^ 32) 0 exact.1.items) }
 {
-    let set = exact_of(alloc, sets, &low, &high)?;
-    let number = sets.len();
-    sets.push(set.as_slice())?;
+    let cost = cost_at(claims, low) + cost_at(claims, high);
+    let (set, apart) = exact_set(alloc, labels_at(claims, low), labels_at(claims, high))?;
+    Ok((if apart { cost + 1 } else { cost }, set))
+}
+
+// Keeps the exact claim of two halves, and answers what their block claims by it.
+fn join(alloc: Global, claims: &mut Claims, low: Half, high: Half) -> Result<Half, AllocError>
+    requires kept { AreKept claims.old }
+    requires low { IsHalfIn (claims_in claims.old) low }
+    requires high { IsHalfIn (claims_in claims.old) high }
+    requires cheap { AreCheap (claims_in claims.old) low high }
+    ensures { IfOk result (IsHalfJoined low high claims.old claims.new) }
+{
+    let (cost, set) = exact_of(alloc, claims, &low, &high)?;
+    let number = claims.len();
+    claims.push(cost, set.as_slice())?;
     Ok(Half::Claiming(number))
 }
 
@@ -68,37 +88,37 @@ fn join(alloc: Global, sets: &mut Sets, low: Half, high: Half) -> Result<Half, A
 fn push_half(
     alloc: Global,
     halves: &mut Vec<Half>,
-    sets: &mut Sets,
+    claims: &mut Claims,
     part: Part,
 ) -> Result<(), AllocError>
-    requires kept { AreKept sets.old }
-    requires ready { IsHalfReady part (sets_in sets.old) halves.old.items }
-    ensures { OnOk result (IsHalfAdded part halves.old.items halves.new.items sets.old sets.new) }
+    requires kept { AreKept claims.old }
+    requires ready { IsHalfReady part (claims_in claims.old) halves.old.items }
+    ensures { OnOk result (IsHalfAdded part halves.old.items halves.new.items claims.old claims.new) }
 {
     match part {
         Part::Labelled(id) => halves.push(Half::Labelled(id))?,
         Part::Divided => {
             let low = pop(halves);
             let high = pop(halves);
-            let half = join(alloc, sets, low, high)?;
+            let half = join(alloc, claims, low, high)?;
             halves.push(half)?;
         }
     }
     Ok(())
 }
 
-/// The sets that the inner nodes of the certificate of an outline claim, from its last part to its first.
-pub fn claimed(alloc: Global, parts: &[Part]) -> Result<Sets, AllocError>
+/// What the inner nodes of the certificate of an outline claim, from its last part to its first.
+pub fn claimed(alloc: Global, parts: &[Part]) -> Result<Claims, AllocError>
     requires outline { IsOutline parts.now }
     requires few { length parts.now ≤ 2 ^ 32 }
-    ensures { IfOk result (AreSetsOf parts.now) }
+    ensures { IfOk result (λ claims. (node : Node) × AreClaimsOf parts.now claims node) }
 {
-    let mut sets = Sets::new(alloc);
+    let mut claims = Claims::new(alloc);
     let mut halves = Vec::new(alloc);
     let mut left = parts.len();
     while left > 0 {
         left -= 1;
-        push_half(alloc, &mut halves, &mut sets, parts[left])?;
+        push_half(alloc, &mut halves, &mut claims, parts[left])?;
     }
-    Ok(sets)
+    Ok(claims)
 }

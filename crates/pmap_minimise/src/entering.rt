@@ -1,24 +1,11 @@
-//! The entries of a certificate's nodes, from the root down.
-ghost use Rattle.std.specs.Prelude.{◌≡◌, ◌-◌, ◌<◌, ◌++◌, ◌==◌, All, IfOk, OnOk, List, ℕ, Some, length, map, option_map};
+//! The own entry of a certificate's node, and the label that it hands on.
+ghost use Rattle.std.specs.Prelude.{◌≡◌, ◌<◌, ◌==◌, IfOk, length};
 ghost use Rattle.std.specs.List.{list_any};
-ghost use Rattle.std.specs.Option.{ForSome};
-ghost use Rattle.prefix_keys.specs.Version.{width_of};
-ghost use Rattle.pmap_text.specs.Label.{IsLabelTable};
-ghost use Rattle.pmap_text.specs.MapModel.{Label};
-ghost use Rattle.pmap_text.specs.MapText.{text_at};
-ghost use Rattle.pmap_text.specs.PrefixList.{prefix_of};
-ghost use Rattle.pmap_cert.specs.MinimalPair.{entries_of};
-ghost use Rattle.pmap_cert.specs.Node.{HasNumberForm, tree_of};
-ghost use Rattle.label_trie.specs.Leaf.{number_of};
-ghost use Rattle.pmap_minimise.specs.Entered.{AddsEntries};
-ghost use Rattle.pmap_minimise.specs.Numbers.{IsOwn, IsSound, keeps};
-ghost use Rattle.pmap_minimise.specs.Pending.{IsEntered, IsSoundAt};
+ghost use Rattle.pmap_minimise.specs.Numbers.{IsOwn, keeps};
 
-use crate::certifying::labels_of;
-use pmap_cert::Node;
 use pmap_text::{Entry, LabelId};
 use prefix_keys::Block;
-use std::alloc::{AllocError, Global};
+use std::alloc::AllocError;
 
 // Whether the label is one of these.
 fn has_label(labels: &[LabelId], id: LabelId) -> bool
@@ -58,72 +45,4 @@ pub fn push_own(
         label: least,
     })?;
     Ok(least)
-}
-
-/// A node whose entries, with those of the nodes below it, are still to be added: its block, and the label that it
-/// inherits from above.
-#[derive(Clone, Copy)]
-pub struct Pending<'a> {
-    node: &'a Node,
-    block: Block,
-    inherited: Option<LabelId>,
-}
-
-// Adds the own entry of a node, and puts the nodes of its halves onto the stack, the lower one last.
-fn enter<'a>(
-    entries: &mut Vec<Entry>,
-    pending: &mut Vec<Pending<'a>>,
-    place: Pending<'a>,
-) -> Result<(), AllocError>
-    requires sound { IsSoundAt place }
-    ensures { OnOk result
-        (IsEntered place.entry pending.old.items pending.new.items entries.old.items entries.new.items) }
-{
-    let Pending {
-        node,
-        block,
-        inherited,
-    } = place;
-    let label = push_own(entries, labels_of(node), block, inherited)?;
-    if let Node::Inner { left, right, .. } = node {
-        let Some((low, high)) = block.halves() else {
-            unreachable!()
-        };
-        pending.push(Pending {
-            node: right,
-            block: high,
-            inherited: Some(label),
-        })?;
-        pending.push(Pending {
-            node: left,
-            block: low,
-            inherited: Some(label),
-        })?;
-    }
-    Ok(())
-}
-
-/// Adds the entries of a node of this block and of those below it, by rising first address. The label is what the node
-/// inherits from above. The nodes are met in the order of the certificate's lines, from the first to the last; at most
-/// one upper half for each bit of the address waits on the stack.
-pub fn push_entries(
-    alloc: Global,
-    entries: &mut Vec<Entry>,
-    node: &Node,
-    block: Block,
-    inherited: Option<LabelId>,
-) -> Result<(), AllocError>
-    requires sound { IsSound node.now (width_of block.version - block.len) }
-    ensures { OnOk result (AddsEntries node.now block inherited entries.old.items entries.new.items) }
-{
-    let mut pending = Vec::new(alloc);
-    pending.push(Pending {
-        node,
-        block,
-        inherited,
-    })?;
-    while let Some(place) = pending.pop() {
-        enter(entries, &mut pending, place)?;
-    }
-    Ok(())
 }

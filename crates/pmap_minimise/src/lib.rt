@@ -19,12 +19,12 @@
 #![tactic(auto)]
 
 mod certifying;
+mod claim_list;
 mod claiming;
 mod entering;
 mod listing;
 mod minimal;
 mod outline;
-mod set_list;
 mod sets;
 mod stack;
 

@@ -1,5 +1,5 @@
-ghost use Rattle.std.specs.Prelude.{◌≡◌, ◌+◌, All, IfOk, length};
-ghost use Rattle.prefix_keys.specs.Version.{width_of};
+ghost use Rattle.std.specs.Prelude.{◌≡◌, ◌+◌, ◌<◌, All, IfOk, length};
+ghost use Rattle.pmap_text.specs.ListEntries.{HasDistinctBlocks};
 ghost use Rattle.pmap_text.specs.ListModel.{IsEquivalent};
 ghost use Rattle.pmap_text.specs.MapText.{map_of};
 ghost use Rattle.pmap_text.specs.PrefixList.{list_of};
@@ -8,19 +8,14 @@ ghost use Rattle.pmap_cert.specs.Certificate.{certificate_of};
 ghost use Rattle.pmap_cert.specs.CertificateForm.{HasTextForm};
 ghost use Rattle.pmap_cert.specs.CertificateModel.{CertificateModel, claim_of};
 ghost use Rattle.pmap_cert.specs.ListForm.{HasListForm};
-ghost use Rattle.pmap_cert.specs.MinimalPair.{IsMinimalPair, StandsFor};
-ghost use Rattle.pmap_cert.specs.Node.{HasNumberForm, tree_of};
+ghost use Rattle.pmap_cert.specs.MinimalPair.{IsMinimalPair};
 ghost use Rattle.label_trie.specs.TrieModel.{IsSettledLeaf, IsUndivided};
-ghost use Rattle.pmap_minimise.specs.Numbers.{IsSound};
-ghost use Rattle.pmap_minimise.specs.Shortest.{IsWhole, shortest_list};
+ghost use Rattle.pmap_minimise.specs.Shortest.{list_with};
 
-use crate::certifying::{certified, cost_of};
-use crate::entering::push_entries;
-use crate::listing::listed;
+use crate::listing::{listed, listed_and_certified};
 use label_trie::Trie;
-use pmap_cert::{Certificate, Node, minimal_pair_is_accepted};
-use pmap_text::{Entries, MapText, Name, PrefixList};
-use prefix_keys::Block;
+use pmap_cert::{Certificate, minimal_pair_is_accepted};
+use pmap_text::{Entries, Entry, MapText, Name, PrefixList};
 use std::alloc::{AllocError, Global};
 
 /// A shortest prefix list for a map, its certificate, and the cost that the certificate's root claims.
@@ -53,12 +48,13 @@ pub fn minimise(alloc: Global, map: &MapText, trie: &Trie) -> Result<Minimal, Al
     // For their laws: a minimal pair is accepted, the table's labels are distinct, and the leaves are few.
     minimal_pair_is_accepted();
     let _labels = map.labels.len();
-    let _nodes = trie.node_count();
     let place = trie.root();
-    let root = certified(alloc, &place)?;
-    let list = shortest_list(alloc, map, &root, place.block())?;
-    let root_cost = u64::from(cost_of(&root));
-    let certificate = Certificate::new(map.version, map.labels.copy()?, root);
+    let (items, root) = listed_and_certified(alloc, &place, trie.node_count())?;
+    let list = list_with(alloc, map, items)?;
+    let labels = map.labels.copy()?;
+    let certificate = Certificate::new(map.version, labels, root);
+    let top = certificate.root();
+    let root_cost = u64::from(top.cost());
     Ok(Minimal {
         list,
         root_cost,
@@ -86,31 +82,18 @@ pub fn shortest(alloc: Global, map: &MapText, trie: &Trie) -> Result<PrefixList,
     minimal_pair_is_accepted();
     let _labels = map.labels.len();
     let items = listed(alloc, &trie.root(), trie.node_count())?;
-    Ok(PrefixList {
-        version: map.version,
-        name: copy_name(alloc, &map.name)?,
-        entries: Entries::from_distinct(items),
-        labels: map.labels.copy()?,
-    })
+    list_with(alloc, map, items)
 }
 
-// The list of the map's name and table with the entries of a certificate's root.
-fn shortest_list(
-    alloc: Global,
-    map: &MapText,
-    root: &Node,
-    whole: Block,
-) -> Result<PrefixList, AllocError>
-    requires block { IsWhole map.now.version whole }
-    requires form { HasNumberForm (length map.now.labels) root.now (width_of map.now.version) }
-    requires sound { IsSound root.now (width_of map.now.version) }
-    requires stands { StandsFor (map_of map.now) (tree_of map.now.labels root.now) 0 0 }
-    ensures { IfOk result (λ list. list_of list ≡ shortest_list (map_of map.now) (tree_of map.now.labels root.now)) }
+// The list of the map's name and table with these entries.
+fn list_with(alloc: Global, map: &MapText, items: Vec<Entry>) -> Result<PrefixList, AllocError>
+    requires versions { All (λ e. e.block.version ≡ map.now.version) items.items }
+    requires known { All (λ e. e.label.0 < length map.now.labels) items.items }
+    requires distinct { HasDistinctBlocks items.items }
+    ensures { IfOk result (λ list. list_of list ≡ list_with map.now items.items) }
 {
     // For its law: the table's labels are distinct.
     let _labels = map.labels.len();
-    let mut items = Vec::new(alloc);
-    push_entries(alloc, &mut items, root, whole, None)?;
     Ok(PrefixList {
         version: map.version,
         name: copy_name(alloc, &map.name)?,

@@ -3,7 +3,6 @@ ghost use Rattle.std.specs.Prelude.{◌≡◌, ◌^◌, ◌++◌, IfOk, OnOk};
 ghost use Rattle.pmap_cert.specs.CertificateForm.{IsRising};
 ghost use Rattle.pmap_minimise.specs.Numbers.{IsExactSet, IsUnion, common_numbers, numbers_of};
 
-use pmap_cert::LabelSet;
 use pmap_text::LabelId;
 use smallvec::SmallVec;
 use std::alloc::{AllocError, Global};
@@ -97,16 +96,4 @@ pub fn exact_set(
         return Ok((all, true));
     }
     Ok((shared, false))
-}
-
-/// The set with these numbers, as a certificate has it.
-pub fn label_set(alloc: Global, numbers: &[u32]) -> Result<LabelSet, AllocError>
-    requires { IsRising (2 ^ 32) 0 numbers.now }
-    ensures { IfOk result (λ set. set ≡ numbers.now) }
-{
-    let mut set = LabelSet::new(alloc);
-    for number in numbers {
-        set.push(LabelId(*number))?;
-    }
-    Ok(set)
 }

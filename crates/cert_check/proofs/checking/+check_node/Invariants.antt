@@ -3,4 +3,4 @@ use Rattle.prefix_keys.specs.Version.{width_of}
 use Rattle.cert_check.proofs.checking.+check_node.Given as goal
 
 abbrev pub decreases-check_node : goal.decreases-check_node
-decreases-check_node l = width_of l.place.block.version - l.place.block.len
+decreases-check_node l = width_of l.place.now.block.version - l.place.now.block.len

@@ -5,4 +5,4 @@ use Rattle.pmap_cert.proofs.writing.push_set.Given as goal
 
 abbrev pub invariant-loop-id : goal.invariant-loop-id
 invariant-loop-id l =
-    l.out.items ≡ l.initial.out.items ++ flat_map (λ n. 32 ∷ decimal n) (map (λ id. id.0) (take l.id-index l.id-items))
+    l.out.items ≡ l.initial.out.items ++ flat_map (λ n. 32 ∷ decimal n) (map (λ id. id.0) (take l.id-index l.set))

@@ -2,7 +2,7 @@ use Rattle.pmap_minimise.specs.Claiming.{AreClaimsFrom}
 use Rattle.pmap_minimise.proofs.claiming.claimed.Given as goal
 
 abbrev pub invariant-loop-left : goal.invariant-loop-left
-invariant-loop-left l = AreClaimsFrom l.parts l.left l.halves.items l.sets
+invariant-loop-left l = AreClaimsFrom l.parts l.left l.halves.items l.claims
 
 abbrev pub decreases-loop-left : goal.decreases-loop-left
 decreases-loop-left l = l.left

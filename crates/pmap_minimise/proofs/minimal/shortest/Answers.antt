@@ -1,52 +1,77 @@
-use Rattle.std.proofs.Common.{map, ◌∙◌}
+use Rattle.std.proofs.Common.{◌≡◌, ◌∙◌}
+use Rattle.std.proofs.lemmas.Result.{IfOk-weaker}
+use Rattle.pmap_text.specs.ListModel.{IsEquivalent}
 use Rattle.pmap_text.specs.MapText.{map_of}
-use Rattle.pmap_text.specs.PrefixList.{prefix_of}
-use Rattle.pmap_minimise.specs.Shortest.{IsWhole}
-use Rattle.pmap_minimise.proofs.Whole.{listed-form, listed-pair, listed-shortest, whole-distinct}
+use Rattle.pmap_text.specs.PrefixList.{list_of}
+use Rattle.pmap_cert.specs.Acceptance.{IsLeast}
+use Rattle.pmap_cert.specs.CertificateForm.{HasTextForm}
+use Rattle.pmap_cert.specs.CertificateModel.{CertificateModel}
+use Rattle.pmap_cert.specs.ListForm.{HasListForm}
+use Rattle.pmap_cert.specs.MinimalPair.{IsMinimalPair}
+use Rattle.pmap_minimise.specs.Shortest.{IsWhole, list_with}
+use Rattle.pmap_minimise.proofs.Whole.{listed-form, listed-pair, listed-shortest, shortest-distinct}
 use Rattle.pmap_minimise.proofs.minimal.shortest.Goals as goal
 
-pub from_distinct-requires : goal.from_distinct-requires
-from_distinct-requires c =
+pub list_with-requires-clause-versions : goal.list_with-requires-clause-versions
+list_with-requires-clause-versions c =
     let m = c.args.map.now in
     let whole : IsWhole m.version c.root.result.block = record { version_is = c.root.ensures.version ∙ c.requires.version; start = c.root.ensures.value; bits = c.root.ensures.len } in
-    let listed = listed-shortest m c.root.result.block c.args.trie.now.leaves c.root.result.leaves c.in_ok-items.items.items c.in_ok-items.ensures c.root.ensures.leaves
+    let made = listed-shortest m c.root.result.block c.args.trie.now.leaves c.root.result.leaves c.in_ok-items.ensures.0 c.in_ok-items.items.items c.in_ok-items.ensures.1 c.root.ensures.leaves
     c.len-labels.ensures.table c.requires.settled c.requires.undivided whole in
-    whole-distinct m listed.root c.in_ok-items.items.items listed.stands listed.entries
+    made.versions
+
+pub list_with-requires-clause-known : goal.list_with-requires-clause-known
+list_with-requires-clause-known c =
+    let m = c.args.map.now in
+    let whole : IsWhole m.version c.root.result.block = record { version_is = c.root.ensures.version ∙ c.requires.version; start = c.root.ensures.value; bits = c.root.ensures.len } in
+    let made = listed-shortest m c.root.result.block c.args.trie.now.leaves c.root.result.leaves c.in_ok-items.ensures.0 c.in_ok-items.items.items c.in_ok-items.ensures.1 c.root.ensures.leaves
+    c.len-labels.ensures.table c.requires.settled c.requires.undivided whole in
+    made.known
+
+pub list_with-requires-clause-distinct : goal.list_with-requires-clause-distinct
+list_with-requires-clause-distinct c =
+    let m = c.args.map.now in
+    let whole : IsWhole m.version c.root.result.block = record { version_is = c.root.ensures.version ∙ c.requires.version; start = c.root.ensures.value; bits = c.root.ensures.len } in
+    let made = listed-shortest m c.root.result.block c.args.trie.now.leaves c.root.result.leaves c.in_ok-items.ensures.0 c.in_ok-items.items.items c.in_ok-items.ensures.1 c.root.ensures.leaves
+    c.len-labels.ensures.table c.requires.settled c.requires.undivided whole in
+    shortest-distinct m c.in_ok-items.ensures.0 c.in_ok-items.items.items made
 
 pub returns-clause-minimal : goal.returns-clause-minimal
 returns-clause-minimal c =
     let m = c.args.map.now in
     let whole : IsWhole m.version c.root.result.block = record { version_is = c.root.ensures.version ∙ c.requires.version; start = c.root.ensures.value; bits = c.root.ensures.len } in
-    let listed = listed-shortest m c.root.result.block c.args.trie.now.leaves c.root.result.leaves c.in_ok-items.items.items c.in_ok-items.ensures c.root.ensures.leaves
+    let made = listed-shortest m c.root.result.block c.args.trie.now.leaves c.root.result.leaves c.in_ok-items.ensures.0 c.in_ok-items.items.items c.in_ok-items.ensures.1 c.root.ensures.leaves
     c.len-labels.ensures.table c.requires.settled c.requires.undivided whole in
-    listed-pair m c.in_ok-items.items.items _ c.len-labels.ensures.table listed
-    (λ i. record { version = m.version; name = c.in_ok-copy_name.ensures i; prefixes = map (prefix_of (c.in_ok-copy.ensures i)) (c.from_distinct.ensures i); table = c.in_ok-copy.ensures i })
+    IfOk-weaker c.list_with.result (λ list. list_of list ≡ list_with m c.in_ok-items.items.items) (λ list. (d : CertificateModel) × IsMinimalPair (map_of m) (list_of list) d × HasTextForm d)
+    (λ list is. listed-pair m c.in_ok-items.ensures.0 c.in_ok-items.items.items made (list_of list) is c.len-labels.ensures.table)
+    c.list_with.ensures
 
 pub returns-clause-equivalent : goal.returns-clause-equivalent
 returns-clause-equivalent c =
     let m = c.args.map.now in
     let whole : IsWhole m.version c.root.result.block = record { version_is = c.root.ensures.version ∙ c.requires.version; start = c.root.ensures.value; bits = c.root.ensures.len } in
-    let listed = listed-shortest m c.root.result.block c.args.trie.now.leaves c.root.result.leaves c.in_ok-items.items.items c.in_ok-items.ensures c.root.ensures.leaves
+    let made = listed-shortest m c.root.result.block c.args.trie.now.leaves c.root.result.leaves c.in_ok-items.ensures.0 c.in_ok-items.items.items c.in_ok-items.ensures.1 c.root.ensures.leaves
     c.len-labels.ensures.table c.requires.settled c.requires.undivided whole in
-    let pair = listed-pair m c.in_ok-items.items.items _ c.len-labels.ensures.table listed
-    (λ i. record { version = m.version; name = c.in_ok-copy_name.ensures i; prefixes = map (prefix_of (c.in_ok-copy.ensures i)) (c.from_distinct.ensures i); table = c.in_ok-copy.ensures i }) in
-    c.minimal_pair_is_accepted.ensures.equivalent (map_of m) _ pair.0 pair.1
+    IfOk-weaker c.list_with.result (λ list. list_of list ≡ list_with m c.in_ok-items.items.items) (λ list. IsEquivalent (list_of list) (map_of m))
+    (λ list is. let pair = listed-pair m c.in_ok-items.ensures.0 c.in_ok-items.items.items made (list_of list) is c.len-labels.ensures.table in c.minimal_pair_is_accepted.ensures.equivalent (map_of m) _ pair.0 pair.1)
+    c.list_with.ensures
 
 pub returns-clause-least : goal.returns-clause-least
 returns-clause-least c =
     let m = c.args.map.now in
     let whole : IsWhole m.version c.root.result.block = record { version_is = c.root.ensures.version ∙ c.requires.version; start = c.root.ensures.value; bits = c.root.ensures.len } in
-    let listed = listed-shortest m c.root.result.block c.args.trie.now.leaves c.root.result.leaves c.in_ok-items.items.items c.in_ok-items.ensures c.root.ensures.leaves
+    let made = listed-shortest m c.root.result.block c.args.trie.now.leaves c.root.result.leaves c.in_ok-items.ensures.0 c.in_ok-items.items.items c.in_ok-items.ensures.1 c.root.ensures.leaves
     c.len-labels.ensures.table c.requires.settled c.requires.undivided whole in
-    let pair = listed-pair m c.in_ok-items.items.items _ c.len-labels.ensures.table listed
-    (λ i. record { version = m.version; name = c.in_ok-copy_name.ensures i; prefixes = map (prefix_of (c.in_ok-copy.ensures i)) (c.from_distinct.ensures i); table = c.in_ok-copy.ensures i }) in
-    c.minimal_pair_is_accepted.ensures.least (map_of m) _ pair.0 pair.1
+    IfOk-weaker c.list_with.result (λ list. list_of list ≡ list_with m c.in_ok-items.items.items) (λ list. IsLeast (map_of m) (list_of list))
+    (λ list is. let pair = listed-pair m c.in_ok-items.ensures.0 c.in_ok-items.items.items made (list_of list) is c.len-labels.ensures.table in c.minimal_pair_is_accepted.ensures.least (map_of m) _ pair.0 pair.1)
+    c.list_with.ensures
 
 pub returns-clause-order : goal.returns-clause-order
 returns-clause-order c =
     let m = c.args.map.now in
     let whole : IsWhole m.version c.root.result.block = record { version_is = c.root.ensures.version ∙ c.requires.version; start = c.root.ensures.value; bits = c.root.ensures.len } in
-    let listed = listed-shortest m c.root.result.block c.args.trie.now.leaves c.root.result.leaves c.in_ok-items.items.items c.in_ok-items.ensures c.root.ensures.leaves
+    let made = listed-shortest m c.root.result.block c.args.trie.now.leaves c.root.result.leaves c.in_ok-items.ensures.0 c.in_ok-items.items.items c.in_ok-items.ensures.1 c.root.ensures.leaves
     c.len-labels.ensures.table c.requires.settled c.requires.undivided whole in
-    listed-form m c.in_ok-items.items.items _ c.len-labels.ensures.table listed
-    (λ i. record { version = m.version; name = c.in_ok-copy_name.ensures i; prefixes = map (prefix_of (c.in_ok-copy.ensures i)) (c.from_distinct.ensures i); table = c.in_ok-copy.ensures i })
+    IfOk-weaker c.list_with.result (λ list. list_of list ≡ list_with m c.in_ok-items.items.items) (λ list. HasListForm (list_of list))
+    (λ list is. listed-form m c.in_ok-items.ensures.0 c.in_ok-items.items.items made (list_of list) is)
+    c.list_with.ensures

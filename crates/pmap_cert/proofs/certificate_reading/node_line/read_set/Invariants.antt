@@ -1,4 +1,4 @@
-use Rattle.std.proofs.Common.{◌≡◌, ◌+◌, ◌^◌, ◌<◌, ◌≤◌, All, length}
+use Rattle.std.proofs.Common.{◌≡◌, ◌+◌, ◌^◌, ◌<◌, ◌≤◌, All, length, map}
 use Rattle.std.specs.Option.{option_map, unwrap_or}
 use Rattle.pmap_cert.specs.CertificateReading.{rising_numbers}
 use Rattle.pmap_cert.specs.Words.{words_behind}
@@ -10,8 +10,8 @@ abbrev pub invariant-loop-words : goal.invariant-loop-words
 invariant-loop-words l = record {
   read :
       rising_numbers l.count 0 (words_behind (option_map (λ text. text.now) l.initial.words))
-      ≡ with_front l.set (rising_numbers l.count l.low (words_behind (option_map (λ text. text.now) l.words)));
-  below : All (λ n. n < l.low) l.set;
+      ≡ with_front (map (λ id. id.0) l.set.items) (rising_numbers l.count l.low (words_behind (option_map (λ text. text.now) l.words)));
+  below : All (λ n. n < l.low) (map (λ id. id.0) l.set.items);
   fits : l.low ≤ 2 ^ 32;
 }
 

@@ -1,0 +1,9 @@
+use Rattle.std.proofs.Common.{◌∙◌, ap, sym}
+use Rattle.pmap_cert.proofs.NodeWalk.{root-of, tree-whole}
+use Rattle.pmap_cert.proofs.cursor.cursor_of.Goals as goal
+
+pub returns : goal.returns
+returns c = root-of c.nodes.result.now c.args.tree.now c.nodes.ensures
+
+pub invariant_of-result : goal.invariant_of-result
+invariant_of-result c = tree-whole c.nodes.result.now c.args.tree.now c.nodes.ensures

@@ -1,0 +1,79 @@
+ghost use Rattle.std.specs.Prelude.{◌≡◌, ◌<◌, ◌∷◌, [], length, map, option_map};
+ghost use Rattle.pmap_cert.specs.Node.{cost_of, first_node, from_next_line, label_of, set_of};
+
+use crate::nodes::Nodes;
+use crate::root::Root;
+use pmap_text::LabelId;
+use std::marker::Model;
+
+/// A place in a certificate's nodes, or behind the last: the nodes from there on, each with those below it. A walk
+/// begins at `Certificate::root` and goes from line to line.
+#[derive(Drop)]
+pub struct Cursor<'a> {
+    nodes: &'a Nodes,
+    number: usize,
+}
+
+impl<'a> Model for Cursor<'a> {
+    ghost use Rattle.std.specs.Prelude.{List, drop};
+    ghost use Rattle.pmap_cert.specs.Node.{AreWhole, Node, node_code, nodes_of};
+    ghost use Rattle.std.specs.Coded.{coded_list};
+
+    ghost Value = { List Node };
+
+    ghost coded = { coded_list node_code };
+
+    ghost view = { λ c. nodes_of (drop c.number c.nodes.now) };
+
+    ghost invariant = { λ c. AreWhole (drop c.number c.nodes.now) };
+}
+
+/// The place of a whole tree.
+pub fn cursor_of(tree: &Root) -> Cursor<'_>
+    ensures { result ≡ tree.now ∷ [] }
+{
+    Cursor {
+        nodes: tree.nodes(),
+        number: 0,
+    }
+}
+
+impl<'a> Cursor<'a> {
+    /// The label of the node, if it is a leaf.
+    pub fn label(&self) -> Option<LabelId>
+        requires { 0 < length self.now }
+        ensures { option_map (λ id. id.0) result ≡ label_of (first_node self.now) }
+    {
+        self.nodes.label(self.number)
+    }
+
+    /// The cost that the node claims: 0 for a leaf.
+    pub fn cost(&self) -> u32
+        requires { 0 < length self.now }
+        ensures { result ≡ cost_of (first_node self.now) }
+    {
+        self.nodes.cost(self.number)
+    }
+
+    /// The set of labels that the node claims, by rising numbers: for a leaf its label alone.
+    pub fn set(&self) -> &'a [LabelId]
+        requires { 0 < length self.now }
+        ensures { map (λ id. id.0) result.now ≡ set_of (first_node self.now) }
+    {
+        self.nodes.set(self.number)
+    }
+
+    /// The place of the next line: behind that of an inner node stands its lower half, and behind all lines of that its
+    /// upper half.
+    pub fn next(&self) -> Cursor<'a>
+        requires { 0 < length self.now }
+        ensures { result ≡ from_next_line self.now }
+    {
+        // For its bound: the nodes are below 2 ^ 64.
+        let _count = self.nodes.len();
+        Cursor {
+            nodes: self.nodes,
+            number: self.number + 1,
+        }
+    }
+}

@@ -1,0 +1,42 @@
+ghost use Rattle.std.specs.Prelude.{◌≡◌};
+ghost use Rattle.pmap_cert.specs.Node.{IsTree, Node, lines_of};
+
+use crate::nodes::Nodes;
+use std::marker::Model;
+
+/// A node of a certificate with those below it: a leaf with the number of its label, or an inner node with the cost and
+/// the set of labels that it claims, and the nodes of the lower and the upper half of its block. `Certificate::root`
+/// shows it.
+#[derive(Drop)]
+pub struct Root {
+    nodes: Nodes,
+}
+
+impl Model for Root {
+    ghost use Rattle.pmap_cert.specs.Node.{IsTree, Node, first_node, node_code, nodes_of};
+
+    ghost Value = { Node };
+
+    ghost coded = { node_code };
+
+    ghost view = { λ t. first_node (nodes_of t.nodes) };
+
+    ghost invariant = { λ t. IsTree t.nodes };
+}
+
+impl Root {
+    /// The tree of nodes whose lines are those of one node and of those below it.
+    pub fn new(nodes: Nodes) -> Root
+        requires { IsTree nodes }
+        ensures { (node : Node) → nodes ≡ lines_of node → result ≡ node }
+    {
+        Root { nodes }
+    }
+
+    /// The lines.
+    pub fn nodes(&self) -> &Nodes
+        ensures { result.now ≡ lines_of self.now }
+    {
+        &self.nodes
+    }
+}
