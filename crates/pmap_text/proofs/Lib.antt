@@ -1,5 +1,6 @@
 pub mod Carried
 pub mod LineEntries
+pub mod LeadingWords
 pub mod Filed
 pub mod Pairs
 pub mod LabelTexts

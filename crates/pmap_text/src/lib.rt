@@ -28,6 +28,7 @@ mod label;
 mod labels;
 mod laws;
 mod layers;
+mod leading;
 mod lines;
 mod map_text;
 mod name;

@@ -118,8 +118,8 @@ fn before_comment(line: &[u8]) -> &[u8]
     &line[..place_or_end(find_byte(line, b'#'), line)]
 }
 
-// The text from its first byte on that is no blank.
-fn without_leading_blanks(text: &[u8]) -> &[u8]
+/// The text from its first byte on that is no blank.
+pub fn without_leading_blanks(text: &[u8]) -> &[u8]
     ensures { result.now ≡ trim_start text.now }
 {
     &text[place_or_end(find_word(text), text)..]

@@ -26,7 +26,7 @@ text_groups-last dotted text piece front h =
     ap (groups_of dotted) (split-whole is_colon text none)
     ∙ ap (last_groups dotted) (sym (front ∙ take_all (position_or_len is_colon text) text none))
 
-groups_of-more : (dotted : Bool) (piece : List ℕ) (pieces : List (List ℕ)) → 0 < length pieces →
+pub groups_of-more : (dotted : Bool) (piece : List ℕ) (pieces : List (List ℕ)) → 0 < length pieces →
     groups_of dotted (piece ∷ pieces) ≡ onto_groups (hex_group piece) (groups_of dotted pieces)
 groups_of-more dotted piece [] h = absurd (omega arith)
 groups_of-more dotted piece (next ∷ pieces) h = refl

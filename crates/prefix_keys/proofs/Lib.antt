@@ -13,3 +13,5 @@ pub mod GroupNumbers
 pub mod ColonPieces
 pub mod Gaps
 pub mod Room
+pub mod Bytes
+pub mod LeadingGroups

@@ -2,6 +2,7 @@ use Rattle.std.proofs.Common.{ℕ, ◌≡◌, ◌<◌, ◌==◌, ◌&&◌, ◌�
 use Rattle.std.proofs.lemmas.List.{append_assoc, append-nil}
 use Rattle.std.proofs.lemmas.List.Elements.{All-head, All-tail}
 use Rattle.std.specs.Fmt.{digits}
+use Rattle.prefix_keys.specs.Leading.{behind}
 use Rattle.prefix_keys.specs.Print.{groups_text}
 use Rattle.prefix_keys.specs.Text.{begins_gap, around_gap}
 use Rattle.prefix_keys.proofs.Printed.{Lacks, Lacks-digits, no_colon}
@@ -9,34 +10,30 @@ use Rattle.prefix_keys.proofs.Digits.{digits_some}
 
 -- The first `::` of a printed text.
 
--- a text in front of what stands before a `::`
-abbrev behind : List ℕ → Option (List ℕ × List ℕ) → Option (List ℕ × List ℕ)
-behind front sides = option_map (λ sides. (front ++ sides.0, sides.1)) sides
-
 abbrev onto : ℕ → Option (List ℕ × List ℕ) → Option (List ℕ × List ℕ)
 onto b sides = option_map (λ sides. (b ∷ sides.0, sides.1)) sides
 
-behind-nil : (sides : Option (List ℕ × List ℕ)) → sides ≡ behind [] sides
+pub behind-nil : (sides : Option (List ℕ × List ℕ)) → sides ≡ behind [] sides
 behind-nil None = refl
 behind-nil (Some sides) = refl
 
-onto-behind : (b : ℕ) (front : List ℕ) (sides : Option (List ℕ × List ℕ)) → onto b (behind front sides) ≡ behind (b ∷ front) sides
+pub onto-behind : (b : ℕ) (front : List ℕ) (sides : Option (List ℕ × List ℕ)) → onto b (behind front sides) ≡ behind (b ∷ front) sides
 onto-behind b front None = refl
 onto-behind b front (Some sides) = refl
 
-behind-behind : (front next : List ℕ) (sides : Option (List ℕ × List ℕ)) → behind front (behind next sides) ≡ behind (front ++ next) sides
+pub behind-behind : (front next : List ℕ) (sides : Option (List ℕ × List ℕ)) → behind front (behind next sides) ≡ behind (front ++ next) sides
 behind-behind front next None = refl
 behind-behind front next (Some sides) = ap (λ text. Some (text, sides.1)) (sym (append_assoc front next sides.0))
 
 -- no `::` begins with the byte
-skip : (b : ℕ) (text : List ℕ) → begins_gap (b ∷ text) ≡ false → around_gap (b ∷ text) ≡ onto b (around_gap text)
+pub skip : (b : ℕ) (text : List ℕ) → begins_gap (b ∷ text) ≡ false → around_gap (b ∷ text) ≡ onto b (around_gap text)
 skip b text h = ap (λ t. cond t (Some ([], drop 1 text)) (onto b (around_gap text))) h
 
 other-begins : (b : ℕ) (text : List ℕ) → (b == 58) ≡ false → begins_gap (b ∷ text) ≡ false
 other-begins b [] h = refl
 other-begins b (d ∷ text) h = ap (λ t. t && (d == 58)) h
 
-colon-begins : (text rest : List ℕ) → 0 < length text → Lacks 58 text → begins_gap (58 ∷ (text ++ rest)) ≡ false
+pub colon-begins : (text rest : List ℕ) → 0 < length text → Lacks 58 text → begins_gap (58 ∷ (text ++ rest)) ≡ false
 colon-begins [] rest some lacks = absurd (omega arith)
 colon-begins (b ∷ text) rest some lacks = All-head (λ b. (b == 58) ≡ false) b text lacks
 

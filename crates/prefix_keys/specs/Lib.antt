@@ -3,6 +3,7 @@ pub mod Block
 pub mod Covers
 pub mod Text
 pub mod Steps
+pub mod Leading
 pub mod Conversion
 pub mod Print
 pub mod Laws

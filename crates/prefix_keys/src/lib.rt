@@ -36,5 +36,5 @@ pub use decimal::{are_digits, read_decimal};
 pub use laws::{address_is_read_back, block_is_read_back, longest_run_is_longest};
 pub use print::{print_addr, print_block};
 pub use span::Span;
-pub use text::{BlockFault, read_addr, read_block};
+pub use text::{BlockFault, leading_colon, read_addr, read_block};
 pub use version::Version;

@@ -8,6 +8,7 @@ mod dotted;
 use crate::addr::Addr;
 use crate::block::{Block, block_of};
 use crate::cutting::cut;
+pub use crate::text::colon::leading_colon;
 use crate::text::colon::read_colon;
 use crate::text::dotted::{read_dotted, read_number};
 use crate::version::Version;

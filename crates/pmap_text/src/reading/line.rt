@@ -13,6 +13,7 @@ use crate::declarations::label_number;
 use crate::fault::MapFaultKind;
 use crate::form::Form;
 use crate::label::is_label;
+use crate::leading::{Word, leading_word};
 use crate::lines::split_word;
 use crate::placing::{addr_in, block_in};
 use crate::reading::{MAPPING_LIMIT, Reading};
@@ -211,6 +212,22 @@ impl Reading {
         }
     }
 
+    // `BLOCK LABEL`, from behind the block.
+    fn read_behind_block(
+        &mut self,
+        form: Form,
+        block: Block,
+        rest: &[u8],
+    ) -> Result<(), MapFaultKind>
+        ensures ok { OnOk result (Takes self.old self.new
+            (block_line form self.old (Ok (block.version, block.value, block.len)) rest.now)) }
+        ensures err { IfErr result (λ kind. kind
+            ≡ refusal_of (block_line form self.old (Ok (block.version, block.value, block.len)) rest.now)) }
+    {
+        let block = block_in(self.version_at(block.version), block)?;
+        self.read_placed(form, block, rest)
+    }
+
     // `BLOCK LABEL`, from the block on.
     fn read_block_line(&mut self, form: Form, word: &[u8], rest: &[u8]) -> Result<(), MapFaultKind>
         ensures ok { OnOk result (Takes self.old self.new
@@ -219,10 +236,7 @@ impl Reading {
             ≡ refusal_of (block_line form self.old (block_of_text word.now) rest.now)) }
     {
         match read_block(word) {
-            Ok(block) => {
-                let block = block_in(self.version_at(block.version), block)?;
-                self.read_placed(form, block, rest)
-            }
+            Ok(block) => self.read_behind_block(form, block, rest),
             Err(BlockFault::BadAddress) => Err(MapFaultKind::BadAddress),
             Err(BlockFault::BadLength) => Err(MapFaultKind::BadLength),
         }
@@ -286,6 +300,25 @@ impl Reading {
         }
     }
 
+    // The same, where the word behind the address is read in one pass if it plainly is one more.
+    fn read_behind_address(
+        &mut self,
+        form: Form,
+        first: Addr,
+        rest: &[u8],
+    ) -> Result<(), MapFaultKind>
+        ensures ok { OnOk result (Takes self.old self.new
+            (one_or_two form self.old (first.version, first.value) (address_of (first_word rest.now)) rest.now)) }
+        ensures err { IfErr result (λ kind. kind
+            ≡ refusal_of (one_or_two form self.old (first.version, first.value)
+            (address_of (first_word rest.now)) rest.now)) }
+    {
+        match leading_word(rest) {
+            Some((Word::Address(second), behind)) => self.read_range(form, first, second, behind),
+            _ => self.read_address_line(form, first, rest),
+        }
+    }
+
     // A line whose first word is no keyword and has no `/`.
     fn read_other(&mut self, form: Form, word: &[u8], rest: &[u8]) -> Result<(), MapFaultKind>
         ensures ok { OnOk result (Takes self.old self.new
@@ -319,9 +352,8 @@ impl Reading {
         }
     }
 
-    /// Reads the content of one more line. An entry for a block that has one already is added too. After a fault
-    /// nothing is known of the lines so far.
-    pub fn read_content(&mut self, form: Form, content: &[u8]) -> Result<(), MapFaultKind>
+    // A line's content, by its words.
+    fn read_words(&mut self, form: Form, content: &[u8]) -> Result<(), MapFaultKind>
         ensures ok { OnOk result (Takes self.old self.new (content_line form self.old content.now)) }
         ensures err { IfErr result (λ kind. kind ≡ refusal_of (content_line form self.old content.now)) }
     {
@@ -330,5 +362,18 @@ impl Reading {
         }
         let (word, rest) = split_word(content);
         self.read_statement(form, word, rest)
+    }
+
+    /// Reads the content of one more line. An entry for a block that has one already is added too. After a fault
+    /// nothing is known of the lines so far.
+    pub fn read_content(&mut self, form: Form, content: &[u8]) -> Result<(), MapFaultKind>
+        ensures ok { OnOk result (Takes self.old self.new (content_line form self.old content.now)) }
+        ensures err { IfErr result (λ kind. kind ≡ refusal_of (content_line form self.old content.now)) }
+    {
+        match leading_word(content) {
+            Some((Word::Block(block), rest)) => self.read_behind_block(form, block, rest),
+            Some((Word::Address(first), rest)) => self.read_behind_address(form, first, rest),
+            None => self.read_words(form, content),
+        }
     }
 }

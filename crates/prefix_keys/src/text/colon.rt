@@ -1,5 +1,6 @@
 ghost use Rattle.std.specs.Prelude.{◌≡◌, ◌≤◌, ◌<◌, ◌+◌, ◌*◌, ◌-◌, ◌^◌, IfSome, Some, None, List, [], ◌∷◌, option_map, nat_le, if◌then◌else◌};
 ghost use Rattle.prefix_keys.specs.Text.{is_hex_digit, hex_digit_value, hex_group, last_groups, text_groups, side_groups, around_gap, colon_address};
+ghost use Rattle.prefix_keys.specs.Leading.{BeginsWithColon, BeginsWithGroup, BeginsWithSide};
 ghost use Rattle.prefix_keys.specs.Steps.{more_groups};
 
 use crate::cutting::cut;
@@ -147,4 +148,100 @@ pub fn read_colon(text: &[u8]) -> Option<u128>
         };
     };
     join(read_side(front, false)?, read_side(back, true)?)
+}
+
+// The group of one to four hexadecimal digits that a text begins with, and what stands behind it: there is something, and
+// it begins with no such digit.
+fn leading_group(text: &[u8]) -> Option<(u32, &[u8])>
+    ensures group { IfSome result (λ r. BeginsWithGroup text.now r.1.now r.0) }
+    ensures limited { IfSome result (λ r. r.0 < 65536) }
+{
+    let mut group = 0;
+    for (at, byte) in text.iter().enumerate() {
+        let Some(digit) = digit_value(*byte) else {
+            return if at > 0 {
+                Some((group, &text[at..]))
+            } else {
+                None
+            };
+        };
+        if at == 4 {
+            return None;
+        }
+        group = group * 16 + digit;
+    }
+    None
+}
+
+// What stands behind the one colon that a text begins with.
+fn behind_colon(text: &[u8]) -> Option<&[u8]>
+    ensures { IfSome result (λ r. text.now ≡ 58 ∷ r.now) }
+{
+    match text {
+        [b':', b':', ..] => None,
+        [b':', rest @ ..] => Some(rest),
+        _ => None,
+    }
+}
+
+// The groups with a colon between each two that a text begins with, where they are at most eight, and what stands behind
+// them.
+fn leading_groups(text: &[u8]) -> Option<(Groups, &[u8])>
+    ensures { IfSome result (λ r. BeginsWithSide text.now r.1.now r.0.count r.0.number) }
+{
+    let mut groups = Groups {
+        count: 0,
+        number: 0,
+    };
+    let mut rest = text;
+    loop {
+        let (group, behind) = leading_group(rest)?;
+        groups = groups.push(group)?;
+        match behind_colon(behind) {
+            Some(next) => rest = next,
+            None => return Some((groups, behind)),
+        }
+    }
+}
+
+// The same, or no groups where the text begins with no hexadecimal digit.
+fn leading_side(text: &[u8]) -> Option<(Groups, &[u8])>
+    ensures { IfSome result (λ r. BeginsWithSide text.now r.1.now r.0.count r.0.number) }
+{
+    match text.first() {
+        Some(byte) if digit_value(*byte).is_some() => leading_groups(text),
+        _ => {
+            let none = Groups {
+                count: 0,
+                number: 0,
+            };
+            Some((none, text))
+        }
+    }
+}
+
+// What stands behind the `::` that a text begins with.
+fn behind_gap(text: &[u8]) -> Option<&[u8]>
+    ensures { IfSome result (λ r. text.now ≡ 58 ∷ 58 ∷ r.now) }
+{
+    match text {
+        [b':', b':', rest @ ..] => Some(rest),
+        _ => None,
+    }
+}
+
+/// The number of the IPv6 address that a text begins with, where it is plainly one and has no dotted part, and what stands
+/// behind it. It is read in one pass over its bytes, and `read_addr` decides what any other text is.
+pub fn leading_colon(text: &[u8]) -> Option<(u128, &[u8])>
+    ensures { IfSome result (λ r. BeginsWithColon text.now r.1.now r.0) }
+{
+    let (front, rest) = leading_side(text)?;
+    match behind_gap(rest) {
+        Some(behind) => {
+            let (back, rest) = leading_side(behind)?;
+            Some((join(front, back)?, rest))
+        }
+        None if front.count == 8 => Some((front.number, rest)),
+        None => None,
+    }
 }

@@ -1,21 +1,35 @@
-use Rattle.std.proofs.Common.{◌≡◌, ◌≢◌, ℕ, List, [], ◌∷◌, length, refl, sym}
-use Rattle.std.proofs.lemmas.Bool.{eqb-false}
-use Rattle.pmap_text.specs.Lines.{behind_word, first_word}
-use Rattle.pmap_text.specs.Reading.{Earlier, content_line, statement_line}
-use Rattle.pmap_text.specs.declared.form.Form.{Form}
+use Rattle.std.proofs.Common.{subst}
+use Rattle.pmap_text.specs.Leading.{IsWord}
+use Rattle.pmap_text.specs.Lines.{first_word}
+use Rattle.pmap_text.specs.declared.leading.Word.{Word}
+use Rattle.pmap_text.specs.declared.leading.Word.TheVariants.{Address, Block as block_word}
+use Rattle.pmap_text.proofs.LeadingWords.{content-address, content-block}
 use Rattle.pmap_text.proofs.reading.Reading.read_content.Goals as goal
 
--- a line with a word says what its statement says
-content_line-words : (form : Form) (earlier : Earlier) (content : List ℕ) → length content ≢ 0 → content_line form earlier content ≡ statement_line form earlier (first_word content) (behind_word content)
-content_line-words form earlier [] ne = absurd (ne refl)
-content_line-words form earlier (b ∷ bs) ne = refl
+pub returns-in-Some-Block-default-clause-ok : goal.returns-in-Some-Block-default-clause-ok
+returns-in-Some-Block-default-clause-ok c =
+    let arm = c.in-Some-Block-default in
+    let word : IsWord (first_word c.args.content.now) (block_word arm.block) =
+    subst (λ (w : Word). IsWord (first_word c.args.content.now) w) arm.field-0-0-is arm.ensures.word in
+    rw (content-block c.args.form c.args.self.now c.args.content.now arm.rest.now arm.block word arm.ensures.rest) c.read_behind_block.ensures.ok
 
-pub returns-clause-ok : goal.returns-clause-ok
-returns-clause-ok c =
-    let words = content_line-words c.args.form c.args.self.now c.args.content.now (eqb-false _ 0 (sym c.if-is_empty.ensures)) in
-    rw (words, ← c.split_word.ensures.word, ← c.split_word.ensures.rest) c.read_statement.ensures.ok
+pub returns-in-Some-Block-default-clause-err : goal.returns-in-Some-Block-default-clause-err
+returns-in-Some-Block-default-clause-err c =
+    let arm = c.in-Some-Block-default in
+    let word : IsWord (first_word c.args.content.now) (block_word arm.block) =
+    subst (λ (w : Word). IsWord (first_word c.args.content.now) w) arm.field-0-0-is arm.ensures.word in
+    rw (content-block c.args.form c.args.self.now c.args.content.now arm.rest.now arm.block word arm.ensures.rest) c.read_behind_block.ensures.err
 
-pub returns-clause-err : goal.returns-clause-err
-returns-clause-err c =
-    let words = content_line-words c.args.form c.args.self.now c.args.content.now (eqb-false _ 0 (sym c.if-is_empty.ensures)) in
-    rw (words, ← c.split_word.ensures.word, ← c.split_word.ensures.rest) c.read_statement.ensures.err
+pub returns-in-Some-Address-default-clause-ok : goal.returns-in-Some-Address-default-clause-ok
+returns-in-Some-Address-default-clause-ok c =
+    let arm = c.in-Some-Address-default in
+    let word : IsWord (first_word c.args.content.now) (Address arm.first) =
+    subst (λ (w : Word). IsWord (first_word c.args.content.now) w) arm.field-0-0-is arm.ensures.word in
+    rw (content-address c.args.form c.args.self.now c.args.content.now arm.rest.now arm.first word arm.ensures.rest) c.read_behind_address.ensures.ok
+
+pub returns-in-Some-Address-default-clause-err : goal.returns-in-Some-Address-default-clause-err
+returns-in-Some-Address-default-clause-err c =
+    let arm = c.in-Some-Address-default in
+    let word : IsWord (first_word c.args.content.now) (Address arm.first) =
+    subst (λ (w : Word). IsWord (first_word c.args.content.now) w) arm.field-0-0-is arm.ensures.word in
+    rw (content-address c.args.form c.args.self.now c.args.content.now arm.rest.now arm.first word arm.ensures.rest) c.read_behind_address.ensures.err

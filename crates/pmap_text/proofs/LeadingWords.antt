@@ -1,0 +1,291 @@
+-- What a text begins with, and its first word.
+use Rattle.std.proofs.Common.{◌≡◌, ℕ, ◌+◌, ◌*◌, ◌<◌, ◌≤◌, ◌&&◌, ◌||◌, ◌==◌, Bool, true, false, List, [], ◌∷◌, ◌++◌, Some, None, Ok, All, length, take, drop, ap, sym, refl, ◌∙◌, arith, codes, inl, inr, nat_le, le-leb, option_map}
+use Rattle.std.specs.List.{list_all, list_any, position_or_len, before_first, after_first}
+use Rattle.std.specs.Str.{bytes_eq}
+use Rattle.std.proofs.lemmas.Bool.{cases_eq, cases_Bool, ne_eqb, eqb-true, false≢true, true≢false, cond-false, cond-true, and_from, false_from_ne_true, or_cases, or_from, or_right}
+use Rattle.std.proofs.lemmas.List.{append_assoc, length-take-le, take_at, drop_at, drop-drop}
+use Rattle.std.proofs.lemmas.List.Elements.{All-weaker, All-head, All-tail, All-append, All-cons}
+use Rattle.std.proofs.lemmas.List.Folds.{list_any_none, list_any-append, list_all-append}
+use Rattle.std.proofs.lemmas.List.Splits.{slice_split_at, slice_split_none}
+use Rattle.std.proofs.lemmas.List.Sums.{AllPass-from_list_all, list_all-from_AllPass}
+use Rattle.std.proofs.lemmas.Slice.Eq.{bytes_eq-Decides}
+use Rattle.prefix_keys.proofs.Bytes.{all-weaker, apart, lacks, none-passes}
+use Rattle.prefix_keys.proofs.LeadingGroups.{colon-in}
+use Rattle.prefix_keys.proofs.Pieces.{is_point, short_number-undigit}
+use Rattle.prefix_keys.specs.Block.{block_number, first_of}
+use Rattle.prefix_keys.specs.Leading.{is_colon_byte}
+use Rattle.prefix_keys.specs.Text.{AddressOf, BlockOf, address_of, block_from, block_of_text, colon_address, covering_block, decimal_value, dotted_address, four_bytes, four_pieces, is_digit, is_hex_digit, short_number}
+use Rattle.prefix_keys.specs.Version.{width_of}
+use Rattle.prefix_keys.specs.declared.addr.Addr.{Addr}
+use Rattle.prefix_keys.specs.declared.block.Block.{Block}
+use Rattle.prefix_keys.specs.declared.version.Version.TheVariants.{V4, V6}
+use Rattle.pmap_text.specs.Label.{is_blank}
+use Rattle.pmap_text.specs.Leading.{BeginsWithAddress, BeginsWithBlank, BeginsWithDotted, BeginsWithNumber, IsWord, is_address_byte}
+use Rattle.pmap_text.specs.Lines.{behind_word, first_word, trim_start}
+use Rattle.pmap_text.specs.Reading.{Earlier, block_line, content_line, one_or_two, statement_line}
+use Rattle.pmap_text.specs.declared.form.Form.{Form}
+use Rattle.pmap_text.specs.declared.leading.Word.TheVariants.{Address, Block as block_word}
+
+-- a number is of digits
+pub number-digits : (limit : ℕ) (text : List ℕ) (n : ℕ) → short_number limit text ≡ Some n → list_all is_digit text ≡ true
+number-digits limit text n reads = elim (cases_Bool (list_all is_digit text)) [
+  | inl all ↦ all
+  | inr some ↦ let none : None ≡ Some n = sym (short_number-undigit limit text some) ∙ reads in absurd cc
+]
+
+number-no_point : (limit : ℕ) (text : List ℕ) (n : ℕ) → short_number limit text ≡ Some n → All (λ b. is_point b ≡ false) text
+number-no_point limit text n reads =
+    none-passes is_digit is_point (apart is_digit 46 refl) text (number-digits limit text n reads)
+
+-- one to three digits at the front are a number
+pub number-some : (limit : ℕ) (text : List ℕ) (at n : ℕ) → n ≡ decimal_value (take at text) → list_all is_digit (take at text) ≡ true
+    → 0 < at → at ≤ 3 → at ≤ length text → n ≤ limit → short_number limit (take at text) ≡ Some n
+number-some limit text at n value digits some few within small =
+    let front : List ℕ = take at text in
+    let count : length front ≡ at = length-take-le at text within in
+    let one : nat_le 1 (length front) ≡ true = le-leb _ _ (omega arith) in
+    let three : nat_le (length front) 3 ≡ true = le-leb _ _ (omega arith) in
+    let limited : nat_le (decimal_value front) limit ≡ true = le-leb _ _ (omega arith) in
+    cond-true _ (Some (decimal_value front)) None (and_from _ _ one (and_from _ _ three (and_from _ _ digits limited)))
+    ∙ ap (λ m. Some m) (sym value)
+
+-- four numbers with points between are an address
+abbrev pub pointed : List ℕ → List ℕ → List ℕ → List ℕ → List ℕ
+pointed f0 f1 f2 f3 = f0 ++ 46 ∷ (f1 ++ 46 ∷ (f2 ++ 46 ∷ f3))
+
+pub dotted-numbers : (f0 f1 f2 f3 : List ℕ) (a b c d : ℕ)
+    → short_number 255 f0 ≡ Some a → short_number 255 f1 ≡ Some b → short_number 255 f2 ≡ Some c → short_number 255 f3 ≡ Some d
+    → dotted_address (pointed f0 f1 f2 f3) ≡ Some (((a * 256 + b) * 256 + c) * 256 + d)
+dotted-numbers f0 f1 f2 f3 a b c d ea eb ec ed =
+    ap four_pieces
+    (slice_split_at is_point f0 46 (f1 ++ 46 ∷ (f2 ++ 46 ∷ f3)) (number-no_point 255 f0 a ea) refl
+    ∙ ap (λ ps. f0 ∷ ps) (slice_split_at is_point f1 46 (f2 ++ 46 ∷ f3) (number-no_point 255 f1 b eb) refl
+    ∙ ap (λ ps. f1 ∷ ps) (slice_split_at is_point f2 46 f3 (number-no_point 255 f2 c ec) refl
+    ∙ ap (λ ps. f2 ∷ ps) (slice_split_none is_point f3 (number-no_point 255 f3 d ed)))))
+    ∙ ap (λ x. four_bytes x (short_number 255 f1) (short_number 255 f2) (short_number 255 f3)) ea
+    ∙ ap (λ x. four_bytes (Some a) x (short_number 255 f2) (short_number 255 f3)) eb
+    ∙ ap (λ x. four_bytes (Some a) (Some b) x (short_number 255 f3)) ec
+    ∙ ap (four_bytes (Some a) (Some b) (Some c)) ed
+
+-- its bytes are digits and points
+abbrev pub is_dotted_byte : ℕ → Bool
+is_dotted_byte b = is_digit b || b == 46
+
+digit-dotted : (b : ℕ) → is_digit b ≡ true → is_dotted_byte b ≡ true
+digit-dotted b digit = rw digit refl
+
+number-dotted : (f : List ℕ) (a : ℕ) → short_number 255 f ≡ Some a → list_all is_dotted_byte f ≡ true
+number-dotted f a reads = all-weaker is_digit is_dotted_byte digit-dotted f (number-digits 255 f a reads)
+
+number-pointed : (f t : List ℕ) (a : ℕ) → short_number 255 f ≡ Some a → list_all is_dotted_byte t ≡ true → list_all is_dotted_byte (f ++ 46 ∷ t) ≡ true
+number-pointed f t a reads all =
+    list_all-append is_dotted_byte f (46 ∷ t) ∙ ap (λ x. x && list_all is_dotted_byte t) (number-dotted f a reads) ∙ all
+
+pub dotted-bytes : (f0 f1 f2 f3 : List ℕ) (a b c d : ℕ)
+    → short_number 255 f0 ≡ Some a → short_number 255 f1 ≡ Some b → short_number 255 f2 ≡ Some c → short_number 255 f3 ≡ Some d
+    → list_all is_dotted_byte (pointed f0 f1 f2 f3) ≡ true
+dotted-bytes f0 f1 f2 f3 a b c d ea eb ec ed =
+    number-pointed f0 (f1 ++ 46 ∷ (f2 ++ 46 ∷ f3)) a ea
+    (number-pointed f1 (f2 ++ 46 ∷ f3) b eb (number-pointed f2 f3 c ec (number-dotted f3 d ed)))
+
+-- what stands behind the parts stands behind them all
+pub dotted-whole : (text t1 t2 t3 rest f0 f1 f2 f3 : List ℕ)
+    → text ≡ f0 ++ 46 ∷ t1 → t1 ≡ f1 ++ 46 ∷ t2 → t2 ≡ f2 ++ 46 ∷ t3 → t3 ≡ f3 ++ rest
+    → text ≡ pointed f0 f1 f2 f3 ++ rest
+dotted-whole text t1 t2 t3 rest f0 f1 f2 f3 e0 e1 e2 e3 =
+    e0 ∙ ap (λ t. f0 ++ 46 ∷ t) (e1 ∙ ap (λ t. f1 ++ 46 ∷ t) (e2 ∙ ap (λ t. f2 ++ 46 ∷ t) e3
+    ∙ sym (append_assoc f2 (46 ∷ f3) rest)) ∙ sym (append_assoc f1 (46 ∷ (f2 ++ 46 ∷ f3)) rest))
+    ∙ sym (append_assoc f0 (46 ∷ (f1 ++ 46 ∷ (f2 ++ 46 ∷ f3))) rest)
+
+-- so a text that begins with them begins with an address
+pub begins-dotted : (text r0 t1 r1 t2 r2 t3 rest : List ℕ) (a b c d : ℕ)
+    → BeginsWithNumber text r0 255 a → r0 ≡ 46 ∷ t1 → BeginsWithNumber t1 r1 255 b → r1 ≡ 46 ∷ t2
+    → BeginsWithNumber t2 r2 255 c → r2 ≡ 46 ∷ t3 → BeginsWithNumber t3 rest 255 d
+    → BeginsWithDotted text rest (((a * 256 + b) * 256 + c) * 256 + d)
+begins-dotted text r0 t1 r1 t2 r2 t3 rest a b c d one p0 two p1 three p2 four = record {
+  front = pointed one.front two.front three.front four.front;
+  whole =
+      dotted-whole text t1 t2 t3 rest one.front two.front three.front four.front
+      (one.whole ∙ ap (λ r. one.front ++ r) p0) (two.whole ∙ ap (λ r. two.front ++ r) p1)
+      (three.whole ∙ ap (λ r. three.front ++ r) p2) four.whole;
+  bytes = dotted-bytes one.front two.front three.front four.front a b c d one.reads two.reads three.reads four.reads;
+  reads = dotted-numbers one.front two.front three.front four.front a b c d one.reads two.reads three.reads four.reads;
+}
+
+-- a dotted address is an address, of bytes of addresses
+pub dotted-address : (front : List ℕ) (value : ℕ) → list_all is_dotted_byte front ≡ true → dotted_address front ≡ Some value
+    → address_of front ≡ Some (V4, value)
+dotted-address front value bytes reads =
+    cond-false (list_any (λ b. b == 58) front) (option_map (λ value. (V6, value)) (colon_address front))
+    (option_map (λ value. (V4, value)) (dotted_address front)) (lacks is_dotted_byte 58 refl front bytes)
+    ∙ ap (option_map (λ value. (V4, value))) reads
+
+dotted-byte : (b : ℕ) → is_dotted_byte b ≡ true → is_address_byte b ≡ true
+dotted-byte b dotted = elim (or_cases (is_digit b) (b == 46) dotted) [
+  | inl digit ↦ rw digit refl
+  | inr point ↦ ap is_address_byte (eqb-true b 46 point)
+]
+
+pub address-bytes : (front : List ℕ) → list_all is_dotted_byte front ≡ true → list_all is_address_byte front ≡ true
+address-bytes front bytes = all-weaker is_dotted_byte is_address_byte dotted-byte front bytes
+
+-- so is a colon address, of such bytes too
+colon-byte : (b : ℕ) → is_colon_byte b ≡ true → is_address_byte b ≡ true
+colon-byte b colon = elim (or_cases (is_hex_digit b) (b == 58) colon) [
+  | inl digit ↦ rw digit refl
+  | inr here ↦ ap is_address_byte (eqb-true b 58 here)
+]
+
+pub colon-bytes : (front : List ℕ) → list_all is_colon_byte front ≡ true → list_all is_address_byte front ≡ true
+colon-bytes front bytes = all-weaker is_colon_byte is_address_byte colon-byte front bytes
+
+pub colon-address : (front : List ℕ) (value : ℕ) → colon_address front ≡ Some value → address_of front ≡ Some (V6, value)
+colon-address front value reads =
+    cond-true (list_any (λ b. b == 58) front) (option_map (λ value. (V6, value)) (colon_address front))
+    (option_map (λ value. (V4, value)) (dotted_address front)) (colon-in front value reads)
+    ∙ ap (option_map (λ value. (V6, value))) reads
+
+-- no byte of an address is a blank
+no_blank : (p : ℕ → Bool) → p 32 ≡ false → p 9 ≡ false → p 13 ≡ false → (b : ℕ) → p b ≡ true → is_blank b ≡ false
+no_blank p space tab return b passes =
+    or_from (b == 32) (b == 9 || b == 13) (apart p 32 space b passes)
+    (or_from (b == 9) (b == 13) (apart p 9 tab b passes) (apart p 13 return b passes))
+
+pub address-no_blank : (front : List ℕ) → list_all is_address_byte front ≡ true → All (λ b. is_blank b ≡ false) front
+address-no_blank front bytes = none-passes is_address_byte is_blank (no_blank is_address_byte refl refl refl) front bytes
+
+pub digits-no_blank : (front : List ℕ) → list_all is_digit front ≡ true → All (λ b. is_blank b ≡ false) front
+digits-no_blank front digits = none-passes is_digit is_blank (no_blank is_digit refl refl refl) front digits
+
+-- the first element that passes is behind a front of which none does
+pub first-behind : (p : ℕ → Bool) (front : List ℕ) (b : ℕ) (rest : List ℕ) → All (λ b. p b ≡ false) front → p b ≡ true
+    → position_or_len p (front ++ b ∷ rest) ≡ length front
+first-behind p [] b rest all here = rw here refl
+first-behind p (c ∷ front) b rest all here =
+    let not : p c ≡ false = All-head (λ b. p b ≡ false) c front all in
+    let more : position_or_len p (front ++ b ∷ rest) ≡ length front =
+    first-behind p front b rest (All-tail (λ b. p b ≡ false) c front all) here in
+    rw not (omega (arith, more))
+
+-- the first word is the front without a blank, and behind it stands what begins with one
+pub word-front : (text front rest : List ℕ) → text ≡ front ++ rest → All (λ b. is_blank b ≡ false) front → BeginsWithBlank rest
+    → first_word text ≡ front
+word-front text front rest whole none blank =
+    let at : text ≡ front ++ blank.blank ∷ blank.rest = whole ∙ ap (λ t. front ++ t) blank.whole in
+    ap first_word at
+    ∙ ap (λ n. take n (front ++ blank.blank ∷ blank.rest)) (first-behind is_blank front blank.blank blank.rest none blank.is)
+    ∙ take_at front (blank.blank ∷ blank.rest) (length front) refl
+
+pub word-behind : (text front rest : List ℕ) → text ≡ front ++ rest → All (λ b. is_blank b ≡ false) front → BeginsWithBlank rest
+    → behind_word text ≡ trim_start rest
+word-behind text front rest whole none blank =
+    let at : text ≡ front ++ blank.blank ∷ blank.rest = whole ∙ ap (λ t. front ++ t) blank.whole in
+    ap behind_word at
+    ∙ ap (λ n. trim_start (drop n (front ++ blank.blank ∷ blank.rest)))
+    (first-behind is_blank front blank.blank blank.rest none blank.is)
+    ∙ ap trim_start (drop_at front (blank.blank ∷ blank.rest) (length front) refl ∙ sym blank.whole)
+
+-- an address with a blank behind it is the first word
+pub address-word : (text rest : List ℕ) (addr : Addr) → BeginsWithAddress text rest addr → BeginsWithBlank rest
+    → IsWord (first_word text) (Address addr) × (behind_word text ≡ trim_start rest)
+address-word text rest addr begins blank =
+    let none = address-no_blank begins.front begins.bytes in
+    let word = word-front text begins.front rest begins.whole none blank in (
+      (
+        ap address_of word ∙ begins.reads,
+        ap (list_any (λ b. b == 47)) word ∙ lacks is_address_byte 47 refl begins.front begins.bytes,
+      ),
+      word-behind text begins.front rest begins.whole none blank,
+    )
+
+-- so is one with a length behind a slash
+block-whole : (text rest length left front digits : List ℕ) → text ≡ front ++ rest → rest ≡ 47 ∷ length → length ≡ digits ++ left
+    → text ≡ (front ++ 47 ∷ digits) ++ left
+block-whole text rest length left front digits e0 e1 e2 =
+    e0 ∙ ap (λ t. front ++ t) (e1 ∙ ap (λ t. 47 ∷ t) e2) ∙ sym (append_assoc front (47 ∷ digits) left)
+
+slash-first : (front digits : List ℕ) → list_all is_address_byte front ≡ true
+    → position_or_len (λ b. b == 47) (front ++ 47 ∷ digits) ≡ length front
+slash-first front digits bytes =
+    first-behind (λ b. b == 47) front 47 digits
+    (none-passes is_address_byte (λ b. b == 47) (apart is_address_byte 47 refl) front bytes) refl
+
+block-reads : (front digits : List ℕ) (addr : Addr) (len : ℕ) → list_all is_address_byte front ≡ true
+    → address_of front ≡ Some (addr.version, addr.value) → short_number (width_of addr.version) digits ≡ Some len
+    → block_of_text (front ++ 47 ∷ digits)
+    ≡ Ok (addr.version, first_of (width_of addr.version) len (block_number (width_of addr.version) len addr.value), len)
+block-reads front digits addr len bytes reads number =
+    let text : List ℕ = front ++ 47 ∷ digits in
+    let before : before_first (λ b. b == 47) text ≡ front =
+    ap (λ n. take n text) (slash-first front digits bytes) ∙ take_at front (47 ∷ digits) (length front) refl in
+    let after : after_first (λ b. b == 47) text ≡ digits =
+    ap (λ n. drop (n + 1) text) (slash-first front digits bytes)
+    ∙ sym (drop-drop 1 (length front) text)
+    ∙ ap (drop 1) (drop_at front (47 ∷ digits) (length front) refl) in
+    ap (λ t. block_from (address_of t) (after_first (λ b. b == 47) text)) before
+    ∙ ap (λ t. block_from (address_of front) t) after
+    ∙ ap (λ a. block_from a digits) reads
+    ∙ ap (covering_block (addr.version, addr.value)) number
+
+slash-in : (front digits : List ℕ) → list_any (λ b. b == 47) (front ++ 47 ∷ digits) ≡ true
+slash-in front digits =
+    list_any-append (λ b. b == 47) front (47 ∷ digits) ∙ or_right (list_any (λ b. b == 47) front) (list_any (λ b. b == 47) (47 ∷ digits)) refl
+
+pub block-word : (text rest length left : List ℕ) (addr : Addr) (len : ℕ) (block : Block) → BeginsWithAddress text rest addr
+    → rest ≡ 47 ∷ length → BeginsWithNumber length left (width_of addr.version) len → BeginsWithBlank left
+    → block.version ≡ addr.version → block.len ≡ len
+    → block.value ≡ first_of (width_of addr.version) len (block_number (width_of addr.version) len addr.value)
+    → IsWord (first_word text) (block_word block) × (behind_word text ≡ trim_start left)
+block-word text rest length left addr len block begins slash number blank version bits value =
+    let front : List ℕ = begins.front ++ 47 ∷ number.front in
+    let whole : text ≡ front ++ left = block-whole text rest length left begins.front number.front begins.whole slash number.whole in
+    let none : All (λ b. is_blank b ≡ false) front =
+    All-append (λ b. is_blank b ≡ false) begins.front (47 ∷ number.front) (address-no_blank begins.front begins.bytes)
+    (All-cons (λ b. is_blank b ≡ false) 47 number.front refl
+    (digits-no_blank number.front (number-digits (width_of addr.version) number.front len number.reads))) in
+    let word = word-front text front left whole none blank in (
+      (
+        ap block_of_text word ∙ block-reads begins.front number.front addr len begins.bytes begins.reads number.reads
+            ∙ (λ i. Ok (sym version i, sym value i, sym bits i)),
+        ap (list_any (λ b. b == 47)) word ∙ slash-in begins.front number.front,
+      ),
+      word-behind text front left whole none blank,
+    )
+
+-- a line whose first word has a `/` is one of a block, and one whose first word is an address begins with that
+not-keyword : (word keyword : List ℕ) → (word ≡ keyword → ⊥) → bytes_eq word keyword ≡ false
+not-keyword word keyword other =
+    false_from_ne_true (bytes_eq word keyword) (λ same. other ((bytes_eq-Decides word keyword).0 same))
+
+pub block-statement : (form : Form) (earlier : Earlier) (word rest : List ℕ) (block : BlockOf)
+    → block_of_text word ≡ Ok block → list_any (λ b. b == 47) word ≡ true
+    → statement_line form earlier word rest ≡ block_line form earlier (Ok block) rest
+block-statement form earlier word rest block reads slash =
+    let other : (keyword : List ℕ) → list_any (λ b. b == 47) keyword ≡ false → bytes_eq word keyword ≡ false =
+    λ keyword lacks. not-keyword word keyword (λ same. true≢false (sym slash ∙ ap (list_any (λ b. b == 47)) same ∙ lacks)) in
+    rw (other (codes "map-name") refl, other (codes "mode") refl, other (codes "label") refl, other (codes "default") refl, slash, reads) refl
+
+pub address-statement : (form : Form) (earlier : Earlier) (word rest : List ℕ) (first : AddressOf)
+    → address_of word ≡ Some first → list_any (λ b. b == 47) word ≡ false
+    → statement_line form earlier word rest ≡ one_or_two form earlier first (address_of (first_word rest)) rest
+address-statement form earlier word rest first reads slash =
+    let other : (keyword : List ℕ) → address_of keyword ≡ None → bytes_eq word keyword ≡ false =
+    λ keyword none. not-keyword word keyword (λ same.
+    let known : None ≡ Some first = sym none ∙ ap address_of (sym same) ∙ reads in absurd cc) in
+    rw (other (codes "map-name") refl, other (codes "mode") refl, other (codes "label") refl, other (codes "default") refl, slash, reads) refl
+
+-- the same of a line's content
+pub content-block : (form : Form) (earlier : Earlier) (content rest : List ℕ) (block : Block) → IsWord (first_word content) (block_word block)
+    → rest ≡ behind_word content → content_line form earlier content ≡ block_line form earlier (Ok (block.version, block.value, block.len)) rest
+content-block form earlier [] rest block word behind = absurd (false≢true word.1)
+content-block form earlier (b ∷ bs) rest block word behind =
+    block-statement form earlier (first_word (b ∷ bs)) (behind_word (b ∷ bs)) (block.version, block.value, block.len) word.0 word.1
+    ∙ ap (block_line form earlier (Ok (block.version, block.value, block.len))) (sym behind)
+
+pub content-address : (form : Form) (earlier : Earlier) (content rest : List ℕ) (addr : Addr) → IsWord (first_word content) (Address addr)
+    → rest ≡ behind_word content
+    → content_line form earlier content ≡ one_or_two form earlier (addr.version, addr.value) (address_of (first_word rest)) rest
+content-address form earlier [] rest addr word behind = let none : None ≡ Some (addr.version, addr.value) = word.0 in absurd cc
+content-address form earlier (b ∷ bs) rest addr word behind =
+    address-statement form earlier (first_word (b ∷ bs)) (behind_word (b ∷ bs)) (addr.version, addr.value) word.0 word.1
+    ∙ ap (λ t. one_or_two form earlier (addr.version, addr.value) (address_of (first_word t)) t) (sym behind)

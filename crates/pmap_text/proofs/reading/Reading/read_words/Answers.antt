@@ -1,0 +1,21 @@
+use Rattle.std.proofs.Common.{◌≡◌, ◌≢◌, ℕ, List, [], ◌∷◌, length, refl, sym}
+use Rattle.std.proofs.lemmas.Bool.{eqb-false}
+use Rattle.pmap_text.specs.Lines.{behind_word, first_word}
+use Rattle.pmap_text.specs.Reading.{Earlier, content_line, statement_line}
+use Rattle.pmap_text.specs.declared.form.Form.{Form}
+use Rattle.pmap_text.proofs.reading.Reading.read_words.Goals as goal
+
+-- a line with a word says what its statement says
+content_line-words : (form : Form) (earlier : Earlier) (content : List ℕ) → length content ≢ 0 → content_line form earlier content ≡ statement_line form earlier (first_word content) (behind_word content)
+content_line-words form earlier [] ne = absurd (ne refl)
+content_line-words form earlier (b ∷ bs) ne = refl
+
+pub returns-clause-ok : goal.returns-clause-ok
+returns-clause-ok c =
+    let words = content_line-words c.args.form c.args.self.now c.args.content.now (eqb-false _ 0 (sym c.if-is_empty.ensures)) in
+    rw (words, ← c.split_word.ensures.word, ← c.split_word.ensures.rest) c.read_statement.ensures.ok
+
+pub returns-clause-err : goal.returns-clause-err
+returns-clause-err c =
+    let words = content_line-words c.args.form c.args.self.now c.args.content.now (eqb-false _ 0 (sym c.if-is_empty.ensures)) in
+    rw (words, ← c.split_word.ensures.word, ← c.split_word.ensures.rest) c.read_statement.ensures.err

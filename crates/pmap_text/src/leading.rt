@@ -1,0 +1,120 @@
+//! Addresses and blocks that a text begins with, read in one pass over its bytes. A text that isn't plainly of such a form has
+//! no answer here, and the readers of whole words decide what it is.
+ghost use Rattle.std.specs.Prelude.{◌≡◌, ◌≤◌, ◌∷◌, IfSome};
+ghost use Rattle.pmap_text.specs.Leading.{BeginsWithAddress, BeginsWithBlank, BeginsWithDotted, BeginsWithNumber, IsWord};
+ghost use Rattle.pmap_text.specs.Lines.{behind_word, first_word, trim_start};
+
+use crate::label::is_blank;
+use crate::lines::without_leading_blanks;
+use prefix_keys::{Addr, Block, Version, block_of, leading_colon};
+
+/// What the first word of a line may be.
+#[derive(Clone, Copy)]
+pub enum Word {
+    Address(Addr),
+    Block(Block),
+}
+
+// The number, at most the limit, of one to three digits that a text begins with, and what stands behind it: there is
+// something, and it begins with no digit.
+fn leading_number(text: &[u8], limit: u32) -> Option<(u32, &[u8])>
+    ensures number { IfSome result (λ r. BeginsWithNumber text.now r.1.now limit r.0) }
+    ensures limited { IfSome result (λ r. r.0 ≤ limit) }
+{
+    let mut number = 0;
+    for (at, byte) in text.iter().enumerate() {
+        if !byte.is_ascii_digit() {
+            return if at > 0 && number <= limit {
+                Some((number, &text[at..]))
+            } else {
+                None
+            };
+        }
+        if at == 3 {
+            return None;
+        }
+        number = number * 10 + u32::from(*byte - b'0');
+    }
+    None
+}
+
+// What stands behind this byte, which a text begins with.
+fn behind_byte(text: &[u8], byte: u8) -> Option<&[u8]>
+    ensures { IfSome result (λ r. text.now ≡ byte ∷ r.now) }
+{
+    match text {
+        [first, rest @ ..] if *first == byte => Some(rest),
+        _ => None,
+    }
+}
+
+// The number of the IPv4 address that a text begins with, and what stands behind it.
+fn leading_dotted(text: &[u8]) -> Option<(u32, &[u8])>
+    ensures { IfSome result (λ r. BeginsWithDotted text.now r.1.now r.0) }
+{
+    let (a, rest) = leading_number(text, 255)?;
+    let (b, rest) = leading_number(behind_byte(rest, b'.')?, 255)?;
+    let (c, rest) = leading_number(behind_byte(rest, b'.')?, 255)?;
+    let (d, rest) = leading_number(behind_byte(rest, b'.')?, 255)?;
+    Some((((a * 256 + b) * 256 + c) * 256 + d, rest))
+}
+
+// The IPv4 address that a text begins with, and what stands behind it.
+fn leading_narrow(text: &[u8]) -> Option<(Addr, &[u8])>
+    ensures { IfSome result (λ r. BeginsWithAddress text.now r.1.now r.0) }
+{
+    let (value, rest) = leading_dotted(text)?;
+    let addr = Addr {
+        version: Version::V4,
+        value: u128::from(value),
+    };
+    Some((addr, rest))
+}
+
+// The IPv6 address that a text begins with, and what stands behind it.
+fn leading_wide(text: &[u8]) -> Option<(Addr, &[u8])>
+    ensures { IfSome result (λ r. BeginsWithAddress text.now r.1.now r.0) }
+{
+    let (value, rest) = leading_colon(text)?;
+    let addr = Addr {
+        version: Version::V6,
+        value,
+    };
+    Some((addr, rest))
+}
+
+// The address of either version that a text begins with, and what stands behind it.
+fn leading_address(text: &[u8]) -> Option<(Addr, &[u8])>
+    ensures { IfSome result (λ r. BeginsWithAddress text.now r.1.now r.0) }
+{
+    match leading_narrow(text) {
+        Some(found) => Some(found),
+        None => leading_wide(text),
+    }
+}
+
+// What stands behind the blanks that a text begins with, of which there is one or more.
+fn behind_blanks(text: &[u8]) -> Option<&[u8]>
+    ensures { IfSome result (λ r. BeginsWithBlank text.now × (r.now ≡ trim_start text.now)) }
+{
+    match text.first() {
+        Some(byte) if is_blank(*byte) => Some(without_leading_blanks(text)),
+        _ => None,
+    }
+}
+
+/// The first word of a text, where it is plainly an address or a block with a blank behind it, and what stands behind it
+/// and the blanks after it.
+pub fn leading_word(text: &[u8]) -> Option<(Word, &[u8])>
+    ensures word { IfSome result (λ r. IsWord (first_word text.now) r.0) }
+    ensures rest { IfSome result (λ r. r.1.now ≡ behind_word text.now) }
+{
+    let (addr, rest) = leading_address(text)?;
+    match behind_byte(rest, b'/') {
+        Some(length) => {
+            let (len, rest) = leading_number(length, addr.version.width())?;
+            Some((Word::Block(block_of(addr, len)), behind_blanks(rest)?))
+        }
+        None => Some((Word::Address(addr), behind_blanks(rest)?)),
+    }
+}

@@ -1,0 +1,227 @@
+-- The groups of an address that a text begins with.
+use Rattle.std.proofs.Common.{◌≡◌, ℕ, ◌+◌, ◌-◌, ◌*◌, ◌^◌, ◌<◌, ◌≤◌, ◌&&◌, ◌||◌, ◌==◌, Bool, true, false, List, [], ◌∷◌, ◌++◌, Option, Some, None, All, length, take, ap, sym, refl, ◌∙◌, arith, inl, inr, nat_le, le-leb, option_map, if◌then◌else◌}
+use Rattle.std.specs.List.{list_all, list_any, slice_split}
+use Rattle.std.proofs.lemmas.Bool.{and_from, and_right, cond-true, cond-false, cases_Bool, eq-eqb, true_from_ne_false}
+use Rattle.std.proofs.lemmas.List.{append_assoc, append-nil, length-take-le, length-append}
+use Rattle.std.proofs.lemmas.List.Folds.{list_all-append}
+use Rattle.std.proofs.lemmas.List.Splits.{slice_split_at, slice_split_none, length-slice_split}
+use Rattle.prefix_keys.specs.Leading.{BeginsWithColon, BeginsWithGroup, BeginsWithSide, behind, is_colon_byte}
+use Rattle.prefix_keys.specs.Steps.{more_groups}
+use Rattle.prefix_keys.specs.Text.{around_gap, around_address, colon_address, gap_address, groups_of, hex_group, hex_value, is_hex_digit, last_groups, onto_groups, side_groups, text_groups, two_groups, whole_address, dotted_address}
+use Rattle.prefix_keys.proofs.ColonPieces.{is_colon, groups_of-more, more-next}
+use Rattle.prefix_keys.proofs.Gaps.{address-around}
+use Rattle.prefix_keys.proofs.GroupNumbers.{counted-count, gap-some, whole-some}
+use Rattle.prefix_keys.proofs.Bytes.{all-weaker, apart, each-fails, lacks, none-passes}
+use Rattle.prefix_keys.proofs.Printed.{Lacks}
+use Rattle.prefix_keys.proofs.PrintedGaps.{around-piece, behind-behind, behind-nil, colon-begins, onto-behind, skip}
+
+-- a group is of hexadecimal digits, one or more
+pub group-digits : (text : List ℕ) (g : ℕ) → hex_group text ≡ Some g → list_all is_hex_digit text ≡ true
+group-digits text g reads = elim (cases_Bool (list_all is_hex_digit text)) [
+  | inl all ↦ all
+  | inr some ↦
+      let none : hex_group text ≡ None =
+      cond-false (nat_le 1 (length text) && (nat_le (length text) 4 && list_all is_hex_digit text)) (Some (hex_value text)) None
+      (and_right _ _ (and_right _ _ some)) in
+      let no : None ≡ Some g = sym none ∙ reads in absurd cc
+]
+
+pub group-some : (text : List ℕ) (g : ℕ) → hex_group text ≡ Some g → 0 < length text
+group-some [] g reads = absurd cc
+group-some (b ∷ text) g reads = omega arith
+
+group-lacks : (c : ℕ) → is_hex_digit c ≡ false → (text : List ℕ) (g : ℕ) → hex_group text ≡ Some g → Lacks c text
+group-lacks c other text g reads = none-passes is_hex_digit (λ b. b == c) (apart is_hex_digit c other) text (group-digits text g reads)
+
+-- one to four digits at the front are a group
+pub group-front : (text : List ℕ) (at n : ℕ) → n ≡ hex_value (take at text) → list_all is_hex_digit (take at text) ≡ true
+    → 0 < at → at ≤ 4 → at ≤ length text → hex_group (take at text) ≡ Some n
+group-front text at n value digits some few within =
+    let front : List ℕ = take at text in
+    let count : length front ≡ at = length-take-le at text within in
+    let one : nat_le 1 (length front) ≡ true = le-leb _ _ (omega arith) in
+    let four : nat_le (length front) 4 ≡ true = le-leb _ _ (omega arith) in
+    cond-true _ (Some (hex_value front)) None (and_from _ _ one (and_from _ _ four digits)) ∙ ap (λ m. Some m) (sym value)
+
+-- a group alone, and one before a colon
+pub groups-last : (dotted : Bool) (f : List ℕ) (g : ℕ) → hex_group f ≡ Some g → text_groups dotted f ≡ Some (g ∷ [])
+groups-last dotted f g reads =
+    ap (groups_of dotted) (slice_split_none is_colon f (group-lacks 58 refl f g reads)) ∙ last dotted
+  where
+    last : (dotted : Bool) → last_groups dotted f ≡ Some (g ∷ [])
+    last true =
+        cond-false (list_any (λ b. b == 46) f) (option_map two_groups (dotted_address f)) (option_map (λ group. group ∷ []) (hex_group f))
+        (lacks is_hex_digit 46 refl f (group-digits f g reads))
+        ∙ ap (option_map (λ group. group ∷ [])) reads
+    last false = ap (option_map (λ group. group ∷ [])) reads
+
+pub groups-next : (dotted : Bool) (f t : List ℕ) (g : ℕ) → hex_group f ≡ Some g
+    → text_groups dotted (f ++ 58 ∷ t) ≡ onto_groups (Some g) (text_groups dotted t)
+groups-next dotted f t g reads =
+    ap (groups_of dotted) (slice_split_at is_colon f 58 t (group-lacks 58 refl f g reads) refl)
+    ∙ groups_of-more dotted f (slice_split is_colon t) (omega (arith, length-slice_split is_colon t))
+    ∙ ap (λ x. onto_groups x (text_groups dotted t)) reads
+
+-- What was read of the groups that a text begins with: some groups with a colon behind each, of so many groups that make that
+-- number, and then the rest.
+pub record HasRead (text rest : List ℕ) (count number : ℕ) : Type 0 where
+  pub done : List ℕ
+  pub whole : text ≡ done ++ rest
+  pub bytes : list_all is_colon_byte done ≡ true
+  pub groups : (dotted : Bool) (t : List ℕ) → more_groups 0 0 (text_groups dotted (done ++ t)) ≡ more_groups count number (text_groups dotted t)
+  pub gap : (f back : List ℕ) → 0 < length f → Lacks 58 f → around_gap (done ++ (f ++ back)) ≡ behind done (around_gap (f ++ back))
+
+pub read-none : (text : List ℕ) → HasRead text text 0 0
+read-none text = record {
+  done = [];
+  whole = refl;
+  bytes = refl;
+  groups = λ dotted t. refl;
+  gap = λ f back some lacks. behind-nil (around_gap (f ++ back));
+}
+
+group-bytes : (f : List ℕ) (g : ℕ) → hex_group f ≡ Some g → list_all is_colon_byte f ≡ true
+group-bytes f g reads = all-weaker is_hex_digit is_colon_byte (λ b digit. rw digit refl) f (group-digits f g reads)
+
+-- a colon in front of what stands before a `::`
+colon-front : (sides : Option (List ℕ × List ℕ)) → option_map (λ sides. (58 ∷ sides.0, sides.1)) sides ≡ behind (58 ∷ []) sides
+colon-front None = refl
+colon-front (Some sides) = refl
+
+-- the groups of a side that isn't empty are those of its text
+side-some : (dotted : Bool) (text : List ℕ) → 0 < length text → side_groups dotted text ≡ text_groups dotted text
+side-some dotted [] some = absurd (omega arith)
+side-some dotted (b ∷ text) some = refl
+
+eight-groups : (text : List ℕ) (c n : ℕ) → c ≡ 8 → Some (c, n) ≡ more_groups 0 0 (side_groups true text) → Some (c, n) ≡ more_groups 0 0 (text_groups true text)
+eight-groups [] c n eight h = let zero : c ≡ 0 = counted-count [] c n h in absurd (omega arith)
+eight-groups (b ∷ text) c n eight h = h
+
+-- one more group and the colon behind it
+pub read-more : (text rest behind-group next : List ℕ) (c n g c' n' : ℕ) → HasRead text rest c n → BeginsWithGroup rest behind-group g
+    → behind-group ≡ 58 ∷ next → Some (c', n') ≡ more_groups c n (Some (g ∷ [])) → HasRead text next c' n'
+read-more text rest behind-group next c n g c' n' has group colon more =
+    let f : List ℕ = group.front in
+    let done : List ℕ = has.done ++ (f ++ 58 ∷ []) in
+    let some : 0 < length f = group-some f g group.reads in
+    let lacks-colon : Lacks 58 f = group-lacks 58 refl f g group.reads in
+    let moved : (t : List ℕ) → done ++ t ≡ has.done ++ (f ++ 58 ∷ t) =
+    λ t. append_assoc has.done (f ++ 58 ∷ []) t ∙ ap (λ x. has.done ++ x) (append_assoc f (58 ∷ []) t) in
+    record {
+      done = done;
+      whole = has.whole ∙ ap (λ x. has.done ++ x) (group.whole ∙ ap (λ x. f ++ x) colon) ∙ sym (moved next);
+      bytes =
+          list_all-append is_colon_byte has.done (f ++ 58 ∷ [])
+          ∙ and_from _ _ has.bytes (list_all-append is_colon_byte f (58 ∷ []) ∙ and_from _ _ (group-bytes f g group.reads) refl);
+      groups = λ dotted t.
+          ap (λ x. more_groups 0 0 (text_groups dotted x)) (moved t)
+          ∙ has.groups dotted (f ++ 58 ∷ t)
+          ∙ ap (more_groups c n) (groups-next dotted f t g group.reads)
+          ∙ more-next c n g c' n' (text_groups dotted t) more;
+      gap = λ f' back some' lacks'.
+          let t : List ℕ = f' ++ back in
+          ap around_gap (moved t)
+          ∙ has.gap f (58 ∷ t) some lacks-colon
+          ∙ ap (behind has.done)
+          (around-piece f (58 ∷ t) lacks-colon
+          ∙ ap (behind f) (skip 58 t (colon-begins f' back some' lacks') ∙ colon-front (around_gap t))
+          ∙ behind-behind f (58 ∷ []) (around_gap t))
+          ∙ behind-behind has.done (f ++ 58 ∷ []) (around_gap t);
+    }
+
+-- the last group, with no colon that goes on behind it
+pub read-last : (text rest left : List ℕ) (c n g c' n' : ℕ) → HasRead text rest c n → BeginsWithGroup rest left g
+    → Some (c', n') ≡ more_groups c n (Some (g ∷ [])) → BeginsWithSide text left c' n'
+read-last text rest left c n g c' n' has group more =
+    let f : List ℕ = group.front in
+    let front : List ℕ = has.done ++ f in
+    let some : 0 < length f = group-some f g group.reads in
+    let long : 0 < length front = omega (arith, length-append has.done f) in
+    let lacks-colon : Lacks 58 f = group-lacks 58 refl f g group.reads in
+    record {
+      front = front;
+      whole = has.whole ∙ ap (λ x. has.done ++ x) group.whole ∙ sym (append_assoc has.done f left);
+      bytes = list_all-append is_colon_byte has.done f ∙ and_from _ _ has.bytes (group-bytes f g group.reads);
+      groups = λ dotted.
+          more
+          ∙ ap (more_groups c n) (sym (groups-last dotted f g group.reads))
+          ∙ sym (has.groups dotted f)
+          ∙ ap (more_groups 0 0) (sym (side-some dotted front long));
+      gap = λ back.
+          ap around_gap (append_assoc has.done f back)
+          ∙ has.gap f back some lacks-colon
+          ∙ ap (behind has.done) (around-piece f back lacks-colon)
+          ∙ behind-behind has.done f (around_gap back);
+    }
+
+-- no groups
+pub side-none : (text : List ℕ) → BeginsWithSide text text 0 0
+side-none text = record {
+  front = [];
+  whole = refl;
+  bytes = refl;
+  groups = λ dotted. refl;
+  gap = λ back. behind-nil (around_gap back);
+}
+
+-- two sides of a `::`, and eight groups without one
+pub colon-gap : (text rest back left : List ℕ) (c n d m : ℕ) (value : ℕ) → BeginsWithSide text rest c n → rest ≡ 58 ∷ 58 ∷ back
+    → BeginsWithSide back left d m → Some value ≡ (if nat_le (c + d) 7 then Some (n * 2 ^ (16 * (8 - c)) + m) else None)
+    → BeginsWithColon text left value
+colon-gap text rest back left c n d m value one gap two joined =
+    let front : List ℕ = one.front ++ 58 ∷ 58 ∷ two.front in
+    let around : around_gap front ≡ Some (one.front, two.front) =
+    one.gap (58 ∷ 58 ∷ two.front) ∙ ap (λ x. Some (x, two.front)) (append-nil one.front) in
+    record {
+      front = front;
+      whole =
+          one.whole ∙ ap (λ x. one.front ++ x) (gap ∙ ap (λ x. 58 ∷ 58 ∷ x) two.whole)
+          ∙ sym (append_assoc one.front (58 ∷ 58 ∷ two.front) left);
+      bytes = list_all-append is_colon_byte one.front (58 ∷ 58 ∷ two.front) ∙ and_from _ _ one.bytes two.bytes;
+      reads =
+          address-around front one.front two.front (sym around)
+          ∙ gap-some (side_groups false one.front) (side_groups true two.front) c n d m (one.groups false) (two.groups true)
+          ∙ sym joined;
+    }
+
+pub colon-whole : (text rest : List ℕ) (c n : ℕ) → BeginsWithSide text rest c n → c ≡ 8 → BeginsWithColon text rest n
+colon-whole text rest c n side eight =
+    let front : List ℕ = side.front in
+    let none : around_gap front ≡ None = ap around_gap (sym (append-nil front)) ∙ side.gap [] in
+    record {
+      front = front;
+      whole = side.whole;
+      bytes = side.bytes;
+      reads =
+          ap (around_address front) none
+          ∙ whole-some (text_groups true front) c n (eight-groups front c n eight (side.groups true))
+          ∙ cond-true (c == 8) (Some n) None (eq-eqb c 8 eight);
+    }
+
+-- a text without a colon is no such address, since it writes at most two groups
+no-colon : (text : List ℕ) → list_any (λ b. b == 58) text ≡ false → colon_address text ≡ None
+no-colon text none =
+    let lacks-colon : Lacks 58 text = each-fails (λ b. b == 58) text none in
+    let around : around_gap text ≡ None =
+    ap around_gap (sym (append-nil text)) ∙ around-piece text [] lacks-colon in
+    ap (around_address text) around
+    ∙ ap (λ pieces. whole_address (groups_of true pieces)) (slice_split_none is_colon text lacks-colon)
+    ∙ few (list_any (λ b. b == 46) text)
+  where
+    two : (x : Option ℕ) → whole_address (option_map two_groups x) ≡ None
+    two None = refl
+    two (Some value) = refl
+
+    one : (x : Option ℕ) → whole_address (option_map (λ group. group ∷ []) x) ≡ None
+    one None = refl
+    one (Some group) = refl
+
+    few : (dotted : Bool) → whole_address (if dotted then option_map two_groups (dotted_address text)
+        else option_map (λ group. group ∷ []) (hex_group text)) ≡ None
+    few true = two (dotted_address text)
+    few false = one (hex_group text)
+
+pub colon-in : (text : List ℕ) (value : ℕ) → colon_address text ≡ Some value → list_any (λ b. b == 58) text ≡ true
+colon-in text value reads =
+    true_from_ne_false (list_any (λ b. b == 58) text)
+    (λ none. let no : None ≡ Some value = sym (no-colon text none) ∙ reads in absurd cc)

@@ -1,0 +1,35 @@
+use Rattle.std.specs.Prelude.{◌≡◌, ℕ, ◌||◌, ◌==◌, Bool, true, List, ◌++◌, Option, Some, option_map}
+use Rattle.std.specs.List.{list_all}
+use Rattle.prefix_keys.specs.Steps.{more_groups}
+use Rattle.prefix_keys.specs.Text.{around_gap, colon_address, hex_group, is_hex_digit, side_groups}
+
+-- What a text begins with, for the contracts of the code's own functions: no user need read them.
+
+-- the text is a group and then the rest
+pub record BeginsWithGroup (text rest : List ℕ) (group : ℕ) : Type 0 where
+  pub front : List ℕ
+  pub whole : text ≡ front ++ rest
+  pub reads : hex_group front ≡ Some group
+
+-- a byte of groups with colons between
+abbrev pub is_colon_byte : ℕ → Bool
+is_colon_byte b = is_hex_digit b || b == 58
+
+-- a text in front of what stands before a `::`
+abbrev pub behind : List ℕ → Option (List ℕ × List ℕ) → Option (List ℕ × List ℕ)
+behind front sides = option_map (λ sides. (front ++ sides.0, sides.1)) sides
+
+-- the text is one side of a `::`, of so many groups that make that number, and then the rest
+pub record BeginsWithSide (text rest : List ℕ) (count number : ℕ) : Type 0 where
+  pub front : List ℕ
+  pub whole : text ≡ front ++ rest
+  pub bytes : list_all is_colon_byte front ≡ true
+  pub groups : (dotted : Bool) → Some (count, number) ≡ more_groups 0 0 (side_groups dotted front)
+  pub gap : (back : List ℕ) → around_gap (front ++ back) ≡ behind front (around_gap back)
+
+-- the text is an IPv6 address and then the rest
+pub record BeginsWithColon (text rest : List ℕ) (number : ℕ) : Type 0 where
+  pub front : List ℕ
+  pub whole : text ≡ front ++ rest
+  pub bytes : list_all is_colon_byte front ≡ true
+  pub reads : colon_address front ≡ Some number
