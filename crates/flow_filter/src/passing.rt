@@ -10,7 +10,7 @@ ghost use Rattle.flow_filter.specs.Filters.{condition_in};
 ghost use Rattle.flow_filter.specs.Passing.{passing};
 
 use crate::filter::Filter;
-use flow_rows::{Row, reverse_row_of, row_of};
+use flow_rows::{Plan, Row};
 use ipfix_read::{Message, Record, RecordList, Set};
 use label_lookup::Labeller;
 use std::alloc::AllocError;
@@ -36,21 +36,23 @@ fn add_row<L: Labeller>(
     Ok(())
 }
 
-// Adds the rows of a record that pass, the second right behind the first.
+// Adds the rows of a record that pass, found by the plan of its fields, the second right behind the first.
 #[tactic(auto, using(crate::proofs::PassingLemmas::front_stays, crate::proofs::PassingLemmas::both_pass))]
 fn add_rows_of_record<L: Labeller>(
     filter: &Filter<'_>,
+    plan: &Plan<'_>,
     data_record: &Record<'_, '_>,
     labeller: Option<&L>,
     rows: &mut Vec<Row>,
 ) -> Result<(), AllocError>
+    requires { map (λ v. v.field) data_record.now.fields ≡ plan.now }
     ensures ok { let labelling = labelling_lent L.version_of L.label labeller.entry in
         OnOk result (map row_view rows.new.items
         ≡ map row_view rows.old.items ++ passing (condition_in filter.now) labelling (rows_of_record data_record.now)) }
     ensures front { take (length rows.old.items) rows.new.items ≡ rows.old.items }
 {
-    add_row(filter, &row_of(data_record), labeller, rows)?;
-    add_row(filter, &reverse_row_of(data_record), labeller, rows)
+    add_row(filter, &plan.row_of(data_record), labeller, rows)?;
+    add_row(filter, &plan.reverse_row_of(data_record), labeller, rows)
 }
 
 // Adds the rows of records that pass.
@@ -66,8 +68,12 @@ fn add_rows_of_records<L: Labeller>(
         ≡ map row_view rows.old.items ++ passing (condition_in filter.now) labelling (flat_map rows_of_record records.now)) }
     ensures front { take (length rows.old.items) rows.new.items ≡ rows.old.items }
 {
+    let Some(fields) = records.fields() else {
+        return Ok(());
+    };
+    let plan = Plan::new(fields);
     for record in records.iter() {
-        add_rows_of_record(filter, &record, labeller, rows)?;
+        add_rows_of_record(filter, &plan, &record, labeller, rows)?;
     }
     Ok(())
 }

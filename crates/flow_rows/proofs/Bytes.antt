@@ -10,7 +10,7 @@ use Rattle.ipfix_read.specs.Value.{FieldValueView, values_with_bytes}
 use Rattle.flow_rows.specs.Element.{big_endian, element, element_lengths, fits, is_reverse_usable, is_usable, reverse_element, reverse_elements, reverse_enterprise}
 use Rattle.flow_rows.specs.Elements.{elements_of, reverse_elements_of}
 
-both-true : (p q : Bool) → (p && q) ≡ true → (p ≡ true) × (q ≡ true)
+pub both-true : (p q : Bool) → (p && q) ≡ true → (p ≡ true) × (q ≡ true)
 both-true true q h = (refl, h)
 both-true false q h = cc
 
@@ -34,14 +34,14 @@ fits-zero : (number : ℕ) → fits number 0 ≡ false
 unfolding fits
 fits-zero number = none_passes _ (λ n. n == number) element_lengths refl
 
-usable_has_bytes : (p q : Bool) (number len : ℕ) → (p && (q && fits number len)) ≡ true → not (len == 0) ≡ true
+pub usable_has_bytes : (p q : Bool) (number len : ℕ) → (p && (q && fits number len)) ≡ true → not (len == 0) ≡ true
 usable_has_bytes p q number zero h =
     let fitting = (both-true q (fits number 0) (both-true p (q && fits number 0) h).1).1 in
     let never : false ≡ true = sym (fits-zero number) ∙ fitting in
     cc
 usable_has_bytes p q number (suc len) h = ap not (eqb-suc-zero len)
 
-reverse_usable_has_bytes : (p q r : Bool) (number len : ℕ) → (p && (q && (r && fits number len))) ≡ true → not (len == 0) ≡ true
+pub reverse_usable_has_bytes : (p q r : Bool) (number len : ℕ) → (p && (q && (r && fits number len))) ≡ true → not (len == 0) ≡ true
 reverse_usable_has_bytes p q r number len h =
     usable_has_bytes q r number len (both-true p (q && (r && fits number len)) h).1
 

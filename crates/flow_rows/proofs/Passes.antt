@@ -14,11 +14,11 @@ use Rattle.flow_rows.specs.Elements.{elements_of, first_row_of, reverse_elements
 use Rattle.flow_rows.specs.Row.{RowView}
 use Rattle.flow_rows.specs.Parts.{after_reverse_value, after_reverse_values, after_value, after_values, kept, reverse_says, says}
 
-kept-none : (x : Option ℕ) → kept None x ≡ x
+pub kept-none : {T : Type 0} (x : Option T) → kept None x ≡ x
 kept-none None = refl
 kept-none (Some x) = refl
 
-kept-kept : (x : Option ℕ) (y : ℕ) (z : Option ℕ) → kept (kept x (Some y)) z ≡ kept x (Some y)
+pub kept-kept : {T : Type 0} (x : Option T) (y : T) (z : Option T) → kept (kept x (Some y)) z ≡ kept x (Some y)
 kept-kept None y None = refl
 kept-kept None y (Some z) = refl
 kept-kept (Some x) y None = refl

@@ -4,3 +4,4 @@ pub mod Elements
 pub mod Content
 pub mod Counts
 pub mod Parts
+pub mod Places

@@ -25,11 +25,17 @@
 mod counting;
 mod counts;
 mod elements;
+mod layout;
 mod number;
+mod place;
+mod places;
+mod plan;
 mod record;
 mod reverse;
+mod reverse_places;
 mod row;
 
 pub use counts::Counts;
+pub use plan::Plan;
 pub use record::{reverse_row_of, row_of};
 pub use row::Row;

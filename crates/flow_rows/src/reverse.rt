@@ -8,7 +8,7 @@ use crate::row::Row;
 use ipfix_read::FieldValue;
 
 /// The enterprise number of the elements of the reverse direction (RFC 5103 section 6.1).
-const REVERSE: u32 = 29305;
+pub const REVERSE: u32 = 29305;
 
 /// What some values say of each information element of the reverse direction (RFC 5103): the number of the first usable
 /// one.

@@ -3,7 +3,7 @@ ghost use Rattle.std.specs.Iterator.{YieldsFirst, item_count};
 ghost use Rattle.ipfix_read.specs.WholeRecords.{whole_records};
 
 use crate::value::{FieldValues, read_values};
-use ipfix_templates::{Field, Fields, Kind};
+use ipfix_templates::{Fields, Kind};
 use std::alloc::AllocError;
 use std::marker::Model;
 
@@ -82,14 +82,18 @@ impl<'a> RecordList<'a> {
     }
 
     /// The fields of each record's values in order. None where there are no records.
-    pub fn fields(&self) -> Option<&[Field]>
+    pub fn fields(&self) -> Option<&Fields>
         ensures values { MatchOption result (self.now ≡ []) (λ fields.
             All (λ r. map (λ v. v.field) r.fields ≡ fields.now) self.now) }
         ensures bound { IfSome result (λ fields. length fields.now ≤ 65535) }
     {
         match &self.specifiers {
             None => None,
-            Some(specifiers) => Some(specifiers.as_slice()),
+            Some(specifiers) => {
+                // It bounds the number of fields.
+                let _most = specifiers.len();
+                Some(specifiers)
+            }
         }
     }
 

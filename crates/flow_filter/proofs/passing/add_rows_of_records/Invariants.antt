@@ -1,5 +1,5 @@
--- The rows that are added, with those of the records that are left, are those of all.
-use Rattle.std.proofs.Common.{◌≡◌, ◌++◌, length, map, take}
+-- The rows that are added, with those of the records that are left, are those of all; and these records have the plan's fields.
+use Rattle.std.proofs.Common.{◌≡◌, ◌++◌, All, length, map, take}
 use Rattle.std.specs.List.{flat_map}
 use Rattle.flow_rows.specs.Elements.{rows_of_record}
 use Rattle.flow_rows.specs.Row.{row_view}
@@ -10,6 +10,7 @@ use Rattle.flow_filter.proofs.passing.add_rows_of_records.Given as goal
 
 abbrev pub invariant-loop-record : goal.invariant-loop-record
 invariant-loop-record g l = record {
+  fields : All (λ r. map (λ v. v.field) r.fields ≡ l.plan) l.record-iterator;
   ok : map row_view l.rows.items
       ++ passing (condition_in l.filter) (labelling_lent g.L.Labeller.version_of g.L.Labeller.label l.fn.labeller)
       (flat_map rows_of_record l.record-iterator)

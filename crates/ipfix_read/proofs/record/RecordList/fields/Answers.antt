@@ -11,7 +11,6 @@ returns-in-None-clause-values c =
 
 pub returns-in-Some-clause-values : goal.returns-in-Some-clause-values
 returns-in-Some-clause-values c =
-    rw c.as_slice.ensures.value
-    (subst (λ (rs : List Record). All (λ r. map (λ v. v.field) r.fields ≡ c.in-Some.specifiers) rs)
+    subst (λ (rs : List Record). All (λ r. map (λ v. v.field) r.fields ≡ c.in-Some.specifiers) rs)
     (ap (λ (o : Option (List Field)). packed_records c.self.inside.kind o c.self.inside.count c.self.inside.bytes.now) (sym c.in-Some.is) ∙ c.self.view_is)
-    (all_of_fields c.self.inside.kind c.in-Some.specifiers c.self.inside.count c.self.inside.bytes.now))
+    (all_of_fields c.self.inside.kind c.in-Some.specifiers c.self.inside.count c.self.inside.bytes.now)
