@@ -11,7 +11,7 @@ use Rattle.prefix_keys.specs.declared.version.Version.{Version}
 use Rattle.prefix_keys.specs.declared.version.Version.TheVariants.{V4, V6}
 use Rattle.pmap_text.specs.ListModel.{ListModel, Prefix, label_below, lies_inside}
 use Rattle.pmap_text.specs.MapModel.{IsSettled, Label, MapModel, settled_label}
-use Rattle.pmap_cert.specs.Acceptance.{AreBitsAccepted, IsAccepted, IsLeafAccepted, IsDecided, IsNodeAccepted, IsWithinExact}
+use Rattle.pmap_cert.specs.Acceptance.{AreBitsAccepted, IsAccepted, IsDecided, IsNodeAccepted, IsWithinExact}
 use Rattle.pmap_cert.specs.CertificateForm.{HasNodeForm, HasRoomBelow}
 use Rattle.pmap_cert.specs.CertificateModel.{CertificateModel, ChainNode, InnerNode, LeafNode, Pair, Tree, claim_of, has}
 use Rattle.pmap_cert.specs.Chain.{chain_pair, chosen_half, side_half}

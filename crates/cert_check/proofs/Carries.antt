@@ -1,13 +1,11 @@
 -- What is carried down to a block, as the code finds it.
-use Rattle.std.proofs.Common.{◌≡◌, ℕ, zero, suc, ◌+◌, ◌-◌, ◌*◌, ◌^◌, ◌<◌, ◌≤◌, Bool, true, false, cond, not, ◌&&◌, ◌||◌, ◌==◌, List, [], ◌∷◌, ◌++◌, Option, Some, None, drop, filter, get_or, length, map, nat_le, nat_lt, refl, sym, ap, ◌∙◌, subst, arith}
+use Rattle.std.proofs.Common.{◌≡◌, ℕ, ◌+◌, ◌-◌, ◌*◌, ◌^◌, ◌<◌, ◌≤◌, Bool, true, false, cond, not, ◌&&◌, ◌||◌, ◌==◌, List, [], ◌∷◌, ◌++◌, filter, get_or, length, nat_le, nat_lt, refl, sym, ap, ◌∙◌, arith}
 use Rattle.std.proofs.Common.{take}
-use Rattle.std.proofs.lemmas.List.{append-nil, append_assoc, take_at, take_more}
+use Rattle.std.proofs.lemmas.List.{append-nil, append_assoc, take_more}
 use Rattle.std.specs.List.{list_any}
-use Rattle.std.specs.Option.{option_or}
 use Rattle.std.proofs.lemmas.Bool.{and_from, and_parts, both_ways, eq-eqb, eqb-true, false_from_ne_true, false≢true, le-leb, leb-true}
 use Rattle.std.proofs.lemmas.Bool.Decides.{nat_tests}
 use Rattle.std.proofs.lemmas.List.Elements.{filter-append, filter_agree}
-use Rattle.std.proofs.lemmas.List.Folds.{list_any_at}
 use Rattle.std.proofs.lemmas.Nat.{pow_pos}
 use Rattle.prefix_keys.specs.Block.{block_number, first_of, last_of}
 use Rattle.prefix_keys.specs.Version.{width_of}
@@ -15,7 +13,6 @@ use Rattle.prefix_keys.specs.declared.block.Block.{Block}
 use Rattle.prefix_keys.specs.declared.span.Span.{Span}
 use Rattle.pmap_text.specs.Carried.{entry_covers, from_last, statement_meets, statement_spans}
 use Rattle.pmap_text.specs.ListModel.{lies_inside}
-use Rattle.pmap_text.specs.MapModel.{Mapping, last_such}
 use Rattle.pmap_text.specs.PrefixList.{prefix_of}
 use Rattle.pmap_text.specs.declared.entry.Entry.{Entry}
 use Rattle.pmap_text.specs.declared.statement.Statement.{Statement}
@@ -55,44 +52,6 @@ statements-carried b ss =
     sym (from_last-filter (meets_block b) (statement_spans W b.len (number_of b)) (spans_block b)
     (λ s. both-tests (version s) (statement_meets W b.len (number_of b) s) (statement_spans W b.len (number_of b) s) (spans-meets W b.len (number_of b) s)) ss)
     ∙ ap (from_last (statement_spans W b.len (number_of b))) (sym (filter_twice (statement_meets W b.len (number_of b)) version ss))
-
--- a walk from the end over a list: none behind the place passes
-pub any-drop : {X : Type 0} (p : X → Bool) (xs : List X) (i : ℕ) (d : X) → i < length xs → p (get_or xs i d) ≡ false → list_any p (drop (suc i) xs) ≡ false
-    → list_any p (drop i xs) ≡ false
-any-drop p [] i d less here behind = absurd (omega arith)
-any-drop p (x ∷ xs) zero d less here behind = ap (λ b. b || list_any p xs) here ∙ behind
-any-drop p (x ∷ xs) (suc i) d less here behind = any-drop p xs i d (omega (arith, less)) here behind
-
--- the last that passes is at the place
-pub from_last-at : {X : Type 0} (p : X → Bool) (xs : List X) (i : ℕ) (d : X) → i < length xs → p (get_or xs i d) ≡ true → list_any p (drop (suc i) xs) ≡ false
-    → drop i xs ≡ from_last p xs
-from_last-at p [] i d less here behind = absurd (omega arith)
-from_last-at p (x ∷ xs) zero d less here behind = sym (ap (λ b. cond b (from_last p xs) (x ∷ xs)) behind)
-from_last-at p (x ∷ xs) (suc i) d less here behind =
-    from_last-at p xs i d (omega (arith, less)) here behind
-    ∙ sym (ap (λ b. cond b (from_last p xs) (x ∷ xs)) (list_any_at p xs i d (omega (arith, less)) here))
-
--- and it is the last as a mapping
-pub last_such-behind : (f : Statement → Mapping) (p : Mapping → Bool) (ss : List Statement) → list_any (λ s. p (f s)) ss ≡ false → last_such p (map f ss) ≡ None
-last_such-behind f p [] none = refl
-last_such-behind f p (s ∷ ss) none = by (p (f s)) (list_any (λ (t : Statement). p (f t)) ss) refl refl (last_such-behind f p ss) none
-  where
-    by : (a b : Bool) → p (f s) ≡ a → list_any (λ (t : Statement). p (f t)) ss ≡ b → (list_any (λ (t : Statement). p (f t)) ss ≡ false → last_such p (map f ss) ≡ None)
-        → (a || b) ≡ false → last_such p (map f (s ∷ ss)) ≡ None
-    by true b here rest behind e = absurd (false≢true (sym e))
-    by false true here rest behind e = absurd (false≢true (sym e))
-    by false false here rest behind e =
-        ap (λ (o : Option Mapping). option_or o (cond (p (f s)) (Some (f s)) None)) (behind rest)
-        ∙ ap (λ a. cond a (Some (f s)) None) here
-
-pub last_such-at : (f : Statement → Mapping) (p : Mapping → Bool) (ss : List Statement) (i : ℕ) (d : Statement) → i < length ss → p (f (get_or ss i d)) ≡ true
-    → list_any (λ s. p (f s)) (drop (suc i) ss) ≡ false → last_such p (map f ss) ≡ Some (f (get_or ss i d))
-last_such-at f p [] i d less here behind = absurd (omega arith)
-last_such-at f p (s ∷ ss) zero d less here behind =
-    ap (λ (o : Option Mapping). option_or o (cond (p (f s)) (Some (f s)) None)) (last_such-behind f p ss behind)
-    ∙ ap (λ a. cond a (Some (f s)) None) here
-last_such-at f p (s ∷ ss) (suc i) d less here behind =
-    ap (λ (o : Option Mapping). option_or o (cond (p (f s)) (Some (f s)) None)) (last_such-at f p ss i d (omega (arith, less)) here behind)
 
 -- the greatest length among entries with one more at the end
 greatest-step : (tx te : Bool) (g x e : ℕ)
@@ -156,38 +115,6 @@ entries-carried b es =
     filter_agree (λ e. (covers_whole b e && nat_le (greatest (covers_whole b) es) e.block.len) || is_inside b e) (λ e. version e && say e)
     (λ e. sym (ap (λ l. version e && ((over e && l) || inside e)) (longest e) ∙ same-say (version e) (over e) (nat_le (greatest (covers_whole b) es) e.block.len) (inside e))) es
     ∙ sym (filter_twice say version es)
-
--- a list is at its end where the place is its length
-pub any-end : {X : Type 0} (p : X → Bool) (xs : List X) (i : ℕ) → length xs ≤ i → list_any p (drop i xs) ≡ false
-any-end p [] i le = by i
-  where
-    by : (j : ℕ) → list_any p (drop j []) ≡ false
-    by zero = refl
-    by (suc j) = refl
-any-end p (x ∷ xs) zero le = absurd (omega arith)
-any-end p (x ∷ xs) (suc i) le = any-end p xs i (omega (arith, le))
-
--- a walk from the end, at the element before the place
-module _ {X : Type 0} (p : X → Bool) (xs : List X) (left : ℕ) (x : X) (some : 0 < left) (few : left ≤ length xs)
-    (is : x ≡ get_or xs (left - 1) x) (behind : list_any p (drop left xs) ≡ false) where
-  next : suc (left - 1) ≡ left
-  next = omega (arith, some)
-
-  pub behind-next : list_any p (drop (suc (left - 1)) xs) ≡ false
-  behind-next = subst (λ (k : ℕ). list_any p (drop k xs) ≡ false) (sym next) behind
-
-  pub walk-back : p x ≡ false → list_any p (drop (left - 1) xs) ≡ false
-  walk-back misses = any-drop p xs (left - 1) x (omega (arith, some, few)) (ap p (sym is) ∙ misses) behind-next
-
-  pub walk-found : p x ≡ true → drop (left - 1) xs ≡ from_last p xs
-  walk-found passes = from_last-at p xs (left - 1) x (omega (arith, some, few)) (ap p (sym is) ∙ passes) behind-next
-
--- nothing is left of the walk
-pub walk-none : {X : Type 0} (p : X → Bool) (xs : List X) (left : ℕ) → left ≤ 0 → list_any p (drop left xs) ≡ false → list_any p xs ≡ false
-walk-none {X} p xs left none behind =
-    let e : left ≡ 0 = omega (arith, none) in
-    let h : list_any p (drop 0 xs) ≡ false = subst (λ (k : ℕ). list_any p (drop k xs) ≡ false) e behind in
-    h
 
 -- one more entry
 pub greatest-more : (test : Entry → Bool) (es : List Entry) (i : ℕ) (e : Entry) → i < length es → e ≡ get_or es i e
@@ -299,23 +226,14 @@ span-inside b w h e =
     ∙ and-turned (nat_lt b.len e.block.len) v (nat_le (first_of W b.len (number_of b)) e.block.value) (nat_le e.block.value (last_of W b.len (number_of b)))
     ∙ ap (λ t. v && (nat_lt b.len e.block.len && t)) (between-block W b.len (number_of b) e.block.value)
 
-pub carried-more : (b : Block) (w : Span) → IsSpanOf b w → (ss : List Statement) (i : ℕ) (s : Statement) (front old new : List Statement) (start : ℕ) → start ≡ length front
-    → i < length ss → s ≡ get_or ss i s
-    → old ≡ front ++ carried_to b (take i ss)
-    → new ≡ cond (meets_span w s) (cond (spans_span w s) (take start old) old ++ s ∷ []) old
-    → new ≡ front ++ carried_to b (take (i + 1) ss)
-carried-more b w span ss i s front old new start begins less is so_far added =
-    added ∙ (λ j. cond (span-meets b w span s j) (cond (span-spans b w span s j) (take start old) old ++ s ∷ []) old) ∙ by (meets_block b s) (spans_block b s)
-    ∙ ap (λ (xs : List Statement). front ++ xs) (sym (carried-push b (take i ss) s) ∙ ap (carried_to b) (sym more))
+pub carried-more : (b : Block) (w : Span) → IsSpanOf b w → (ss : List Statement) (i : ℕ) (s : Statement) (old new : List Statement) → i < length ss → s ≡ get_or ss i s
+    → old ≡ carried_to b (take i ss) → new ≡ cond (meets_span w s) (cond (spans_span w s) [] old ++ s ∷ []) old → new ≡ carried_to b (take (i + 1) ss)
+carried-more b w span ss i s old new less is so_far added =
+    added ∙ (λ j. cond (span-meets b w span s j) (cond (span-spans b w span s j) [] (so_far j) ++ s ∷ []) (so_far j))
+    ∙ sym (carried-push b (take i ss) s) ∙ ap (carried_to b) (sym more)
   where
     more : take (i + 1) ss ≡ take i ss ++ s ∷ []
     more = take_more ss i s less ∙ ap (λ (d : Statement). take i ss ++ d ∷ []) (sym is)
-
-    by : (m p : Bool) → cond m (cond p (take start old) old ++ s ∷ []) old
-        ≡ front ++ cond m (cond p [] (carried_to b (take i ss)) ++ s ∷ []) (carried_to b (take i ss))
-    by true true = ap (λ (xs : List Statement). xs ++ s ∷ []) (ap (take start) so_far ∙ take_at front (carried_to b (take i ss)) start (sym begins))
-    by true false = ap (λ (xs : List Statement). xs ++ s ∷ []) so_far ∙ append_assoc front (carried_to b (take i ss)) (s ∷ [])
-    by false p = so_far
 
 -- those that pass, with one more entry
 pub say-more : (test : Entry → Bool) (es : List Entry) (i : ℕ) (e : Entry) (front old new : List Entry) → i < length es → e ≡ get_or es i e

@@ -2,11 +2,12 @@ pub mod Lists
 pub mod Named
 pub mod Accepted
 pub mod Carries
-pub mod Few
-pub mod Longest
-pub mod Parts
 pub mod Sets
 pub mod Numbered
-pub mod BlockLabels
+pub mod Coming
+pub mod Decided
+pub mod SettledBlocks
+pub mod Covered
+pub mod HalfBlocks
+pub mod Walked
 pub mod Nodes
-pub mod Whole

@@ -1,10 +1,9 @@
 -- Tests and filters of lists.
-use Rattle.std.proofs.Common.{◌≡◌, ℕ, Bool, true, false, cond, ◌&&◌, ◌||◌, List, [], ◌∷◌, All, filter, refl, sym, ap, ◌∙◌, arith}
+use Rattle.std.proofs.Common.{◌≡◌, ℕ, Bool, true, false, cond, ◌&&◌, ◌||◌, List, [], ◌∷◌, filter, refl, sym, ap, ◌∙◌, arith}
 use Rattle.std.proofs.Common.{◌-◌, drop, length, length-drop, take}
 use Rattle.std.proofs.lemmas.List.{take_all}
 use Rattle.std.specs.List.{list_any}
 use Rattle.std.proofs.lemmas.Bool.{false≢true}
-use Rattle.std.proofs.lemmas.List.Elements.{All-head, All-tail}
 use Rattle.pmap_text.specs.Carried.{from_last}
 
 -- whether an element passes is the same among those that pass
@@ -15,9 +14,6 @@ any-filtered {X} p (x ∷ xs) = step (p x) refl (any-filtered p xs)
     step : (b : Bool) → p x ≡ b → list_any p (filter p xs) ≡ list_any p xs → list_any p (cond b (x ∷ filter p xs) (filter p xs)) ≡ (b || list_any p xs)
     step true e rest = ap (λ c. c || list_any p (filter p xs)) e
     step false e rest = rest
-
-pub any-same : {X : Type 0} (p : X → Bool) (xs ys : List X) → filter p xs ≡ filter p ys → list_any p xs ≡ list_any p ys
-any-same p xs ys e = sym (any-filtered p xs) ∙ ap (list_any p) e ∙ any-filtered p ys
 
 -- none is kept where none passes
 pub none_kept : {X : Type 0} (p : X → Bool) (xs : List X) → list_any p xs ≡ false → filter p xs ≡ []
@@ -47,14 +43,6 @@ any-kept {X} p r (x ∷ xs) = step (r x) (any-kept p r xs)
         → list_any p (cond b (x ∷ filter r xs) (filter r xs)) ≡ ((b && p x) || list_any (λ (z : X). r z && p z) xs)
     step true rest = ap (λ c. p x || c) rest
     step false rest = rest
-
--- all are kept where all pass
-pub all_kept : {X : Type 0} (p : X → Bool) (xs : List X) → All (λ x. p x ≡ true) xs → filter p xs ≡ xs
-all_kept p [] h = refl
-all_kept {X} p (x ∷ xs) h =
-    let head = All-head (λ (z : X). p z ≡ true) x xs h in
-    let rest = all_kept p xs (All-tail (λ (z : X). p z ≡ true) x xs h) in
-    ap (λ b. cond b (x ∷ filter p xs) (filter p xs)) head ∙ ap (λ (zs : List X). x ∷ zs) rest
 
 -- from the last that passes on: all where none passes
 pub from_last-none : {X : Type 0} (p : X → Bool) (xs : List X) → list_any p xs ≡ false → from_last p xs ≡ xs

@@ -12,9 +12,3 @@ named-past rs i past = subst (λ n. n ≤ i) (sym (length-map rs (λ r. r.now)))
 
 pub named-within : {X : Type 0} (rs : List (Bor X)) (i : ℕ) → i < length rs → i < length (named rs)
 named-within rs i less = subst (λ n. i < n) (sym (length-map rs (λ r. r.now))) less
-
-pub named-whole : {X : Type 0} (rs : List (Bor X)) (i : ℕ) → i < length (named rs) → i < length rs
-named-whole rs i less = subst (λ n. i < n) (length-map rs (λ r. r.now)) less
-
-pub named-start : {X : Type 0} (rs : List (Bor X)) (start : ℕ) → start ≡ length rs → start ≡ length (named rs)
-named-start rs start is = is ∙ sym (length-map rs (λ r. r.now))

@@ -2,27 +2,21 @@
 use Rattle.std.proofs.Common.{◌≡◌, ℕ, zero, suc, ◌+◌, ◌-◌, ◌*◌, ◌^◌, ◌<◌, List, [], ◌∷◌, length, Option, Some, None, min, option_map, refl, sym, ap, ◌∙◌, subst, arith}
 use Rattle.std.specs.Option.{option_or}
 use Rattle.std.proofs.lemmas.Bool.Decides.{nat_tests}
-use Rattle.prefix_keys.specs.Block.{block_number}
 use Rattle.prefix_keys.specs.Version.{width_of}
 use Rattle.prefix_keys.specs.declared.block.Block.{Block}
 use Rattle.pmap_text.specs.MapModel.{Label, MapModel}
-use Rattle.pmap_text.specs.declared.entry.Entry.{Entry}
-use Rattle.pmap_text.specs.declared.map_text.MapText.{MapText}
-use Rattle.pmap_text.specs.declared.prefix_list.PrefixList.{PrefixList}
-use Rattle.pmap_text.specs.declared.statement.Statement.{Statement}
 use Rattle.pmap_cert.specs.CertificateForm.{IsRising}
-use Rattle.pmap_cert.specs.CertificateModel.{Tree, claim_of}
+use Rattle.pmap_cert.specs.CertificateModel.{claim_of}
 use Rattle.pmap_cert.specs.ExactPair.{exact_pair}
 use Rattle.pmap_text.specs.ListModel.{Prefix}
 use Rattle.pmap_cert.specs.Node.{HasNumberForm, Inner, Leaf, Node, behind, first_node, from_next_line, label_of, set_of, tree_of}
 use Rattle.std.proofs.lemmas.Option.{none-some}
 use Rattle.std.specs.Option.{unwrap_or}
-use Rattle.cert_check.specs.Carrying.{carried_to, entries_carried_to, number_of}
+use Rattle.cert_check.specs.Carrying.{number_of}
 use Rattle.cert_check.specs.Checking.{claim_fault, fault_at, node_count, node_fault, told}
-use Rattle.cert_check.specs.Sources.{AreEntriesOf, AreStatementsOf, HasRoom, map_with, prefixes_with}
 use Rattle.cert_check.specs.declared.fault.CheckFault.{CheckFault}
 use Rattle.cert_check.specs.declared.fault.CheckFaultKind.{CheckFaultKind}
-use Rattle.cert_check.proofs.Parts.{entries-part, fault-carried, statements-part}
+use Rattle.cert_check.proofs.HalfBlocks.{AreHalves, IsHalf, half-number}
 
 -- the number of a node that comes later
 pub told-next : (k number : ℕ) → told k ≡ number → (next : ℕ) → next ≡ min (number + 1) (2 ^ 64 - 1) → told (k + 1) ≡ next
@@ -38,46 +32,11 @@ or-second a b x e f = ap (λ o. option_or o b) e ∙ f
 pub or-neither : {X : Type 0} (a b : Option X) → a ≡ None → b ≡ None → option_or a b ≡ None
 or-neither a b e f = ap (λ o. option_or o b) e ∙ f
 
--- the form of a node
-pub room-of : (table : List Label) (node : Node) (count room : ℕ) → HasNumberForm count node room → HasRoom (tree_of table node) room
-room-of table (Leaf id) count room h = tt
-room-of table (Inner cost set left right) count zero h = absurd h
-room-of table (Inner cost set left right) count (suc room) h = (room-of table left count room h.2, room-of table right count room h.3)
-
+-- the set of a node rises
 pub rising-of : (node : Node) (count room : ℕ) → HasNumberForm count node room → IsRising count 0 (set_of node)
 rising-of (Leaf id) count room h = (omega arith, h, tt)
 rising-of (Inner cost set left right) count zero h = absurd h
 rising-of (Inner cost set left right) count (suc room) h = h.1
-
--- a half of a block, and what is carried to it
-module _ (m : MapText) (l : PrefixList) (ss : List Statement) (es : List Entry) (block half : Block) (q : ℕ)
-    (ss' : List Statement) (es' : List Entry) (version : block.version ≡ m.version) (list_version : l.version ≡ m.version)
-    (statements : AreStatementsOf m ss) (entries : AreEntriesOf l es) (half_version : half.version ≡ block.version) (len : half.len ≡ block.len + 1)
-    (number : block_number (width_of block.version) (block.len + 1) half.value ≡ q)
-    (statements_are : ss' ≡ carried_to half ss) (entries_are : es' ≡ entries_carried_to half es) where
-  pub half-statements : AreStatementsOf m ss'
-  half-statements = subst (AreStatementsOf m) (sym statements_are) (statements-part m half ss statements)
-
-  pub half-entries : AreEntriesOf l es'
-  half-entries = subst (AreEntriesOf l) (sym entries_are) (entries-part l half es entries)
-
-  pub half-version : half.version ≡ m.version
-  half-version = half_version ∙ version
-
-  half-number : number_of half ≡ q
-  half-number = (λ i. block_number (width_of (half_version i)) (len i) half.value) ∙ number
-
-  pub half-room : (room : ℕ) → width_of block.version - block.len ≡ suc room → width_of half.version - half.len ≡ room
-  half-room room e = (λ i. width_of (half_version i) - len i) ∙ omega (arith, e)
-
-  pub half-fault : (t : Tree) (k : ℕ) → HasRoom t (width_of half.version - half.len)
-      → node_fault (map_with m ss') (prefixes_with l es') t k half.len (number_of half)
-      ≡ node_fault (map_with m ss) (prefixes_with l es) t k (suc block.len) q
-  half-fault t k room =
-      let more : half.len ≡ suc block.len = omega (arith, len) in
-      (λ i. node_fault (map_with m (statements_are i)) (prefixes_with l (entries_are i)) t k half.len (number_of half))
-      ∙ fault-carried m l ss es half t k half-version list_version statements entries room
-      ∙ (λ i. node_fault (map_with m ss) (prefixes_with l es) t k (more i) (half-number i))
 
 -- an inner node with the nodes of its halves
 abbrev pub IsInner : Node → Node → Node → Type 0
@@ -134,47 +93,6 @@ inner-own labels m ps node left right h k n q o e e' e'' =
     inner-fault labels m ps node left right h k n q
     ∙ (λ i. option_or (e i) (option_or (e' i) (option_map (fault_at k) (e'' i))))
 
--- what is passed on to a half of a block
-pub record IsPassedOn (m : MapText) (l : PrefixList) (ss : List Statement) (es : List Entry) (block half : Block) (q : ℕ) (ss' : List Statement) (es' : List Entry) : Type 0 where
-  pub version : block.version ≡ m.version
-  pub list_version : l.version ≡ m.version
-  pub statements : AreStatementsOf m ss
-  pub entries : AreEntriesOf l es
-  pub half_version : half.version ≡ block.version
-  pub len : half.len ≡ block.len + 1
-  pub number : block_number (width_of block.version) (block.len + 1) half.value ≡ q
-  pub statements_are : ss' ≡ carried_to half ss
-  pub entries_are : es' ≡ entries_carried_to half es
-
-pub passed-statements : (m : MapText) (l : PrefixList) (ss : List Statement) (es : List Entry) (block half : Block) (q : ℕ) (ss' : List Statement) (es' : List Entry)
-    → IsPassedOn m l ss es block half q ss' es' → AreStatementsOf m ss'
-passed-statements m l ss es block half q ss' es' h =
-    half-statements m l ss es block half q ss' es' h.version h.list_version h.statements h.entries h.half_version h.len h.number h.statements_are h.entries_are
-
-pub passed-entries : (m : MapText) (l : PrefixList) (ss : List Statement) (es : List Entry) (block half : Block) (q : ℕ) (ss' : List Statement) (es' : List Entry)
-    → IsPassedOn m l ss es block half q ss' es' → AreEntriesOf l es'
-passed-entries m l ss es block half q ss' es' h =
-    half-entries m l ss es block half q ss' es' h.version h.list_version h.statements h.entries h.half_version h.len h.number h.statements_are h.entries_are
-
-pub passed-form : (m : MapText) (l : PrefixList) (ss : List Statement) (es : List Entry) (block half : Block) (q : ℕ) (ss' : List Statement) (es' : List Entry)
-    → IsPassedOn m l ss es block half q ss' es' → (count less : ℕ) (node' node : Node) → node' ≡ node → width_of block.version - block.len ≡ suc less
-    → HasNumberForm count node less → HasNumberForm count node' (width_of half.version - half.len)
-passed-form m l ss es block half q ss' es' h count less node' node same room form =
-    let e = half-room m l ss es block half q ss' es' h.version h.list_version h.statements h.entries h.half_version h.len h.number h.statements_are h.entries_are less room in
-    subst (λ (x : Node). HasNumberForm count x (width_of half.version - half.len)) (sym same) (subst (HasNumberForm count node) (sym e) form)
-
-pub passed-on : (m : MapText) (l : PrefixList) (ss : List Statement) (es : List Entry) (block half : Block) (q : ℕ) (ss' : List Statement) (es' : List Entry)
-    → IsPassedOn m l ss es block half q ss' es' → (labels : List Label) (count less : ℕ) (node' node : Node) → node' ≡ node → width_of block.version - block.len ≡ suc less
-    → HasNumberForm count node less → (k : ℕ) (f : Option CheckFault)
-    → node_fault (map_with m ss') (prefixes_with l es') (tree_of labels node') k half.len (number_of half) ≡ f
-    → node_fault (map_with m ss) (prefixes_with l es) (tree_of labels node) k (suc block.len) q ≡ f
-passed-on m l ss es block half q ss' es' h labels count less node' node same room form k f e =
-    let form' = passed-form m l ss es block half q ss' es' h count less node' node same room form in
-    (λ i. node_fault (map_with m ss) (prefixes_with l es) (tree_of labels (sym same i)) k (suc block.len) q)
-    ∙ sym (half-fault m l ss es block half q ss' es' h.version h.list_version h.statements h.entries h.half_version h.len h.number h.statements_are h.entries_are
-    (tree_of labels node') k (room-of labels node' count (width_of half.version - half.len) form'))
-    ∙ e
-
 -- a fault with the node's number as it is told
 pub at-number : (k number : ℕ) (kind : CheckFaultKind) → told k ≡ number → option_map (fault_at k) (Some kind) ≡ Some (record { kind = kind; node = number })
 at-number k number kind is = λ i. Some (record { kind = kind; node = is i })
@@ -201,3 +119,121 @@ pub leaf-next : (nodes : List Node) (n : ℕ) → label_of (first_node nodes) �
 leaf-next [] n is = refl
 leaf-next (Leaf number ∷ nodes) n is = refl
 leaf-next (Inner cost set left right ∷ nodes) n is = absurd (none-some n is)
+
+-- What is known at the place of an inner node, whose block has these halves: `next` is the place of its next line.
+pub record IsSplit (count : ℕ) (nodes next : List Node) (b low high : Block) : Type 0 where
+  pub left : Node
+  pub right : Node
+  pub inner : IsInner (first_node nodes) left right
+  pub below : next ≡ left ∷ right ∷ behind nodes
+  pub less : ℕ
+  pub room : width_of b.version - b.len ≡ suc less
+  pub low_form : HasNumberForm count left less
+  pub high_form : HasNumberForm count right less
+  pub halves : AreHalves b low high
+
+pub split : (count : ℕ) (nodes next : List Node) (b low high : Block) → 0 < length nodes → label_of (first_node nodes) ≡ None → next ≡ from_next_line nodes
+    → HasNumberForm count (first_node nodes) (width_of b.version - b.len) → AreHalves b low high → IsSplit count nodes next b low high
+split count nodes next b low high some none is form halves =
+    let has = half-nodes nodes some none in
+    let parts = inner-form count (width_of b.version - b.len) (first_node nodes) has.left has.right has.inner form in
+    record {
+      left = has.left;
+      right = has.right;
+      inner = has.inner;
+      below = is ∙ has.below;
+      less = parts.0;
+      room = parts.1;
+      low_form = parts.2;
+      high_form = parts.3;
+      halves = halves;
+    }
+
+-- the form of a node of a half
+half-form : (count less : ℕ) (b half : Block) (q : ℕ) (node' node : Node) → IsHalf b half q → node' ≡ node → width_of b.version - b.len ≡ suc less
+    → HasNumberForm count node less → HasNumberForm count node' (width_of half.version - half.len)
+half-form count less b half q node' node h same room form =
+    let width : width_of half.version ≡ width_of b.version = ap width_of h.version in
+    let e : less ≡ width_of half.version - half.len = omega (arith, width, h.len, room) in
+    subst (HasNumberForm count node') e (subst (λ (x : Node). HasNumberForm count x less) (sym same) form)
+
+-- its fault
+half-fault : (labels : List Label) (m : MapModel) (ps : List Prefix) (b half : Block) (q k : ℕ) (node' node : Node) (f : Option CheckFault) → IsHalf b half q
+    → node' ≡ node → node_fault m ps (tree_of labels node') k half.len (number_of half) ≡ f → node_fault m ps (tree_of labels node) k (suc b.len) q ≡ f
+half-fault labels m ps b half q k node' node f h same e =
+    let len : half.len ≡ suc b.len = omega (arith, h.len) in
+    sym (λ i. node_fault m ps (tree_of labels (same i)) k (len i) (half-number b half q h i)) ∙ e
+
+module _ (labels : List Label) (m : MapModel) (ps : List Prefix) (nodes next after : List Node) (b low high : Block)
+    (is : IsSplit (length labels) nodes next b low high) (behind_is : after ≡ behind next) where
+  pub low-here : 0 < length next
+  low-here = subst (λ (ns : List Node). 0 < length ns) (sym is.below) (omega arith)
+
+  low-node : first_node next ≡ is.left
+  low-node = ap first_node is.below
+
+  after-is : after ≡ is.right ∷ behind nodes
+  after-is = behind_is ∙ ap behind is.below
+
+  pub high-here : 0 < length after
+  high-here = subst (λ (ns : List Node). 0 < length ns) (sym after-is) (omega arith)
+
+  high-node : first_node after ≡ is.right
+  high-node = ap first_node after-is
+
+  pub all-behind : behind after ≡ behind nodes
+  all-behind = ap behind after-is
+
+  pub low-form : HasNumberForm (length labels) (first_node next) (width_of low.version - low.len)
+  low-form = half-form (length labels) is.less b low (2 * number_of b) (first_node next) is.left is.halves.lower low-node is.room is.low_form
+
+  pub high-form : HasNumberForm (length labels) (first_node after) (width_of high.version - high.len)
+  high-form = half-form (length labels) is.less b high (2 * number_of b + 1) (first_node after) is.right is.halves.upper high-node is.room is.high_form
+
+  -- a fault of the lower node, of the upper, and of the node itself
+  pub low-fault : (k : ℕ) (f : CheckFault) → node_fault m ps (tree_of labels (first_node next)) (k + 1) low.len (number_of low) ≡ Some f
+      → node_fault m ps (tree_of labels (first_node nodes)) k b.len (number_of b) ≡ Some f
+  low-fault k f e =
+      inner-low labels m ps (first_node nodes) is.left is.right is.inner k b.len (number_of b) f
+      (half-fault labels m ps b low (2 * number_of b) (k + 1) (first_node next) is.left (Some f) is.halves.lower low-node e)
+
+  -- the number behind the lower node
+  abbrev pub second : ℕ → ℕ
+  second k = k + 1 + node_count (tree_of labels (first_node next))
+
+  second-is : (k : ℕ) → second k ≡ k + 1 + node_count (tree_of labels is.left)
+  second-is k = ap (λ (x : Node). k + 1 + node_count (tree_of labels x)) low-node
+
+  low-none : (k : ℕ) → node_fault m ps (tree_of labels (first_node next)) (k + 1) low.len (number_of low) ≡ None
+      → node_fault m ps (tree_of labels is.left) (k + 1) (suc b.len) (2 * number_of b) ≡ None
+  low-none k e = half-fault labels m ps b low (2 * number_of b) (k + 1) (first_node next) is.left None is.halves.lower low-node e
+
+  high-is : (k : ℕ) (f : Option CheckFault) → node_fault m ps (tree_of labels (first_node after)) (second k) high.len (number_of high) ≡ f
+      → node_fault m ps (tree_of labels is.right) (k + 1 + node_count (tree_of labels is.left)) (suc b.len) (2 * number_of b + 1) ≡ f
+  high-is k f e =
+      ap (λ (j : ℕ). node_fault m ps (tree_of labels is.right) j (suc b.len) (2 * number_of b + 1)) (sym (second-is k))
+      ∙ half-fault labels m ps b high (2 * number_of b + 1) (second k) (first_node after) is.right f is.halves.upper high-node e
+
+  pub high-fault : (k : ℕ) (f : CheckFault) → node_fault m ps (tree_of labels (first_node next)) (k + 1) low.len (number_of low) ≡ None
+      → node_fault m ps (tree_of labels (first_node after)) (second k) high.len (number_of high) ≡ Some f
+      → node_fault m ps (tree_of labels (first_node nodes)) k b.len (number_of b) ≡ Some f
+  high-fault k f none e =
+      inner-high labels m ps (first_node nodes) is.left is.right is.inner k b.len (number_of b) f (low-none k none) (high-is k (Some f) e)
+
+  pub own-fault : (k : ℕ) (o : Option CheckFaultKind) → node_fault m ps (tree_of labels (first_node next)) (k + 1) low.len (number_of low) ≡ None
+      → node_fault m ps (tree_of labels (first_node after)) (second k) high.len (number_of high) ≡ None
+      → o ≡ claim_fault (claim_of (tree_of labels (first_node nodes)))
+      (exact_pair (claim_of (tree_of labels (first_node next))) (claim_of (tree_of labels (first_node after))))
+      → node_fault m ps (tree_of labels (first_node nodes)) k b.len (number_of b) ≡ option_map (fault_at k) o
+  own-fault k o none none' claim =
+      inner-own labels m ps (first_node nodes) is.left is.right is.inner k b.len (number_of b) o (low-none k none) (high-is k None none')
+      (sym (claim
+      ∙ (λ i. claim_fault (claim_of (tree_of labels (first_node nodes)))
+      (exact_pair (claim_of (tree_of labels (low-node i))) (claim_of (tree_of labels (high-node i)))))))
+
+  -- how many nodes there are
+  pub count-all : (k : ℕ) → second k + node_count (tree_of labels (first_node after)) ≡ k + node_count (tree_of labels (first_node nodes))
+  count-all k =
+      let last : node_count (tree_of labels (first_node after)) ≡ node_count (tree_of labels is.right) =
+      ap (λ (x : Node). node_count (tree_of labels x)) high-node in
+      omega (arith, last, second-is k, inner-count labels (first_node nodes) is.left is.right is.inner)

@@ -1,6 +1,5 @@
 use Rattle.std.specs.Prelude.{◌≡◌}
-use Rattle.cert_check.specs.Sources.{AreEntriesOf, AreNumbers, AreStatementsOf, named}
-use Rattle.cert_check.specs.declared.carried_part.CarriedPart.{CarriedPart}
+use Rattle.cert_check.specs.Sources.{AreNumbers}
 use Rattle.cert_check.specs.declared.sources.Sources.{Sources}
 
 -- What holds of the values that the check keeps: no user need read it.
@@ -11,8 +10,3 @@ pub record AreSources (s : Sources) : Type 0 where
   pub certificate_version : s.certificate.now.version ≡ s.map.now.version
   pub map_numbers : AreNumbers s.map_numbers.items s.map.now.labels s.certificate.now.labels
   pub list_numbers : AreNumbers s.list_numbers.items s.list.now.labels s.certificate.now.labels
-
--- these statements and entries are of the map and the list
-pub record IsPartOf (s : Sources) (part : CarriedPart) : Type 0 where
-  pub statements : AreStatementsOf s.map.now (named part.statements.now)
-  pub entries : AreEntriesOf s.list.now (named part.entries.now)

@@ -3,3 +3,4 @@ pub mod Carrying
 pub mod Checking
 pub mod Sources
 pub mod Kept
+pub mod Walking

@@ -1,4 +1,4 @@
-use Rattle.std.specs.Prelude.{◌≡◌, ℕ, zero, suc, ◌<◌, ◌&&◌, ◌==◌, Bool, List, [], ◌∷◌, Option, All, length, map, nat_le, nat_lt, option_map, if◌then◌else◌}
+use Rattle.std.specs.Prelude.{◌≡◌, ℕ, zero, suc, ◌<◌, ◌&&◌, ◌==◌, Bool, List, [], ◌∷◌, Option, length, map, nat_le, nat_lt, option_map, if◌then◌else◌}
 use Rattle.std.specs.Borrow.{Bor}
 use Rattle.std.specs.List.{list_any}
 use Rattle.prefix_keys.specs.Version.{width_of}
@@ -6,14 +6,11 @@ use Rattle.prefix_keys.specs.declared.block.Block.{Block}
 use Rattle.prefix_keys.specs.declared.span.Span.{Span}
 use Rattle.pmap_text.specs.Carried.{entry_covers, statement_meets, statement_spans}
 use Rattle.pmap_text.specs.Label.{IsLabelTable, number_of as number_of_label}
-use Rattle.pmap_text.specs.ListModel.{Prefix, lies_inside}
-use Rattle.pmap_text.specs.MapModel.{Label, MapModel}
-use Rattle.pmap_text.specs.MapText.{mapping_of, text_at}
+use Rattle.pmap_text.specs.ListModel.{lies_inside}
+use Rattle.pmap_text.specs.MapModel.{Label}
 use Rattle.pmap_text.specs.PrefixList.{prefix_of}
 use Rattle.pmap_text.specs.declared.entry.Entry.{Entry}
 use Rattle.pmap_text.specs.declared.label.LabelId.{LabelId}
-use Rattle.pmap_text.specs.declared.map_text.MapText.{MapText}
-use Rattle.pmap_text.specs.declared.prefix_list.PrefixList.{PrefixList}
 use Rattle.pmap_text.specs.declared.statement.Statement.{Statement}
 use Rattle.pmap_cert.specs.CertificateForm.{HasRoomBelow}
 use Rattle.pmap_cert.specs.CertificateModel.{ChainNode, InnerNode, LeafNode, Tree}
@@ -62,30 +59,6 @@ greatest test (e ∷ es) = if test e && nat_lt (greatest test es) e.block.len th
 -- what references name
 abbrev pub named : {X : Type 0} → List (Bor X) → List X
 named = map (λ r. r.now)
-
--- the map with these statements in place of its own
-abbrev pub map_with : MapText → List Statement → MapModel
-map_with m ss = record {
-  version = m.version;
-  name = m.name;
-  fallback = text_at m.labels m.default.0;
-  mappings = map (mapping_of m.labels) ss;
-  table = m.labels;
-}
-
--- these entries of the list as prefixes
-abbrev pub prefixes_with : PrefixList → List Entry → List Prefix
-prefixes_with l es = map (prefix_of l.labels) es
-
--- the statements are of the map's version, with labels of its table
-pub record AreStatementsOf (m : MapText) (ss : List Statement) : Type 0 where
-  pub versions : All (λ s. s.span.low.version ≡ m.version) ss
-  pub labels : All (λ s. s.label.0 < length m.labels) ss
-
--- the entries are of the list's version, with labels of its table
-pub record AreEntriesOf (l : PrefixList) (es : List Entry) : Type 0 where
-  pub versions : All (λ e. e.block.version ≡ l.version) es
-  pub labels : All (λ e. e.label.0 < length l.labels) es
 
 -- the numbers that the labels of one table have in another, none for a label that the other hasn't got
 pub record AreNumbers (numbers : List (Option LabelId)) (from to : List Label) : Type 0 where

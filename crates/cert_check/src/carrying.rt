@@ -1,39 +1,18 @@
 //! What of a map and of a list has a say in a block.
-ghost use Rattle.std.specs.Prelude.{◌≡◌, ◌&&◌, ◌||◌, ◌++◌, ◌∷◌, [], nat_le, nat_lt, take, IfOk, OnOk, if◌then◌else◌};
+ghost use Rattle.std.specs.Prelude.{◌≡◌, ◌&&◌, ◌||◌, ◌++◌, ◌∷◌, [], nat_le, nat_lt, IfOk, OnOk, if◌then◌else◌};
 ghost use Rattle.cert_check.specs.Carrying.{carried_to, entries_carried_to};
-ghost use Rattle.cert_check.specs.Sources.{begins_in as begins_in_of, covers_whole as covers_whole_of, greatest, is_inside as is_inside_of, meets_block, meets_span as meets_span_of, named, spans_block, spans_span as spans_span_of};
+ghost use Rattle.cert_check.specs.Sources.{begins_in as begins_in_of, covers_whole as covers_whole_of, greatest, meets_span as meets_span_of, named, spans_span as spans_span_of};
 
 use crate::references::{copies, references};
 use pmap_text::{Entry, Statement};
 use prefix_keys::{Block, Span};
 use std::alloc::{AllocError, Global};
 
-/// Whether the statement's span has an address of the block.
-pub fn meets(statement: &Statement, block: &Block) -> bool
-    ensures { result ≡ meets_block block.now statement.now }
-{
-    statement.span.meets(block)
-}
-
-/// Whether it has each address of the block.
-pub fn spans(statement: &Statement, block: &Block) -> bool
-    ensures { result ≡ spans_block block.now statement.now }
-{
-    statement.span.covers_block(block)
-}
-
-/// Whether the entry's block covers the block.
-pub fn covers_whole(entry: &Entry, block: &Block) -> bool
+// Whether the entry's block covers the block.
+fn covers_whole(entry: &Entry, block: &Block) -> bool
     ensures { result ≡ covers_whole_of block.now entry.now }
 {
     entry.block.len <= block.len && entry.block.covers(&block.low())
-}
-
-/// Whether the entry's block lies strictly inside the block.
-pub fn is_inside(entry: &Entry, block: &Block) -> bool
-    ensures { result ≡ is_inside_of block.now entry.now }
-{
-    block.len < entry.block.len && block.covers(&entry.block.low())
 }
 
 // Whether the statement's span has an address of the other.
@@ -54,22 +33,19 @@ fn spans_span(statement: &Statement, within: &Span) -> bool
         && within.high.value <= statement.span.high.value
 }
 
-/// Adds the statement where it meets the span of a block. Where it covers it whole, those behind `start` give way to
-/// it.
-pub fn add_statement<'a>(
+// Adds the statement where it meets the span of a block. Where it covers it whole, the others give way to it.
+fn add_statement<'a>(
     kept: &mut Vec<&'a Statement>,
-    start: usize,
     statement: &'a Statement,
     within: &Span,
 ) -> Result<(), AllocError>
     ensures { OnOk result (named kept.new.items ≡ (if meets_span_of within.now statement.now
-        then (if spans_span_of within.now statement.now then take start (named kept.old.items)
-        else named kept.old.items) ++ statement.now ∷ []
+        then (if spans_span_of within.now statement.now then [] else named kept.old.items) ++ statement.now ∷ []
         else named kept.old.items)) }
 {
     if meets_span(statement, within) {
         if spans_span(statement, within) {
-            kept.truncate(start);
+            kept.truncate(0);
         }
         kept.push(statement)?;
     }
@@ -88,7 +64,7 @@ pub fn carried(
     let mut kept = Vec::new(alloc);
     let within = block.span();
     for statement in statements {
-        add_statement(&mut kept, 0, statement, &within)?;
+        add_statement(&mut kept, statement, &within)?;
     }
     copies(alloc, kept.as_slice())
 }
@@ -105,8 +81,8 @@ fn longer(longest: u32, entry: &Entry, block: &Block) -> u32
     }
 }
 
-/// The greatest length of an entry that covers the block, 0 where none does.
-pub fn longest_covering(entries: &[&Entry], block: &Block) -> u32
+// The greatest length of an entry that covers the block, 0 where none does.
+fn longest_covering(entries: &[&Entry], block: &Block) -> u32
     ensures { result ≡ greatest (covers_whole_of block.now) (named entries.now) }
 {
     let mut longest = 0;
@@ -116,8 +92,8 @@ pub fn longest_covering(entries: &[&Entry], block: &Block) -> u32
     longest
 }
 
-/// Whether the entry's block begins at an address of the span.
-pub fn begins_in(entry: &Entry, within: &Span) -> bool
+// Whether the entry's block begins at an address of the span.
+fn begins_in(entry: &Entry, within: &Span) -> bool
     ensures { result ≡ begins_in_of within.now entry.now }
 {
     entry.block.version == within.low.version
@@ -153,8 +129,8 @@ fn add_entry<'a>(
     Ok(())
 }
 
-/// Adds to those kept the entries that `carried_entries` gives.
-pub fn add_carried_entries<'a>(
+// Adds to those kept the entries that `carried_entries` gives.
+fn add_carried_entries<'a>(
     kept: &mut Vec<&'a Entry>,
     entries: &[&'a Entry],
     block: &Block,

@@ -1,5 +1,5 @@
 //! The check of a certificate: its nodes, and the whole.
-ghost use Rattle.std.specs.Prelude.{◌≡◌, ◌≢◌, ℕ, ◌+◌, ◌-◌, ◌<◌, ◌≤◌, Some, None, drop, length, take, IfErr, IfOk, OnOk};
+ghost use Rattle.std.specs.Prelude.{◌≡◌, ◌≢◌, ℕ, ◌+◌, ◌-◌, ◌<◌, Some, None, length, IfErr, IfOk, OnOk};
 ghost use Rattle.prefix_keys.specs.Version.{width_of};
 ghost use Rattle.pmap_text.specs.ListModel.{IsEquivalent};
 ghost use Rattle.pmap_text.specs.MapText.{map_of};
@@ -10,18 +10,18 @@ ghost use Rattle.pmap_cert.specs.Node.{HasNumberForm, behind, first_node, tree_o
 ghost use Rattle.cert_check.specs.Carrying.{number_of};
 ghost use Rattle.cert_check.specs.Checking.{first_fault, node_count, node_fault, told};
 ghost use Rattle.cert_check.specs.Kept.{AreSources};
-ghost use Rattle.cert_check.specs.Sources.{AreEntriesOf, AreStatementsOf, map_with, named, prefixes_with};
+ghost use Rattle.cert_check.specs.Walking.{AreComing, HasComeTo, HasPassed, IsHandedDown};
 ghost use Rattle.cert_check.specs.declared.fault.CheckFaultKind.TheVariants.{NoMemory};
 
 use crate::claims::claim_fault;
+use crate::entry_order::{are_in_order, in_order};
 use crate::fault::{CheckFault, CheckFaultKind};
 use crate::labels::numbers_in;
 use crate::laws::no_fault_is_acceptance;
-use crate::leaves::leaf_fault;
-use crate::part_stack::{PartStack, PartStart, divide};
 use crate::sources::Sources;
+use crate::walk::Walk;
 use pmap_cert::{Certificate, Cursor, acceptance_is_enough};
-use pmap_text::{MapText, PrefixList};
+use pmap_text::{Entry, LabelId, MapText, PrefixList, Stretches};
 use prefix_keys::{Block, whole_space};
 use std::alloc::{AllocError, Global};
 
@@ -33,80 +33,61 @@ struct Place<'a> {
     number: u64,
 }
 
-// Checks the node and those below it, where the last part of `own`, which begins at `start`, has a say in its block.
-// That part is let go, and `lower` and `upper` take those of the halves for a while. So of the parts on the way down
-// only those of the upper halves to come lie at once, and of these no two have one statement's end. The answer is the
-// node that comes next, and its number.
-fn check_node<'a, 'b>(
+// Checks the node and those below it, where the walk has come to its block and `above` is the label of the longest entry
+// over a longer block. The answer is the node that comes next, and its number.
+fn check_node<'a>(
     sources: &Sources,
-    own: &mut PartStack<'a>,
-    start: PartStart,
-    lower: &mut PartStack<'a>,
-    upper: &mut PartStack<'a>,
-    place: &Place<'b>,
-) -> Result<(Cursor<'b>, u64), CheckFault>
+    walk: &mut Walk,
+    place: &Place<'a>,
+    above: Option<LabelId>,
+) -> Result<(Cursor<'a>, u64), CheckFault>
     requires sources { AreSources sources.now }
-    requires statements { start.statements ≤ length (named own.old.statements.items) }
-    requires entries { start.entries ≤ length (named own.old.entries.items) }
-    requires statements_part { AreStatementsOf sources.now.map.now
-        (drop start.statements (named own.old.statements.items)) }
-    requires entries_part { AreEntriesOf sources.now.list.now (drop start.entries (named own.old.entries.items)) }
     requires version { place.now.block.version ≡ sources.now.map.now.version }
     requires here { 0 < length place.now.node }
     requires form { HasNumberForm (length sources.now.certificate.now.labels) (first_node place.now.node)
         (width_of place.now.block.version - place.now.block.len) }
-    ensures own_statements { OnOk result (named own.new.statements.items
-        ≡ take start.statements (named own.old.statements.items)) }
-    ensures own_entries { OnOk result (named own.new.entries.items ≡ take start.entries (named own.old.entries.items)) }
-    ensures lower_statements { OnOk result (named lower.new.statements.items ≡ named lower.old.statements.items) }
-    ensures lower_entries { OnOk result (named lower.new.entries.items ≡ named lower.old.entries.items) }
-    ensures upper_statements { OnOk result (named upper.new.statements.items ≡ named upper.old.statements.items) }
-    ensures upper_entries { OnOk result (named upper.new.entries.items ≡ named upper.old.entries.items) }
+    requires come { HasComeTo sources.now.map.now sources.now.list.now place.now.block walk.old }
+    requires above { IsHandedDown sources.now.list.now place.now.block.len place.now.block.value above }
+    ensures passed { OnOk result (HasPassed sources.now.map.now sources.now.list.now place.now.block walk.new) }
     ensures behind { IfOk result (λ next. next.0 ≡ behind place.now.node) }
     ensures ok { IfOk result (λ next. (k : ℕ) → told k ≡ place.now.number →
         (next.1 ≡ told (k + node_count (tree_of sources.now.certificate.now.labels (first_node place.now.node))))
-        × (node_fault (map_with sources.now.map.now (drop start.statements (named own.old.statements.items)))
-        (prefixes_with sources.now.list.now (drop start.entries (named own.old.entries.items)))
+        × (node_fault (map_of sources.now.map.now) (list_of sources.now.list.now).prefixes
         (tree_of sources.now.certificate.now.labels (first_node place.now.node)) k place.now.block.len
         (number_of place.now.block) ≡ None)) }
     ensures err { IfErr result (λ fault. fault.kind ≢ NoMemory → (k : ℕ) → told k ≡ place.now.number →
-        node_fault (map_with sources.now.map.now (drop start.statements (named own.old.statements.items)))
-        (prefixes_with sources.now.list.now (drop start.entries (named own.old.entries.items)))
+        node_fault (map_of sources.now.map.now) (list_of sources.now.list.now).prefixes
         (tree_of sources.now.certificate.now.labels (first_node place.now.node)) k place.now.block.len
         (number_of place.now.block) ≡ Some fault) }
     ensures memory { IfErr result (λ fault. fault.kind ≡ NoMemory → fault.node ≡ 0) }
 {
     let next = place.node.next();
     let number = place.number.saturating_add(1);
+    let covering = walk.covering(sources.list, &place.block, above);
     match place.node.label() {
-        Some(id) => {
-            let fault = leaf_fault(sources, own.last(start), &place.block, id);
-            own.cut(start);
-            match fault {
-                Some(kind) => Err(CheckFault {
-                    kind,
-                    node: place.number,
-                }),
-                None => Ok((next, number)),
-            }
-        }
+        Some(id) => match walk.leaf_fault(sources, &place.block, covering, id)? {
+            Some(kind) => Err(CheckFault {
+                kind,
+                node: place.number,
+            }),
+            None => Ok((next, number)),
+        },
         None => {
             let Some((low, high)) = place.block.halves() else {
                 unreachable!()
             };
-            let (low_start, high_start) = divide(own, start, lower, upper, &low, &high)?;
             let low_place = Place {
                 node: next,
                 block: low,
                 number,
             };
-            let (next, number) = check_node(sources, lower, low_start, own, upper, &low_place)?;
+            let (next, number) = check_node(sources, walk, &low_place, covering)?;
             let high_place = Place {
                 node: next,
                 block: high,
                 number,
             };
-            let (next, number) = check_node(sources, upper, high_start, own, lower, &high_place)?;
+            let (next, number) = check_node(sources, walk, &high_place, covering)?;
             let labels = &sources.certificate.labels;
             match claim_fault(labels, &place.node, &low_place.node, &high_place.node) {
                 Some(kind) => Err(CheckFault {
@@ -117,6 +98,30 @@ fn check_node<'a, 'b>(
             }
         }
     }
+}
+
+// Checks the nodes, by a walk over these entries, which are those of the list in the order in which they come.
+fn check_nodes_by(alloc: Global, sources: &Sources, entries: &[Entry]) -> Result<(), CheckFault>
+    requires sources { AreSources sources.now }
+    requires entries { AreComing sources.now.list.now.entries 0 entries.now }
+    ensures ok { IfOk result (λ _. node_fault (map_of sources.now.map.now) (list_of sources.now.list.now).prefixes
+        (certificate_of sources.now.certificate.now).root 1 0 0 ≡ None) }
+    ensures err { IfErr result (λ fault. fault.kind ≢ NoMemory →
+        node_fault (map_of sources.now.map.now) (list_of sources.now.list.now).prefixes
+        (certificate_of sources.now.certificate.now).root 1 0 0 ≡ Some fault) }
+    ensures memory { IfErr result (λ fault. fault.kind ≡ NoMemory → fault.node ≡ 0) }
+{
+    let mut walk = Walk {
+        stretches: Stretches::of_map(alloc, sources.map)?,
+        coming: entries,
+    };
+    let place = Place {
+        node: sources.certificate.root(),
+        block: whole_space(sources.map.version),
+        number: 1,
+    };
+    check_node(sources, &mut walk, &place, None)?;
+    Ok(())
 }
 
 // Checks the nodes of a certificate of the same version as the map and the list.
@@ -142,22 +147,12 @@ fn check_nodes(
         map_numbers: numbers_in(alloc, &map.labels, &certificate.labels)?,
         list_numbers: numbers_in(alloc, &list.labels, &certificate.labels)?,
     };
-    let whole = whole_space(map.version);
-    let mut own = PartStack::whole(alloc, map.statements.as_slice(), list.entries.as_slice())?;
-    let mut lower = PartStack::new(alloc);
-    let mut upper = PartStack::new(alloc);
-    let start = PartStart {
-        statements: 0,
-        entries: 0,
-    };
-    let root = certificate.root();
-    let place = Place {
-        node: root,
-        block: whole,
-        number: 1,
-    };
-    check_node(&sources, &mut own, start, &mut lower, &mut upper, &place)?;
-    Ok(())
+    let entries = list.entries.as_slice();
+    if are_in_order(entries) {
+        return check_nodes_by(alloc, &sources, entries);
+    }
+    let sorted = in_order(alloc, entries)?;
+    check_nodes_by(alloc, &sources, sorted.as_slice())
 }
 
 // A fault that no node has.

@@ -11,26 +11,24 @@
 //! assert!(rt; check(alloc, &map, &list, &certificate)? == 2);
 //! ```
 //!
-//! It stands on prefix_keys (blocks), pmap_text (maps and prefix lists) and pmap_cert (certificates and the law that an
-//! accepted one is enough), and knows neither the trie nor the minimiser. The layer above may rely on this: `check`
-//! answers the number of entries exactly where the certificate is accepted for the map and the list, and then the list
-//! labels every address as the map does and no list that does so has fewer entries; else it answers the first fault
-//! with the number of its node. `carried` and `carried_entries` give the statements and entries that have a say in a
-//! block.
+//! It stands on prefix_keys (blocks), pmap_text (maps, their stretches and prefix lists) and pmap_cert (certificates and
+//! the law that an accepted one is enough), and knows neither the trie nor the minimiser. The layer above may rely on
+//! this: `check` answers the number of entries exactly where the certificate is accepted for the map and the list, and
+//! then the list labels every address as the map does and no list that does so has fewer entries; else it answers the
+//! first fault with the number of its node. `carried` and `carried_entries` give the statements and entries that have a
+//! say in a block.
 #![tactic(auto)]
 
-mod carried_part;
 mod carrying;
 mod checking;
 mod claims;
+mod entry_order;
 mod fault;
-mod halves;
 mod labels;
 mod laws;
-mod leaves;
-mod part_stack;
 mod references;
 mod sources;
+mod walk;
 
 pub use carrying::{carried, carried_entries};
 pub use checking::check;

@@ -1,4 +1,3 @@
-use Rattle.std.proofs.Common.{[], refl}
 use Rattle.cert_check.specs.Sources.{named}
 use Rattle.cert_check.proofs.Carries.{IsSpanOf, carried-more}
 use Rattle.cert_check.proofs.carrying.carried.Goals as goal
@@ -10,6 +9,6 @@ loop-statement-preserved c =
       first = c.span-within.ensures.first;
       last = c.span-within.ensures.last;
     } in
-    carried-more c.args.block.now c.span-within.result span c.args.statements.now c.loop-statement.statement-index c.statement-item.result []
-    (named c.loop-statement.kept.items) (named c.add_statement.new.kept.items) 0 refl c.loop-statement-test.true
+    carried-more c.args.block.now c.span-within.result span c.args.statements.now c.loop-statement.statement-index c.statement-item.result
+    (named c.loop-statement.kept.items) (named c.add_statement.new.kept.items) c.loop-statement-test.true
     c.statement-item.is c.loop-statement.invariant c.in_ok-add_statement.ensures

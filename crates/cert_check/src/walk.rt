@@ -1,0 +1,139 @@
+ghost use Rattle.std.specs.Prelude.{◌≡◌, suc, ◌+◌, ◌<◌, ◌≤◌, None, IfOk, IfSome, IsTrue, OnOk, length};
+ghost use Rattle.prefix_keys.specs.Version.{width_of};
+ghost use Rattle.pmap_text.specs.MapModel.{settled_label};
+ghost use Rattle.pmap_text.specs.MapText.{map_of, text_at};
+ghost use Rattle.pmap_text.specs.PrefixList.{list_of};
+ghost use Rattle.cert_check.specs.Carrying.{number_of};
+ghost use Rattle.cert_check.specs.Checking.{is_decided as is_decided_of, is_label_of, leaf_fault as leaf_fault_of};
+ghost use Rattle.cert_check.specs.Kept.{AreSources};
+ghost use Rattle.cert_check.specs.Walking.{AreComing, HasComeTo, HasPassed, IsHandedDown, IsOverMap, last_in, place_at};
+
+use crate::fault::CheckFaultKind;
+use crate::sources::{Sources, is_list_label, is_map_label};
+use pmap_text::{Entry, LabelId, PrefixList, Stretches};
+use prefix_keys::Block;
+use std::alloc::AllocError;
+
+/// A walk along the blocks of a certificate's leaves, from the first address to the last: the stretch of the map where
+/// it stands, and the list's entries that are still to come, in the order in which nodes come.
+#[derive(Drop)]
+pub struct Walk<'a> {
+    pub stretches: Stretches<'a>,
+    pub coming: &'a [Entry],
+}
+
+// Whether the map settles the block with the certificate's label: one stretch holds the block, and that has the label.
+// It is the stretch that has the block's first address.
+fn is_settled(sources: &Sources, stretches: &Stretches, block: &Block, id: LabelId) -> bool
+    requires sources { AreSources sources.now }
+    requires map { IsOverMap sources.now.map.now stretches.now }
+    requires version { block.now.version ≡ sources.now.map.now.version }
+    requires begun { stretches.now.first ≤ block.now.value }
+    requires here { block.now.value ≤ stretches.now.last }
+    requires known { id.0 < length sources.now.certificate.now.labels }
+    ensures settled { result ≡ is_label_of (settled_label (map_of sources.now.map.now) block.now.len
+        (number_of block.now)) (text_at sources.now.certificate.now.labels id.0) }
+    ensures held { IsTrue result → last_in block.now ≤ stretches.now.last }
+{
+    if stretches.last() < block.high().value {
+        return false;
+    }
+    match stretches.label() {
+        Some(own) => is_map_label(sources, own, id),
+        None => false,
+    }
+}
+
+// Whether the list decides the whole block alike by the certificate's label, where `covering` is the label of the
+// longest entry that covers it: no entry that comes behind the block begins in it.
+fn is_decided(
+    sources: &Sources,
+    coming: &[Entry],
+    block: &Block,
+    covering: Option<LabelId>,
+    id: LabelId,
+) -> bool
+    requires sources { AreSources sources.now }
+    requires version { block.now.version ≡ sources.now.map.now.version }
+    requires coming { AreComing sources.now.list.now.entries (place_at block.now.value block.now.len + 1) coming.now }
+    requires covering { IsHandedDown sources.now.list.now (suc block.now.len) block.now.value covering }
+    requires known { id.0 < length sources.now.certificate.now.labels }
+    ensures decided { result ≡ is_decided_of (width_of sources.now.map.now.version)
+        (list_of sources.now.list.now).prefixes block.now.len (number_of block.now)
+        (text_at sources.now.certificate.now.labels id.0) }
+    ensures passed { IsTrue result →
+        AreComing sources.now.list.now.entries (place_at (last_in block.now + 1) 0) coming.now }
+{
+    if let Some(next) = coming.first() {
+        if next.block.value <= block.high().value {
+            return false;
+        }
+    }
+    match covering {
+        Some(own) => is_list_label(sources, own, id),
+        None => false,
+    }
+}
+
+impl Walk<'_> {
+    /// The label of the longest entry of the list that covers the block, where `above` is that of the longest over a
+    /// longer one. An entry of this very block is the next one, and is passed.
+    pub fn covering(
+        &mut self,
+        list: &PrefixList,
+        block: &Block,
+        above: Option<LabelId>,
+    ) -> Option<LabelId>
+        requires version { block.now.version ≡ list.now.version }
+        requires coming { AreComing list.now.entries (place_at block.now.value block.now.len) self.old.coming.now }
+        requires above { IsHandedDown list.now block.now.len block.now.value above }
+        ensures stretches { self.new.stretches ≡ self.old.stretches }
+        ensures coming { AreComing list.now.entries (place_at block.now.value block.now.len + 1) self.new.coming.now }
+        ensures covering { IsHandedDown list.now (suc block.now.len) block.now.value result }
+    {
+        let coming = self.coming;
+        let Some(next) = coming.first() else {
+            return above;
+        };
+        if next.block.value != block.value || next.block.len != block.len {
+            return above;
+        }
+        let own = next.label;
+        self.coming = &coming[1..];
+        Some(own)
+    }
+
+    /// What is wrong with a leaf that has the certificate's label `id` and stands for the block, where `covering` is the
+    /// label of the longest entry that covers it. Where nothing is, the walk has passed the block.
+    pub fn leaf_fault(
+        &mut self,
+        sources: &Sources,
+        block: &Block,
+        covering: Option<LabelId>,
+        id: LabelId,
+    ) -> Result<Option<CheckFaultKind>, AllocError>
+        requires sources { AreSources sources.now }
+        requires version { block.now.version ≡ sources.now.map.now.version }
+        requires map { IsOverMap sources.now.map.now self.old.stretches }
+        requires begun { self.old.stretches.first ≤ block.now.value }
+        requires near { block.now.value ≤ self.old.stretches.last + 1 }
+        requires coming { AreComing sources.now.list.now.entries (place_at block.now.value block.now.len + 1)
+            self.old.coming.now }
+        requires covering { IsHandedDown sources.now.list.now (suc block.now.len) block.now.value covering }
+        requires known { id.0 < length sources.now.certificate.now.labels }
+        ensures fault { IfOk result (λ fault. fault ≡ leaf_fault_of (map_of sources.now.map.now)
+            (list_of sources.now.list.now).prefixes block.now.len (number_of block.now)
+            (text_at sources.now.certificate.now.labels id.0)) }
+        ensures passed { IfOk result (λ fault. fault ≡ None →
+            HasPassed sources.now.map.now sources.now.list.now block.now self.new) }
+    {
+        self.stretches.reach(block.value)?;
+        if !is_settled(sources, &self.stretches, block, id) {
+            return Ok(Some(CheckFaultKind::LeafNotUniform));
+        }
+        if !is_decided(sources, self.coming, block, covering, id) {
+            return Ok(Some(CheckFaultKind::ListDiffers));
+        }
+        Ok(None)
+    }
+}
