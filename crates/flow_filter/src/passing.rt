@@ -16,6 +16,7 @@ use label_lookup::Labeller;
 use std::alloc::AllocError;
 
 // Adds the row that is there, if it passes.
+#[inline(always)]
 fn add_row<L: Labeller>(
     filter: &Filter<'_>,
     row: &Option<Row>,
@@ -37,6 +38,7 @@ fn add_row<L: Labeller>(
 }
 
 // Adds the rows of a record that pass, found by the plan of its fields, the second right behind the first.
+#[inline(always)]
 #[tactic(auto, using(crate::proofs::PassingLemmas::front_stays, crate::proofs::PassingLemmas::both_pass))]
 fn add_rows_of_record<L: Labeller>(
     filter: &Filter<'_>,

@@ -1,9 +1,14 @@
--- Records with the same fields have first rows alike, and tell packets back alike.
-use Rattle.std.proofs.Common.{◌≡◌, get_or, suc, subst, ◌∙◌, ℕ, ◌+◌, Bool, true, false, All, List, [], ◌∷◌, length, map, Option, Some, None, refl, sym, ap, is_some, option_map, cond, arith}
-use Rattle.std.specs.Prelude.{◌&&◌, ◌||◌, ◌==◌, count_by, find, option_and_then}
+-- Records with the same fields have first rows alike, and tell packets back alike: their fields tell it.
+use Rattle.std.proofs.Common.{◌≡◌, get_or, suc, ◌∙◌, ℕ, ◌+◌, Bool, true, false, All, List, [], ◌∷◌, length, map, Option, Some, None, refl, sym, ap, is_some, option_map, cond, arith}
+use Rattle.std.specs.Prelude.{◌&&◌, ◌||◌, ◌==◌, count_by, filter, find, is_none, nat_le, option_and_then}
 use Rattle.std.specs.List.{list_any}
+use Rattle.std.specs.Map.{lookup}
+use Rattle.std.specs.Option.{option_map_or}
+use Rattle.std.proofs.lemmas.Bool.{eqb-true}
 use Rattle.std.proofs.lemmas.List.Elements.{All-head, All-tail}
 use Rattle.std.proofs.lemmas.List.Sums.{sum_by-cons}
+use Rattle.std.proofs.lemmas.Map.Views.{any-filter_same}
+use Rattle.ipfix_templates.specs.Field.{has_bytes}
 use Rattle.ipfix_templates.specs.Kind.{same_kind}
 use Rattle.ipfix_templates.specs.declared.field.Field.{Field}
 use Rattle.ipfix_templates.specs.declared.kind.Kind.{Kind}
@@ -11,11 +16,12 @@ use Rattle.ipfix_templates.specs.declared.kind.Kind.TheVariants.{Flow, Options}
 use Rattle.ipfix_read.specs.Value.{FieldValueView}
 use Rattle.ipfix_read.specs.declared.record.Record.{Record}
 use Rattle.flow_rows.specs.Counts.{is_of_kind}
-use Rattle.flow_rows.specs.Element.{element, is_reverse_usable, is_usable, reverse_element}
+use Rattle.flow_rows.specs.Element.{element, element_lengths, fits, is_reverse_usable, is_usable, reverse_element, reverse_elements, reverse_enterprise}
 use Rattle.flow_rows.specs.Elements.{elements_of, first_row, first_row_of, reverse_elements_of, row_back_if_any, second_row}
 use Rattle.flow_rows.specs.Row.{RowView}
-use Rattle.flow_rows.specs.declared.reverse.ReverseElements.{ReverseElements}
-use Rattle.flow_rows.proofs.Passes.{both, both_are, is_some-row}
+use Rattle.flow_rows.specs.Telling.{have_addresses, is_element, is_reverse_element, tell_packets_back}
+use Rattle.flow_rows.proofs.Bytes.{reverse_usable_has_bytes, usable_has_bytes}
+use Rattle.flow_rows.proofs.Passes.{both_are, is_some-row}
 
 abbrev fields_of : List FieldValueView → List Field
 fields_of values = map (λ v. v.field) values
@@ -29,38 +35,75 @@ found test (v ∷ vs) =
       | false ↦ found test vs
     ]
 
-found_alike : (test : Field → Bool) (values others : List FieldValueView) → fields_of values ≡ fields_of others
-    → is_some (find (λ v. test v.field) values) ≡ is_some (find (λ v. test v.field) others)
-found_alike test values others same = found test values ∙ ap (list_any test) same ∙ sym (found test others)
-
 mapped : {X Y : Type 0} (f : X → Y) (o : Option X) → is_some (option_map f o) ≡ is_some o
 mapped f None = refl
 mapped f (Some x) = refl
 
-module _ (values others : List FieldValueView) (same : fields_of values ≡ fields_of others) where
-  element_alike : (number : ℕ) → is_some (element values number) ≡ is_some (element others number)
-  element_alike number =
-      mapped _ (find _ values) ∙ found_alike (λ f. (f.number == number) && is_usable f) values others same ∙ sym (mapped _ (find _ others))
+-- tests that agree find alike
+any_alike : {X : Type 0} (p q : X → Bool) → ((x : X) → p x ≡ q x) → (xs : List X) → list_any p xs ≡ list_any q xs
+any_alike p q same [] = refl
+any_alike p q same (x ∷ xs) = λ i. same x i || any_alike p q same xs i
 
-  reverse_alike : (number : ℕ) → is_some (reverse_element values number) ≡ is_some (reverse_element others number)
-  reverse_alike number =
-      mapped _ (find _ values) ∙ found_alike (λ f. (f.number == number) && is_reverse_usable f) values others same ∙ sym (mapped _ (find _ others))
+-- a field of an element, as the element's least and greatest length tell it
+is_element-is : (number least most : ℕ) → lookup (λ n. n == number) element_lengths ≡ Some (least, most)
+    → (f : Field) → is_element number least most f ≡ ((f.number == number) && is_usable f)
+unfolding fits
+is_element-is number least most listed f =
+    elim (f.number == number) as (λ b. (f.number == number) ≡ b → (b && (is_none f.enterprise && (nat_le least f.length && nat_le f.length most))) ≡ (b && is_usable f)) [
+      | true ↦ λ e. rw (eqb-true f.number number e, listed) refl
+      | false ↦ λ _. refl
+    ]
+    refl
 
-row_alike : (kind : Kind) (values others : List FieldValueView) → fields_of values ≡ fields_of others
-    → is_some (first_row_of kind values) ≡ is_some (first_row_of kind others)
-row_alike Flow values others same =
-    let pair : (n m : ℕ) → both (element values n) (element values m) ≡ both (element others n) (element others m) =
-    λ n m.
-    both_are (element values n) (element values m)
-    ∙ (λ i. element_alike values others same n i && element_alike values others same m i)
-    ∙ sym (both_are (element others n) (element others m)) in
-    is_some-row (elements_of values) ∙ (λ i. pair 8 12 i || pair 27 28 i) ∙ sym (is_some-row (elements_of others))
-row_alike Options values others same = refl
+is_reverse_element-is : (number least most : ℕ) → lookup (λ n. n == number) element_lengths ≡ Some (least, most)
+    → list_any (λ n. number == n) reverse_elements ≡ true
+    → (f : Field) → is_reverse_element number least most f ≡ ((f.number == number) && is_reverse_usable f)
+unfolding fits
+is_reverse_element-is number least most listed back f =
+    elim (f.number == number) as (λ b. (f.number == number) ≡ b → (b && (option_map_or (λ n. n == reverse_enterprise) f.enterprise false && (nat_le least f.length && nat_le f.length most)))
+    ≡ (b && is_reverse_usable f)) [
+      | true ↦ λ e. rw (eqb-true f.number number e, listed, back) refl
+      | false ↦ λ _. refl
+    ]
+    refl
+
+-- whether an element is said is told by the fields that take bytes
+module _ (values : List FieldValueView) (fields : List Field) (same : fields_of values ≡ fields) where
+  element_told : (number least most : ℕ) → lookup (λ n. n == number) element_lengths ≡ Some (least, most)
+      → is_some (element values number) ≡ list_any (is_element number least most) (filter has_bytes fields)
+  element_told number least most listed =
+      let test = λ (f : Field). (f.number == number) && is_usable f in
+      mapped _ (find (λ v. test v.field) values) ∙ found test values ∙ ap (list_any test) same
+      ∙ sym (any-filter_same test has_bytes true (λ f. usable_has_bytes (f.number == number) (is_none f.enterprise) f.number f.length) fields)
+      ∙ sym (any_alike (is_element number least most) test (is_element-is number least most listed) (filter has_bytes fields))
+
+  reverse_told : (number least most : ℕ) → lookup (λ n. n == number) element_lengths ≡ Some (least, most)
+      → list_any (λ n. number == n) reverse_elements ≡ true
+      → is_some (reverse_element values number) ≡ list_any (is_reverse_element number least most) (filter has_bytes fields)
+  reverse_told number least most listed back =
+      let test = λ (f : Field). (f.number == number) && is_reverse_usable f in
+      mapped _ (find (λ v. test v.field) values) ∙ found test values ∙ ap (list_any test) same
+      ∙ sym
+      (any-filter_same test has_bytes true
+      (λ f. reverse_usable_has_bytes (f.number == number) (option_map_or (λ n. n == reverse_enterprise) f.enterprise false)
+      (list_any (λ n. f.number == n) reverse_elements) f.number f.length) fields)
+      ∙ sym (any_alike (is_reverse_element number least most) test (is_reverse_element-is number least most listed back) (filter has_bytes fields))
+
+  row_told : (kind : Kind) → is_some (first_row_of kind values) ≡ (same_kind kind Flow && have_addresses (filter has_bytes fields))
+  row_told Flow =
+      is_some-row (elements_of values)
+      ∙ (λ i. both_are (element values 8) (element values 12) i || both_are (element values 27) (element values 28) i)
+      ∙ (λ i. (element_told 8 4 4 refl i && element_told 12 4 4 refl i) || (element_told 27 16 16 refl i && element_told 28 16 16 refl i))
+  row_told Options = refl
 
 -- where nothing is said of packets back there is no second row
-absent : {X : Type 0} (o : Option X) → is_some o ≡ false → o ≡ None
+pub absent : {X : Type 0} (o : Option X) → is_some o ≡ false → o ≡ None
 absent None e = refl
 absent (Some x) e = cc
+
+pub both-false : (p q : Bool) → (p || q) ≡ false → (p ≡ false) × (q ≡ false)
+both-false true q h = cc
+both-false false q h = (refl, h)
 
 no_row_back : (o : Option RowView) (values : List FieldValueView) → reverse_element values 2 ≡ None → reverse_element values 86 ≡ None
     → is_some (option_and_then (row_back_if_any (reverse_elements_of values)) o) ≡ false
@@ -90,28 +133,20 @@ pub of_kind_counted : (kind : Kind) (records : List Record) (of : Kind) → All 
 of_kind_counted kind records of all =
     count_alike (is_of_kind kind) (same_kind of kind) records (λ k d within. ap (λ (x : Kind). same_kind x kind) (all k d within))
 
-module _ (records : List Record) (first : Record) (rest : List Record) (begins : records ≡ first ∷ rest)
-    (fields : List Field) (of_fields : All (λ r. fields_of r.fields ≡ fields) records) where
-  fields_of_first : fields_of first.fields ≡ fields
-  fields_of_first = All-head (λ (r : Record). fields_of r.fields ≡ fields) first rest (subst (λ (rs : List Record). All (λ r. fields_of r.fields ≡ fields) rs) begins of_fields)
-
+module _ (records : List Record) (fields : List Field) (of_fields : All (λ r. fields_of r.fields ≡ fields) records) where
   pub first_rows_counted : (kind : Kind) → All (λ r. r.kind ≡ kind) records
-      → count_by (λ r. is_some (first_row r)) records ≡ cond (is_some (first_row first)) (length records) 0
+      → count_by (λ r. is_some (first_row r)) records ≡ cond (same_kind kind Flow && have_addresses (filter has_bytes fields)) (length records) 0
   first_rows_counted kind of_kind =
-      let kind_of_first : first.kind ≡ kind = All-head (λ (r : Record). r.kind ≡ kind) first rest (subst (λ (rs : List Record). All (λ r. r.kind ≡ kind) rs) begins of_kind) in
-      count_alike (λ r. is_some (first_row r)) (is_some (first_row first)) records
+      count_alike (λ r. is_some (first_row r)) (same_kind kind Flow && have_addresses (filter has_bytes fields)) records
       (λ k d within.
       let r = get_or records k d in
-      ap (λ (x : Kind). is_some (first_row_of x r.fields)) (of_kind k d within ∙ sym kind_of_first)
-      ∙ row_alike first.kind r.fields first.fields (of_fields k d within ∙ sym fields_of_first))
+      ap (λ (x : Kind). is_some (first_row_of x r.fields)) (of_kind k d within) ∙ row_told r.fields fields (of_fields k d within) kind)
 
-  pub no_second_rows : (e : ReverseElements) → e ≡ reverse_elements_of first.fields → is_some e.packets ≡ false → is_some e.total_packets ≡ false
-      → count_by (λ r. is_some (second_row r)) records ≡ 0
-  no_second_rows e is none total_none =
-      let none_there : is_some (reverse_element first.fields 2) ≡ false = ap (λ (x : ReverseElements). is_some x.packets) (sym is) ∙ none in
-      let none_in_all : is_some (reverse_element first.fields 86) ≡ false = ap (λ (x : ReverseElements). is_some x.total_packets) (sym is) ∙ total_none in
+  pub no_second_rows : tell_packets_back (filter has_bytes fields) ≡ false → count_by (λ r. is_some (second_row r)) records ≡ 0
+  no_second_rows none =
+      let parts = both-false (list_any (is_reverse_element 2 1 8) (filter has_bytes fields)) (list_any (is_reverse_element 86 1 8) (filter has_bytes fields)) none in
       count_alike (λ r. is_some (second_row r)) false records
       (λ k d within.
       let r = get_or records k d in
-      let same : fields_of r.fields ≡ fields_of first.fields = of_fields k d within ∙ sym fields_of_first in
-      no_second_row r (reverse_alike r.fields first.fields same 2 ∙ none_there) (reverse_alike r.fields first.fields same 86 ∙ none_in_all))
+      no_second_row r (reverse_told r.fields fields (of_fields k d within) 2 1 8 refl refl ∙ parts.0)
+      (reverse_told r.fields fields (of_fields k d within) 86 1 8 refl refl ∙ parts.1))

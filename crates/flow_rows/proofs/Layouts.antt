@@ -7,21 +7,23 @@ use Rattle.std.specs.Map.{lookup}
 use Rattle.std.specs.Option.{option_map_or}
 use Rattle.std.proofs.lemmas.Bool.{eqb-true, leb-true, le-ltb, ltb-false}
 use Rattle.ipfix_templates.specs.declared.field.Field.{Field}
+use Rattle.ipfix_templates.specs.declared.kind.Kind.{Kind}
+use Rattle.ipfix_templates.specs.declared.kind.Kind.TheVariants.{Flow, Options}
 use Rattle.ipfix_templates.specs.Field.{has_bytes, is_variable}
 use Rattle.ipfix_templates.specs.Runs.{runs_behind}
-use Rattle.ipfix_read.specs.declared.record.Record.{Record}
 use Rattle.ipfix_read.specs.Value.{FieldValueView, bytes_at, value_at, values_at}
 use Rattle.ipfix_read.proofs.Choice.{chosen, gave, some_is}
 use Rattle.flow_rows.specs.Element.{big_endian, element, element_lengths, fits, is_reverse_usable, is_usable, reverse_element, reverse_elements, reverse_enterprise}
-use Rattle.flow_rows.specs.Elements.{elements_of, first_row, reverse_elements_of, reverse_packets, row_back_if_any, second_row}
+use Rattle.flow_rows.specs.Elements.{elements_of, first_row_of, reverse_elements_of, reverse_packets, row_back_if_any, row_of_elements}
 use Rattle.flow_rows.specs.Row.{RowView}
 use Rattle.flow_rows.specs.Parts.{kept}
-use Rattle.flow_rows.specs.Places.{IsLaidOut, after_field, after_fields, after_reverse_field, after_reverse_fields, elements_there, first_place, gives_place, gives_reverse_place, layout_of, number_there, place, place_of, places_of, reverse_elements_there, reverse_place, reverse_places_of}
+use Rattle.flow_rows.specs.Places.{IsLaidOut, after_field, after_fields, after_reverse_field, after_reverse_fields, elements_there, first_place, first_row_there, gives_place, gives_reverse_place, layout_of, number_there, place, place_of, places_of, reverse_elements_there, reverse_place, reverse_places_of}
 use Rattle.flow_rows.specs.declared.layout.Layout.{Layout}
 use Rattle.flow_rows.specs.declared.place.Place.{Place}
 use Rattle.flow_rows.specs.declared.places.Places.{Places}
 use Rattle.flow_rows.specs.declared.reverse.ReverseElements.{ReverseElements}
 use Rattle.flow_rows.specs.declared.reverse_places.ReversePlaces.{ReversePlaces}
+use Rattle.flow_rows.proofs.Alike.{absent, both-false}
 use Rattle.flow_rows.proofs.Bytes.{both-true, reverse_usable_has_bytes, usable_has_bytes}
 use Rattle.flow_rows.proofs.Passes.{kept-kept, kept-none}
 
@@ -157,8 +159,8 @@ module _ (test : Field → Bool) (least most : ℕ) (sized : (f : Field) → tes
       let later = found_there fs (sum + f.length) (at + f.length) whole b.0 first.1 room (ap (values_at fs) behind ∙ b.1) in
       ap (λ (y : List FieldValueView × List ℕ). option_map (λ v. big_endian v.value) (find (λ v. test v.field) y.0)) (sym (some_is _ _ b.2))
       ∙ elim (test f) as (λ t. (t ≡ true → (least ≤ f.length) × (f.length ≤ most))
-          → option_map (λ w. big_endian w.value) (cond t (Some (record { field = f; value = a.0.0 })) (find (λ w. test w.field) b.0.0))
-          ≡ number_there least most (cond t (Some (place_of at f)) (first_place test (at + f.length) fs)) whole) [
+      → option_map (λ w. big_endian w.value) (cond t (Some (record { field = f; value = a.0.0 })) (find (λ w. test w.field) b.0.0))
+      ≡ number_there least most (cond t (Some (place_of at f)) (first_place test (at + f.length) fs)) whole) [
         | true ↦ λ passes.
             ap (λ (bytes : List ℕ). Some (big_endian bytes)) (sym v.1)
             ∙ there least most at f whole (passes refl).0 (passes refl).1 room
@@ -238,6 +240,18 @@ module _ (fields : List Field) (bytes : List ℕ) (values : List FieldValueView)
         end_ms = reverse_said_there 153 8 8 refl i;
       }
 
+-- ---- where nothing is told of packets back
+
+no_packets : (p : ReversePlaces) (bytes : List ℕ) → (is_some p.packets || is_some p.total_packets) ≡ false
+    → reverse_packets (reverse_elements_there p bytes) ≡ 0
+no_packets p bytes none =
+    let parts = both-false (is_some p.packets) (is_some p.total_packets) none in
+    rw (absent p.packets parts.0, absent p.total_packets parts.1) refl
+
+pub nothing_back : (e : ReverseElements) (o : Option RowView) → reverse_packets e ≡ 0 → None ≡ option_and_then (row_back_if_any e) o
+nothing_back e None none = refl
+nothing_back e (Some row) none = rw none refl
+
 -- ---- in the words of a plan
 
 -- what is read at the places of a layout is what the values of a record with its fields say
@@ -246,38 +260,27 @@ module _ (fields : List Field) (laid_out : Option Layout) (layout : Layout) (is 
   of_fields : (runs_behind 0 fields ≡ []) × (layout ≡ layout_of (filter has_bytes fields))
   of_fields = subst (λ (o : Option Layout). IsLaidOut fields o) is laid
 
-  pub forward_said : elements_there layout.forward bytes ≡ elements_of values
+  forward_said : elements_there layout.forward bytes ≡ elements_of values
   forward_said =
       ap (λ (l : Layout). elements_there l.forward bytes) (of_fields.1 ∙ layout_of-filled fields)
       ∙ elements_said fields bytes values of_fields.0 (ap (λ (fs : List Field). values_at fs bytes) (sym same) ∙ read)
 
-  pub back_said : reverse_elements_there layout.back bytes ≡ reverse_elements_of values
+  back_said : reverse_elements_there layout.back bytes ≡ reverse_elements_of values
   back_said =
       ap (λ (l : Layout). reverse_elements_there l.back bytes) (of_fields.1 ∙ layout_of-filled fields)
       ∙ reverse_elements_said fields bytes values of_fields.0 (ap (λ (fs : List Field). values_at fs bytes) (sym same) ∙ read)
 
--- no packet went back where none is told
-absent : {X : Type 0} (o : Option X) → is_some o ≡ false → o ≡ None
-absent None e = refl
-absent (Some x) e = cc
+  pub first_said : (kind : Kind) → first_row_there kind layout.forward bytes ≡ first_row_of kind values
+  first_said Flow = ap row_of_elements forward_said
+  first_said Options = refl
 
-both-false : (p q : Bool) → (p || q) ≡ false → (p ≡ false) × (q ≡ false)
-both-false true q h = cc
-both-false false q h = (refl, h)
+  pub second_said : (kind : Kind)
+      → option_and_then (row_back_if_any (reverse_elements_there layout.back bytes)) (first_row_there kind layout.forward bytes)
+      ≡ option_and_then (row_back_if_any (reverse_elements_of values)) (first_row_of kind values)
+  second_said kind = λ i. option_and_then (row_back_if_any (back_said i)) (first_said kind i)
 
-pub no_packets : (p : ReversePlaces) (bytes : List ℕ) → (is_some p.packets || is_some p.total_packets) ≡ false
-    → reverse_packets (reverse_elements_there p bytes) ≡ 0
-no_packets p bytes none =
-    let parts = both-false (is_some p.packets) (is_some p.total_packets) none in
-    rw (absent p.packets parts.0, absent p.total_packets parts.1) refl
-
--- then there is no second row, and else it is the one back
-nothing_back : (e : ReverseElements) (o : Option RowView) → reverse_packets e ≡ 0 → None ≡ option_and_then (row_back_if_any e) o
-nothing_back e None none = refl
-nothing_back e (Some row) none = rw none refl
-
-pub no_way_back : (r : Record) (e : ReverseElements) → e ≡ reverse_elements_of r.fields → reverse_packets e ≡ 0 → None ≡ second_row r
-no_way_back r e said none = nothing_back e (first_row r) none ∙ ap (λ (back : ReverseElements). option_and_then (row_back_if_any back) (first_row r)) said
-
-pub way_back : (r : Record) (e : ReverseElements) (row : RowView) → e ≡ reverse_elements_of r.fields → Some row ≡ first_row r → row_back_if_any e row ≡ second_row r
-way_back r e row said first = λ i. option_and_then (row_back_if_any (said i)) (first i)
+  pub no_way_back : (kind : Kind) → (is_some layout.back.packets || is_some layout.back.total_packets) ≡ false
+      → None ≡ option_and_then (row_back_if_any (reverse_elements_of values)) (first_row_of kind values)
+  no_way_back kind none =
+      nothing_back (reverse_elements_there layout.back bytes) (first_row_of kind values) (no_packets layout.back bytes none)
+      ∙ ap (λ (back : ReverseElements). option_and_then (row_back_if_any back) (first_row_of kind values)) back_said

@@ -5,3 +5,4 @@ pub mod Content
 pub mod Counts
 pub mod Parts
 pub mod Places
+pub mod Telling

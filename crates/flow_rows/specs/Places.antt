@@ -1,6 +1,8 @@
 -- Where the values of a row's elements lie in a record whose fields all have fixed lengths, and what is read there.
 use Rattle.std.specs.Prelude.{◌≡◌, ℕ, ◌+◌, List, [], ◌∷◌, length, take, drop, filter, Bool, Option, Some, None, IfSome, option_map, nat_le, nat_lt, ◌==◌, ◌&&◌, ◌||◌, if◌then◌else◌}
 use Rattle.ipfix_templates.specs.declared.field.Field.{Field}
+use Rattle.ipfix_templates.specs.declared.kind.Kind.{Kind}
+use Rattle.ipfix_templates.specs.declared.kind.Kind.TheVariants.{Flow, Options}
 use Rattle.ipfix_templates.specs.Field.{has_bytes}
 use Rattle.ipfix_templates.specs.Runs.{runs_behind}
 use Rattle.flow_rows.specs.declared.elements.Elements.{Elements}
@@ -10,7 +12,9 @@ use Rattle.flow_rows.specs.declared.places.Places.{Places}
 use Rattle.flow_rows.specs.declared.reverse.ReverseElements.{ReverseElements}
 use Rattle.flow_rows.specs.declared.reverse_places.ReversePlaces.{ReversePlaces}
 use Rattle.flow_rows.specs.Element.{big_endian, is_reverse_usable, is_usable}
+use Rattle.flow_rows.specs.Elements.{row_of_elements}
 use Rattle.flow_rows.specs.Parts.{kept}
+use Rattle.flow_rows.specs.Row.{RowView}
 
 -- the place of the value of a field, behind so many bytes
 abbrev pub place_of : ℕ → Field → Place
@@ -144,6 +148,12 @@ elements_there p bytes = record {
   end_ms = number_there 8 8 p.end_ms bytes;
 }
 
+-- the first row of a record of this kind, from what it says there
+abbrev pub first_row_there : Kind → Places → List ℕ → Option RowView
+first_row_there Flow p bytes = row_of_elements (elements_there p bytes)
+first_row_there Options p bytes = None
+
+-- what it says of the reverse direction
 abbrev pub reverse_elements_there : ReversePlaces → List ℕ → ReverseElements
 reverse_elements_there p bytes = record {
   octets = number_there 1 8 p.octets bytes;

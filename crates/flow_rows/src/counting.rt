@@ -4,7 +4,8 @@ ghost use Rattle.flow_rows.specs.Content.{events_in, records_in};
 ghost use Rattle.flow_rows.specs.Counts.{defines, is_data_set, is_of_kind, is_skipped, is_withdrawal};
 ghost use Rattle.flow_rows.specs.Elements.{first_row, second_row};
 
-use crate::record::{has_reverse_row, has_row, reverse_elements};
+use crate::record::has_reverse_row;
+use crate::telling::{have_addresses, tell_packets_back};
 use ipfix_read::{RecordList, Set};
 use ipfix_templates::{Kind, TemplateEvent};
 
@@ -75,18 +76,16 @@ fn of_kind(records: &RecordList<'_>, kind: Kind) -> u64
 fn with_first_row(records: &RecordList<'_>) -> u64
     ensures { result ≡ count_by (λ r. is_some (first_row r)) records.now }
 {
-    let _kind = records.kind();
-    let Some(_fields) = records.fields() else {
+    let Some(fields) = records.fields() else {
         return 0;
     };
-    let Some(first) = records.iter().next() else {
+    if !records.kind().is(Kind::Flow) {
         return 0;
-    };
-    if has_row(&first) {
-        records.len() as u64
-    } else {
-        0
     }
+    if !have_addresses(fields.filled()) {
+        return 0;
+    }
+    records.len() as u64
 }
 
 // How many of the records have a second row, each of them looked at.
@@ -108,14 +107,10 @@ fn with_packets_back(records: &RecordList<'_>) -> u64
 fn with_second_row(records: &RecordList<'_>) -> u64
     ensures { result ≡ count_by (λ r. is_some (second_row r)) records.now }
 {
-    let Some(_fields) = records.fields() else {
+    let Some(fields) = records.fields() else {
         return 0;
     };
-    let Some(first) = records.iter().next() else {
-        return 0;
-    };
-    let reverse = reverse_elements(&first);
-    if reverse.packets.is_none() && reverse.total_packets.is_none() {
+    if !tell_packets_back(fields.filled()) {
         return 0;
     }
     with_packets_back(records)

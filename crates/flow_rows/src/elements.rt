@@ -41,8 +41,8 @@ pub struct Elements {
     pub end_ms: Option<u64>,
 }
 
-// The IPv4 address with this number.
-fn ipv4(number: u32) -> Addr
+/// The IPv4 address with this number.
+pub fn ipv4(number: u32) -> Addr
     ensures version { result.version ≡ Version.V4 }
     ensures value { result.value ≡ number }
 {
@@ -52,8 +52,8 @@ fn ipv4(number: u32) -> Addr
     }
 }
 
-// The IPv6 address with this number.
-fn ipv6(number: u128) -> Addr
+/// The IPv6 address with this number.
+pub fn ipv6(number: u128) -> Addr
     ensures version { result.version ≡ Version.V6 }
     ensures value { result.value ≡ number }
 {

@@ -1,9 +1,13 @@
-ghost use Rattle.std.specs.Prelude.{◌≡◌, []};
+ghost use Rattle.std.specs.Prelude.{◌≡◌, [], Some, option_map};
+ghost use Rattle.flow_rows.specs.Elements.{row_between, row_of_elements};
 ghost use Rattle.flow_rows.specs.Places.{after_field, elements_there, places_of};
+ghost use Rattle.flow_rows.specs.Row.{row_view};
 
-use crate::elements::Elements;
+use crate::elements::{ipv4, ipv6};
 use crate::place::{Place, keep, u8_there, u16_there, u32_there, u64_there, u128_there};
+use crate::row::Row;
 use ipfix_templates::Field;
+use prefix_keys::{Addr, Version};
 
 /// Where each information element of a row (RFC 7012) lies in a record: the value of the first usable field.
 #[derive(Clone, Copy, Debug)]
@@ -62,6 +66,7 @@ impl Places {
     }
 
     /// Adds the place of one more field, behind so many bytes. Places of earlier fields stay.
+    #[inline]
     #[tactic(auto, unfolding(crate::specs::Element::fits))]
     pub fn take(&mut self, field: Field, at: u32)
         ensures { self.new ≡ after_field self.old at field }
@@ -88,26 +93,45 @@ impl Places {
         }
     }
 
-    /// What a record's bytes say of each element there.
-    #[inline]
-    pub fn elements(&self, bytes: &[u8]) -> Elements
-        ensures { result ≡ elements_there self.now bytes.now }
+    // The row between two addresses of this version.
+    #[inline(always)]
+    fn row_between(&self, version: Version, src: Addr, dst: Addr, bytes: &[u8]) -> Row
+        requires src_version { src.version ≡ version }
+        requires dst_version { dst.version ≡ version }
+        ensures { Some (row_view result) ≡ row_between version (Some src.value) (Some dst.value) (elements_there self.now bytes.now) }
     {
-        Elements {
-            octets: u64_there(self.octets, 1, bytes),
-            packets: u64_there(self.packets, 1, bytes),
-            protocol: u8_there(self.protocol, bytes),
-            flags: u16_there(self.flags, bytes),
-            sport: u16_there(self.sport, bytes),
-            src_v4: u32_there(self.src_v4, bytes),
-            dport: u16_there(self.dport, bytes),
-            dst_v4: u32_there(self.dst_v4, bytes),
-            src_v6: u128_there(self.src_v6, bytes),
-            dst_v6: u128_there(self.dst_v6, bytes),
-            total_octets: u64_there(self.total_octets, 1, bytes),
-            total_packets: u64_there(self.total_packets, 1, bytes),
-            start_ms: u64_there(self.start_ms, 8, bytes),
-            end_ms: u64_there(self.end_ms, 8, bytes),
+        Row {
+            version,
+            src,
+            dst,
+            sport: u16_there(self.sport, bytes).unwrap_or(0),
+            dport: u16_there(self.dport, bytes).unwrap_or(0),
+            protocol: u8_there(self.protocol, bytes).unwrap_or(0),
+            flags: u16_there(self.flags, bytes).unwrap_or(0),
+            packets: u64_there(self.packets, 1, bytes)
+                .or(u64_there(self.total_packets, 1, bytes))
+                .unwrap_or(0),
+            octets: u64_there(self.octets, 1, bytes)
+                .or(u64_there(self.total_octets, 1, bytes))
+                .unwrap_or(0),
+            start_ms: u64_there(self.start_ms, 8, bytes).unwrap_or(0),
+            end_ms: u64_there(self.end_ms, 8, bytes).unwrap_or(0),
         }
+    }
+
+    /// The row of a record with these bytes, where there are both addresses of a version; those of IPv4 come first.
+    #[inline(always)]
+    pub fn row(&self, bytes: &[u8]) -> Option<Row>
+        ensures { option_map row_view result ≡ row_of_elements (elements_there self.now bytes.now) }
+    {
+        if let (Some(src), Some(dst)) = (
+            u32_there(self.src_v4, bytes),
+            u32_there(self.dst_v4, bytes),
+        ) {
+            return Some(self.row_between(Version::V4, ipv4(src), ipv4(dst), bytes));
+        }
+        let src = u128_there(self.src_v6, bytes)?;
+        let dst = u128_there(self.dst_v6, bytes)?;
+        Some(self.row_between(Version::V6, ipv6(src), ipv6(dst), bytes))
     }
 }

@@ -1,12 +1,12 @@
-ghost use Rattle.std.specs.Prelude.{◌≡◌, is_some, map, option_map};
+ghost use Rattle.std.specs.Prelude.{◌≡◌, map, option_map};
 ghost use Rattle.flow_rows.specs.Elements.{first_row, second_row};
 ghost use Rattle.flow_rows.specs.Row.{row_view};
 
 use crate::layout::Layout;
-use crate::record::{has_reverse_row, reverse_row_of, row_of};
+use crate::record::{reverse_row_of, row_of};
 use crate::row::Row;
 use ipfix_read::Record;
-use ipfix_templates::{Fields, Kind};
+use ipfix_templates::Fields;
 use std::marker::Model;
 
 /// How the rows of records with the same fields are found: where each information element of a row lies in all of
@@ -50,22 +50,19 @@ impl<'f> Plan<'f> {
     }
 
     /// The first row of a record with the plan's fields, as `row_of` finds it.
-    #[inline]
+    #[inline(always)]
     pub fn row_of(&self, source: &Record<'_, '_>) -> Option<Row>
         requires { map (λ v. v.field) source.now.fields ≡ self.now }
         ensures { option_map row_view result ≡ first_row source.now }
     {
-        let Some(layout) = &self.layout else {
-            return row_of(source);
-        };
-        if let Kind::Options = source.kind {
-            return None;
+        match &self.layout {
+            Some(layout) => layout.first_row(source.kind, source.fields.bytes()),
+            None => row_of(source),
         }
-        layout.forward.elements(source.fields.bytes()).row()
     }
 
     /// The second row of a record with the plan's fields, as `reverse_row_of` finds it.
-    #[inline]
+    #[inline(always)]
     pub fn reverse_row_of(&self, source: &Record<'_, '_>) -> Option<Row>
         requires { map (λ v. v.field) source.now.fields ≡ self.now }
         ensures { option_map row_view result ≡ second_row source.now }
@@ -77,11 +74,6 @@ impl<'f> Plan<'f> {
         if !layout.back.tell_packets() {
             return None;
         }
-        let reverse = layout.back.elements(bytes);
-        if reverse.packets() == 0 {
-            return None;
-        }
-        let first = self.row_of(source)?;
-        reverse.row(&first)
+        layout.second_row(source.kind, bytes)
     }
 }

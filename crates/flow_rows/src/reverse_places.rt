@@ -41,6 +41,7 @@ impl ReversePlaces {
     }
 
     /// Adds the place of one more field, behind so many bytes. Places of earlier fields stay.
+    #[inline]
     #[tactic(auto, unfolding(crate::specs::Element::fits))]
     pub fn take(&mut self, field: Field, at: u32)
         ensures { self.new ≡ after_reverse_field self.old at field }

@@ -1,15 +1,21 @@
-use Rattle.std.proofs.Common.{◌∙◌, Bool, length, cond, sym, ap}
+use Rattle.std.proofs.Common.{◌∙◌, refl, sym}
 use Rattle.flow_rows.proofs.Alike.{first_rows_counted}
 use Rattle.flow_rows.proofs.counting.with_first_row.Goals as goal
 
-pub returns-then-has_row : goal.returns-then-has_row
-returns-then-has_row c =
-    let begins = sym c.iter.ensures ∙ c.in-Some-next.ensures.steps in
-    c.len.ensures ∙ ap (λ (b : Bool). cond b (length c.args.records.now) 0) (sym c.if-has_row.true ∙ c.has_row.ensures)
-    ∙ sym (first_rows_counted c.args.records.now c.in-Some-next.first c.next.new.self begins c.in-Some._fields.now c.in-Some.ensures.values c.kind-kind.result c.kind-kind.ensures)
+pub returns-then-not-is : goal.returns-then-not-is
+returns-then-not-is c =
+    let no = sym c.is.ensures ∙ c.if-not-is.true in
+    sym (first_rows_counted c.args.records.now c.in-Some.fields.now c.in-Some.ensures.values c.kind.result c.kind.ensures ∙ rw no refl)
 
-pub returns-else-has_row : goal.returns-else-has_row
-returns-else-has_row c =
-    let begins = sym c.iter.ensures ∙ c.in-Some-next.ensures.steps in
-    ap (λ (b : Bool). cond b (length c.args.records.now) 0) (sym c.if-has_row.false ∙ c.has_row.ensures)
-    ∙ sym (first_rows_counted c.args.records.now c.in-Some-next.first c.next.new.self begins c.in-Some._fields.now c.in-Some.ensures.values c.kind-kind.result c.kind-kind.ensures)
+pub returns-then-not-have_addresses : goal.returns-then-not-have_addresses
+returns-then-not-have_addresses c =
+    let yes = sym c.is.ensures ∙ c.if-not-is.false in
+    let no = sym c.have_addresses.ensures ∙ c.if-not-have_addresses.true in
+    sym (first_rows_counted c.args.records.now c.in-Some.fields.now c.in-Some.ensures.values c.kind.result c.kind.ensures ∙ rw (← c.filled.ensures, yes, no) refl)
+
+pub returns : goal.returns
+returns c =
+    let yes = sym c.is.ensures ∙ c.if-not-is.false in
+    let both = sym c.have_addresses.ensures ∙ c.if-not-have_addresses.false in
+    c.len.ensures
+    ∙ sym (first_rows_counted c.args.records.now c.in-Some.fields.now c.in-Some.ensures.values c.kind.result c.kind.ensures ∙ rw (← c.filled.ensures, yes, both) refl)

@@ -1,9 +1,10 @@
-use Rattle.std.proofs.Common.{◌∙◌, ap, not, sym}
+use Rattle.std.proofs.Common.{◌∙◌, ap, sym}
+use Rattle.flow_rows.specs.Telling.{tell_packets_back}
 use Rattle.flow_rows.proofs.Alike.{no_second_rows}
 use Rattle.flow_rows.proofs.counting.with_second_row.Goals as goal
 
-pub returns-then-is_none-2 : goal.returns-then-is_none-2
-returns-then-is_none-2 c =
+pub returns-then-not-tell_packets_back : goal.returns-then-not-tell_packets_back
+returns-then-not-tell_packets_back c =
     sym
-    (no_second_rows c.args.records.now c.in-Some-next.first c.next.new.self (sym c.iter.ensures ∙ c.in-Some-next.ensures.steps) c.in-Some._fields.now c.in-Some.ensures.values
-    c.reverse_elements-reverse.result c.reverse_elements-reverse.ensures (c.is_none.ensures ∙ ap not c.if-is_none.true) (c.is_none-then-is_none.ensures ∙ ap not c.if-is_none-2.true))
+    (no_second_rows c.args.records.now c.in-Some.fields.now c.in-Some.ensures.values
+    (ap tell_packets_back (sym c.filled.ensures) ∙ sym c.tell_packets_back.ensures ∙ c.if-not-tell_packets_back.true))
