@@ -1,5 +1,5 @@
 -- The entries that are listed along an outline, by the claims of the certificate's nodes.
-use Rattle.std.proofs.Common.{◌≡◌, ℕ, zero, suc, ◌+◌, ◌-◌, ◌^◌, ◌<◌, ◌≤◌, ◌∙◌, List, [], ◌∷◌, ◌++◌, Some, None, All, length, map, drop, get_or, refl, sym, ap, subst, arith, length-append}
+use Rattle.std.proofs.Common.{◌≡◌, ℕ, zero, suc, ◌+◌, ◌-◌, ◌^◌, ◌<◌, ◌≤◌, ◌∙◌, List, [], ◌∷◌, ◌++◌, Some, None, All, length, map, get_or, refl, sym, ap, subst, arith, length-append}
 use Rattle.std.proofs.lemmas.List.{map_push, same_from_push}
 use Rattle.std.proofs.lemmas.List.Elements.{All-from_recursion, All-head, All-push}
 use Rattle.prefix_keys.specs.Version.{width_of}
@@ -22,7 +22,7 @@ use Rattle.pmap_minimise.specs.declared.outline.Part.TheVariants.{Divided, Label
 use Rattle.pmap_minimise.proofs.Entered.{inner-adds, leaf-adds, sound-halves}
 use Rattle.pmap_minimise.proofs.Joined.{all-left, all-right, set-some}
 use Rattle.pmap_minimise.proofs.Outlined.{plan-certified, plan-length}
-use Rattle.pmap_minimise.proofs.Waiting.{IsInnerWaiting, waiting-end, waiting-inner, waiting-leaf, waiting-some, waiting-start}
+use Rattle.pmap_minimise.proofs.Waiting.{waiting-end, waiting-inner, waiting-leaf, waiting-some, waiting-start}
 use Rattle.pmap_minimise.proofs.Walked.{halves-visited, leaf-visited}
 
 abbrev node_at : Visit → Node

@@ -1,5 +1,5 @@
 -- The lines of a certificate's nodes that are made along an outline.
-use Rattle.std.proofs.Common.{◌≡◌, ℕ, ◌+◌, ◌-◌, ◌<◌, ◌≤◌, ◌∙◌, List, [], ◌∷◌, ◌++◌, length, get_or, refl, sym, ap, subst, arith}
+use Rattle.std.proofs.Common.{◌≡◌, ℕ, ◌+◌, ◌-◌, ◌<◌, ◌≤◌, ◌∙◌, List, [], ◌∷◌, ◌++◌, length, get_or, sym, ap, subst}
 use Rattle.std.proofs.lemmas.List.{append-nil, append_assoc}
 use Rattle.pmap_text.specs.declared.label.LabelId.{LabelId}
 use Rattle.pmap_cert.specs.CertificateReading.{InnerLine, LeafLine, NodeLine}
@@ -7,7 +7,7 @@ use Rattle.pmap_cert.specs.Node.{Inner, Leaf, Node, cost_of, lines_of, set_of}
 use Rattle.pmap_minimise.specs.MadeLines.{IsCertifying, lines_left}
 use Rattle.pmap_minimise.specs.Claiming.{AreClaimsOf}
 use Rattle.pmap_minimise.specs.Kept.{claims_in}
-use Rattle.pmap_minimise.specs.Numbers.{Claim, IsJoined, no_claim, node_claim, numbers_of}
+use Rattle.pmap_minimise.specs.Numbers.{Claim, IsJoined, no_claim, numbers_of}
 use Rattle.pmap_minimise.specs.Outline.{IsOutline}
 use Rattle.pmap_minimise.specs.declared.claim_list.Claims.{Claims}
 use Rattle.pmap_minimise.specs.declared.outline.Part.{Part}

@@ -131,9 +131,6 @@ popped plan plans nodes rest top stacked is =
     let same = same_from_push stacked.rest rest stacked.top top (sym stacked.nodes_are ∙ is) in
     record { top_is = subst (IsNodeFor plan) same.1 stacked.top_is; rest_is = subst (AreStacked plans) same.0 stacked.rest_is }
 
-stack-some : (plan : Plan) (plans : List Plan) (nodes : List Node) → AreStacked (plan ∷ plans) nodes → 0 < length nodes
-stack-some plan plans nodes stacked = let count = ap length stacked.nodes_are in omega (arith, length-append stacked.rest (stacked.top ∷ []))
-
 -- the parts from a place on, one place earlier
 pub from-before : (parts : List Part) (left : ℕ) (part d : Part) → left < length parts → part ≡ get_or parts left d → drop left parts ≡ part ∷ drop (left + 1) parts
 from-before parts left part d inside is =
@@ -233,13 +230,7 @@ module _ (parts : List Part) (left next : ℕ) (nodes : List Node) (outline : Is
         stacked = subst (λ (l : List Part). AreStacked (plans_of l) new) (sym before) (subst (λ (l : List Plan). AreStacked (forked l) new) (sym two.read) joined);
       }
 
--- at the first part the stack has the tree's node alone
-pub root-some : (parts : List Part) (left : ℕ) (nodes : List Node) → IsOutline parts → left ≡ 0 → AreNodesFrom parts left nodes → 0 < length nodes
-root-some parts left nodes outline first from =
-    stack-some outline.plan [] nodes
-    (subst (λ (l : List Plan). AreStacked l nodes) (read-parts outline.plan parts outline.is)
-    (subst (λ (k : ℕ). AreStacked (plans_of (drop k parts)) nodes) first from.stacked))
-
+-- at the first part the stack has the tree's node
 pub root-node : (parts : List Part) (left : ℕ) (nodes rest : List Node) (top : Node) → left ≡ 0 → AreNodesFrom parts left nodes → nodes ≡ rest ++ top ∷ []
     → (plan : Plan) → parts ≡ parts_of plan → IsNodeFor plan top
 root-node parts left nodes rest top first from is plan outline =
