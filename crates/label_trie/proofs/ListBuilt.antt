@@ -1,33 +1,25 @@
 -- The trie of a prefix list's statements.
-use Rattle.std.proofs.Common.{◌≡◌, ℕ, suc, ◌+◌, ◌-◌, ◌*◌, ◌%◌, ◌^◌, ◌<◌, ◌≤◌, ◌==◌, List, [], ◌∷◌, None, option_and_then, map, length, refl, sym, ap, ◌∙◌, arith, All, Contains, slice_get}
+use Rattle.std.proofs.Common.{◌≡◌, ℕ, suc, ◌+◌, ◌*◌, ◌^◌, ◌<◌, ◌≤◌, List, None, option_and_then, map, length, refl, sym, ap, ◌∙◌, arith, All, slice_get}
 use Rattle.std.specs.List.{AllZip}
 use Rattle.std.specs.List.Sorted.{IsNonDecreasingBy, IsPermutation}
-use Rattle.std.proofs.lemmas.Bool.{and_from, eq-eqb}
-use Rattle.std.proofs.lemmas.List.Elements.{All-contains, All-cons, All-head, All-map, All-nil, All-tail, All-weaker}
+use Rattle.std.proofs.lemmas.List.Elements.{All-weaker}
 use Rattle.std.proofs.lemmas.List.Sorted.{All-permutation, IsPermutation-map, IsPermutation-sym, length_permutation}
-use Rattle.std.proofs.lemmas.Nat.{pow_pos}
 use Rattle.std.proofs.lemmas.Option.{none-some}
 use Rattle.prefix_keys.specs.Block.{block_number}
 use Rattle.prefix_keys.specs.Version.{width_of}
-use Rattle.prefix_keys.specs.declared.version.Version.{Version}
-use Rattle.prefix_keys.proofs.Quotients.{whole}
-use Rattle.pmap_text.specs.ListEntries.{same_block}
-use Rattle.pmap_text.specs.ListModel.{Prefix, list_label}
+use Rattle.pmap_text.specs.ListModel.{list_label}
 use Rattle.pmap_text.specs.MapModel.{Label}
-use Rattle.pmap_text.specs.MapText.{mapping_of}
 use Rattle.pmap_text.specs.PrefixList.{list_of, prefix_of}
 use Rattle.pmap_text.specs.declared.entry.Entry.{Entry}
 use Rattle.pmap_text.specs.declared.prefix_list.PrefixList.{PrefixList}
 use Rattle.pmap_text.specs.declared.statement.Statement.{Statement}
 use Rattle.pmap_text.specs.Painting.{AreShortestFirst, HasStatement}
 use Rattle.label_trie.specs.Layers.{IsMapOf, parted_count, parted_sum}
-use Rattle.pmap_text.specs.Stretches.{mappings_of}
 use Rattle.label_trie.specs.Nodes.{tree_of}
 use Rattle.label_trie.specs.Tree.{Tree, Fits, HasRoom, leaves_of}
 use Rattle.label_trie.specs.TrieModel.{IsDecidedLeaf, label_among}
 use Rattle.label_trie.specs.declared.node.Node.{Node}
 use Rattle.label_trie.proofs.Built.{IsGrown}
-use Rattle.pmap_text.proofs.Finds.{Contains-from_map, distinct_same}
 use Rattle.pmap_text.proofs.ListPainted.{list_blocks, zip_all, zip_length, zip_mappings}
 use Rattle.pmap_text.proofs.Longest.{label_seen}
 use Rattle.label_trie.proofs.SeenLeaves.{IsSeenLeaf, leaf_decided, leaves_seen}

@@ -1,14 +1,13 @@
 -- The label of an address among the leaves of a node.
-use Rattle.std.proofs.Common.{◌≡◌, ℕ, suc, All, ◌+◌, ◌-◌, ◌*◌, ◌/◌, ◌%◌, ◌^◌, ◌<◌, ◌≤◌, inl, inr, List, [], ◌++◌, Option, Some, None, option_and_then, option_map, length, refl, sym, ◌∙◌, ap, arith, find, slice_get, unwrap_or}
+use Rattle.std.proofs.Common.{◌≡◌, ℕ, suc, All, ◌+◌, ◌-◌, ◌*◌, ◌/◌, ◌%◌, ◌^◌, ◌<◌, ◌≤◌, inl, inr, ◌++◌, Option, Some, None, option_and_then, option_map, refl, sym, ◌∙◌, ap, arith, find, slice_get}
 use Rattle.std.specs.Option.{option_or}
 use Rattle.std.proofs.lemmas.Bool.{cases_eq, eq-eqb, eqb-true, ne_eqb}
 use Rattle.std.proofs.lemmas.List.Elements.{All-contains}
 use Rattle.std.proofs.lemmas.List.Folds.{find-append}
-use Rattle.std.proofs.lemmas.Nat.{pow_pos, shr-shr, div-add-mod', mod_below, div_below}
-use Rattle.std.proofs.lemmas.Option.{slice_get-get_or}
-use Rattle.prefix_keys.specs.Block.{block_number, first_of, last_of}
+use Rattle.std.proofs.lemmas.Nat.{pow_pos, shr-shr, div_below}
+use Rattle.prefix_keys.specs.Block.{block_number}
 use Rattle.prefix_keys.specs.Version.{width_of}
-use Rattle.pmap_text.specs.MapModel.{Label, MapModel, map_label}
+use Rattle.pmap_text.specs.MapModel.{MapModel, map_label}
 use Rattle.pmap_text.specs.MapText.{text_at}
 use Rattle.label_trie.specs.TrieModel.{LeafModel, IsSettledLeaf, has_address, label_among}
 use Rattle.label_trie.specs.Tree.{Tree, Tip, Fork, leaves_of, HasRoom}

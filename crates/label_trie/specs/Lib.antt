@@ -6,3 +6,4 @@ pub mod Tree
 pub mod Nodes
 pub mod Layers
 pub mod Runs
+pub mod Way

@@ -28,6 +28,7 @@ mod laws;
 mod leaf;
 mod leaves;
 mod node;
+mod tops;
 mod trie;
 
 pub use cursor::{Cursor, Parts};

@@ -151,7 +151,8 @@ fn report_labelled<'a, R: Input, P: Report>(
 {
     match labels {
         LoadedLabels::Map(map) => {
-            let trie = Trie::build(alloc, map)?;
+            let mut trie = Trie::build(alloc, map)?;
+            trie.index(alloc)?;
             let labels = MapLabels::new(map, &trie);
             report_by(alloc, source, report, &AddressLabels::new(&labels))
         }

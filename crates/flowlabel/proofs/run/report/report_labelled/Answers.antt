@@ -11,8 +11,8 @@ use Rattle.flowlabel.specs.Output.{ReportsOf}
 use Rattle.flowlabel.specs.declared.run.loaded.LoadedLabels.{LoadedLabels}
 use Rattle.flowlabel.proofs.run.report.report_labelled.Goals as goal
 
-pub returns-in_ok-trie-in-Map-clause-ok : goal.returns-in_ok-trie-in-Map-clause-ok
-returns-in_ok-trie-in-Map-clause-ok g c =
+pub returns-in_ok-index-in-Map-clause-ok : goal.returns-in_ok-index-in-Map-clause-ok
+returns-in_ok-index-in-Map-clause-ok g c =
     let same : c.new.result.labels.now ≡ map_of c.in-Map.map.now = c.new.ensures ∙ c.new-labels.ensures in
     subst (λ (labels : LoadedLabels). IfOk c.report_by.result (λ out. (bytes : List ℕ) → g.R.Input.bytes_left c.args.source.now.reader ≡ Some bytes
     → ReportsOf (g.P.Report.text c.args.report.now) (Some (labelling_of_either labels)) bytes (Ok out.items))) (sym c.in-Map.is)

@@ -5,6 +5,7 @@ use Rattle.label_trie.specs.Nodes.{tree_of}
 use Rattle.label_trie.proofs.Built.{grown_trie, trie_cut}
 use Rattle.label_trie.proofs.ListBuilt.{list_bounded, list_decided, list_labels, list_ready, list_seen}
 use Rattle.pmap_text.proofs.Painted.{painting}
+use Rattle.label_trie.proofs.Way.{no_tops}
 use Rattle.label_trie.proofs.trie.Trie.build_list.Goals as goal
 
 pub new-requires-clause-version : goal.new-requires-clause-version
@@ -35,7 +36,8 @@ invariant_of-result c =
     let statements = walk.statements in
     let default = walk.default in
     let added = rw (version, statements, default) at c.in_ok-grow.ensures in
-    (grown_trie list.version ss None c.in_ok-grow.field-0.items m (ready.layers.layers []) added few).trie
+    let built = grown_trie list.version ss None c.in_ok-grow.field-0.items m (ready.layers.layers []) added few in
+    (built.trie, rw c.new-2.ensures.items (no_tops _ _))
 
 pub returns : goal.returns
 returns c =
