@@ -44,11 +44,11 @@ impl<'a> Labeller for Scan<'a> {
     }
 
     fn label_of(&self, addr: Addr) -> Option<&[u8]> {
-        let statements = self.map.statements.as_slice();
+        let statements = &self.map.statements;
         let mut left = statements.len();
         while left > 0 {
             left -= 1;
-            let statement = statements[left];
+            let statement = statements.at(left);
             if statement.span.covers(&addr) {
                 return self.map.labels.text(statement.label);
             }

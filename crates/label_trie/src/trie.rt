@@ -83,7 +83,7 @@ impl Trie {
             ≤ 2 + 2 * width_of list.now.version * length list.now.entries) }
     {
         let statements = statements_of_list(alloc, list)?;
-        let mut stretches = Stretches::new(alloc, list.version, None, statements.as_slice())?;
+        let mut stretches = Stretches::new(alloc, list.version, None, &statements)?;
         Ok(Trie {
             version: list.version,
             nodes: grow(alloc, &mut stretches)?,

@@ -2,12 +2,11 @@
 use Rattle.std.proofs.Common.{◌≡◌, ℕ, ◌+◌, ◌*◌, ◌<◌, ◌≤◌, ◌&&◌, ◌||◌, ◌==◌, Bool, true, false, List, [], ◌∷◌, ◌++◌, Some, None, Ok, All, length, take, drop, ap, sym, refl, ◌∙◌, arith, codes, inl, inr, nat_le, le-leb, option_map}
 use Rattle.std.specs.List.{list_all, list_any, position_or_len, before_first, after_first}
 use Rattle.std.specs.Str.{bytes_eq}
-use Rattle.std.proofs.lemmas.Bool.{cases_eq, cases_Bool, ne_eqb, eqb-true, false≢true, true≢false, cond-false, cond-true, and_from, false_from_ne_true, or_cases, or_from, or_right}
+use Rattle.std.proofs.lemmas.Bool.{cases_Bool, eqb-true, false≢true, true≢false, cond-false, cond-true, and_from, false_from_ne_true, or_cases, or_from, or_right}
 use Rattle.std.proofs.lemmas.List.{append_assoc, length-take-le, take_at, drop_at, drop-drop}
-use Rattle.std.proofs.lemmas.List.Elements.{All-weaker, All-head, All-tail, All-append, All-cons}
-use Rattle.std.proofs.lemmas.List.Folds.{list_any_none, list_any-append, list_all-append}
+use Rattle.std.proofs.lemmas.List.Elements.{All-head, All-tail, All-append, All-cons}
+use Rattle.std.proofs.lemmas.List.Folds.{list_any-append, list_all-append}
 use Rattle.std.proofs.lemmas.List.Splits.{slice_split_at, slice_split_none}
-use Rattle.std.proofs.lemmas.List.Sums.{AllPass-from_list_all, list_all-from_AllPass}
 use Rattle.std.proofs.lemmas.Slice.Eq.{bytes_eq-Decides}
 use Rattle.prefix_keys.proofs.Bytes.{all-weaker, apart, lacks, none-passes}
 use Rattle.prefix_keys.proofs.LeadingGroups.{colon-in}

@@ -3,6 +3,7 @@ pub mod LineEntries
 pub mod LeadingWords
 pub mod Filed
 pub mod Pairs
+pub mod PackedStatements
 pub mod LabelTexts
 pub mod Places
 pub mod MovedBlocks

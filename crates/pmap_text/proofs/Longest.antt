@@ -1,14 +1,13 @@
 -- The longest entry that covers an address, where it is known which one is on top.
-use Rattle.std.proofs.Common.{◌≡◌, ℕ, zero, suc, ◌+◌, ◌-◌, ◌*◌, ◌^◌, ◌<◌, ◌≤◌, ◌==◌, inl, inr, true, false, nat_lt, List, [], Option, Some, None, option_and_then, option_map, filter, slice_get, length, refl, sym, ap, ◌∙◌, subst, arith, All, Contains, pow-suc, pow_pos, mul-div_cancel}
+use Rattle.std.proofs.Common.{◌≡◌, ℕ, zero, suc, ◌+◌, ◌-◌, ◌*◌, ◌^◌, ◌<◌, ◌≤◌, ◌==◌, inl, inr, true, false, nat_lt, List, [], Option, Some, None, option_and_then, option_map, filter, slice_get, length, refl, sym, ap, ◌∙◌, subst, arith, All, Contains, pow-suc, pow_pos}
 use Rattle.std.specs.Option.{ForSome}
 use Rattle.std.proofs.Math.Nat.{pow-le-pow_right}
 use Rattle.std.proofs.lemmas.Bool.{and_from, and_parts, both_ways, cases_eq, cases_lt, eq-eqb, eqb-true, false_from_ne_true, ltb-true}
 use Rattle.std.proofs.lemmas.Option.{none-some, same_Some}
 use Rattle.std.proofs.lemmas.List.Elements.{All-contains, All-weaker}
 use Rattle.prefix_keys.specs.Block.{block_number, first_of, last_of}
-use Rattle.prefix_keys.specs.Version.{width_of}
 use Rattle.prefix_keys.proofs.Quotients.{quotient_is}
-use Rattle.pmap_text.specs.ListModel.{ListModel, Prefix, covers, label_at, label_below, lies_inside}
+use Rattle.pmap_text.specs.ListModel.{Prefix, covers, label_at, label_below, lies_inside}
 use Rattle.pmap_text.specs.MapModel.{Label, meets, spans_all}
 use Rattle.pmap_text.proofs.Finds.{filter_none, find_alike, find_none}
 use Rattle.pmap_text.proofs.Orders.{block_from, block_to, both_le, known_text, le_both}

@@ -1,10 +1,10 @@
 -- Where statements begin, as far as the first of them go.
-use Rattle.std.proofs.Common.{◌≡◌, ℕ, ◌+◌, ◌<◌, ◌≤◌, inl, inr, List, [], ◌∷◌, ◌++◌, Some, All, Contains, get_or, length, slice_get, refl, sym, ap, ◌∙◌, subst, arith}
+use Rattle.std.proofs.Common.{◌≡◌, ℕ, ◌+◌, ◌<◌, ◌≤◌, inl, inr, List, [], ◌∷◌, ◌++◌, Some, All, Contains, length, slice_get, refl, sym, ap, ◌∙◌, subst, arith}
 use Rattle.std.specs.List.Sorted.{IsNonDecreasingBy, IsPermutation}
 use Rattle.std.proofs.lemmas.Bool.{cases_eq}
 use Rattle.std.proofs.lemmas.List.Elements.{All-push, Contains-append_left, Contains-push}
 use Rattle.std.proofs.lemmas.List.Sorted.{All-permutation, Contains-permutation}
-use Rattle.std.proofs.lemmas.Option.{same_Some, slice_get_read, slice_get_within}
+use Rattle.std.proofs.lemmas.Option.{same_Some, slice_get_within}
 use Rattle.pmap_text.specs.declared.statement.Statement.{Statement}
 use Rattle.pmap_text.specs.Sweep.{start_of, IsStart, AreStarts}
 use Rattle.pmap_text.specs.declared.start.Start.{Start}
@@ -14,10 +14,9 @@ pub record HasFirst (ss : List Statement) (count : ℕ) (starts : List Start) : 
   pub each : All (IsStart ss) starts
   pub every : (j : ℕ) (s : Statement) → j < count → slice_get ss j ≡ Some s → Contains starts (start_of j s)
 
-pub first_more : (ss : List Statement) (count : ℕ) (starts : List Start) (s : Statement) → HasFirst ss count starts → count < length ss
-    → s ≡ get_or ss count s → HasFirst ss (count + 1) (starts ++ start_of count s ∷ [])
-first_more ss count starts s has within is =
-    let listed : slice_get ss count ≡ Some s = slice_get_read ss (length ss) count s refl within is in
+pub first_more : (ss : List Statement) (count : ℕ) (starts : List Start) (s : Statement) → HasFirst ss count starts → slice_get ss count ≡ Some s
+    → HasFirst ss (count + 1) (starts ++ start_of count s ∷ [])
+first_more ss count starts s has listed =
     record {
       each = All-push (IsStart ss) starts (start_of count s) has.each (record { statement = s; listed = listed; low = refl });
       every = λ j r below at.

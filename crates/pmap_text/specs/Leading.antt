@@ -2,7 +2,6 @@ use Rattle.std.specs.Prelude.{◌≡◌, ℕ, ◌||◌, ◌==◌, Bool, true, fa
 use Rattle.std.specs.List.{list_all, list_any}
 use Rattle.prefix_keys.specs.Text.{address_of, block_of_text, dotted_address, is_digit, is_hex_digit, short_number}
 use Rattle.prefix_keys.specs.declared.addr.Addr.{Addr}
-use Rattle.prefix_keys.specs.declared.block.Block.{Block}
 use Rattle.pmap_text.specs.Label.{is_blank}
 use Rattle.pmap_text.specs.declared.leading.Word.{Word}
 use Rattle.pmap_text.specs.declared.leading.Word.TheVariants.{Address, Block as block_word}

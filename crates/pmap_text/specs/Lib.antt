@@ -9,6 +9,7 @@ pub mod PrefixList
 pub mod LongestMatch
 pub mod Lines
 pub mod Reading
+pub mod Packed
 pub mod Leading
 pub mod Steps
 pub mod Filed

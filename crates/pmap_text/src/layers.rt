@@ -1,5 +1,5 @@
 use crate::label::LabelId;
-use crate::statement::Statement;
+use crate::statements::Statements;
 use prefix_keys::Version;
 
 /// Statements over addresses of one version, of which the last to cover an address counts, and the label of the
@@ -8,5 +8,5 @@ use prefix_keys::Version;
 pub struct Layers<'a> {
     pub version: Version,
     pub default: Option<LabelId>,
-    pub statements: &'a [Statement],
+    pub statements: &'a Statements,
 }

@@ -32,6 +32,7 @@ mod leading;
 mod lines;
 mod map_text;
 mod name;
+mod packed;
 mod painting;
 mod placing;
 mod prefix_list;

@@ -1,22 +1,100 @@
-ghost use Rattle.std.specs.Prelude.{◌≡◌, ◌++◌, ◌∷◌, ◌↔◌, [], length, IsTrue, OnErr, OnOk};
+ghost use Rattle.std.specs.Prelude.{◌≡◌, ◌<◌, ◌++◌, ◌∷◌, ◌↔◌, [], Some, length, slice_get, IfOk, IsTrue, OnErr, OnOk};
+ghost use Rattle.prefix_keys.specs.declared.version.Version.TheVariants.{V4};
+ghost use Rattle.pmap_text.specs.Packed.{narrow_statement, wide_statement};
 
+use crate::packed::{Narrow, Wide};
 use crate::statement::Statement;
+use prefix_keys::{Addr, Span, Version};
 use std::alloc::{AllocError, Global};
 use std::marker::Model;
 
 /// The mappings of a prefix map, in the order of the text.
 #[derive(Debug, Drop)]
 pub struct Statements {
-    items: Vec<Statement>,
+    narrow: Vec<Narrow>,
+    wide: Vec<Wide>,
 }
 
 impl Model for Statements {
-    ghost use Rattle.std.specs.Prelude.{List};
+    ghost use Rattle.std.specs.Prelude.{List, map, ◌++◌};
+    ghost use Rattle.pmap_text.specs.Packed.{narrow_statement, wide_statement};
     ghost use Rattle.pmap_text.specs.declared.statement.Statement.{Statement};
 
     ghost Value = { List Statement };
 
-    ghost view = { λ s. s.items.items };
+    ghost view = { λ s. map narrow_statement s.narrow.items ++ map wide_statement s.wide.items };
+}
+
+// The mapping that is packed.
+fn unpack_narrow(packed: Narrow) -> Statement
+    ensures { result ≡ narrow_statement packed }
+{
+    let low = Addr {
+        version: Version::V4,
+        value: u128::from(packed.low),
+    };
+    let high = Addr {
+        version: Version::V4,
+        value: u128::from(packed.high),
+    };
+    Statement {
+        span: Span { low, high },
+        label: packed.label,
+    }
+}
+
+// The same of one of any version.
+fn unpack_wide(packed: Wide) -> Statement
+    ensures { result ≡ wide_statement packed }
+{
+    let low = Addr {
+        version: packed.version,
+        value: packed.low,
+    };
+    let high = Addr {
+        version: packed.version,
+        value: packed.high,
+    };
+    Statement {
+        span: Span { low, high },
+        label: packed.label,
+    }
+}
+
+// The mappings in order. Memory for all is asked for once.
+fn unpacked(alloc: Global, statements: &Statements) -> Result<Vec<Statement>, AllocError>
+    ensures { IfOk result (λ all. all.items ≡ statements.now) }
+{
+    let mut all = Vec::with_capacity(alloc, statements.len())?;
+    for place in 0..statements.len() {
+        let statement = statements.at(place);
+        all.push(statement)?;
+    }
+    Ok(all)
+}
+
+// An IPv4 mapping, packed.
+fn pack_narrow(statement: Statement) -> Narrow
+    requires { statement.span.low.version ≡ V4 }
+    ensures { narrow_statement result ≡ statement }
+{
+    Narrow {
+        low: statement.span.low.value as u32,
+        high: statement.span.high.value as u32,
+        label: statement.label,
+    }
+}
+
+// A mapping of any version, packed.
+fn pack_wide(statement: Statement) -> Wide
+    ensures { wide_statement result ≡ statement }
+{
+    Wide {
+        low: statement.span.low.value,
+        high: statement.span.high.value,
+        label: statement.label,
+        version: statement.span.low.version,
+    }
 }
 
 impl Statements {
@@ -25,7 +103,8 @@ impl Statements {
         ensures { result ≡ [] }
     {
         Statements {
-            items: Vec::new(alloc),
+            narrow: Vec::new(alloc),
+            wide: Vec::new(alloc),
         }
     }
 
@@ -33,21 +112,33 @@ impl Statements {
     pub fn len(&self) -> usize
         ensures { result ≡ length self.now }
     {
-        self.items.len()
+        self.narrow.len() + self.wide.len()
     }
 
     /// Whether there is no mapping.
     pub fn is_empty(&self) -> bool
         ensures { IsTrue result ↔ (self.now ≡ []) }
     {
-        self.items.is_empty()
+        self.len() == 0
     }
 
-    /// The mappings in order.
-    pub fn as_slice(&self) -> &[Statement]
-        ensures { result.now ≡ self.now }
+    /// The mapping at a place.
+    pub fn at(&self, place: usize) -> Statement
+        requires { place < length self.now }
+        ensures { slice_get self.now place ≡ Some result }
     {
-        self.items.as_slice()
+        if place < self.narrow.len() {
+            unpack_narrow(self.narrow[place])
+        } else {
+            unpack_wide(self.wide[place - self.narrow.len()])
+        }
+    }
+
+    /// The mappings in order, unpacked.
+    pub fn to_vec(&self, alloc: Global) -> Result<Vec<Statement>, AllocError>
+        ensures { IfOk result (λ all. all.items ≡ self.now) }
+    {
+        unpacked(alloc, self)
     }
 
     /// Adds a mapping at the end.
@@ -55,7 +146,11 @@ impl Statements {
         ensures ok { OnOk result (self.new ≡ self.old ++ statement ∷ []) }
         ensures err { OnErr result (self.new ≡ self.old) }
     {
-        self.items.push(statement)?;
+        if statement.span.low.version == Version::V4 && self.wide.is_empty() {
+            self.narrow.push(pack_narrow(statement))?;
+        } else {
+            self.wide.push(pack_wide(statement))?;
+        }
         Ok(())
     }
 }

@@ -8,7 +8,7 @@ ghost use Rattle.pmap_text.specs.Stretches.{HasSameStatements, StandsAt, text_wo
 use crate::label::LabelId;
 use crate::layers::Layers;
 use crate::map_text::MapText;
-use crate::statement::Statement;
+use crate::statements::Statements;
 use crate::sweep::{Sweep, last_address};
 use prefix_keys::Version;
 use std::alloc::{AllocError, Global};
@@ -49,7 +49,7 @@ impl<'a> Stretches<'a> {
         alloc: Global,
         version: Version,
         default: Option<LabelId>,
-        statements: &'a [Statement],
+        statements: &'a Statements,
     ) -> Result<Stretches<'a>, AllocError>
         requires version { All (λ s. s.span.low.version ≡ version) statements.now }
         requires few { length statements.now ≤ 1000000 }
@@ -78,8 +78,7 @@ impl<'a> Stretches<'a> {
         ensures labels { IfOk result (λ s. (a : ℕ) →
             text_won map.now.labels s.default s.statements a ≡ Some (map_label (map_of map.now) a)) }
     {
-        let statements = map.statements.as_slice();
-        Stretches::new(alloc, map.version, Some(map.default), statements)
+        Stretches::new(alloc, map.version, Some(map.default), &map.statements)
     }
 }
 

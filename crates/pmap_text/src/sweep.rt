@@ -9,7 +9,7 @@ ghost use Rattle.pmap_text.specs.Sweep.{AreBehind, AreStarts, Closes, IsEdge, Is
 use crate::label::LabelId;
 use crate::layers::Layers;
 use crate::start::Start;
-use crate::statement::Statement;
+use crate::statements::Statements;
 use prefix_keys::Version;
 use std::alloc::{AllocError, Global};
 use std::collections::BinaryHeap;
@@ -29,12 +29,13 @@ pub struct Sweep {
 }
 
 /// Where the statements begin, in rising order.
-pub fn starts_of(alloc: Global, statements: &[Statement]) -> Result<Vec<Start>, AllocError>
+pub fn starts_of(alloc: Global, statements: &Statements) -> Result<Vec<Start>, AllocError>
     requires { length statements.now ≤ 1000000 }
     ensures { IfOk result (λ starts. AreStarts statements.now starts.items) }
 {
     let mut starts = Vec::with_capacity(alloc, statements.len())?;
-    for (number, statement) in statements.iter().enumerate() {
+    for number in 0..statements.len() {
+        let statement = statements.at(number);
         starts.push(Start {
             low: statement.span.low.value,
             number: number as u32,
@@ -45,7 +46,7 @@ pub fn starts_of(alloc: Global, statements: &[Statement]) -> Result<Vec<Start>, 
 }
 
 // Opens the statements that begin at the address or before it.
-fn open_begun(sweep: &mut Sweep, statements: &[Statement], first: u128) -> Result<(), AllocError>
+fn open_begun(sweep: &mut Sweep, statements: &Statements, first: u128) -> Result<(), AllocError>
     requires starts { AreStarts statements.now sweep.old.starts.items }
     requires swept { IsSwept statements.now sweep.old.starts.items sweep.old.next (heap_items sweep.old.opened) first }
     ensures still { IsStill statements.now first sweep.old sweep.new }
@@ -63,7 +64,7 @@ fn open_begun(sweep: &mut Sweep, statements: &[Statement], first: u128) -> Resul
 }
 
 // Drops statements that end before the address, up to the last one that goes on to it.
-fn top_at(opened: &mut BinaryHeap<u32>, statements: &[Statement], first: u128) -> Option<u32>
+fn top_at(opened: &mut BinaryHeap<u32>, statements: &Statements, first: u128) -> Option<u32>
     requires ordered { IsHeap nat_cmp (heap_items opened.old) }
     requires known { All (λ j. j < length statements.now) (heap_items opened.old) }
     ensures closes { Closes statements.now first (heap_items opened.old) (heap_items opened.new) }
@@ -71,7 +72,7 @@ fn top_at(opened: &mut BinaryHeap<u32>, statements: &[Statement], first: u128) -
 {
     while let Some(top) = opened.peek() {
         let number = *top;
-        let statement = &statements[number as usize];
+        let statement = statements.at(number as usize);
         if first <= statement.span.high.value {
             return Some(number);
         }
@@ -177,7 +178,7 @@ impl Sweep {
         let coming = &self.starts[self.next..];
         match top {
             Some(number) => {
-                let statement = &layers.statements[number as usize];
+                let statement = layers.statements.at(number as usize);
                 let last = end_before(top, coming, first, statement.span.high.value);
                 (Some(statement.label), last)
             }

@@ -29,7 +29,7 @@ fn runs_of_list(alloc: Global, list: &PrefixList) -> Result<Vec<u8>, AllocError>
     // For its law, as above.
     labelling_has_one_runs_text();
     let statements = statements_of_list(alloc, list)?;
-    let mut stretches = Stretches::new(alloc, list.version, None, statements.as_slice())?;
+    let mut stretches = Stretches::new(alloc, list.version, None, &statements)?;
     print_runs(alloc, &mut stretches, &list.labels)
 }
 

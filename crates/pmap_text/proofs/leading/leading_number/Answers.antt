@@ -1,5 +1,4 @@
-use Rattle.std.proofs.Common.{ℕ, ◌≡◌, ◌-◌, Some, List, length, take, drop, refl, sym, subst, arith}
-use Rattle.std.proofs.lemmas.Grind.{common_steps}
+use Rattle.std.proofs.Common.{ℕ, ◌≡◌, Some, List, take, sym, subst, arith}
 use Rattle.std.proofs.lemmas.List.{take_rest, take-append-drop}
 use Rattle.prefix_keys.specs.Text.{short_number}
 use Rattle.pmap_text.specs.Leading.{BeginsWithNumber}

@@ -7,8 +7,8 @@ use Rattle.pmap_text.proofs.painting.shortest_first.Goals as goal
 
 pub loop-entry-preserved : goal.loop-entry-preserved
 loop-entry-preserved c =
-    rw c.in_ok-push.ensures.items
-    (zip_more HasStatement c.as_slice-entry-items.result.now c.loop-entry.statements.items c.loop-entry.entry-index c.entry-item.result _
+    rw c.in_ok-push.ensures.ok
+    (zip_more HasStatement c.as_slice-entry-items.result.now c.loop-entry.statements c.loop-entry.entry-index c.entry-item.result _
     c.loop-entry-test.true c.entry-item.is c.loop-entry.invariant
     (record { version = c.span.ensures.version; low = c.span.ensures.first; high = c.span.ensures.last; label = refl }))
 

@@ -7,20 +7,20 @@ returns-clause-order c = IfOk-weaker c.shortest_first.result _ _ (λ ss first. r
 
 pub returns-clause-version : goal.returns-clause-version
 returns-clause-version c =
-    IfOk-weaker c.shortest_first.result _ _ (λ ss first. (statements_of c.args.list.now ss.items (rw c.as_slice.ensures.value at first)).version)
+    IfOk-weaker c.shortest_first.result _ _ (λ ss first. (statements_of c.args.list.now ss (rw c.as_slice.ensures.value at first)).version)
     c.shortest_first.ensures
 
 pub returns-clause-known : goal.returns-clause-known
 returns-clause-known c =
-    IfOk-weaker c.shortest_first.result _ _ (λ ss first. (statements_of c.args.list.now ss.items (rw c.as_slice.ensures.value at first)).known)
+    IfOk-weaker c.shortest_first.result _ _ (λ ss first. (statements_of c.args.list.now ss (rw c.as_slice.ensures.value at first)).known)
     c.shortest_first.ensures
 
 pub returns-clause-count : goal.returns-clause-count
 returns-clause-count c =
-    IfOk-weaker c.shortest_first.result _ _ (λ ss first. (statements_of c.args.list.now ss.items (rw c.as_slice.ensures.value at first)).count)
+    IfOk-weaker c.shortest_first.result _ _ (λ ss first. (statements_of c.args.list.now ss (rw c.as_slice.ensures.value at first)).count)
     c.shortest_first.ensures
 
 pub returns-clause-labels : goal.returns-clause-labels
 returns-clause-labels c =
-    IfOk-weaker c.shortest_first.result _ _ (λ ss first. (statements_of c.args.list.now ss.items (rw c.as_slice.ensures.value at first)).labels)
+    IfOk-weaker c.shortest_first.result _ _ (λ ss first. (statements_of c.args.list.now ss (rw c.as_slice.ensures.value at first)).labels)
     c.shortest_first.ensures

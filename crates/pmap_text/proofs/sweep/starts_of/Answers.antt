@@ -1,4 +1,4 @@
-use Rattle.std.proofs.Common.{rules}
+use Rattle.std.proofs.Common.{arith, rules}
 use Rattle.std.proofs.lemmas.List.Sorted.{IsNonDecreasingBy-from_sort_by_key}
 use Rattle.pmap_text.proofs.Starts.{first_all, first_more}
 use Rattle.pmap_text.proofs.sweep.starts_of.Goals as goal
@@ -6,10 +6,10 @@ use Rattle.pmap_text.proofs.sweep.starts_of.Goals as goal
 pub loop-number-preserved : goal.loop-number-preserved
 loop-number-preserved c =
     rw c.in_ok-push.ensures.items
-    (first_more c.args.statements.now c.loop-number.number c.loop-number.starts.items c.index-statements-number.result c.loop-number.invariant c.loop-number-test.true c.index-statements-number.is)
+    (first_more c.args.statements.now c.loop-number.number c.loop-number.starts.items c.at-statement.result c.loop-number.invariant c.at-statement.ensures)
 
 pub returns : goal.returns
 returns c =
-    first_all c.args.statements.now c.loop-number.number c.loop-number.starts.items c.sort_unstable_by_key.new.self.items c.loop-number.invariant c.loop-number-test.false
+    first_all c.args.statements.now c.loop-number.number c.loop-number.starts.items c.sort_unstable_by_key.new.self.items c.loop-number.invariant (omega arith)
     c.sort_unstable_by_key.ensures.permutation
     (IsNonDecreasingBy-from_sort_by_key (λ start. start.low) _ c.sort_unstable_by_key.ensures.sorted (λ a r q k. search rules))

@@ -1,4 +1,4 @@
-use Rattle.std.proofs.Common.{◌≡◌, ◌∙◌, None, arith}
+use Rattle.std.proofs.Common.{◌≡◌, None, arith}
 use Rattle.std.proofs.lemmas.Option.{none-some}
 use Rattle.std.proofs.lemmas.Result.{IfOk-weaker}
 use Rattle.pmap_text.specs.ListModel.{list_label}
@@ -8,13 +8,13 @@ use Rattle.label_lookup.proofs.Labellings.{same_at_addresses}
 use Rattle.flowlabel.proofs.run.cat.runs_of_list.Goals as goal
 
 pub new-requires-clause-version : goal.new-requires-clause-version
-new-requires-clause-version c = rw c.as_slice.ensures.value c.in_ok-statements.ensures.version
+new-requires-clause-version c = c.in_ok-statements.ensures.version
 
 pub new-requires-clause-few : goal.new-requires-clause-few
-new-requires-clause-few c = rw c.as_slice.ensures.value (omega (arith, c.in_ok-statements.ensures.count, c.requires))
+new-requires-clause-few c = omega (arith, c.in_ok-statements.ensures.count, c.requires)
 
 pub print_runs-requires-clause-known : goal.print_runs-requires-clause-known
-print_runs-requires-clause-known c = rw (c.in_ok-stretches.ensures.statements, c.as_slice.ensures.value) c.in_ok-statements.ensures.known
+print_runs-requires-clause-known c = rw c.in_ok-stretches.ensures.statements c.in_ok-statements.ensures.known
 
 pub print_runs-requires-clause-default : goal.print_runs-requires-clause-default
 print_runs-requires-clause-default c = rw c.in_ok-stretches.ensures.default (λ id is. absurd (none-some id is))
@@ -23,10 +23,10 @@ pub returns : goal.returns
 returns c =
     let list = c.args.list.now in
     let s = c.in_ok-stretches.stretches in
-    let ss = c.in_ok-statements.statements.items in
+    let ss = c.in_ok-statements.statements in
     let version = c.in_ok-stretches.ensures.version in
     let default = c.in_ok-stretches.ensures.default in
-    let statements : s.statements ≡ ss = c.in_ok-stretches.ensures.statements ∙ c.as_slice.ensures.value in
+    let statements : s.statements ≡ ss = c.in_ok-stretches.ensures.statements in
     let alike = c.labelling_has_one_runs_text.ensures.alike in
     IfOk-weaker c.print_runs.result _ _
     (λ out is. alike list.version (list_label (list_of list)) _ out.items (same_at_addresses list.version (list_label (list_of list)))

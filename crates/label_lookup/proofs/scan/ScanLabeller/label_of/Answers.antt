@@ -1,6 +1,6 @@
-use Rattle.std.proofs.Common.{◌≡◌, ◌∙◌, ◌+◌, ◌-◌, ap, subst, arith, get_or, sym, List, Some, refl}
+use Rattle.std.proofs.Common.{◌≡◌, ◌∙◌, ◌+◌, ◌-◌, ap, subst, arith, get_or, sym, Some, refl}
+use Rattle.std.proofs.lemmas.Option.{get_or_from_slice_get}
 use Rattle.pmap_text.specs.MapModel.{MapModel, map_label}
-use Rattle.pmap_text.specs.declared.statement.Statement.{Statement}
 use Rattle.label_lookup.proofs.Scanned.{IsLeft, by_default, covering, found, passed_over}
 use Rattle.label_lookup.proofs.scan.ScanLabeller.label_of.Goals as goal
 
@@ -9,9 +9,9 @@ returns-then-covers c =
     let m = c.self.inside.map.now in
     let a = c.args.addr.value in
     let left = c.loop-left.left in
-    let s = c.index-statements-left.result in
+    let s = c.at-statement.result in
     let next : left - 1 + 1 ≡ left = omega (arith, c.loop-left-test.true) in
-    let is : s ≡ get_or m.statements (left - 1) s = c.index-statements-left.is ∙ ap (λ (l : List Statement). get_or l (left - 1) s) c.as_slice-statements.ensures in
+    let is : s ≡ get_or m.statements (left - 1) s = sym (get_or_from_slice_get m.statements (left - 1) s s c.at-statement.ensures) in
     let version = c.requires ∙ sym (ap (λ (t : MapModel). t.version) c.self.view_is) in
     let covers = covering m a (left - 1) left next c.loop-left.invariant s is c.args.addr refl version c.covers.result c.covers.ensures in
     c.text.ensures.value
@@ -23,9 +23,9 @@ loop-left-preserved c =
     let m = c.self.inside.map.now in
     let a = c.args.addr.value in
     let left = c.loop-left.left in
-    let s = c.index-statements-left.result in
+    let s = c.at-statement.result in
     let next : left - 1 + 1 ≡ left = omega (arith, c.loop-left-test.true) in
-    let is : s ≡ get_or m.statements (left - 1) s = c.index-statements-left.is ∙ ap (λ (l : List Statement). get_or l (left - 1) s) c.as_slice-statements.ensures in
+    let is : s ≡ get_or m.statements (left - 1) s = sym (get_or_from_slice_get m.statements (left - 1) s s c.at-statement.ensures) in
     let version = c.requires ∙ sym (ap (λ (t : MapModel). t.version) c.self.view_is) in
     let covers = covering m a (left - 1) left next c.loop-left.invariant s is c.args.addr refl version c.covers.result c.covers.ensures in
     passed_over m a (left - 1) left next c.loop-left.invariant s is (covers ∙ c.if-covers.false)

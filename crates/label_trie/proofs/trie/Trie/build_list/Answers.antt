@@ -10,25 +10,25 @@ use Rattle.label_trie.proofs.trie.Trie.build_list.Goals as goal
 
 pub new-requires-clause-version : goal.new-requires-clause-version
 new-requires-clause-version c =
-    let ready = list_ready c.args.list.now c.args.list.now.entries _ c.as_slice.result.now refl c.as_slice.ensures.value c.in_ok-statements.ensures.order in
+    let ready = list_ready c.args.list.now c.args.list.now.entries _ c.in_ok-statements.statements refl refl c.in_ok-statements.ensures.order in
     ready.layers.version
 
 pub new-requires-clause-few : goal.new-requires-clause-few
 new-requires-clause-few c =
-    let ready = list_ready c.args.list.now c.args.list.now.entries _ c.as_slice.result.now refl c.as_slice.ensures.value c.in_ok-statements.ensures.order in
+    let ready = list_ready c.args.list.now c.args.list.now.entries _ c.in_ok-statements.statements refl refl c.in_ok-statements.ensures.order in
     omega (arith, ready.layers.count, c.requires)
 
 pub grow-requires-clause-few : goal.grow-requires-clause-few
 grow-requires-clause-few c =
-    let ready = list_ready c.args.list.now c.args.list.now.entries _ c.as_slice.result.now refl c.as_slice.ensures.value c.in_ok-statements.ensures.order in
+    let ready = list_ready c.args.list.now c.args.list.now.entries _ c.in_ok-statements.statements refl refl c.in_ok-statements.ensures.order in
     let statements = c.in_ok-stretches.ensures.statements in
     rw statements (omega (arith, ready.layers.count, c.requires))
 
 pub invariant_of-result : goal.invariant_of-result
 invariant_of-result c =
     let list = c.args.list.now in
-    let ss = c.as_slice.result.now in
-    let ready = list_ready list list.entries _ ss refl c.as_slice.ensures.value c.in_ok-statements.ensures.order in
+    let ss = c.in_ok-statements.statements in
+    let ready = list_ready list list.entries _ ss refl refl c.in_ok-statements.ensures.order in
     let few : length ss ≤ 1000000 = omega (arith, ready.layers.count, c.requires) in
     let m = painting list.version list.labels (map (prefix_of list.labels) ready.sorted) [] in
     let walk = c.in_ok-stretches.ensures in
@@ -42,9 +42,9 @@ invariant_of-result c =
 pub returns : goal.returns
 returns c =
     let list = c.args.list.now in
-    let ss = c.as_slice.result.now in
+    let ss = c.in_ok-statements.statements in
     let nodes = c.in_ok-grow.field-0.items in
-    let ready = list_ready list list.entries _ ss refl c.as_slice.ensures.value c.in_ok-statements.ensures.order in
+    let ready = list_ready list list.entries _ ss refl refl c.in_ok-statements.ensures.order in
     let few : length ss ≤ 1000000 = omega (arith, ready.layers.count, c.requires) in
     let m = painting list.version list.labels (map (prefix_of list.labels) ready.sorted) [] in
     let walk = c.in_ok-stretches.ensures in

@@ -1,6 +1,4 @@
-use Rattle.std.proofs.Common.{◌≡◌, ℕ, ◌+◌, ◌<◌, ◌≤◌, ◌^◌, ap, arith}
-use Rattle.prefix_keys.specs.Version.{width_of}
-use Rattle.prefix_keys.specs.declared.version.Version.{Version}
+use Rattle.std.proofs.Common.{◌≡◌, ap, arith}
 use Rattle.pmap_text.specs.Stretches.{StretchesModel}
 use Rattle.pmap_text.proofs.Stretched.{edge_behind, walk_moved}
 use Rattle.pmap_text.proofs.Swept.{swept_later}

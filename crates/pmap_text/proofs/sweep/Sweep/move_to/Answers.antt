@@ -1,4 +1,4 @@
-use Rattle.std.proofs.Common.{◌+◌, arith}
+use Rattle.std.proofs.Common.{arith}
 use Rattle.pmap_text.proofs.Swept.{swept_closed, swept_later}
 use Rattle.pmap_text.proofs.sweep.Sweep.move_to.Goals as goal
 

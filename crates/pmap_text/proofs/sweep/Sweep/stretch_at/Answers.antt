@@ -1,8 +1,7 @@
-use Rattle.std.proofs.Common.{◌≡◌, Some, length, refl, slice_get}
+use Rattle.std.proofs.Common.{◌≡◌, Some, slice_get}
 use Rattle.std.specs.BinaryHeap.{heap_items}
 use Rattle.std.proofs.lemmas.List.{take_rest}
 use Rattle.std.proofs.lemmas.List.Elements.{All-contains}
-use Rattle.std.proofs.lemmas.Option.{slice_get_read, slice_get_within}
 use Rattle.prefix_keys.specs.Version.{width_of}
 use Rattle.pmap_text.specs.declared.statement.Statement.{Statement}
 use Rattle.pmap_text.proofs.Stretched.{fits_in, listed_in, stretch_some, stretch_none}
@@ -16,14 +15,12 @@ returns-in-Some c =
     let number = c.in-Some.number in
     let is = c.in-Some.is in
     let top = rw is at c.requires.top in
-    let s = c.index-layers-number.result in
-    let within = slice_get_within ss number (top.2).0 (top.2).1 in
-    let listed : slice_get ss number ≡ Some s = slice_get_read ss (length ss) number s refl within c.index-layers-number.is in
+    let s = c.at-statement.result in
+    let listed : slice_get ss number ≡ Some s = c.at-statement.ensures in
     let version = All-contains (λ (r : Statement). r.span.low.version ≡ layers.version) ss s c.requires.version (listed_in ss number s listed) in
-    let free = rw (c.deref.ensures.value, take_rest sweep.starts.items sweep.next, ← c.index-layers-number.is) at c.end_before-last.ensures in
-    rw (← c.index-layers-number.is)
-    (stretch_some (width_of layers.version) ss sweep.starts.items sweep.next (heap_items sweep.opened) layers.default c.args.first c.end_before-last.result number s
-    c.requires.starts c.requires.swept listed top.0 top.1 free (fits_in layers.version s version) c.requires.edge)
+    let free = rw (c.deref.ensures.value, take_rest sweep.starts.items sweep.next) at c.end_before-last.ensures in
+    stretch_some (width_of layers.version) ss sweep.starts.items sweep.next (heap_items sweep.opened) layers.default c.args.first c.end_before-last.result number s
+    c.requires.starts c.requires.swept listed top.0 top.1 free (fits_in layers.version s version) c.requires.edge
 
 pub returns-in-None : goal.returns-in-None
 returns-in-None c =

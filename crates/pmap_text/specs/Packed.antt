@@ -1,0 +1,30 @@
+use Rattle.prefix_keys.specs.declared.version.Version.TheVariants.{V4}
+use Rattle.pmap_text.specs.declared.packed.Narrow.{Narrow}
+use Rattle.pmap_text.specs.declared.packed.Wide.{Wide}
+use Rattle.pmap_text.specs.declared.statement.Statement.{Statement}
+use Rattle.std.proofs.Common.{refl}
+
+-- How the code keeps mappings: no user need read it.
+
+-- the mapping that is packed
+abbrev pub narrow_statement : Narrow → Statement
+narrow_statement n = record {
+  span = record {
+    low = record { version = V4; value = n.low; in_range = n.low_fits };
+    high = record { version = V4; value = n.high; in_range = n.high_fits };
+    one_version = refl;
+    ordered = n.ordered;
+  };
+  label = n.label;
+}
+
+abbrev pub wide_statement : Wide → Statement
+wide_statement w = record {
+  span = record {
+    low = record { version = w.version; value = w.low; in_range = w.low_fits };
+    high = record { version = w.version; value = w.high; in_range = w.high_fits };
+    one_version = refl;
+    ordered = w.ordered;
+  };
+  label = w.label;
+}
