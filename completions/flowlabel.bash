@@ -9,8 +9,9 @@ _flowlabel_options() {
     info) echo --help ;;
     rows) echo --pmap --list "$filters" --columns --help ;;
     uniq) echo --fields --pmap --list "$filters" --sort-output --columns --help ;;
-    shrink) echo --pmap --certificate --help ;;
+    shrink) echo --pmap --certificate --compact --help ;;
     check) echo --pmap --list --cert --help ;;
+    recert) echo --cert --help ;;
     esac
 }
 
@@ -27,7 +28,7 @@ _flowlabel() {
     local word=${COMP_WORDS[COMP_CWORD]} before=${COMP_WORDS[COMP_CWORD - 1]} command=${COMP_WORDS[1]}
     COMPREPLY=()
     if ((COMP_CWORD == 1)); then
-        mapfile -t COMPREPLY < <(compgen -W 'label info rows uniq cat shrink check --help' -- "$word")
+        mapfile -t COMPREPLY < <(compgen -W 'label info rows uniq cat shrink check recert --help' -- "$word")
         return
     fi
     case $before in

@@ -1,6 +1,6 @@
 # Completion of flowlabel for fish. `make install` puts it where fish finds it.
 
-set -l commands label info rows uniq cat shrink check
+set -l commands label info rows uniq cat shrink check recert
 set -l of __fish_seen_subcommand_from
 
 complete -c flowlabel -n "not $of $commands" -f
@@ -12,11 +12,13 @@ complete -c flowlabel -n "not $of $commands" -a uniq -d 'Print the sums of the f
 complete -c flowlabel -n "not $of $commands" -a cat -d 'Print the ranges of a map or a list'
 complete -c flowlabel -n "not $of $commands" -a shrink -d 'Print the shortest list of a map'
 complete -c flowlabel -n "not $of $commands" -a check -d 'Check that a list is a shortest one for a map'
+complete -c flowlabel -n "not $of $commands" -a recert -d 'Print a certificate compacted'
 
 complete -c flowlabel -n "$of label rows uniq cat shrink check" -l pmap -r -F -d 'The prefix map'
 complete -c flowlabel -n "$of label rows uniq cat check" -l list -r -F -d 'The prefix list'
-complete -c flowlabel -n "$of check" -l cert -r -F -d 'The certificate'
+complete -c flowlabel -n "$of check recert" -l cert -r -F -d 'The certificate'
 complete -c flowlabel -n "$of shrink" -l certificate -d 'Print the certificate'
+complete -c flowlabel -n "$of shrink" -l compact -d 'Print the certificate compacted'
 
 complete -c flowlabel -n "$of rows uniq" -l protocol -x -d 'Flows of these protocols, as 6,17 or 1-16'
 complete -c flowlabel -n "$of rows uniq" -l sport -x -d 'Flows from these ports'

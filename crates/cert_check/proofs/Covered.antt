@@ -64,11 +64,11 @@ module _ (l : PrefixList) (b : Block) (version : b.version ≡ l.version) (comin
       (are.listed next (subst (λ (es : List Entry). Contains es next) (sym is) (Contains-first next (drop 1 coming)))) value len
 
 -- the entries that come behind a block
-block-last : (b : Block) → b.value ≤ last_in b
+pub block-last : (b : Block) → b.value ≤ last_in b
 block-last b = subst (λ k. k ≤ last_in b) (block-first b) (first-last (width_of b.version) b.len (number_of b))
 
 module _ (l : PrefixList) (b : Block) (coming : List Entry) (are : AreComing l.entries (place_at b.value b.len + 1) coming) where
-  before-end : place_at b.value b.len + 1 ≤ place_at (last_in b + 1) 0
+  pub before-end : place_at b.value b.len + 1 ≤ place_at (last_in b + 1) 0
   before-end = let from = block-last b in let few = short b.version b.len b.len_in_range in omega (arith, from, few)
 
   pub none-behind : coming ≡ [] → AreComing l.entries (place_at (last_in b + 1) 0) coming

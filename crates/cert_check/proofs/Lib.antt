@@ -11,3 +11,5 @@ pub mod Covered
 pub mod HalfBlocks
 pub mod Walked
 pub mod Nodes
+pub mod Ways
+pub mod Passing

@@ -9,7 +9,7 @@ use Rattle.pmap_cert.specs.CertificateForm.{IsRising}
 use Rattle.pmap_cert.specs.CertificateModel.{claim_of}
 use Rattle.pmap_cert.specs.ExactPair.{exact_pair}
 use Rattle.pmap_text.specs.ListModel.{Prefix}
-use Rattle.pmap_cert.specs.Node.{HasNumberForm, Inner, Leaf, Node, behind, first_node, from_next_line, label_of, set_of, tree_of}
+use Rattle.pmap_cert.specs.Node.{Chain, HasChainForm, Inner, Leaf, Node, behind, first_node, from_next_line, label_of, set_of, side_of, tree_of}
 use Rattle.std.proofs.lemmas.Option.{none-some}
 use Rattle.std.specs.Option.{unwrap_or}
 use Rattle.cert_check.specs.Carrying.{number_of}
@@ -33,15 +33,17 @@ pub or-neither : {X : Type 0} (a b : Option X) → a ≡ None → b ≡ None →
 or-neither a b e f = ap (λ o. option_or o b) e ∙ f
 
 -- the set of a node rises
-pub rising-of : (node : Node) (count room : ℕ) → HasNumberForm count node room → IsRising count 0 (set_of node)
+pub rising-of : (node : Node) (count room : ℕ) → HasChainForm count node room → IsRising count 0 (set_of node)
 rising-of (Leaf id) count room h = (omega arith, h, tt)
 rising-of (Inner cost set left right) count zero h = absurd h
 rising-of (Inner cost set left right) count (suc room) h = h.1
+rising-of (Chain cost set bits side end) count room h = h.1
 
 -- an inner node with the nodes of its halves
 abbrev pub IsInner : Node → Node → Node → Type 0
 IsInner (Leaf id) left right = ⊥
 IsInner (Inner cost set l r) left right = (l ≡ left) × (r ≡ right)
+IsInner (Chain cost set bits side end) left right = ⊥
 
 -- its fault by those of its nodes and its own
 pub inner-fault : (labels : List Label) (m : MapModel) (ps : List Prefix) (node left right : Node) → IsInner node left right → (k n q : ℕ)
@@ -50,6 +52,7 @@ pub inner-fault : (labels : List Label) (m : MapModel) (ps : List Prefix) (node 
     (option_or (node_fault m ps (tree_of labels right) (k + 1 + node_count (tree_of labels left)) (suc n) (2 * q + 1))
     (option_map (fault_at k) (claim_fault (claim_of (tree_of labels node)) (exact_pair (claim_of (tree_of labels left)) (claim_of (tree_of labels right))))))
 inner-fault labels m ps (Leaf id) left right h k n q = absurd h
+inner-fault labels m ps (Chain cost set bits side end) left right h k n q = absurd h
 inner-fault labels m ps (Inner cost set l r) left right h k n q =
     λ i. option_or (node_fault m ps (tree_of labels (h.0 i)) (k + 1) (suc n) (2 * q))
     (option_or (node_fault m ps (tree_of labels (h.1 i)) (k + 1 + node_count (tree_of labels (h.0 i))) (suc n) (2 * q + 1))
@@ -58,14 +61,16 @@ inner-fault labels m ps (Inner cost set l r) left right h k n q =
 pub inner-count : (labels : List Label) (node left right : Node) → IsInner node left right
     → node_count (tree_of labels node) ≡ 1 + node_count (tree_of labels left) + node_count (tree_of labels right)
 inner-count labels (Leaf id) left right h = absurd h
+inner-count labels (Chain cost set bits side end) left right h = absurd h
 inner-count labels (Inner cost set l r) left right h = λ i. 1 + node_count (tree_of labels (h.0 i)) + node_count (tree_of labels (h.1 i))
 
-pub inner-form : (count room : ℕ) (node left right : Node) → IsInner node left right → HasNumberForm count node room
-    → (less : ℕ) × (room ≡ suc less) × HasNumberForm count left less × HasNumberForm count right less
+pub inner-form : (count room : ℕ) (node left right : Node) → IsInner node left right → HasChainForm count node room
+    → (less : ℕ) × (room ≡ suc less) × HasChainForm count left less × HasChainForm count right less
 inner-form count room (Leaf id) left right h form = absurd h
+inner-form count room (Chain cost set bits side end) left right h form = absurd h
 inner-form count zero (Inner cost set l r) left right h form = absurd form
 inner-form count (suc room) (Inner cost set l r) left right h form =
-    (room, refl, subst (λ (x : Node). HasNumberForm count x room) h.0 form.2, subst (λ (x : Node). HasNumberForm count x room) h.1 form.3)
+    (room, refl, subst (λ (x : Node). HasChainForm count x room) h.0 form.2, subst (λ (x : Node). HasChainForm count x room) h.1 form.3)
 
 -- a fault of the lower node, of the upper, of its own, and none
 pub inner-low : (labels : List Label) (m : MapModel) (ps : List Prefix) (node left right : Node) → IsInner node left right → (k n q : ℕ) (f : CheckFault)
@@ -105,20 +110,23 @@ pub record HasHalves (nodes : List Node) : Type 0 where
   pub inner : IsInner (first_node nodes) left right
   pub below : from_next_line nodes ≡ left ∷ right ∷ behind nodes
 
-pub half-nodes : (nodes : List Node) → 0 < length nodes → label_of (first_node nodes) ≡ None → HasHalves nodes
-half-nodes [] some none = absurd (omega arith)
-half-nodes (Leaf number ∷ nodes) some none = absurd (none-some number (sym none))
-half-nodes (Inner cost set left right ∷ nodes) some none = record { left = left; right = right; inner = (refl, refl); below = refl }
+pub half-nodes : (nodes : List Node) → 0 < length nodes → label_of (first_node nodes) ≡ None → side_of (first_node nodes) ≡ None → HasHalves nodes
+half-nodes [] some none plain = absurd (omega arith)
+half-nodes (Leaf number ∷ nodes) some none plain = absurd (none-some number (sym none))
+half-nodes (Chain cost set bits side end ∷ nodes) some none plain = absurd (none-some side (sym plain))
+half-nodes (Inner cost set left right ∷ nodes) some none plain = record { left = left; right = right; inner = (refl, refl); below = refl }
 
 -- a place of a leaf
 pub leaf-node : (node : Node) (n : ℕ) → label_of node ≡ Some n → node ≡ Leaf n
 leaf-node (Leaf number) n is = ap Leaf (ap (λ (o : Option ℕ). unwrap_or o 0) is)
 leaf-node (Inner cost set left right) n is = absurd (none-some n is)
+leaf-node (Chain cost set bits side end) n is = absurd (none-some n is)
 
 pub leaf-next : (nodes : List Node) (n : ℕ) → label_of (first_node nodes) ≡ Some n → from_next_line nodes ≡ behind nodes
 leaf-next [] n is = refl
 leaf-next (Leaf number ∷ nodes) n is = refl
 leaf-next (Inner cost set left right ∷ nodes) n is = absurd (none-some n is)
+leaf-next (Chain cost set bits side end ∷ nodes) n is = absurd (none-some n is)
 
 -- What is known at the place of an inner node, whose block has these halves: `next` is the place of its next line.
 pub record IsSplit (count : ℕ) (nodes next : List Node) (b low high : Block) : Type 0 where
@@ -128,14 +136,14 @@ pub record IsSplit (count : ℕ) (nodes next : List Node) (b low high : Block) :
   pub below : next ≡ left ∷ right ∷ behind nodes
   pub less : ℕ
   pub room : width_of b.version - b.len ≡ suc less
-  pub low_form : HasNumberForm count left less
-  pub high_form : HasNumberForm count right less
+  pub low_form : HasChainForm count left less
+  pub high_form : HasChainForm count right less
   pub halves : AreHalves b low high
 
-pub split : (count : ℕ) (nodes next : List Node) (b low high : Block) → 0 < length nodes → label_of (first_node nodes) ≡ None → next ≡ from_next_line nodes
-    → HasNumberForm count (first_node nodes) (width_of b.version - b.len) → AreHalves b low high → IsSplit count nodes next b low high
-split count nodes next b low high some none is form halves =
-    let has = half-nodes nodes some none in
+pub split : (count : ℕ) (nodes next : List Node) (b low high : Block) → 0 < length nodes → label_of (first_node nodes) ≡ None → side_of (first_node nodes) ≡ None → next ≡ from_next_line nodes
+    → HasChainForm count (first_node nodes) (width_of b.version - b.len) → AreHalves b low high → IsSplit count nodes next b low high
+split count nodes next b low high some none plain is form halves =
+    let has = half-nodes nodes some none plain in
     let parts = inner-form count (width_of b.version - b.len) (first_node nodes) has.left has.right has.inner form in
     record {
       left = has.left;
@@ -151,11 +159,11 @@ split count nodes next b low high some none is form halves =
 
 -- the form of a node of a half
 half-form : (count less : ℕ) (b half : Block) (q : ℕ) (node' node : Node) → IsHalf b half q → node' ≡ node → width_of b.version - b.len ≡ suc less
-    → HasNumberForm count node less → HasNumberForm count node' (width_of half.version - half.len)
+    → HasChainForm count node less → HasChainForm count node' (width_of half.version - half.len)
 half-form count less b half q node' node h same room form =
     let width : width_of half.version ≡ width_of b.version = ap width_of h.version in
     let e : less ≡ width_of half.version - half.len = omega (arith, width, h.len, room) in
-    subst (HasNumberForm count node') e (subst (λ (x : Node). HasNumberForm count x less) (sym same) form)
+    subst (HasChainForm count node') e (subst (λ (x : Node). HasChainForm count x less) (sym same) form)
 
 -- its fault
 half-fault : (labels : List Label) (m : MapModel) (ps : List Prefix) (b half : Block) (q k : ℕ) (node' node : Node) (f : Option CheckFault) → IsHalf b half q
@@ -184,10 +192,10 @@ module _ (labels : List Label) (m : MapModel) (ps : List Prefix) (nodes next aft
   pub all-behind : behind after ≡ behind nodes
   all-behind = ap behind after-is
 
-  pub low-form : HasNumberForm (length labels) (first_node next) (width_of low.version - low.len)
+  pub low-form : HasChainForm (length labels) (first_node next) (width_of low.version - low.len)
   low-form = half-form (length labels) is.less b low (2 * number_of b) (first_node next) is.left is.halves.lower low-node is.room is.low_form
 
-  pub high-form : HasNumberForm (length labels) (first_node after) (width_of high.version - high.len)
+  pub high-form : HasChainForm (length labels) (first_node after) (width_of high.version - high.len)
   high-form = half-form (length labels) is.less b high (2 * number_of b + 1) (first_node after) is.right is.halves.upper high-node is.room is.high_form
 
   -- a fault of the lower node, of the upper, and of the node itself

@@ -14,8 +14,9 @@ use Rattle.pmap_text.specs.MapText.{text_at}
 use Rattle.pmap_text.specs.declared.label.LabelId.{LabelId}
 use Rattle.pmap_cert.specs.CertificateForm.{IsRising}
 use Rattle.pmap_cert.specs.CertificateModel.{Pair, claim_of, has}
-use Rattle.pmap_cert.specs.Node.{Inner, Leaf, Node, cost_of, set_of, tree_of}
+use Rattle.pmap_cert.specs.Node.{Chain, Inner, Leaf, Node, cost_of, set_of, tree_of}
 use Rattle.pmap_cert.specs.CertificateText.{place_of}
+use Rattle.pmap_cert.specs.Chain.{chain_labels, chain_pair}
 use Rattle.pmap_cert.specs.ExactPair.{exact_pair, exact_pair_by}
 use Rattle.pmap_cert.proofs.Tables.{place_of-text_at}
 use Rattle.cert_check.specs.Checking.{claim_fault}
@@ -250,9 +251,10 @@ both-rising lower upper both e h =
 pub claim-numbers : (table : List Label) (node : Node) → claim_of (tree_of table node) ≡ pair_of table (cost_of node) (set_of node)
 claim-numbers table (Leaf id) = refl
 claim-numbers table (Inner cost set left right) = refl
+claim-numbers table (Chain cost set bits side end) = refl
 
 -- a test of all labels of a set by their numbers
-all-numbers : (set ids : List LabelId) (ns ms : List ℕ) → numbers set ≡ ns → numbers ids ≡ ms → list_all (λ i. has_number (numbers set) i.0) ids ≡ list_all (has_number ns) ms
+pub all-numbers : (set ids : List LabelId) (ns ms : List ℕ) → numbers set ≡ ns → numbers ids ≡ ms → list_all (λ i. has_number (numbers set) i.0) ids ≡ list_all (has_number ns) ms
 all-numbers set ids ns ms e e' =
     sym (list_all-map (has_number (numbers set)) (λ (j : LabelId). j.0) ids) ∙ (λ i. list_all (has_number (e i)) (e' i))
 
@@ -332,3 +334,83 @@ all-common p t (x ∷ ids) = by (p x) (all-common p t ids)
         → ((not b || t x) && list_all (λ (i : LabelId). not (p i) || t i) ids) ≡ list_all t (cond b (x ∷ filter p ids) (filter p ids))
     by true rest = ap (λ a. t x && a) rest
     by false rest = rest
+
+-- what is wrong with a chain's claim, by the numbers of its set, its side label and its end's set
+module _ (table : List Label) (ok : IsLabelTable table) (n cost below side : ℕ) (set ends : List ℕ)
+    (h : IsRising (length table) 0 set) (h' : IsRising (length table) 0 ends) (known : side < length table) where
+  chain-by : (b : Bool) → has_number ends side ≡ b
+      → claim_fault (pair_of table cost set) (chain_pair n (text_at table side) (pair_of table below ends))
+      ≡ claim_fault (pair_of table cost set)
+      (cond b (record { cost = below; labels = text_at table side ∷ [] })
+      (record { cost = below + 1; labels = chain_labels n (text_at table side) (map (text_at table) ends) }))
+  chain-by b e =
+      ap (λ (t : Bool). claim_fault (pair_of table cost set)
+      (cond t (record { cost = below; labels = text_at table side ∷ [] })
+      (record { cost = below + 1; labels = chain_labels n (text_at table side) (map (text_at table) ends) })))
+      (has-texts table ok 0 ends side h' known ∙ e)
+
+  side-alone : (exact : ℕ) → claim_fault (pair_of table cost set) (record { cost = exact; labels = text_at table side ∷ [] })
+      ≡ fault_by cost exact (has_number set side)
+  side-alone exact =
+      ap (fault_by cost exact) (and-true (has (map (text_at table) set) (text_at table side)) ∙ has-texts table ok 0 set side h known)
+    where
+      and-true : (b : Bool) → (b && true) ≡ b
+      and-true true = refl
+      and-true false = refl
+
+  pub chain-in : has_number ends side ≡ true
+      → claim_fault (pair_of table cost set) (chain_pair n (text_at table side) (pair_of table below ends)) ≡ fault_by cost below (has_number set side)
+  chain-in e = chain-by true e ∙ side-alone below
+
+  pub chain-more : has_number ends side ≡ false → (n ≡ 1 → ⊥)
+      → claim_fault (pair_of table cost set) (chain_pair n (text_at table side) (pair_of table below ends)) ≡ fault_by cost (below + 1) (has_number set side)
+  chain-more e ne =
+      chain-by false e
+      ∙ ap (λ (xs : List Label). claim_fault (pair_of table cost set) (record { cost = below + 1; labels = xs })) (alone n ne)
+      ∙ side-alone (below + 1)
+    where
+      alone : (i : ℕ) → (i ≡ 1 → ⊥) → chain_labels i (text_at table side) (map (text_at table) ends) ≡ text_at table side ∷ []
+      alone zero ne = refl
+      alone (suc zero) ne = absurd (ne refl)
+      alone (suc (suc i)) ne = refl
+
+  pub chain-one : has_number ends side ≡ false → n ≡ 1
+      → claim_fault (pair_of table cost set) (chain_pair n (text_at table side) (pair_of table below ends))
+      ≡ fault_by cost (below + 1) (has_number set side && list_all (has_number set) ends)
+  chain-one e one =
+      chain-by false e
+      ∙ ap (λ (i : ℕ). claim_fault (pair_of table cost set) (record { cost = below + 1; labels = chain_labels i (text_at table side) (map (text_at table) ends) })) one
+      ∙ ap (fault_by cost (below + 1)) (ap₂ ◌&&◌ (has-texts table ok 0 set side h known) (all-texts table ok 0 0 ends set h' h))
+
+-- what is wrong with a chain's claim, by the sets of its place and of its end's
+module _ (table : List Label) (ok : IsLabelTable table) (n side : ℕ) (chain end : Node) (set beneath : List LabelId) (cost below : ℕ) (full : Bool)
+    (h : IsRising (length table) 0 (set_of chain)) (h' : IsRising (length table) 0 (set_of end)) (known : side < length table)
+    (e : numbers set ≡ set_of chain) (e' : numbers beneath ≡ set_of end) (costs : cost ≡ cost_of chain) (belows : below ≡ cost_of end) where
+  chain-exact : claim_fault (pair_of table (cost_of chain) (set_of chain)) (chain_pair n (text_at table side) (pair_of table (cost_of end) (set_of end)))
+      ≡ claim_fault (claim_of (tree_of table chain)) (chain_pair n (text_at table side) (claim_of (tree_of table end)))
+  chain-exact = λ i. claim_fault (sym (claim-numbers table chain) i) (chain_pair n (text_at table side) (sym (claim-numbers table end) i))
+
+  side-of-set : has_number (numbers set) side ≡ has_number (set_of chain) side
+  side-of-set = ap (λ (ns : List ℕ). has_number ns side) e
+
+  side-of-end : (b : Bool) → has_number (numbers beneath) side ≡ b → has_number (set_of end) side ≡ b
+  side-of-end b is = ap (λ (ns : List ℕ). has_number ns side) (sym e') ∙ is
+
+  pub node-in : has_number (numbers beneath) side ≡ true → full ≡ has_number (numbers set) side
+      → fault_by cost below full ≡ claim_fault (claim_of (tree_of table chain)) (chain_pair n (text_at table side) (claim_of (tree_of table end)))
+  node-in has fulls =
+      (λ i. fault_by (costs i) (belows i) ((fulls ∙ side-of-set) i))
+      ∙ sym (chain-in table ok n (cost_of chain) (cost_of end) side (set_of chain) (set_of end) h h' known (side-of-end true has)) ∙ chain-exact
+
+  pub node-more : has_number (numbers beneath) side ≡ false → (n ≡ 1 → ⊥) → full ≡ has_number (numbers set) side
+      → fault_by cost (below + 1) full ≡ claim_fault (claim_of (tree_of table chain)) (chain_pair n (text_at table side) (claim_of (tree_of table end)))
+  node-more lacks ne fulls =
+      (λ i. fault_by (costs i) (belows i + 1) ((fulls ∙ side-of-set) i))
+      ∙ sym (chain-more table ok n (cost_of chain) (cost_of end) side (set_of chain) (set_of end) h h' known (side-of-end false lacks) ne) ∙ chain-exact
+
+  pub node-one : has_number (numbers beneath) side ≡ false → n ≡ 1
+      → full ≡ (has_number (numbers set) side && list_all (λ i. has_number (numbers set) i.0) beneath)
+      → fault_by cost (below + 1) full ≡ claim_fault (claim_of (tree_of table chain)) (chain_pair n (text_at table side) (claim_of (tree_of table end)))
+  node-one lacks one fulls =
+      (λ i. fault_by (costs i) (belows i + 1) ((fulls ∙ ap₂ ◌&&◌ side-of-set (all-numbers set beneath (set_of chain) (set_of end) e e')) i))
+      ∙ sym (chain-one table ok n (cost_of chain) (cost_of end) side (set_of chain) (set_of end) h h' known (side-of-end false lacks) one) ∙ chain-exact

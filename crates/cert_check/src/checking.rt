@@ -2,18 +2,19 @@
 ghost use Rattle.std.specs.Prelude.{◌≡◌, ◌≢◌, ℕ, ◌+◌, ◌-◌, ◌<◌, Some, None, length, IfErr, IfOk, OnOk};
 ghost use Rattle.prefix_keys.specs.Version.{width_of};
 ghost use Rattle.pmap_text.specs.ListModel.{IsEquivalent};
-ghost use Rattle.pmap_text.specs.MapText.{map_of};
+ghost use Rattle.pmap_text.specs.MapText.{map_of, text_at};
 ghost use Rattle.pmap_text.specs.PrefixList.{list_of};
 ghost use Rattle.pmap_cert.specs.Acceptance.{IsAccepted, IsLeast};
 ghost use Rattle.pmap_cert.specs.Certificate.{certificate_of};
-ghost use Rattle.pmap_cert.specs.Node.{HasNumberForm, behind, first_node, tree_of};
+ghost use Rattle.pmap_cert.specs.CertificateForm.{HasRoomBelow};
+ghost use Rattle.pmap_cert.specs.Node.{HasChainForm, behind, first_node, from_next_line, side_of, tree_of};
 ghost use Rattle.cert_check.specs.Carrying.{number_of};
-ghost use Rattle.cert_check.specs.Checking.{first_fault, node_count, node_fault, told};
+ghost use Rattle.cert_check.specs.Checking.{bits_fault, first_fault, node_count, node_fault, told};
 ghost use Rattle.cert_check.specs.Kept.{AreSources};
 ghost use Rattle.cert_check.specs.Walking.{AreComing, HasComeTo, HasPassed, IsHandedDown};
 ghost use Rattle.cert_check.specs.declared.fault.CheckFaultKind.TheVariants.{NoMemory};
 
-use crate::claims::claim_fault;
+use crate::claims::{chain_fault, claim_fault};
 use crate::entry_order::{are_in_order, in_order};
 use crate::fault::{CheckFault, CheckFaultKind};
 use crate::labels::numbers_in;
@@ -33,8 +34,24 @@ struct Place<'a> {
     number: u64,
 }
 
+// The node that comes next and its number, where nothing is wrong with the node with this number.
+fn unless_fault<'a>(
+    fault: Option<CheckFaultKind>,
+    number: u64,
+    next: (Cursor<'a>, u64),
+) -> Result<(Cursor<'a>, u64), CheckFault>
+    ensures ok { IfOk result (λ found. (fault ≡ None) × (found ≡ next.entry)) }
+    ensures err { IfErr result (λ found. (fault ≡ Some found.kind) × (found.node ≡ number)) }
+{
+    match fault {
+        Some(kind) => Err(CheckFault { kind, node: number }),
+        None => Ok(next),
+    }
+}
+
 // Checks the node and those below it, where the walk has come to its block and `above` is the label of the longest entry
 // over a longer block. The answer is the node that comes next, and its number.
+#[cycle(nodes)]
 fn check_node<'a>(
     sources: &Sources,
     walk: &mut Walk,
@@ -44,10 +61,45 @@ fn check_node<'a>(
     requires sources { AreSources sources.now }
     requires version { place.now.block.version ≡ sources.now.map.now.version }
     requires here { 0 < length place.now.node }
-    requires form { HasNumberForm (length sources.now.certificate.now.labels) (first_node place.now.node)
+    requires form { HasChainForm (length sources.now.certificate.now.labels) (first_node place.now.node)
         (width_of place.now.block.version - place.now.block.len) }
     requires come { HasComeTo sources.now.map.now sources.now.list.now place.now.block walk.old }
     requires above { IsHandedDown sources.now.list.now place.now.block.len place.now.block.value above }
+    ensures passed { OnOk result (HasPassed sources.now.map.now sources.now.list.now place.now.block walk.new) }
+    ensures behind { IfOk result (λ next. next.0 ≡ behind place.now.node) }
+    ensures ok { IfOk result (λ next. (k : ℕ) → told k ≡ place.now.number →
+        (next.1 ≡ told (k + node_count (tree_of sources.now.certificate.now.labels (first_node place.now.node))))
+        × (node_fault (map_of sources.now.map.now) (list_of sources.now.list.now).prefixes
+        (tree_of sources.now.certificate.now.labels (first_node place.now.node)) k place.now.block.len
+        (number_of place.now.block) ≡ None)) }
+    ensures err { IfErr result (λ fault. fault.kind ≢ NoMemory → (k : ℕ) → told k ≡ place.now.number →
+        node_fault (map_of sources.now.map.now) (list_of sources.now.list.now).prefixes
+        (tree_of sources.now.certificate.now.labels (first_node place.now.node)) k place.now.block.len
+        (number_of place.now.block) ≡ Some fault) }
+    ensures memory { IfErr result (λ fault. fault.kind ≡ NoMemory → fault.node ≡ 0) }
+{
+    match place.node.side() {
+        Some(side) => check_chain(sources, walk, place, above, side),
+        None => check_plain(sources, walk, place, above),
+    }
+}
+
+// The same of a leaf or an inner node.
+#[cycle(nodes)]
+fn check_plain<'a>(
+    sources: &Sources,
+    walk: &mut Walk,
+    place: &Place<'a>,
+    above: Option<LabelId>,
+) -> Result<(Cursor<'a>, u64), CheckFault>
+    requires sources { AreSources sources.now }
+    requires version { place.now.block.version ≡ sources.now.map.now.version }
+    requires here { 0 < length place.now.node }
+    requires form { HasChainForm (length sources.now.certificate.now.labels) (first_node place.now.node)
+        (width_of place.now.block.version - place.now.block.len) }
+    requires come { HasComeTo sources.now.map.now sources.now.list.now place.now.block walk.old }
+    requires above { IsHandedDown sources.now.list.now place.now.block.len place.now.block.value above }
+    requires plain { side_of (first_node place.now.node) ≡ None }
     ensures passed { OnOk result (HasPassed sources.now.map.now sources.now.list.now place.now.block walk.new) }
     ensures behind { IfOk result (λ next. next.0 ≡ behind place.now.node) }
     ensures ok { IfOk result (λ next. (k : ℕ) → told k ≡ place.now.number →
@@ -97,6 +149,107 @@ fn check_node<'a>(
                 None => Ok((next, number)),
             }
         }
+    }
+}
+
+// The same of a chain with this side label: what is below it, and then what it claims.
+#[cycle(nodes)]
+fn check_chain<'a>(
+    sources: &Sources,
+    walk: &mut Walk,
+    place: &Place<'a>,
+    above: Option<LabelId>,
+    side: LabelId,
+) -> Result<(Cursor<'a>, u64), CheckFault>
+    requires sources { AreSources sources.now }
+    requires version { place.now.block.version ≡ sources.now.map.now.version }
+    requires here { 0 < length place.now.node }
+    requires form { HasChainForm (length sources.now.certificate.now.labels) (first_node place.now.node)
+        (width_of place.now.block.version - place.now.block.len) }
+    requires come { HasComeTo sources.now.map.now sources.now.list.now place.now.block walk.old }
+    requires above { IsHandedDown sources.now.list.now place.now.block.len place.now.block.value above }
+    requires chain { side_of (first_node place.now.node) ≡ Some side.0 }
+    ensures passed { OnOk result (HasPassed sources.now.map.now sources.now.list.now place.now.block walk.new) }
+    ensures behind { IfOk result (λ next. next.0 ≡ behind place.now.node) }
+    ensures ok { IfOk result (λ next. (k : ℕ) → told k ≡ place.now.number →
+        (next.1 ≡ told (k + node_count (tree_of sources.now.certificate.now.labels (first_node place.now.node))))
+        × (node_fault (map_of sources.now.map.now) (list_of sources.now.list.now).prefixes
+        (tree_of sources.now.certificate.now.labels (first_node place.now.node)) k place.now.block.len
+        (number_of place.now.block) ≡ None)) }
+    ensures err { IfErr result (λ fault. fault.kind ≢ NoMemory → (k : ℕ) → told k ≡ place.now.number →
+        node_fault (map_of sources.now.map.now) (list_of sources.now.list.now).prefixes
+        (tree_of sources.now.certificate.now.labels (first_node place.now.node)) k place.now.block.len
+        (number_of place.now.block) ≡ Some fault) }
+    ensures memory { IfErr result (λ fault. fault.kind ≡ NoMemory → fault.node ≡ 0) }
+{
+    let bits = place.node.bits();
+    let next = check_way(sources, walk, place, side, bits, &place.block, above)?;
+    let end = place.node.next();
+    let fault = chain_fault(&sources.certificate.labels, &place.node, &end, side);
+    unless_fault(fault, place.number, next)
+}
+
+// Checks what is below a chain, from a block of its way on with the bits that are left: the end with all below it, and then
+// the blocks beside the way from the deepest up. The walk goes from address to address and comes to a block in a lower half
+// before the way goes on, so what is wrong with that is told behind the rest.
+#[cycle(nodes)]
+fn check_way<'a>(
+    sources: &Sources,
+    walk: &mut Walk,
+    chain: &Place<'a>,
+    side: LabelId,
+    bits: &[bool],
+    block: &Block,
+    above: Option<LabelId>,
+) -> Result<(Cursor<'a>, u64), CheckFault>
+    requires sources { AreSources sources.now }
+    requires version { block.now.version ≡ sources.now.map.now.version }
+    requires here { 0 < length chain.now.node }
+    requires end { 0 < length (from_next_line chain.now.node) }
+    requires form { HasRoomBelow (HasChainForm (length sources.now.certificate.now.labels)
+        (first_node (from_next_line chain.now.node))) bits.now (width_of block.now.version - block.now.len) }
+    requires known { side.0 < length sources.now.certificate.now.labels }
+    requires come { HasComeTo sources.now.map.now sources.now.list.now block.now walk.old }
+    requires above { IsHandedDown sources.now.list.now block.now.len block.now.value above }
+    ensures passed { OnOk result (HasPassed sources.now.map.now sources.now.list.now block.now walk.new) }
+    ensures behind { IfOk result (λ next. next.0 ≡ behind (from_next_line chain.now.node)) }
+    ensures ok { IfOk result (λ next. (k : ℕ) → told k ≡ chain.now.number →
+        (next.1 ≡ told (k + 1 + node_count (tree_of sources.now.certificate.now.labels
+        (first_node (from_next_line chain.now.node)))))
+        × (bits_fault (map_of sources.now.map.now) (list_of sources.now.list.now).prefixes
+        (text_at sources.now.certificate.now.labels side.0) k
+        (node_fault (map_of sources.now.map.now) (list_of sources.now.list.now).prefixes
+        (tree_of sources.now.certificate.now.labels (first_node (from_next_line chain.now.node))) (k + 1))
+        bits.now block.now.len (number_of block.now) ≡ None)) }
+    ensures err { IfErr result (λ fault. fault.kind ≢ NoMemory → (k : ℕ) → told k ≡ chain.now.number →
+        bits_fault (map_of sources.now.map.now) (list_of sources.now.list.now).prefixes
+        (text_at sources.now.certificate.now.labels side.0) k
+        (node_fault (map_of sources.now.map.now) (list_of sources.now.list.now).prefixes
+        (tree_of sources.now.certificate.now.labels (first_node (from_next_line chain.now.node))) (k + 1))
+        bits.now block.now.len (number_of block.now) ≡ Some fault) }
+    ensures memory { IfErr result (λ fault. fault.kind ≡ NoMemory → fault.node ≡ 0) }
+{
+    let Some(bit) = bits.first() else {
+        let place = Place {
+            node: chain.node.next(),
+            block: *block,
+            number: chain.number.saturating_add(1),
+        };
+        return check_node(sources, walk, &place, above);
+    };
+    let rest = &bits[1..];
+    let covering = walk.covering(sources.list, block, above);
+    let Some((low, high)) = block.halves() else {
+        unreachable!()
+    };
+    if *bit {
+        let fault = walk.side_fault(sources, &low, covering, side)?;
+        let next = check_way(sources, walk, chain, side, rest, &high, covering)?;
+        unless_fault(fault, chain.number, next)
+    } else {
+        let next = check_way(sources, walk, chain, side, rest, &low, covering)?;
+        let fault = walk.side_fault(sources, &high, covering, side)?;
+        unless_fault(fault, chain.number, next)
     }
 }
 
@@ -201,7 +354,9 @@ fn count_entries(
 /// - Then the nodes, those of a lower half before those of the upper half and both before their node. `LeafNotUniform`:
 ///   the map doesn't settle the leaf's block with its label. `ListDiffers`: an entry lies strictly inside the leaf's
 ///   block, or the longest that covers it is absent or has another label. `CostTooHigh`: a cost above that of the exact
-///   pair of the claims of its halves. `SetTooSmall`: the same cost, and a set that lacks a label of that pair.
+///   pair of the claims of its halves. `SetTooSmall`: the same cost, and a set that lacks a label of that pair. A chain has
+///   one number: its end comes first, then the blocks beside its way from the deepest up, each as a leaf with the side
+///   label, then the claim against the chain's own pair.
 /// - `BoundNotMet`: the list has more entries than the root's cost and one.
 /// - `NoMemory`: memory ran out.
 ///

@@ -1,4 +1,4 @@
-//! The check of what an inner node claims. Sets are listed by rising numbers, so that two are compared in one walk over
+//! The check of what an inner node or a chain claims. Sets are listed by rising numbers, so that two are compared in one walk over
 //! both.
 ghost use Rattle.std.specs.Prelude.{◌≡◌, ℕ, ◌+◌, ◌^◌, ◌<◌, ◌≤◌, ◌&&◌, ◌||◌, ◌==◌, Some, None, length, map, nat_lt, not, if◌then◌else◌};
 ghost use Rattle.std.specs.List.{list_all};
@@ -6,8 +6,9 @@ ghost use Rattle.pmap_text.specs.Label.{IsLabelTable};
 ghost use Rattle.pmap_text.specs.MapText.{text_at};
 ghost use Rattle.pmap_cert.specs.CertificateForm.{IsRising};
 ghost use Rattle.pmap_cert.specs.CertificateModel.{claim_of};
+ghost use Rattle.pmap_cert.specs.Chain.{chain_pair};
 ghost use Rattle.pmap_cert.specs.ExactPair.{exact_pair};
-ghost use Rattle.pmap_cert.specs.Node.{HasNumberForm, cost_of, first_node, set_of, tree_of};
+ghost use Rattle.pmap_cert.specs.Node.{bits_of, cost_of, first_node, set_of, tree_of};
 ghost use Rattle.cert_check.specs.Checking.{claim_fault as claim_fault_of};
 ghost use Rattle.cert_check.specs.declared.fault.CheckFaultKind.TheVariants.{CostTooHigh, SetTooSmall};
 ghost use Rattle.cert_check.specs.Sources.{has_number};
@@ -42,6 +43,14 @@ fn begins_with(rest: &[LabelId], id: LabelId) -> bool
         Some(first) => first.0 == id.0,
         None => false,
     }
+}
+
+// Whether the set has the label.
+fn has_one(set: &[LabelId], id: LabelId) -> bool
+    requires { IsRising (2 ^ 32) 0 (map (λ i. i.0) set.now) }
+    ensures { result ≡ has_number (map (λ i. i.0) set.now) id.0 }
+{
+    begins_with(rest_from(set, id), id)
 }
 
 // Whether the sets have no label in common.
@@ -158,5 +167,38 @@ pub fn claim_fault(
         fault_by(cost, below + 1, has_both(set, lower, upper))
     } else {
         fault_by(cost, below, has_common(set, lower, upper))
+    }
+}
+
+/// What is wrong with the claim of a chain with this side label, by the claim of the node at its end.
+pub fn chain_fault(
+    labels: &Labels,
+    chain: &Cursor,
+    end: &Cursor,
+    side: LabelId,
+) -> Option<CheckFaultKind>
+    requires here { 0 < length chain.now }
+    requires below { 0 < length end.now }
+    requires chain { IsRising (length labels.now) 0 (set_of (first_node chain.now)) }
+    requires end { IsRising (length labels.now) 0 (set_of (first_node end.now)) }
+    requires side { side.0 < length labels.now }
+    ensures { result ≡ claim_fault_of (claim_of (tree_of labels.now (first_node chain.now)))
+        (chain_pair (length (bits_of (first_node chain.now))) (text_at labels.now side.0)
+        (claim_of (tree_of labels.now (first_node end.now)))) }
+{
+    // For its law: a table has at most 65536 labels.
+    let _count = labels.len();
+    let cost = u64::from(chain.cost());
+    let below = u64::from(end.cost());
+    let set = chain.set();
+    let beneath = end.set();
+    let has_side = has_one(set, side);
+    if has_one(beneath, side) {
+        return fault_by(cost, below, has_side);
+    }
+    if chain.bits().len() == 1 {
+        fault_by(cost, below + 1, has_side && has_all(set, beneath))
+    } else {
+        fault_by(cost, below + 1, has_side)
     }
 }

@@ -1,4 +1,4 @@
-ghost use Rattle.std.specs.Prelude.{◌≡◌, suc, ◌+◌, ◌<◌, ◌≤◌, None, IfOk, IfSome, IsTrue, OnOk, length};
+ghost use Rattle.std.specs.Prelude.{◌≡◌, ℕ, suc, ◌+◌, ◌^◌, ◌<◌, ◌≤◌, List, None, IfOk, IfSome, IsTrue, OnOk, length};
 ghost use Rattle.prefix_keys.specs.Version.{width_of};
 ghost use Rattle.pmap_text.specs.MapModel.{settled_label};
 ghost use Rattle.pmap_text.specs.MapText.{map_of, text_at};
@@ -6,6 +6,8 @@ ghost use Rattle.pmap_text.specs.PrefixList.{list_of};
 ghost use Rattle.cert_check.specs.Carrying.{number_of};
 ghost use Rattle.cert_check.specs.Checking.{is_decided as is_decided_of, is_label_of, leaf_fault as leaf_fault_of};
 ghost use Rattle.cert_check.specs.Kept.{AreSources};
+ghost use Rattle.pmap_text.specs.Stretches.{HasSameStatements};
+ghost use Rattle.pmap_text.specs.declared.entry.Entry.{Entry};
 ghost use Rattle.cert_check.specs.Walking.{AreComing, HasComeTo, HasPassed, IsHandedDown, IsOverMap, last_in, place_at};
 
 use crate::fault::CheckFaultKind;
@@ -75,6 +77,36 @@ fn is_decided(
     }
 }
 
+// Goes on to the stretch that has the address, over those before it.
+fn reach_last(stretches: &mut Stretches, last: u128) -> Result<(), AllocError>
+    requires within { last < 2 ^ width_of stretches.old.version }
+    requires begun { stretches.old.first ≤ last }
+    ensures same { OnOk result (HasSameStatements stretches.old stretches.new) }
+    ensures begun { OnOk result (stretches.new.first ≤ last) }
+    ensures here { OnOk result (last ≤ stretches.new.last) }
+{
+    while stretches.last() < last {
+        let next = stretches.last() + 1;
+        stretches.reach(next)?;
+    }
+    Ok(())
+}
+
+// What is left of the entries behind the address.
+fn entries_behind(coming: &[Entry], last: u128) -> &[Entry]
+    ensures { (es : List Entry) (place : ℕ) → AreComing es place coming.now → place ≤ place_at (last + 1) 0 →
+        AreComing es (place_at (last + 1) 0) result.now }
+{
+    let mut rest = coming;
+    while let Some(first) = rest.first() {
+        if last < first.block.value {
+            return rest;
+        }
+        rest = &rest[1..];
+    }
+    rest
+}
+
 impl Walk<'_> {
     /// The label of the longest entry of the list that covers the block, where `above` is that of the longest over a
     /// longer one. An entry of this very block is the next one, and is passed.
@@ -126,6 +158,9 @@ impl Walk<'_> {
             (text_at sources.now.certificate.now.labels id.0)) }
         ensures passed { IfOk result (λ fault. fault ≡ None →
             HasPassed sources.now.map.now sources.now.list.now block.now self.new) }
+        ensures map { OnOk result (IsOverMap sources.now.map.now self.new.stretches) }
+        ensures begun { OnOk result (self.new.stretches.first ≤ block.now.value) }
+        ensures coming { OnOk result (self.new.coming ≡ self.old.coming) }
     {
         self.stretches.reach(block.value)?;
         if !is_settled(sources, &self.stretches, block, id) {
@@ -135,5 +170,48 @@ impl Walk<'_> {
             return Ok(Some(CheckFaultKind::ListDiffers));
         }
         Ok(None)
+    }
+    // Passes the block, whatever there is in it.
+    fn pass(&mut self, block: &Block) -> Result<(), AllocError>
+        requires version { block.now.version ≡ self.old.stretches.version }
+        requires begun { self.old.stretches.first ≤ last_in block.now }
+        ensures same { OnOk result (HasSameStatements self.old.stretches self.new.stretches) }
+        ensures begun { OnOk result (self.new.stretches.first ≤ last_in block.now) }
+        ensures here { OnOk result (last_in block.now ≤ self.new.stretches.last) }
+        ensures coming { OnOk result ((es : List Entry) (place : ℕ) → AreComing es place self.old.coming.now →
+            place ≤ place_at (last_in block.now + 1) 0 →
+            AreComing es (place_at (last_in block.now + 1) 0) self.new.coming.now) }
+    {
+        let last = block.high().value;
+        reach_last(&mut self.stretches, last)?;
+        self.coming = entries_behind(self.coming, last);
+        Ok(())
+    }
+
+    /// What is wrong with a block beside a chain that has the certificate's label `side`, as with a leaf, where `above` is
+    /// the label of the longest entry of the list over a longer block. The walk has passed the block then in any case.
+    pub fn side_fault(
+        &mut self,
+        sources: &Sources,
+        block: &Block,
+        above: Option<LabelId>,
+        side: LabelId,
+    ) -> Result<Option<CheckFaultKind>, AllocError>
+        requires sources { AreSources sources.now }
+        requires version { block.now.version ≡ sources.now.map.now.version }
+        requires come { HasComeTo sources.now.map.now sources.now.list.now block.now self.old }
+        requires above { IsHandedDown sources.now.list.now block.now.len block.now.value above }
+        requires known { side.0 < length sources.now.certificate.now.labels }
+        ensures fault { IfOk result (λ fault. fault ≡ leaf_fault_of (map_of sources.now.map.now)
+            (list_of sources.now.list.now).prefixes block.now.len (number_of block.now)
+            (text_at sources.now.certificate.now.labels side.0)) }
+        ensures passed { OnOk result (HasPassed sources.now.map.now sources.now.list.now block.now self.new) }
+    {
+        let covering = self.covering(sources.list, block, above);
+        let fault = self.leaf_fault(sources, block, covering, side)?;
+        if fault.is_some() {
+            self.pass(block)?;
+        }
+        Ok(fault)
     }
 }

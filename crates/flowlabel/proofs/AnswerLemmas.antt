@@ -18,10 +18,10 @@ use Rattle.flow_uniq.specs.declared.fault.KeyFault.{KeyFault}
 use Rattle.flow_uniq.specs.declared.field.KeyField.{KeyField}
 use Rattle.flowlabel.specs.Request.{LabelSource, Request, Text, request_of}
 use Rattle.flowlabel.specs.Definition.{flowlabel_app}
-use Rattle.flowlabel.specs.Answer.{Answer, Answers, IsAnswer, IsFaultAt, IsFaultOfKind, IsOwnAnswer, IsOwnFault, SaysOnly, address_answer, address_in_rows, answer_of, answer_of_cat, answer_of_info, answer_of_label, answer_of_rows, answer_of_shrink, is_help, is_mistake, needed_source, source_answer, sources_in_rows, answer_of_check, IsUnlessMemory, condition_answer, condition_in_rows, with_labels, words_in_rows, answer_of_uniq, field_names_in_rows, fields_answer, fields_in_rows}
+use Rattle.flowlabel.specs.Answer.{Answer, Answers, IsAnswer, IsFaultAt, IsFaultOfKind, IsOwnAnswer, IsOwnFault, SaysOnly, address_answer, address_in_rows, answer_of, answer_of_cat, answer_of_info, answer_of_label, answer_of_recert, answer_of_rows, answer_of_shrink, is_help, is_mistake, needed_source, shrunk_asked, shrunk_in_rows, source_answer, sources_in_rows, answer_of_check, IsUnlessMemory, condition_answer, condition_in_rows, with_labels, words_in_rows, answer_of_uniq, field_names_in_rows, fields_answer, fields_in_rows}
 use Rattle.flowlabel.specs.declared.command.Command.{Command}
 use Rattle.flowlabel.specs.declared.usage.UsageFault.{UsageFault}
-use Rattle.flowlabel.specs.declared.usage.UsageFault.TheVariants.{Refused, NotUtf8, Help, MapTwice, MapMissing, BadAddress, Filter, Key, LabelNeedsMap, NoMemory}
+use Rattle.flowlabel.specs.declared.usage.UsageFault.TheVariants.{Refused, NotUtf8, Help, MapTwice, MapMissing, BadAddress, Filter, Key, LabelNeedsMap, CompactAlone, NoMemory}
 
 -- the definition is one of those that clap's theorems are about
 pub flowlabel_is_simple : is_simple flowlabel_app ≡ true
@@ -60,6 +60,7 @@ fault_at words k BadAddress from h = absurd h
 fault_at words k (Filter fault) from h = absurd h
 fault_at words k (Key fault) from h = absurd h
 fault_at words k LabelNeedsMap from h = absurd h
+fault_at words k CompactAlone from h = absurd h
 fault_at words k NoMemory from h = tt
 
 -- a fault of the program's own that is the answer to the words comes of them
@@ -73,6 +74,7 @@ fault_of_answer words BadAddress own is = is
 fault_of_answer words (Filter fault) own is = is
 fault_of_answer words (Key fault) own is = is
 fault_of_answer words LabelNeedsMap own is = is
+fault_of_answer words CompactAlone own is = is
 fault_of_answer words NoMemory own is = tt
 
 -- steps that answer by no refusal of clap's and no help do so one after the other
@@ -133,6 +135,15 @@ cat_own rows =
     then_own (sources_in_rows rows) _ (source_own _ _)
     (λ found. then_own (needed_source found) _ (needed_own found) (λ labels. tt))
 
+shrunk_own : (certificate compact : Bool) → IsOwnAnswer (shrunk_asked certificate compact)
+shrunk_own false false = tt
+shrunk_own true false = tt
+shrunk_own true true = tt
+shrunk_own false true = tt
+
+shrink_own : (rows : List Row) → IsOwnAnswer (answer_of_shrink rows)
+shrink_own rows = then_own (shrunk_in_rows rows) _ (shrunk_own _ _) (λ printed. tt)
+
 either_own : (b : Bool) (answer other : Answer) → IsOwnAnswer answer → IsOwnAnswer other → IsOwnAnswer (if b then answer else other)
 either_own true answer other p q = p
 either_own false answer other p q = q
@@ -144,8 +155,9 @@ answer_own p =
     (either_own (bytes_eq p.0 (codes "rows")) (answer_of_rows p.1) _ (rows_own p.1)
     (either_own (bytes_eq p.0 (codes "uniq")) (answer_of_uniq p.1) _ (uniq_own p.1)
     (either_own (bytes_eq p.0 (codes "cat")) (answer_of_cat p.1) _ (cat_own p.1)
-    (either_own (bytes_eq p.0 (codes "shrink")) (answer_of_shrink p.1) _ tt
-    (either_own (bytes_eq p.0 (codes "check")) (answer_of_check p.1) _ tt (label_own p.1))))))
+    (either_own (bytes_eq p.0 (codes "shrink")) (answer_of_shrink p.1) _ (shrink_own p.1)
+    (either_own (bytes_eq p.0 (codes "check")) (answer_of_check p.1) _ tt
+    (either_own (bytes_eq p.0 (codes "recert")) (answer_of_recert p.1) _ tt (label_own p.1)))))))
 
 -- memory aside, the result is that of the answer
 fault_unless_memory : (answer : Answer) (fault : UsageFault) → (fault ≢ NoMemory → answer ≡ Err fault) → IsUnlessMemory answer (Err fault)
@@ -159,6 +171,7 @@ fault_unless_memory answer BadAddress says = says (λ e. cc)
 fault_unless_memory answer (Filter fault) says = says (λ e. cc)
 fault_unless_memory answer (Key fault) says = says (λ e. cc)
 fault_unless_memory answer LabelNeedsMap says = says (λ e. cc)
+fault_unless_memory answer CompactAlone says = says (λ e. cc)
 
 pub unless_memory : (answer : Answer) (r : Result Command UsageFault) → IfOk r (λ command. answer ≡ Ok (request_of command))
     → IfErr r (λ fault. fault ≢ NoMemory → answer ≡ Err fault) → IsUnlessMemory answer r
@@ -177,6 +190,7 @@ said_or_memory answer BadAddress says = inr says
 said_or_memory answer (Filter fault) says = inr says
 said_or_memory answer (Key fault) says = inr says
 said_or_memory answer LabelNeedsMap says = inr says
+said_or_memory answer CompactAlone says = inr says
 
 own_or_memory : (answer : Answer) (fault : UsageFault) → IsOwnAnswer answer → (fault ≡ NoMemory) ⊎ (answer ≡ Err fault) → IsOwnFault fault
 own_or_memory answer fault is (inl none) = rw none tt
@@ -227,4 +241,5 @@ own_of_memory k BadAddress e h = tt
 own_of_memory k (Filter fault) e h = tt
 own_of_memory k (Key fault) e h = tt
 own_of_memory k LabelNeedsMap e h = tt
+own_of_memory k CompactAlone e h = tt
 own_of_memory k NoMemory e h = tt

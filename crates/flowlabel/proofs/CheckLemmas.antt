@@ -14,18 +14,18 @@ pub printed_of_map : (rest : MapModel → Outcome → Type 0) (text out : List �
 printed_of_map rest text out (inl (fault, fails, is)) = cc
 printed_of_map rest text out (inr found) = found
 
-printed_of_list : (rest : ListModel → Outcome → Type 0) (text out : List ℕ) → ListThen rest text (Ok out)
+pub printed_of_list : (rest : ListModel → Outcome → Type 0) (text out : List ℕ) → ListThen rest text (Ok out)
     → (l : ListModel) × ReadsList text l × rest l (Ok out)
 printed_of_list rest text out (inl (fault, fails, is)) = cc
 printed_of_list rest text out (inr found) = found
 
-printed_of_certificate : (rest : CertificateModel → Outcome → Type 0) (text out : List ℕ) → CertificateThen rest text (Ok out)
+pub printed_of_certificate : (rest : CertificateModel → Outcome → Type 0) (text out : List ℕ) → CertificateThen rest text (Ok out)
     → (c : CertificateModel) × ReadsCertificate text c × rest c (Ok out)
 printed_of_certificate rest text out (inl (fault, fails, is)) = cc
 printed_of_certificate rest text out (inr found) = found
 
 -- a text comes of an accepted certificate
-accepted_of : (m : MapModel) (l : ListModel) (c : CertificateModel) (out : List ℕ) → Checks m l c (Ok out)
+pub accepted_of : (m : MapModel) (l : ListModel) (c : CertificateModel) (out : List ℕ) → Checks m l c (Ok out)
     → IsAccepted m l c × (out ≡ minimal_text (length l.prefixes))
 accepted_of m l c out (inl (accepted, prints)) = (accepted, cc)
 accepted_of m l c out (inr (fault, first, is)) = cc

@@ -1,5 +1,5 @@
 -- A request has an output over any texts: each text is read or has a first fault, and what is read has what is printed of it.
-use Rattle.std.proofs.Common.{◌≡◌, ◌⊎◌, ℕ, Bool, true, false, List, [], Option, Some, None, Result, Ok, Err, inl, inr, refl}
+use Rattle.std.proofs.Common.{◌≡◌, ◌⊎◌, ℕ, List, [], Option, Some, None, Result, Ok, Err, inl, inr, refl}
 use Rattle.std.specs.Prelude.{length}
 use Rattle.prefix_keys.specs.declared.version.Version.{Version}
 use Rattle.pmap_text.specs.ListModel.{ListModel}
@@ -9,10 +9,11 @@ use Rattle.pmap_text.specs.declared.fault.MapFault.{MapFault}
 use Rattle.label_trie.specs.Runs.{AreRunsOf, Run}
 use Rattle.label_lookup.specs.Labelling.{Labelling, labelling_of_list, labelling_of_map}
 use Rattle.pmap_cert.specs.Acceptance.{IsAccepted}
-use Rattle.pmap_cert.specs.CertificateForm.{HasTextForm}
+use Rattle.pmap_cert.specs.CertificateForm.{HasFormatText, HasTextForm}
 use Rattle.pmap_cert.specs.CertificateModel.{CertificateModel}
-use Rattle.pmap_cert.specs.CertificateReading.{certificate_reading}
 use Rattle.pmap_cert.specs.CertificateText.{certificate_text}
+use Rattle.pmap_cert.specs.Compacting.{compact}
+use Rattle.pmap_cert.specs.FormatReading.{format_reading}
 use Rattle.pmap_cert.specs.MinimalPair.{IsMinimalPair}
 use Rattle.pmap_cert.specs.declared.fault.CertFault.{CertFault}
 use Rattle.cert_check.specs.Checking.{first_fault}
@@ -25,9 +26,10 @@ use Rattle.flow_rows.specs.Counts.{counts_of}
 use Rattle.pmap_print.specs.Info.{info_text}
 use Rattle.pmap_print.specs.List.{list_text}
 use Rattle.pmap_print.specs.Runs.{runs_text}
-use Rattle.flowlabel.specs.Output.{CertificateThen, Checks, FileTexts, FlowsThen, HasOutput, IsOutput, LabelsThen, ListThen, MapThen, Outcome, PrintsMinimal, PrintsRuns, Prints, ReadsCertificate, ReportsOf, ReportsThen, label_text, minimal_text, report_of_groups, report_of_rows, shrunk_text}
+use Rattle.flowlabel.specs.Output.{CertificateThen, Checks, FileTexts, FlowsThen, HasOutput, IsOutput, LabelsThen, ListThen, MapThen, Outcome, PrintsCompact, PrintsMinimal, PrintsRuns, Prints, ReadsCertificate, ReportsOf, ReportsThen, label_text, minimal_text, report_of_groups, report_of_rows, shrunk_text}
 use Rattle.flowlabel.specs.declared.bytes_fault.BytesFault.TheVariants.{Map as InMap, List as InList, Flows as InFlows, Certificate as InCertificate, Check as InCheck}
-use Rattle.flowlabel.specs.Request.{FromList, FromMap, LabelSource, Request, label, info, rows, cat, shrink, check, uniq}
+use Rattle.flowlabel.specs.declared.command.Shrunk.{Shrunk}
+use Rattle.flowlabel.specs.Request.{FromList, FromMap, LabelSource, Request, label, info, rows, cat, shrink, check, uniq, recert}
 
 -- there is an outcome of this kind
 abbrev Has : (Outcome → Type 0) → Type 0
@@ -51,17 +53,17 @@ labels_have (FromList file) rest texts has =
 
 -- a certificate's text is read or has a fault
 abbrev EitherCertificate : Type 0
-EitherCertificate = (text : List ℕ) → ((fault : CertFault) × (certificate_reading text ≡ Err fault))
-    ⊎ ((c : CertificateModel) × HasTextForm c × (text ≡ certificate_text c))
+EitherCertificate = (text : List ℕ) → ((fault : CertFault) × (format_reading text ≡ Err fault))
+    ⊎ ((c : CertificateModel) × HasFormatText c × (text ≡ certificate_text c))
 
-certificate_has_so : (rest : CertificateModel → Outcome → Type 0) (text : List ℕ) → ((c : CertificateModel) → HasTextForm c → Has (rest c))
-    → ((fault : CertFault) × (certificate_reading text ≡ Err fault)) ⊎ ((c : CertificateModel) × HasTextForm c × (text ≡ certificate_text c))
+certificate_has_so : (rest : CertificateModel → Outcome → Type 0) (text : List ℕ) → ((c : CertificateModel) → HasFormatText c → Has (rest c))
+    → ((fault : CertFault) × (format_reading text ≡ Err fault)) ⊎ ((c : CertificateModel) × HasFormatText c × (text ≡ certificate_text c))
     → Has (CertificateThen rest text)
 certificate_has_so rest text has (inl (fault, fails)) = (Err (InCertificate fault), inl (fault, fails, refl))
 certificate_has_so rest text has (inr (c, form, is)) = let (outcome, comes) = has c form in (outcome, inr (c, (form, is), comes))
 
 certificate_has : EitherCertificate → (rest : CertificateModel → Outcome → Type 0) (text : List ℕ)
-    → ((c : CertificateModel) → HasTextForm c → Has (rest c)) → Has (CertificateThen rest text)
+    → ((c : CertificateModel) → HasFormatText c → Has (rest c)) → Has (CertificateThen rest text)
 certificate_has law rest text has = certificate_has_so rest text has (law text)
 
 -- a File's bytes are messages or have a fault
@@ -95,15 +97,15 @@ runs_have law labels =
 abbrev HasMinimalPair : Type 0
 HasMinimalPair = (text : List ℕ) (m : MapModel) → ReadsMap text m → (l : ListModel) × (c : CertificateModel) × IsMinimalPair m l c × HasTextForm c
 
-minimal_has : HasMinimalPair → (certificate : Bool) (text : List ℕ) (m : MapModel) → ReadsMap text m → Has (PrintsMinimal certificate m)
-minimal_has law certificate text m reads =
-    let (l, c, pair, form) = law text m reads in (Ok (shrunk_text certificate l c), (l, c, pair, form, refl))
+minimal_has : HasMinimalPair → (printed : Shrunk) (text : List ℕ) (m : MapModel) → ReadsMap text m → Has (PrintsMinimal printed m)
+minimal_has law printed text m reads =
+    let (l, c, pair, form) = law text m reads in (Ok (shrunk_text printed l c), (l, c, pair, form, refl))
 
 -- a certificate with a text is accepted or has a fault
 abbrev FaultlessIsAccepted : Type 0
-FaultlessIsAccepted = (m : MapModel) (l : ListModel) (c : CertificateModel) → HasTextForm c → first_fault m l c ≡ None → IsAccepted m l c
+FaultlessIsAccepted = (m : MapModel) (l : ListModel) (c : CertificateModel) → HasFormatText c → first_fault m l c ≡ None → IsAccepted m l c
 
-checks_have : FaultlessIsAccepted → (m : MapModel) (l : ListModel) (c : CertificateModel) → HasTextForm c → (found : Option CheckFault)
+checks_have : FaultlessIsAccepted → (m : MapModel) (l : ListModel) (c : CertificateModel) → HasFormatText c → (found : Option CheckFault)
     → first_fault m l c ≡ found → Has (Checks m l c)
 checks_have law m l c form None is = (Ok (minimal_text (length l.prefixes)), inl (law m l c form is, refl))
 checks_have law m l c form (Some fault) is = (Err (InCheck fault), inr (fault, is, refl))
@@ -118,10 +120,12 @@ has_output reading runs pair either accepted (rows source condition columns flow
 has_output reading runs pair either accepted (uniq fields source condition sorted columns flows) texts =
     reports_have reading (report_of_groups fields condition sorted columns) source texts
 has_output reading runs pair either accepted (cat source) texts = labels_have source PrintsRuns texts (runs_have runs)
-has_output reading runs pair either accepted (shrink map certificate) texts =
-    map_has (PrintsMinimal certificate) texts.map (map_reading texts.map) refl (minimal_has pair certificate texts.map)
+has_output reading runs pair either accepted (shrink map printed) texts =
+    map_has (PrintsMinimal printed) texts.map (map_reading texts.map) refl (minimal_has pair printed texts.map)
 has_output reading runs pair either accepted (check map list certificate) texts =
     map_has (λ m. ListThen (λ l. CertificateThen (Checks m l) texts.certificate) texts.list) texts.map (map_reading texts.map) refl
     (λ m reads. list_has (λ l. CertificateThen (Checks m l) texts.certificate) texts.list (list_reading texts.list) refl
     (λ l reads'. certificate_has either (Checks m l) texts.certificate
     (λ c form. checks_have accepted m l c form (first_fault m l c) refl)))
+has_output reading runs pair either accepted (recert certificate) texts =
+    certificate_has either PrintsCompact texts.certificate (λ c form. (Ok (certificate_text (compact c)), refl))

@@ -8,6 +8,7 @@ pub mod LineLemmas
 pub mod LoadingLemmas
 pub mod MinimalLemmas
 pub mod OutputLemmas
+pub mod RecertLemmas
 pub mod RequestLemmas
 pub mod RowLemmas
 pub mod TakenLemmas

@@ -6,11 +6,12 @@ use Rattle.clap.specs.Words.{Text, fault_of}
 use Rattle.clap.proofs.OnLiterals.{clap_on_literals}
 use Rattle.prefix_keys.specs.Text.{address_of}
 use Rattle.flowlabel.specs.Definition.{flowlabel_app}
-use Rattle.flowlabel.specs.Request.{FromList, FromMap, cat, info, rows, shrink}
-use Rattle.flowlabel.specs.Answer.{Answer, Answers, IsAnswer, IsUnlessMemory, ReadsBareLine, ReadsCatLine, ReadsCertificateLine, ReadsColumnsLine, ReadsInfoLine, ReadsListLine, ReadsMapLine, ReadsRowsLine, ReadsShrinkLine, address_answer, is_plain_word, own_answer, no_condition}
+use Rattle.flowlabel.specs.Request.{FromList, FromMap, cat, info, recert, rows, shrink}
+use Rattle.flowlabel.specs.Answer.{Answer, Answers, IsAnswer, IsUnlessMemory, ReadsBareLine, ReadsCatLine, ReadsCertificateLine, ReadsColumnsLine, ReadsCompactAloneLine, ReadsCompactLine, ReadsInfoLine, ReadsListLine, ReadsMapLine, ReadsRecertLine, ReadsRowsLine, ReadsShrinkLine, address_answer, is_plain_word, own_answer, no_condition}
 use Rattle.flowlabel.specs.declared.command.Command.{Command}
+use Rattle.flowlabel.specs.declared.command.Shrunk.TheVariants as shrunk
 use Rattle.flowlabel.specs.declared.usage.UsageFault.{UsageFault}
-use Rattle.flowlabel.specs.declared.usage.UsageFault.TheVariants.{Refused, NotUtf8, Help, MapTwice, MapMissing, BadAddress, Filter, Key, LabelNeedsMap, NoMemory}
+use Rattle.flowlabel.specs.declared.usage.UsageFault.TheVariants.{Refused, NotUtf8, Help, MapTwice, MapMissing, BadAddress, Filter, Key, LabelNeedsMap, CompactAlone, NoMemory}
 
 not_true : (b : Bool) → not b ≡ true → b ≡ false
 not_true true e = sym e
@@ -28,6 +29,7 @@ own_only words answer (Err BadAddress) own is = ap (λ (o : Option Answer). unwr
 own_only words answer (Err (Filter fault)) own is = ap (λ (o : Option Answer). unwrap_or o answer) (sym own.1 ∙ is.1)
 own_only words answer (Err (Key fault)) own is = ap (λ (o : Option Answer). unwrap_or o answer) (sym own.1 ∙ is.1)
 own_only words answer (Err LabelNeedsMap) own is = ap (λ (o : Option Answer). unwrap_or o answer) (sym own.1 ∙ is.1)
+own_only words answer (Err CompactAlone) own is = ap (λ (o : Option Answer). unwrap_or o answer) (sym own.1 ∙ is.1)
 own_only words answer (Err NoMemory) own is = tt
 own_only words answer (Err NotUtf8) own is = absurd is
 own_only words answer (Err (Refused text)) own is =
@@ -117,17 +119,35 @@ module _ (program : Text) where
   cat_line [] h = (refl, refl)
   cat_line (x ∷ xs) h = let e = not_true (x == 45) h in (rw (e, not_short x xs e) refl, rw (e, not_short x xs e) refl)
 
-  -- lines of `shrink`, without its certificate and with it
-  pub shrink_line : (file : Text) → is_plain_word file ≡ true → Answers (program ∷ codes "shrink" ∷ codes "--pmap" ∷ file ∷ []) (Ok (shrink file false))
+  -- lines of `shrink`: for the list, for the certificate and for that compacted, and the one that asks for a compact list
+  pub shrink_line : (file : Text) → is_plain_word file ≡ true → Answers (program ∷ codes "shrink" ∷ codes "--pmap" ∷ file ∷ []) (Ok (shrink file shrunk.List))
   unfolding flowlabel_app clap_on_literals
   shrink_line [] h = (refl, refl)
   shrink_line (x ∷ xs) h = let e = not_true (x == 45) h in (rw (e, not_short x xs e) refl, rw (e, not_short x xs e) refl)
 
   pub certificate_line : (file : Text) → is_plain_word file ≡ true
-      → Answers (program ∷ codes "shrink" ∷ codes "--pmap" ∷ file ∷ codes "--certificate" ∷ []) (Ok (shrink file true))
+      → Answers (program ∷ codes "shrink" ∷ codes "--pmap" ∷ file ∷ codes "--certificate" ∷ []) (Ok (shrink file shrunk.Certificate))
   unfolding flowlabel_app clap_on_literals
   certificate_line [] h = (refl, refl)
   certificate_line (x ∷ xs) h = let e = not_true (x == 45) h in (rw (e, not_short x xs e) refl, rw (e, not_short x xs e) refl)
+
+  pub compact_line : (file : Text) → is_plain_word file ≡ true
+      → Answers (program ∷ codes "shrink" ∷ codes "--pmap" ∷ file ∷ codes "--certificate" ∷ codes "--compact" ∷ []) (Ok (shrink file shrunk.Compact))
+  unfolding flowlabel_app clap_on_literals
+  compact_line [] h = (refl, refl)
+  compact_line (x ∷ xs) h = let e = not_true (x == 45) h in (rw (e, not_short x xs e) refl, rw (e, not_short x xs e) refl)
+
+  pub compact_alone_line : (file : Text) → is_plain_word file ≡ true
+      → Answers (program ∷ codes "shrink" ∷ codes "--pmap" ∷ file ∷ codes "--compact" ∷ []) (Err CompactAlone)
+  unfolding flowlabel_app clap_on_literals
+  compact_alone_line [] h = (refl, refl)
+  compact_alone_line (x ∷ xs) h = let e = not_true (x == 45) h in (rw (e, not_short x xs e) refl, rw (e, not_short x xs e) refl)
+
+  -- a line of `recert`
+  pub recert_line : (file : Text) → is_plain_word file ≡ true → Answers (program ∷ codes "recert" ∷ codes "--cert" ∷ file ∷ []) (Ok (recert file))
+  unfolding flowlabel_app clap_on_literals
+  recert_line [] h = (refl, refl)
+  recert_line (x ∷ xs) h = let e = not_true (x == 45) h in (rw (e, not_short x xs e) refl, rw (e, not_short x xs e) refl)
 
 -- such a line is read so, whatever answers what the words ask for
 pub reads_map_line : (words : List Text) (r : Result Command UsageFault) → IsAnswer words r → ReadsMapLine words r
@@ -156,3 +176,12 @@ reads_shrink_line words r is program file h e = own_only _ _ r (shrink_line prog
 
 pub reads_certificate_line : (words : List Text) (r : Result Command UsageFault) → IsAnswer words r → ReadsCertificateLine words r
 reads_certificate_line words r is program file h e = own_only _ _ r (certificate_line program file h) (rw e at is)
+
+pub reads_compact_line : (words : List Text) (r : Result Command UsageFault) → IsAnswer words r → ReadsCompactLine words r
+reads_compact_line words r is program file h e = own_only _ _ r (compact_line program file h) (rw e at is)
+
+pub reads_compact_alone_line : (words : List Text) (r : Result Command UsageFault) → IsAnswer words r → ReadsCompactAloneLine words r
+reads_compact_alone_line words r is program file h e = own_only _ _ r (compact_alone_line program file h) (rw e at is)
+
+pub reads_recert_line : (words : List Text) (r : Result Command UsageFault) → IsAnswer words r → ReadsRecertLine words r
+reads_recert_line words r is program file h e = own_only _ _ r (recert_line program file h) (rw e at is)

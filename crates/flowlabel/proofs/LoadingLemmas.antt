@@ -19,12 +19,13 @@ use Rattle.flowlabel.specs.BytesFault.{is_check_want, is_want_of_memory}
 use Rattle.flowlabel.specs.Faults.{IsInFile}
 use Rattle.flowlabel.specs.Loading.{AreLoaded, ArePresent, ComesOf, Holds, IsCertificateText, IsFaultOfAnswer, IsFirstFault, IsLateFault, IsListText, IsMapText, IsReadIf, labelling_loaded, labelling_of_parts}
 use Rattle.flowlabel.specs.Output.{FileTexts, IsOutput, LabelsThen, Outcome, Prints, PrintsRuns, ReportsOf, ReportsThen, label_text, report_of_groups, report_of_rows}
-use Rattle.flowlabel.specs.Request.{FromList, FromMap, LabelSource, Request, Text, files_named, list_in, map_in, needs_named, needs_of, label, info, rows, cat, shrink, check, uniq}
+use Rattle.flowlabel.specs.Request.{FromList, FromMap, LabelSource, Request, Text, files_named, list_in, map_in, needs_named, needs_of, label, info, rows, cat, shrink, check, uniq, recert}
 use Rattle.flowlabel.specs.Run.{AreKeptBehind, AreNeeded, AreReadBefore, HasFailed, HasName, HasText, HaveTexts, IsFaultOfBytes, IsRead, IsStop, any_failed, is_read_stop, name_of, source_failed}
 use Rattle.flowlabel.specs.Turns.{CertificateTurn, FlowsTurn, IsFaultOfText, IsReadAt, ListTurn, MapTurn, Turn, input_at, turn_of}
 use Rattle.flowlabel.specs.declared.bytes_fault.BytesFault.{BytesFault}
 use Rattle.flowlabel.specs.declared.bytes_fault.BytesFault.TheVariants.{Map as InMap, List as InList, Flows as InFlows, Certificate as InCertificate, Check as InCheck}
 use Rattle.flowlabel.specs.declared.command.Needs.{Needs}
+use Rattle.flowlabel.specs.declared.command.Shrunk.{Shrunk}
 use Rattle.flowlabel.specs.declared.fault.RunFault.{RunFault}
 use Rattle.flowlabel.specs.declared.fault.RunFault.TheVariants.{Usage, CannotOpen, CannotRead, CannotWrite, NoMemory, File}
 use Rattle.flowlabel.specs.declared.inputs.Inputs.{Inputs}
@@ -317,7 +318,7 @@ output_of (uniq fields source condition sorted columns file) loaded texts outcom
     reports_join source (report_of_groups fields condition sorted columns) texts outcome loaded.map loaded.list there.map there.list reads.map reads.list comes
 output_of (cat source) loaded texts outcome there reads (labels, is, comes) =
     labels_join source PrintsRuns texts outcome loaded.map loaded.list there.map there.list reads.map reads.list labels is comes
-output_of (shrink file certificate) loaded texts outcome there reads (map, is, comes) =
+output_of (shrink file printed) loaded texts outcome there reads (map, is, comes) =
     inr (map_of map, subst (λ (x : Option MapText). Holds IsMapText texts.map x) is reads.map, comes)
 output_of (check file other third) loaded texts outcome there reads (map, list, certificate, is, is', is'', comes) = inr (
   map_of map,
@@ -328,6 +329,8 @@ output_of (check file other third) loaded texts outcome there reads (map, list, 
     inr (certificate_of certificate, subst (λ (x : Option Certificate). Holds IsCertificateText texts.certificate x) is'' reads.certificate, comes),
   ),
 )
+output_of (recert file) loaded texts outcome there reads (certificate, is, comes) =
+    inr (certificate_of certificate, subst (λ (x : Option Certificate). Holds IsCertificateText texts.certificate x) is reads.certificate, comes)
 
 -- so is the first fault of the texts of its files
 source_first : (source : LabelSource) (flows : Option Text) (rest : Labelling → Outcome → Type 0) (texts : FileTexts) (fault : BytesFault)
@@ -355,13 +358,21 @@ reports_first : (source : Option LabelSource) (flows : Option Text) (text : Opti
 reports_first None flows text texts fault is = absurd (nothing_first flows texts fault is)
 reports_first (Some source) flows text texts fault is = source_first source flows (λ labels. ReportsOf text (Some labels) texts.flows) texts fault is
 
-map_only_first : (file : Text) (certificate : Bool) (texts : FileTexts) (fault : BytesFault)
-    → IsFirstFault (needs_of (shrink file certificate)) texts (Err fault) → IsOutput (shrink file certificate) texts (Err fault)
-map_only_first file certificate texts (InMap fault) (there, fails) = inl (fault, fails, refl)
-map_only_first file certificate texts (InList fault) (there, fails, reads) = cc
-map_only_first file certificate texts (InFlows fault) is = absurd is
-map_only_first file certificate texts (InCertificate fault) (there, fails, reads, reads') = cc
-map_only_first file certificate texts (InCheck fault) is = absurd is
+map_only_first : (file : Text) (printed : Shrunk) (texts : FileTexts) (fault : BytesFault)
+    → IsFirstFault (needs_of (shrink file printed)) texts (Err fault) → IsOutput (shrink file printed) texts (Err fault)
+map_only_first file printed texts (InMap fault) (there, fails) = inl (fault, fails, refl)
+map_only_first file printed texts (InList fault) (there, fails, reads) = cc
+map_only_first file printed texts (InFlows fault) is = absurd is
+map_only_first file printed texts (InCertificate fault) (there, fails, reads, reads') = cc
+map_only_first file printed texts (InCheck fault) is = absurd is
+
+certificate_only_first : (file : Text) (texts : FileTexts) (fault : BytesFault)
+    → IsFirstFault (needs_of (recert file)) texts (Err fault) → IsOutput (recert file) texts (Err fault)
+certificate_only_first file texts (InMap fault) (there, fails) = cc
+certificate_only_first file texts (InList fault) (there, fails, reads) = cc
+certificate_only_first file texts (InFlows fault) is = absurd is
+certificate_only_first file texts (InCertificate fault) (there, fails, reads, reads') = inl (fault, fails, refl)
+certificate_only_first file texts (InCheck fault) is = absurd is
 
 three_first : (map list certificate : Text) (texts : FileTexts) (fault : BytesFault)
     → IsFirstFault (needs_of (check map list certificate)) texts (Err fault) → IsOutput (check map list certificate) texts (Err fault)
@@ -380,8 +391,9 @@ first_output (rows source condition columns file) texts fault is = reports_first
 first_output (uniq fields source condition sorted columns file) texts fault is =
     reports_first source (Some file) (report_of_groups fields condition sorted columns) texts fault is
 first_output (cat source) texts fault is = source_first source None PrintsRuns texts fault is
-first_output (shrink map certificate) texts fault is = map_only_first map certificate texts fault is
+first_output (shrink map printed) texts fault is = map_only_first map printed texts fault is
 first_output (check map list certificate) texts fault is = three_first map list certificate texts fault is
+first_output (recert certificate) texts fault is = certificate_only_first certificate texts fault is
 
 parts_are_there : (source : LabelSource) (map : Option MapText) (list : Option PrefixList) → is_some map ≡ is_some (map_in source)
     → is_some list ≡ is_some (list_in source) → labelling_of_parts map list ≡ None → ⊥

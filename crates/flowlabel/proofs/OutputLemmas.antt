@@ -1,15 +1,16 @@
 -- A request has one output at most: a map text, a certificate's text and a File have one reading, and what comes of it is one
 -- text or the first fault.
-use Rattle.std.proofs.Common.{◌≡◌, ◌∙◌, ℕ, Bool, true, false, List, [], Option, Some, None, Ok, Err, ap, sym, subst, inl, inr, Result}
+use Rattle.std.proofs.Common.{◌≡◌, ◌∙◌, ℕ, List, [], Option, Some, None, Ok, Err, ap, sym, subst, inl, inr, Result}
+use Rattle.std.specs.Prelude.{◌↔◌}
 use Rattle.prefix_keys.specs.declared.version.Version.{Version}
 use Rattle.pmap_text.specs.ListModel.{ListModel}
 use Rattle.pmap_text.specs.MapModel.{Label, MapModel}
 use Rattle.pmap_text.specs.Reading.{ReadsMap}
 use Rattle.pmap_text.specs.declared.fault.MapFault.{MapFault}
 use Rattle.pmap_cert.specs.Acceptance.{IsAccepted}
-use Rattle.pmap_cert.specs.CertificateReading.{certificate_reading}
+use Rattle.pmap_cert.specs.Compacting.{compact}
+use Rattle.pmap_cert.specs.FormatReading.{format_reading}
 use Rattle.pmap_cert.specs.declared.fault.CertFault.{CertFault}
-use Rattle.pmap_cert.proofs.Whole.{reading-again}
 use Rattle.cert_check.specs.Checking.{first_fault}
 use Rattle.cert_check.specs.declared.fault.CheckFault.{CheckFault}
 use Rattle.ipfix_read.specs.Laws.{OneReading}
@@ -24,9 +25,11 @@ use Rattle.pmap_print.specs.Info.{info_text}
 use Rattle.pmap_print.specs.List.{list_text}
 use Rattle.pmap_print.specs.Runs.{IsRunsText}
 use Rattle.label_lookup.specs.Labelling.{Labelling, labelling_of_list, labelling_of_map}
-use Rattle.flowlabel.specs.Output.{FileTexts, FlowsThen, LabelsThen, ListThen, MapThen, OneOutput, Outcome, Prints, PrintsMinimal, PrintsRuns, ReportsThen, SourceThen, label_text, report_of_rows, CertificateThen, Checks, ReadsCertificate, report_of_groups}
+use Rattle.flowlabel.specs.Output.{FileTexts, FlowsThen, LabelsThen, ListThen, MapThen, OneOutput, Outcome, Prints, PrintsCompact, PrintsMinimal, PrintsRuns, ReportsThen, SourceThen, label_text, report_of_rows, CertificateThen, Checks, ReadsCertificate, report_of_groups}
 use Rattle.flowlabel.specs.declared.bytes_fault.BytesFault.TheVariants.{Map as InMap, List as InList, Flows as InFlows, Certificate as InCertificate, Check as InCheck}
-use Rattle.flowlabel.specs.Request.{FromList, FromMap, LabelSource, label, info, rows, cat, shrink, check, uniq}
+use Rattle.flowlabel.specs.declared.command.Shrunk.{Shrunk}
+use Rattle.flowlabel.specs.declared.command.Shrunk.TheVariants as shrunk
+use Rattle.flowlabel.specs.Request.{FromList, FromMap, LabelSource, label, info, rows, cat, shrink, check, uniq, recert}
 
 -- what comes of a value is one outcome at most
 abbrev IsOne : {A : Type 0} → (A → Outcome → Type 0) → Type 0
@@ -93,36 +96,38 @@ runs_one : OneRunsText → IsOne PrintsRuns
 runs_one law labels outcome other (text, is, p) (text', is', q) =
     p ∙ ap Ok (law labels.version labels.label text text' is is') ∙ sym q
 
--- a map text has one text of its shortest list, and one of its certificate
+-- a map text has one text of its shortest list, one of its certificate, and one of that compacted
 abbrev OneMinimalText : Type 0
-OneMinimalText = (certificate : Bool) (text : List ℕ) (m : MapModel) → ReadsMap text m
-    → (outcome other : Outcome) → PrintsMinimal certificate m outcome → PrintsMinimal certificate m other → outcome ≡ other
+OneMinimalText = (printed : Shrunk) (text : List ℕ) (m : MapModel) → ReadsMap text m
+    → (outcome other : Outcome) → PrintsMinimal printed m outcome → PrintsMinimal printed m other → outcome ≡ other
 
 -- so it is where map texts have their labels, such a map has one minimal list, and a map one minimal certificate with a text
 pub minimal_one : ((text : List ℕ) (m : MapModel) → ReadsMap text m → HasItsLabels m)
     → ((m : MapModel) (l l' : ListModel) (c c' : CertificateModel) → IsMinimalPair m l c → IsMinimalPair m l' c' → HasItsLabels m → l ≡ l')
     → ((m : MapModel) (l l' : ListModel) (c c' : CertificateModel) → IsMinimalPair m l c → IsMinimalPair m l' c' → HasTextForm c → HasTextForm c' → c ≡ c')
     → OneMinimalText
-minimal_one own lists certificates false text m reads outcome other (l, c, is, form, p) (l', c', is', form', q) =
+minimal_one own lists certificates shrunk.List text m reads outcome other (l, c, is, form, p) (l', c', is', form', q) =
     p ∙ ap (λ (k : ListModel). Ok (list_text k)) (lists m l l' c c' is is' (own text m reads)) ∙ sym q
-minimal_one own lists certificates true text m reads outcome other (l, c, is, form, p) (l', c', is', form', q) =
+minimal_one own lists certificates shrunk.Certificate text m reads outcome other (l, c, is, form, p) (l', c', is', form', q) =
     p ∙ ap (λ (k : CertificateModel). Ok (certificate_text k)) (certificates m l l' c c' is is' form form') ∙ sym q
+minimal_one own lists certificates shrunk.Compact text m reads outcome other (l, c, is, form, p) (l', c', is', form', q) =
+    p ∙ ap (λ (k : CertificateModel). Ok (certificate_text (compact k))) (certificates m l l' c c' is is' form form') ∙ sym q
 
 -- the text of a certificate is read as that one, and so is of one certificate and has no fault
-reads_so : (text : List ℕ) (c : CertificateModel) → ReadsCertificate text c → certificate_reading text ≡ Ok c
-reads_so text c reads = ap certificate_reading reads.1 ∙ reading-again c reads.0
+abbrev pub ReadsAsIs : Type 0
+ReadsAsIs = (text : List ℕ) (c : CertificateModel) → format_reading text ≡ Ok c ↔ ReadsCertificate text c
 
-certificate_then_one : (rest : CertificateModel → Outcome → Type 0) → IsOne rest → (text : List ℕ) (outcome other : Outcome)
+certificate_then_one : ReadsAsIs → (rest : CertificateModel → Outcome → Type 0) → IsOne rest → (text : List ℕ) (outcome other : Outcome)
     → CertificateThen rest text outcome → CertificateThen rest text other → outcome ≡ other
-certificate_then_one rest one text outcome other (inl p) (inl q) =
+certificate_then_one law rest one text outcome other (inl p) (inl q) =
     let same : p.0 ≡ q.0 = cc in p.2 ∙ ap (λ (f : CertFault). Err (InCertificate f)) same ∙ sym q.2
-certificate_then_one rest one text outcome other (inl p) (inr q) =
-    let read : certificate_reading text ≡ Ok q.0 = reads_so text q.0 q.1 in cc
-certificate_then_one rest one text outcome other (inr p) (inl q) =
-    let read : certificate_reading text ≡ Ok p.0 = reads_so text p.0 p.1 in cc
-certificate_then_one rest one text outcome other (inr p) (inr q) =
-    let read : certificate_reading text ≡ Ok p.0 = reads_so text p.0 p.1 in
-    let read' : certificate_reading text ≡ Ok q.0 = reads_so text q.0 q.1 in
+certificate_then_one law rest one text outcome other (inl p) (inr q) =
+    let read : format_reading text ≡ Ok q.0 = (law text q.0).1 q.1 in cc
+certificate_then_one law rest one text outcome other (inr p) (inl q) =
+    let read : format_reading text ≡ Ok p.0 = (law text p.0).1 p.1 in cc
+certificate_then_one law rest one text outcome other (inr p) (inr q) =
+    let read : format_reading text ≡ Ok p.0 = (law text p.0).1 p.1 in
+    let read' : format_reading text ≡ Ok q.0 = (law text q.0).1 q.1 in
     let same : q.0 ≡ p.0 = cc in one p.0 outcome other p.2 (subst (λ (c : CertificateModel). rest c other) same q.2)
 
 -- an accepted certificate has no fault
@@ -138,21 +143,23 @@ checks_one none m l c outcome other (inr p) (inl q) =
 checks_one none m l c outcome other (inr p) (inr q) =
     let same : p.0 ≡ q.0 = cc in p.2 ∙ ap (λ (f : CheckFault). Err (InCheck f)) same ∙ sym q.2
 
-pub one_output : OneReading → OneRunsText → OneMinimalText → NoFault → OneOutput
-one_output law runs minimal none (label source address) texts outcome other p q =
+pub one_output : OneReading → OneRunsText → OneMinimalText → ReadsAsIs → NoFault → OneOutput
+one_output law runs minimal formats none (label source address) texts outcome other p q =
     labels_then_one source _ (prints_one (label_text address)) texts outcome other p q
-one_output law runs minimal none (info flows) texts outcome other p q =
+one_output law runs minimal formats none (info flows) texts outcome other p q =
     reports_then_one law (λ labels messages. info_text (counts_of messages)) None texts outcome other p q
-one_output law runs minimal none (rows source condition columns flows) texts outcome other p q =
+one_output law runs minimal formats none (rows source condition columns flows) texts outcome other p q =
     reports_then_one law (report_of_rows condition columns) source texts outcome other p q
-one_output law runs minimal none (uniq fields source condition sorted columns flows) texts outcome other p q =
+one_output law runs minimal formats none (uniq fields source condition sorted columns flows) texts outcome other p q =
     reports_then_one law (report_of_groups fields condition sorted columns) source texts outcome other p q
-one_output law runs minimal none (cat source) texts outcome other p q =
+one_output law runs minimal formats none (cat source) texts outcome other p q =
     labels_then_one source PrintsRuns (runs_one runs) texts outcome other p q
-one_output law runs minimal none (shrink map certificate) texts outcome other p q =
-    map_then_one (PrintsMinimal certificate) texts.map (minimal certificate texts.map) outcome other p q
-one_output law runs minimal none (check map list certificate) texts outcome other p q =
+one_output law runs minimal formats none (shrink map printed) texts outcome other p q =
+    map_then_one (PrintsMinimal printed) texts.map (minimal printed texts.map) outcome other p q
+one_output law runs minimal formats none (check map list certificate) texts outcome other p q =
     map_then_one (λ m. ListThen (λ l. CertificateThen (Checks m l) texts.certificate) texts.list) texts.map
     (λ m reads. list_then_one (λ l. CertificateThen (Checks m l) texts.certificate)
-    (λ l. certificate_then_one (Checks m l) (checks_one none m l) texts.certificate) texts.list)
+    (λ l. certificate_then_one formats (Checks m l) (checks_one none m l) texts.certificate) texts.list)
     outcome other p q
+one_output law runs minimal formats none (recert certificate) texts outcome other p q =
+    certificate_then_one formats PrintsCompact (prints_one (λ c. certificate_text (compact c))) texts.certificate outcome other p q

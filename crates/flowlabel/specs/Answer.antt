@@ -15,10 +15,12 @@ use Rattle.clap.specs.Words.{Row, fault_of, first_of, subcommand_of}
 use Rattle.clap.specs.declared.error.kind.ErrorKind.{ErrorKind}
 use Rattle.clap.specs.declared.error.kind.ErrorKind.TheVariants as kind
 use Rattle.flowlabel.specs.Definition.{flowlabel_app}
-use Rattle.flowlabel.specs.Request.{FromList, FromMap, LabelSource, Request, Text, cat, info, label, request_of, rows, shrink, check, uniq}
+use Rattle.flowlabel.specs.Request.{FromList, FromMap, LabelSource, Request, Text, cat, info, label, request_of, rows, shrink, check, uniq, recert}
 use Rattle.flowlabel.specs.declared.command.Command.{Command}
+use Rattle.flowlabel.specs.declared.command.Shrunk.{Shrunk}
+use Rattle.flowlabel.specs.declared.command.Shrunk.TheVariants as shrunk
 use Rattle.flowlabel.specs.declared.usage.UsageFault.{UsageFault}
-use Rattle.flowlabel.specs.declared.usage.UsageFault.TheVariants.{Refused, NotUtf8, Help, MapTwice, MapMissing, BadAddress, Filter, Key, LabelNeedsMap, NoMemory}
+use Rattle.flowlabel.specs.declared.usage.UsageFault.TheVariants.{Refused, NotUtf8, Help, MapTwice, MapMissing, BadAddress, Filter, Key, LabelNeedsMap, CompactAlone, NoMemory}
 
 -- What a command line is answered with.
 
@@ -131,18 +133,32 @@ cat_answer source = source >>= (λ found. needed_source found >>= (λ labels. Ok
 abbrev pub answer_of_cat : List Row → Answer
 answer_of_cat entries = cat_answer (sources_in_rows entries)
 
--- the file that an entry names: clap takes no line of `shrink` or `check` without those that it needs
+-- the file that an entry names: clap takes no line of `shrink`, `check` or `recert` without those that it needs
 abbrev pub file_in_rows : Text → List Row → Text
 file_in_rows id entries = unwrap_or (first_of id entries) []
 
+-- what `shrink` prints, by whether the certificate is asked for, and whether compact: a list has no compact form
+abbrev pub shrunk_asked : Bool → Bool → Result Shrunk UsageFault
+shrunk_asked false false = Ok shrunk.List
+shrunk_asked true false = Ok shrunk.Certificate
+shrunk_asked true true = Ok shrunk.Compact
+shrunk_asked false true = Err CompactAlone
+
+abbrev pub shrunk_in_rows : List Row → Result Shrunk UsageFault
+shrunk_in_rows entries = shrunk_asked (is_given (codes "certificate") entries) (is_given (codes "compact") entries)
+
 -- `shrink`, by the entries that clap finds for it
 abbrev pub answer_of_shrink : List Row → Answer
-answer_of_shrink entries = Ok (shrink (file_in_rows (codes "pmap") entries) (is_given (codes "certificate") entries))
+answer_of_shrink entries = shrunk_in_rows entries >>= (λ printed. Ok (shrink (file_in_rows (codes "pmap") entries) printed))
 
 -- `check`, by the entries that clap finds for it
 abbrev pub answer_of_check : List Row → Answer
 answer_of_check entries =
     Ok (check (file_in_rows (codes "pmap") entries) (file_in_rows (codes "list") entries) (file_in_rows (codes "cert") entries))
+
+-- `recert`, by the entries that clap finds for it
+abbrev pub answer_of_recert : List Row → Answer
+answer_of_recert entries = Ok (recert (file_in_rows (codes "cert") entries))
 
 -- the answer to a subcommand, by its name and its entries
 abbrev pub answer_of : Text × List Row → Answer
@@ -153,6 +169,7 @@ answer_of found =
     else if bytes_eq found.0 (codes "cat") then answer_of_cat found.1
     else if bytes_eq found.0 (codes "shrink") then answer_of_shrink found.1
     else if bytes_eq found.0 (codes "check") then answer_of_check found.1
+    else if bytes_eq found.0 (codes "recert") then answer_of_recert found.1
     else answer_of_label found.1
 
 -- the answer to the words that clap takes, by the subcommand and the entries that it finds in them
@@ -190,6 +207,7 @@ IsFaultAt words BadAddress = Answers words (Err BadAddress)
 IsFaultAt words (Filter fault) = Answers words (Err (Filter fault))
 IsFaultAt words (Key fault) = Answers words (Err (Key fault))
 IsFaultAt words LabelNeedsMap = Answers words (Err LabelNeedsMap)
+IsFaultAt words CompactAlone = Answers words (Err CompactAlone)
 IsFaultAt words NoMemory = Unit {0}
 
 -- the result is what the words ask for
@@ -208,6 +226,7 @@ IsOwnFault BadAddress = Unit {0}
 IsOwnFault (Filter fault) = Unit {0}
 IsOwnFault (Key fault) = Unit {0}
 IsOwnFault LabelNeedsMap = Unit {0}
+IsOwnFault CompactAlone = Unit {0}
 IsOwnFault NoMemory = Unit {0}
 
 -- the result is no such fault
@@ -280,13 +299,29 @@ ReadsCatLine words result = (program file : Text) → is_plain_word file ≡ tru
 -- `shrink --pmap FILE` is answered by its map
 abbrev pub ReadsShrinkLine : List Text → Result Command UsageFault → Type 0
 ReadsShrinkLine words result = (program file : Text) → is_plain_word file ≡ true
-    → words ≡ program ∷ codes "shrink" ∷ codes "--pmap" ∷ file ∷ [] → IsUnlessMemory (Ok (shrink file false)) result
+    → words ≡ program ∷ codes "shrink" ∷ codes "--pmap" ∷ file ∷ [] → IsUnlessMemory (Ok (shrink file shrunk.List)) result
 
 -- `shrink --pmap FILE --certificate` asks for the certificate
 abbrev pub ReadsCertificateLine : List Text → Result Command UsageFault → Type 0
 ReadsCertificateLine words result = (program file : Text) → is_plain_word file ≡ true
     → words ≡ program ∷ codes "shrink" ∷ codes "--pmap" ∷ file ∷ codes "--certificate" ∷ []
-    → IsUnlessMemory (Ok (shrink file true)) result
+    → IsUnlessMemory (Ok (shrink file shrunk.Certificate)) result
+
+-- `shrink --pmap FILE --certificate --compact` asks for it compacted
+abbrev pub ReadsCompactLine : List Text → Result Command UsageFault → Type 0
+ReadsCompactLine words result = (program file : Text) → is_plain_word file ≡ true
+    → words ≡ program ∷ codes "shrink" ∷ codes "--pmap" ∷ file ∷ codes "--certificate" ∷ codes "--compact" ∷ []
+    → IsUnlessMemory (Ok (shrink file shrunk.Compact)) result
+
+-- `shrink --pmap FILE --compact` misses the certificate
+abbrev pub ReadsCompactAloneLine : List Text → Result Command UsageFault → Type 0
+ReadsCompactAloneLine words result = (program file : Text) → is_plain_word file ≡ true
+    → words ≡ program ∷ codes "shrink" ∷ codes "--pmap" ∷ file ∷ codes "--compact" ∷ [] → IsUnlessMemory (Err CompactAlone) result
+
+-- `recert --cert FILE` is answered by its certificate
+abbrev pub ReadsRecertLine : List Text → Result Command UsageFault → Type 0
+ReadsRecertLine words result = (program file : Text) → is_plain_word file ≡ true
+    → words ≡ program ∷ codes "recert" ∷ codes "--cert" ∷ file ∷ [] → IsUnlessMemory (Ok (recert file)) result
 
 -- the fault comes of an error of this kind
 abbrev pub IsFaultOfKind : ErrorKind → UsageFault → Type 0
@@ -299,6 +334,7 @@ IsFaultOfKind k BadAddress = ⊥
 IsFaultOfKind k (Filter fault) = ⊥
 IsFaultOfKind k (Key fault) = ⊥
 IsFaultOfKind k LabelNeedsMap = ⊥
+IsFaultOfKind k CompactAlone = ⊥
 IsFaultOfKind k NoMemory = Unit {0}
 
 -- the fault of a command line whose words can't be had, by the kind of the system's error: one of them is no text, or

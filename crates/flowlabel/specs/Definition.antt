@@ -82,9 +82,13 @@ needed_pmap_rule = record pmap_rule { required = true }
 abbrev pub certificate_rule : Rule
 certificate_rule = record (new_rule (codes "certificate")) { long = Some (codes "certificate"); action = Some SetTrue }
 
--- `shrink --pmap FILE [--certificate]`
+-- `--compact`
+abbrev pub compact_rule : Rule
+compact_rule = record (new_rule (codes "compact")) { long = Some (codes "compact"); action = Some SetTrue }
+
+-- `shrink --pmap FILE [--certificate] [--compact]`
 abbrev pub shrink_app : App
-shrink_app = with_rule (with_rule (new_app (codes "shrink")) needed_pmap_rule) certificate_rule
+shrink_app = with_rule (with_rule (with_rule (new_app (codes "shrink")) needed_pmap_rule) certificate_rule) compact_rule
 
 -- `--cert FILE`, and `--list FILE` where it has to be there
 abbrev pub cert_rule : Rule
@@ -97,6 +101,10 @@ needed_list_rule = record list_rule { required = true }
 abbrev pub check_app : App
 check_app = with_rule (with_rule (with_rule (new_app (codes "check")) needed_pmap_rule) needed_list_rule) cert_rule
 
+-- `recert --cert FILE`
+abbrev pub recert_app : App
+recert_app = with_rule (new_app (codes "recert")) cert_rule
+
 -- the program before its subcommands: one of them is required, and `help` is none
 abbrev pub program : App
 program = record (new_app (codes "flowlabel")) {
@@ -106,5 +114,5 @@ program = record (new_app (codes "flowlabel")) {
 -- the command line
 unfoldable pub flowlabel_app : App
 flowlabel_app =
-    with_subcommand (with_subcommand (with_subcommand (with_subcommand (with_subcommand (with_subcommand (with_subcommand program label_app.top) info_app.top) rows_app.top)
-    uniq_app.top) cat_app.top) shrink_app.top) check_app.top
+    with_subcommand (with_subcommand (with_subcommand (with_subcommand (with_subcommand (with_subcommand (with_subcommand (with_subcommand program label_app.top) info_app.top)
+    rows_app.top) uniq_app.top) cat_app.top) shrink_app.top) check_app.top) recert_app.top

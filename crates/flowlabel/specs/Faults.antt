@@ -83,6 +83,7 @@ usage_fault_text usage.BadAddress = codes "flowlabel: usage: P4 BadAddress\n"
 usage_fault_text (usage.Filter fault) = option_text (filter_option_text fault.option) (filter_fault_text fault.kind)
 usage_fault_text (usage.Key fault) = option_text (codes "--fields") (key_fault_text fault)
 usage_fault_text usage.LabelNeedsMap = codes "flowlabel: usage: P5 LabelNeedsMap\n"
+usage_fault_text usage.CompactAlone = codes "flowlabel: usage: P6 CompactAlone\n"
 usage_fault_text usage.NoMemory = out_of_memory
 
 abbrev pub own_fault_text : RunFault → List ℕ

@@ -6,14 +6,14 @@ use Rattle.pmap_text.specs.Reading.{ReadsList, ReadsMap, list_reading, map_readi
 use Rattle.pmap_text.specs.declared.map_text.MapText.{MapText}
 use Rattle.pmap_text.specs.declared.prefix_list.PrefixList.{PrefixList}
 use Rattle.pmap_cert.specs.Certificate.{certificate_of}
-use Rattle.pmap_cert.specs.CertificateReading.{certificate_reading}
+use Rattle.pmap_cert.specs.FormatReading.{format_reading}
 use Rattle.pmap_cert.specs.declared.certificate.Certificate.{Certificate}
 use Rattle.ipfix_read.specs.Message.{MessageView}
 use Rattle.flow_rows.specs.Counts.{counts_of}
 use Rattle.label_lookup.specs.Labelling.{Labelling, labelling_of_list, labelling_of_map}
 use Rattle.pmap_print.specs.Info.{info_text}
-use Rattle.flowlabel.specs.Output.{Checks, FileTexts, Outcome, Prints, PrintsMinimal, PrintsRuns, ReadsCertificate, ReportsOf, label_text, report_of_groups, report_of_rows}
-use Rattle.flowlabel.specs.Request.{Request, label, info, rows, cat, shrink, check, uniq}
+use Rattle.flowlabel.specs.Output.{Checks, FileTexts, Outcome, Prints, PrintsCompact, PrintsMinimal, PrintsRuns, ReadsCertificate, ReportsOf, label_text, report_of_groups, report_of_rows}
+use Rattle.flowlabel.specs.Request.{Request, label, info, rows, cat, shrink, check, uniq, recert}
 use Rattle.flowlabel.specs.Run.{HasFailed, HasName, HasText}
 use Rattle.flowlabel.specs.Turns.{IsReadAt, ListTurn, MapTurn, Turn}
 use Rattle.flowlabel.specs.declared.bytes_fault.BytesFault.{BytesFault}
@@ -72,7 +72,7 @@ IsFirstFault needs texts (Ok text) = ⊥
 IsFirstFault needs texts (Err (InMap fault)) = (needs.map ≡ true) × (map_reading texts.map ≡ Err fault)
 IsFirstFault needs texts (Err (InList fault)) =
     (needs.list ≡ true) × (list_reading texts.list ≡ Err fault) × IsReadIf needs.map MapTurn texts.map
-IsFirstFault needs texts (Err (InCertificate fault)) = (needs.certificate ≡ true) × (certificate_reading texts.certificate ≡ Err fault)
+IsFirstFault needs texts (Err (InCertificate fault)) = (needs.certificate ≡ true) × (format_reading texts.certificate ≡ Err fault)
     × IsReadIf needs.map MapTurn texts.map × IsReadIf needs.list ListTurn texts.list
 IsFirstFault needs texts (Err (InFlows fault)) = ⊥
 IsFirstFault needs texts (Err (InCheck fault)) = ⊥
@@ -106,12 +106,14 @@ ComesOf (rows source condition columns file) loaded flows outcome =
 ComesOf (uniq fields source condition sorted columns file) loaded flows outcome =
     ReportsOf (report_of_groups fields condition sorted columns) (labelling_loaded loaded) flows outcome
 ComesOf (cat source) loaded flows outcome = (labels : Labelling) × (labelling_loaded loaded ≡ Some labels) × PrintsRuns labels outcome
-ComesOf (shrink file certificate) loaded flows outcome =
-    (map : MapText) × (loaded.map ≡ Some map) × PrintsMinimal certificate (map_of map) outcome
+ComesOf (shrink file printed) loaded flows outcome =
+    (map : MapText) × (loaded.map ≡ Some map) × PrintsMinimal printed (map_of map) outcome
 ComesOf (check file other third) loaded flows outcome =
     (map : MapText) × (list : PrefixList) × (certificate : Certificate)
     × (loaded.map ≡ Some map) × (loaded.list ≡ Some list) × (loaded.certificate ≡ Some certificate)
     × Checks (map_of map) (list_of list) (certificate_of certificate) outcome
+ComesOf (recert file) loaded flows outcome =
+    (certificate : Certificate) × (loaded.certificate ≡ Some certificate) × PrintsCompact (certificate_of certificate) outcome
 
 module _ {R : Type 0} where
   -- a fault that comes behind the loading: one of the flows, or of what the certificate says, where nothing was read of the flows

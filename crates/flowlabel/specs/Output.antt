@@ -5,10 +5,11 @@ use Rattle.pmap_text.specs.MapModel.{MapModel}
 use Rattle.pmap_text.specs.Reading.{ReadsList, ReadsMap, label_limit, list_reading, map_reading, mapping_limit}
 use Rattle.pmap_text.specs.declared.fault.MapFault.{MapFault}
 use Rattle.pmap_cert.specs.Acceptance.{IsAccepted, IsLeast}
-use Rattle.pmap_cert.specs.CertificateForm.{HasTextForm}
+use Rattle.pmap_cert.specs.CertificateForm.{HasFormatText, HasTextForm}
 use Rattle.pmap_cert.specs.CertificateModel.{CertificateModel}
-use Rattle.pmap_cert.specs.CertificateReading.{certificate_reading}
 use Rattle.pmap_cert.specs.CertificateText.{certificate_text}
+use Rattle.pmap_cert.specs.Compacting.{compact, line_count}
+use Rattle.pmap_cert.specs.FormatReading.{format_reading}
 use Rattle.pmap_cert.specs.MinimalPair.{IsMinimalPair}
 use Rattle.pmap_cert.specs.declared.fault.CertFault.{CertFault}
 use Rattle.cert_check.specs.Checking.{first_fault}
@@ -32,7 +33,9 @@ use Rattle.pmap_print.specs.Runs.{IsRunsText}
 use Rattle.label_lookup.specs.Labelling.{Labelling, label_by, label_where, labelling_of_list, labelling_of_map}
 use Rattle.flowlabel.specs.declared.bytes_fault.BytesFault.{BytesFault}
 use Rattle.flowlabel.specs.declared.bytes_fault.BytesFault.TheVariants.{Map as InMap, List as InList, Flows as InFlows, Certificate as InCertificate, Check as InCheck}
-use Rattle.flowlabel.specs.Request.{FromList, FromMap, LabelSource, Request, label, info, rows, cat, shrink, check, uniq}
+use Rattle.flowlabel.specs.declared.command.Shrunk.{Shrunk}
+use Rattle.flowlabel.specs.declared.command.Shrunk.TheVariants as shrunk
+use Rattle.flowlabel.specs.Request.{FromList, FromMap, LabelSource, Request, label, info, rows, cat, shrink, check, uniq, recert}
 
 -- The output of a request: the text that it prints, or the first fault of its files' bytes.
 
@@ -63,7 +66,7 @@ FailsFlows bytes outcome = (fault : ReadFault) × HasFileFault [] 0 0 bytes faul
 
 abbrev pub FailsCertificate : List ℕ → Outcome → Type 0
 FailsCertificate text outcome =
-    (fault : CertFault) × (certificate_reading text ≡ Err fault) × (outcome ≡ Err (InCertificate fault))
+    (fault : CertFault) × (format_reading text ≡ Err fault) × (outcome ≡ Err (InCertificate fault))
 
 -- the outcome over the text of a map file: its first fault, or what comes of the map
 abbrev pub MapThen : (MapModel → Outcome → Type 0) → List ℕ → Outcome → Type 0
@@ -73,9 +76,9 @@ MapThen rest text outcome = FailsMap text outcome ⊎ ((map : MapModel) × Reads
 abbrev pub ListThen : (ListModel → Outcome → Type 0) → List ℕ → Outcome → Type 0
 ListThen rest text outcome = FailsList text outcome ⊎ ((list : ListModel) × ReadsList text list × rest list outcome)
 
--- a text is read as a certificate: it is the text of it
+-- a text is read as a certificate, of either format: it is the text of it
 abbrev pub ReadsCertificate : List ℕ → CertificateModel → Type 0
-ReadsCertificate text certificate = HasTextForm certificate × (text ≡ certificate_text certificate)
+ReadsCertificate text certificate = HasFormatText certificate × (text ≡ certificate_text certificate)
 
 -- the outcome over the text of a certificate's file: its first fault, or what comes of the certificate
 abbrev pub CertificateThen : (CertificateModel → Outcome → Type 0) → List ℕ → Outcome → Type 0
@@ -114,15 +117,20 @@ HasRunsText labels text = IsRunsText labels.version labels.label text
 abbrev pub PrintsRuns : Labelling → Outcome → Type 0
 PrintsRuns labels outcome = (text : List ℕ) × HasRunsText labels text × Prints text outcome
 
--- what is printed of a list and its certificate: one of them
-abbrev pub shrunk_text : Bool → ListModel → CertificateModel → List ℕ
-shrunk_text false l c = list_text l
-shrunk_text true l c = certificate_text c
+-- the outcome is the text of the certificate compacted
+abbrev pub PrintsCompact : CertificateModel → Outcome → Type 0
+PrintsCompact c = Prints (certificate_text (compact c))
+
+-- what is printed of a list and its certificate: one of them, the certificate as it is or compacted
+abbrev pub shrunk_text : Shrunk → ListModel → CertificateModel → List ℕ
+shrunk_text shrunk.List l c = list_text l
+shrunk_text shrunk.Certificate l c = certificate_text c
+shrunk_text shrunk.Compact l c = certificate_text (compact c)
 
 -- the outcome is the text of the list of the map's minimal pair, or of its certificate
-abbrev pub PrintsMinimal : Bool → MapModel → Outcome → Type 0
-PrintsMinimal certificate m outcome =
-    (l : ListModel) × (c : CertificateModel) × IsMinimalPair m l c × HasTextForm c × Prints (shrunk_text certificate l c) outcome
+abbrev pub PrintsMinimal : Shrunk → MapModel → Outcome → Type 0
+PrintsMinimal printed m outcome =
+    (l : ListModel) × (c : CertificateModel) × IsMinimalPair m l c × HasTextForm c × Prints (shrunk_text printed l c) outcome
 
 -- the labels of a row's source and destination
 abbrev pub row_labels : Labelling → RowView → LabelTexts
@@ -173,8 +181,9 @@ IsOutput (info flows) texts = ReportsThen (λ labels messages. info_text (counts
 IsOutput (rows source condition columns flows) texts = ReportsThen (report_of_rows condition columns) source texts
 IsOutput (uniq fields source condition sorted columns flows) texts = ReportsThen (report_of_groups fields condition sorted columns) source texts
 IsOutput (cat source) texts = LabelsThen source PrintsRuns texts
-IsOutput (shrink map certificate) texts = MapThen (PrintsMinimal certificate) texts.map
+IsOutput (shrink map printed) texts = MapThen (PrintsMinimal printed) texts.map
 IsOutput (check map list certificate) texts = ChecksThen texts
+IsOutput (recert certificate) texts = CertificateThen PrintsCompact texts.certificate
 
 -- a request has one output at most
 abbrev pub OneOutput : Type 0
@@ -193,8 +202,9 @@ under source (rows (Some old) condition columns flows) = rows (Some source) cond
 under source (uniq fields None condition sorted columns flows) = uniq fields None condition sorted columns flows
 under source (uniq fields (Some old) condition sorted columns flows) = uniq fields (Some source) condition sorted columns flows
 under source (cat old) = cat source
-under source (shrink map certificate) = shrink map certificate
+under source (shrink map printed) = shrink map printed
 under source (check map list certificate) = check map list certificate
+under source (recert certificate) = recert certificate
 
 -- the request takes labels from a map or a list alike, if it takes any
 abbrev pub TakesEither : Request → Type 0
@@ -203,8 +213,9 @@ TakesEither (info flows) = Unit {0}
 TakesEither (rows source condition columns flows) = Unit {0}
 TakesEither (uniq fields source condition sorted columns flows) = Unit {0}
 TakesEither (cat source) = Unit {0}
-TakesEither (shrink map certificate) = ⊥
+TakesEither (shrink map printed) = ⊥
 TakesEither (check map list certificate) = ⊥
+TakesEither (recert certificate) = ⊥
 
 -- Over one File, a request that takes labels from either has the outputs under a map text that it has under each list text
 -- whose list labels every address as the map does
@@ -231,3 +242,28 @@ CheckAcceptsMinimal = (map list certificate : List ℕ) (texts : FileTexts) (m :
     → ReadsMap texts.map m → IsMinimalPair m l c → HasTextForm c → FitsText l
     → texts.list ≡ list_text l → texts.certificate ≡ certificate_text c
     → IsOutput (check map list certificate) texts (Ok (minimal_text (length l.prefixes)))
+
+-- So it is with the printed certificate compacted
+abbrev pub CheckAcceptsCompact : Type 0
+CheckAcceptsCompact = (map list certificate : List ℕ) (texts : FileTexts) (m : MapModel) (l : ListModel) (c : CertificateModel)
+    → ReadsMap texts.map m → IsMinimalPair m l c → HasTextForm c → FitsText l
+    → texts.list ≡ list_text l → texts.certificate ≡ certificate_text (compact c)
+    → IsOutput (check map list certificate) texts (Ok (minimal_text (length l.prefixes)))
+
+-- What `recert` prints of a certificate's text is the text of a certificate with no more node lines, of which `recert` prints the
+-- same again. And where `check` prints the number of a list's entries by the one text, it does so by the other.
+pub record IsAsGood (before after : List ℕ) : Type 0 where
+  pub old : CertificateModel
+  pub new : CertificateModel
+  pub reads_old : ReadsCertificate before old
+  pub reads_new : ReadsCertificate after new
+  pub compacted : new ≡ compact old
+  pub lines : line_count new.root ≤ line_count old.root
+  pub again : (certificate : List ℕ) (texts : FileTexts) → texts.certificate ≡ after → IsOutput (recert certificate) texts (Ok after)
+  pub checks : (map list certificate : List ℕ) (texts : FileTexts) (out : List ℕ) → texts.certificate ≡ before
+      → IsOutput (check map list certificate) texts (Ok out)
+      → IsOutput (check map list certificate) (record texts { certificate = after }) (Ok out)
+
+abbrev pub RecertIsAsGood : Type 0
+RecertIsAsGood = (certificate : List ℕ) (texts : FileTexts) (out : List ℕ) → IsOutput (recert certificate) texts (Ok out)
+    → IsAsGood texts.certificate out

@@ -4,12 +4,13 @@ use Rattle.prefix_keys.specs.Version.{width_of}
 use Rattle.flow_filter.specs.Condition.{Condition}
 use Rattle.flow_filter.specs.Filters.{condition_in}
 use Rattle.flowlabel.specs.declared.command.Command.{Command}
-use Rattle.flowlabel.specs.declared.command.Command.TheVariants.{Label, Info, Rows, Cat, Shrink, Check, Uniq}
+use Rattle.flowlabel.specs.declared.command.Command.TheVariants.{Label, Info, Rows, Cat, Shrink, Check, Uniq, Recert}
 use Rattle.flow_uniq.specs.declared.field.KeyField.{KeyField}
 use Rattle.flowlabel.specs.declared.command.Files.{Files}
 use Rattle.flowlabel.specs.declared.command.LabelFile.{LabelFile}
 use Rattle.flowlabel.specs.declared.command.LabelFile.TheVariants.{Map, List as Prefixes}
 use Rattle.flowlabel.specs.declared.command.Needs.{Needs}
+use Rattle.flowlabel.specs.declared.command.Shrunk.{Shrunk}
 
 -- What a command line may ask for, apart from how the program keeps it.
 
@@ -25,16 +26,17 @@ pub data LabelSource : Type 0 where
 -- label: the label that the labels of a file give an address; info: the counts of the messages of a File; rows: the rows
 -- of its records that meet a condition, with the labels of their addresses where there is a source of labels, in columns of
 -- even width or not; uniq: the groups of such rows by fields, with their totals, sorted or in the order of their first rows;
--- cat: the runs of the labels of a file; shrink: the shortest list of a map, or in its place the certificate of that; check:
--- whether a certificate shows that a list is a shortest one for a map
+-- cat: the runs of the labels of a file; shrink: the shortest list of a map, or in its place the certificate of that, compacted or
+-- not; check: whether a certificate shows that a list is a shortest one for a map; recert: a certificate compacted
 pub data Request : Type 0 where
   label : (source : LabelSource) (address : AddressOf) → Request
   info : (flows : Text) → Request
   rows : (source : Option LabelSource) (condition : Condition) (columns : Bool) (flows : Text) → Request
   uniq : (fields : List KeyField) (source : Option LabelSource) (condition : Condition) (sorted : Bool) (columns : Bool) (flows : Text) → Request
   cat : (source : LabelSource) → Request
-  shrink : (map : Text) (certificate : Bool) → Request
+  shrink : (map : Text) (printed : Shrunk) → Request
   check : (map list certificate : Text) → Request
+  recert : (certificate : Text) → Request
 
 -- the number is that of an address of the version
 abbrev pub IsAddress : AddressOf → Type 0
@@ -47,8 +49,9 @@ IsProper (info flows) = Unit {0}
 IsProper (rows source condition columns flows) = Unit {0}
 IsProper (uniq fields source condition sorted columns flows) = Unit {0}
 IsProper (cat source) = Unit {0}
-IsProper (shrink map certificate) = Unit {0}
+IsProper (shrink map printed) = Unit {0}
 IsProper (check map list certificate) = Unit {0}
+IsProper (recert certificate) = Unit {0}
 
 -- the source that a file of labels stands for
 abbrev pub source_of : LabelFile → LabelSource
@@ -63,8 +66,9 @@ request_of (Rows labels filter columns flows) = rows (option_map source_of label
 request_of (Uniq keys labels filter sorted columns flows) =
     uniq keys (option_map source_of labels) (condition_in filter) sorted columns flows.now
 request_of (Cat labels) = cat (source_of labels)
-request_of (Shrink map certificate) = shrink map.now certificate
+request_of (Shrink map printed) = shrink map.now printed
 request_of (Check map list certificate) = check map.now list.now certificate.now
+request_of (Recert certificate) = recert certificate.now
 
 -- the names of the files that a request reads
 pub record FileNames : Type 0 where
@@ -108,14 +112,24 @@ files_checked map list certificate = record {
   flows = None;
 }
 
+-- the one file of `recert`
+abbrev pub file_compacted : Text → FileNames
+file_compacted certificate = record {
+  map = None;
+  list = None;
+  certificate = Some certificate;
+  flows = None;
+}
+
 abbrev pub files_of : Request → FileNames
 files_of (label source address) = files_named (Some source) None
 files_of (info flows) = files_named None (Some flows)
 files_of (rows source condition columns flows) = files_named source (Some flows)
 files_of (uniq fields source condition sorted columns flows) = files_named source (Some flows)
 files_of (cat source) = files_named (Some source) None
-files_of (shrink map certificate) = files_named (Some (FromMap map)) None
+files_of (shrink map printed) = files_named (Some (FromMap map)) None
 files_of (check map list certificate) = files_checked map list certificate
+files_of (recert certificate) = file_compacted certificate
 
 -- which of the four inputs are read: those that there are names for
 abbrev pub needs_named : FileNames → Needs

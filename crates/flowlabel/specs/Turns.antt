@@ -3,7 +3,7 @@ use Rattle.pmap_text.specs.ListModel.{ListModel}
 use Rattle.pmap_text.specs.MapModel.{MapModel}
 use Rattle.pmap_text.specs.Reading.{ReadsList, ReadsMap, list_reading, map_reading}
 use Rattle.pmap_cert.specs.CertificateModel.{CertificateModel}
-use Rattle.pmap_cert.specs.CertificateReading.{certificate_reading}
+use Rattle.pmap_cert.specs.FormatReading.{format_reading}
 use Rattle.ipfix_read.specs.File.{HasFileFault, ReadsFile}
 use Rattle.ipfix_read.specs.Message.{MessageView}
 use Rattle.flowlabel.specs.Output.{ReadsCertificate}
@@ -40,7 +40,7 @@ abbrev pub IsFaultOfText : BytesFault → List ℕ → Type 0
 IsFaultOfText (InMap fault) text = map_reading text ≡ Err fault
 IsFaultOfText (InList fault) text = list_reading text ≡ Err fault
 IsFaultOfText (InFlows fault) text = HasFileFault [] 0 0 text fault
-IsFaultOfText (InCertificate fault) text = certificate_reading text ≡ Err fault
+IsFaultOfText (InCertificate fault) text = format_reading text ≡ Err fault
 IsFaultOfText (InCheck fault) text = ⊥
 
 -- the input that is read at a turn, where there is one

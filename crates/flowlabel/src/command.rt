@@ -14,6 +14,17 @@ pub enum LabelFile<'a> {
     List(&'a str),
 }
 
+/// What `shrink` prints of a map.
+#[derive(Clone, Copy)]
+pub enum Shrunk {
+    /// The shortest prefix list that labels every address as the map does.
+    List,
+    /// `--certificate`: the certificate of that.
+    Certificate,
+    /// `--certificate --compact`: the same certificate, compacted.
+    Compact,
+}
+
 /// What a command line asks for, its file names and texts lent from the words.
 #[derive(Drop)]
 pub enum Command<'a> {
@@ -48,16 +59,20 @@ pub enum Command<'a> {
     Cat {
         labels: LabelFile<'a>,
     },
-    /// `shrink --pmap FILE [--certificate]`: the shortest prefix list that labels every address as the map does, or in its
-    /// place the certificate of that.
+    /// `shrink --pmap FILE [--certificate] [--compact]`: the shortest prefix list that labels every address as the map does,
+    /// or in its place the certificate of that, compacted or not.
     Shrink {
         map: &'a str,
-        certificate: bool,
+        printed: Shrunk,
     },
     /// `check --pmap FILE --list FILE --cert FILE`: whether a certificate shows that a list is a shortest one for a map.
     Check {
         map: &'a str,
         list: &'a str,
+        certificate: &'a str,
+    },
+    /// `recert --cert FILE`: a certificate compacted.
+    Recert {
         certificate: &'a str,
     },
 }
@@ -136,6 +151,12 @@ impl<'a> Command<'a> {
             } => Files {
                 map: Some(map),
                 list: Some(list),
+                certificate: Some(certificate),
+                flows: None,
+            },
+            Command::Recert { certificate } => Files {
+                map: None,
+                list: None,
                 certificate: Some(certificate),
                 flows: None,
             },

@@ -1,7 +1,7 @@
 ghost use Rattle.std.specs.Prelude.{◌≡◌, IfOk, Some, codes, false, true};
 ghost use Rattle.clap.specs.Words.{app_of, new_app, rule_of, with_rule, with_subcommand};
 ghost use Rattle.clap.specs.declared.builder.command.Command.TheViews.{out-Command};
-ghost use Rattle.flowlabel.specs.Definition.{cat_app, certificate_rule, columns_rule, flowlabel_app, flows_rule, info_app, label_app, list_rule, needed_pmap_rule, pmap_rule, program, rows_app, shrink_app, cert_rule, check_app, needed_list_rule, value_rule, with_filters, with_label_filters, with_value_filters, fields_rule, sort_rule, uniq_app};
+ghost use Rattle.flowlabel.specs.Definition.{cat_app, certificate_rule, columns_rule, flowlabel_app, flows_rule, info_app, label_app, list_rule, needed_pmap_rule, pmap_rule, program, rows_app, shrink_app, cert_rule, check_app, compact_rule, needed_list_rule, recert_app, value_rule, with_filters, with_label_filters, with_value_filters, fields_rule, sort_rule, uniq_app};
 
 use clap::{Arg, ArgAction, Command};
 use std::alloc::{AllocError, Global};
@@ -348,20 +348,33 @@ fn certificate_flag<'a>(alloc: Global) -> Arg<'a>
         .help("Print the certificate in place of the list")
 }
 
-// `shrink --pmap FILE [--certificate]`.
+// `--compact`.
+fn compact_flag<'a>(alloc: Global) -> Arg<'a>
+    ensures rule { rule_of result ≡ compact_rule }
+    ensures local { result.global ≡ false }
+{
+    Arg::new(alloc, "compact")
+        .long("compact")
+        .action(ArgAction::SetTrue)
+        .help_heading("Output")
+        .help("Print the certificate compacted")
+}
+
+// `shrink --pmap FILE [--certificate [--compact]]`.
 fn shrink<'a>(alloc: Global) -> Result<Command<'a>, AllocError>
     ensures app { IfOk result (λ c. app_of c ≡ shrink_app) }
     ensures local { IfOk result (λ c. (out-Command c).has_globals ≡ false) }
 {
     let about = "Print the shortest list that labels as a map does";
-    let usage = "flowlabel shrink --pmap FILE [--certificate]";
+    let usage = "flowlabel shrink --pmap FILE [--certificate [--compact]]";
     let example = example!(
         "the list of a map",
         "flowlabel shrink --pmap customers.txt >list.txt"
     );
     described(alloc, "shrink", about, usage, example)
         .arg(needed_map_argument(alloc))?
-        .arg(certificate_flag(alloc))
+        .arg(certificate_flag(alloc))?
+        .arg(compact_flag(alloc))
 }
 
 // `--list FILE` where it has to be there.
@@ -402,6 +415,20 @@ fn check<'a>(alloc: Global) -> Result<Command<'a>, AllocError>
         .arg(certificate_argument(alloc))
 }
 
+// `recert --cert FILE`.
+fn recert<'a>(alloc: Global) -> Result<Command<'a>, AllocError>
+    ensures app { IfOk result (λ c. app_of c ≡ recert_app) }
+    ensures local { IfOk result (λ c. (out-Command c).has_globals ≡ false) }
+{
+    let about = "Print a certificate compacted";
+    let usage = "flowlabel recert --cert FILE";
+    let example = example!(
+        "the certificate cert.txt with a line for each chain",
+        "flowlabel recert --cert cert.txt >compact.txt"
+    );
+    described(alloc, "recert", about, usage, example).arg(certificate_argument(alloc))
+}
+
 // The program before its subcommands.
 fn program<'a>(alloc: Global) -> Command<'a>
     ensures app { app_of result ≡ program }
@@ -428,16 +455,17 @@ fn with_reports<'a>(alloc: Global, command: Command<'a>) -> Result<Command<'a>, 
         .subcommand(uniq(alloc)?)
 }
 
-// The command with the subcommands that print and check maps and lists.
+// The command with the subcommands that print maps and lists, and make and check certificates.
 fn with_maps<'a>(alloc: Global, command: Command<'a>) -> Result<Command<'a>, AllocError>
     ensures app { IfOk result (λ c. app_of c
-        ≡ with_subcommand (with_subcommand (with_subcommand (app_of command.entry) cat_app.top) shrink_app.top) check_app.top) }
+        ≡ with_subcommand (with_subcommand (with_subcommand (with_subcommand (app_of command.entry) cat_app.top) shrink_app.top) check_app.top) recert_app.top) }
     ensures local { IfOk result (λ c. (out-Command c).has_globals ≡ (out-Command command.entry).has_globals) }
 {
     command
         .subcommand(cat(alloc)?)?
         .subcommand(shrink(alloc)?)?
-        .subcommand(check(alloc)?)
+        .subcommand(check(alloc)?)?
+        .subcommand(recert(alloc)?)
 }
 
 /// The command line as clap reads it: a simple command with one required level of subcommands.

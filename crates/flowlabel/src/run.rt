@@ -19,6 +19,7 @@ mod label;
 mod laws;
 mod loaded;
 mod loading;
+mod recert;
 mod report;
 mod rows;
 mod shrink;
@@ -29,11 +30,12 @@ use check::check_loaded;
 use info::InfoReport;
 use label::label_line;
 pub use laws::{
-    check_accepts_minimal, check_is_enough, has_output, one_output, same_under_equivalents,
-    shrunk_list_is_least,
+    check_accepts_minimal, check_is_enough, has_output, one_output, recert_is_as_good,
+    same_under_equivalents, shrunk_list_is_least,
 };
 use loaded::Loaded;
 use loading::load;
+use recert::compact_loaded;
 use report::report_under;
 use rows::RowsReport;
 use shrink::shrunk_text;
@@ -94,13 +96,14 @@ fn answer<'a, R: Input>(
             };
             Ok(runs_text(alloc, labels)?)
         }
-        Command::Shrink { certificate, .. } => {
+        Command::Shrink { printed, .. } => {
             let Some(map) = &loaded.map else {
                 unreachable!()
             };
-            Ok(shrunk_text(alloc, map, *certificate)?)
+            Ok(shrunk_text(alloc, map, *printed)?)
         }
         Command::Check { .. } => check_loaded(alloc, loaded, inputs),
+        Command::Recert { .. } => Ok(compact_loaded(alloc, loaded)?),
     }
 }
 

@@ -81,6 +81,9 @@ pub enum UsageFault {
     /// P5: a filter asks for a label, or a key has one, and no map or list is named.
     #[error("P5 LabelNeedsMap")]
     LabelNeedsMap,
+    /// P6: the compact form is asked for, and no certificate.
+    #[error("P6 CompactAlone")]
+    CompactAlone,
     /// Memory ran out.
     #[error("out of memory")]
     NoMemory,

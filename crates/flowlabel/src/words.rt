@@ -6,10 +6,10 @@ ghost use Rattle.clap.specs.Words.{first_of, found_of, kind_of, rows_of, takes};
 ghost use Rattle.clap.specs.Walk.{texts};
 ghost use Rattle.flowlabel.specs.Definition.{flowlabel_app};
 ghost use Rattle.flowlabel.specs.Request.{IsProper, request_of, source_of};
-ghost use Rattle.flowlabel.specs.Answer.{IsAnswer, IsFaultOfKind, IsOwnAnswer, ReadsBareLine, ReadsCatLine, ReadsCertificateLine, ReadsColumnsLine, ReadsInfoLine, ReadsListLine, ReadsMapLine, ReadsRowsLine, ReadsShrinkLine, address_in_rows, answer_of, answer_of_cat, answer_of_label, answer_of_rows, answer_of_shrink, file_in_rows, flows_in_rows, is_given, sources_in_rows, words_fault_of, answer_of_check, condition_in_rows, words_in_rows, answer_of_uniq, field_names_in_rows, fields_in_rows};
+ghost use Rattle.flowlabel.specs.Answer.{IsAnswer, IsFaultOfKind, IsOwnAnswer, ReadsBareLine, ReadsCatLine, ReadsCertificateLine, ReadsColumnsLine, ReadsCompactAloneLine, ReadsCompactLine, ReadsInfoLine, ReadsListLine, ReadsMapLine, ReadsRecertLine, ReadsRowsLine, ReadsShrinkLine, address_in_rows, answer_of, answer_of_cat, answer_of_label, answer_of_rows, answer_of_shrink, file_in_rows, flows_in_rows, is_given, sources_in_rows, words_fault_of, answer_of_check, answer_of_recert, condition_in_rows, shrunk_in_rows, words_in_rows, answer_of_uniq, field_names_in_rows, fields_in_rows};
 ghost use Rattle.flowlabel.specs.declared.usage.UsageFault.TheVariants.{NoMemory};
 
-use crate::command::{Command, LabelFile};
+use crate::command::{Command, LabelFile, Shrunk};
 use crate::definition::definition;
 use crate::usage::{ClapText, UsageFault};
 use clap::ArgMatches;
@@ -205,20 +205,33 @@ fn cat_command<'a>(entries: &ArgMatches<'a>) -> Result<Command<'a>, UsageFault>
     }
 }
 
-// The file that an entry names: clap takes no line of `shrink` or `check` without those that it needs.
+// The file that an entry names: clap takes no line of `shrink`, `check` or `recert` without those that it needs.
 fn file_in<'a>(entries: &ArgMatches<'a>, id: &str) -> &'a str
     ensures { result.now ≡ file_in_rows id.now (rows_of (found_of entries.now)) }
 {
     text_of(entries, id).unwrap_or("")
 }
 
-// The command `shrink`, by the entries that clap found for it.
-fn shrink_command<'a>(entries: &ArgMatches<'a>) -> Command<'a>
-    ensures { answer_of_shrink (rows_of (found_of entries.now)) ≡ Ok (request_of result) }
+// What `shrink` is to print, or its usage fault: a list has no compact form.
+fn shrunk_in(entries: &ArgMatches<'_>) -> Result<Shrunk, UsageFault>
+    ensures { result ≡ shrunk_in_rows (rows_of (found_of entries.now)) }
 {
+    match (is_given(entries, "certificate"), is_given(entries, "compact")) {
+        (false, false) => Ok(Shrunk::List),
+        (true, false) => Ok(Shrunk::Certificate),
+        (true, true) => Ok(Shrunk::Compact),
+        (false, true) => Err(UsageFault::CompactAlone),
+    }
+}
+
+// The command `shrink`, or its first usage fault, by the entries that clap found for it.
+fn shrink_command<'a>(entries: &ArgMatches<'a>) -> Result<Command<'a>, UsageFault>
+    ensures ok { IfOk result (λ command. answer_of_shrink (rows_of (found_of entries.now)) ≡ Ok (request_of command)) }
+    ensures err { IfErr result (λ fault. answer_of_shrink (rows_of (found_of entries.now)) ≡ Err fault) }
+{
+    let printed = shrunk_in(entries)?;
     let map = file_in(entries, "pmap");
-    let certificate = is_given(entries, "certificate");
-    Command::Shrink { map, certificate }
+    Ok(Command::Shrink { map, printed })
 }
 
 // The command `check`, by the entries that clap found for it.
@@ -230,6 +243,14 @@ fn check_command<'a>(entries: &ArgMatches<'a>) -> Command<'a>
         list: file_in(entries, "list"),
         certificate: file_in(entries, "cert"),
     }
+}
+
+// The command `recert`, by the entries that clap found for it.
+fn recert_command<'a>(entries: &ArgMatches<'a>) -> Command<'a>
+    ensures { answer_of_recert (rows_of (found_of entries.now)) ≡ Ok (request_of result) }
+{
+    let certificate = file_in(entries, "cert");
+    Command::Recert { certificate }
 }
 
 // The command of a subcommand, or its first usage fault, by its name and the entries that clap found for it.
@@ -255,10 +276,13 @@ fn command_of<'a>(
         return cat_command(entries);
     }
     if name == "shrink" {
-        return Ok(shrink_command(entries));
+        return shrink_command(entries);
     }
     if name == "check" {
         return Ok(check_command(entries));
+    }
+    if name == "recert" {
+        return Ok(recert_command(entries));
     }
     label_command(entries)
 }
@@ -279,7 +303,8 @@ pub fn words_fault(kind: io::ErrorKind) -> UsageFault
 /// # Errors
 ///
 /// `Refused` or `Help` where clap refuses the line or is asked for help. Where clap takes it, the first of these:
-/// `MapTwice`, `MapMissing`, `BadAddress`, `Filter` of the first filter that can't be read, `Key`, `LabelNeedsMap`. `NoMemory` where an allocation failed, in place of any other answer.
+/// `MapTwice`, `MapMissing`, `BadAddress`, `Filter` of the first filter that can't be read, `Key`, `LabelNeedsMap`, `CompactAlone`.
+/// `NoMemory` where an allocation failed, in place of any other answer.
 pub fn parse<'a>(alloc: Global, words: &'a [&'a str]) -> Result<Command<'a>, UsageFault>
     ensures answer { IsAnswer (texts words.entry.now) result }
     ensures proper { IfOk result (λ command. IsProper (request_of command)) }
@@ -292,6 +317,9 @@ pub fn parse<'a>(alloc: Global, words: &'a [&'a str]) -> Result<Command<'a>, Usa
     ensures cat_line { ReadsCatLine (texts words.entry.now) result }
     ensures shrink_line { ReadsShrinkLine (texts words.entry.now) result }
     ensures certificate_line { ReadsCertificateLine (texts words.entry.now) result }
+    ensures compact_line { ReadsCompactLine (texts words.entry.now) result }
+    ensures compact_alone_line { ReadsCompactAloneLine (texts words.entry.now) result }
+    ensures recert_line { ReadsRecertLine (texts words.entry.now) result }
     ensures taken { takes flowlabel_app (texts words.entry.now) ≡ true → IsOwnAnswer result }
 {
     let command = definition(alloc)?;

@@ -36,7 +36,7 @@ line_due_by-found format most count place number (text ∷ piece ∷ pieces) x e
       due_words-found format most count (words_of text) x.0 found.0,
     )
 
-line_due-found : (format most count : ℕ) (place : Place) (x : DueLine × Place) → line_due_at format most count place ≡ Ok x →
+pub line_due-found : (format most count : ℕ) (place : Place) (x : DueLine × Place) → line_due_at format most count place ≡ Ok x →
     (text : List ℕ) × (place.pieces ≡ text ∷ x.1.pieces) × SaysDue format most count x.0 (words_of text)
 line_due-found format most count place x e = line_due_by-found format most count place place.number place.pieces x e
 
@@ -57,6 +57,18 @@ either-same false y = refl
 
 not-ok : (fault : CertFault) (x : Tree × Place) → ◌≡◌ {A = Result (Tree × Place) CertFault} (Err fault) (Ok x) → ⊥
 not-ok fault x e = cc
+
+-- down a way of bits so many fewer can stand below one another
+pub nodes_at-down : (due : Place → Result (DueLine × Place) CertFault) (table : List Label) (room down left : ℕ) (place : Place) → room ≡ down + left →
+    nodes_at due table room down place ≡ nodes_at due table left zero place
+unfolding nodes_at
+nodes_at-down due table zero down left place deep =
+    let same : zero ≡ left = omega (arith, deep) in
+    subst (λ (l : ℕ). nodes_at due table zero down place ≡ nodes_at due table l zero place) same refl
+nodes_at-down due table (suc room) zero left place deep =
+    let same : suc room ≡ left = omega (arith, deep) in
+    ap (λ (l : ℕ). nodes_at due table l zero place) same
+nodes_at-down due table (suc room) (suc down) left place deep = nodes_at-down due table room down left place (omega (arith, deep))
 
 module _ (table : List Label) (ok : IsLabelTable table) (format most : ℕ) where
   abbrev due : Place → Result (DueLine × Place) CertFault
@@ -171,18 +183,6 @@ module _ (table : List Label) (ok : IsLabelTable table) (format most : ℕ) wher
               (below (length bits) left.0 after last.0 left.1 last.1)
               (ok_is (ChainNode (claim_at cost numbers) (bit ∷ bits) (text_at table side) last.0.0, last.0.1) x last.2)
   nodes_at-found (suc room) (suc down) left place x deep e = nodes_at-found room down left place x (omega (arith, deep)) e
-
-  -- down a way of bits so many fewer can stand below one another
-  pub nodes_at-down : (room down left : ℕ) (place : Place) → room ≡ down + left →
-      nodes_at due table room down place ≡ nodes_at due table left zero place
-  unfolding nodes_at
-  nodes_at-down zero down left place deep =
-      let same : zero ≡ left = omega (arith, deep) in
-      subst (λ (l : ℕ). nodes_at due table zero down place ≡ nodes_at due table l zero place) same refl
-  nodes_at-down (suc room) zero left place deep =
-      let same : suc room ≡ left = omega (arith, deep) in
-      ap (λ (l : ℕ). nodes_at due table l zero place) same
-  nodes_at-down (suc room) (suc down) left place deep = nodes_at-down room down left place (omega (arith, deep))
 
   -- lines of nodes
   letter-lacks : (c b : ℕ) → (b == c) ≡ false → Lacks c (b ∷ [])
@@ -307,6 +307,6 @@ module _ (table : List Label) (ok : IsLabelTable table) (format most : ℕ) wher
         ap (λ (r : Result (DueLine × Place) CertFault). r >>= (λ line. due_node table (suc room) here (nodes_at due table room) line.0 line.1)) line
             ∙ cond-true (nat_le (suc (length bits)) (suc room)) (nodes_at due table room (length bits) (at (number + 1) (lines ++ rest)) >>= chain) (Err (fault_at here TooDeep))
             (le-leb (suc (length bits)) (suc room) (omega (arith, below.1)))
-            ∙ ap (λ (r : Result (Tree × Place) CertFault). r >>= chain) (nodes_at-down room (length bits) below.0 (at (number + 1) (lines ++ rest)) below.1 ∙ last.1)
+            ∙ ap (λ (r : Result (Tree × Place) CertFault). r >>= chain) (nodes_at-down due table room (length bits) below.0 (at (number + 1) (lines ++ rest)) below.1 ∙ last.1)
             ∙ (λ i. Ok (ChainNode (claim-is claim form.1 i) (bit ∷ bits) (text_at-place_of table side form.2 i) end, at last.0 rest)),
       )

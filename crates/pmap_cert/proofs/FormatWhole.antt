@@ -1,23 +1,29 @@
 -- A text of either format is read exactly where it is the text of a certificate.
-use Rattle.std.proofs.Common.{◌≡◌, ℕ, ◌+◌, ◌<◌, ◌≤◌, ◌∙◌, ◌⊎◌, ◌↔◌, inl, inr, List, [], ◌∷◌, ◌++◌, Result, Ok, Err, length, sym, ap, subst, arith}
+use Rattle.std.proofs.Common.{◌≡◌, ◌≢◌, ℕ, true, false, ◌+◌, ◌<◌, ◌≤◌, ◌∙◌, ◌⊎◌, ◌↔◌, inl, inr, List, [], ◌∷◌, ◌++◌, Result, Ok, Err, length, refl, sym, ap, subst, arith}
+use Rattle.std.specs.Result.{IfErr, IfOk}
+use Rattle.std.proofs.lemmas.Bool.{cond-false, cond-true}
 use Rattle.std.proofs.lemmas.List.{append_assoc, length-append}
 use Rattle.prefix_keys.specs.Version.{width_of}
 use Rattle.prefix_keys.specs.declared.version.Version.{Version}
 use Rattle.pmap_text.specs.Label.{IsLabelTable}
 use Rattle.pmap_text.specs.MapModel.{Label}
+use Rattle.pmap_cert.specs.Certificate.{certificate_of}
 use Rattle.pmap_cert.specs.CertificateForm.{HasFormatText}
 use Rattle.pmap_cert.specs.CertificateModel.{CertificateModel, Tree}
-use Rattle.pmap_cert.specs.CertificateReading.{◌>>=◌, Place, certificate_reading, ended_by, labels_at, pieces_of, start_of}
+use Rattle.pmap_cert.specs.CertificateReading.{◌>>=◌, Place, certificate_reading, ended_by, fault_at, is_ended, labels_at, pieces_of, start_of}
 use Rattle.pmap_cert.specs.CertificateText.{certificate_lines, certificate_text, format_header, node_lines}
 use Rattle.pmap_cert.specs.Chain.{IsOfFormat, IsPlain}
 use Rattle.pmap_cert.specs.FormatReading.{DueLine, format_header_at, format_reading, line_due_at, nodes_at}
+use Rattle.pmap_cert.specs.declared.certificate.Certificate.{Certificate}
 use Rattle.pmap_cert.specs.declared.fault.CertFault.{CertFault}
+use Rattle.pmap_cert.specs.declared.fault.CertFaultKind.{CertFaultKind}
+use Rattle.pmap_cert.specs.declared.fault.CertFaultKind.TheVariants.{BadHeader, BadLabelTable, BadNode, NoMemory, NodesLeft, NodesMissing, TooDeep}
 use Rattle.pmap_cert.proofs.CompactForms.{plain-text}
 use Rattle.pmap_cert.proofs.FormatHeaders.{IsNumbered, format_header-no_feed, format_header_at-again, format_header_at-found}
 use Rattle.pmap_cert.proofs.FormatTrees.{IsKind, nodes_at-again, nodes_at-found}
 use Rattle.pmap_cert.proofs.Headers.{table-lacks}
 use Rattle.pmap_cert.proofs.Pieces.{pieces-lines, text_from_pieces}
-use Rattle.pmap_cert.proofs.Tables.{bind_ok, labels_at-again, labels_at-found}
+use Rattle.pmap_cert.proofs.Tables.{bind_ok, labels_at-again, labels_at-found, ok_is}
 use Rattle.pmap_cert.proofs.Whole.{ended_by-found, lacks-append, no_labels, nodes-lack, reading-found}
 
 -- the steps behind the header, the labels and the nodes
@@ -141,3 +147,57 @@ format-apart text fault c failed form e = both_results (sym failed ∙ ap format
 pub format-first : (text : List ℕ) (c : CertificateModel) → certificate_reading text ≡ Ok c → format_reading text ≡ Ok c
 format-first text c e =
     let found = reading-found text c e in ap format_reading found.1 ∙ format-again c (plain-text c found.0)
+
+-- so for what a call answers: what is read is the text of its certificate
+pub is_text : (text : List ℕ) (r : Result Certificate CertFault) → IfOk r (λ c. format_reading text ≡ Ok (certificate_of c)) → IfOk r (λ c. text ≡ certificate_text (certificate_of c))
+is_text text (Ok c) read = (format-found text (certificate_of c) read).1
+is_text text (Err fault) read = tt
+
+-- and what is the text of a certificate is read as that one, memory aside
+pub is_only : (text : List ℕ) (r : Result Certificate CertFault) → IfOk r (λ c. format_reading text ≡ Ok (certificate_of c))
+    → IfErr r (λ fault. fault.kind ≢ NoMemory → format_reading text ≡ Err fault)
+    → (c : CertificateModel) → HasFormatText c → text ≡ certificate_text c → IfOk r (λ found. certificate_of found ≡ c) × IfErr r (λ fault. fault.kind ≡ NoMemory)
+is_only text (Ok found) read fault c form e = (ok_is (certificate_of found) c (sym read ∙ ap format_reading e ∙ format-again c form), tt)
+is_only text (Err f) read fault c form e = (tt, memory f.kind (λ other. wrong (sym (fault other) ∙ ap format_reading e ∙ format-again c form)))
+  where
+    wrong : ◌≡◌ {A = Result CertificateModel CertFault} (Err f) (Ok c) → ⊥
+    wrong e = cc
+
+    memory : (kind : CertFaultKind) → (kind ≢ NoMemory → ⊥) → kind ≡ NoMemory
+    memory NoMemory known = refl
+    memory BadHeader known = absurd (known (λ e. cc))
+    memory BadLabelTable known = absurd (known (λ e. cc))
+    memory BadNode known = absurd (known (λ e. cc))
+    memory TooDeep known = absurd (known (λ e. cc))
+    memory NodesMissing known = absurd (known (λ e. cc))
+    memory NodesLeft known = absurd (known (λ e. cc))
+
+-- the whole reading, step by step
+module _ (text : List ℕ) where
+  pub reading-header_fault : (fault : CertFault) → format_header_at (start_of text) ≡ Err fault → format_reading text ≡ Err fault
+  reading-header_fault fault e = reading-steps text ∙ ap header_then e
+
+  module _ (format : ℕ) (version : Version) (count : ℕ) (after : Place) (header : format_header_at (start_of text) ≡ Ok ((format, (version, count)), after)) where
+    behind_header : format_reading text ≡ labels_then format version (labels_at count [] after)
+    behind_header = reading-steps text ∙ ap header_then header
+
+    pub reading-labels_fault : (fault : CertFault) → labels_at count [] after ≡ Err fault → format_reading text ≡ Err fault
+    reading-labels_fault fault e = behind_header ∙ ap (labels_then format version) e
+
+    module _ (table : List Label) (nodes : Place) (labels : labels_at count [] after ≡ Ok (table, nodes)) where
+      behind_labels : format_reading text ≡ root_then format version table (nodes_at (due format version table) table (width_of version) 0 nodes)
+      behind_labels = behind_header ∙ ap (labels_then format version) labels
+
+      pub reading-root_fault : (fault : CertFault) → nodes_at (due format version table) table (width_of version) 0 nodes ≡ Err fault → format_reading text ≡ Err fault
+      reading-root_fault fault e = behind_labels ∙ ap (root_then format version table) e
+
+      module _ (root : Tree) (end : Place) (e : nodes_at (due format version table) table (width_of version) 0 nodes ≡ Ok (root, end)) where
+        pub reading-ended : is_ended end.pieces ≡ true → format_reading text ≡ Ok (certificate_at format version table root)
+        reading-ended h =
+            behind_labels ∙ ap (root_then format version table) e
+            ∙ cond-true (is_ended end.pieces) (Ok (certificate_at format version table root)) (Err (fault_at end NodesLeft)) h
+
+        pub reading-left : is_ended end.pieces ≡ false → format_reading text ≡ Err (fault_at end NodesLeft)
+        reading-left h =
+            behind_labels ∙ ap (root_then format version table) e
+            ∙ cond-false (is_ended end.pieces) (Ok (certificate_at format version table root)) (Err (fault_at end NodesLeft)) h

@@ -40,3 +40,5 @@ pub mod ChainLines
 pub mod FormatHeaders
 pub mod FormatTrees
 pub mod FormatWhole
+pub mod CompactNodes
+pub mod CompactPlaces

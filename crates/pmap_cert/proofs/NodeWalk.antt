@@ -1,39 +1,44 @@
 -- The nodes that lines are those of.
-use Rattle.std.proofs.Common.{◌≡◌, ℕ, zero, suc, ◌+◌, ◌<◌, ◌≤◌, ◌∙◌, List, [], ◌∷◌, ◌++◌, length, map, drop, get_or, refl, sym, ap, subst, arith}
+use Rattle.std.proofs.Common.{◌≡◌, Bool, ℕ, zero, suc, ◌<◌, ◌≤◌, ◌∙◌, List, [], ◌∷◌, ◌++◌, length, drop, get_or, refl, sym, ap, subst, arith}
 use Rattle.std.proofs.lemmas.List.{append-nil, append_assoc}
-use Rattle.pmap_cert.specs.CertificateReading.{InnerLine, LeafLine, NodeLine}
-use Rattle.pmap_cert.specs.Node.{AreWhole, Inner, IsTree, Leaf, Node, cost_of, first_node, from_next_line, joined, label_of, line_cost, line_label, line_set, lines_of, nodes_of, set_of}
+use Rattle.pmap_cert.specs.CertificateReading.{InnerLine, LeafLine}
+use Rattle.pmap_cert.specs.FormatReading.{ChainLine, DueLine, PlainLine}
+use Rattle.pmap_cert.specs.Node.{AreWhole, Chain, Inner, IsTree, Leaf, Node, bits_of, chained, cost_of, first_node, from_next_line, joined, label_of, line_bits, line_cost, line_label, line_set, line_side, lines_of, nodes_of, set_of, side_of}
 
-pub nodes-lines : (node : Node) (rest : List NodeLine) → nodes_of (lines_of node ++ rest) ≡ node ∷ nodes_of rest
+pub nodes-lines : (node : Node) (rest : List DueLine) → nodes_of (lines_of node ++ rest) ≡ node ∷ nodes_of rest
 nodes-lines (Leaf number) rest = refl
 nodes-lines (Inner cost set lower upper) rest =
-    ap (λ (ls : List NodeLine). joined cost set (nodes_of ls)) (append_assoc (lines_of lower) (lines_of upper) rest)
+    ap (λ (ls : List DueLine). joined cost set (nodes_of ls)) (append_assoc (lines_of lower) (lines_of upper) rest)
     ∙ ap (joined cost set) (nodes-lines lower (lines_of upper ++ rest) ∙ ap (λ (ns : List Node). lower ∷ ns) (nodes-lines upper rest))
+nodes-lines (Chain cost set bits side end) rest = ap (chained cost set bits side) (nodes-lines end rest)
 
-pub whole-lines : (node : Node) (rest : List NodeLine) → AreWhole rest → AreWhole (lines_of node ++ rest)
+pub whole-lines : (node : Node) (rest : List DueLine) → AreWhole rest → AreWhole (lines_of node ++ rest)
 whole-lines (Leaf number) rest whole = whole
 whole-lines (Inner cost set lower upper) rest whole =
     let nodes : nodes_of (lines_of lower ++ (lines_of upper ++ rest)) ≡ lower ∷ upper ∷ nodes_of rest =
     nodes-lines lower (lines_of upper ++ rest) ∙ ap (λ (ns : List Node). lower ∷ ns) (nodes-lines upper rest) in
-    subst (λ (ls : List NodeLine). (2 ≤ length (nodes_of ls)) × AreWhole ls) (sym (append_assoc (lines_of lower) (lines_of upper) rest))
+    subst (λ (ls : List DueLine). (2 ≤ length (nodes_of ls)) × AreWhole ls) (sym (append_assoc (lines_of lower) (lines_of upper) rest))
     (subst (λ (ns : List Node). 2 ≤ length ns) (sym nodes) (omega arith), whole-lines lower (lines_of upper ++ rest) (whole-lines upper rest whole))
+whole-lines (Chain cost set bits side end) rest whole =
+    (subst (λ (ns : List Node). 1 ≤ length ns) (sym (nodes-lines end rest)) (omega arith), whole-lines end rest whole)
 
 -- the one node of a tree's lines
-pub root-of : (lines : List NodeLine) (node : Node) → lines ≡ lines_of node → nodes_of lines ≡ node ∷ []
+pub root-of : (lines : List DueLine) (node : Node) → lines ≡ lines_of node → nodes_of lines ≡ node ∷ []
 root-of lines node is = ap nodes_of (is ∙ sym (append-nil (lines_of node))) ∙ nodes-lines node []
 
-pub tree-whole : (lines : List NodeLine) (node : Node) → lines ≡ lines_of node → AreWhole lines
+pub tree-whole : (lines : List DueLine) (node : Node) → lines ≡ lines_of node → AreWhole lines
 tree-whole lines node is = subst AreWhole (sym (is ∙ sym (append-nil (lines_of node)))) (whole-lines node [] tt)
 
-pub tree-lines : (lines : List NodeLine) (node : Node) → IsTree lines → first_node (nodes_of lines) ≡ node → lines ≡ lines_of node
+pub tree-lines : (lines : List DueLine) (node : Node) → IsTree lines → first_node (nodes_of lines) ≡ node → lines ≡ lines_of node
 tree-lines lines node tree is = tree.is ∙ ap lines_of (sym (ap first_node (root-of lines tree.node tree.is)) ∙ is)
 
 -- from one line to the next
-pub whole-next : (lines : List NodeLine) (k : ℕ) → AreWhole (drop k lines) → AreWhole (drop (suc k) lines)
+pub whole-next : (lines : List DueLine) (k : ℕ) → AreWhole (drop k lines) → AreWhole (drop (suc k) lines)
 whole-next [] zero whole = whole
 whole-next [] (suc k) whole = whole
-whole-next (LeafLine number ∷ lines) zero whole = whole
-whole-next (InnerLine cost numbers ∷ lines) zero whole = whole.1
+whole-next (PlainLine (LeafLine number) ∷ lines) zero whole = whole
+whole-next (PlainLine (InnerLine cost numbers) ∷ lines) zero whole = whole.1
+whole-next (ChainLine cost bits side numbers ∷ lines) zero whole = whole.1
 whole-next (line ∷ lines) (suc k) whole = whole-next lines k whole
 
 halves : (cost : ℕ) (set : List ℕ) (nodes : List Node) → 2 ≤ length nodes → nodes ≡ from_next_line (joined cost set nodes)
@@ -41,34 +46,47 @@ halves cost set [] two = absurd (omega arith)
 halves cost set (node ∷ []) two = absurd (omega arith)
 halves cost set (lower ∷ upper ∷ nodes) two = refl
 
-pub nodes-next : (lines : List NodeLine) (k : ℕ) → AreWhole (drop k lines) → nodes_of (drop (suc k) lines) ≡ from_next_line (nodes_of (drop k lines))
+end-next : (cost : ℕ) (set : List ℕ) (bits : List Bool) (side : ℕ) (nodes : List Node) → 1 ≤ length nodes → nodes ≡ from_next_line (chained cost set bits side nodes)
+end-next cost set bits side [] some = absurd (omega arith)
+end-next cost set bits side (end ∷ nodes) some = refl
+
+pub nodes-next : (lines : List DueLine) (k : ℕ) → AreWhole (drop k lines) → nodes_of (drop (suc k) lines) ≡ from_next_line (nodes_of (drop k lines))
 nodes-next [] zero whole = refl
 nodes-next [] (suc k) whole = refl
-nodes-next (LeafLine number ∷ lines) zero whole = refl
-nodes-next (InnerLine cost numbers ∷ lines) zero whole = halves cost numbers (nodes_of lines) whole.0
+nodes-next (PlainLine (LeafLine number) ∷ lines) zero whole = refl
+nodes-next (PlainLine (InnerLine cost numbers) ∷ lines) zero whole = halves cost numbers (nodes_of lines) whole.0
+nodes-next (ChainLine cost bits side numbers ∷ lines) zero whole = end-next cost numbers bits side (nodes_of lines) whole.0
 nodes-next (line ∷ lines) (suc k) whole = nodes-next lines k whole
 
 -- the line says what its node claims
-pub record IsLineOf (line : NodeLine) (node : Node) : Type 0 where
+pub record IsLineOf (line : DueLine) (node : Node) : Type 0 where
   pub label : line_label line ≡ label_of node
   pub cost : line_cost line ≡ cost_of node
   pub set : line_set line ≡ set_of node
+  pub bits : line_bits line ≡ bits_of node
+  pub side : line_side line ≡ side_of node
 
-inner-line : (cost : ℕ) (set : List ℕ) (nodes : List Node) → 2 ≤ length nodes → IsLineOf (InnerLine cost set) (first_node (joined cost set nodes))
+inner-line : (cost : ℕ) (set : List ℕ) (nodes : List Node) → 2 ≤ length nodes → IsLineOf (PlainLine (InnerLine cost set)) (first_node (joined cost set nodes))
 inner-line cost set [] two = absurd (omega arith)
 inner-line cost set (node ∷ []) two = absurd (omega arith)
-inner-line cost set (lower ∷ upper ∷ nodes) two = record { label = refl; cost = refl; set = refl }
+inner-line cost set (lower ∷ upper ∷ nodes) two = record { label = refl; cost = refl; set = refl; bits = refl; side = refl }
 
-pub within : (lines : List NodeLine) (k : ℕ) → 0 < length (nodes_of (drop k lines)) → k < length lines
+chain-line : (cost : ℕ) (set : List ℕ) (bits : List Bool) (side : ℕ) (nodes : List Node) → 1 ≤ length nodes
+    → IsLineOf (ChainLine cost bits side set) (first_node (chained cost set bits side nodes))
+chain-line cost set bits side [] some = absurd (omega arith)
+chain-line cost set bits side (end ∷ nodes) some = record { label = refl; cost = refl; set = refl; bits = refl; side = refl }
+
+pub within : (lines : List DueLine) (k : ℕ) → 0 < length (nodes_of (drop k lines)) → k < length lines
 within [] zero some = absurd (omega arith)
 within [] (suc k) some = absurd (omega arith)
 within (line ∷ lines) zero some = omega arith
 within (line ∷ lines) (suc k) some = let less = within lines k some in omega arith
 
-pub line-here : (lines : List NodeLine) (k : ℕ) (z : NodeLine) → 0 < length (nodes_of (drop k lines)) → AreWhole (drop k lines)
+pub line-here : (lines : List DueLine) (k : ℕ) (z : DueLine) → 0 < length (nodes_of (drop k lines)) → AreWhole (drop k lines)
     → IsLineOf (get_or lines k z) (first_node (nodes_of (drop k lines)))
 line-here [] zero z some whole = absurd (omega arith)
 line-here [] (suc k) z some whole = absurd (omega arith)
-line-here (LeafLine number ∷ lines) zero z some whole = record { label = refl; cost = refl; set = refl }
-line-here (InnerLine cost numbers ∷ lines) zero z some whole = inner-line cost numbers (nodes_of lines) whole.0
+line-here (PlainLine (LeafLine number) ∷ lines) zero z some whole = record { label = refl; cost = refl; set = refl; bits = refl; side = refl }
+line-here (PlainLine (InnerLine cost numbers) ∷ lines) zero z some whole = inner-line cost numbers (nodes_of lines) whole.0
+line-here (ChainLine cost bits side numbers ∷ lines) zero z some whole = chain-line cost numbers bits side (nodes_of lines) whole.0
 line-here (line ∷ lines) (suc k) z some whole = line-here lines k z some whole

@@ -1,10 +1,14 @@
 -- Trees without chains: those of minimal pairs, and those that the code keeps.
-use Rattle.std.proofs.Common.{ℕ, suc, ◌+◌, ◌*◌, List}
+use Rattle.std.proofs.Common.{◌≡◌, ℕ, zero, suc, ◌+◌, ◌*◌, List, inl, inr, refl, subst}
+use Rattle.prefix_keys.specs.declared.version.Version.{Version}
 use Rattle.pmap_text.specs.MapModel.{Label, MapModel}
 use Rattle.pmap_cert.specs.CertificateModel.{ChainNode, InnerNode, LeafNode, Tree}
-use Rattle.pmap_cert.specs.Chain.{IsPlain}
+use Rattle.pmap_cert.specs.Chain.{IsOfFormat, IsPlain}
+use Rattle.pmap_cert.specs.Format.{IsNodeOf, format_number}
 use Rattle.pmap_cert.specs.MinimalPair.{StandsFor}
-use Rattle.pmap_cert.specs.Node.{Inner, Leaf, Node, tree_of}
+use Rattle.pmap_cert.specs.Node.{Chain, HasChainForm, HasNumberForm, Inner, IsPlainNode, Leaf, Node, tree_of}
+use Rattle.pmap_cert.specs.declared.format.Format.{Format}
+use Rattle.pmap_cert.specs.declared.format.Format.TheVariants.{One, Two}
 
 -- a node that stands for a block has no chain
 pub plain-stands : (m : MapModel) (t : Tree) (n q : ℕ) → StandsFor m t n q → IsPlain t
@@ -13,7 +17,33 @@ plain-stands m (InnerNode claim lower upper) n q h =
     (plain-stands m lower (suc n) (2 * q) h.2, plain-stands m upper (suc n) (2 * q + 1) h.3)
 plain-stands m (ChainNode claim bits side end) n q h = absurd h
 
--- the code keeps no chains
-pub plain-tree_of : (table : List Label) (node : Node) → IsPlain (tree_of table node)
-plain-tree_of table (Leaf number) = tt
-plain-tree_of table (Inner cost set lower upper) = (plain-tree_of table lower, plain-tree_of table upper)
+-- nor has the tree of a node without chains
+pub plain-tree_of : (table : List Label) (node : Node) → IsPlainNode node → IsPlain (tree_of table node)
+plain-tree_of table (Leaf number) plain = tt
+plain-tree_of table (Inner cost set lower upper) plain =
+    (plain-tree_of table lower plain.0, plain-tree_of table upper plain.1)
+plain-tree_of table (Chain cost set bits side end) plain = absurd plain
+
+-- the form of a node without chains
+pub number-plain : (count : ℕ) (node : Node) (room : ℕ) → HasNumberForm count node room → IsPlainNode node
+number-plain count (Leaf number) room form = tt
+number-plain count (Inner cost set lower upper) zero form = absurd form
+number-plain count (Inner cost set lower upper) (suc room) form =
+    (number-plain count lower room form.2, number-plain count upper room form.3)
+number-plain count (Chain cost set bits side end) room form = absurd form
+
+pub number-form : (count : ℕ) (node : Node) (room : ℕ) → HasNumberForm count node room → HasChainForm count node room
+number-form count (Leaf number) room form = form
+number-form count (Inner cost set lower upper) zero form = absurd form
+number-form count (Inner cost set lower upper) (suc room) form =
+    (form.0, form.1, number-form count lower room form.2, number-form count upper room form.3)
+number-form count (Chain cost set bits side end) room form = absurd form
+
+-- the format of a certificate of the code
+pub of-kind : (table : List Label) (format : Format) (node : Node) (version : Version) → IsNodeOf format node
+    → IsOfFormat (record { format = format_number format; version = version; table = table; root = tree_of table node })
+of-kind table One node version plain = inl (refl, plain-tree_of table node plain)
+of-kind table Two node version kind = inr refl
+
+pub plain-kind : (format : Format) (node : Node) → format ≡ One → IsNodeOf format node → IsPlainNode node
+plain-kind format node is = subst (λ (f : Format). IsNodeOf f node) is

@@ -1,16 +1,21 @@
 -- Reading one after the other, as the code does.
-use Rattle.std.proofs.Common.{◌≡◌, ℕ, zero, suc, ◌+◌, ◌-◌, ◌^◌, ◌<◌, ◌≤◌, ◌∙◌, List, [], ◌∷◌, ◌++◌, Result, Ok, Err, length, map, sym, ap, subst, arith}
+use Rattle.std.proofs.Common.{◌≡◌, ℕ, zero, suc, ◌+◌, ◌-◌, ◌<◌, ◌≤◌, ◌∙◌, Bool, List, [], ◌∷◌, ◌++◌, Result, Ok, Err, length, map, nat_le, sym, ap, subst, arith}
+use Rattle.std.proofs.lemmas.Bool.{cond-false, cond-true, le-leb, lt-leb}
+use Rattle.std.proofs.lemmas.List.{append_assoc, length_push}
 use Rattle.pmap_text.specs.MapModel.{Label}
 use Rattle.pmap_text.specs.MapText.{text_at}
-use Rattle.std.proofs.lemmas.List.{append_assoc, length_push}
-use Rattle.pmap_cert.specs.CertificateForm.{IsRising}
-use Rattle.pmap_cert.specs.CertificateModel.{InnerNode, LeafNode, Pair, Tree}
-use Rattle.pmap_cert.specs.CertificateReading.{◌>>=◌, InnerLine, LeafLine, NodeLine, Place, due_at, fault_at, label_at, labels_at, node_at, node_by}
+use Rattle.pmap_cert.specs.CertificateModel.{ChainNode, InnerNode, LeafNode, Pair, Tree}
+use Rattle.pmap_cert.specs.CertificateReading.{◌>>=◌, InnerLine, LeafLine, Place, fault_at, label_at, labels_at}
+use Rattle.pmap_cert.specs.Format.{IsNodeOf, format_number}
+use Rattle.pmap_cert.specs.FormatReading.{ChainLine, DueLine, PlainLine, due_node, line_due_at, nodes_at}
+use Rattle.pmap_cert.specs.Node.{Chain, HasChainForm, Inner, Leaf, Node, lines_of, tree_of}
+use Rattle.pmap_cert.specs.ReadNodes.{IsReadNode}
 use Rattle.pmap_cert.specs.declared.fault.CertFault.{CertFault}
 use Rattle.pmap_cert.specs.declared.fault.CertFaultKind.TheVariants.{TooDeep}
-use Rattle.pmap_cert.specs.Node.{HasNumberForm, Inner, Leaf, Node, lines_of, tree_of}
-use Rattle.pmap_cert.specs.ReadNodes.{IsReadNode}
-use Rattle.pmap_cert.proofs.Trees.{due_at-found}
+use Rattle.pmap_cert.specs.declared.format.Format.{Format}
+use Rattle.pmap_cert.specs.declared.format.Format.TheVariants.{One, Two}
+use Rattle.pmap_cert.proofs.ChainWords.{room-left}
+use Rattle.pmap_cert.proofs.FormatTrees.{line_due-found, nodes_at-down}
 
 -- labels
 
@@ -37,94 +42,163 @@ module _ (count : ℕ) (table : List Label) (place : Place) (total : Result (Lis
 
 -- nodes
 
-module _ (table : List Label) (room : ℕ) (place after : Place) where
-  pub node_at-fault : (fault : CertFault) → due_at (length table) place ≡ Err fault → node_at table room place ≡ Err fault
-  unfolding node_at
-  node_at-fault fault e = by room
-    where
-      by : (room : ℕ) → node_at table room place ≡ Err fault
-      by zero = ap (λ (r : Result (NodeLine × Place) CertFault). r >>= (λ due. node_by table (λ after. Err (fault_at place TooDeep)) due.0 due.1)) e
-      by (suc room) = ap (λ (r : Result (NodeLine × Place) CertFault). r >>= (λ due. node_by table (node_at table room) due.0 due.1)) e
+abbrev Read : Type 0
+Read = Result (Tree × Place) CertFault
 
-  pub node_at-leaf : (number : ℕ) → due_at (length table) place ≡ Ok (LeafLine number, after) → node_at table room place ≡ Ok (LeafNode (text_at table number), after)
-  unfolding node_at
-  node_at-leaf number e = by room
-    where
-      by : (room : ℕ) → node_at table room place ≡ Ok (LeafNode (text_at table number), after)
-      by zero = ap (λ (r : Result (NodeLine × Place) CertFault). r >>= (λ due. node_by table (λ after. Err (fault_at place TooDeep)) due.0 due.1)) e
-      by (suc room) = ap (λ (r : Result (NodeLine × Place) CertFault). r >>= (λ due. node_by table (node_at table room) due.0 due.1)) e
+module _ (due : Place → Result (DueLine × Place) CertFault) (table : List Label) (place after : Place) where
+  abbrev then_in : ℕ → (ℕ → Place → Read) → Result (DueLine × Place) CertFault → Read
+  then_in room inside r = r >>= (λ line. due_node table room place inside line.0 line.1)
 
-module _ (table : List Label) (place after : Place) (cost : ℕ) (numbers : List ℕ) (due : due_at (length table) place ≡ Ok (InnerLine cost numbers, after)) where
-  pub node_at-deep : node_at table 0 place ≡ Err (fault_at place TooDeep)
-  unfolding node_at
-  node_at-deep = ap (λ (r : Result (NodeLine × Place) CertFault). r >>= (λ due. node_by table (λ after. Err (fault_at place TooDeep)) due.0 due.1)) due
+  abbrev too_deep : ℕ → Place → Read
+  too_deep deeper behind = Err (fault_at place TooDeep)
 
-  abbrev claim : Pair
-  claim = record { cost = cost; labels = map (text_at table) numbers }
+  pub node-fault : (room : ℕ) (fault : CertFault) → due place ≡ Err fault → nodes_at due table room 0 place ≡ Err fault
+  unfolding nodes_at
+  node-fault zero fault e = ap (then_in zero too_deep) e
+  node-fault (suc room) fault e = ap (then_in (suc room) (nodes_at due table room)) e
 
-  inner : (room : ℕ) → node_at table (suc room) place ≡ (node_at table room after >>= (λ lower. node_at table room lower.1 >>= (λ upper. Ok (InnerNode claim lower.0 upper.0, upper.1))))
-  unfolding node_at
-  inner room = ap (λ (r : Result (NodeLine × Place) CertFault). r >>= (λ due. node_by table (node_at table room) due.0 due.1)) due
+  pub node-leaf : (room number : ℕ) → due place ≡ Ok (PlainLine (LeafLine number), after)
+      → nodes_at due table room 0 place ≡ Ok (LeafNode (text_at table number), after)
+  unfolding nodes_at
+  node-leaf zero number e = ap (then_in zero too_deep) e
+  node-leaf (suc room) number e = ap (then_in (suc room) (nodes_at due table room)) e
 
-  -- a room that is some
-  deeper : (room : ℕ) → 0 < room → node_at table room place ≡ (node_at table (room - 1) after >>= (λ lower. node_at table (room - 1) lower.1 >>= (λ upper. Ok (InnerNode claim lower.0 upper.0, upper.1))))
-  deeper room h =
-      let is : suc (room - 1) ≡ room = omega arith in
-      ap (λ (n : ℕ). node_at table n place) (sym is) ∙ inner (room - 1)
+  module _ (cost : ℕ) (numbers : List ℕ) where
+    abbrev claim : Pair
+    claim = record { cost = cost; labels = map (text_at table) numbers }
 
-  pub node_at-lower_fault : (room : ℕ) → 0 < room → (fault : CertFault) → node_at table (room - 1) after ≡ Err fault → node_at table room place ≡ Err fault
-  node_at-lower_fault room h fault e =
-      deeper room h
-      ∙ ap (λ (r : Result (Tree × Place) CertFault). r >>= (λ lower. node_at table (room - 1) lower.1 >>= (λ upper. Ok (InnerNode claim lower.0 upper.0, upper.1)))) e
+    module _ (is : due place ≡ Ok (PlainLine (InnerLine cost numbers), after)) where
+      pub node-deep : nodes_at due table 0 0 place ≡ Err (fault_at place TooDeep)
+      unfolding nodes_at
+      node-deep = ap (then_in zero too_deep) is
 
-  module _ (room : ℕ) (h : 0 < room) (lower : Tree) (middle : Place) (first : node_at table (room - 1) after ≡ Ok (lower, middle)) where
-    second : node_at table room place ≡ (node_at table (room - 1) middle >>= (λ upper. Ok (InnerNode claim lower upper.0, upper.1)))
-    second =
-        deeper room h
-        ∙ ap (λ (r : Result (Tree × Place) CertFault). r >>= (λ lower. node_at table (room - 1) lower.1 >>= (λ upper. Ok (InnerNode claim lower.0 upper.0, upper.1)))) first
+      abbrev upper_then : Tree → Read → Read
+      upper_then lower r = r >>= (λ upper. Ok (InnerNode claim lower upper.0, upper.1))
 
-    pub node_at-upper_fault : (fault : CertFault) → node_at table (room - 1) middle ≡ Err fault → node_at table room place ≡ Err fault
-    node_at-upper_fault fault e = second ∙ ap (λ (r : Result (Tree × Place) CertFault). r >>= (λ upper. Ok (InnerNode claim lower upper.0, upper.1))) e
+      abbrev lower_then : ℕ → Read → Read
+      lower_then room r = r >>= (λ lower. upper_then lower.0 (nodes_at due table room 0 lower.1))
 
-    pub node_at-inner : (upper : Tree) (end : Place) → node_at table (room - 1) middle ≡ Ok (upper, end) → node_at table room place ≡ Ok (InnerNode claim lower upper, end)
-    node_at-inner upper end e = second ∙ ap (λ (r : Result (Tree × Place) CertFault). r >>= (λ upper. Ok (InnerNode claim lower upper.0, upper.1))) e
+      inner : (room : ℕ) → nodes_at due table (suc room) 0 place ≡ lower_then room (nodes_at due table room 0 after)
+      unfolding nodes_at
+      inner room = ap (then_in (suc room) (nodes_at due table room)) is
 
-  -- the cost and the numbers that the line says
-  pub inner_form : (cost < 2 ^ 32) × IsRising (length table) 0 numbers
-  inner_form = let found = due_at-found (length table) place (InnerLine cost numbers, after) due in (found.2.1, found.2.2)
+      -- a room that is some
+      deeper : (room : ℕ) → 0 < room → nodes_at due table room 0 place ≡ lower_then (room - 1) (nodes_at due table (room - 1) 0 after)
+      deeper room h =
+          let is : suc (room - 1) ≡ room = omega arith in
+          ap (λ (n : ℕ). nodes_at due table n 0 place) (sym is) ∙ inner (room - 1)
 
--- the number that the line of a leaf says
-pub leaf_form : (table : List Label) (place after : Place) (number : ℕ) → due_at (length table) place ≡ Ok (LeafLine number, after) → number < length table
-leaf_form table place after number due = (due_at-found (length table) place (LeafLine number, after) due).2.1
+      pub node-lower_fault : (room : ℕ) → 0 < room → (fault : CertFault) → nodes_at due table (room - 1) 0 after ≡ Err fault → nodes_at due table room 0 place ≡ Err fault
+      node-lower_fault room h fault e = deeper room h ∙ ap (lower_then (room - 1)) e
 
--- a node and its lines behind the old ones
-pub read-leaf : (table : List Label) (room : ℕ) (place after : Place) (number : ℕ) (old new : List NodeLine) → due_at (length table) place ≡ Ok (LeafLine number, after)
-    → new ≡ old ++ LeafLine number ∷ [] → IsReadNode table room place old new after
-read-leaf table room place after number old new due is = record {
-  node = Leaf number;
-  read = node_at-leaf table room place after number due;
-  form = leaf_form table place after number due;
-  lines = is;
-}
+      module _ (room : ℕ) (h : 0 < room) (lower : Tree) (middle : Place) (first : nodes_at due table (room - 1) 0 after ≡ Ok (lower, middle)) where
+        second : nodes_at due table room 0 place ≡ upper_then lower (nodes_at due table (room - 1) 0 middle)
+        second = deeper room h ∙ ap (lower_then (room - 1)) first
 
-pub read-inner : (table : List Label) (room : ℕ) (place after middle end : Place) (cost : ℕ) (numbers : List ℕ) (old first second third : List NodeLine)
-    → due_at (length table) place ≡ Ok (InnerLine cost numbers, after) → 0 < room → first ≡ old ++ InnerLine cost numbers ∷ []
-    → IsReadNode table (room - 1) after first second middle → IsReadNode table (room - 1) middle second third end → IsReadNode table room place old third end
-read-inner table room place after middle end cost numbers old first second third due some is low up = record {
-  node = node;
-  read = node_at-inner table place after cost numbers due room some (tree_of table low.node) middle low.read (tree_of table up.node) end up.read;
-  form = subst (HasNumberForm (length table) node) more (says.0, says.1, low.form, up.form);
-  lines =
-      up.lines ∙ ap (λ (ls : List NodeLine). ls ++ lines_of up.node) (low.lines ∙ ap (λ (ls : List NodeLine). ls ++ lines_of low.node) is)
-      ∙ append_assoc (old ++ InnerLine cost numbers ∷ []) (lines_of low.node) (lines_of up.node)
-      ∙ append_assoc old (InnerLine cost numbers ∷ []) (lines_of low.node ++ lines_of up.node);
-}
-  where
-    node : Node
-    node = Inner cost numbers low.node up.node
+        pub node-upper_fault : (fault : CertFault) → nodes_at due table (room - 1) 0 middle ≡ Err fault → nodes_at due table room 0 place ≡ Err fault
+        node-upper_fault fault e = second ∙ ap (upper_then lower) e
 
-    says : (cost < 2 ^ 32) × IsRising (length table) 0 numbers
-    says = inner_form table place after cost numbers due
+        pub node-inner : (upper : Tree) (end : Place) → nodes_at due table (room - 1) 0 middle ≡ Ok (upper, end) → nodes_at due table room 0 place ≡ Ok (InnerNode claim lower upper, end)
+        node-inner upper end e = second ∙ ap (upper_then lower) e
 
-    more : suc (room - 1) ≡ room
-    more = omega arith
+    abbrev pub end_then : List Bool → ℕ → Read → Read
+    end_then bits side r = r >>= (λ end. Ok (ChainNode claim bits (text_at table side) end.0, end.1))
+
+    pub chain-deep : (bits : List Bool) (side room : ℕ) → due place ≡ Ok (ChainLine cost bits side numbers, after) → room < length bits → 0 < length bits
+        → nodes_at due table room 0 place ≡ Err (fault_at place TooDeep)
+    unfolding nodes_at
+    chain-deep [] side room is h some = absurd (omega arith)
+    chain-deep (bit ∷ bits) side zero is h some =
+        ap (then_in zero too_deep) is
+        ∙ cond-false (nat_le (suc (length bits)) zero) (end_then (bit ∷ bits) side (Err (fault_at place TooDeep))) (Err (fault_at place TooDeep)) (lt-leb _ _ (omega arith))
+    chain-deep (bit ∷ bits) side (suc room) is h some =
+        ap (then_in (suc room) (nodes_at due table room)) is
+        ∙ cond-false (nat_le (suc (length bits)) (suc room)) (end_then (bit ∷ bits) side (nodes_at due table room (length bits) after)) (Err (fault_at place TooDeep)) (lt-leb _ _ (omega arith))
+
+    pub chain-in : (bits : List Bool) (side room : ℕ) → due place ≡ Ok (ChainLine cost bits side numbers, after) → length bits ≤ room → 0 < length bits
+        → nodes_at due table room 0 place ≡ end_then bits side (nodes_at due table (room - length bits) 0 after)
+    unfolding nodes_at
+    chain-in [] side room is h some = absurd (omega arith)
+    chain-in (bit ∷ bits) side zero is h some = absurd (omega arith)
+    chain-in (bit ∷ bits) side (suc room) is h some =
+        ap (then_in (suc room) (nodes_at due table room)) is
+        ∙ cond-true (nat_le (suc (length bits)) (suc room)) (end_then (bit ∷ bits) side (nodes_at due table room (length bits) after)) (Err (fault_at place TooDeep)) (le-leb _ _ (omega arith))
+        ∙ ap (end_then (bit ∷ bits) side)
+        (nodes_at-down due table room (length bits) (suc room - suc (length bits)) after (omega arith))
+
+-- what a line says
+module _ (format : Format) (most : ℕ) (table : List Label) where
+  abbrev pub due_in : Place → Result (DueLine × Place) CertFault
+  due_in = line_due_at (format_number format) most (length table)
+
+  -- nodes of a format
+  leaf-kind : (f : Format) (number : ℕ) → IsNodeOf f (Leaf number)
+  leaf-kind One number = tt
+  leaf-kind Two number = tt
+
+  inner-kind : (f : Format) (cost : ℕ) (set : List ℕ) (lower upper : Node) → IsNodeOf f lower → IsNodeOf f upper → IsNodeOf f (Inner cost set lower upper)
+  inner-kind One cost set lower upper low up = (low, up)
+  inner-kind Two cost set lower upper low up = tt
+
+  chain-kind : (f : Format) (cost : ℕ) (set : List ℕ) (bits : List Bool) (side : ℕ) (end : Node) → format_number f ≡ 2 → IsNodeOf f (Chain cost set bits side end)
+  chain-kind One cost set bits side end two = absurd (omega arith)
+  chain-kind Two cost set bits side end two = tt
+
+  -- a chain's line has a bit
+  pub chain-bits : (place after : Place) (cost : ℕ) (bits : List Bool) (side : ℕ) (numbers : List ℕ) → due_in place ≡ Ok (ChainLine cost bits side numbers, after)
+      → 0 < length bits
+  chain-bits place after cost bits side numbers is =
+      let said = line_due-found (format_number format) most (length table) place (ChainLine cost bits side numbers, after) is in said.2.3
+
+  -- a node and its lines behind the old ones
+  pub read-leaf : (room : ℕ) (place after : Place) (number : ℕ) (old new : List DueLine) → due_in place ≡ Ok (PlainLine (LeafLine number), after)
+      → new ≡ old ++ PlainLine (LeafLine number) ∷ [] → IsReadNode format most table room place old new after
+  read-leaf room place after number old new due is =
+      let said = line_due-found (format_number format) most (length table) place (PlainLine (LeafLine number), after) due in record {
+        node = Leaf number;
+        read = node-leaf due_in table place after room number due;
+        form = said.2.1;
+        kind = leaf-kind format number;
+        lines = is;
+      }
+
+  pub read-inner : (room : ℕ) (place after middle end : Place) (cost : ℕ) (numbers : List ℕ) (old first second third : List DueLine)
+      → due_in place ≡ Ok (PlainLine (InnerLine cost numbers), after) → 0 < room → first ≡ old ++ PlainLine (InnerLine cost numbers) ∷ []
+      → IsReadNode format most table (room - 1) after first second middle → IsReadNode format most table (room - 1) middle second third end
+      → IsReadNode format most table room place old third end
+  read-inner room place after middle end cost numbers old first second third due some is low up =
+      let said = line_due-found (format_number format) most (length table) place (PlainLine (InnerLine cost numbers), after) due in
+      let more : suc (room - 1) ≡ room = omega arith in
+      let node : Node = Inner cost numbers low.node up.node in record {
+        node = node;
+        read = node-inner due_in table place after cost numbers due room some (tree_of table low.node) middle low.read (tree_of table up.node) end up.read;
+        form = subst (HasChainForm (length table) node) more (said.2.1, said.2.2, low.form, up.form);
+        kind = inner-kind format cost numbers low.node up.node low.kind up.kind;
+        lines =
+            up.lines ∙ ap (λ (ls : List DueLine). ls ++ lines_of up.node) (low.lines ∙ ap (λ (ls : List DueLine). ls ++ lines_of low.node) is)
+            ∙ append_assoc (old ++ PlainLine (InnerLine cost numbers) ∷ []) (lines_of low.node) (lines_of up.node)
+            ∙ append_assoc old (PlainLine (InnerLine cost numbers) ∷ []) (lines_of low.node ++ lines_of up.node);
+      }
+
+  pub read-chain : (room : ℕ) (place after end : Place) (cost : ℕ) (bits : List Bool) (side : ℕ) (numbers : List ℕ) (old first second : List DueLine)
+      → due_in place ≡ Ok (ChainLine cost bits side numbers, after) → length bits ≤ room → first ≡ old ++ ChainLine cost bits side numbers ∷ []
+      → IsReadNode format most table (room - length bits) after first second end → IsReadNode format most table room place old second end
+  read-chain room place after end cost bits side numbers old first second due fits is last =
+      let said = line_due-found (format_number format) most (length table) place (ChainLine cost bits side numbers, after) due in
+      let some = said.2.3 in record {
+        node = Chain cost numbers bits side last.node;
+        read =
+            chain-in due_in table place after cost numbers bits side room due fits some
+            ∙ ap (end_then due_in table place after cost numbers bits side) last.read;
+        form = (
+          said.2.2,
+          said.2.6,
+          said.2.5,
+          some,
+          room-left (HasChainForm (length table) last.node) bits room (room - length bits) (omega arith) last.form,
+        );
+        kind = chain-kind format cost numbers bits side last.node said.2.1;
+        lines =
+            last.lines ∙ ap (λ (ls : List DueLine). ls ++ lines_of last.node) is
+            ∙ append_assoc old (ChainLine cost bits side numbers ∷ []) (lines_of last.node);
+      }

@@ -3,7 +3,8 @@ use Rattle.std.proofs.Common.{◌≡◌, ℕ, ◌+◌, ◌<◌, ◌≤◌, ◌==
 use Rattle.std.specs.Option.{option_map}
 use Rattle.std.proofs.lemmas.Bool.{cond-false, cond-true, le-leb, lt-leb}
 use Rattle.std.proofs.lemmas.List.{append-nil, append_assoc}
-use Rattle.pmap_cert.specs.CertificateReading.{leaf_by, header_of, number_below, onto_numbers, rising_numbers, words_of}
+use Rattle.pmap_cert.specs.CertificateReading.{leaf_by, number_below, onto_numbers, rising_numbers, words_of}
+use Rattle.pmap_cert.specs.FormatReading.{format_header_of}
 use Rattle.pmap_cert.proofs.Pieces.{split_some}
 
 -- what was read before, and what is still read
@@ -42,9 +43,9 @@ leaf_by-more count word (next ∷ words) h = refl
 pub leaf_by-words : (count : ℕ) (word : List ℕ) (text : List ℕ) → leaf_by count (word ∷ words_of text) ≡ None
 leaf_by-words count word text = leaf_by-more count word (words_of text) (split_some (λ b. b == 32) text)
 
-header_of-more : (a b c d : List ℕ) (words : List (List ℕ)) → 0 < length words → header_of (a ∷ b ∷ c ∷ d ∷ words) ≡ None
-header_of-more a b c d [] h = absurd (omega arith)
-header_of-more a b c d (next ∷ words) h = refl
+format_header_of-more : (a b c d : List ℕ) (words : List (List ℕ)) → 0 < length words → format_header_of (a ∷ b ∷ c ∷ d ∷ words) ≡ None
+format_header_of-more a b c d [] h = absurd (omega arith)
+format_header_of-more a b c d (next ∷ words) h = refl
 
-pub header_of-words_more : (a b c d : List ℕ) (text : List ℕ) → header_of (a ∷ b ∷ c ∷ d ∷ words_of text) ≡ None
-header_of-words_more a b c d text = header_of-more a b c d (words_of text) (split_some (λ b. b == 32) text)
+pub format_header_of-words_more : (a b c d : List ℕ) (text : List ℕ) → format_header_of (a ∷ b ∷ c ∷ d ∷ words_of text) ≡ None
+format_header_of-words_more a b c d text = format_header_of-more a b c d (words_of text) (split_some (λ b. b == 32) text)

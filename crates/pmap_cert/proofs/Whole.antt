@@ -1,8 +1,7 @@
 -- A text is read exactly where it is the text of a certificate.
-use Rattle.std.proofs.Common.{◌≡◌, ◌≢◌, ℕ, zero, suc, ◌+◌, ◌<◌, ◌≤◌, ◌∙◌, ◌⊎◌, ◌↔◌, inl, inr, Bool, true, false, List, [], ◌∷◌, ◌++◌, Result, Ok, Err, length, map, refl, sym, ap, subst, arith, codes}
+use Rattle.std.proofs.Common.{◌≡◌, ℕ, zero, suc, ◌+◌, ◌<◌, ◌≤◌, ◌∙◌, ◌⊎◌, ◌↔◌, inl, inr, Bool, true, false, List, [], ◌∷◌, ◌++◌, Result, Ok, Err, length, map, refl, sym, ap, subst, arith, codes}
 use Rattle.std.specs.Fmt.{decimal}
 use Rattle.std.specs.List.{AllByRecursion}
-use Rattle.std.specs.Result.{IfErr, IfOk}
 use Rattle.std.proofs.lemmas.Bool.{cond-false, cond-true}
 use Rattle.std.proofs.lemmas.List.{append_assoc, length-append}
 use Rattle.std.proofs.lemmas.Option.{none-some}
@@ -11,15 +10,12 @@ use Rattle.prefix_keys.specs.Version.{width_of}
 use Rattle.prefix_keys.specs.declared.version.Version.{Version}
 use Rattle.pmap_text.specs.Label.{IsLabelTable}
 use Rattle.pmap_text.specs.MapModel.{Label}
-use Rattle.pmap_cert.specs.Certificate.{certificate_of}
 use Rattle.pmap_cert.specs.CertificateForm.{HasNodeForm, HasTextForm}
 use Rattle.pmap_cert.specs.CertificateModel.{CertificateModel, ChainNode, InnerNode, LeafNode, Tree}
 use Rattle.pmap_cert.specs.CertificateReading.{◌>>=◌, Place, certificate_reading, ended_by, fault_at, header_at, is_ended, labels_at, node_at, pieces_of, start_of}
 use Rattle.pmap_cert.specs.CertificateText.{bit_digits, certificate_lines, certificate_text, header_line, node_lines, place_of}
 use Rattle.pmap_cert.specs.declared.fault.CertFault.{CertFault}
-use Rattle.pmap_cert.specs.declared.certificate.Certificate.{Certificate}
-use Rattle.pmap_cert.specs.declared.fault.CertFaultKind.{CertFaultKind}
-use Rattle.pmap_cert.specs.declared.fault.CertFaultKind.TheVariants.{BadHeader, BadLabelTable, BadNode, NoMemory, NodesLeft, NodesMissing, TooDeep}
+use Rattle.pmap_cert.specs.declared.fault.CertFaultKind.TheVariants.{NodesLeft}
 use Rattle.pmap_cert.proofs.Headers.{Lacks-line, Lacks-tested, header-no_feed, header_at-again, header_at-found, table-lacks}
 use Rattle.pmap_cert.proofs.ChainWords.{Lacks-bits, end-room}
 use Rattle.pmap_cert.proofs.Numbers.{Lacks-decimal, Lacks-decimals}
@@ -152,60 +148,3 @@ reading-apart text fault c failed form e = both_results (sym failed ∙ ap certi
   where
     both_results : ◌≡◌ {A = Result CertificateModel CertFault} (Err fault) (Ok c) → ⊥
     both_results e = cc
-
--- so for what a call answers: what is read is the text of its certificate
-pub is_text : (text : List ℕ) (r : Result Certificate CertFault) → IfOk r (λ c. certificate_reading text ≡ Ok (certificate_of c)) → IfOk r (λ c. text ≡ certificate_text (certificate_of c))
-is_text text (Ok c) read = (reading-found text (certificate_of c) read).1
-is_text text (Err fault) read = tt
-
--- and what is the text of a certificate is read as that one, memory aside
-pub is_only : (text : List ℕ) (r : Result Certificate CertFault) → IfOk r (λ c. certificate_reading text ≡ Ok (certificate_of c))
-    → IfErr r (λ fault. fault.kind ≢ NoMemory → certificate_reading text ≡ Err fault)
-    → (c : CertificateModel) → HasTextForm c → text ≡ certificate_text c → IfOk r (λ found. certificate_of found ≡ c) × IfErr r (λ fault. fault.kind ≡ NoMemory)
-is_only text (Ok found) read fault c form e = (ok_is (certificate_of found) c (sym read ∙ ap certificate_reading e ∙ reading-again c form), tt)
-is_only text (Err f) read fault c form e = (tt, memory f.kind (λ other. wrong (sym (fault other) ∙ ap certificate_reading e ∙ reading-again c form)))
-  where
-    wrong : ◌≡◌ {A = Result CertificateModel CertFault} (Err f) (Ok c) → ⊥
-    wrong e = cc
-
-    memory : (kind : CertFaultKind) → (kind ≢ NoMemory → ⊥) → kind ≡ NoMemory
-    memory NoMemory known = refl
-    memory BadHeader known = absurd (known (λ e. cc))
-    memory BadLabelTable known = absurd (known (λ e. cc))
-    memory BadNode known = absurd (known (λ e. cc))
-    memory TooDeep known = absurd (known (λ e. cc))
-    memory NodesMissing known = absurd (known (λ e. cc))
-    memory NodesLeft known = absurd (known (λ e. cc))
-
--- the whole reading, step by step
-module _ (text : List ℕ) where
-  pub reading-header_fault : (fault : CertFault) → header_at (start_of text) ≡ Err fault → certificate_reading text ≡ Err fault
-  unfolding certificate_reading
-  reading-header_fault fault e = ap (λ (r : Result ((Version × ℕ) × Place) CertFault). r >>= (λ header. labels_at header.0.1 [] header.1 >>= (λ labels. node_at labels.0 (width_of header.0.0) labels.1 >>= (λ root. ended_by (record { format = 1; version = header.0.0; table = labels.0; root = root.0 }) root.1)))) e
-
-  module _ (version : Version) (count : ℕ) (after : Place) (header : header_at (start_of text) ≡ Ok ((version, count), after)) where
-    behind_header : certificate_reading text ≡ (labels_at count [] after >>= (λ labels. node_at labels.0 (width_of version) labels.1 >>= (λ root. ended_by (record { format = 1; version = version; table = labels.0; root = root.0 }) root.1)))
-    unfolding certificate_reading
-    behind_header = ap (λ (r : Result ((Version × ℕ) × Place) CertFault). r >>= (λ header. labels_at header.0.1 [] header.1 >>= (λ labels. node_at labels.0 (width_of header.0.0) labels.1 >>= (λ root. ended_by (record { format = 1; version = header.0.0; table = labels.0; root = root.0 }) root.1)))) header
-
-    pub reading-labels_fault : (fault : CertFault) → labels_at count [] after ≡ Err fault → certificate_reading text ≡ Err fault
-    reading-labels_fault fault e = behind_header ∙ ap (λ (r : Result (List Label × Place) CertFault). r >>= (λ labels. node_at labels.0 (width_of version) labels.1 >>= (λ root. ended_by (record { format = 1; version = version; table = labels.0; root = root.0 }) root.1))) e
-
-    module _ (table : List Label) (nodes : Place) (labels : labels_at count [] after ≡ Ok (table, nodes)) where
-      behind_labels : certificate_reading text ≡ (node_at table (width_of version) nodes >>= (λ root. ended_by (record { format = 1; version = version; table = table; root = root.0 }) root.1))
-      behind_labels = behind_header ∙ ap (λ (r : Result (List Label × Place) CertFault). r >>= (λ labels. node_at labels.0 (width_of version) labels.1 >>= (λ root. ended_by (record { format = 1; version = version; table = labels.0; root = root.0 }) root.1))) labels
-
-      pub reading-root_fault : (fault : CertFault) → node_at table (width_of version) nodes ≡ Err fault → certificate_reading text ≡ Err fault
-      reading-root_fault fault e = behind_labels ∙ ap (λ (r : Result (Tree × Place) CertFault). r >>= (λ root. ended_by (record { format = 1; version = version; table = table; root = root.0 }) root.1)) e
-
-      pub reading-ended : (root : Tree) (end : Place) → node_at table (width_of version) nodes ≡ Ok (root, end) → is_ended end.pieces ≡ true → certificate_reading text ≡ Ok (record { format = 1; version = version; table = table; root = root })
-      reading-ended root end e h =
-          behind_labels
-          ∙ ap (λ (r : Result (Tree × Place) CertFault). r >>= (λ root. ended_by (record { format = 1; version = version; table = table; root = root.0 }) root.1)) e
-          ∙ cond-true (is_ended end.pieces) (Ok (record { format = 1; version = version; table = table; root = root })) (Err (fault_at end NodesLeft)) h
-
-      pub reading-left : (root : Tree) (end : Place) → node_at table (width_of version) nodes ≡ Ok (root, end) → is_ended end.pieces ≡ false → certificate_reading text ≡ Err (fault_at end NodesLeft)
-      reading-left root end e h =
-          behind_labels
-          ∙ ap (λ (r : Result (Tree × Place) CertFault). r >>= (λ root. ended_by (record { format = 1; version = version; table = table; root = root.0 }) root.1)) e
-          ∙ cond-false (is_ended end.pieces) (Ok (record { format = 1; version = version; table = table; root = root })) (Err (fault_at end NodesLeft)) h

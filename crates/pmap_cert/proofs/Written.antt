@@ -10,10 +10,12 @@ use Rattle.pmap_text.specs.Label.{IsLabelTable}
 use Rattle.pmap_text.specs.MapModel.{Label}
 use Rattle.pmap_cert.specs.Certificate.{certificate_of}
 use Rattle.pmap_cert.specs.CertificateForm.{HasNodeForm, IsRising}
-use Rattle.pmap_cert.specs.CertificateText.{certificate_text, header_line, inner_line, leaf_line, node_lines, text_of_lines}
-use Rattle.pmap_cert.specs.CertificateReading.{NodeLine}
-use Rattle.pmap_cert.specs.Node.{HasNumberForm, Inner, Leaf, Node, line_text, lines_of, tree_of}
+use Rattle.pmap_cert.specs.CertificateText.{certificate_text, chain_line, format_header, inner_line, leaf_line, node_lines, text_of_lines}
+use Rattle.pmap_cert.specs.Format.{format_number}
+use Rattle.pmap_cert.specs.FormatReading.{DueLine}
+use Rattle.pmap_cert.specs.Node.{Chain, HasChainForm, Inner, Leaf, Node, line_text, lines_of, tree_of}
 use Rattle.pmap_cert.specs.declared.certificate.Certificate.{Certificate}
+use Rattle.pmap_cert.proofs.ChainWords.{end-room, other-room}
 use Rattle.pmap_cert.proofs.Tables.{place_of-text_at, places-texts}
 
 -- numbers behind a word, each with the space before it
@@ -26,14 +28,17 @@ pub text_of_lines-append : (lines more : List (List ℕ)) → text_of_lines (lin
 text_of_lines-append lines more = flat_map-append (λ line. line ++ 10 ∷ []) lines more
 
 module _ (table : List Label) (ok : IsLabelTable table) where
-  pub line_texts-tree : (node : Node) (room : ℕ) → HasNumberForm (length table) node room → map line_text (lines_of node) ≡ node_lines table (tree_of table node)
+  pub line_texts-tree : (node : Node) (room : ℕ) → HasChainForm (length table) node room → map line_text (lines_of node) ≡ node_lines table (tree_of table node)
   line_texts-tree (Leaf number) room form = ap (λ (n : ℕ). leaf_line n ∷ []) (sym (place_of-text_at table number ok form))
   line_texts-tree (Inner cost set lower upper) zero form = absurd form
   line_texts-tree (Inner cost set lower upper) (suc room) form =
       ap (λ (lines : List (List ℕ)). inner_line cost set ∷ lines) (map-append line_text (lines_of lower) (lines_of upper))
       ∙ (λ i. ap (inner_line cost) (sym (places-texts table 0 set ok form.1)) i ∷ (line_texts-tree lower room form.2 i ++ line_texts-tree upper room form.3 i))
+  line_texts-tree (Chain cost set bits side end) room form =
+      let last = end-room (HasChainForm (length table) end) bits room form.4 in
+      λ i. chain_line cost bits (sym (place_of-text_at table side ok form.2) i) (sym (places-texts table 0 set ok form.1) i) ∷ line_texts-tree end last.0 last.1 i
 
-  pub node_form : (node : Node) (room : ℕ) → HasNumberForm (length table) node room → HasNodeForm table (tree_of table node) room
+  pub node_form : (node : Node) (room : ℕ) → HasChainForm (length table) node room → HasNodeForm table (tree_of table node) room
   node_form (Leaf number) room form = subst (λ (n : ℕ). n < length table) (sym (place_of-text_at table number ok form)) form
   node_form (Inner cost set lower upper) zero form = absurd form
   node_form (Inner cost set lower upper) (suc room) form = (
@@ -42,11 +47,31 @@ module _ (table : List Label) (ok : IsLabelTable table) where
     node_form lower room form.2,
     node_form upper room form.3,
   )
+  node_form (Chain cost set bits side end) room form = (
+    form.0,
+    subst (IsRising (length table) 0) (sym (places-texts table 0 set ok form.1)) form.1,
+    subst (λ (n : ℕ). n < length table) (sym (place_of-text_at table side ok form.2)) form.2,
+    form.3,
+    other-room (HasChainForm (length table) end) (HasNodeForm table (tree_of table end)) (λ left fits. node_form end left fits) bits room form.4,
+  )
 
 -- four pieces are appended one after the other
 pub pushed : (out a b c d o1 o2 o3 o4 : List ℕ) → o1 ≡ out ++ a → o2 ≡ o1 ++ b → o3 ≡ o2 ++ c → o4 ≡ o3 ++ d → o4 ≡ out ++ (a ++ ((b ++ c) ++ d))
 pushed out a b c d o1 o2 o3 o4 e1 e2 e3 e4 =
     e4 ∙ ap (λ t. t ++ d) (e3 ∙ ap (λ t. t ++ c) (e2 ∙ ap (λ t. t ++ b) e1)) ∙ simp append_assoc
+
+-- a header's pieces
+pub pushed-header : (out name format version count o1 o2 o3 o4 o5 o6 : List ℕ) → o1 ≡ out ++ name → o2 ≡ o1 ++ format → o3 ≡ o2 ++ 32 ∷ [] → o4 ≡ o3 ++ version → o5 ≡ o4 ++ count
+    → o6 ≡ o5 ++ 10 ∷ [] → o6 ≡ out ++ (name ++ ((format ++ 32 ∷ (version ++ count)) ++ 10 ∷ []))
+pushed-header out name format version count o1 o2 o3 o4 o5 o6 e1 e2 e3 e4 e5 e6 =
+    e6 ∙ ap (λ t. t ++ 10 ∷ []) (e5 ∙ ap (λ t. t ++ count) (e4 ∙ ap (λ t. t ++ version) (e3 ∙ ap (λ t. t ++ 32 ∷ []) (e2 ∙ ap (λ t. t ++ format) e1))))
+    ∙ simp append_assoc
+
+-- a chain's pieces
+pub pushed-chain : (out a b c d e f o1 o2 o3 o4 o5 o6 : List ℕ) → o1 ≡ out ++ a → o2 ≡ o1 ++ b → o3 ≡ o2 ++ c → o4 ≡ o3 ++ d → o5 ≡ o4 ++ e → o6 ≡ o5 ++ f
+    → o6 ≡ out ++ (a ++ ((b ++ (c ++ (d ++ e))) ++ f))
+pushed-chain out a b c d e f o1 o2 o3 o4 o5 o6 e1 e2 e3 e4 e5 e6 =
+    e6 ∙ ap (λ t. t ++ f) (e5 ∙ ap (λ t. t ++ e) (e4 ∙ ap (λ t. t ++ d) (e3 ∙ ap (λ t. t ++ c) (e2 ∙ ap (λ t. t ++ b) e1)))) ∙ simp append_assoc
 
 -- one more label of a table
 pub pushed-label : (out o o1 o2 : List ℕ) (table : List Label) (i : ℕ) (x : Label) → o ≡ out ++ text_of_lines (take i table) → o1 ≡ o ++ x → o2 ≡ o1 ++ 10 ∷ [] → slice_get table i ≡ Some x
@@ -61,27 +86,27 @@ pushed-label out o o1 o2 table i x e e1 e2 there =
     ∙ append_assoc out (text_of_lines lines) (x ++ 10 ∷ []) ∙ ap (λ t. out ++ t) (sym last)
 
 -- one more line of the nodes
-pub pushed-line : (out o o1 : List ℕ) (lines : List NodeLine) (i : ℕ) (z : NodeLine) → o ≡ out ++ text_of_lines (map line_text (take i lines)) → i < length lines
+pub pushed-line : (out o o1 : List ℕ) (lines : List DueLine) (i : ℕ) (z : DueLine) → o ≡ out ++ text_of_lines (map line_text (take i lines)) → i < length lines
     → o1 ≡ o ++ (line_text (get_or lines i z) ++ 10 ∷ []) → o1 ≡ out ++ text_of_lines (map line_text (take (i + 1) lines))
 pushed-line out o o1 lines i z e inside e1 =
     let text : List ℕ = line_text (get_or lines i z) in
     let before : List (List ℕ) = map line_text (take i lines) in
     let last : text_of_lines (map line_text (take (i + 1) lines)) ≡ text_of_lines before ++ (text ++ 10 ∷ []) =
-    ap (λ (ls : List NodeLine). text_of_lines (map line_text ls)) (take_more lines i z inside)
+    ap (λ (ls : List DueLine). text_of_lines (map line_text ls)) (take_more lines i z inside)
     ∙ ap text_of_lines (map-append line_text (take i lines) (get_or lines i z ∷ []))
     ∙ text_of_lines-append before (text ∷ []) ∙ ap (λ t. text_of_lines before ++ t) (append-nil (text ++ 10 ∷ [])) in
     e1 ∙ ap (λ t. t ++ (text ++ 10 ∷ [])) e ∙ append_assoc out (text_of_lines before) (text ++ 10 ∷ []) ∙ ap (λ t. out ++ t) (sym last)
 
 -- the header, the labels and the nodes are the text
-pub whole_text : (c : Certificate) (count : ℕ) (nodes : List NodeLine) (o1 o2 o3 : List ℕ) → IsLabelTable c.labels → HasNumberForm (length c.labels) c.root (width_of c.version) → count ≡ length c.labels → nodes ≡ lines_of c.root
-    → o1 ≡ header_line c.version count ++ 10 ∷ [] → o2 ≡ o1 ++ text_of_lines c.labels → o3 ≡ o2 ++ text_of_lines (map line_text nodes) → o3 ≡ certificate_text (certificate_of c)
+pub whole_text : (c : Certificate) (count : ℕ) (nodes : List DueLine) (o1 o2 o3 : List ℕ) → IsLabelTable c.labels → HasChainForm (length c.labels) c.root (width_of c.version) → count ≡ length c.labels → nodes ≡ lines_of c.root
+    → o1 ≡ format_header (format_number c.format) c.version count ++ 10 ∷ [] → o2 ≡ o1 ++ text_of_lines c.labels → o3 ≡ o2 ++ text_of_lines (map line_text nodes) → o3 ≡ certificate_text (certificate_of c)
 whole_text c count nodes o1 o2 o3 ok form is same e1 e2 e3 =
-    let header : List ℕ = header_line c.version (length c.labels) ++ 10 ∷ [] in
+    let header : List ℕ = format_header (format_number c.format) c.version (length c.labels) ++ 10 ∷ [] in
     let labels : List ℕ = text_of_lines c.labels in
     let lines : List (List ℕ) = node_lines c.labels (tree_of c.labels c.root) in
     let texts : text_of_lines (map line_text nodes) ≡ text_of_lines lines =
-    ap (λ (ls : List NodeLine). text_of_lines (map line_text ls)) same ∙ ap text_of_lines (line_texts-tree c.labels ok c.root (width_of c.version) form) in
-    let first : o1 ≡ header = e1 ∙ ap (λ (n : ℕ). header_line c.version n ++ 10 ∷ []) is in
+    ap (λ (ls : List DueLine). text_of_lines (map line_text ls)) same ∙ ap text_of_lines (line_texts-tree c.labels ok c.root (width_of c.version) form) in
+    let first : o1 ≡ header = e1 ∙ ap (λ (n : ℕ). format_header (format_number c.format) c.version n ++ 10 ∷ []) is in
     e3 ∙ ap (λ t. t ++ text_of_lines (map line_text nodes)) (e2 ∙ ap (λ t. t ++ labels) first)
     ∙ ap (λ t. (header ++ labels) ++ t) texts
     ∙ append_assoc header labels (text_of_lines lines)

@@ -13,6 +13,8 @@ pub mod CertificateReading
 pub mod FormatReading
 pub mod Node
 pub mod Packed
+pub mod Format
 pub mod Certificate
 pub mod Words
 pub mod ReadNodes
+pub mod Placing

@@ -1,146 +1,230 @@
-use Rattle.std.specs.Prelude.{◌≡◌, refl, ℕ, zero, suc, ◌^◌, ◌<◌, ◌≤◌, List, [], ◌∷◌, ◌++◌, Option, None, Some, length, map}
-use Rattle.std.specs.Coded.{Coded, code_by, coded_list, coded_ℕ, coded×, le_prop}
+use Rattle.std.specs.Prelude.{◌≡◌, refl, ℕ, zero, suc, ◌^◌, ◌<◌, ◌≤◌, ◌⊎◌, Bool, List, [], ◌∷◌, ◌++◌, Option, None, Some, length, map}
+use mathlib.Core.Logic.{inl, inr}
+use Rattle.std.specs.Coded.{Coded, code_by, coded_bool, coded_list, coded_ℕ, coded×, coded⊎, le_prop}
 use Rattle.pmap_text.specs.MapModel.{Label}
 use Rattle.pmap_text.specs.MapText.{text_at}
-use Rattle.pmap_cert.specs.CertificateForm.{IsRising, IsRising-prop}
-use Rattle.pmap_cert.specs.CertificateModel.{InnerNode, LeafNode, Tree}
-use Rattle.pmap_cert.specs.CertificateReading.{InnerLine, LeafLine, NodeLine}
-use Rattle.pmap_cert.specs.CertificateText.{inner_line, leaf_line}
+use Rattle.pmap_cert.specs.CertificateForm.{HasRoomBelow, IsRising, IsRising-prop}
+use Rattle.pmap_cert.specs.CertificateModel.{ChainNode, InnerNode, LeafNode, Tree}
+use Rattle.pmap_cert.specs.CertificateReading.{InnerLine, LeafLine}
+use Rattle.pmap_cert.specs.CertificateText.{chain_line, inner_line, leaf_line}
+use Rattle.pmap_cert.specs.FormatReading.{ChainLine, DueLine, PlainLine}
 
 -- Nodes with label numbers, as the code has them.
 
--- a leaf with the number of its label, or an inner node with the cost and the set of label numbers that it claims, and the
--- nodes of the halves of its block
+-- a leaf with the number of its label, an inner node with the cost and the set of label numbers that it claims, and the
+-- nodes of the halves of its block, or a chain with the same claim, its bits, the number of its side label and the node
+-- at its end
 pub data Node : Type 0 where
   Leaf : (number : ℕ) → Node
   Inner : (cost : ℕ) (set : List ℕ) (lower upper : Node) → Node
+  Chain : (cost : ℕ) (set : List ℕ) (bits : List Bool) (side : ℕ) (end : Node) → Node
 
 -- the label of a leaf
 abbrev pub label_of : Node → Option ℕ
 label_of (Leaf number) = Some number
 label_of (Inner cost set lower upper) = None
+label_of (Chain cost set bits side end) = None
 
 -- what a node claims: a leaf the cost 0 and its label alone
 abbrev pub cost_of : Node → ℕ
 cost_of (Leaf number) = 0
 cost_of (Inner cost set lower upper) = cost
+cost_of (Chain cost set bits side end) = cost
 
 abbrev pub set_of : Node → List ℕ
 set_of (Leaf number) = number ∷ []
 set_of (Inner cost set lower upper) = set
+set_of (Chain cost set bits side end) = set
+
+-- the bits of a chain, of which it has one at least, and its side label
+abbrev pub bits_of : Node → List Bool
+bits_of (Leaf number) = []
+bits_of (Inner cost set lower upper) = []
+bits_of (Chain cost set bits side end) = bits
+
+abbrev pub side_of : Node → Option ℕ
+side_of (Leaf number) = None
+side_of (Inner cost set lower upper) = None
+side_of (Chain cost set bits side end) = Some side
 
 -- the node with the label texts that its numbers stand for
 abbrev pub tree_of : List Label → Node → Tree
 tree_of table (Leaf number) = LeafNode (text_at table number)
 tree_of table (Inner cost set lower upper) =
     InnerNode (record { cost = cost; labels = map (text_at table) set }) (tree_of table lower) (tree_of table upper)
+tree_of table (Chain cost set bits side end) =
+    ChainNode (record { cost = cost; labels = map (text_at table) set }) bits (text_at table side) (tree_of table end)
 
--- its numbers are below count, those of each set rise, costs are below 2 ^ 32, and at most so many inner nodes stand one
--- inside the other
+-- it has no chain
+abbrev pub IsPlainNode : Node → Type 0
+IsPlainNode (Leaf number) = Unit {0}
+IsPlainNode (Inner cost set lower upper) = IsPlainNode lower × IsPlainNode upper
+IsPlainNode (Chain cost set bits side end) = ⊥
+
+-- It has no chain, its numbers are below count, those of each set rise, costs are below 2 ^ 32, and at most so many inner
+-- nodes stand one inside the other.
 abbrev pub HasNumberForm : ℕ → Node → ℕ → Type 0
 HasNumberForm count (Leaf number) room = number < count
 HasNumberForm count (Inner cost set lower upper) zero = ⊥
 HasNumberForm count (Inner cost set lower upper) (suc room) =
     (cost < 2 ^ 32) × IsRising count 0 set × HasNumberForm count lower room × HasNumberForm count upper room
+HasNumberForm count (Chain cost set bits side end) room = ⊥
 
-pub HasNumberForm-prop : (count : ℕ) (node : Node) (room : ℕ) → IsProp (HasNumberForm count node room)
-HasNumberForm-prop count (Leaf number) room = le_prop
-HasNumberForm-prop count (Inner cost set lower upper) zero = λ x y. absurd x
-HasNumberForm-prop count (Inner cost set lower upper) (suc room) =
+-- The same of a node that may have chains: each of those has a bit at least, and each bit counts as an inner node.
+abbrev pub HasChainForm : ℕ → Node → ℕ → Type 0
+HasChainForm count (Leaf number) room = number < count
+HasChainForm count (Inner cost set lower upper) zero = ⊥
+HasChainForm count (Inner cost set lower upper) (suc room) =
+    (cost < 2 ^ 32) × IsRising count 0 set × HasChainForm count lower room × HasChainForm count upper room
+HasChainForm count (Chain cost set bits side end) room =
+    (cost < 2 ^ 32) × IsRising count 0 set × (side < count) × (0 < length bits)
+    × HasRoomBelow (HasChainForm count end) bits room
+
+room-prop : (Fits : ℕ → Type 0) → ((room : ℕ) → IsProp (Fits room)) → (bits : List Bool) (room : ℕ) → IsProp (HasRoomBelow Fits bits room)
+room-prop Fits prop [] room = prop room
+room-prop Fits prop (bit ∷ bits) zero = λ x y. absurd x
+room-prop Fits prop (bit ∷ bits) (suc room) = room-prop Fits prop bits room
+
+pub HasChainForm-prop : (count : ℕ) (node : Node) (room : ℕ) → IsProp (HasChainForm count node room)
+HasChainForm-prop count (Leaf number) room = le_prop
+HasChainForm-prop count (Inner cost set lower upper) zero = λ x y. absurd x
+HasChainForm-prop count (Inner cost set lower upper) (suc room) =
     λ x y i. (
       le_prop x.0 y.0 i,
       IsRising-prop count 0 set x.1 y.1 i,
-      HasNumberForm-prop count lower room x.2 y.2 i,
-      HasNumberForm-prop count upper room x.3 y.3 i,
+      HasChainForm-prop count lower room x.2 y.2 i,
+      HasChainForm-prop count upper room x.3 y.3 i,
+    )
+HasChainForm-prop count (Chain cost set bits side end) room =
+    λ x y i. (
+      le_prop x.0 y.0 i,
+      IsRising-prop count 0 set x.1 y.1 i,
+      le_prop x.2 y.2 i,
+      le_prop x.3 y.3 i,
+      room-prop (HasChainForm count end) (HasChainForm-prop count end) bits room x.4 y.4 i,
     )
 
--- the lines of a node and of those below it: first its own, then all of the lower half, then all of the upper
-abbrev pub lines_of : Node → List NodeLine
-lines_of (Leaf number) = LeafLine number ∷ []
-lines_of (Inner cost set lower upper) = InnerLine cost set ∷ (lines_of lower ++ lines_of upper)
+-- the lines of a node and of those below it: first its own, then all of the lower half, then all of the upper, or all
+-- of a chain's end
+abbrev pub lines_of : Node → List DueLine
+lines_of (Leaf number) = PlainLine (LeafLine number) ∷ []
+lines_of (Inner cost set lower upper) = PlainLine (InnerLine cost set) ∷ (lines_of lower ++ lines_of upper)
+lines_of (Chain cost set bits side end) = ChainLine cost bits side set ∷ lines_of end
 
 -- the text of a line
-abbrev pub line_text : NodeLine → List ℕ
-line_text (LeafLine number) = leaf_line number
-line_text (InnerLine cost numbers) = inner_line cost numbers
+abbrev pub line_text : DueLine → List ℕ
+line_text (PlainLine (LeafLine number)) = leaf_line number
+line_text (PlainLine (InnerLine cost numbers)) = inner_line cost numbers
+line_text (ChainLine cost bits side numbers) = chain_line cost bits side numbers
 
--- what a line says: a leaf's label, or an inner node's cost and set
-abbrev pub line_label : NodeLine → Option ℕ
-line_label (LeafLine number) = Some number
-line_label (InnerLine cost numbers) = None
+-- what a line says: a leaf's label, an inner node's or a chain's cost and set, and a chain's bits and side label
+abbrev pub line_label : DueLine → Option ℕ
+line_label (PlainLine (LeafLine number)) = Some number
+line_label (PlainLine (InnerLine cost numbers)) = None
+line_label (ChainLine cost bits side numbers) = None
 
-abbrev pub line_cost : NodeLine → ℕ
-line_cost (LeafLine number) = 0
-line_cost (InnerLine cost numbers) = cost
+abbrev pub line_cost : DueLine → ℕ
+line_cost (PlainLine (LeafLine number)) = 0
+line_cost (PlainLine (InnerLine cost numbers)) = cost
+line_cost (ChainLine cost bits side numbers) = cost
 
-abbrev pub line_set : NodeLine → List ℕ
-line_set (LeafLine number) = number ∷ []
-line_set (InnerLine cost numbers) = numbers
+abbrev pub line_set : DueLine → List ℕ
+line_set (PlainLine (LeafLine number)) = number ∷ []
+line_set (PlainLine (InnerLine cost numbers)) = numbers
+line_set (ChainLine cost bits side numbers) = numbers
+
+abbrev pub line_bits : DueLine → List Bool
+line_bits (PlainLine line) = []
+line_bits (ChainLine cost bits side numbers) = bits
+
+abbrev pub line_side : DueLine → Option ℕ
+line_side (PlainLine line) = None
+line_side (ChainLine cost bits side numbers) = Some side
 
 -- the lines are those of one node and of those below it
-pub record IsTree (lines : List NodeLine) : Type 0 where
+pub record IsTree (lines : List DueLine) : Type 0 where
   pub node : Node
   pub is : lines ≡ lines_of node
 
--- the nodes that lines are those of, one behind the other: an inner node takes the next two as its halves
+-- the nodes that lines are those of, one behind the other: an inner node takes the next two as its halves, and a chain
+-- the next as its end
 abbrev pub joined : ℕ → List ℕ → List Node → List Node
 joined cost set (lower ∷ upper ∷ nodes) = Inner cost set lower upper ∷ nodes
 joined cost set nodes = nodes
 
-abbrev pub nodes_of : List NodeLine → List Node
-nodes_of [] = []
-nodes_of (LeafLine number ∷ lines) = Leaf number ∷ nodes_of lines
-nodes_of (InnerLine cost numbers ∷ lines) = joined cost numbers (nodes_of lines)
+abbrev pub chained : ℕ → List ℕ → List Bool → ℕ → List Node → List Node
+chained cost set bits side (end ∷ nodes) = Chain cost set bits side end ∷ nodes
+chained cost set bits side [] = []
 
--- behind each line of an inner node come the nodes of its halves
-abbrev pub AreWhole : List NodeLine → Type 0
+abbrev pub nodes_of : List DueLine → List Node
+nodes_of [] = []
+nodes_of (PlainLine (LeafLine number) ∷ lines) = Leaf number ∷ nodes_of lines
+nodes_of (PlainLine (InnerLine cost numbers) ∷ lines) = joined cost numbers (nodes_of lines)
+nodes_of (ChainLine cost bits side numbers ∷ lines) = chained cost numbers bits side (nodes_of lines)
+
+-- behind each line of an inner node come the nodes of its halves, and behind that of a chain its end
+abbrev pub AreWhole : List DueLine → Type 0
 AreWhole [] = Unit {0}
-AreWhole (LeafLine number ∷ lines) = AreWhole lines
-AreWhole (InnerLine cost numbers ∷ lines) = (2 ≤ length (nodes_of lines)) × AreWhole lines
+AreWhole (PlainLine (LeafLine number) ∷ lines) = AreWhole lines
+AreWhole (PlainLine (InnerLine cost numbers) ∷ lines) = (2 ≤ length (nodes_of lines)) × AreWhole lines
+AreWhole (ChainLine cost bits side numbers ∷ lines) = (1 ≤ length (nodes_of lines)) × AreWhole lines
 
 -- the first of the nodes, where there is one
 abbrev pub first_node : List Node → Node
 first_node [] = Leaf 0
 first_node (node ∷ nodes) = node
 
--- the nodes from the next line on: behind that of an inner node come its halves, the lower one first, and then what came
--- behind the node
+-- the nodes from the next line on: behind that of an inner node come its halves, the lower one first, behind that of
+-- a chain its end, and then what came behind the node
 abbrev pub from_next_line : List Node → List Node
 from_next_line [] = []
 from_next_line (Leaf number ∷ nodes) = nodes
 from_next_line (Inner cost set lower upper ∷ nodes) = lower ∷ upper ∷ nodes
+from_next_line (Chain cost set bits side end ∷ nodes) = end ∷ nodes
 
 -- the nodes behind the first with all below it
 abbrev pub behind : List Node → List Node
 behind [] = []
 behind (node ∷ nodes) = nodes
 
--- A node is stored as the list of its lines, and a line by its kind and numbers.
+-- A node is stored as the list of its lines, and a line by its kind, bits and numbers.
 
-abbrev pub split_line : NodeLine → ℕ × (ℕ × List ℕ)
-split_line (LeafLine number) = (0, (number, []))
-split_line (InnerLine cost numbers) = (1, (cost, numbers))
+abbrev pub split_line : DueLine → (ℕ × (ℕ × List ℕ)) ⊎ ((ℕ × List Bool) × (ℕ × List ℕ))
+split_line (PlainLine (LeafLine number)) = inl (0, (number, []))
+split_line (PlainLine (InnerLine cost numbers)) = inl (1, (cost, numbers))
+split_line (ChainLine cost bits side numbers) = inr ((cost, bits), (side, numbers))
 
-abbrev pub join_line : ℕ → ℕ → List ℕ → NodeLine
-join_line zero number numbers = LeafLine number
-join_line (suc kind) cost numbers = InnerLine cost numbers
+abbrev pub plain_line : ℕ → ℕ → List ℕ → DueLine
+plain_line zero number numbers = PlainLine (LeafLine number)
+plain_line (suc kind) cost numbers = PlainLine (InnerLine cost numbers)
 
-pub joined_line : (line : NodeLine) → join_line (split_line line).0 (split_line line).1.0 (split_line line).1.1 ≡ line
-joined_line (LeafLine number) = refl
-joined_line (InnerLine cost numbers) = refl
+abbrev pub join_line : (ℕ × (ℕ × List ℕ)) ⊎ ((ℕ × List Bool) × (ℕ × List ℕ)) → DueLine
+join_line (inl p) = plain_line p.0 p.1.0 p.1.1
+join_line (inr p) = ChainLine p.0.0 p.0.1 p.1.0 p.1.1
 
-abbrev pub line_code : Coded NodeLine
-line_code = code_by (ℕ × (ℕ × List ℕ)) (coded× coded_ℕ (coded× coded_ℕ (coded_list coded_ℕ))) split_line (λ p. join_line p.0 p.1.0 p.1.1) joined_line
+pub joined_line : (line : DueLine) → join_line (split_line line) ≡ line
+joined_line (PlainLine (LeafLine number)) = refl
+joined_line (PlainLine (InnerLine cost numbers)) = refl
+joined_line (ChainLine cost bits side numbers) = refl
+
+abbrev pub line_code : Coded DueLine
+line_code =
+    code_by ((ℕ × (ℕ × List ℕ)) ⊎ ((ℕ × List Bool) × (ℕ × List ℕ)))
+    (coded⊎ (coded× coded_ℕ (coded× coded_ℕ (coded_list coded_ℕ))) (coded× (coded× coded_ℕ (coded_list coded_bool)) (coded× coded_ℕ (coded_list coded_ℕ))))
+    split_line join_line joined_line
 
 -- the lines of a node before others
-abbrev pub lines_onto : Node → List NodeLine → List NodeLine
-lines_onto (Leaf number) lines = LeafLine number ∷ lines
-lines_onto (Inner cost set lower upper) lines = InnerLine cost set ∷ lines_onto lower (lines_onto upper lines)
+abbrev pub lines_onto : Node → List DueLine → List DueLine
+lines_onto (Leaf number) lines = PlainLine (LeafLine number) ∷ lines
+lines_onto (Inner cost set lower upper) lines = PlainLine (InnerLine cost set) ∷ lines_onto lower (lines_onto upper lines)
+lines_onto (Chain cost set bits side end) lines = ChainLine cost bits side set ∷ lines_onto end lines
 
-pub nodes_onto : (node : Node) (lines : List NodeLine) (nodes : List Node) → nodes_of lines ≡ nodes → nodes_of (lines_onto node lines) ≡ node ∷ nodes
+pub nodes_onto : (node : Node) (lines : List DueLine) (nodes : List Node) → nodes_of lines ≡ nodes → nodes_of (lines_onto node lines) ≡ node ∷ nodes
 nodes_onto (Leaf number) lines nodes is = λ i. Leaf number ∷ is i
 nodes_onto (Inner cost set lower upper) lines nodes is =
     λ i. joined cost set (nodes_onto lower (lines_onto upper lines) (upper ∷ nodes) (nodes_onto upper lines nodes is) i)
+nodes_onto (Chain cost set bits side end) lines nodes is =
+    λ i. chained cost set bits side (nodes_onto end lines nodes is i)
 
 abbrev pub node_code : Coded Node
-node_code = code_by (List NodeLine) (coded_list line_code) (λ node. lines_onto node []) (λ lines. first_node (nodes_of lines)) (λ node i. first_node (nodes_onto node [] [] refl i))
+node_code = code_by (List DueLine) (coded_list line_code) (λ node. lines_onto node []) (λ lines. first_node (nodes_of lines)) (λ node i. first_node (nodes_onto node [] [] refl i))

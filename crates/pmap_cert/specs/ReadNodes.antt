@@ -1,11 +1,22 @@
-use Rattle.std.specs.Prelude.{◌≡◌, ℕ, List, ◌++◌, Ok, length}
+use Rattle.std.specs.Prelude.{◌≡◌, ℕ, List, ◌++◌, Ok, Result, length}
 use Rattle.pmap_text.specs.MapModel.{Label}
-use Rattle.pmap_cert.specs.CertificateReading.{NodeLine, Place, node_at}
-use Rattle.pmap_cert.specs.Node.{HasNumberForm, Node, lines_of, tree_of}
+use Rattle.pmap_cert.specs.CertificateReading.{Place}
+use Rattle.pmap_cert.specs.Format.{IsNodeOf, format_number}
+use Rattle.pmap_cert.specs.FormatReading.{DueLine, line_due_at, nodes_at}
+use Rattle.pmap_cert.specs.Node.{HasChainForm, Node, lines_of, tree_of}
+use Rattle.pmap_cert.specs.CertificateModel.{Tree}
+use Rattle.pmap_cert.specs.declared.fault.CertFault.{CertFault}
+use Rattle.pmap_cert.specs.declared.format.Format.{Format}
+
+-- the reading of a node in a text of the format, for addresses of so many bits, below which so many can stand
+abbrev pub node_due_at : Format → ℕ → List Label → ℕ → Place → Result (Tree × Place) CertFault
+node_due_at format most table room place =
+    nodes_at (line_due_at (format_number format) most (length table)) table room 0 place
 
 -- a node is read, and its lines and those of the nodes below it come behind the old ones
-pub record IsReadNode (table : List Label) (room : ℕ) (place : Place) (old new : List NodeLine) (after : Place) : Type 0 where
+pub record IsReadNode (format : Format) (most : ℕ) (table : List Label) (room : ℕ) (place : Place) (old new : List DueLine) (after : Place) : Type 0 where
   pub node : Node
-  pub read : node_at table room place ≡ Ok (tree_of table node, after)
-  pub form : HasNumberForm (length table) node room
+  pub read : node_due_at format most table room place ≡ Ok (tree_of table node, after)
+  pub form : HasChainForm (length table) node room
+  pub kind : IsNodeOf format node
   pub lines : new ≡ old ++ lines_of node

@@ -1,46 +1,72 @@
 ghost use Rattle.std.specs.Prelude.{◌≡◌, ◌∷◌, [], length};
 ghost use Rattle.prefix_keys.specs.Version.{width_of};
-ghost use Rattle.pmap_cert.specs.CertificateForm.{HasTextForm};
-ghost use Rattle.pmap_cert.specs.Node.{HasNumberForm, HasNumberForm-prop, tree_of};
+ghost use Rattle.pmap_cert.specs.CertificateForm.{HasFormatText, HasTextForm};
+ghost use Rattle.pmap_cert.specs.Format.{IsNodeOf, IsNodeOf-prop};
+ghost use Rattle.pmap_cert.specs.Node.{HasChainForm, HasChainForm-prop, HasNumberForm};
+ghost use Rattle.pmap_cert.specs.declared.format.Format.TheVariants.{One};
 
 use crate::cursor::{Cursor, cursor_of};
+use crate::format::Format;
 use crate::root::Root;
 use pmap_text::Labels;
 use prefix_keys::Version;
 
-/// A certificate: the version of its addresses, its label table, and its root, which stands for the address space.
-/// Labels are in the table, sets rise, and no inner node is as deep as an address has bits.
+/// A certificate: its format, the version of its addresses, its label table, and its root, which stands for the address
+/// space. Labels are in the table, sets rise, no inner node is as deep as an address has bits, nor does a chain go
+/// deeper, and in format 1 there is no chain.
 #[derive(Drop)]
 pub struct Certificate {
+    pub format: Format,
     pub version: Version,
     pub labels: Labels,
     pub root: Root,
-    ghost form: { HasNumberForm (length labels) root (width_of version) } by { HasNumberForm-prop (length labels) root
+    ghost form: { HasChainForm (length labels) root (width_of version) } by { HasChainForm-prop (length labels) root
         (width_of version) },
+    ghost kind: { IsNodeOf format root } by { IsNodeOf-prop format root },
 }
 
 impl Certificate {
     ghost use Rattle.pmap_cert.specs.Certificate.{certificate_of};
 
-    /// The certificate of its parts.
+    /// The certificate of format 1 of its parts.
     pub fn new(version: Version, labels: Labels, root: Root) -> Certificate
         requires { HasNumberForm (length labels) root (width_of version) }
+        ensures format { result.format ≡ One }
         ensures version { result.version ≡ version }
         ensures labels { result.labels ≡ labels }
         ensures root { result.root ≡ root }
     {
         Certificate {
+            format: Format::One,
             version,
             labels,
             root,
         }
     }
 
-    /// The node that stands for the address space. With the label table and the version it has a text.
+    /// The certificate of a format of its parts.
+    pub fn of_format(format: Format, version: Version, labels: Labels, root: Root) -> Certificate
+        requires form { HasChainForm (length labels) root (width_of version) }
+        requires kind { IsNodeOf format root }
+        ensures format { result.format ≡ format }
+        ensures version { result.version ≡ version }
+        ensures labels { result.labels ≡ labels }
+        ensures root { result.root ≡ root }
+    {
+        Certificate {
+            format,
+            version,
+            labels,
+            root,
+        }
+    }
+
+    /// The node that stands for the address space. With the label table, the version and the format it has a text.
     pub fn root(&self) -> Cursor<'_>
         ensures value { result ≡ self.now.root ∷ [] }
-        ensures numbers { HasNumberForm (length self.now.labels) self.now.root (width_of self.now.version) }
-        ensures form { HasTextForm (certificate_of self.now) }
+        ensures numbers { HasChainForm (length self.now.labels) self.now.root (width_of self.now.version) }
+        ensures form { HasFormatText (certificate_of self.now) }
+        ensures first { self.now.format ≡ One → HasTextForm (certificate_of self.now) }
     {
         // For its law: the table has at most 65536 labels, no two equal.
         let _count = self.labels.len();

@@ -1,5 +1,5 @@
 ghost use Rattle.std.specs.Prelude.{◌≡◌, ◌<◌, ◌∷◌, [], length, map, option_map};
-ghost use Rattle.pmap_cert.specs.Node.{cost_of, first_node, from_next_line, label_of, set_of};
+ghost use Rattle.pmap_cert.specs.Node.{bits_of, cost_of, first_node, from_next_line, label_of, set_of, side_of};
 
 use crate::nodes::Nodes;
 use crate::root::Root;
@@ -63,8 +63,24 @@ impl<'a> Cursor<'a> {
         self.nodes.set(self.number)
     }
 
+    /// The bits of the node, if it is a chain: of that there is one at least, of others none.
+    pub fn bits(&self) -> &'a [bool]
+        requires { 0 < length self.now }
+        ensures { result.now ≡ bits_of (first_node self.now) }
+    {
+        self.nodes.bits(self.number)
+    }
+
+    /// The side label of the node, if it is a chain.
+    pub fn side(&self) -> Option<LabelId>
+        requires { 0 < length self.now }
+        ensures { option_map (λ id. id.0) result ≡ side_of (first_node self.now) }
+    {
+        self.nodes.side(self.number)
+    }
+
     /// The place of the next line: behind that of an inner node stands its lower half, and behind all lines of that its
-    /// upper half.
+    /// upper half; behind that of a chain stands its end.
     pub fn next(&self) -> Cursor<'a>
         requires { 0 < length self.now }
         ensures { result ≡ from_next_line self.now }

@@ -16,17 +16,19 @@
 //! and the checker, may rely on the laws: an accepted certificate shows that its list is equivalent and least, each map
 //! has a minimal pair of a list and a certificate that is accepted, all minimal pairs of a map are alike, and that of a
 //! map text has a certificate with a text. Each `Certificate` keeps in its type that its labels are in its table, that
-//! its sets rise, and that no node lies deeper than an address has bits. `write_cert` gives the one text of a
-//! certificate; `read_cert` reads a text exactly where it is the text of a certificate, and else names its first fault:
-//! each text is the one or has the other. Chains, what a certificate is compacted to and the text of format 2 stand in
-//! the definitions and their laws alone: no certificate of the code has a chain.
+//! its sets rise, that no node lies deeper than an address has bits, and that in format 1 there is no chain.
+//! `write_cert` gives the one text of a certificate of either format; `read_cert` reads a text exactly where it is the
+//! text of a certificate, and else names its first fault: each text is the one or has the other. `compact` makes of a
+//! certificate the one that the definitions compact it to, which is accepted where the first is.
 #![tactic(auto)]
 
 mod certificate;
 mod certificate_reading;
 mod chain_laws;
+mod compacting;
 mod cursor;
 mod fault;
+mod format;
 mod laws;
 mod lines;
 mod nodes;
@@ -42,8 +44,10 @@ pub use chain_laws::{
     compacting_is_by_longest_runs, last_address_is_one_chain, opened_is_accepted,
     text_of_format_is_read_or_has_a_fault,
 };
+pub use compacting::compact;
 pub use cursor::Cursor;
 pub use fault::{CertFault, CertFaultKind};
+pub use format::Format;
 pub use laws::{
     acceptance_is_enough, certificate_is_read_back, certificate_text_is_read_or_has_a_fault,
     exact_pair_is_of_sets, four_quarters_pair_is_minimal, map_text_has_a_minimal_pair,

@@ -1,12 +1,13 @@
-ghost use Rattle.std.specs.Prelude.{◌≡◌};
+ghost use Rattle.std.specs.Prelude.{◌≡◌, IfOk};
 ghost use Rattle.pmap_cert.specs.Node.{IsTree, Node, lines_of};
 
 use crate::nodes::Nodes;
+use std::alloc::{AllocError, Global};
 use std::marker::Model;
 
-/// A node of a certificate with those below it: a leaf with the number of its label, or an inner node with the cost and
-/// the set of labels that it claims, and the nodes of the lower and the upper half of its block. `Certificate::root`
-/// shows it.
+/// A node of a certificate with those below it: a leaf with the number of its label, an inner node with the cost and the
+/// set of labels that it claims, and the nodes of the lower and the upper half of its block, or a chain with such a
+/// claim, its bits, its side label and the node at its end. `Certificate::root` shows it.
 #[derive(Drop)]
 pub struct Root {
     nodes: Nodes,
@@ -38,5 +39,14 @@ impl Root {
         ensures { result.now ≡ lines_of self.now }
     {
         &self.nodes
+    }
+
+    /// The same tree once more.
+    pub fn copy(&self, alloc: Global) -> Result<Root, AllocError>
+        ensures { IfOk result (λ copy. copy ≡ self.now) }
+    {
+        Ok(Root {
+            nodes: self.nodes.copy(alloc)?,
+        })
     }
 }

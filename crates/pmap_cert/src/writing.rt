@@ -3,11 +3,14 @@ ghost use Rattle.std.specs.Prelude.{◌≡◌, ◌<◌, ◌++◌, ◌∷◌, [],
 ghost use Rattle.std.specs.List.{flat_map};
 ghost use Rattle.std.specs.Fmt.{decimal};
 ghost use Rattle.pmap_cert.specs.Certificate.{certificate_of};
-ghost use Rattle.pmap_cert.specs.CertificateText.{certificate_text, header_line, inner_line, leaf_line, text_of_lines, version_word};
+ghost use Rattle.pmap_cert.specs.CertificateText.{bit_digits, certificate_text, chain_line, format_header, format_word, inner_line, leaf_line, text_of_lines, version_word};
 ghost use Rattle.pmap_cert.specs.CertificateReading.{LeafLine};
+ghost use Rattle.pmap_cert.specs.Format.{format_number};
+ghost use Rattle.pmap_cert.specs.FormatReading.{PlainLine};
 ghost use Rattle.pmap_cert.specs.Node.{line_text};
 
 use crate::certificate::Certificate;
+use crate::format::Format;
 use crate::nodes::Nodes;
 use itoa::Buffer;
 use pmap_text::{LabelId, Labels};
@@ -55,15 +58,51 @@ fn push_inner(out: &mut Vec<u8>, cost: u32, set: &[LabelId]) -> Result<(), Alloc
     Ok(())
 }
 
+// Appends a space and the digits of bits.
+fn push_bits(out: &mut Vec<u8>, bits: &[bool]) -> Result<(), AllocError>
+    ensures { OnOk result (out.new.items ≡ out.old.items ++ 32 ∷ bit_digits bits.now) }
+{
+    out.push(b' ')?;
+    for bit in bits {
+        out.push(if *bit { b'1' } else { b'0' })?;
+    }
+    Ok(())
+}
+
+// Appends the line of a chain.
+fn push_chain(
+    out: &mut Vec<u8>,
+    cost: u32,
+    bits: &[bool],
+    side: LabelId,
+    set: &[LabelId],
+) -> Result<(), AllocError>
+    ensures { OnOk result (out.new.items
+        ≡ out.old.items ++ (chain_line cost bits.now side.0 (map (λ id. id.0) set.now) ++ 10 ∷ [])) }
+{
+    out.push(b'c')?;
+    push_number(out, cost)?;
+    push_bits(out, bits)?;
+    push_number(out, side.0)?;
+    push_set(out, set)?;
+    out.push(b'\n')?;
+    Ok(())
+}
+
 // Appends the line with a number.
 fn push_line(out: &mut Vec<u8>, nodes: &Nodes, number: usize) -> Result<(), AllocError>
     requires { number < length nodes.now }
     ensures { OnOk result (out.new.items ≡ out.old.items
-        ++ (line_text (slice_index_or nodes.now number (LeafLine 0)) ++ 10 ∷ [])) }
+        ++ (line_text (slice_index_or nodes.now number (PlainLine (LeafLine 0))) ++ 10 ∷ [])) }
 {
-    match nodes.label(number) {
-        Some(id) => push_leaf(out, id),
-        None => push_inner(out, nodes.cost(number), nodes.set(number)),
+    if let Some(id) = nodes.label(number) {
+        return push_leaf(out, id);
+    }
+    let cost = nodes.cost(number);
+    let set = nodes.set(number);
+    match nodes.side(number) {
+        Some(side) => push_chain(out, cost, nodes.bits(number), side, set),
+        None => push_inner(out, cost, set),
     }
 }
 
@@ -101,11 +140,29 @@ fn version_text(version: Version) -> &'static [u8]
     }
 }
 
-// Appends the header of a certificate with so many labels.
-fn push_header(out: &mut Vec<u8>, version: Version, count: u32) -> Result<(), AllocError>
-    ensures { OnOk result (out.new.items ≡ out.old.items ++ (header_line version count ++ 10 ∷ [])) }
+// The word of a format.
+fn format_text(format: Format) -> &'static [u8]
+    ensures { result.now ≡ format_word (format_number format) }
 {
-    out.extend_from_slice(b"flowlabel-cert 1 ")?;
+    match format {
+        Format::One => b"1",
+        Format::Two => b"2",
+    }
+}
+
+// Appends the header of a certificate with so many labels.
+fn push_header(
+    out: &mut Vec<u8>,
+    format: Format,
+    version: Version,
+    count: u32,
+) -> Result<(), AllocError>
+    ensures { OnOk result (out.new.items
+        ≡ out.old.items ++ (format_header (format_number format) version count ++ 10 ∷ [])) }
+{
+    out.extend_from_slice(b"flowlabel-cert ")?;
+    out.extend_from_slice(format_text(format))?;
+    out.push(b' ')?;
     out.extend_from_slice(version_text(version))?;
     push_number(out, count)?;
     out.push(b'\n')?;
@@ -114,15 +171,17 @@ fn push_header(out: &mut Vec<u8>, version: Version, count: u32) -> Result<(), Al
 
 /// The text of a certificate: a header, its label table and its nodes in preorder.
 ///
-/// The lines are `flowlabel-cert 1 VERSION COUNT`, then COUNT labels, and then `l NUMBER` for a leaf and
-/// `n COST NUMBER NUMBER ..` for an inner node, before the nodes of its lower and of its upper half. The number of a
-/// label is its place in the table, from 0. Each certificate has one text, and `read_cert` reads it back.
+/// The lines are `flowlabel-cert FORMAT VERSION COUNT`, then COUNT labels, and then `l NUMBER` for a leaf,
+/// `n COST NUMBER NUMBER ..` for an inner node, before the nodes of its lower and of its upper half, and
+/// `c COST BITS SIDE NUMBER NUMBER ..` for a chain, before the node at its end. The number of a label is its place in
+/// the table, from 0. Each certificate has one text, and `read_cert` reads it back.
 pub fn write_cert(alloc: Global, certificate: &Certificate) -> Result<Vec<u8>, AllocError>
     ensures { IfOk result (λ text. text.items ≡ certificate_text (certificate_of certificate.now)) }
 {
     let mut out = Vec::new(alloc);
     push_header(
         &mut out,
+        certificate.format,
         certificate.version,
         certificate.labels.len() as u32,
     )?;

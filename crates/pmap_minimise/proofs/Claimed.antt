@@ -3,10 +3,11 @@ use Rattle.std.proofs.Common.{◌≡◌, ℕ, ◌+◌, ◌<◌, ◌≤◌, ◌^�
 use Rattle.std.proofs.Math.Seq.{get_or-append_seam}
 use Rattle.std.proofs.Math.ListN.{get_or-append}
 use Rattle.std.proofs.lemmas.List.{append-nil, append_assoc, same_from_push}
-use Rattle.pmap_cert.specs.Node.{Inner, Leaf, Node}
+use Rattle.pmap_text.specs.declared.label.LabelId.{LabelId}
+use Rattle.pmap_cert.specs.Node.{Chain, Inner, Leaf, Node, cost_of, set_of}
 use Rattle.pmap_minimise.specs.Claiming.{AreClaimsFrom, AreClaimsOf, AreHalvesOf, IsHalfAdded, IsHalfIn, IsHalfOf, IsHalfReady, IsKeptAs, all_claims, claimed_by, claims_of}
 use Rattle.pmap_minimise.specs.Kept.{AreKept, claims_in}
-use Rattle.pmap_minimise.specs.Numbers.{Claim, IsExactClaim, no_claim, node_claim}
+use Rattle.pmap_minimise.specs.Numbers.{Claim, IsExactClaim, IsJoined, no_claim, node_claim}
 use Rattle.pmap_minimise.specs.Outline.{IsOutline, IsReady}
 use Rattle.pmap_minimise.specs.declared.claim_list.Claims.{Claims}
 use Rattle.pmap_minimise.specs.declared.claiming.Half.{Half}
@@ -25,12 +26,14 @@ half-in claims (Leaf id) (LabelledHalf x) is = tt
 half-in claims (Leaf id) (Claiming number) is = absurd is
 half-in claims (Inner cost set left right) (LabelledHalf x) is = absurd is
 half-in claims (Inner cost set left right) (Claiming number) is = is.0
+half-in claims (Chain cost set bits side end) half is = absurd is
 
 half-claims : (claims : List Claim) (node : Node) (half : Half) → IsHalfOf claims node half → claimed_by claims half ≡ node_claim node
 half-claims claims (Leaf n) (LabelledHalf x) is = ap (λ (n : ℕ). record { cost = 0; set = n ∷ [] }) is
 half-claims claims (Leaf n) (Claiming number) is = absurd is
 half-claims claims (Inner cost set left right) (LabelledHalf x) is = absurd is
 half-claims claims (Inner cost set left right) (Claiming number) is = is.1
+half-claims claims (Chain cost set bits side end) half is = absurd is
 
 half-grown : (claims : List Claim) (claim : Claim) (node : Node) (half : Half) → IsHalfOf claims node half → IsHalfOf (claims ++ claim ∷ []) node half
 half-grown claims claim (Leaf n) (LabelledHalf x) is = is
@@ -39,6 +42,7 @@ half-grown claims claim (Inner cost set left right) (LabelledHalf x) is = absurd
 half-grown claims claim (Inner cost set left right) (Claiming number) is =
     let inside = is.0 in
     (omega (arith, length-append claims (claim ∷ [])), get_or-append claims (claim ∷ []) no_claim number inside ∙ is.1)
+half-grown claims claim (Chain cost set bits side end) half is = is
 
 halves-grown : (claims : List Claim) (claim : Claim) (nodes : List Node) (halves : List Half) → AreHalvesOf claims nodes halves → AreHalvesOf (claims ++ claim ∷ []) nodes halves
 halves-grown claims claim [] [] are = tt

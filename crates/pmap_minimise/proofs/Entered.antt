@@ -19,7 +19,7 @@ use Rattle.pmap_text.proofs.MovedBlocks.{first_of-whole}
 use Rattle.pmap_cert.specs.CertificateForm.{IsRising}
 use Rattle.pmap_cert.specs.CertificateModel.{Tree}
 use Rattle.pmap_cert.specs.MinimalPair.{entries_of, handed_on, has_inherited, least_label, own_entry}
-use Rattle.pmap_cert.specs.Node.{HasNumberForm, Inner, Leaf, Node, set_of, tree_of}
+use Rattle.pmap_cert.specs.Node.{Chain, HasNumberForm, Inner, Leaf, Node, set_of, tree_of}
 use Rattle.label_trie.specs.Leaf.{number_of}
 use Rattle.label_trie.specs.Parts.{IsHalf}
 use Rattle.pmap_minimise.specs.Entered.{AddsEntries, IsEntryOf, text_of}
@@ -128,6 +128,7 @@ pub inner-adds : (node left right : Node) (block low high : Block) (inherited : 
     → HasHalves node left right → numbers_of ids ≡ set_of node → IsOwn ids block inherited old new0 id → IsHalf 0 block low → IsHalf 1 block high
     → AddsEntries left low (Some id) new0 new1 → AddsEntries right high (Some id) new1 new2 → AddsEntries node block inherited old new2
 inner-adds (Leaf x) left right block low high inherited old new0 new1 new2 ids id halves is own low_half high_half lower upper = absurd halves
+inner-adds (Chain cost set bits side end) left right block low high inherited old new0 new1 new2 ids id halves is own low_half high_half lower upper = absurd halves
 inner-adds (Inner cost set l r) left right block low high inherited old new0 new1 new2 ids id halves is own low_half high_half lower upper = record {
   texts = λ table ok known form.
       let inner = opened (length table) form in
@@ -172,6 +173,7 @@ inner-adds (Inner cost set l r) left right block low high inherited old new0 new
 pub sound-halves : (node left right : Node) (block low high : Block) → HasHalves node left right → IsHalf 0 block low → IsHalf 1 block high
     → IsSound node (width_of block.version - block.len) → IsSound left (width_of low.version - low.len) × IsSound right (width_of high.version - high.len)
 sound-halves (Leaf x) left right block low high halves low_half high_half sound = absurd halves
+sound-halves (Chain cost set bits side end) left right block low high halves low_half high_half sound = absurd halves
 sound-halves (Inner cost set l r) left right block low high halves low_half high_half sound =
     let a = half-room 0 block low low_half in
     let b = half-room 1 block high high_half in

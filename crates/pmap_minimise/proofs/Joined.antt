@@ -13,7 +13,7 @@ use Rattle.pmap_cert.specs.CertificateForm.{IsRising}
 use Rattle.pmap_cert.specs.CertificateModel.{Pair, Tree, claim_of}
 use Rattle.pmap_cert.specs.ExactPair.{IsSamePair, exact_pair}
 use Rattle.pmap_cert.specs.MinimalPair.{StandsFor}
-use Rattle.pmap_cert.specs.Node.{HasNumberForm, Inner, Leaf, Node, cost_of, set_of, tree_of}
+use Rattle.pmap_cert.specs.Node.{Chain, HasNumberForm, Inner, Leaf, Node, cost_of, set_of, tree_of}
 use Rattle.label_trie.specs.Leaf.{model_of, number_of}
 use Rattle.label_trie.specs.Parts.{IsHalf}
 use Rattle.label_trie.specs.TrieModel.{IsSettledLeaf, IsUndivided, LeafModel}
@@ -38,20 +38,24 @@ all-right {X} P all xs ys is holds =
 claim-is : (table : List Label) (node : Node) → claim_of (tree_of table node) ≡ record { cost = cost_of node; labels = map (text_at table) (set_of node) }
 claim-is table (Leaf id) = refl
 claim-is table (Inner cost set left right) = refl
+claim-is table (Chain cost set bits side end) = refl
 
 pub claim-cost : (table : List Label) (node : Node) → (claim_of (tree_of table node)).cost ≡ cost_of node
 claim-cost table (Leaf id) = refl
 claim-cost table (Inner cost set left right) = refl
+claim-cost table (Chain cost set bits side end) = refl
 
 set-rising : (count : ℕ) (node : Node) (room : ℕ) → HasNumberForm count node room → IsRising count 0 (set_of node)
 set-rising count (Leaf id) room form = (omega arith, form, tt)
 set-rising count (Inner cost set left right) zero form = absurd form
 set-rising count (Inner cost set left right) (suc room) form = form.1
+set-rising count (Chain cost set bits side end) room form = absurd form
 
 pub set-some : (node : Node) (room : ℕ) → IsSound node room → 0 < length (set_of node)
 set-some (Leaf id) room sound = omega arith
 set-some (Inner cost set left right) zero sound = absurd sound
 set-some (Inner cost set left right) (suc room) sound = sound.0
+set-some (Chain cost set bits side end) room sound = absurd sound
 
 pub moved : (m : MapModel) (t : Tree) (n n' q q' : ℕ) → n ≡ n' → q ≡ q' → StandsFor m t n q → StandsFor m t n' q'
 moved m t n n' q q' e f stands = subst (λ (k : ℕ). StandsFor m t k q') e (subst (λ (k : ℕ). StandsFor m t n k) f stands)
@@ -157,6 +161,7 @@ module _ (block low_block high_block : Block) (leaves low_leaves high_leaves : L
 
   pub joined-certified : (node : Node) → IsJoined low high node → IsCertified block leaves node
   joined-certified (Leaf id) joined = absurd joined
+  joined-certified (Chain cost set bits side end) joined = absurd joined
   joined-certified (Inner cost set left right) joined = record {
     stands = λ m ok settled undivided. (
       unsettled m undivided,

@@ -1,12 +1,12 @@
 -- The entries that are listed along an outline, by the claims of the certificate's nodes.
-use Rattle.std.proofs.Common.{◌≡◌, ℕ, zero, suc, ◌+◌, ◌-◌, ◌^◌, ◌<◌, ◌≤◌, ◌∙◌, List, [], ◌∷◌, ◌++◌, Some, None, All, length, map, get_or, refl, sym, ap, subst, arith, length-append}
+use Rattle.std.proofs.Common.{◌≡◌, ℕ, zero, suc, ◌+◌, ◌-◌, ◌^◌, ◌<◌, ◌≤◌, ◌∙◌, List, [], ◌∷◌, ◌++◌, Some, None, All, length, map, drop, get_or, refl, sym, ap, subst, arith, length-append}
 use Rattle.std.proofs.lemmas.List.{map_push, same_from_push}
 use Rattle.std.proofs.lemmas.List.Elements.{All-from_recursion, All-head, All-push}
 use Rattle.prefix_keys.specs.Version.{width_of}
 use Rattle.prefix_keys.specs.declared.block.Block.{Block}
 use Rattle.pmap_text.specs.declared.entry.Entry.{Entry}
 use Rattle.pmap_text.specs.declared.label.LabelId.{LabelId}
-use Rattle.pmap_cert.specs.Node.{Inner, Leaf, Node, set_of}
+use Rattle.pmap_cert.specs.Node.{Chain, Inner, Leaf, Node, set_of}
 use Rattle.label_trie.specs.TrieModel.{LeafModel}
 use Rattle.pmap_minimise.specs.Claiming.{AreClaimsOf}
 use Rattle.pmap_minimise.specs.Entered.{AddsEntries}
@@ -22,7 +22,7 @@ use Rattle.pmap_minimise.specs.declared.outline.Part.TheVariants.{Divided, Label
 use Rattle.pmap_minimise.proofs.Entered.{inner-adds, leaf-adds, sound-halves}
 use Rattle.pmap_minimise.proofs.Joined.{all-left, all-right, set-some}
 use Rattle.pmap_minimise.proofs.Outlined.{plan-certified, plan-length}
-use Rattle.pmap_minimise.proofs.Waiting.{waiting-end, waiting-inner, waiting-leaf, waiting-some, waiting-start}
+use Rattle.pmap_minimise.proofs.Waiting.{IsInnerWaiting, waiting-end, waiting-inner, waiting-leaf, waiting-some, waiting-start}
 use Rattle.pmap_minimise.proofs.Walked.{halves-visited, leaf-visited}
 
 abbrev node_at : Visit → Node
@@ -34,9 +34,11 @@ heir_at v = v.heir
 node-some : (node : Node) → 0 < nodes_in node
 node-some (Leaf n) = omega arith
 node-some (Inner cost set left right) = omega arith
+node-some (Chain cost set bits side end) = omega arith
 
 halves-nodes : (node left right : Node) → HasHalves node left right → nodes_in left + nodes_in right < nodes_in node
 halves-nodes (Leaf n) left right halves = absurd halves
+halves-nodes (Chain cost set bits side end) left right halves = absurd halves
 halves-nodes (Inner cost set l r) left right halves =
     let lower = ap nodes_in halves.0 in
     let upper = ap nodes_in halves.1 in
@@ -85,11 +87,13 @@ last-visit visits nodes node heirs heir nodes_are heirs_are =
 joined-halves : (low high node : Node) → IsJoined low high node → HasHalves node low high
 joined-halves low high (Leaf id) joined = absurd joined
 joined-halves low high (Inner cost set left right) joined = (joined.0, joined.1)
+joined-halves low high (Chain cost set bits side end) joined = absurd joined
 
 joined-room : (low high node : Node) (room : ℕ) → IsJoined low high node → IsSound node room → 0 < room
 joined-room low high (Leaf id) room joined sound = absurd joined
 joined-room low high (Inner cost set left right) zero joined sound = absurd sound
 joined-room low high (Inner cost set left right) (suc room) joined sound = omega arith
+joined-room low high (Chain cost set bits side end) room joined sound = absurd joined
 
 -- the first visit is that of the root
 pub listing-start : (block : Block) (parts : List Part) (claims : Claims) (node : Node) (old : List Entry) (left : ℕ) (heirs : List Heir) → HasClaims block parts claims node

@@ -14,7 +14,7 @@ use Rattle.pmap_minimise.specs.declared.outline.Part.{Part}
 use Rattle.pmap_minimise.specs.declared.outline.Part.TheVariants.{Divided, Labelled}
 use Rattle.pmap_minimise.proofs.Joined.{joined-certified, leaf-certified}
 use Rattle.pmap_minimise.proofs.Texts.{exact-cost}
-use Rattle.pmap_cert.specs.Node.{Inner, Leaf, Node, cost_of, set_of}
+use Rattle.pmap_cert.specs.Node.{Chain, Inner, Leaf, Node, cost_of, set_of}
 
 -- a leaf's part, and the parts of two halves behind their block's
 pub leaf-outline : (block : Block) (leaves : List LeafModel) (id : LabelId) (old new : List Part) → new ≡ old ++ Labelled id ∷ []
@@ -46,6 +46,7 @@ halves-outline whole low high old new0 new1 new2 divided is lower upper = record
 -- the node of a tree costs less than its leaves
 joined-cost : (low high node : Node) → IsJoined low high node → cost_of node ≤ cost_of low + cost_of high + 1
 joined-cost low high (Leaf id) joined = absurd joined
+joined-cost low high (Chain cost set bits side end) joined = absurd joined
 joined-cost low high (Inner cost set left right) joined = exact-cost (cost_of low) (cost_of high) (set_of low) (set_of high) cost set joined.2
 
 node-cost : (plan : Plan) (node : Node) → IsNodeFor plan node → cost_of node < tips plan
@@ -130,6 +131,9 @@ popped : (plan : Plan) (plans : List Plan) (nodes rest : List Node) (top : Node)
 popped plan plans nodes rest top stacked is =
     let same = same_from_push stacked.rest rest stacked.top top (sym stacked.nodes_are ∙ is) in
     record { top_is = subst (IsNodeFor plan) same.1 stacked.top_is; rest_is = subst (AreStacked plans) same.0 stacked.rest_is }
+
+stack-some : (plan : Plan) (plans : List Plan) (nodes : List Node) → AreStacked (plan ∷ plans) nodes → 0 < length nodes
+stack-some plan plans nodes stacked = let count = ap length stacked.nodes_are in omega (arith, length-append stacked.rest (stacked.top ∷ []))
 
 -- the parts from a place on, one place earlier
 pub from-before : (parts : List Part) (left : ℕ) (part d : Part) → left < length parts → part ≡ get_or parts left d → drop left parts ≡ part ∷ drop (left + 1) parts
@@ -230,7 +234,13 @@ module _ (parts : List Part) (left next : ℕ) (nodes : List Node) (outline : Is
         stacked = subst (λ (l : List Part). AreStacked (plans_of l) new) (sym before) (subst (λ (l : List Plan). AreStacked (forked l) new) (sym two.read) joined);
       }
 
--- at the first part the stack has the tree's node
+-- at the first part the stack has the tree's node alone
+pub root-some : (parts : List Part) (left : ℕ) (nodes : List Node) → IsOutline parts → left ≡ 0 → AreNodesFrom parts left nodes → 0 < length nodes
+root-some parts left nodes outline first from =
+    stack-some outline.plan [] nodes
+    (subst (λ (l : List Plan). AreStacked l nodes) (read-parts outline.plan parts outline.is)
+    (subst (λ (k : ℕ). AreStacked (plans_of (drop k parts)) nodes) first from.stacked))
+
 pub root-node : (parts : List Part) (left : ℕ) (nodes rest : List Node) (top : Node) → left ≡ 0 → AreNodesFrom parts left nodes → nodes ≡ rest ++ top ∷ []
     → (plan : Plan) → parts ≡ parts_of plan → IsNodeFor plan top
 root-node parts left nodes rest top first from is plan outline =

@@ -3,7 +3,7 @@ use Rattle.std.proofs.Common.{◌≡◌, ℕ, ◌+◌, ◌-◌, ◌<◌, ◌≤�
 use Rattle.std.proofs.Math.Seq.{get_or-append_seam, take-append_seam, take-length}
 use Rattle.std.proofs.lemmas.List.{append-nil, append_assoc, drop_all, take-append-drop}
 use Rattle.pmap_text.specs.declared.label.LabelId.{LabelId}
-use Rattle.pmap_cert.specs.Node.{Inner, Leaf, Node}
+use Rattle.pmap_cert.specs.Node.{Chain, Inner, Leaf, Node, cost_of, set_of}
 use Rattle.pmap_minimise.specs.Claiming.{AreClaimsOf, all_claims, claims_of}
 use Rattle.pmap_minimise.specs.Kept.{claims_in}
 use Rattle.pmap_minimise.specs.Listing.{AreWaiting}
@@ -99,6 +99,7 @@ last-claim claims left before claim within is =
 
 joined-claims : (low high node : Node) → IsJoined low high node → claims_of node ≡ (claims_of high ++ claims_of low) ++ node_claim node ∷ []
 joined-claims low high (Leaf n) joined = absurd joined
+joined-claims low high (Chain cost set bits side end) joined = absurd joined
 joined-claims low high (Inner cost set left right) joined = λ i. (claims_of (joined.1 i) ++ claims_of (joined.0 i)) ++ record { cost = cost; set = set } ∷ []
 
 -- before the first part the root waits

@@ -19,7 +19,7 @@ use Rattle.pmap_cert.specs.Node.{HasNumberForm, Node, tree_of}
 use Rattle.label_trie.specs.Leaf.{number_of}
 use Rattle.label_trie.specs.TrieModel.{IsSettledLeaf, IsUndivided, LeafModel}
 use Rattle.pmap_cert.specs.CertificateForm.{HasTextForm}
-use Rattle.pmap_cert.proofs.Plain.{plain-tree_of}
+use Rattle.pmap_cert.proofs.Plain.{number-form, number-plain, plain-tree_of}
 use Rattle.pmap_cert.proofs.Written.{node_form}
 use Rattle.pmap_text.specs.ListEntries.{HasDistinctBlocks}
 use Rattle.pmap_cert.specs.MinimalPair.{HasItsLabels, IsMinimalPair, StandsFor, entries_of}
@@ -134,5 +134,10 @@ module _ (m : MapText) (root : Node) (items : List Entry) (shortest : IsShortest
     listed-pair ok = (
       record { format = 1; version = m.version; table = m.labels; root = tree_of m.labels root },
       listed-minimal (record { format = 1; version = m.version; table = m.labels; root = tree_of m.labels root }) refl,
-      record { format = refl; plain = plain-tree_of m.labels root; table = ok; root = node_form m.labels ok root (width_of m.version) shortest.form },
+      record {
+        format = refl;
+        plain = plain-tree_of m.labels root (number-plain (length m.labels) root (width_of m.version) shortest.form);
+        table = ok;
+        root = node_form m.labels ok root (width_of m.version) (number-form (length m.labels) root (width_of m.version) shortest.form);
+      },
     )

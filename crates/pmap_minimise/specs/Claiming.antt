@@ -1,5 +1,5 @@
 use Rattle.std.specs.Prelude.{◌≡◌, ℕ, ◌+◌, ◌^◌, ◌<◌, List, [], ◌∷◌, ◌++◌, length, slice_index_or}
-use Rattle.pmap_cert.specs.Node.{Inner, Leaf, Node}
+use Rattle.pmap_cert.specs.Node.{Chain, Inner, Leaf, Node}
 use Rattle.pmap_minimise.specs.Kept.{AreKept, claims_in}
 use Rattle.pmap_minimise.specs.Numbers.{Claim, IsExactClaim, no_claim}
 use Rattle.pmap_minimise.specs.Outline.{AreNodesFrom, IsNodeFor, IsOutline, Plan, parts_of}
@@ -15,6 +15,7 @@ use Rattle.pmap_minimise.specs.declared.outline.Part.TheVariants.{Divided, Label
 abbrev pub claims_of : Node → List Claim
 claims_of (Leaf number) = []
 claims_of (Inner cost set left right) = (claims_of right ++ claims_of left) ++ record { cost = cost; set = set } ∷ []
+claims_of (Chain cost set bits side end) = []
 
 -- the same of nodes, one after the other
 abbrev pub all_claims : List Node → List Claim

@@ -3,7 +3,7 @@ use Rattle.prefix_keys.specs.Version.{width_of}
 use Rattle.prefix_keys.specs.declared.block.Block.{Block}
 use Rattle.pmap_text.specs.declared.entry.Entry.{Entry}
 use Rattle.pmap_text.specs.declared.label.LabelId.{LabelId}
-use Rattle.pmap_cert.specs.Node.{Inner, Leaf, Node}
+use Rattle.pmap_cert.specs.Node.{Chain, Inner, Leaf, Node}
 use Rattle.label_trie.specs.Parts.{IsHalf}
 use Rattle.label_trie.specs.TrieModel.{LeafModel}
 use Rattle.pmap_minimise.specs.Certified.{IsCertified}
@@ -50,6 +50,7 @@ pub record IsListedBy (block : Block) (leaves : List LeafModel) (node : Node) (e
 abbrev pub nodes_in : Node → ℕ
 nodes_in (Leaf number) = 1
 nodes_in (Inner cost set left right) = nodes_in left + nodes_in right + 1
+nodes_in (Chain cost set bits side end) = nodes_in end + 1
 
 -- a node whose entries are still to be added, with its block and what that inherits
 pub record Visit : Type 0 where

@@ -4,7 +4,7 @@ use Rattle.prefix_keys.specs.declared.block.Block.{Block}
 use Rattle.pmap_text.specs.declared.entry.Entry.{Entry}
 use Rattle.pmap_text.specs.declared.label.LabelId.{LabelId}
 use Rattle.pmap_cert.specs.CertificateForm.{IsRising}
-use Rattle.pmap_cert.specs.Node.{Inner, Leaf, Node, cost_of, set_of}
+use Rattle.pmap_cert.specs.Node.{Chain, Inner, Leaf, Node, cost_of, set_of}
 
 -- Sets of labels, claims and entries by the numbers of labels, as the code has them.
 
@@ -63,17 +63,20 @@ IsExact low high cost set =
 abbrev pub IsJoined : Node → Node → Node → Type 0
 IsJoined low high (Leaf id) = ⊥
 IsJoined low high (Inner cost set left right) = (left ≡ low) × (right ≡ high) × IsExact low high cost set
+IsJoined low high (Chain cost set bits side end) = ⊥
 
 -- the node is an inner one with these two nodes
 abbrev pub HasHalves : Node → Node → Node → Type 0
 HasHalves (Leaf id) low high = ⊥
 HasHalves (Inner cost set left right) low high = (left ≡ low) × (right ≡ high)
+HasHalves (Chain cost set bits side end) low high = ⊥
 
--- each set has a number, and at most so many inner nodes stand one inside the other
+-- there is no chain, each set has a number, and at most so many inner nodes stand one inside the other
 abbrev pub IsSound : Node → ℕ → Type 0
 IsSound (Leaf id) room = Unit {0}
 IsSound (Inner cost set left right) zero = ⊥
 IsSound (Inner cost set left right) (suc room) = (0 < length set) × IsSound left room × IsSound right room
+IsSound (Chain cost set bits side end) room = ⊥
 
 -- the labels have the one that is inherited
 abbrev pub keeps : List LabelId → Option LabelId → Bool

@@ -82,8 +82,7 @@ fn push_listed(
 fn outlined(alloc: Global, place: &Cursor, nodes: u32) -> Result<(Vec<Part>, Claims), AllocError>
     requires labelled { All (λ leaf. IsSome leaf.label) place.now.leaves }
     requires few { length place.now.leaves ≤ 2 ^ 31 }
-    ensures { IfOk result (λ made. (node : Node)
-        × IsClaimed place.now.block place.now.leaves made.0.items made.1 node) }
+    ensures { IfOk result (λ made. (node : Node) × IsClaimed place.now.block place.now.leaves made.0.items made.1 node) }
 {
     let mut parts = Vec::with_capacity(alloc, nodes as usize)?;
     push_parts(alloc, &mut parts, place)?;

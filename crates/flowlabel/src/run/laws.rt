@@ -1,12 +1,13 @@
 ghost use Rattle.flowlabel.specs.Headline.{ShrunkIsLeast};
-ghost use Rattle.flowlabel.specs.Output.{CheckAcceptsMinimal, CheckIsEnough, HasOutput, OneOutput, SameUnderEquivalents};
+ghost use Rattle.flowlabel.specs.Output.{CheckAcceptsCompact, CheckAcceptsMinimal, CheckIsEnough, HasOutput, OneOutput, RecertIsAsGood, SameUnderEquivalents};
 
 use cert_check::no_fault_is_acceptance;
 use label_trie::labelling_has_its_runs;
 use pmap_cert::{
-    acceptance_is_enough, certificate_text_is_read_or_has_a_fault, map_text_has_a_minimal_pair,
-    map_text_has_its_labels, minimal_certificate_is_one, minimal_list_is_in_order,
-    minimal_pair_is_accepted, minimal_pair_is_unique,
+    acceptance_is_enough, compact_gives_back_equal, compact_has_a_text, compact_has_no_more_lines,
+    compact_keeps_acceptance, map_text_has_a_minimal_pair, map_text_has_its_labels,
+    minimal_certificate_is_one, minimal_list_is_in_order, minimal_pair_is_accepted,
+    minimal_pair_is_unique, text_of_format_is_read_or_has_a_fault,
 };
 use pmap_print::{
     labelling_has_one_runs_text, minimal_list_can_be_read_again, minimal_list_is_accepted_again,
@@ -22,6 +23,7 @@ pub fn one_output()
     map_text_has_its_labels();
     minimal_pair_is_unique();
     minimal_certificate_is_one();
+    text_of_format_is_read_or_has_a_fault();
     no_fault_is_acceptance();
 }
 
@@ -32,7 +34,7 @@ pub fn has_output()
     ipfix_read::has_reading();
     labelling_has_its_runs();
     map_text_has_a_minimal_pair();
-    certificate_text_is_read_or_has_a_fault();
+    text_of_format_is_read_or_has_a_fault();
     no_fault_is_acceptance();
 }
 
@@ -50,23 +52,42 @@ pub fn check_is_enough()
     acceptance_is_enough();
 }
 
-/// `check` accepts what is minimal: over a map text, the printed list of the map's minimal pair and its printed certificate it
-/// prints the number of the list's entries, where the list is within the limits of a text.
+/// `check` accepts what is minimal: over a map text, the printed list of the map's minimal pair and its printed certificate,
+/// compacted or not, it prints the number of the list's entries, where the list is within the limits of a text.
 pub fn check_accepts_minimal()
-    ensures { CheckAcceptsMinimal }
+    ensures plain { CheckAcceptsMinimal }
+    ensures compact { CheckAcceptsCompact }
 {
     minimal_list_is_accepted_again();
+    compact_has_a_text();
+    compact_keeps_acceptance();
+}
+
+/// What `recert` prints of a certificate, whoever made it, is as good: it has no more node lines, `recert` prints it again of
+/// itself, and where `check` prints a number over a map text, a list text and the certificate, it prints the same over what
+/// `recert` printed.
+pub fn recert_is_as_good()
+    ensures { RecertIsAsGood }
+{
+    text_of_format_is_read_or_has_a_fault();
+    compact_has_a_text();
+    compact_has_no_more_lines();
+    compact_gives_back_equal();
+    compact_keeps_acceptance();
 }
 
 /// What `shrink` prints for each map text is right and least: the list labels every address as the map does, no list that does so
-/// has fewer entries, and the certificate is accepted for the two. Where the list is within the limits of a text, what is printed
-/// is read again as the same list, and `check` over the map text, that list and the certificate gives the number of its entries.
+/// has fewer entries, and the certificate is accepted for the two, compacted or not. Where the list is within the limits of a text,
+/// what is printed is read again as the same list, and `check` over the map text, that list and the certificate, compacted or not,
+/// gives the number of its entries.
 pub fn shrunk_list_is_least()
     ensures { ShrunkIsLeast }
 {
     check_accepts_minimal();
     map_text_has_a_minimal_pair();
     minimal_pair_is_accepted();
+    compact_has_a_text();
+    compact_keeps_acceptance();
     map_text_has_its_labels();
     minimal_list_is_in_order();
     minimal_list_can_be_read_again();

@@ -98,3 +98,8 @@ returns-in-Check-clause-err g c =
     subst (λ (command : Command). IfErr c.check_loaded.result (IsFaultOfAnswer g.R.Input.bytes_left g.R.Input.failed c.args.inputs.now c.args.inputs.now
     (ComesOf (request_of command) c.args.loaded.now))) (sym c.in-Check.is)
     c.check_loaded.ensures.err
+
+pub returns-in_ok-compact_loaded-in-Recert-clause-ok : goal.returns-in_ok-compact_loaded-in-Recert-clause-ok
+returns-in_ok-compact_loaded-in-Recert-clause-ok g c = λ bytes told.
+    subst (λ (command : Command). ComesOf (request_of command) c.args.loaded.now bytes (Ok c.in_ok-compact_loaded-in-Recert.field-0.items)) (sym c.in-Recert.is)
+    c.in_ok-compact_loaded-in-Recert.ensures

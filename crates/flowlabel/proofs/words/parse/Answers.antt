@@ -3,7 +3,7 @@ use Rattle.std.specs.Prelude.{option_map}
 use Rattle.clap.specs.Words.{App, HasKind, Row, Text, fault_of, found_of, is_simple, is_simple_and_free, rows_of, subcommand_of, takes}
 use Rattle.flowlabel.specs.Answer.{answer_of}
 use Rattle.flowlabel.proofs.AnswerLemmas.{answers, fault_at, flowlabel_is_free, flowlabel_is_simple, answer_own, own, own_of_memory, subcommand_is, unless_memory}
-use Rattle.flowlabel.proofs.LineLemmas.{reads_bare_line, reads_cat_line, reads_certificate_line, reads_columns_line, reads_info_line, reads_list_line, reads_map_line, reads_rows_line, reads_shrink_line}
+use Rattle.flowlabel.proofs.LineLemmas.{reads_bare_line, reads_cat_line, reads_certificate_line, reads_columns_line, reads_compact_alone_line, reads_compact_line, reads_info_line, reads_list_line, reads_map_line, reads_recert_line, reads_rows_line, reads_shrink_line}
 use Rattle.flowlabel.proofs.RequestLemmas.{answer_is_proper}
 use Rattle.flowlabel.proofs.words.parse.Goals as goal
 
@@ -95,3 +95,21 @@ returns-in-Err-clause-shrink_line c = reads_shrink_line _ (Err c.fault_of_error.
 
 pub returns-in-Err-clause-certificate_line : goal.returns-in-Err-clause-certificate_line
 returns-in-Err-clause-certificate_line c = reads_certificate_line _ (Err c.fault_of_error.result) (returns-in-Err-clause-answer c)
+
+pub returns-in-Ok-clause-compact_line : goal.returns-in-Ok-clause-compact_line
+returns-in-Ok-clause-compact_line c = reads_compact_line _ c.command_of.result (returns-in-Ok-clause-answer c)
+
+pub returns-in-Err-clause-compact_line : goal.returns-in-Err-clause-compact_line
+returns-in-Err-clause-compact_line c = reads_compact_line _ (Err c.fault_of_error.result) (returns-in-Err-clause-answer c)
+
+pub returns-in-Ok-clause-compact_alone_line : goal.returns-in-Ok-clause-compact_alone_line
+returns-in-Ok-clause-compact_alone_line c = reads_compact_alone_line _ c.command_of.result (returns-in-Ok-clause-answer c)
+
+pub returns-in-Err-clause-compact_alone_line : goal.returns-in-Err-clause-compact_alone_line
+returns-in-Err-clause-compact_alone_line c = reads_compact_alone_line _ (Err c.fault_of_error.result) (returns-in-Err-clause-answer c)
+
+pub returns-in-Ok-clause-recert_line : goal.returns-in-Ok-clause-recert_line
+returns-in-Ok-clause-recert_line c = reads_recert_line _ c.command_of.result (returns-in-Ok-clause-answer c)
+
+pub returns-in-Err-clause-recert_line : goal.returns-in-Err-clause-recert_line
+returns-in-Err-clause-recert_line c = reads_recert_line _ (Err c.fault_of_error.result) (returns-in-Err-clause-answer c)

@@ -1,4 +1,4 @@
-use Rattle.pmap_cert.proofs.Whole.{is_only, is_text}
+use Rattle.pmap_cert.proofs.FormatWhole.{is_only, is_text}
 use Rattle.pmap_cert.proofs.certificate_reading.read_cert.Goals as goal
 
 pub returns-clause-ok : goal.returns-clause-ok

@@ -1,4 +1,3 @@
-use Rattle.std.proofs.Common.{◌∙◌, ap, sym}
 use Rattle.pmap_cert.proofs.NodeWalk.{root-of, tree-whole}
 use Rattle.pmap_cert.proofs.cursor.cursor_of.Goals as goal
 

@@ -5,6 +5,7 @@ use Rattle.pmap_text.specs.MapModel.{Label}
 use Rattle.pmap_text.specs.MapText.{map_of}
 use Rattle.pmap_text.specs.PrefixList.{list_of, prefix_of}
 use Rattle.pmap_cert.specs.Certificate.{certificate_of}
+use Rattle.pmap_cert.specs.Format.{format_number}
 use Rattle.pmap_cert.specs.Node.{HasNumberForm, Node, cost_of, first_node, tree_of}
 use Rattle.pmap_minimise.specs.Shortest.{IsWhole}
 use Rattle.pmap_minimise.proofs.Joined.{claim-cost}
@@ -53,7 +54,7 @@ returns-clause-minimal c =
     let certificate = certificate_of c.new-certificate.result in
     let table = c.new-certificate.ensures.labels ∙ c.in_ok-labels.ensures in
     let same : certificate ≡ record { format = 1; version = m.version; table = m.labels; root = tree_of m.labels c.in_ok-items.root } =
-    λ i. record { format = 1; version = c.new-certificate.ensures.version i; table = table i; root = tree_of (table i) (c.new-certificate.ensures.root i) } in
+    λ i. record { format = format_number (c.new-certificate.ensures.format i); version = c.new-certificate.ensures.version i; table = table i; root = tree_of (table i) (c.new-certificate.ensures.root i) } in
     let pair = listed-minimal m c.in_ok-items.root c.in_ok-items.items.items made l c.in_ok-list.ensures certificate same in
     pair
 
@@ -67,7 +68,7 @@ returns-clause-equivalent c =
     let certificate = certificate_of c.new-certificate.result in
     let table = c.new-certificate.ensures.labels ∙ c.in_ok-labels.ensures in
     let same : certificate ≡ record { format = 1; version = m.version; table = m.labels; root = tree_of m.labels c.in_ok-items.root } =
-    λ i. record { format = 1; version = c.new-certificate.ensures.version i; table = table i; root = tree_of (table i) (c.new-certificate.ensures.root i) } in
+    λ i. record { format = format_number (c.new-certificate.ensures.format i); version = c.new-certificate.ensures.version i; table = table i; root = tree_of (table i) (c.new-certificate.ensures.root i) } in
     let pair = listed-minimal m c.in_ok-items.root c.in_ok-items.items.items made l c.in_ok-list.ensures certificate same in
     c.minimal_pair_is_accepted.ensures.equivalent (map_of m) l certificate pair
 
@@ -81,7 +82,7 @@ returns-clause-least c =
     let certificate = certificate_of c.new-certificate.result in
     let table = c.new-certificate.ensures.labels ∙ c.in_ok-labels.ensures in
     let same : certificate ≡ record { format = 1; version = m.version; table = m.labels; root = tree_of m.labels c.in_ok-items.root } =
-    λ i. record { format = 1; version = c.new-certificate.ensures.version i; table = table i; root = tree_of (table i) (c.new-certificate.ensures.root i) } in
+    λ i. record { format = format_number (c.new-certificate.ensures.format i); version = c.new-certificate.ensures.version i; table = table i; root = tree_of (table i) (c.new-certificate.ensures.root i) } in
     let pair = listed-minimal m c.in_ok-items.root c.in_ok-items.items.items made l c.in_ok-list.ensures certificate same in
     c.minimal_pair_is_accepted.ensures.least (map_of m) l certificate pair
 
@@ -95,7 +96,7 @@ returns-clause-accepted c =
     let certificate = certificate_of c.new-certificate.result in
     let table = c.new-certificate.ensures.labels ∙ c.in_ok-labels.ensures in
     let same : certificate ≡ record { format = 1; version = m.version; table = m.labels; root = tree_of m.labels c.in_ok-items.root } =
-    λ i. record { format = 1; version = c.new-certificate.ensures.version i; table = table i; root = tree_of (table i) (c.new-certificate.ensures.root i) } in
+    λ i. record { format = format_number (c.new-certificate.ensures.format i); version = c.new-certificate.ensures.version i; table = table i; root = tree_of (table i) (c.new-certificate.ensures.root i) } in
     let pair = listed-minimal m c.in_ok-items.root c.in_ok-items.items.items made l c.in_ok-list.ensures certificate same in
     c.minimal_pair_is_accepted.ensures.accepted (map_of m) l certificate pair
 
@@ -109,7 +110,7 @@ returns-clause-count c =
     let certificate = certificate_of c.new-certificate.result in
     let table = c.new-certificate.ensures.labels ∙ c.in_ok-labels.ensures in
     let same : certificate ≡ record { format = 1; version = m.version; table = m.labels; root = tree_of m.labels c.in_ok-items.root } =
-    λ i. record { format = 1; version = c.new-certificate.ensures.version i; table = table i; root = tree_of (table i) (c.new-certificate.ensures.root i) } in
+    λ i. record { format = format_number (c.new-certificate.ensures.format i); version = c.new-certificate.ensures.version i; table = table i; root = tree_of (table i) (c.new-certificate.ensures.root i) } in
     let pair = listed-minimal m c.in_ok-items.root c.in_ok-items.items.items made l c.in_ok-list.ensures certificate same in
     let count = c.minimal_pair_is_accepted.ensures.count (map_of m) l certificate pair in
     let entries : length l.prefixes ≡ length c.in_ok-list.list.entries = length-map c.in_ok-list.list.entries (prefix_of c.in_ok-list.list.labels) in
@@ -133,6 +134,6 @@ returns-clause-order c =
     let certificate = certificate_of c.new-certificate.result in
     let table = c.new-certificate.ensures.labels ∙ c.in_ok-labels.ensures in
     let same : certificate ≡ record { format = 1; version = m.version; table = m.labels; root = tree_of m.labels c.in_ok-items.root } =
-    λ i. record { format = 1; version = c.new-certificate.ensures.version i; table = table i; root = tree_of (table i) (c.new-certificate.ensures.root i) } in
+    λ i. record { format = format_number (c.new-certificate.ensures.format i); version = c.new-certificate.ensures.version i; table = table i; root = tree_of (table i) (c.new-certificate.ensures.root i) } in
     let pair = listed-minimal m c.in_ok-items.root c.in_ok-items.items.items made l c.in_ok-list.ensures certificate same in
     listed-form m c.in_ok-items.root c.in_ok-items.items.items made l c.in_ok-list.ensures

@@ -1,6 +1,6 @@
-use Rattle.std.proofs.Common.{◌≡◌, ℕ, ◌+◌, ◌<◌, suc, ◌∙◌, List, ap, arith, drop, length, subst, sym}
-use Rattle.pmap_cert.specs.Node.{AreWhole, Node, from_next_line, nodes_of}
-use Rattle.pmap_cert.proofs.NodeWalk.{nodes-next, whole-next, within}
+use Rattle.std.proofs.Common.{◌≡◌, ℕ, ◌+◌, suc, ◌∙◌, ap, arith, drop, subst}
+use Rattle.pmap_cert.specs.Node.{AreWhole, from_next_line, nodes_of}
+use Rattle.pmap_cert.proofs.NodeWalk.{nodes-next, whole-next}
 use Rattle.pmap_cert.proofs.cursor.Cursor.next.Goals as goal
 
 pub returns : goal.returns

@@ -1,0 +1,275 @@
+-- Nodes by their numbers, compacted.
+use Rattle.std.proofs.Common.{◌≡◌, ◌++◌, ℕ, zero, suc, ◌<◌, ◌≤◌, ◌∙◌, ◌==◌, Bool, true, false, List, [], ◌∷◌, Option, Some, None, cond, length, map, nat_le, option_map, refl, sym, ap, subst, arith}
+use Rattle.std.specs.Option.{option_or}
+use Rattle.std.specs.Str.{bytes_eq}
+use Rattle.std.proofs.lemmas.Bool.{cond-false, cond-true, eqb-true, le-leb, lt-leb}
+use Rattle.std.proofs.lemmas.List.{append_assoc}
+use Rattle.std.proofs.lemmas.Option.{none-some, same_Some}
+use Rattle.std.proofs.lemmas.Slice.Eq.{bytes_eq-Decides}
+use Rattle.prefix_keys.specs.Version.{width_of}
+use Rattle.prefix_keys.specs.declared.version.Version.{Version}
+use Rattle.pmap_text.specs.Label.{IsLabelTable}
+use Rattle.pmap_text.specs.MapModel.{Label}
+use Rattle.pmap_text.specs.MapText.{text_at}
+use Rattle.pmap_cert.specs.CertificateForm.{HasRoomBelow}
+use Rattle.pmap_cert.specs.CertificateModel.{CertificateModel, ChainNode, InnerNode, Pair, Tree}
+use Rattle.pmap_cert.specs.CertificateReading.{InnerLine, LeafLine}
+use Rattle.pmap_cert.specs.CertificateText.{place_of}
+use Rattle.pmap_cert.specs.Compacting.{compact, compacted, is_side, leaf_label, run_bits, run_compacted, run_end, side_of}
+use Rattle.pmap_cert.specs.Format.{format_number}
+use Rattle.pmap_cert.specs.FormatReading.{ChainLine, DueLine, PlainLine}
+use Rattle.pmap_cert.specs.Node.{Chain, HasChainForm, Inner, Leaf, Node, cost_of, label_of, lines_of, set_of, tree_of}
+use Rattle.pmap_cert.specs.Placing.{IsCompactNode, IsCompacted, IsShort, bits_down, end_down, is_leaf, side_below}
+use Rattle.pmap_cert.specs.declared.format.Format.{Format}
+use Rattle.pmap_cert.specs.declared.format.Format.TheVariants.{One, Two}
+use Rattle.pmap_cert.proofs.ChainWords.{end-room, other-room}
+use Rattle.pmap_cert.proofs.Compacts.{compact-again, compact-first}
+use Rattle.pmap_cert.proofs.Runs.{compacted-inner, compacted-leaf}
+use Rattle.pmap_cert.proofs.Sets.{bytes_eq-same}
+use Rattle.pmap_cert.proofs.Tables.{place_of-text_at}
+
+-- labels of a table are equal where their numbers are
+pub label-same : (table : List Label) (a b : ℕ) → IsLabelTable table → a < length table → b < length table → bytes_eq (text_at table a) (text_at table b) ≡ (a == b)
+label-same table a b ok first second = by (a == b) (bytes_eq (text_at table a) (text_at table b)) refl refl
+  where
+    same-number : text_at table a ≡ text_at table b → a ≡ b
+    same-number e = sym (place_of-text_at table a ok first) ∙ ap (place_of table) e ∙ place_of-text_at table b ok second
+
+    by : (p q : Bool) → (a == b) ≡ p → bytes_eq (text_at table a) (text_at table b) ≡ q → bytes_eq (text_at table a) (text_at table b) ≡ (a == b)
+    by true q e f =
+        subst (λ (n : ℕ). bytes_eq (text_at table a) (text_at table n) ≡ true) (eqb-true a b e) (bytes_eq-same (text_at table a)) ∙ sym e
+    by false true e f = absurd (ne-self e (same-number ((bytes_eq-Decides (text_at table a) (text_at table b)).0 f)))
+      where
+        ne-self : (a == b) ≡ false → a ≡ b → ⊥
+        ne-self e is = grind (arith, e, is)
+    by false false e f = f ∙ sym e
+
+-- the run of a tree is that of its node
+module _ (table : List Label) (ok : IsLabelTable table) (side : ℕ) (known : side < length table) where
+  side-same : (node : Node) (room : ℕ) → HasChainForm (length table) node room → is_side (text_at table side) (tree_of table node) ≡ is_leaf side node
+  side-same (Leaf number) room form = label-same table number side ok form known
+  side-same (Inner cost set lower upper) room form = refl
+  side-same (Chain cost set bits s end) room form = refl
+
+  bits-same : (node : Node) (room : ℕ) → HasChainForm (length table) node room → run_bits (text_at table side) (tree_of table node) ≡ bits_down side node
+  bits-same (Leaf number) room form = refl
+  bits-same (Chain cost set bits s end) room form = refl
+  bits-same (Inner cost set lower upper) zero form = absurd form
+  bits-same (Inner cost set lower upper) (suc room) form =
+      λ i. cond (side-same lower room form.2 i) (true ∷ bits-same upper room form.3 i)
+      (cond (side-same upper room form.3 i) (false ∷ bits-same lower room form.2 i) [])
+
+  end-same : (node : Node) (room : ℕ) → HasChainForm (length table) node room → run_end (text_at table side) (tree_of table node) ≡ tree_of table (end_down side node)
+  end-same (Leaf number) room form = refl
+  end-same (Chain cost set bits s end) room form = refl
+  end-same (Inner cost set lower upper) zero form = absurd form
+  end-same (Inner cost set lower upper) (suc room) form =
+      (λ i. cond (side-same lower room form.2 i) (end-same upper room form.3 i)
+      (cond (side-same upper room form.3 i) (end-same lower room form.2 i) (tree_of table (Inner cost set lower upper))))
+      ∙ by (is_leaf side lower) (is_leaf side upper)
+    where
+      by : (b c : Bool) → cond b (tree_of table (end_down side upper)) (cond c (tree_of table (end_down side lower)) (tree_of table (Inner cost set lower upper)))
+          ≡ tree_of table (cond b (end_down side upper) (cond c (end_down side lower) (Inner cost set lower upper)))
+      by true c = refl
+      by false true = refl
+      by false false = refl
+
+label-leaf : (table : List Label) (node : Node) → leaf_label (tree_of table node) ≡ option_map (text_at table) (label_of node)
+label-leaf table (Leaf number) = refl
+label-leaf table (Inner cost set lower upper) = refl
+label-leaf table (Chain cost set bits side end) = refl
+
+either-map : (f : ℕ → Label) (a b : Option ℕ) → option_or (option_map f a) (option_map f b) ≡ option_map f (option_or a b)
+either-map f None b = refl
+either-map f (Some x) b = refl
+
+sides-same : (table : List Label) (lower upper : Node) → side_of (tree_of table lower) (tree_of table upper) ≡ option_map (text_at table) (option_or (label_of lower) (label_of upper))
+sides-same table lower upper =
+    (λ i. option_or (label-leaf table lower i) (label-leaf table upper i)) ∙ either-map (text_at table) (label_of lower) (label_of upper)
+
+-- below a run's bits its end has its form
+form-down : (count side : ℕ) (node : Node) (room : ℕ) → HasChainForm count node room → HasRoomBelow (HasChainForm count (end_down side node)) (bits_down side node) room
+form-down count side (Leaf number) room h = h
+form-down count side (Chain cost set bits s end) room h = h
+form-down count side (Inner cost set lower upper) zero h = absurd h
+form-down count side (Inner cost set lower upper) (suc room) h =
+    by (is_leaf side lower) (is_leaf side upper) (form-down count side lower room h.2) (form-down count side upper room h.3)
+  where
+    by : (b c : Bool) → HasRoomBelow (HasChainForm count (end_down side lower)) (bits_down side lower) room
+        → HasRoomBelow (HasChainForm count (end_down side upper)) (bits_down side upper) room
+        → HasRoomBelow (HasChainForm count (cond b (end_down side upper) (cond c (end_down side lower) (Inner cost set lower upper))))
+        (cond b (true ∷ bits_down side upper) (cond c (false ∷ bits_down side lower) [])) (suc room)
+    by true c low up = up
+    by false true low up = low
+    by false false low up = h
+
+-- the side label is that of a leaf
+side-known : (count : ℕ) (lower upper : Node) (room side : ℕ) → HasChainForm count lower room → HasChainForm count upper room
+    → option_or (label_of lower) (label_of upper) ≡ Some side → side < count
+side-known count (Leaf n) upper room side low up e = subst (λ (k : ℕ). k < count) (same_Some n side e) low
+side-known count (Inner c s l u) (Leaf n) room side low up e = subst (λ (k : ℕ). k < count) (same_Some n side e) up
+side-known count (Chain c s b x n') (Leaf n) room side low up e = subst (λ (k : ℕ). k < count) (same_Some n side e) up
+side-known count (Inner c s l u) (Inner c' s' l' u') room side low up e = absurd (none-some side e)
+side-known count (Inner c s l u) (Chain c' s' b' x' n') room side low up e = absurd (none-some side e)
+side-known count (Chain c s b x n) (Inner c' s' l' u') room side low up e = absurd (none-some side e)
+side-known count (Chain c s b x n) (Chain c' s' b' x' n') room side low up e = absurd (none-some side e)
+
+pub compact-leaf : (number : ℕ) → IsCompactNode (Leaf number) (Leaf number)
+compact-leaf number = record {
+  same = λ table room ok form. sym (compacted-leaf (text_at table number));
+  form = λ count room form. form;
+}
+
+module _ (cost : ℕ) (set : List ℕ) (lower upper : Node) where
+  abbrev whole : Node
+  whole = Inner cost set lower upper
+
+  abbrev claim : List Label → Pair
+  claim table = record { cost = cost; labels = map (text_at table) set }
+
+  abbrev run_in : List Label → Option Label → Tree
+  run_in table o = run_compacted compacted (claim table) (tree_of table lower) (tree_of table upper) o
+
+  steps : (table : List Label) (o : Option ℕ) → option_or (label_of lower) (label_of upper) ≡ o
+      → compacted (tree_of table whole) ≡ run_in table (option_map (text_at table) o)
+  steps table o e =
+      compacted-inner (claim table) (tree_of table lower) (tree_of table upper)
+      ∙ ap (run_in table) (sides-same table lower upper ∙ ap (option_map (text_at table)) e)
+
+  -- its run has fewer than two bits
+  module _ (low up : Node) (is_low : IsCompactNode lower low) (is_up : IsCompactNode upper up) where
+    inner-form : (count room : ℕ) → HasChainForm count whole room → HasChainForm count (Inner cost set low up) room
+    inner-form count zero form = absurd form
+    inner-form count (suc room) form = (form.0, form.1, is_low.form count room form.2, is_up.form count room form.3)
+
+    inner-parts : (table : List Label) (room : ℕ) → IsLabelTable table → HasChainForm (length table) whole (suc room)
+        → InnerNode (claim table) (compacted (tree_of table lower)) (compacted (tree_of table upper)) ≡ tree_of table (Inner cost set low up)
+    inner-parts table room ok form =
+        λ i. InnerNode (claim table) (sym (is_low.same table room ok form.2) i) (sym (is_up.same table room ok form.3) i)
+
+    pub compact-none : option_or (label_of lower) (label_of upper) ≡ None → IsCompactNode whole (Inner cost set low up)
+    compact-none e = record { same = same; form = inner-form }
+      where
+        same : (table : List Label) (room : ℕ) → IsLabelTable table → HasChainForm (length table) whole room
+            → tree_of table (Inner cost set low up) ≡ compacted (tree_of table whole)
+        same table zero ok form = absurd form
+        same table (suc room) ok form = sym (steps table None e ∙ inner-parts table room ok form)
+
+    pub compact-short : (side : ℕ) → option_or (label_of lower) (label_of upper) ≡ Some side → length (bits_down side whole) < 2
+        → IsCompactNode whole (Inner cost set low up)
+    compact-short side e short = record { same = same; form = inner-form }
+      where
+        same : (table : List Label) (room : ℕ) → IsLabelTable table → HasChainForm (length table) whole room
+            → tree_of table (Inner cost set low up) ≡ compacted (tree_of table whole)
+        same table zero ok form = absurd form
+        same table (suc room) ok form =
+            let known = side-known (length table) lower upper room side form.2 form.3 e in
+            let bits = bits-same table ok side known whole (suc room) form in
+            let count = ap length bits in
+            let x : Label = text_at table side in
+            let tree : Tree = tree_of table whole in
+            sym (steps table (Some side) e
+            ∙ cond-false (nat_le 2 (length (run_bits x tree))) (ChainNode (claim table) (run_bits x tree) x (compacted (run_end x tree)))
+            (InnerNode (claim table) (compacted (tree_of table lower)) (compacted (tree_of table upper))) (lt-leb _ _ (omega arith))
+            ∙ inner-parts table room ok form)
+
+  -- its run has two bits or more
+  pub compact-chain : (side : ℕ) (bits : List Bool) (down end : Node) → option_or (label_of lower) (label_of upper) ≡ Some side → bits ≡ bits_down side whole
+      → down ≡ end_down side whole → 2 ≤ length bits → IsCompactNode down end → IsCompactNode whole (Chain cost set bits side end)
+  compact-chain side bits down end e are is long below = record { same = same; form = form }
+    where
+      same : (table : List Label) (room : ℕ) → IsLabelTable table → HasChainForm (length table) whole room
+          → tree_of table (Chain cost set bits side end) ≡ compacted (tree_of table whole)
+      same table zero ok form = absurd form
+      same table (suc room) ok form =
+          let known = side-known (length table) lower upper room side form.2 form.3 e in
+          let run = bits-same table ok side known whole (suc room) form in
+          let last = end-same table ok side known whole (suc room) form in
+          let count = ap length (run ∙ sym are) in
+          let x : Label = text_at table side in
+          let tree : Tree = tree_of table whole in
+          let left = end-room (HasChainForm (length table) (end_down side whole)) (bits_down side whole) (suc room) (form-down (length table) side whole (suc room) form) in
+          let inside : tree_of table end ≡ compacted (tree_of table down) =
+          below.same table left.0 ok (subst (λ (n : Node). HasChainForm (length table) n left.0) (sym is) left.1) in
+          sym (steps table (Some side) e
+          ∙ cond-true (nat_le 2 (length (run_bits x tree))) (ChainNode (claim table) (run_bits x tree) x (compacted (run_end x tree)))
+          (InnerNode (claim table) (compacted (tree_of table lower)) (compacted (tree_of table upper))) (le-leb _ _ (omega arith))
+          ∙ (λ i. ChainNode (claim table) ((run ∙ sym are) i) x ((ap compacted (last ∙ ap (tree_of table) (sym is)) ∙ sym inside) i)))
+
+      form : (count room : ℕ) → HasChainForm count whole room → HasChainForm count (Chain cost set bits side end) room
+      form count zero h = absurd h
+      form count (suc room) h = (
+        h.0,
+        h.1,
+        side-known count lower upper room side h.2 h.3 e,
+        omega arith,
+        subst (λ (bs : List Bool). HasRoomBelow (HasChainForm count end) bs (suc room)) (sym are)
+            (other-room (HasChainForm count (end_down side whole)) (HasChainForm count end)
+            (λ left fits. below.form count left (subst (λ (n : Node). HasChainForm count n left) (sym is) fits))
+            (bits_down side whole) (suc room) (form-down count side whole (suc room) h)),
+      )
+
+-- the lines of a node compacted behind the old ones
+pub leaf-lines : (node : Node) (number : ℕ) (old new : List DueLine) → node ≡ Leaf number → new ≡ old ++ PlainLine (LeafLine number) ∷ [] → IsCompacted node old new
+leaf-lines node number old new is pushed =
+    subst (λ (n : Node). IsCompacted n old new) (sym is) (record { compact = Leaf number; is = compact-leaf number; lines = pushed })
+
+module _ (node : Node) (cost : ℕ) (set : List ℕ) (lower upper : Node) (node_is : node ≡ Inner cost set lower upper) (old : List DueLine) where
+  pub chain-lines : (side cost' : ℕ) (set' : List ℕ) (bits : List Bool) (down : Node) (mid new : List DueLine) → side_below node ≡ Some side → bits ≡ bits_down side node
+      → down ≡ end_down side node → 2 ≤ length bits → cost' ≡ cost_of node → set' ≡ set_of node → mid ≡ old ++ ChainLine cost' bits side set' ∷ [] → IsCompacted down mid new
+      → IsCompacted node old new
+  chain-lines side cost' set' bits down mid new sides are is long cost_is set_is pushed below =
+      subst (λ (n : Node). IsCompacted n old new) (sym node_is) (record {
+        compact = Chain cost set bits side below.compact;
+        is =
+            compact-chain cost set lower upper side bits down below.compact (sym (ap side_below node_is) ∙ sides) (are ∙ ap (bits_down side) node_is)
+            (is ∙ ap (end_down side) node_is) long below.is;
+        lines =
+            below.lines
+            ∙ ap (λ (ls : List DueLine). ls ++ lines_of below.compact)
+            (pushed ∙ (λ i. old ++ ChainLine ((cost_is ∙ ap cost_of node_is) i) bits side ((set_is ∙ ap set_of node_is) i) ∷ []))
+            ∙ append_assoc old (ChainLine cost bits side set ∷ []) (lines_of below.compact);
+      })
+
+  pub inner-lines : (cost' : ℕ) (set' : List ℕ) (low up : Node) (first second third : List DueLine) → low ≡ lower → up ≡ upper → IsShort node → cost' ≡ cost_of node → set' ≡ set_of node
+      → first ≡ old ++ PlainLine (InnerLine cost' set') ∷ [] → IsCompacted low first second → IsCompacted up second third → IsCompacted node old third
+  inner-lines cost' set' low up first second third low_is up_is short cost_is set_is pushed is_low is_up =
+      subst (λ (n : Node). IsCompacted n old third) (sym node_is) (record {
+        compact = Inner cost set is_low.compact is_up.compact;
+        is = by (option_or (label_of lower) (label_of upper)) refl;
+        lines =
+            is_up.lines ∙ ap (λ (ls : List DueLine). ls ++ lines_of is_up.compact) (is_low.lines ∙ ap (λ (ls : List DueLine). ls ++ lines_of is_low.compact)
+            (pushed ∙ (λ i. old ++ PlainLine (InnerLine ((cost_is ∙ ap cost_of node_is) i) ((set_is ∙ ap set_of node_is) i)) ∷ [])))
+            ∙ append_assoc (old ++ PlainLine (InnerLine cost set) ∷ []) (lines_of is_low.compact) (lines_of is_up.compact)
+            ∙ append_assoc old (PlainLine (InnerLine cost set) ∷ []) (lines_of is_low.compact ++ lines_of is_up.compact);
+      })
+    where
+      lower_is : IsCompactNode lower is_low.compact
+      lower_is = subst (λ (n : Node). IsCompactNode n is_low.compact) low_is is_low.is
+
+      upper_is : IsCompactNode upper is_up.compact
+      upper_is = subst (λ (n : Node). IsCompactNode n is_up.compact) up_is is_up.is
+
+      by : (o : Option ℕ) → option_or (label_of lower) (label_of upper) ≡ o → IsCompactNode (Inner cost set lower upper) (Inner cost set is_low.compact is_up.compact)
+      by None e = compact-none cost set lower upper is_low.compact is_up.compact lower_is upper_is e
+      by (Some side) e =
+          compact-short cost set lower upper is_low.compact is_up.compact lower_is upper_is side e
+          (subst (λ (n : Node). length (bits_down side n) < 2) node_is (short side (ap side_below node_is ∙ e)))
+
+-- a certificate of either format compacted
+module _ (format : Format) (version : Version) (table : List Label) (root : Node) where
+  abbrev before : CertificateModel
+  before = record { format = format_number format; version = version; table = table; root = tree_of table root }
+
+  abbrev after : Node → CertificateModel
+  after r = record { format = 2; version = version; table = table; root = tree_of table r }
+
+  pub compact-one : (r : Node) → IsLabelTable table → HasChainForm (length table) root (width_of version) → format ≡ One → IsCompactNode root r → after r ≡ compact before
+  compact-one r ok form one is =
+      (λ i. record { format = 2; version = version; table = table; root = is.same table (width_of version) ok form i })
+      ∙ sym (compact-first before (ap format_number one))
+
+  pub compact-two : (r : Node) → format ≡ Two → r ≡ root → after r ≡ compact before
+  compact-two r two is =
+      (λ i. record { format = sym (ap format_number two) i; version = version; table = table; root = tree_of table (is i) })
+      ∙ sym (compact-again before (ap format_number two))

@@ -1,0 +1,15 @@
+use Rattle.std.proofs.Common.{◌≡◌, ◌+◌, ◌-◌, ◌<◌, ◌≤◌, ◌++◌, length}
+use Rattle.pmap_cert.specs.Placing.{bits_down, end_down, node_from}
+use Rattle.pmap_cert.proofs.compacting.go_down.Given as goal
+
+-- the run from the first line is the bits so far and the run from this line
+abbrev pub invariant-loop-bit : goal.invariant-loop-bit
+invariant-loop-bit l = record {
+  run : bits_down l.side.0 (node_from l.nodes l.first) ≡ l.bits.items ++ bits_down l.side.0 (node_from l.nodes l.number);
+  end : end_down l.side.0 (node_from l.nodes l.first) ≡ end_down l.side.0 (node_from l.nodes l.number);
+  within : l.number < length l.nodes;
+  after : l.first + length l.bits.items ≤ l.number;
+}
+
+abbrev pub decreases-loop-bit : goal.decreases-loop-bit
+decreases-loop-bit l = length l.nodes - l.number

@@ -1,0 +1,16 @@
+use Rattle.std.proofs.Common.{◌<◌, ◌∙◌, List, ap, length, subst, sym}
+use Rattle.pmap_cert.specs.CertificateReading.{LeafLine}
+use Rattle.pmap_cert.specs.FormatReading.{PlainLine}
+use Rattle.pmap_cert.specs.Node.{Node, side_of, first_node}
+use Rattle.pmap_cert.proofs.NodeWalk.{line-here, within}
+use Rattle.pmap_cert.proofs.cursor.Cursor.side.Goals as goal
+
+pub side-requires : goal.side-requires
+side-requires c =
+    within c.self.inside.nodes.now c.self.inside.number (subst (λ (ns : List Node). 0 < length ns) (sym c.self.view_is) c.requires)
+
+pub returns : goal.returns
+returns c =
+    let line = line-here c.self.inside.nodes.now c.self.inside.number (PlainLine (LeafLine 0))
+    (subst (λ (ns : List Node). 0 < length ns) (sym c.self.view_is) c.requires) c.self.invariant in
+    c.side.ensures ∙ line.side ∙ ap (λ (ns : List Node). side_of (first_node ns)) c.self.view_is

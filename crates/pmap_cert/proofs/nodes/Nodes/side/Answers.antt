@@ -1,0 +1,38 @@
+use Rattle.std.proofs.Common.{◌<◌, ◌∙◌, List, ap, length, arith, subst, sym}
+use Rattle.pmap_cert.specs.CertificateReading.{LeafLine}
+use Rattle.pmap_cert.specs.FormatReading.{PlainLine}
+use Rattle.pmap_cert.specs.Node.{line_side}
+use Rattle.pmap_cert.specs.Packed.{HasChain, Kept, chain_of, start_of}
+use Rattle.pmap_cert.specs.declared.nodes.PackedChain.{PackedChain}
+use Rattle.pmap_cert.proofs.PackedLines.{has-chain, line-some, lines-length, side-none, view-line}
+use Rattle.pmap_cert.proofs.nodes.Nodes.side.Goals as goal
+
+pub index-requires : goal.index-requires
+index-requires c =
+    let k : Kept = record { ids = c.self.inside.sets.items; chains = c.self.inside.chains.items; bits = c.self.inside.bits.items } in
+    let ps = c.self.inside.lines.items in
+    let same = ap length c.self.view_is in
+    omega (arith, c.requires, lines-length 0 k ps)
+
+pub chain_of-requires : goal.chain_of-requires
+chain_of-requires c =
+    let k : Kept = record { ids = c.self.inside.sets.items; chains = c.self.inside.chains.items; bits = c.self.inside.bits.items } in
+    let ps = c.self.inside.lines.items in
+    let same = ap length c.self.view_is in
+    let inside : c.args.number < length ps = omega (arith, c.requires, lines-length 0 k ps) in
+    subst (λ (cs : List PackedChain). HasChain cs c.index.result.now) (sym c.as_slice.ensures.value)
+    (has-chain k ps c.args.number c.index.result.now c.self.invariant inside c.index.ensures)
+
+pub returns-in-Some : goal.returns-in-Some
+returns-in-Some c =
+    let k : Kept = record { ids = c.self.inside.sets.items; chains = c.self.inside.chains.items; bits = c.self.inside.bits.items } in
+    let ps = c.self.inside.lines.items in
+    sym (ap line_side (view-line k ps c.args.self.now c.args.number c.index.result.now (PlainLine (LeafLine 0)) c.self.view_is c.requires c.index.ensures ∙ line-some k (start_of 0 ps c.args.number) c.index.result.now c.in-Some.chain
+    (ap (λ (cs : List PackedChain). chain_of cs c.index.result.now) (sym c.as_slice.ensures.value) ∙ sym c.chain_of.ensures ∙ c.in-Some.is)))
+
+pub returns-in-None : goal.returns-in-None
+returns-in-None c =
+    let k : Kept = record { ids = c.self.inside.sets.items; chains = c.self.inside.chains.items; bits = c.self.inside.bits.items } in
+    let ps = c.self.inside.lines.items in
+    sym (ap line_side (view-line k ps c.args.self.now c.args.number c.index.result.now (PlainLine (LeafLine 0)) c.self.view_is c.requires c.index.ensures) ∙ side-none k (start_of 0 ps c.args.number) c.index.result.now
+    (ap (λ (cs : List PackedChain). chain_of cs c.index.result.now) (sym c.as_slice.ensures.value) ∙ sym c.chain_of.ensures ∙ c.in-None.is))

@@ -1,0 +1,27 @@
+use Rattle.std.specs.Prelude.{ℕ}
+use Rattle.std.specs.Coded.{Unit-prop}
+use Rattle.pmap_cert.specs.Node.{Chain, Inner, IsPlainNode, Leaf, Node}
+use Rattle.pmap_cert.specs.declared.format.Format.{Format}
+use Rattle.pmap_cert.specs.declared.format.Format.TheVariants.{One, Two}
+
+-- The format of a certificate of the code.
+
+-- its number
+abbrev pub format_number : Format → ℕ
+format_number One = 1
+format_number Two = 2
+
+-- the node is one of the format: in format 1 it has no chain
+abbrev pub IsNodeOf : Format → Node → Type 0
+IsNodeOf One node = IsPlainNode node
+IsNodeOf Two node = Unit {0}
+
+pub IsPlainNode-prop : (node : Node) → IsProp (IsPlainNode node)
+IsPlainNode-prop (Leaf number) = Unit-prop
+IsPlainNode-prop (Inner cost set lower upper) =
+    λ x y i. (IsPlainNode-prop lower x.0 y.0 i, IsPlainNode-prop upper x.1 y.1 i)
+IsPlainNode-prop (Chain cost set bits side end) = λ x y. absurd x
+
+pub IsNodeOf-prop : (format : Format) (node : Node) → IsProp (IsNodeOf format node)
+IsNodeOf-prop One node = IsPlainNode-prop node
+IsNodeOf-prop Two node = Unit-prop

@@ -1,0 +1,107 @@
+use Rattle.std.specs.Prelude.{◌≡◌, ℕ, ◌++◌, ◌+◌, ◌<◌, ◌≤◌, ◌==◌, Bool, true, false, List, [], ◌∷◌, All, Option, None, Some, drop, length, slice_index, if◌then◌else◌}
+use Rattle.std.specs.Option.{option_or}
+use Rattle.pmap_text.specs.Label.{IsLabelTable}
+use Rattle.pmap_text.specs.MapModel.{Label}
+use Rattle.pmap_cert.specs.Compacting.{compacted}
+use Rattle.pmap_cert.specs.FormatReading.{ChainLine, DueLine, PlainLine}
+use Rattle.pmap_cert.specs.Node.{AreWhole, Chain, HasChainForm, Inner, Leaf, Node, behind, first_node, label_of, lines_of, nodes_of, tree_of}
+
+-- What the code keeps while it compacts: no user need read it.
+
+-- the line is none of a chain
+abbrev pub IsPlainLine : DueLine → Type 0
+IsPlainLine (PlainLine line) = Unit {0}
+IsPlainLine (ChainLine cost bits side numbers) = ⊥
+
+-- the lines are those of whole nodes without chains
+pub record ArePlain (lines : List DueLine) : Type 0 where
+  pub whole : AreWhole lines
+  pub plain : All IsPlainLine lines
+
+-- the node whose line has this number
+abbrev pub node_from : List DueLine → ℕ → Node
+node_from lines number = first_node (nodes_of (drop number lines))
+
+-- The lines of the node whose line has this number, and of those below it, end at `end`.
+pub record EndsAt (lines : List DueLine) (number end : ℕ) : Type 0 where
+  pub after : number < end
+  pub within : end ≤ length lines
+  pub behind : nodes_of (drop end lines) ≡ behind (nodes_of (drop number lines))
+
+-- the ends of all nodes
+pub record AreEndsOf (lines : List DueLine) (ends : List ℕ) : Type 0 where
+  pub count : length ends ≡ length lines
+  pub each : (k : ℕ) → k < length lines → EndsAt lines k (slice_index ends k)
+
+-- the ends of the nodes behind this one
+pub record AreEndsBehind (lines : List DueLine) (ends : List ℕ) (number : ℕ) : Type 0 where
+  pub count : length ends ≡ length lines
+  pub each : (k : ℕ) → number < k → k < length lines → EndsAt lines k (slice_index ends k)
+
+-- the node is a leaf with this label
+abbrev pub is_leaf : ℕ → Node → Bool
+is_leaf side (Leaf number) = number == side
+is_leaf side (Inner cost set lower upper) = false
+is_leaf side (Chain cost set bits x end) = false
+
+-- the run of a side label from a node down, its bits and the node at its end
+abbrev pub bits_down : ℕ → Node → List Bool
+bits_down side (Inner cost set lower upper) =
+    if is_leaf side lower then true ∷ bits_down side upper
+    else (if is_leaf side upper then false ∷ bits_down side lower else [])
+bits_down side (Leaf number) = []
+bits_down side (Chain cost set bits x end) = []
+
+abbrev pub end_down : ℕ → Node → Node
+end_down side (Inner cost set lower upper) =
+    if is_leaf side lower then end_down side upper
+    else (if is_leaf side upper then end_down side lower else Inner cost set lower upper)
+end_down side (Leaf number) = Leaf number
+end_down side (Chain cost set bits x end) = Chain cost set bits x end
+
+-- the step of such a run from the node whose line has this number to the half that is chosen
+pub record IsStep (lines : List DueLine) (side number : ℕ) (bit : Bool) (chosen : ℕ) : Type 0 where
+  pub bits : bits_down side (node_from lines number) ≡ bit ∷ bits_down side (node_from lines chosen)
+  pub end : end_down side (node_from lines number) ≡ end_down side (node_from lines chosen)
+  pub after : number < chosen
+  pub within : chosen < length lines
+
+-- the run ends at the node whose line has this number
+pub record IsRunEnd (lines : List DueLine) (side number : ℕ) : Type 0 where
+  pub bits : bits_down side (node_from lines number) ≡ []
+  pub end : end_down side (node_from lines number) ≡ node_from lines number
+
+-- such a run has these bits and this end
+pub record IsRun (lines : List DueLine) (side number : ℕ) (bits : List Bool) (end : ℕ) : Type 0 where
+  pub bits_are : bits ≡ bits_down side (node_from lines number)
+  pub node : node_from lines end ≡ end_down side (node_from lines number)
+  pub within : end < length lines
+  pub after : number + length bits ≤ end
+
+-- the side label of an inner node's run
+abbrev pub side_below : Node → Option ℕ
+side_below (Inner cost set lower upper) = option_or (label_of lower) (label_of upper)
+side_below (Leaf number) = None
+side_below (Chain cost set bits side end) = None
+
+-- the run of an inner node has fewer than two bits
+abbrev pub IsShort : Node → Type 0
+IsShort node = (side : ℕ) → side_below node ≡ Some side → length (bits_down side node) < 2
+
+-- the run has two bits or more, with these bits and this end
+pub record IsLong (lines : List DueLine) (number side : ℕ) (bits : List Bool) (end : ℕ) : Type 0 where
+  pub sides : side_below (node_from lines number) ≡ Some side
+  pub run : IsRun lines side number bits end
+  pub long : 2 ≤ length bits
+
+-- The second node is the first one compacted: over each label table that has the labels, and in the same room.
+pub record IsCompactNode (node compact : Node) : Type 0 where
+  pub same : (table : List Label) (room : ℕ) → IsLabelTable table → HasChainForm (length table) node room →
+      tree_of table compact ≡ compacted (tree_of table node)
+  pub form : (count room : ℕ) → HasChainForm count node room → HasChainForm count compact room
+
+-- a node compacted, whose lines come behind the old ones
+pub record IsCompacted (node : Node) (old new : List DueLine) : Type 0 where
+  pub compact : Node
+  pub is : IsCompactNode node compact
+  pub lines : new ≡ old ++ lines_of compact

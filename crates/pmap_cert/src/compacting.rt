@@ -1,0 +1,204 @@
+//! Chains in the place of runs of inner nodes that each have a leaf of one label in one half.
+ghost use Rattle.std.specs.Prelude.{◌≡◌, ◌^◌, ◌<◌, IfOk, MatchOption, None, OnOk, length, option_map};
+ghost use Rattle.pmap_cert.specs.Certificate.{certificate_of};
+ghost use Rattle.pmap_cert.specs.Compacting.{compact};
+ghost use Rattle.pmap_cert.specs.Node.{IsPlainNode, label_of};
+ghost use Rattle.pmap_cert.specs.Placing.{AreEndsBehind, AreEndsOf, ArePlain, EndsAt, IsCompactNode, IsCompacted, IsLong, IsRun, IsRunEnd, IsShort, IsStep, is_leaf, node_from, side_below};
+
+use crate::certificate::Certificate;
+use crate::format::Format;
+use crate::nodes::Nodes;
+use crate::root::Root;
+use pmap_text::LabelId;
+use std::alloc::{AllocError, Global};
+
+// Where the lines of the node whose line has this number and of those below it end, by the ends of those behind it.
+fn end_at(nodes: &Nodes, ends: &[u32], number: usize) -> u32
+    requires plain { ArePlain nodes.now }
+    requires behind { AreEndsBehind nodes.now ends.now number }
+    requires within { number < length nodes.now }
+    requires few { length nodes.now < 2 ^ 32 }
+    ensures { EndsAt nodes.now number result }
+{
+    let next = number + 1;
+    if nodes.label(number).is_some() {
+        next as u32
+    } else {
+        ends[ends[next] as usize]
+    }
+}
+
+// Where the lines of each node and of those below it end.
+fn ends_of(alloc: Global, nodes: &Nodes) -> Result<Vec<u32>, AllocError>
+    requires { ArePlain nodes.now }
+    ensures { IfOk result (λ ends. AreEndsOf nodes.now ends.items) }
+{
+    let count = nodes.len();
+    if count > u32::MAX as usize {
+        return Err(AllocError);
+    }
+    let mut ends = vec![in alloc; 0u32; count]?;
+    let mut number = count;
+    while number > 0 {
+        number -= 1;
+        ends[number] = end_at(nodes, ends.as_slice(), number);
+    }
+    Ok(ends)
+}
+
+// Whether the node whose line has this number is a leaf with the label.
+fn is_leaf(nodes: &Nodes, number: usize, label: LabelId) -> bool
+    requires plain { ArePlain nodes.now }
+    requires within { number < length nodes.now }
+    ensures { result ≡ is_leaf label.0 (node_from nodes.now number) }
+{
+    match nodes.label(number) {
+        Some(id) => id.0 == label.0,
+        None => false,
+    }
+}
+
+// The step of a run of the side label from the node whose line has this number: the bit and the line of the half that is
+// chosen, none where the run ends.
+fn step(nodes: &Nodes, ends: &[u32], number: usize, side: LabelId) -> Option<(bool, usize)>
+    requires plain { ArePlain nodes.now }
+    requires ends { AreEndsOf nodes.now ends.now }
+    requires within { number < length nodes.now }
+    ensures { MatchOption result (IsRunEnd nodes.now side.0 number) (λ x. IsStep nodes.now side.0 number x.0 x.1) }
+{
+    if nodes.label(number).is_some() {
+        return None;
+    }
+    let lower = number + 1;
+    let upper = ends[lower] as usize;
+    if is_leaf(nodes, lower, side) {
+        Some((true, upper))
+    } else if is_leaf(nodes, upper, side) {
+        Some((false, lower))
+    } else {
+        None
+    }
+}
+
+// Goes down a run of the side label, whose bits are kept, and answers the line of the node at its end.
+fn go_down(
+    bits: &mut Vec<bool>,
+    nodes: &Nodes,
+    ends: &[u32],
+    first: usize,
+    side: LabelId,
+) -> Result<usize, AllocError>
+    requires plain { ArePlain nodes.now }
+    requires ends { AreEndsOf nodes.now ends.now }
+    requires within { first < length nodes.now }
+    ensures { IfOk result (λ end. IsRun nodes.now side.0 first bits.new.items end) }
+{
+    bits.clear();
+    let mut number = first;
+    while let Some((bit, chosen)) = step(nodes, ends, number, side) {
+        bits.push(bit)?;
+        number = chosen;
+    }
+    Ok(number)
+}
+
+// The side label of the run of the inner node whose line has this number.
+fn side_of(nodes: &Nodes, ends: &[u32], number: usize) -> Option<LabelId>
+    requires plain { ArePlain nodes.now }
+    requires ends { AreEndsOf nodes.now ends.now }
+    requires within { number < length nodes.now }
+    requires inner { label_of (node_from nodes.now number) ≡ None }
+    ensures { option_map (λ id. id.0) result ≡ side_below (node_from nodes.now number) }
+{
+    match nodes.label(number + 1) {
+        Some(id) => Some(id),
+        None => nodes.label(ends[number + 1] as usize),
+    }
+}
+
+// The side label and the line of the end of the run from the inner node whose line has this number, where that has two
+// bits or more, which are kept.
+fn run_of(
+    bits: &mut Vec<bool>,
+    nodes: &Nodes,
+    ends: &[u32],
+    number: usize,
+) -> Result<Option<(LabelId, usize)>, AllocError>
+    requires plain { ArePlain nodes.now }
+    requires ends { AreEndsOf nodes.now ends.now }
+    requires within { number < length nodes.now }
+    requires inner { label_of (node_from nodes.now number) ≡ None }
+    ensures { IfOk result (λ found. MatchOption found (IsShort (node_from nodes.now number))
+        (λ x. IsLong nodes.now number x.0.0 bits.new.items x.1)) }
+{
+    let Some(side) = side_of(nodes, ends, number) else {
+        return Ok(None);
+    };
+    let end = go_down(bits, nodes, ends, number, side)?;
+    if bits.len() < 2 {
+        return Ok(None);
+    }
+    Ok(Some((side, end)))
+}
+
+// Adds the node whose line has this number, compacted.
+fn compact_node(
+    out: &mut Nodes,
+    bits: &mut Vec<bool>,
+    nodes: &Nodes,
+    ends: &[u32],
+    number: usize,
+) -> Result<(), AllocError>
+    requires plain { ArePlain nodes.now }
+    requires ends { AreEndsOf nodes.now ends.now }
+    requires within { number < length nodes.now }
+    ensures { OnOk result (IsCompacted (node_from nodes.now number) out.old out.new) }
+{
+    match nodes.label(number) {
+        Some(id) => {
+            out.push_leaf(id)?;
+            Ok(())
+        }
+        None => match run_of(bits, nodes, ends, number)? {
+            Some((side, end)) => {
+                out.push_chain(nodes.cost(number), bits.as_slice(), side, nodes.set(number))?;
+                compact_node(out, bits, nodes, ends, end)?;
+                Ok(())
+            }
+            None => {
+                out.push_inner(nodes.cost(number), nodes.set(number))?;
+                compact_node(out, bits, nodes, ends, number + 1)?;
+                compact_node(out, bits, nodes, ends, ends[number + 1] as usize)?;
+                Ok(())
+            }
+        },
+    }
+}
+
+// The root compacted.
+fn compact_root(alloc: Global, root: &Root) -> Result<Root, AllocError>
+    requires { IsPlainNode root.now }
+    ensures { IfOk result (λ found. IsCompactNode root.now found) }
+{
+    let nodes = root.nodes();
+    let ends = ends_of(alloc, nodes)?;
+    let mut out = Nodes::new(alloc);
+    let mut bits = Vec::new(alloc);
+    compact_node(&mut out, &mut bits, nodes, ends.as_slice(), 0)?;
+    Ok(Root::new(out))
+}
+
+/// A certificate compacted: that of format 1 with a chain in the place of each run of two inner nodes or more that have
+/// each a leaf of one label in one half, from the root down. One of format 2 is given back equal.
+pub fn compact(alloc: Global, certificate: &Certificate) -> Result<Certificate, AllocError>
+    ensures { IfOk result (λ found. certificate_of found ≡ compact (certificate_of certificate.now)) }
+{
+    // For its law: the table has at most 65536 labels, no two equal.
+    let _count = certificate.labels.len();
+    let labels = certificate.labels.copy()?;
+    let root = match certificate.format {
+        Format::One => compact_root(alloc, &certificate.root)?,
+        Format::Two => certificate.root.copy(alloc)?,
+    };
+    Ok(Certificate::of_format(Format::Two, certificate.version, labels, root))
+}

@@ -1,0 +1,23 @@
+ghost use Rattle.std.specs.Prelude.{◌≡◌};
+ghost use Rattle.pmap_cert.specs.Format.{format_number};
+
+/// The format of a certificate's text.
+#[derive(Debug, Clone, Copy)]
+pub enum Format {
+    /// Format 1: no node is a chain.
+    One,
+    /// Format 2: nodes may be chains.
+    Two,
+}
+
+impl Format {
+    /// The number of the format.
+    pub fn number(self) -> u32
+        ensures { result ≡ format_number self }
+    {
+        match self {
+            Format::One => 1,
+            Format::Two => 2,
+        }
+    }
+}
