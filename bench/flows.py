@@ -1,10 +1,12 @@
 """Writes an IPFIX File: flows.py KIND COUNT FILE. The same arguments write the same bytes.
 
 - mixed: so many flows in messages like those of an exporter, each with a set of IPv4 flows and one of IPv6 flows. Flows
-  have ten fields.
+  have ten fields, and nearly each has addresses of its own;
+- usual: the same in messages of 1,400 bytes, with fourteen fields, of some 240,000 hosts, few of which have most flows.
 
 The others are made to hurt:
 
+- colliding: as mixed, all flows of IPv6 and from addresses that all have one hash as the key of a group;
 - domains: so many messages, each with a template and a record in a domain of its own, whose numbers collide in a hash
   (bench/domains.rs prints them to bench/data/domains.txt);
 - fields: so many messages full of records of 8 bytes, whose template has thousands of fields without a byte;
@@ -23,12 +25,14 @@ DOMAINS = os.path.join(os.path.dirname(os.path.realpath(__file__)), "data/domain
 EXPORT_TIME = 1_767_225_600
 # Ports, protocol, flags, packets, octets, start and end.
 COMMON = [(7, 2), (11, 2), (4, 1), (6, 1), (2, 8), (1, 8), (152, 8), (153, 8)]
-V4_FIELDS = [(8, 4), (12, 4), *COMMON]
-V6_FIELDS = [(27, 16), (28, 16), *COMMON]
+# Of usual exporters: besides, the class of service, both interfaces, and why the flow ended.
+USUAL = [*COMMON, (5, 1), (10, 4), (14, 4), (136, 1)]
 V4_ID, V6_ID = 256, 257
-# How many flows of each version a message has, and how many messages stand before the templates are sent again.
-V4_FLOWS, V6_FLOWS = 10, 14
+# How many messages stand before the templates are sent again.
 RESENT = 1000
+V4_HOSTS, V6_HOSTS = 200_000, 40_000
+# The hash of a key multiplies the exclusive or of these bytes of an address and a number of its own, which here is 0.
+COLLIDING = 0x157C_4A7F_B979_379E
 # As many fields as a message can hold, but for some.
 MANY = 16_000
 
@@ -54,7 +58,8 @@ def common(rng):
     packets = rng.choice((1, 1, 2, 5, 12, rng.getrandbits(16) + 1))
     start = 1000 * EXPORT_TIME - rng.getrandbits(20)
     return struct.pack(">HHBBQQQQ", rng.getrandbits(16), rng.choice((53, 80, 443, 8080)), rng.choice((1, 6, 6, 17)),
-                       rng.getrandbits(6), packets, packets * (40 + rng.getrandbits(10)), start, start + rng.getrandbits(12))
+                       rng.getrandbits(6), packets, packets * (40 + rng.getrandbits(10)), start,
+                       start + rng.getrandbits(12))
 
 
 def v6_address(rng):
@@ -71,18 +76,44 @@ def v6_flow(rng):
     return v6_address(rng) + v6_address(rng) + common(rng)
 
 
-def mixed(count):
+def colliding_flow(rng):
+    return struct.pack(">QQ", 0x2001_0DB8 << 32 | rng.getrandbits(32), COLLIDING) + v6_address(rng) + common(rng)
+
+
+def usual_flow(hosts):
+    """A maker of flows between hosts."""
+    def flow(rng):
+        pair = (hosts[int(len(hosts) ** rng.random()) - 1] for _ in range(2))
+        return b"".join(pair) + common(rng) + struct.pack(">BIIB", 0, rng.getrandbits(4), rng.getrandbits(4), 3)
+    return flow
+
+
+def makers(kind, rng):
+    """How many flows of IPv4 a message has and what makes one, the same of IPv6, and the fields behind addresses."""
+    match kind:
+        case "mixed":
+            return 10, v4_flow, 14, v6_flow, COMMON
+        case "colliding":
+            return 0, v4_flow, 17, colliding_flow, COMMON
+    v4_hosts = [struct.pack(">I", rng.randrange(1 << 24, 224 << 24)) for _ in range(V4_HOSTS)]
+    v6_hosts = [v6_address(rng) for _ in range(V6_HOSTS)]
+    return 17, usual_flow(v4_hosts), 4, usual_flow(v6_hosts), USUAL
+
+
+def messages_of(kind, count):
     """The messages of so many flows."""
     rng = random.Random(SEED)
+    v4_most, v4, v6_most, v6, fields = makers(kind, rng)
+    templates = ((V4_ID, [(8, 4), (12, 4), *fields]), (V6_ID, [(27, 16), (28, 16), *fields]))
     for number in itertools.count():
-        left = count - number * (V4_FLOWS + V6_FLOWS)
+        left = count - number * (v4_most + v6_most)
         if left <= 0:
             return
-        v4_count = min(V4_FLOWS, left)
-        v6_count = min(V6_FLOWS, left - v4_count)
-        sets = [template_set((V4_ID, V4_FIELDS), (V6_ID, V6_FIELDS))] if number % RESENT == 0 else []
-        sets.append(data_set(V4_ID, b"".join(v4_flow(rng) for _ in range(v4_count))))
-        sets.append(data_set(V6_ID, b"".join(v6_flow(rng) for _ in range(v6_count))))
+        v4_count = min(v4_most, left)
+        v6_count = min(v6_most, left - v4_count)
+        sets = [template_set(*templates)] if number % RESENT == 0 else []
+        sets.append(data_set(V4_ID, b"".join(v4(rng) for _ in range(v4_count))))
+        sets.append(data_set(V6_ID, b"".join(v6(rng) for _ in range(v6_count))))
         yield message(count - left, 1, *sets)
 
 
@@ -107,8 +138,8 @@ def main():
     count = int(count)
     empty = [(210, 0)] * MANY
     match kind:
-        case "mixed":
-            messages = mixed(count)
+        case "mixed" | "usual" | "colliding":
+            messages = messages_of(kind, count)
         case "domains":
             with open(DOMAINS, encoding="ascii") as numbers:
                 messages = in_domains(numbers.read().split(), count)

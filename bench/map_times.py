@@ -1,16 +1,15 @@
-"""Times `label` on map texts, and prints a table: map_times.py PROGRAM BASELINE MAP..
+"""Times `label` on map texts, and prints a table: map_times.py PROGRAM PLAIN MAP..
 
-Each map is ORDER-LINES.txt. The seconds are those of the fastest of three runs, each for another address, and the
-memory is the most that a run had at a time. Where there is a baseline, it runs on the same words, and an answer of the
-program that differs from the baseline's is a failure, as is a run that does not end well.
+Each map is ORDER-LINES.txt. The seconds are those of the fastest of three runs, and the memory is the most that a run
+had at a time. Where plain Rust is there, it runs on the same words, and another answer of the program to one of three
+addresses is a failure, as is a run that does not end well.
 """
 
 import os
 import re
-import subprocess
 import sys
 
-from measure import Growth, peak, print_table, run
+from measure import Growth, Yardstick, print_table
 
 MIDDLE = ("2001:db8:0:0:8000::", "2001:db8:0:0:8000::5", "2001:db8::7fff:ffff:fff0:0")
 ADDRESSES = {
@@ -23,32 +22,18 @@ ADDRESSES = {
 }
 
 
-def measure(before, addresses):
-    """The answers of a program, its seconds and its memory; `before` is the words before the address."""
-    runs = [run([*before, address], subprocess.PIPE) for address in addresses]
-    return [text for text, _ in runs], min(seconds for _, seconds in runs), peak([*before, addresses[0]])
-
-
 def main():
-    program, baseline, *maps = sys.argv[1:]
-    has_baseline = os.path.exists(baseline)
-    heads = ["lines", "order", "seconds", "growth", "memory MB", "growth"]
-    if has_baseline:
-        heads += ["scan seconds", "scan MB", "time by scan", "memory by scan"]
-    rows = [heads]
+    program, plain, *maps = sys.argv[1:]
+    yardstick = Yardstick(program, plain)
+    rows = [["lines", "order", "seconds", "growth", "MB", "growth", *yardstick.heads]]
     growth = Growth()
     for name in maps:
         order, lines = re.fullmatch(r"(\w+)-(\d+)\.txt", os.path.basename(name)).groups()
-        answers, seconds, memory = measure([program, "label", "--pmap", name], ADDRESSES[order])
+        for address in ADDRESSES[order]:
+            yardstick.output(("label", "--pmap", name, address))
+        seconds, memory, cells = yardstick.measure(("label", "--pmap", name, ADDRESSES[order][0]))
         row = [f"{int(lines):,}", order, f"{seconds:.3f}", growth.of((order, "seconds"), seconds)]
-        row += [f"{memory:.1f}", growth.of((order, "memory"), memory)]
-        if has_baseline:
-            scanned, scan_seconds, scan_memory = measure([baseline, name], ADDRESSES[order])
-            if answers != scanned:
-                sys.exit(f"bench: {name}: the program answers {answers}, and the scan {scanned}")
-            row += [f"{scan_seconds:.3f}", f"{scan_memory:.1f}"]
-            row += [f"{seconds / scan_seconds:.1f}", f"{memory / scan_memory:.1f}"]
-        rows.append(row)
+        rows.append([*row, f"{memory:.1f}", growth.of((order, "memory"), memory), *cells])
     print_table(rows)
 
 

@@ -1,11 +1,12 @@
 """Writes a map text: maps.py LINES ORDER FILE. The same arguments write the same bytes.
 
 The orders sorted and shuffled are like a dump of a routing table. Prefixes have the lengths of a table of the whole
-Internet: most are /24, then come /16 to /23, and few are shorter. A sorted text has them by address and then by length, so
-that the longer of two nested prefixes stands later and counts. A shuffled one has the same lines in no order.
+Internet: most are /24, then come /16 to /23, and few are shorter. A sorted text has them by address and then by length,
+so that the longer of two nested prefixes stands later and counts. A shuffled one has the same lines in no order.
 
 So are those with labels as neighbours share them, for which a shorter list is worth while:
 
+- countries: ranges in rising order, most of which lie side by side, each of one of 250 countries;
 - routes: sorted, with some thousand labels, of which a prefix mostly has that of the one before;
 - regions: the same with 250 labels;
 - single: the same with one label;
@@ -14,12 +15,15 @@ So are those with labels as neighbours share them, for which a shorter list is w
 
 The others are over IPv6:
 
+- countries6: the same as countries;
+- hosts: single addresses in no order, with four labels;
 - chains: round each of some random addresses blocks of 100 lengths, one inside the other, with three labels in turn;
 
 - ranges: each line has the first and the last address of some neighbouring /48 prefixes out of 2000::/3, in no order;
 - equal: each line has the same address;
 - nested: each range lies strictly inside the one before it;
-- alternating: ranges from one low address to about the middle, in turn with ranges from about the middle to one high address;
+- alternating: ranges from one low address to about the middle, in turn with ranges from about the middle to one high
+  address;
 - list: no two lines have the same block, a random address of 2000::/3;
 - colliding: the same, of addresses that all have one value under the standard library's hash, whose seed is fixed.
 """
@@ -41,6 +45,8 @@ SHARES = {
 SHARED_LABELS = {"routes": 4000, "regions": 250, "single": 1}
 # How many of a hundred prefixes have the label of the one before.
 SHARING = 70
+# The orders of countries: the first address, and the bits that the sizes of ranges have.
+COUNTRY_RANGES = {"countries": (1 << 24, range(8, 17)), "countries6": (0x2001 << 112, range(80, 97))}
 # The lengths of the blocks round one address.
 CHAIN = range(29, 129)
 # 2001:db8:0:0:8000::, of the block that is kept for documents (RFC 3849).
@@ -127,6 +133,25 @@ def shared(rng, names, count):
         yield f"{dotted(value)}/{length} {name}"
 
 
+def countries(rng, count, order):
+    """The lines of so many ranges, a tenth of them behind a gap. Few countries have most of them."""
+    pairs = itertools.product("ABCDEFGHIJ", "ABCDEFGHIJKLMNOPQRSTUVWXY")
+    names = ["".join(pair) for pair in pairs]
+    low, bits = COUNTRY_RANGES[order]
+    text = dotted if order == "countries" else text_of
+    for _ in range(count):
+        size = 1 << rng.choice(bits)
+        low += size * (rng.randrange(10) == 0)
+        yield f"{text(low)} {text(low + size - 1)} {names[int(len(names) ** rng.random()) - 1]}"
+        low += size
+
+
+def hosts(rng):
+    """Endless lines of single addresses."""
+    while True:
+        yield f"{text_of(1 << 125 | rng.getrandbits(125))} feed-{rng.randrange(4)}"
+
+
 def striped(rng, names, count):
     """The lines of so many neighbouring ranges with two labels in turn."""
     low = 1 << 24
@@ -146,12 +171,18 @@ def lines_with_labels(rng, count, order):
     """The lines of a text over IPv4 for a shorter list."""
     if order == "striped":
         return striped(rng, labels(rng), count)
+    if order == "countries":
+        return countries(rng, count, order)
     return shared(rng, labels(rng, SHARED_LABELS[order]), count)
 
 
 def ipv6_lines(rng, names, count, order):
     """The lines of a text over IPv6 below its mode."""
     match order:
+        case "countries6":
+            return countries(rng, count, order)
+        case "hosts":
+            return itertools.islice(hosts(rng), count)
         case "ranges":
             return ranges(rng, names, count)
         case "equal":
@@ -187,7 +218,7 @@ def lines(count, order):
         yield "# made by bench/maps.py"
         yield from distinct(rng, count - 1)
         return
-    if order in ("striped", *SHARED_LABELS):
+    if order in ("striped", "countries", *SHARED_LABELS):
         yield "# made by bench/maps.py"
         yield "default unassigned"
         yield from lines_with_labels(rng, count - 2, order)

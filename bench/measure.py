@@ -1,5 +1,6 @@
-"""What the benches share: running a program, its seconds and its memory, and a table of both."""
+"""What the benches share: a program's seconds and memory, the yardstick beside it, and the printing of tables."""
 
+import filecmp
 import os
 import subprocess
 import sys
@@ -24,15 +25,50 @@ def fastest(words, times=3):
     return min(run(words)[1] for _ in range(times))
 
 
+def written(words, name):
+    """The file of this name with what a program writes."""
+    with open(name, "wb") as out:
+        run(words, out)
+    return name
+
+
 def peak(words):
     """The most memory that a program has at a time, in MB of 10^6 bytes."""
     if os.access(METER, os.X_OK):
-        ended = subprocess.run([METER, "-f", "%M", *words], stdout=subprocess.DEVNULL, stderr=subprocess.PIPE, check=True)
+        metered = [METER, "-f", "%M", *words]
+        ended = subprocess.run(metered, stdout=subprocess.DEVNULL, stderr=subprocess.PIPE, check=True)
         return int(ended.stderr.split()[-1]) * 1024 / 1e6
     with subprocess.Popen(words, stdout=subprocess.DEVNULL) as started:
         usage = os.wait4(started.pid, 0)[2]
         started.returncode = 0
     return usage.ru_maxrss * 1024 / 1e6
+
+
+class Yardstick:
+    """The program, and beside it the one in plain Rust that takes the same words, where that is there."""
+
+    def __init__(self, program, plain):
+        self.programs = [program, plain] if os.path.exists(plain) else [program]
+        self.folder = os.path.dirname(plain)
+        self.heads = ["plain Rust s", "MB", "times that", "MB by that"][:4 * len(self.programs) - 4]
+
+    def output(self, words):
+        """The file with what the program writes. Where plain Rust writes other bytes, the bench ends."""
+        numbered = enumerate(self.programs)
+        files = [written([program, *words], f"{self.folder}/written-{number}") for number, program in numbered]
+        if not filecmp.cmp(files[0], files[-1], shallow=False):
+            sys.exit(f"bench: {' '.join(words)}: the program and plain Rust differ: see {self.folder}")
+        return files[0]
+
+    def measure(self, words, times=3):
+        """The seconds of the program's fastest run, its memory, and the cells of plain Rust. The two run in turns."""
+        commands = [[program, *words] for program in self.programs]
+        turns = [[run(command)[1] for command in commands] for _ in range(times)]
+        seconds = [min(runs) for runs in zip(*turns)]
+        memory = [peak(command) for command in commands]
+        cells = [f"{seconds[-1]:.3f}", f"{memory[-1]:.1f}"]
+        cells += [f"{seconds[0] / seconds[-1]:.2f}", f"{memory[0] / memory[-1]:.1f}"]
+        return seconds[0], memory[0], cells[:len(self.heads)]
 
 
 class Growth:

@@ -1,18 +1,19 @@
-"""Times reports on IPFIX Files, and prints a table: report_times.py PROGRAM SCAN MAP SCANNED FLOWS..
+"""Times reports on IPFIX Files, and prints a table: report_times.py PROGRAM PLAIN MAP FLOWS..
 
-The reports are `rows` under a map, `rows` with filters, some of them with thousands of items, and `uniq`. The seconds are those
-of the fastest of three runs whose output goes to /dev/null, and the memory is the most that a run had at a time. SCAN is the
-unproved program that reads the map text SCANNED line by line; where it is there, its seconds stand beside each report.
-Each report under the map is also made under `--list` where a list stands beside the map, and must give the same bytes.
+The reports are `rows` under a map, `rows` with filters, some of them with thousands of items, and `uniq`; over a File
+whose addresses collide `uniq` by them alone. The seconds are those of the fastest of three runs whose output goes to
+/dev/null, and the memory is the most that a run had at a time. Where plain Rust is there, it makes those that it can
+too, and must write the same bytes. Each report under the map is also made under `--list` where a list stands beside
+the map, and must be the same.
 """
 
+import filecmp
 import os
 import random
 import re
-import subprocess
 import sys
 
-from measure import Growth, fastest, peak, print_table, run
+from measure import Growth, Yardstick, fastest, peak, print_table, written
 
 SEED = 20260101
 ITEMS = 3000
@@ -29,44 +30,50 @@ def many_blocks(rng):
 
 
 def reports(map_name):
-    """Each report's name and its words."""
+    """Each report's name, its words, and whether plain Rust makes it too."""
     rng = random.Random(SEED)
     labels = ("--pmap", map_name)
+    filters = ("--protocol", "6,17", "--sport", "1024-65535", "--saddress", "0.0.0.0/1,2000::/4", "--packets", "2-")
     return (
-        ("rows with labels", ("rows", *labels)),
-        ("rows with filters", ("rows", "--protocol", "6,17", "--sport", "1024-65535", "--saddress", "0.0.0.0/1,2000::/4", "--packets", "2-")),
-        ("rows by many ports", ("rows", "--sport", many_numbers(rng))),
-        ("rows by many blocks", ("rows", "--saddress", many_blocks(rng))),
-        ("uniq by address", ("uniq", "--fields", "sip")),
-        ("uniq by labels", ("uniq", "--fields", "src-label,dst-label", *labels)),
-        ("uniq by labels, sorted", ("uniq", "--fields", "src-label,dst-label", "--sort-output", *labels)),
+        ("uniq by address", ("uniq", "--fields", "sip"), True),
+        ("uniq by labels", ("uniq", "--fields", "src-label,dst-label", *labels), True),
+        ("uniq by labels, sorted", ("uniq", "--fields", "src-label,dst-label", "--sort-output", *labels), False),
+        ("rows with labels", ("rows", *labels), True),
+        ("rows with filters", ("rows", *filters), False),
+        ("rows by many ports", ("rows", "--sport", many_numbers(rng)), False),
+        ("rows by many blocks", ("rows", "--saddress", many_blocks(rng)), False),
     )
 
 
-def digest(words):
-    """The bytes that a program writes."""
-    return run(words, subprocess.PIPE)[0]
+def compare_with_list(program, words, map_name, folder):
+    """Ends the bench where a report under the map and that under its list differ."""
+    list_name = map_name.removesuffix(".txt") + "-list.txt"
+    if map_name not in words or not os.path.exists(list_name):
+        return
+    listed = [{map_name: list_name, "--pmap": "--list"}.get(word, word) for word in words]
+    files = [written([program, *words], f"{folder}/written"), written([program, *listed], f"{folder}/listed")]
+    if not filecmp.cmp(*files, shallow=False):
+        sys.exit(f"bench: {' '.join(words)}: the map and the list give two reports")
 
 
 def main():
-    program, scan, map_name, scanned, *files = sys.argv[1:]
-    scan_seconds = fastest([scan, scanned, "10.1.2.3"]) if os.path.exists(scan) else None
-    rows = [["flows", "report", "seconds", "growth", "memory MB"] + (["scan seconds", "time by scan"] if scan_seconds else [])]
+    program, plain, map_name, *files = sys.argv[1:]
+    yardstick = Yardstick(program, plain)
+    rows = [["flows", "report", "seconds", "growth", "MB", *yardstick.heads]]
     growth = Growth()
-    list_name = map_name.removesuffix(".txt") + "-list.txt"
     for name in files:
-        count = int(re.search(r"-(\d+)\.ipfix$", name).group(1))
-        for report, words in reports(map_name):
-            command = [program, *words, name]
-            seconds, memory = fastest(command), peak(command)
-            if map_name in words and os.path.exists(list_name):
-                listed = [{map_name: list_name, "--pmap": "--list"}.get(word, word) for word in command]
-                if digest(command) != digest(listed):
-                    sys.exit(f"bench: {report}: the map and the list give two reports")
-            row = [f"{count:,}", report, f"{seconds:.3f}", growth.of(report, seconds), f"{memory:.1f}"]
-            if scan_seconds:
-                row += [f"{scan_seconds:.3f}", f"{seconds / scan_seconds:.1f}"]
-            rows.append(row)
+        kind, count = re.fullmatch(r"(\w+)-(\d+)\.ipfix", os.path.basename(name)).groups()
+        for report, own, is_plain in reports(map_name)[:1 if kind == "colliding" else None]:
+            words = (*own, name)
+            compare_with_list(program, words, map_name, yardstick.folder)
+            if is_plain:
+                yardstick.output(words)
+                seconds, memory, cells = yardstick.measure(words)
+            else:
+                seconds, memory = fastest([program, *words]), peak([program, *words])
+                cells = ["-" for _ in yardstick.heads]
+            row = [f"{kind} {int(count):,}", report, f"{seconds:.3f}", growth.of((kind, report), seconds)]
+            rows.append([*row, f"{memory:.1f}", *cells])
     print_table(rows)
 
 

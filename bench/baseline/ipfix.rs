@@ -1,0 +1,201 @@
+//! Reading of an IPFIX File whose templates have no elements of enterprises, message by message.
+
+use crate::row::{fits, Place, Places, Row, ELEMENTS};
+use crate::Fault;
+use std::collections::HashMap;
+use std::fs::File;
+use std::io::{BufRead, BufReader, Read};
+
+/// The length in a template that says that each record tells its own.
+const VARIABLE: usize = 65535;
+
+struct Template {
+    is_options: bool,
+    /// The version of its rows, where it has them.
+    is_v6: Option<bool>,
+    /// The least length of a record.
+    least: usize,
+    /// Where all fields have fixed lengths.
+    places: Option<Places>,
+    /// The number of each field among the elements, and its length.
+    fields: Vec<(Option<usize>, usize)>,
+}
+
+#[derive(Default)]
+pub struct Counts {
+    pub messages: u64,
+    pub templates: [u64; 2],
+    pub withdrawals: u64,
+    pub data_sets: u64,
+    pub skipped_sets: u64,
+    pub records: [u64; 2],
+    pub rows: u64,
+}
+
+/// A File while it is read.
+#[derive(Default)]
+pub struct Decoder {
+    /// By domain and ID.
+    templates: HashMap<(u32, u16), Template>,
+    pub counts: Counts,
+}
+
+fn u16_at(bytes: &[u8], place: usize) -> u16 {
+    u16::from_be_bytes([bytes[place], bytes[place + 1]])
+}
+
+/// Takes so many bytes from the front.
+fn take<'a>(rest: &mut &'a [u8], length: usize) -> Result<&'a [u8], Fault> {
+    if length > rest.len() {
+        return Err("a part passes the end".into());
+    }
+    let (front, back) = rest.split_at(length);
+    *rest = back;
+    Ok(front)
+}
+
+fn take_u16(rest: &mut &[u8]) -> Result<u16, Fault> {
+    Ok(u16_at(take(rest, 2)?, 0))
+}
+
+impl Template {
+    fn new(is_options: bool, fields: &[(u16, usize)]) -> Template {
+        let mut template = Template { is_options, is_v6: None, least: 0, places: None, fields: Vec::new() };
+        let mut places = Places::default();
+        for (element, length) in fields {
+            let usable = ELEMENTS.iter().position(|other| other == element && fits(*element, *length));
+            let number = usable.filter(|number| places[*number].length == 0);
+            if let Some(number) = number {
+                places[number] = Place { offset: template.least, length: *length };
+            }
+            template.fields.push((number, *length));
+            template.least += if *length == VARIABLE { 1 } else { *length };
+        }
+        template.places = fields.iter().all(|(_, length)| *length != VARIABLE).then_some(places);
+        let has = |number: usize| !is_options && places[number].length > 0;
+        template.is_v6 = if has(0) && has(1) { Some(false) } else { (has(2) && has(3)).then_some(true) };
+        template
+    }
+
+    /// Takes a record with fields of variable length from the front, and gives it with its places.
+    fn take_record<'a>(&self, rest: &mut &'a [u8]) -> Result<(&'a [u8], Places), Fault> {
+        let record = *rest;
+        let mut places = Places::default();
+        for (number, length) in &self.fields {
+            let mut length = *length;
+            if length == VARIABLE {
+                length = usize::from(take(rest, 1)?[0]);
+                if length == 255 {
+                    length = usize::from(take_u16(rest)?);
+                }
+            } else if let Some(number) = number {
+                places[*number] = Place { offset: record.len() - rest.len(), length };
+            }
+            take(rest, length)?;
+        }
+        Ok((record, places))
+    }
+
+    /// Calls back with each row of a data set where rows are wanted, and gives the number of its records.
+    #[inline(always)]
+    fn records(&self, set: &[u8], wants_rows: bool, each: &mut impl FnMut(&Row)) -> Result<u64, Fault> {
+        if self.least == 0 {
+            return Ok(0);
+        }
+        let row_version = self.is_v6.filter(|_| wants_rows);
+        if let Some(places) = &self.places {
+            if let Some(is_v6) = row_version {
+                set.chunks_exact(self.least).for_each(|record| each(&Row::new(record, is_v6, places)));
+            }
+            return Ok((set.len() / self.least) as u64);
+        }
+        let (mut rest, mut count) = (set, 0);
+        while rest.len() >= self.least {
+            let (record, places) = self.take_record(&mut rest)?;
+            if let Some(is_v6) = row_version {
+                each(&Row::new(record, is_v6, &places));
+            }
+            count += 1;
+        }
+        Ok(count)
+    }
+}
+
+impl Decoder {
+    /// Reads a whole File, and calls back with each row where rows are wanted.
+    pub fn read(&mut self, file: &File, wants_rows: bool, mut each: impl FnMut(&Row)) -> Result<(), Fault> {
+        let mut reader = BufReader::with_capacity(1 << 18, file);
+        let mut message = vec![0; 1 << 16];
+        while !reader.fill_buf()?.is_empty() {
+            reader.read_exact(&mut message[..16])?;
+            let length = usize::from(u16_at(&message, 2));
+            if u16_at(&message, 0) != 10 || length < 16 {
+                return Err("no header of a message".into());
+            }
+            reader.read_exact(&mut message[16..length])?;
+            self.counts.messages += 1;
+            self.read_message(&message[..length], wants_rows, &mut each)?;
+        }
+        Ok(())
+    }
+
+    fn read_message(&mut self, message: &[u8], wants_rows: bool, each: &mut impl FnMut(&Row)) -> Result<(), Fault> {
+        let domain = u32::from_be_bytes(message[12..16].try_into()?);
+        let mut rest = &message[16..];
+        while !rest.is_empty() {
+            let id = take_u16(&mut rest)?;
+            let length = usize::from(take_u16(&mut rest)?).checked_sub(4).ok_or("bad set length")?;
+            let set = take(&mut rest, length)?;
+            if id == 2 || id == 3 {
+                self.read_templates(domain, id == 3, set)?;
+                continue;
+            }
+            let Some(template) = self.templates.get(&(domain, id)) else {
+                self.counts.skipped_sets += 1;
+                continue;
+            };
+            let count = template.records(set, wants_rows, each)?;
+            self.counts.data_sets += 1;
+            self.counts.records[usize::from(template.is_options)] += count;
+            self.counts.rows += if template.is_v6.is_some() { count } else { 0 };
+        }
+        Ok(())
+    }
+
+    /// Reads a template set or an options template set.
+    fn read_templates(&mut self, domain: u32, is_options: bool, mut rest: &[u8]) -> Result<(), Fault> {
+        while rest.len() >= 4 {
+            let (id, count) = (take_u16(&mut rest)?, take_u16(&mut rest)?);
+            if count == 0 {
+                self.withdraw(domain, id, is_options)?;
+                continue;
+            }
+            if id < 256 || is_options && !(1..=count).contains(&take_u16(&mut rest)?) {
+                return Err("bad template".into());
+            }
+            let mut fields = Vec::with_capacity(usize::from(count));
+            for _ in 0..count {
+                let (element, length) = (take_u16(&mut rest)?, take_u16(&mut rest)?);
+                if element >= 1 << 15 {
+                    take(&mut rest, 4)?;
+                }
+                fields.push((element, usize::from(length)));
+            }
+            self.counts.templates[usize::from(is_options)] += 1;
+            self.templates.insert((domain, id), Template::new(is_options, &fields));
+        }
+        Ok(())
+    }
+
+    fn withdraw(&mut self, domain: u32, id: u16, is_options: bool) -> Result<(), Fault> {
+        self.counts.withdrawals += 1;
+        if id >= 256 {
+            self.templates.remove(&(domain, id));
+        } else if id == 2 + u16::from(is_options) {
+            self.templates.retain(|(other, _), template| *other != domain || template.is_options != is_options);
+        } else {
+            return Err("bad template ID".into());
+        }
+        Ok(())
+    }
+}

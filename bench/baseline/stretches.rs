@@ -1,0 +1,100 @@
+use crate::address::Address;
+use crate::map::Statement;
+use std::collections::BinaryHeap;
+
+/// The stand-in for a label where an address has none.
+pub const NO_LABEL: u32 = u32::MAX;
+
+/// The stretches of addresses in which one statement is the last that covers, or none is, in rising order: where each
+/// begins, and its label. The first begins at 0, and each ends where the next one begins.
+pub struct Stretches<A> {
+    pub starts: Vec<A>,
+    pub labels: Vec<u32>,
+}
+
+impl<A: Address> Stretches<A> {
+    /// Where no statement covers, the label is the default. Neighbours of one label are one stretch where they are to
+    /// be joined.
+    pub fn new(statements: &[Statement<A>], default: u32, are_joined: bool) -> Stretches<A> {
+        let order = by_first(statements);
+        let number_at = |place: usize| order.get(place).map_or(place, |number| *number as usize);
+        let room = 2 * statements.len() + 1;
+        let mut stretches = Stretches { starts: Vec::with_capacity(room), labels: Vec::with_capacity(room) };
+        // The statements that begin at or before the place, with the last one on top. Those below that have ended
+        // wait there.
+        let mut open: BinaryHeap<(usize, A)> = BinaryHeap::new();
+        let (mut place, mut begun, mut latest) = (A::default(), 0, None);
+        loop {
+            while begun < statements.len() && statements[number_at(begun)].first == place {
+                let number = number_at(begun);
+                open.push((number, statements[number].last));
+                begun += 1;
+            }
+            while open.peek().is_some_and(|(_, last)| *last < place) {
+                open.pop();
+            }
+            let top = open.peek();
+            let winner = top.map(|(number, _)| *number);
+            if latest != Some(winner) {
+                latest = Some(winner);
+                stretches.add(place, winner.map_or(default, |number| statements[number].label), are_joined);
+            }
+            let end = top.filter(|(_, last)| *last < A::MAX).map(|(_, last)| *last + A::ONE);
+            let start = (begun < statements.len()).then(|| statements[number_at(begun)].first);
+            place = match (end, start) {
+                (Some(end), Some(start)) => end.min(start),
+                (Some(place), None) | (None, Some(place)) => place,
+                (None, None) => return stretches,
+            };
+        }
+    }
+
+    fn add(&mut self, start: A, label: u32, are_joined: bool) {
+        if !are_joined || self.labels.last() != Some(&label) {
+            self.starts.push(start);
+            self.labels.push(label);
+        }
+    }
+
+    /// The last address of a stretch.
+    pub fn last(&self, number: usize) -> A {
+        self.starts.get(number + 1).map_or(A::MAX, |start| *start - A::ONE)
+    }
+}
+
+/// The numbers of the statements by rising first address, and none where they lie so.
+fn by_first<A: Address>(statements: &[Statement<A>]) -> Vec<u32> {
+    if statements.windows(2).all(|pair| pair[0].first <= pair[1].first) {
+        return Vec::new();
+    }
+    let mut order: Vec<(A, u32)> = statements.iter().map(|statement| statement.first).zip(0..).collect();
+    order.sort_unstable();
+    order.into_iter().map(|(_, number)| number).collect()
+}
+
+/// Stretches with a place for each of the 65,536 blocks of 16 bits, where look-ups begin.
+pub struct Index<A> {
+    stretches: Stretches<A>,
+    /// How many stretches begin before the block.
+    before: Vec<u32>,
+}
+
+impl<A: Address> Index<A> {
+    pub fn new(stretches: Stretches<A>) -> Index<A> {
+        let mut count = 0;
+        let before = (0..=1 << 16).map(|top| {
+            while count < stretches.starts.len() && stretches.starts[count].top() < top {
+                count += 1;
+            }
+            count as u32
+        });
+        Index { before: before.collect(), stretches }
+    }
+
+    #[inline(always)]
+    pub fn label(&self, address: A) -> u32 {
+        let (from, to) = (self.before[address.top()] as usize, self.before[address.top() + 1] as usize);
+        let count = from + self.stretches.starts[from..to].partition_point(|start| *start <= address);
+        self.stretches.labels[count - 1]
+    }
+}

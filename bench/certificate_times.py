@@ -1,0 +1,49 @@
+"""Times `recert`, and `check` of a certificate and of the same with chains: certificate_times.py PROGRAM PLAIN MAP..
+
+Each map is ORDER-LINES.txt; its shortest list and both certificates are written beside it. What `recert` writes must be
+what `shrink --certificate --compact` does, and what plain Rust does, where that is there. The seconds are those of the
+fastest of three runs; a chain counts as one line. A table of that is printed.
+"""
+
+import filecmp
+import os
+import re
+import sys
+
+from measure import Growth, Yardstick, print_table, written
+
+
+def lines_of(name):
+    """How many lines a file has."""
+    with open(name, "rb") as text:
+        return sum(chunk.count(b"\n") for chunk in iter(lambda: text.read(1 << 20), b""))
+
+
+def main():
+    program, plain, *maps = sys.argv[1:]
+    yardstick = Yardstick(program, plain)
+    heads = ["map", "lines", "growth", "recert", "growth", "MB", *yardstick.heads]
+    rows = [[*heads, "with chains", "check", "with chains", "times quicker"]]
+    growth = Growth()
+    for name in maps:
+        stem = name.removesuffix(".txt")
+        order = re.fullmatch(r"(\w+)-\d+", os.path.basename(stem)).group(1)
+        shrink = [program, "shrink", "--pmap", name]
+        listed = written(shrink, f"{stem}-list.txt")
+        certified = written([*shrink, "--certificate"], f"{stem}-certificate.txt")
+        chained = written([*shrink, "--certificate", "--compact"], f"{stem}-chains.txt")
+        recert = ("recert", "--cert", certified)
+        if not filecmp.cmp(chained, yardstick.output(recert), shallow=False):
+            sys.exit(f"bench: {name}: recert and shrink --compact differ")
+        seconds, memory, cells = yardstick.measure(recert)
+        check = ("check", "--pmap", name, "--list", listed, "--cert")
+        (plainly, *_), (with_chains, *_) = (yardstick.measure((*check, cert)) for cert in (certified, chained))
+        lines = lines_of(certified)
+        row = [os.path.basename(stem), f"{lines:,}", growth.of((order, "lines"), lines)]
+        row += [f"{seconds:.3f}", growth.of((order, "recert"), seconds), f"{memory:.1f}", *cells]
+        row += [f"{lines_of(chained):,}", f"{plainly:.3f}", f"{with_chains:.3f}", f"{plainly / with_chains:.2f}"]
+        rows.append(row)
+    print_table(rows)
+
+
+main()

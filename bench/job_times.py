@@ -1,0 +1,68 @@
+"""Times jobs beside plain Rust, and prints a table: job_times.py PROGRAM PLAIN FLOWS MAP..
+
+Both run in turns on the same words, five times each; the time is that of the fastest run, and the memory the most
+that a run had at a time. What they write must be the same bytes. The maps are ORDER-LINES.txt, those of countries and
+of routes among them, and each is shrunk, certified and checked; FLOWS is reported on by itself and under the two.
+"""
+
+import os
+import sys
+
+from measure import Yardstick, print_table
+
+TIMES = 5
+ADDRESSES = {"countries": "128.9.160.23", "countries6": "2001:db8::1", "routes": "128.9.160.23", "hosts": "2001:db8::1"}
+
+
+def jobs_of_map(name):
+    """The jobs over a map: the words of each, and the file that keeps its output for those behind it."""
+    stem = name.removesuffix(".txt")
+    order = os.path.basename(stem).split("-")[0]
+    of_map = ("--pmap", name)
+    certificate = ("shrink", *of_map, "--certificate")
+    listed, certified, chained = (f"{stem}-{kind}.txt" for kind in ("list", "certificate", "chains"))
+    check = ("check", *of_map, "--list", listed, "--cert")
+    return (
+        (f"label, {order}", ("label", *of_map, ADDRESSES[order]), None),
+        (f"cat, {order}", ("cat", *of_map), None),
+        (f"shrink, {order}", ("shrink", *of_map), listed),
+        (f"shrink --certificate, {order}", certificate, certified),
+        (f"shrink --certificate --compact, {order}", (*certificate, "--compact"), chained),
+        (f"check, {order}", (*check, certified), None),
+        (f"check with chains, {order}", (*check, chained), None),
+        (f"recert, {order}", ("recert", "--cert", certified), None),
+    )
+
+
+def jobs_of_flows(name, countries, routes):
+    """The jobs over a File, alike."""
+    by_labels = ("uniq", "--fields", "src-label,dst-label", "--pmap", routes, name)
+    return (
+        ("info", ("info", name), None),
+        ("rows", ("rows", name), None),
+        ("rows --columns", ("rows", "--columns", name), None),
+        ("rows, countries", ("rows", "--pmap", countries, name), None),
+        ("uniq --fields proto", ("uniq", "--fields", "proto", name), None),
+        ("uniq --fields sip", ("uniq", "--fields", "sip", name), None),
+        ("uniq --fields src-label, countries", ("uniq", "--fields", "src-label", "--pmap", countries, name), None),
+        ("uniq --fields src-label,dst-label, routes", by_labels, None),
+    )
+
+
+def main():
+    program, plain, flows, *maps = sys.argv[1:]
+    yardstick = Yardstick(program, plain)
+    by_order = {os.path.basename(name).split("-")[0]: name for name in maps}
+    jobs = [job for name in maps for job in jobs_of_map(name)]
+    jobs += jobs_of_flows(flows, by_order["countries"], by_order["routes"])
+    rows = [["job", "seconds", "MB", *yardstick.heads]]
+    for job, words, kept in jobs:
+        output = yardstick.output(words)
+        if kept:
+            os.replace(output, kept)
+        seconds, memory, cells = yardstick.measure(words, TIMES)
+        rows.append([job, f"{seconds:.3f}", f"{memory:.1f}", *cells])
+    print_table(rows)
+
+
+main()
