@@ -17,17 +17,17 @@ impl<A: Address> Stretches<A> {
     /// be joined.
     pub fn new(statements: &[Statement<A>], default: u32, are_joined: bool) -> Stretches<A> {
         let order = by_first(statements);
-        let number_at = |place: usize| order.get(place).map_or(place, |number| *number as usize);
+        let number_at = |place: usize| order.get(place).copied().unwrap_or(place as u32);
         let room = 2 * statements.len() + 1;
         let mut stretches = Stretches { starts: Vec::with_capacity(room), labels: Vec::with_capacity(room) };
         // The statements that begin at or before the place, with the last one on top. Those below that have ended
         // wait there.
-        let mut open: BinaryHeap<(usize, A)> = BinaryHeap::new();
+        let mut open: BinaryHeap<(u32, A)> = BinaryHeap::new();
         let (mut place, mut begun, mut latest) = (A::default(), 0, None);
         loop {
-            while begun < statements.len() && statements[number_at(begun)].first == place {
+            while begun < statements.len() && statements[number_at(begun) as usize].first == place {
                 let number = number_at(begun);
-                open.push((number, statements[number].last));
+                open.push((number, statements[number as usize].last));
                 begun += 1;
             }
             while open.peek().is_some_and(|(_, last)| *last < place) {
@@ -37,10 +37,10 @@ impl<A: Address> Stretches<A> {
             let winner = top.map(|(number, _)| *number);
             if latest != Some(winner) {
                 latest = Some(winner);
-                stretches.add(place, winner.map_or(default, |number| statements[number].label), are_joined);
+                stretches.add(place, winner.map_or(default, |number| statements[number as usize].label), are_joined);
             }
             let end = top.filter(|(_, last)| *last < A::MAX).map(|(_, last)| *last + A::ONE);
-            let start = (begun < statements.len()).then(|| statements[number_at(begun)].first);
+            let start = (begun < statements.len()).then(|| statements[number_at(begun) as usize].first);
             place = match (end, start) {
                 (Some(end), Some(start)) => end.min(start),
                 (Some(place), None) | (None, Some(place)) => place,
