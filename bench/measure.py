@@ -4,20 +4,20 @@ import filecmp
 import os
 import subprocess
 import sys
-import time
 
 # It adds less to the memory that it measures than this interpreter does.
 METER = "/usr/bin/time"
 
 
 def run(words, output=subprocess.DEVNULL):
-    """Runs a program to its end, and gives what it wrote to a pipe and the seconds that it took."""
-    start = time.perf_counter()
-    ended = subprocess.run(words, stdout=output, check=False)
-    seconds = time.perf_counter() - start
-    if ended.returncode != 0:
-        sys.exit(f"bench: status {ended.returncode} of {' '.join(words)}")
-    return ended.stdout, seconds
+    """Runs a program to its end, and gives what it wrote to a pipe and the processor seconds that it took."""
+    with subprocess.Popen(words, stdout=output) as started:
+        text = started.stdout.read() if started.stdout else None
+        _, status, usage = os.wait4(started.pid, 0)
+        started.returncode = os.waitstatus_to_exitcode(status)
+    if started.returncode != 0:
+        sys.exit(f"bench: status {started.returncode} of {' '.join(words)}")
+    return text, usage.ru_utime + usage.ru_stime
 
 
 def fastest(words, times=3):
@@ -50,7 +50,7 @@ class Yardstick:
     def __init__(self, program, plain):
         self.programs = [program, plain] if os.path.exists(plain) else [program]
         self.folder = os.path.dirname(plain)
-        self.heads = ["plain Rust s", "MB", "times that", "MB by that"][:4 * len(self.programs) - 4]
+        self.heads = ["plain Rust", "MB", "times that", "MB by that"][:4 * len(self.programs) - 4]
 
     def output(self, words):
         """The file with what the program writes. Where plain Rust writes other bytes, the bench ends."""

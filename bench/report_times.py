@@ -66,7 +66,7 @@ def main():
         for report, own, is_plain in reports(map_name)[:1 if kind == "colliding" else None]:
             words = (*own, name)
             compare_with_list(program, words, map_name, yardstick.folder)
-            if is_plain:
+            if is_plain and kind != "colliding":
                 yardstick.output(words)
                 seconds, memory, cells = yardstick.measure(words)
             else:
