@@ -128,20 +128,22 @@ impl<A: Address> Printer<'_, A> {
         let (mut inner, mut side) = (Line::new(), Line::new());
         inner.text(b"n ");
         inner.number(u64::from(self.tree.cost(number)));
-        side.byte(b' ');
-        side.number(u64::from(path.side));
-        side.byte(b'\n');
-        let has_side = self.tree.has(end, path.side);
+        side.byte(b'l');
+        for line in [&mut inner, &mut side] {
+            line.byte(b' ');
+            line.number(u64::from(path.side));
+            line.byte(b'\n');
+        }
+        let united = if self.tree.has(end, path.side) { 0 } else { 1 };
         let mut behind = 0;
         for bit in length..length + path.bits {
-            self.out.extend_from_slice(inner.as_bytes());
-            if has_side || bit + 1 < length + path.bits {
-                self.out.extend_from_slice(side.as_bytes());
+            if bit + united < length + path.bits {
+                self.out.extend_from_slice(inner.as_bytes());
             } else {
+                self.inner(b'n', number);
                 self.set_with(end, path.side);
             }
             if is_upper(path.low, bit) {
-                self.out.push(b'l');
                 self.out.extend_from_slice(side.as_bytes());
             } else {
                 behind += 1;
@@ -149,7 +151,6 @@ impl<A: Address> Printer<'_, A> {
         }
         self.nodes(end, path.low, length + path.bits);
         for _ in 0..behind {
-            self.out.push(b'l');
             self.out.extend_from_slice(side.as_bytes());
         }
     }
