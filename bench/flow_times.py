@@ -10,15 +10,14 @@ import os
 import re
 import sys
 
-from measure import Growth, Yardstick, fastest, print_table
+from measure import Growth, Yardstick, fastest, lines_of, print_table
 
 COMMANDS = (("info",), ("rows",), ("rows", "--columns"))
 
 
 def memory_of_a_row(memory, written):
     """Bytes of memory for each row, as text, where there are rows to speak of."""
-    with open(written, "rb") as rows:
-        count = sum(chunk.count(b"\n") for chunk in iter(lambda: rows.read(1 << 20), b"")) - 1
+    count = lines_of(written) - 1
     spent = memory * 1e6 - os.path.getsize(written)
     return f"{spent / count:.0f}" if count >= 10_000 else "-"
 

@@ -32,6 +32,12 @@ def written(words, name):
     return name
 
 
+def lines_of(name):
+    """How many lines a file has."""
+    with open(name, "rb") as text:
+        return sum(chunk.count(b"\n") for chunk in iter(lambda: text.read(1 << 20), b""))
+
+
 def peak(words):
     """The most memory that a program has at a time, in MB of 10^6 bytes."""
     if os.access(METER, os.X_OK):

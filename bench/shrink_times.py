@@ -11,17 +11,11 @@ import os
 import re
 import sys
 
-from measure import Growth, Yardstick, print_table
+from measure import Growth, Yardstick, lines_of, print_table
 
 TIMES = 2
 # How many entries the text of a list may have that is read.
 MOST_ENTRIES = 1_000_000
-
-
-def lines_of(name):
-    """How many lines a file has."""
-    with open(name, "rb") as text:
-        return sum(1 for _ in text)
 
 
 def entries_of(name):
