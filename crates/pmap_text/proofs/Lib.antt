@@ -1,6 +1,7 @@
 pub mod Carried
 pub mod LineEntries
 pub mod LeadingWords
+pub mod LeadingSpans
 pub mod Filed
 pub mod Pairs
 pub mod PackedStatements

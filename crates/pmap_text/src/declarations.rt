@@ -41,6 +41,14 @@ impl Declarations {
         }
     }
 
+    /// Whether nothing is declared.
+    #[inline(always)]
+    pub fn is_empty(&self) -> bool
+        ensures { IsTrue result → self.now ≡ [] }
+    {
+        self.numbers.is_empty()
+    }
+
     /// The text that was declared for a number. It is a label.
     pub fn text_of(&self, number: u32) -> Option<&[u8]>
         ensures value { option_map (λ t. t.now) result ≡ declared_text self.now number }

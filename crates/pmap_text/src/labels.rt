@@ -52,6 +52,7 @@ impl Labels {
     }
 
     /// The text with a number. It is a label, and its number is this one.
+    #[inline(always)]
     pub fn text(&self, id: LabelId) -> Option<&[u8]>
         ensures value { option_map (λ t. t.now) result ≡ slice_get self.now id.0 }
         ensures number { IfSome result (λ t. number_of self.now t.now ≡ Some id.0) }

@@ -1,7 +1,8 @@
 //! Addresses and blocks that a text begins with, read in one pass over its bytes. A text that isn't plainly of such a form has
 //! no answer here, and the readers of whole words decide what it is.
-ghost use Rattle.std.specs.Prelude.{◌≡◌, ◌≤◌, ◌∷◌, IfSome};
-ghost use Rattle.pmap_text.specs.Leading.{BeginsWithAddress, BeginsWithBlank, BeginsWithDotted, BeginsWithNumber, IsWord};
+ghost use Rattle.std.specs.Prelude.{◌≡◌, ◌≤◌, ◌∷◌, ℕ, List, IfSome};
+ghost use Rattle.prefix_keys.specs.declared.version.Version.TheVariants.{V4};
+ghost use Rattle.pmap_text.specs.Leading.{BeginsWithAddress, BeginsWithBlank, BeginsWithDigits, BeginsWithDotted, BeginsWithNumber, IsWord, SaysSpan};
 ghost use Rattle.pmap_text.specs.Lines.{behind_word, first_word, trim_start};
 
 use crate::label::is_blank;
@@ -17,18 +18,62 @@ pub enum Word {
 
 // The number, at most the limit, of one to three digits that a text begins with, and what stands behind it: there is
 // something, and it begins with no digit.
+#[inline(always)]
 fn leading_number(text: &[u8], limit: u32) -> Option<(u32, &[u8])>
     ensures number { IfSome result (λ r. BeginsWithNumber text.now r.1.now limit r.0) }
     ensures limited { IfSome result (λ r. r.0 ≤ limit) }
 {
+    let (number, count) = front_digits(text)?;
+    if number <= limit {
+        Some((number, &text[count..]))
+    } else {
+        None
+    }
+}
+
+// The number of the one to three digits that a text begins with, and how many there are.
+#[inline(always)]
+fn front_digits(text: &[u8]) -> Option<(u32, usize)>
+    ensures { IfSome result (λ r. BeginsWithDigits text.now r.0 r.1) }
+{
+    match text {
+        [a, b, c, d, ..] => digits_of(*a, *b, *c, *d),
+        _ => last_digits(text),
+    }
+}
+
+// The number of the one to three digits that four bytes begin with, and how many there are. The fourth is none if the
+// others are. No branch depends on how many there are, which is hard to foresee.
+#[inline(always)]
+fn digits_of(a: u8, b: u8, c: u8, d: u8) -> Option<(u32, usize)>
+    ensures { IfSome result (λ r. (rest : List ℕ) → BeginsWithDigits (a ∷ b ∷ c ∷ d ∷ rest) r.0 r.1) }
+{
+    let has_two = b.is_ascii_digit();
+    let has_three = has_two && c.is_ascii_digit();
+    if !a.is_ascii_digit() || has_three && d.is_ascii_digit() {
+        return None;
+    }
+    let first = u32::from(a - b'0');
+    if has_three {
+        Some((
+            first * 100 + u32::from(b - b'0') * 10 + u32::from(c - b'0'),
+            3,
+        ))
+    } else if has_two {
+        Some((first * 10 + u32::from(b - b'0'), 2))
+    } else {
+        Some((first, 1))
+    }
+}
+
+// The same of a text.
+fn last_digits(text: &[u8]) -> Option<(u32, usize)>
+    ensures { IfSome result (λ r. BeginsWithDigits text.now r.0 r.1) }
+{
     let mut number = 0;
     for (at, byte) in text.iter().enumerate() {
         if !byte.is_ascii_digit() {
-            return if at > 0 && number <= limit {
-                Some((number, &text[at..]))
-            } else {
-                None
-            };
+            return if at > 0 { Some((number, at)) } else { None };
         }
         if at == 3 {
             return None;
@@ -39,6 +84,7 @@ fn leading_number(text: &[u8], limit: u32) -> Option<(u32, &[u8])>
 }
 
 // What stands behind this byte, which a text begins with.
+#[inline(always)]
 fn behind_byte(text: &[u8], byte: u8) -> Option<&[u8]>
     ensures { IfSome result (λ r. text.now ≡ byte ∷ r.now) }
 {
@@ -49,6 +95,7 @@ fn behind_byte(text: &[u8], byte: u8) -> Option<&[u8]>
 }
 
 // The number of the IPv4 address that a text begins with, and what stands behind it.
+#[inline(always)]
 fn leading_dotted(text: &[u8]) -> Option<(u32, &[u8])>
     ensures { IfSome result (λ r. BeginsWithDotted text.now r.1.now r.0) }
 {
@@ -60,8 +107,10 @@ fn leading_dotted(text: &[u8]) -> Option<(u32, &[u8])>
 }
 
 // The IPv4 address that a text begins with, and what stands behind it.
+#[inline(always)]
 fn leading_narrow(text: &[u8]) -> Option<(Addr, &[u8])>
-    ensures { IfSome result (λ r. BeginsWithAddress text.now r.1.now r.0) }
+    ensures address { IfSome result (λ r. BeginsWithAddress text.now r.1.now r.0) }
+    ensures version { IfSome result (λ r. r.0.version ≡ V4) }
 {
     let (value, rest) = leading_dotted(text)?;
     let addr = Addr {
@@ -72,6 +121,7 @@ fn leading_narrow(text: &[u8]) -> Option<(Addr, &[u8])>
 }
 
 // The IPv6 address that a text begins with, and what stands behind it.
+#[inline(always)]
 fn leading_wide(text: &[u8]) -> Option<(Addr, &[u8])>
     ensures { IfSome result (λ r. BeginsWithAddress text.now r.1.now r.0) }
 {
@@ -84,6 +134,7 @@ fn leading_wide(text: &[u8]) -> Option<(Addr, &[u8])>
 }
 
 // The address of either version that a text begins with, and what stands behind it.
+#[inline(always)]
 fn leading_address(text: &[u8]) -> Option<(Addr, &[u8])>
     ensures { IfSome result (λ r. BeginsWithAddress text.now r.1.now r.0) }
 {
@@ -94,6 +145,7 @@ fn leading_address(text: &[u8]) -> Option<(Addr, &[u8])>
 }
 
 // What stands behind the blanks that a text begins with, of which there is one or more.
+#[inline(always)]
 fn behind_blanks(text: &[u8]) -> Option<&[u8]>
     ensures { IfSome result (λ r. BeginsWithBlank text.now × (r.now ≡ trim_start text.now)) }
 {
@@ -105,6 +157,7 @@ fn behind_blanks(text: &[u8]) -> Option<&[u8]>
 
 /// The first word of a text, where it is plainly an address or a block with a blank behind it, and what stands behind it
 /// and the blanks after it.
+#[inline(always)]
 pub fn leading_word(text: &[u8]) -> Option<(Word, &[u8])>
     ensures word { IfSome result (λ r. IsWord (first_word text.now) r.0) }
     ensures rest { IfSome result (λ r. r.1.now ≡ behind_word text.now) }
@@ -116,5 +169,32 @@ pub fn leading_word(text: &[u8]) -> Option<(Word, &[u8])>
             Some((Word::Block(block_of(addr, len)), behind_blanks(rest)?))
         }
         None => Some((Word::Address(addr), behind_blanks(rest)?)),
+    }
+}
+
+/// The first and the last address of the IPv4 block or range that a text begins with, where it is plainly one with a
+/// blank behind it, and what stands behind that and the blanks after it.
+#[inline(always)]
+pub fn leading_span(text: &[u8]) -> Option<(u32, u32, &[u8])>
+    ensures ordered { IfSome result (λ r. r.0 ≤ r.1) }
+    ensures says { IfSome result (λ r. SaysSpan text.now r.0 r.1 r.2.now) }
+{
+    let (first, rest) = leading_narrow(text)?;
+    match behind_byte(rest, b'/') {
+        Some(length) => {
+            let (len, rest) = leading_number(length, 32)?;
+            let behind = behind_blanks(rest)?;
+            let block = block_of(first, len);
+            Some((block.value as u32, block.high().value as u32, behind))
+        }
+        None => {
+            let (second, rest) = leading_narrow(behind_blanks(rest)?)?;
+            let behind = behind_blanks(rest)?;
+            if first.value <= second.value {
+                Some((first.value as u32, second.value as u32, behind))
+            } else {
+                None
+            }
+        }
     }
 }

@@ -18,6 +18,7 @@ fn find_blank(text: &[u8]) -> Option<usize>
 }
 
 // The place of the first byte that is no blank.
+#[inline(always)]
 fn find_word(text: &[u8]) -> Option<usize>
     ensures { result ≡ position (λ b. not (is_blank_byte b)) text.now }
 {
@@ -25,6 +26,7 @@ fn find_word(text: &[u8]) -> Option<usize>
 }
 
 // The place that was found, or the length of the text.
+#[inline(always)]
 fn place_or_end(found: Option<usize>, text: &[u8]) -> usize
     requires { (p : ℕ → Bool) × (found ≡ position p text.now) }
     ensures place { (p : ℕ → Bool) → found ≡ position p text.now → result ≡ position_or_len p text.now }
@@ -43,6 +45,7 @@ pub fn split_line(text: &[u8]) -> (&[u8], &[u8])
 }
 
 // What stands before the first line feed, which is at this place, and what stands behind it.
+#[inline(always)]
 fn split_at_feed(text: &[u8], end: usize) -> (&[u8], &[u8])
     requires some { 0 < length text.now }
     requires feed { end ≡ position_or_len (λ b. b == 10) text.now }
@@ -59,6 +62,7 @@ fn split_at_feed(text: &[u8], end: usize) -> (&[u8], &[u8])
 
 // Whether a line feed or a `#` is among the bytes. It looks at all of them, since without a way out of the loop several
 // bytes are compared at a time.
+#[inline(always)]
 fn has_end(text: &[u8]) -> bool
     ensures { result ≡ list_any (λ b. b == 10 || b == 35) text.now }
 {
@@ -70,6 +74,7 @@ fn has_end(text: &[u8]) -> bool
 }
 
 // The place of the first line feed or `#`.
+#[inline(always)]
 fn find_end(text: &[u8]) -> Option<usize>
     ensures { result ≡ position (λ b. b == 10 || b == 35) text.now }
 {
@@ -77,6 +82,7 @@ fn find_end(text: &[u8]) -> Option<usize>
 }
 
 // Whether neither is among the first bytes, of which there are enough to look at together.
+#[inline(always)]
 fn begins_plain(text: &[u8]) -> bool
     ensures { IsTrue result → (16 ≤ length text.now) × (list_any (λ b. b == 10 || b == 35) (take 16 text.now) ≡ false) }
 {
@@ -84,6 +90,7 @@ fn begins_plain(text: &[u8]) -> bool
 }
 
 // Where the first line feed or `#` is, or the length.
+#[inline(always)]
 fn content_end(text: &[u8]) -> usize
     ensures place { result ≡ position_or_len (λ b. b == 10 || b == 35) text.now }
     ensures within { result ≤ length text.now }
@@ -96,6 +103,7 @@ fn content_end(text: &[u8]) -> usize
 }
 
 /// What the first line of a text says (`content`), and what stands behind its line feed.
+#[inline(always)]
 pub fn split_content(text: &[u8]) -> (&[u8], &[u8])
     requires { 0 < length text.now }
     ensures line { (line : List ℕ) × (lines_of text.now ≡ line ∷ lines_of result.1.now)
@@ -119,6 +127,7 @@ fn before_comment(line: &[u8]) -> &[u8]
 }
 
 /// The text from its first byte on that is no blank.
+#[inline(always)]
 pub fn without_leading_blanks(text: &[u8]) -> &[u8]
     ensures { result.now ≡ trim_start text.now }
 {
@@ -126,6 +135,7 @@ pub fn without_leading_blanks(text: &[u8]) -> &[u8]
 }
 
 // The text up to its last byte that is no blank.
+#[inline(always)]
 fn without_trailing_blanks(text: &[u8]) -> &[u8]
     ensures { result.now ≡ trim_end text.now }
 {
@@ -137,6 +147,7 @@ fn without_trailing_blanks(text: &[u8]) -> &[u8]
 }
 
 // The text without blanks at its ends.
+#[inline(always)]
 fn without_outer_blanks(text: &[u8]) -> &[u8]
     ensures { result.now ≡ trim_end (trim_start text.now) }
 {

@@ -1,8 +1,8 @@
-ghost use Rattle.std.specs.Prelude.{◌≡◌, ◌<◌, ◌≤◌, ◌++◌, ◌∷◌, [], Some, true, false, ◌⊎◌, length, option_map, slice_get, IsTrue, IfOk, IfErr, OnOk, OnErr};
+ghost use Rattle.std.specs.Prelude.{◌≡◌, ◌<◌, ◌≤◌, ◌++◌, ◌∷◌, [], Some, true, false, ◌⊎◌, length, option_map, slice_get, IsTrue, IfOk, IfErr, IfSome, OnOk, OnErr};
 ghost use Rattle.std.specs.Option.{option_or};
 ghost use Rattle.pmap_text.specs.Declarations.{conflicts as conflicts_of, meant_text, with_declared};
 ghost use Rattle.pmap_text.specs.Filed.{HasOncePlaced};
-ghost use Rattle.pmap_text.specs.Label.{is_label as is_label_text, number_of, with_label};
+ghost use Rattle.pmap_text.specs.Label.{has_label, is_label as is_label_text, number_of, with_label};
 ghost use Rattle.pmap_text.specs.MapText.{map_of, text_at};
 ghost use Rattle.pmap_text.specs.PrefixList.{list_of};
 ghost use Rattle.pmap_text.specs.Reading.{Earlier, earlier_of, has_mapping as has_mapping_of, has_prefix as has_prefix_of, has_room, list_from, map_from, version_at as version_at_of};
@@ -63,9 +63,11 @@ impl Model for Reading {
     ghost invariant = { λ r. IsProgress r.version r.default r.statements r.entries.items r.labels };
 }
 
-// Whether this is the number of the text.
+// Whether this is the number of the text, which is a label then.
+#[inline(always)]
 fn is_number_of(labels: &Labels, id: LabelId, text: &[u8]) -> bool
-    ensures { IsTrue result → number_of labels.now text.now ≡ Some id.0 }
+    ensures number { IsTrue result → number_of labels.now text.now ≡ Some id.0 }
+    ensures label { IsTrue result → IsTrue (is_label_text text.now) }
 {
     match labels.text(id) {
         Some(known) => known == text,
@@ -146,6 +148,7 @@ impl Reading {
     }
 
     /// How many mappings there are.
+    #[inline(always)]
     pub fn mapping_count(&self) -> usize
         ensures { result ≡ length self.now.mappings }
     {
@@ -235,6 +238,26 @@ impl Reading {
         number_for(&mut self.labels, &mut self.recent, text)
     }
 
+    /// The number of a label that was found lately, where no number is declared. It needs no look at the label's bytes,
+    /// since each text of the table is a label.
+    #[inline(always)]
+    pub fn recent_label(&self, label: &[u8]) -> Option<LabelId>
+        ensures label { IfSome result (λ id. IsTrue (is_label_text label.now)) }
+        ensures known { IfSome result (λ id. has_label self.now.table (meant_text self.now.declared label.now) ≡ true) }
+        ensures text { IfSome result (λ id. slice_get self.now.table id.0
+            ≡ Some (meant_text self.now.declared label.now)) }
+    {
+        if !self.declared.is_empty() {
+            return None;
+        }
+        let id = self.recent.guess(label);
+        if is_number_of(&self.labels, id, label) {
+            Some(id)
+        } else {
+            None
+        }
+    }
+
     /// Declares a text for a number.
     pub fn declare(&mut self, number: u32, text: &[u8]) -> Result<(), MapFaultKind>
         requires label { IsTrue (is_label_text text.now) }
@@ -264,6 +287,7 @@ impl Reading {
     }
 
     /// Adds a mapping of the text's version, which it decides where nothing did.
+    #[inline(always)]
     pub fn add_statement(&mut self, span: Span, label: LabelId) -> Result<(), MapFaultKind>
         requires version { version_at_of self.old span.low.version ≡ span.low.version }
         requires label { label.0 < length self.old.table }

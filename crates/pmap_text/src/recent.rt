@@ -21,6 +21,7 @@ impl Recent {
     }
 
     /// The number at the place of a text. Whether it is the text's the caller must find out.
+    #[inline(always)]
     pub fn guess(&self, text: &[u8]) -> LabelId {
         self.ids[place_of(text)]
     }
@@ -32,6 +33,7 @@ impl Recent {
 }
 
 // The place of a text, by its last three bytes: names that end in different numbers have different places.
+#[inline(always)]
 fn place_of(text: &[u8]) -> usize
     ensures { result < 1024 }
 {

@@ -74,6 +74,7 @@ fn unpacked(alloc: Global, statements: &Statements) -> Result<Vec<Statement>, Al
 }
 
 // An IPv4 mapping, packed.
+#[inline(always)]
 fn pack_narrow(statement: Statement) -> Narrow
     requires { statement.span.low.version ≡ V4 }
     ensures { narrow_statement result ≡ statement }
@@ -142,6 +143,7 @@ impl Statements {
     }
 
     /// Adds a mapping at the end.
+    #[inline(always)]
     pub fn push(&mut self, statement: Statement) -> Result<(), AllocError>
         ensures ok { OnOk result (self.new ≡ self.old ++ statement ∷ []) }
         ensures err { OnErr result (self.new ≡ self.old) }

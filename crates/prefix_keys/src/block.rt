@@ -19,6 +19,7 @@ pub struct Block {
 }
 
 // The number whose bits after the first `len` are 1: one below the number of addresses in a block.
+#[inline(always)]
 fn host_mask(version: Version, len: u32) -> u128
     requires { len ≤ width_of version }
     ensures { result + 1 ≡ 2 ^ (width_of version - len) }
@@ -32,6 +33,7 @@ fn host_mask(version: Version, len: u32) -> u128
 }
 
 /// The block of this length that covers the address: its first `len` bits, the host bits cleared.
+#[inline(always)]
 pub fn block_of(addr: Addr, len: u32) -> Block
     requires { len ≤ width_of addr.version }
     ensures version { result.version ≡ addr.version }
@@ -107,6 +109,7 @@ impl Block {
     }
 
     /// The highest address of the block.
+    #[inline(always)]
     pub fn high(&self) -> Addr
         ensures version { result.version ≡ self.now.version }
         ensures last { let W = width_of self.now.version in

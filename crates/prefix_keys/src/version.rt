@@ -12,6 +12,7 @@ pub enum Version {
 
 impl Version {
     /// How many bits an address has.
+    #[inline(always)]
     pub fn width(self) -> u32
         ensures { result ≡ width_of self }
     {

@@ -1,19 +1,21 @@
 //! The reading of one line of a text.
-ghost use Rattle.std.specs.Prelude.{◌≡◌, ◌<◌, ◌==◌, ◌⊎◌, Some, Ok, Err, true, false, length, slice_index, IsTrue, IfOk, IfErr, OnOk, OnErr};
+ghost use Rattle.std.specs.Prelude.{◌≡◌, ◌<◌, ◌≤◌, ◌==◌, ◌⊎◌, Some, Ok, Err, true, false, length, slice_index, IsTrue, IfOk, IfErr, OnOk, OnErr};
 ghost use Rattle.std.specs.List.{list_any};
 ghost use Rattle.prefix_keys.specs.Text.{address_of, block_of_text, is_digit};
+ghost use Rattle.prefix_keys.specs.declared.version.Version.TheVariants.{V4};
 ghost use Rattle.pmap_text.specs.Declarations.{label_number as number_of_label, meant_text};
 ghost use Rattle.pmap_text.specs.Label.{is_label as is_label_text};
 ghost use Rattle.pmap_text.specs.Lines.{first_word};
 ghost use Rattle.pmap_text.specs.Reading.{Lists, address_line, block_line, content_line, decided, declared_line, default_line, label_line, label_of, mode_line, mode_version, name_line, one_or_two, other_fault, placed_line, prefix_line, range_line, single_line, span_line, statement_line, version_at as version_at_of};
 ghost use Rattle.pmap_text.specs.Steps.{Takes, added, has_prefix_room, refusal_of};
 ghost use Rattle.pmap_text.specs.declared.fault.MapFaultKind.TheVariants.{NoMemory, TooMany};
+ghost use Rattle.pmap_text.specs.declared.form.Form.TheVariants.{Map};
 
 use crate::declarations::label_number;
 use crate::fault::MapFaultKind;
 use crate::form::Form;
 use crate::label::is_label;
-use crate::leading::{Word, leading_word};
+use crate::leading::{Word, leading_span, leading_word};
 use crate::lines::split_word;
 use crate::placing::{addr_in, block_in};
 use crate::reading::{MAPPING_LIMIT, Reading};
@@ -147,7 +149,22 @@ impl Reading {
     }
 
     // A span in the text's version and then a label, from behind the span.
+    #[inline(always)]
     fn read_span(&mut self, span: Span, rest: &[u8]) -> Result<(), MapFaultKind>
+        requires { version_at_of self.old span.low.version ≡ span.low.version }
+        ensures ok { OnOk result (Takes self.old self.new
+            (span_line self.old span.low.version span.low.value span.high.value rest.now)) }
+        ensures err { IfErr result (λ kind. kind
+            ≡ refusal_of (span_line self.old span.low.version span.low.value span.high.value rest.now)) }
+    {
+        match self.recent_label(rest) {
+            Some(label) if self.mapping_count() < MAPPING_LIMIT => self.add_statement(span, label),
+            _ => self.read_labelled(span, rest),
+        }
+    }
+
+    // The same, where the label may be any.
+    fn read_labelled(&mut self, span: Span, rest: &[u8]) -> Result<(), MapFaultKind>
         requires { version_at_of self.old span.low.version ≡ span.low.version }
         ensures ok { OnOk result (Takes self.old self.new
             (span_line self.old span.low.version span.low.value span.high.value rest.now)) }
@@ -160,6 +177,25 @@ impl Reading {
         }
         let label = self.label_id(text)?;
         self.add_statement(span, label)
+    }
+
+    // The IPv4 addresses from one to another in a map text of IPv4 and then a label, from behind the addresses.
+    #[inline(always)]
+    fn read_narrow(&mut self, low: u32, high: u32, rest: &[u8]) -> Result<(), MapFaultKind>
+        requires version { self.old.version ≡ Some V4 }
+        requires ordered { low ≤ high }
+        ensures ok { OnOk result (Takes self.old self.new (span_line self.old V4 low high rest.now)) }
+        ensures err { IfErr result (λ kind. kind ≡ refusal_of (span_line self.old V4 low high rest.now)) }
+    {
+        let low = Addr {
+            version: Version::V4,
+            value: u128::from(low),
+        };
+        let high = Addr {
+            version: Version::V4,
+            value: u128::from(high),
+        };
+        self.read_span(Span { low, high }, rest)
     }
 
     // Adds an entry for a block with this label. Whether the block has an entry already is not looked at.
@@ -364,9 +400,8 @@ impl Reading {
         self.read_statement(form, word, rest)
     }
 
-    /// Reads the content of one more line. An entry for a block that has one already is added too. After a fault
-    /// nothing is known of the lines so far.
-    pub fn read_content(&mut self, form: Form, content: &[u8]) -> Result<(), MapFaultKind>
+    // A line that begins with an address or a block of either version, or with anything else.
+    fn read_line(&mut self, form: Form, content: &[u8]) -> Result<(), MapFaultKind>
         ensures ok { OnOk result (Takes self.old self.new (content_line form self.old content.now)) }
         ensures err { IfErr result (λ kind. kind ≡ refusal_of (content_line form self.old content.now)) }
     {
@@ -375,5 +410,27 @@ impl Reading {
             Some((Word::Address(first), rest)) => self.read_behind_address(form, first, rest),
             None => self.read_words(form, content),
         }
+    }
+
+    // Whether the text is a map of IPv4, as the lines so far decide.
+    fn is_narrow(&self, form: Form) -> bool
+        ensures form { IsTrue result → form ≡ Map }
+        ensures version { IsTrue result → self.now.version ≡ Some V4 }
+    {
+        form == Form::Map && self.version_at(Version::V6) == Version::V4
+    }
+
+    /// Reads the content of one more line. An entry for a block that has one already is added too. After a fault
+    /// nothing is known of the lines so far.
+    pub fn read_content(&mut self, form: Form, content: &[u8]) -> Result<(), MapFaultKind>
+        ensures ok { OnOk result (Takes self.old self.new (content_line form self.old content.now)) }
+        ensures err { IfErr result (λ kind. kind ≡ refusal_of (content_line form self.old content.now)) }
+    {
+        if self.is_narrow(form) {
+            if let Some((low, high, rest)) = leading_span(content) {
+                return self.read_narrow(low, high, rest);
+            }
+        }
+        self.read_line(form, content)
     }
 }

@@ -47,6 +47,7 @@ impl Groups {
 }
 
 // The number that one hexadecimal digit stands for.
+#[inline(always)]
 fn digit_value(byte: u8) -> Option<u32>
     ensures value { result ≡ if is_hex_digit byte then Some (hex_digit_value byte) else None }
     ensures limited { IfSome result (λ digit. digit < 16) }
@@ -152,6 +153,7 @@ pub fn read_colon(text: &[u8]) -> Option<u128>
 
 // The group of one to four hexadecimal digits that a text begins with, and what stands behind it: there is something, and
 // it begins with no such digit.
+#[inline(always)]
 fn leading_group(text: &[u8]) -> Option<(u32, &[u8])>
     ensures group { IfSome result (λ r. BeginsWithGroup text.now r.1.now r.0) }
     ensures limited { IfSome result (λ r. r.0 < 65536) }
@@ -174,6 +176,7 @@ fn leading_group(text: &[u8]) -> Option<(u32, &[u8])>
 }
 
 // What stands behind the one colon that a text begins with.
+#[inline(always)]
 fn behind_colon(text: &[u8]) -> Option<&[u8]>
     ensures { IfSome result (λ r. text.now ≡ 58 ∷ r.now) }
 {
@@ -186,6 +189,7 @@ fn behind_colon(text: &[u8]) -> Option<&[u8]>
 
 // The groups with a colon between each two that a text begins with, where they are at most eight, and what stands behind
 // them.
+#[inline(always)]
 fn leading_groups(text: &[u8]) -> Option<(Groups, &[u8])>
     ensures { IfSome result (λ r. BeginsWithSide text.now r.1.now r.0.count r.0.number) }
 {
@@ -205,6 +209,7 @@ fn leading_groups(text: &[u8]) -> Option<(Groups, &[u8])>
 }
 
 // The same, or no groups where the text begins with no hexadecimal digit.
+#[inline(always)]
 fn leading_side(text: &[u8]) -> Option<(Groups, &[u8])>
     ensures { IfSome result (λ r. BeginsWithSide text.now r.1.now r.0.count r.0.number) }
 {
@@ -221,6 +226,7 @@ fn leading_side(text: &[u8]) -> Option<(Groups, &[u8])>
 }
 
 // What stands behind the `::` that a text begins with.
+#[inline(always)]
 fn behind_gap(text: &[u8]) -> Option<&[u8]>
     ensures { IfSome result (λ r. text.now ≡ 58 ∷ 58 ∷ r.now) }
 {
@@ -232,6 +238,7 @@ fn behind_gap(text: &[u8]) -> Option<&[u8]>
 
 /// The number of the IPv6 address that a text begins with, where it is plainly one and has no dotted part, and what stands
 /// behind it. It is read in one pass over its bytes, and `read_addr` decides what any other text is.
+#[inline(always)]
 pub fn leading_colon(text: &[u8]) -> Option<(u128, &[u8])>
     ensures { IfSome result (λ r. BeginsWithColon text.now r.1.now r.0) }
 {
