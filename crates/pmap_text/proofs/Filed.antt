@@ -3,7 +3,8 @@ use Rattle.std.proofs.Common.{◌≡◌, ℕ, ◌+◌, ◌<◌, Bool, true, fals
 use Rattle.std.proofs.lemmas.Bool.{eqb-true, ltb-true}
 use Rattle.std.proofs.lemmas.Cmp.{and_equiv, eq_by_cmp_equiv, nat_cmp_total, nat_eq_equiv, on_equiv, on_total, then_total}
 use Rattle.std.proofs.lemmas.List.Folds.{list_any-append}
-use Rattle.std.proofs.lemmas.List.Sorted.{IsPermutation-sym}
+use Rattle.std.proofs.lemmas.List.{get_or-map, length-map}
+use Rattle.std.proofs.lemmas.List.Sorted.{IsPermutation-refl, IsPermutation-sym}
 use Rattle.std.proofs.lemmas.Map.Keys.{IsDistinct-IsPermutation, IsDistinct-from_sorted, IsDistinct-push, sorted_from_all_adjacent}
 use Rattle.std.specs.Cmp.{IsEquivalence, IsTotalOrder}
 use Rattle.std.specs.List.{list_any, AllByRecursion, IsDistinct}
@@ -127,7 +128,7 @@ pub rising-adjacent : (keys : List (ℕ × ℕ)) →
     ((k : ℕ) → k + 1 < length keys → key_cmp (get_or keys k (0, 0)) (get_or keys (k + 1) (0, 0)) ≡ Less) → AreRising keys
 rising-adjacent keys adjacent = sorted_from_all_adjacent key_cmp-total keys (0, 0) adjacent
 
-abbrev block_key : Entry → ℕ × ℕ
+abbrev pub block_key : Entry → ℕ × ℕ
 block_key e = (e.block.value, e.block.len)
 
 pub distinct-rising : (entries : List Entry) (keys sorted : List (ℕ × ℕ)) → keys ≡ map (λ e. (e.block.value, e.block.len)) entries →
@@ -139,3 +140,25 @@ distinct-rising entries keys sorted e moved rising =
     subst (λ same. IsDistinct same entries)
     (λ i d r. (is_eq-pair d.block.value d.block.len (r.block.value, r.block.len)
     ∙ ap₂ ◌&&◌ (nat_eq_equiv.symm r.block.value d.block.value) (nat_eq_equiv.symm r.block.len d.block.len)) i) apart
+
+-- entries whose starts and lengths rise as they stand
+rising_from : (entries : List Entry) (d : Entry) →
+    ((k : ℕ) (d : Entry) → k + 1 < length entries → key_cmp (block_key (get_or entries k d)) (block_key (get_or entries (k + 1) d)) ≡ Less)
+    → AreRising (map block_key entries)
+rising_from entries d adjacent =
+    rising-adjacent (map block_key entries)
+    (λ k within.
+    let below : k + 1 < length entries = omega (arith, within, length-map entries block_key) in
+    rw (get_or-map block_key entries k d (0, 0) (omega (arith, below)), get_or-map block_key entries (k + 1) d (0, 0) below) (adjacent k d below))
+
+none_distinct : HasDistinctBlocks []
+unfolding IsDistinct
+none_distinct = tt
+
+pub rising-entries : (entries : List Entry) →
+    ((k : ℕ) (d : Entry) → k + 1 < length entries → key_cmp (block_key (get_or entries k d)) (block_key (get_or entries (k + 1) d)) ≡ Less)
+    → HasDistinctBlocks entries
+rising-entries [] adjacent = none_distinct
+rising-entries (e ∷ es) adjacent =
+    let keys = map block_key (e ∷ es) in
+    distinct-rising (e ∷ es) keys keys refl (IsPermutation-refl keys) (rising_from (e ∷ es) e adjacent)

@@ -33,16 +33,38 @@ fn keys_of(alloc: Global, entries: &[Entry]) -> Result<Vec<(u128, u32)>, AllocEr
 {
     let mut keys = Vec::with_capacity(alloc, entries.len())?;
     for entry in entries {
-        keys.push((entry.block.value, entry.block.len))?;
+        keys.push(key_of(entry))?;
     }
     Ok(keys)
 }
 
-/// Whether the entries are seen to have distinct blocks, by sorting the starts and lengths. Unlike in a hash table, no
-/// choice of blocks makes that slow.
+// The start and the length of an entry's block.
+fn key_of(entry: &Entry) -> (u128, u32)
+    ensures { result ≡ (entry.now.block.value, entry.now.block.len) }
+{
+    (entry.block.value, entry.block.len)
+}
+
+// Whether each entry's block comes behind the one before it, by start and length.
+fn come_in_order(entries: &[Entry]) -> bool
+    ensures { IsTrue result → HasDistinctBlocks entries.now }
+{
+    for i in 1..entries.len() {
+        if !key_of(&entries[i - 1]).cmp(&key_of(&entries[i])).is_lt() {
+            return false;
+        }
+    }
+    true
+}
+
+/// Whether the entries are seen to have distinct blocks: as they stand, or by sorting the starts and lengths. Unlike in a
+/// hash table, no choice of blocks makes that slow.
 pub fn have_distinct_blocks(alloc: Global, entries: &[Entry]) -> Result<bool, AllocError>
     ensures { IfOk result (λ distinct. IsTrue distinct → HasDistinctBlocks entries.now) }
 {
+    if come_in_order(entries) {
+        return Ok(true);
+    }
     let mut keys = keys_of(alloc, entries)?;
     keys.sort()?;
     Ok(are_rising(keys.as_slice()))
