@@ -17,7 +17,7 @@ pub mod ListLabels
 pub mod ListBlocks
 pub mod Entering
 pub mod Orders
-pub mod Starts
+pub mod StartLists
 pub mod Swept
 pub mod Seen
 pub mod Stretched

@@ -9,7 +9,8 @@ use Rattle.pmap_text.specs.MapModel.{MapModel, Mapping}
 use Rattle.pmap_text.specs.MapText.{mapping_of}
 use Rattle.pmap_text.specs.declared.statement.Statement.{Statement}
 use Rattle.pmap_text.specs.Stretches.{HasStretch, label_seen, mappings_of}
-use Rattle.pmap_text.specs.Sweep.{start_of, IsStart, AreStarts, HasBegun, IsEdge, IsStill, IsSweeping, IsSwept, IsOver, IsFree, IsWalk, seen_at}
+use Rattle.pmap_text.specs.Starting.{start_of, IsStart, AreStarts}
+use Rattle.pmap_text.specs.Sweep.{HasBegun, IsEdge, IsStill, IsSweeping, IsSwept, IsOver, IsFree, IsWalk, seen_at}
 use Rattle.pmap_text.specs.declared.layers.Layers.{Layers}
 use Rattle.pmap_text.specs.declared.sweep.Sweep.{Sweep}
 use Rattle.std.specs.BinaryHeap.{heap_items}
@@ -160,7 +161,7 @@ walk_on layers old new next walk above near (inr still) =
       version = walk.version;
       sweeping = record {
         starts = rw starts walk.sweeping.starts;
-        swept = subst (λ (i : ℕ). IsSwept layers.statements.now new.starts.items new.next (heap_items new.opened) i) same still.swept;
+        swept = subst (λ (i : ℕ). IsSwept layers.statements.now new.starts new.next (heap_items new.opened) i) same still.swept;
         stretch = rw (first_is, last_is, label_is) walk.sweeping.stretch;
       };
     }

@@ -1,5 +1,5 @@
 -- What the steps of a sweep keep.
-use Rattle.std.proofs.Common.{◌≡◌, ℕ, ◌+◌, ◌<◌, ◌≤◌, inl, inr, true, false, List, ◌∷◌, Option, Some, None, IfSome, IsSome, All, Contains, drop, get_or, length, slice_get, sym, ap, ◌∙◌, subst, arith, length-drop}
+use Rattle.std.proofs.Common.{◌≡◌, ℕ, ◌+◌, ◌-◌, ◌<◌, ◌≤◌, inl, inr, true, false, List, ◌∷◌, Option, Some, None, IfSome, IsSome, All, Contains, drop, get_or, length, slice_get, sym, ap, ◌∙◌, subst, arith, length-drop}
 use Rattle.std.specs.BinaryHeap.{IsHeap, IsUpperBound}
 use Rattle.std.specs.List.Sorted.{IsNonDecreasingBy, IsPermutation}
 use Rattle.std.specs.Ordering.{is_lt, nat_cmp}
@@ -7,9 +7,10 @@ use Rattle.std.proofs.lemmas.Bool.{both_ways, cases_lt, lt-ltb}
 use Rattle.std.proofs.lemmas.List.{drop_more, get_or-drop, get_or_read}
 use Rattle.std.proofs.lemmas.List.Elements.{All-cons, All-contains, All-from_recursion, All-weaker, Contains-get_or}
 use Rattle.std.proofs.lemmas.List.Sorted.{All-permutation, Contains-permutation, IsPermutation-sym}
-use Rattle.std.proofs.lemmas.Option.{same_Some}
+use Rattle.std.proofs.lemmas.Option.{get_or_from_slice_get, same_Some, slice_get_within}
 use Rattle.pmap_text.specs.declared.statement.Statement.{Statement}
-use Rattle.pmap_text.specs.Sweep.{start_of, IsStart, AreStarts, HasBegun, IsSwept, AreBehind, Closes, IsOver}
+use Rattle.pmap_text.specs.Starting.{start_of, IsStart, AreStarts}
+use Rattle.pmap_text.specs.Sweep.{HasBegun, IsSwept, AreBehind, Closes, IsOver}
 use Rattle.pmap_text.specs.declared.start.Start.{Start}
 use Rattle.pmap_text.proofs.Finds.{Contains-cases, Contains-first, Contains-later}
 
@@ -101,19 +102,45 @@ swept_later ss starts next opened first first' le swept = record {
   pending = λ j s a listed from to after. swept.pending j s a listed from to (omega (arith, le, after));
 }
 
+-- a start at a place is one of those from an earlier place on
+pub Contains_from : (starts : List Start) (next place : ℕ) (e : Start) → next ≤ place → slice_get starts place ≡ Some e → Contains (drop next starts) e
+Contains_from starts next place e le listed =
+    let within = slice_get_within starts place e listed in
+    let same : next + (place - next) ≡ place = omega (arith, le) in
+    let is : get_or (drop next starts) (place - next) e ≡ e =
+        get_or-drop next starts (place - next) e ∙ ap (λ (k : ℕ). get_or starts k e) same ∙ get_or_from_slice_get starts place e e listed in
+    (place - next, omega (arith, length-drop next starts, within, le), is)
+
+-- so it lies behind what they lie behind
+pub behind_at : (starts : List Start) (next place first : ℕ) (e : Start) → next ≤ place → slice_get starts place ≡ Some e
+    → AreBehind first (drop next starts) → first < e.low
+behind_at starts next place first e le listed behind =
+    All-contains (λ start. first < start.low) (drop next starts) e behind (Contains_from starts next place e le listed)
+
+-- where none of the starts from a place on is seen over the top, none is up to an address
+pub hidden_from : (top : Option ℕ) (starts : List Start) (next end last : ℕ) → length starts ≤ end
+    → ((k : ℕ) (d : Start) → next ≤ k → k < end → IsOver top (get_or starts k d).number → ⊥)
+    → All (λ start. start.low ≤ last → IsOver top start.number → ⊥) (drop next starts)
+hidden_from top starts next end last all hidden k d below =
+    let long = length-drop next starts in
+    rw (get_or-drop next starts k d) (λ low over. hidden (next + k) d (omega arith) (omega (arith, below, long, all)) over)
+
 -- those that come before the one at a place aren't seen over the top, and those behind it begin too late
-pub free_before : (top : Option ℕ) (coming : List Start) (i last : ℕ) (e : Start) → IsNonDecreasingBy (λ start. start.low) coming → i < length coming
-    → e ≡ get_or coming i e → last < e.low → ((k : ℕ) (d : Start) → k < i → IsOver top (get_or coming k d).number → ⊥)
-    → All (λ start. start.low ≤ last → IsOver top start.number → ⊥) coming
-free_before top coming i last e up within is late hidden k d below =
-    elim (cases_lt k i) [
-      | inl less ↦ λ low over. hidden k d less over
+pub free_before : (top : Option ℕ) (starts : List Start) (next i last : ℕ) (e : Start) → IsNonDecreasingBy (λ start. start.low) starts
+    → next ≤ i → slice_get starts i ≡ Some e → last < e.low
+    → ((k : ℕ) (d : Start) → next ≤ k → k < i → IsOver top (get_or starts k d).number → ⊥)
+    → All (λ start. start.low ≤ last → IsOver top start.number → ⊥) (drop next starts)
+free_before top starts next i last e up le listed late hidden k d below =
+    let long = length-drop next starts in
+    rw (get_or-drop next starts k d)
+    (elim (cases_lt (next + k) i) [
+      | inl less ↦ λ low over. hidden (next + k) d (omega arith) less over
       | inr more ↦ λ low over.
-          let least = up i k d more below in
-          let same : get_or coming i d ≡ e = sym (get_or_read coming i e within is d) in
+          let least = up i (next + k) d more (omega (arith, below, long)) in
+          let same : get_or starts i d ≡ e = get_or_from_slice_get starts i e d listed in
           let from = rw same at least in
           absurd (omega (arith, from, low, late))
-    ]
+    ])
 
 -- the top of a heap is the greatest
 not_less : (x y : ℕ) → is_lt (nat_cmp x y) ≡ false → y ≤ x

@@ -15,5 +15,6 @@ pub mod Steps
 pub mod Filed
 pub mod Progress
 pub mod Stretches
+pub mod Starting
 pub mod Sweep
 pub mod Painting

@@ -1,6 +1,5 @@
 use Rattle.std.specs.Prelude.{◌≡◌, ◌≢◌, ℕ, ◌+◌, ◌<◌, ◌≤◌, ◌⊎◌, List, [], Option, Some, None, All, Contains, drop, length, slice_get}
 use Rattle.std.specs.BinaryHeap.{IsHeap, heap_items}
-use Rattle.std.specs.List.Sorted.{IsNonDecreasingBy}
 use Rattle.std.specs.Ordering.{nat_cmp}
 use Rattle.prefix_keys.specs.Version.{width_of}
 use Rattle.pmap_text.specs.declared.statement.Statement.{Statement}
@@ -10,24 +9,9 @@ use Rattle.pmap_text.specs.declared.label.LabelId.{LabelId}
 use Rattle.pmap_text.specs.declared.layers.Layers.{Layers}
 use Rattle.pmap_text.specs.declared.start.Start.{Start}
 use Rattle.pmap_text.specs.declared.sweep.Sweep.{Sweep}
+use Rattle.pmap_text.specs.Starting.{AreStarts, start_of}
 
 -- How a sweep from the first address to the last finds out which statement is seen.
-
--- where the statement with a number begins
-abbrev pub start_of : ℕ → Statement → Start
-start_of number s = record { low = s.span.low.value; number = number }
-
--- a start is that of a statement
-pub record IsStart (ss : List Statement) (start : Start) : Type 0 where
-  pub statement : Statement
-  pub listed : slice_get ss start.number ≡ Some statement
-  pub low : statement.span.low.value ≡ start.low
-
--- these are the starts of the statements, in rising order
-pub record AreStarts (ss : List Statement) (starts : List Start) : Type 0 where
-  pub each : All (IsStart ss) starts
-  pub every : (j : ℕ) (s : Statement) → slice_get ss j ≡ Some s → Contains starts (start_of j s)
-  pub rising : IsNonDecreasingBy (λ start. start.low) starts
 
 -- the statement with this number begins at the address or before it
 pub record HasBegun (ss : List Statement) (a j : ℕ) : Type 0 where
@@ -81,14 +65,14 @@ IsEdge ss first = (table : List (List ℕ)) (a : ℕ) → a + 1 ≡ first → se
 
 -- the sweep stands at a stretch of addresses, and knows which statements have a say behind it
 pub record IsSweeping (W : ℕ) (ss : List Statement) (default : Option LabelId) (s : Sweep) : Type 0 where
-  pub starts : AreStarts ss s.starts.items
-  pub swept : IsSwept ss s.starts.items s.next (heap_items s.opened) (s.last + 1)
+  pub starts : AreStarts ss s.starts
+  pub swept : IsSwept ss s.starts s.next (heap_items s.opened) (s.last + 1)
   pub stretch : HasStretch W ss default s.first s.last s.label
 
 -- nothing but statements that begin at the address was opened
 pub record IsStill (ss : List Statement) (first : ℕ) (old new : Sweep) : Type 0 where
-  pub starts : new.starts.items ≡ old.starts.items
-  pub swept : IsSwept ss new.starts.items new.next (heap_items new.opened) first
+  pub starts : new.starts ≡ old.starts
+  pub swept : IsSwept ss new.starts new.next (heap_items new.opened) first
   pub first_is : new.first ≡ old.first
   pub last_is : new.last ≡ old.last
   pub label_is : new.label ≡ old.label

@@ -40,6 +40,7 @@ mod reading;
 mod recent;
 mod repeats;
 mod start;
+mod starts;
 mod statement;
 mod statements;
 mod stretches;

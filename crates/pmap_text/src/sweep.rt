@@ -1,14 +1,15 @@
-ghost use Rattle.std.specs.Prelude.{◌≡◌, ℕ, ◌+◌, ◌<◌, ◌≤◌, ◌^◌, ◌↔◌, All, IfOk, IsTrue, OnErr, OnOk, drop, length};
+ghost use Rattle.std.specs.Prelude.{◌≡◌, ◌+◌, ◌<◌, ◌≤◌, ◌^◌, ◌↔◌, All, IfOk, IsTrue, OnErr, OnOk, drop, length};
 ghost use Rattle.std.specs.BinaryHeap.{IsHeap, heap_items};
 ghost use Rattle.std.specs.List.Sorted.{IsNonDecreasingBy};
 ghost use Rattle.std.specs.Ordering.{nat_cmp};
 ghost use Rattle.prefix_keys.specs.Version.{width_of};
 ghost use Rattle.pmap_text.specs.Stretches.{HasStretch};
-ghost use Rattle.pmap_text.specs.Sweep.{AreBehind, AreStarts, Closes, IsEdge, IsFree, IsOver, IsStill, IsSwept, IsSweeping, IsTop};
+ghost use Rattle.pmap_text.specs.Starting.{AreStarts};
+ghost use Rattle.pmap_text.specs.Sweep.{AreBehind, Closes, IsEdge, IsFree, IsOver, IsStill, IsSwept, IsSweeping, IsTop};
 
 use crate::label::LabelId;
 use crate::layers::Layers;
-use crate::start::Start;
+use crate::starts::Starts;
 use crate::statements::Statements;
 use prefix_keys::Version;
 use std::alloc::{AllocError, Global};
@@ -17,43 +18,26 @@ use std::collections::BinaryHeap;
 /// A sweep over the addresses from the first to the last: the stretch of addresses from `first` to `last` at which one
 /// statement wins, or none, its label, and what is needed to find the next stretch.
 #[derive(Drop)]
-pub struct Sweep {
+pub struct Sweep<'a> {
     pub first: u128,
     pub last: u128,
     pub label: Option<LabelId>,
     /// Where the statements begin, in rising order, of which those before `next` have been opened.
-    pub starts: Vec<Start>,
+    pub starts: Starts<'a>,
     pub next: usize,
     /// The numbers of the statements that have been opened and not yet been found to end.
     pub opened: BinaryHeap<u32>,
 }
 
-/// Where the statements begin, in rising order.
-pub fn starts_of(alloc: Global, statements: &Statements) -> Result<Vec<Start>, AllocError>
-    requires { length statements.now ≤ 1000000 }
-    ensures { IfOk result (λ starts. AreStarts statements.now starts.items) }
-{
-    let mut starts = Vec::with_capacity(alloc, statements.len())?;
-    for number in 0..statements.len() {
-        let statement = statements.at(number);
-        starts.push(Start {
-            low: statement.span.low.value,
-            number: number as u32,
-        })?;
-    }
-    starts.sort_unstable_by_key(|start| start.low);
-    Ok(starts)
-}
-
 // Opens the statements that begin at the address or before it.
 fn open_begun(sweep: &mut Sweep, statements: &Statements, first: u128) -> Result<(), AllocError>
-    requires starts { AreStarts statements.now sweep.old.starts.items }
-    requires swept { IsSwept statements.now sweep.old.starts.items sweep.old.next (heap_items sweep.old.opened) first }
+    requires starts { AreStarts statements.now sweep.old.starts }
+    requires swept { IsSwept statements.now sweep.old.starts sweep.old.next (heap_items sweep.old.opened) first }
     ensures still { IsStill statements.now first sweep.old sweep.new }
-    ensures behind { OnOk result (AreBehind first (drop sweep.new.next sweep.new.starts.items)) }
+    ensures behind { OnOk result (AreBehind first (drop sweep.new.next sweep.new.starts)) }
 {
     while sweep.next < sweep.starts.len() {
-        let start = sweep.starts[sweep.next];
+        let start = sweep.starts.at(sweep.next);
         if first < start.low {
             return Ok(());
         }
@@ -82,13 +66,14 @@ fn top_at(opened: &mut BinaryHeap<u32>, statements: &Statements, first: u128) ->
 }
 
 // Where one of the statements to come begins that is seen over the top, the address before; else `high`.
-fn end_before(top: Option<u32>, coming: &[Start], first: u128, high: u128) -> u128
+fn end_before(top: Option<u32>, starts: &Starts, next: usize, first: u128, high: u128) -> u128
     requires ordered { first ≤ high }
-    requires behind { AreBehind first coming.now }
-    requires rising { IsNonDecreasingBy (λ start. start.low) coming.now }
-    ensures { IsFree top coming.now first high result }
+    requires behind { AreBehind first (drop next starts.now) }
+    requires rising { IsNonDecreasingBy (λ start. start.low) starts.now }
+    ensures { IsFree top (drop next starts.now) first high result }
 {
-    for start in coming {
+    for place in next..starts.len() {
+        let start = starts.at(place);
         if high < start.low {
             return high;
         }
@@ -119,9 +104,9 @@ pub fn last_address(version: Version) -> u128
     }
 }
 
-impl Sweep {
+impl<'a> Sweep<'a> {
     /// A sweep that stands at the first stretch.
-    pub fn new(alloc: Global, layers: &Layers) -> Result<Sweep, AllocError>
+    pub fn new(alloc: Global, layers: &Layers<'a>) -> Result<Sweep<'a>, AllocError>
         requires version { All (λ s. s.span.low.version ≡ layers.now.version) layers.now.statements.now }
         requires few { length layers.now.statements.now ≤ 1000000 }
         ensures first { IfOk result (λ sweep. sweep.first ≡ 0) }
@@ -132,20 +117,22 @@ impl Sweep {
             first: 0,
             last: 0,
             label: None,
-            starts: starts_of(alloc, layers.statements)?,
+            starts: Starts::new(alloc, layers.statements)?,
             next: 0,
             opened: BinaryHeap::new(alloc),
         };
         sweep.move_to(layers, 0)?;
         Ok(sweep)
     }
+}
 
+impl Sweep<'_> {
     /// Goes on to the stretch that begins at the address.
     pub fn move_to(&mut self, layers: &Layers, first: u128) -> Result<(), AllocError>
         requires version { All (λ s. s.span.low.version ≡ layers.now.version) layers.now.statements.now }
         requires within { first < 2 ^ width_of layers.now.version }
-        requires starts { AreStarts layers.now.statements.now self.old.starts.items }
-        requires swept { IsSwept layers.now.statements.now self.old.starts.items self.old.next
+        requires starts { AreStarts layers.now.statements.now self.old.starts }
+        requires swept { IsSwept layers.now.statements.now self.old.starts self.old.next
             (heap_items self.old.opened) first }
         requires edge { IsEdge layers.now.statements.now first }
         ensures first { OnOk result (self.new.first ≡ first) }
@@ -153,6 +140,8 @@ impl Sweep {
             (IsSweeping (width_of layers.now.version) layers.now.statements.now layers.now.default self.new) }
         ensures err { OnErr result (IsStill layers.now.statements.now first self.old self.new) }
     {
+        // What ended is dropped before more is opened, which would lie on top of it.
+        let _ = top_at(&mut self.opened, layers.statements, first);
         open_begun(self, layers.statements, first)?;
         let top = top_at(&mut self.opened, layers.statements, first);
         let (label, last) = self.stretch_at(layers, top, first);
@@ -166,24 +155,25 @@ impl Sweep {
     fn stretch_at(&self, layers: &Layers, top: Option<u32>, first: u128) -> (Option<LabelId>, u128)
         requires version { All (λ s. s.span.low.version ≡ layers.now.version) layers.now.statements.now }
         requires within { first < 2 ^ width_of layers.now.version }
-        requires starts { AreStarts layers.now.statements.now self.now.starts.items }
-        requires swept { IsSwept layers.now.statements.now self.now.starts.items self.now.next
+        requires starts { AreStarts layers.now.statements.now self.now.starts }
+        requires swept { IsSwept layers.now.statements.now self.now.starts self.now.next
             (heap_items self.now.opened) first }
-        requires behind { AreBehind first (drop self.now.next self.now.starts.items) }
+        requires behind { AreBehind first (drop self.now.next self.now.starts) }
         requires top { IsTop layers.now.statements.now first (heap_items self.now.opened) top }
         requires edge { IsEdge layers.now.statements.now first }
         ensures { HasStretch (width_of layers.now.version) layers.now.statements.now layers.now.default
             first result.1 result.0 }
     {
-        let coming = &self.starts[self.next..];
         match top {
             Some(number) => {
                 let statement = layers.statements.at(number as usize);
-                let last = end_before(top, coming, first, statement.span.high.value);
+                let high = statement.span.high.value;
+                let last = end_before(top, &self.starts, self.next, first, high);
                 (Some(statement.label), last)
             }
             None => {
-                let last = end_before(top, coming, first, last_address(layers.version));
+                let high = last_address(layers.version);
+                let last = end_before(top, &self.starts, self.next, first, high);
                 (layers.default, last)
             }
         }

@@ -6,4 +6,4 @@ abbrev pub invariant-loop-sweep : goal.invariant-loop-sweep
 invariant-loop-sweep l = IsStill l.statements l.first l.initial.sweep l.sweep
 
 abbrev pub decreases-loop-sweep : goal.decreases-loop-sweep
-decreases-loop-sweep l = length l.sweep.starts.items - l.sweep.next
+decreases-loop-sweep l = length l.sweep.starts - l.sweep.next

@@ -2,6 +2,9 @@ use Rattle.std.proofs.Common.{arith}
 use Rattle.pmap_text.proofs.Swept.{swept_closed, swept_later}
 use Rattle.pmap_text.proofs.sweep.Sweep.move_to.Goals as goal
 
+pub open_begun-requires-clause-swept : goal.open_begun-requires-clause-swept
+open_begun-requires-clause-swept c = swept_closed _ _ _ _ _ c.args.first c.requires.swept c.top_at.ensures.closes
+
 pub stretch_at-label-requires-clause-swept : goal.stretch_at-label-requires-clause-swept
 stretch_at-label-requires-clause-swept c =
     swept_closed _ _ _ _ _ c.args.first c.open_begun.ensures.still.swept c.top_at-top.ensures.closes

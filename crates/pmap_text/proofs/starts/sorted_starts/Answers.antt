@@ -1,7 +1,7 @@
 use Rattle.std.proofs.Common.{arith, rules}
 use Rattle.std.proofs.lemmas.List.Sorted.{IsNonDecreasingBy-from_sort_by_key}
-use Rattle.pmap_text.proofs.Starts.{first_all, first_more}
-use Rattle.pmap_text.proofs.sweep.starts_of.Goals as goal
+use Rattle.pmap_text.proofs.StartLists.{first_all, first_more}
+use Rattle.pmap_text.proofs.starts.sorted_starts.Goals as goal
 
 pub loop-number-preserved : goal.loop-number-preserved
 loop-number-preserved c =

@@ -1,0 +1,106 @@
+ghost use Rattle.std.specs.Prelude.{◌≡◌, ◌<◌, ◌≤◌, Some, IsTrue, IfOk, length, slice_get};
+ghost use Rattle.std.specs.List.Sorted.{IsNonDecreasingBy};
+ghost use Rattle.pmap_text.specs.Starting.{AreStarts};
+
+use crate::start::Start;
+use crate::statements::Statements;
+use std::alloc::{AllocError, Global};
+use std::marker::Model;
+
+/// Where statements begin, in rising order. Where they are in that order as they stand, as in most texts, nothing is
+/// copied and nothing is sorted.
+#[derive(Drop)]
+pub struct Starts<'a> {
+    statements: &'a Statements,
+    sorted: Option<Vec<Start>>,
+}
+
+impl<'a> Model for Starts<'a> {
+    ghost use Rattle.std.specs.Prelude.{List, ◌≤◌, length, option_map};
+    ghost use Rattle.pmap_text.specs.declared.start.Start.{Start};
+    ghost use Rattle.pmap_text.specs.Starting.{starts_by};
+
+    ghost Value = { List Start };
+
+    ghost view = { λ s. starts_by s.statements.now (option_map (λ v. v.items) s.sorted) };
+
+    ghost invariant = { λ s. length s.statements.now ≤ 1000000 };
+}
+
+// Whether no statement begins before an earlier one.
+fn are_rising(statements: &Statements) -> bool
+    ensures { IsTrue result → IsNonDecreasingBy (λ s. s.span.low.value) statements.now }
+{
+    for place in 1..statements.len() {
+        if statements.at(place).span.low.value < statements.at(place - 1).span.low.value {
+            return false;
+        }
+    }
+    true
+}
+
+// Where the statements begin, sorted.
+fn sorted_starts(alloc: Global, statements: &Statements) -> Result<Vec<Start>, AllocError>
+    requires { length statements.now ≤ 1000000 }
+    ensures { IfOk result (λ starts. AreStarts statements.now starts.items) }
+{
+    let mut starts = Vec::with_capacity(alloc, statements.len())?;
+    for number in 0..statements.len() {
+        let statement = statements.at(number);
+        starts.push(Start {
+            low: statement.span.low.value,
+            number: number as u32,
+        })?;
+    }
+    starts.sort_unstable_by_key(|start| start.low);
+    Ok(starts)
+}
+
+impl<'a> Starts<'a> {
+    /// Where these statements begin.
+    pub fn new(alloc: Global, statements: &'a Statements) -> Result<Starts<'a>, AllocError>
+        requires { length statements.now ≤ 1000000 }
+        ensures { IfOk result (λ starts. AreStarts statements.now starts) }
+    {
+        if are_rising(statements) {
+            return Ok(Starts {
+                statements,
+                sorted: None,
+            });
+        }
+        let sorted = sorted_starts(alloc, statements)?;
+        Ok(Starts {
+            statements,
+            sorted: Some(sorted),
+        })
+    }
+}
+
+impl Starts<'_> {
+    /// How many there are.
+    pub fn len(&self) -> usize
+        ensures { result ≡ length self.now }
+    {
+        match &self.sorted {
+            Some(sorted) => sorted.len(),
+            None => self.statements.len(),
+        }
+    }
+
+    /// The one at a place.
+    pub fn at(&self, place: usize) -> Start
+        requires { place < length self.now }
+        ensures { slice_get self.now place ≡ Some result }
+    {
+        match &self.sorted {
+            Some(sorted) => sorted[place],
+            None => {
+                let statement = self.statements.at(place);
+                Start {
+                    low: statement.span.low.value,
+                    number: place as u32,
+                }
+            }
+        }
+    }
+}
