@@ -78,6 +78,6 @@ in_own_order ss up = record {
       let lower = get_or_from_slice_get (starts_from 0 ss) i (start_of i a.0) d (start_from ss i a.0 a.1) in
       let upper = get_or_from_slice_get (starts_from 0 ss) j (start_of j b.0) d (start_from ss j b.0 b.1) in
       let low : a.0.span.low.value ≤ b.0.span.low.value =
-          rw (get_or_from_slice_get ss i a.0 a.0 a.1, get_or_from_slice_get ss j b.0 a.0 b.1) at (up i j a.0 le within) in
+      rw (get_or_from_slice_get ss i a.0 a.0 a.1, get_or_from_slice_get ss j b.0 a.0 b.1) at (up i j a.0 le within) in
       rw (lower, upper) low;
 }

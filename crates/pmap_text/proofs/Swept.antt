@@ -108,7 +108,7 @@ Contains_from starts next place e le listed =
     let within = slice_get_within starts place e listed in
     let same : next + (place - next) ≡ place = omega (arith, le) in
     let is : get_or (drop next starts) (place - next) e ≡ e =
-        get_or-drop next starts (place - next) e ∙ ap (λ (k : ℕ). get_or starts k e) same ∙ get_or_from_slice_get starts place e e listed in
+    get_or-drop next starts (place - next) e ∙ ap (λ (k : ℕ). get_or starts k e) same ∙ get_or_from_slice_get starts place e e listed in
     (place - next, omega (arith, length-drop next starts, within, le), is)
 
 -- so it lies behind what they lie behind

@@ -17,7 +17,7 @@ loop-place-preserved c = λ k d from below.
           let starts = c.args.starts.now in
           let here : k ≡ c.loop-place.place = omega (arith, below, more) in
           let is : get_or starts k d ≡ c.at-start.result =
-              ap (λ (i : ℕ). get_or starts i d) here ∙ get_or_from_slice_get starts c.loop-place.place c.at-start.result d c.at-start.ensures in
+          ap (λ (i : ℕ). get_or starts i d) here ∙ get_or_from_slice_get starts c.loop-place.place c.at-start.result d c.at-start.ensures in
           let seen : false ≡ true = c.if-is_over.ensures.1 (rw is at over) in
           absurd cc
     ]
