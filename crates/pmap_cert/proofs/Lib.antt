@@ -23,6 +23,7 @@ pub mod PackedLines
 pub mod NodeWalk
 pub mod ReadingSteps
 pub mod Written
+pub mod PlainLines
 pub mod Equal
 pub mod MapLabels
 pub mod MapLimits

@@ -1,18 +1,17 @@
 //! Certificates' texts, which are read line by line.
-ghost use Rattle.std.specs.Prelude.{◌≡◌, ◌≢◌, ◌-◌, ◌<◌, ◌≤◌, [], ◌∷◌, Ok, Err, false, length, IfErr, IfOk, IsTrue};
-ghost use Rattle.prefix_keys.specs.Version.{width_of};
+ghost use Rattle.std.specs.Prelude.{◌≡◌, ◌≢◌, ◌-◌, ◌<◌, ◌≤◌, [], Ok, Err, false, length, IfErr, IfOk, IsTrue, OnOk, if◌then◌else◌};
 ghost use Rattle.pmap_text.specs.Label.{has_label, is_label as is_label_text};
 ghost use Rattle.pmap_cert.specs.Certificate.{certificate_of};
 ghost use Rattle.pmap_cert.specs.CertificateForm.{HasFormatText};
 ghost use Rattle.pmap_cert.specs.CertificateModel.{CertificateModel};
-ghost use Rattle.pmap_cert.specs.CertificateReading.{label_at, labels_at};
+ghost use Rattle.pmap_cert.specs.CertificateReading.{is_ended, label_at, labels_at};
 ghost use Rattle.pmap_cert.specs.CertificateText.{certificate_text};
 ghost use Rattle.pmap_cert.specs.Format.{IsNodeOf, format_number};
 ghost use Rattle.pmap_cert.specs.FormatReading.{format_reading, line_due_at};
 ghost use Rattle.pmap_cert.specs.Node.{HasChainForm, tree_of};
 ghost use Rattle.pmap_cert.specs.ReadNodes.{IsReadNode, node_due_at};
-ghost use Rattle.pmap_cert.specs.Words.{header_model, line_model};
-ghost use Rattle.pmap_cert.specs.declared.fault.CertFaultKind.TheVariants.{NoMemory};
+ghost use Rattle.pmap_cert.specs.Words.{line_model};
+ghost use Rattle.pmap_cert.specs.declared.fault.CertFaultKind.TheVariants.{BadNode, NoMemory, NodesMissing};
 
 use crate::certificate::Certificate;
 use crate::fault::{CertFault, CertFaultKind};
@@ -74,87 +73,107 @@ fn read_labels<'a>(
     Ok((labels, lines))
 }
 
-// The line of the node that is due. The set of an inner node or a chain is kept, and the bits of a chain.
-fn read_due<'a>(
-    kept: &mut Kept,
-    frame: &Frame,
-    lines: &Lines<'a>,
-) -> Result<(NodeLine, Lines<'a>), CertFault>
-    ensures ok { IfOk result (λ x. line_due_at (format_number frame.now.format) frame.now.width
-        (length frame.now.labels.now) lines.now ≡ Ok (line_model kept.new.set.items kept.new.bits.items x.0, x.1)) }
+// The line of the node that is due, behind which the lines go on. The set of an inner node or a chain is kept, and the bits
+// of a chain. Lines that are plainly those of leaves and inner nodes are read in one pass.
+fn read_due(kept: &mut Kept, frame: &Frame, lines: &mut Lines) -> Result<NodeLine, CertFault>
+    ensures ok { IfOk result (λ line. line_due_at (format_number frame.now.format) frame.now.width
+        (length frame.now.labels.now) lines.old ≡ Ok (line_model kept.new.set.items kept.new.bits.items line, lines.new)) }
     ensures err { IfErr result (λ fault. fault.kind ≢ NoMemory → line_due_at (format_number frame.now.format)
-        frame.now.width (length frame.now.labels.now) lines.now ≡ Err fault) }
+        frame.now.width (length frame.now.labels.now) lines.old ≡ Err fault) }
     ensures memory { IfErr result (λ fault. fault.kind ≡ NoMemory → fault.line ≡ 0) }
 {
-    match lines.next() {
-        Some((line, after)) => match node_line(kept, frame, line)? {
-            Some(found) => Ok((found, after)),
-            None => Err(lines.fault(CertFaultKind::BadNode)),
-        },
-        None => {
-            if lines.is_ended() {
-                Err(lines.fault(CertFaultKind::NodesMissing))
-            } else {
-                Err(lines.fault(CertFaultKind::BadNode))
-            }
-        }
+    let count = frame.labels.len() as u64;
+    if let Some((id, after)) = lines.next_leaf(count) {
+        *lines = after;
+        return Ok(NodeLine::Leaf(id));
+    }
+    if let Some((cost, after)) = lines.next_inner(&mut kept.set, count)? {
+        *lines = after;
+        return Ok(NodeLine::Inner(cost));
+    }
+    read_words(kept, frame, lines)
+}
+
+// The same by the words of the line.
+fn read_words(kept: &mut Kept, frame: &Frame, lines: &mut Lines) -> Result<NodeLine, CertFault>
+    ensures ok { IfOk result (λ line. line_due_at (format_number frame.now.format) frame.now.width
+        (length frame.now.labels.now) lines.old ≡ Ok (line_model kept.new.set.items kept.new.bits.items line, lines.new)) }
+    ensures err { IfErr result (λ fault. fault.kind ≢ NoMemory → line_due_at (format_number frame.now.format)
+        frame.now.width (length frame.now.labels.now) lines.old ≡ Err fault) }
+    ensures memory { IfErr result (λ fault. fault.kind ≡ NoMemory → fault.line ≡ 0) }
+{
+    let Some((line, after)) = lines.next() else {
+        return Err(lines.fault(missing_kind(lines)));
+    };
+    let Some(found) = node_line(kept, frame, line)? else {
+        return Err(lines.fault(CertFaultKind::BadNode));
+    };
+    *lines = after;
+    Ok(found)
+}
+
+// What is wrong where a node is due and no line comes.
+fn missing_kind(lines: &Lines) -> CertFaultKind
+    ensures { result ≡ (if is_ended lines.now.pieces then NodesMissing else BadNode) }
+{
+    if lines.is_ended() {
+        CertFaultKind::NodesMissing
+    } else {
+        CertFaultKind::BadNode
     }
 }
 
-// Adds the node that is due and those below it, with at most so many one below the other.
-fn read_node<'a>(
+// Adds the node that is due and those below it, with at most so many one below the other. The lines go on behind them.
+fn read_node(
     nodes: &mut Nodes,
     kept: &mut Kept,
     frame: &Frame,
     room: u32,
-    lines: &Lines<'a>,
-) -> Result<Lines<'a>, CertFault>
-    ensures ok { IfOk result (IsReadNode frame.now.format frame.now.width frame.now.labels.now room lines.now
-        nodes.old nodes.new) }
+    lines: &mut Lines,
+) -> Result<(), CertFault>
+    ensures ok { OnOk result (IsReadNode frame.now.format frame.now.width frame.now.labels.now room lines.old
+        nodes.old nodes.new lines.new) }
     ensures err { IfErr result (λ fault. fault.kind ≢ NoMemory →
-        node_due_at frame.now.format frame.now.width frame.now.labels.now room lines.now ≡ Err fault) }
+        node_due_at frame.now.format frame.now.width frame.now.labels.now room lines.old ≡ Err fault) }
     ensures memory { IfErr result (λ fault. fault.kind ≡ NoMemory → fault.line ≡ 0) }
 {
-    let (line, after) = read_due(kept, frame, lines)?;
+    let deepest = lines.fault(CertFaultKind::TooDeep);
+    let line = read_due(kept, frame, lines)?;
     match line {
         NodeLine::Leaf(id) => {
             nodes.push_leaf(id)?;
-            Ok(after)
+            Ok(())
         }
         NodeLine::Inner(cost) => {
             if room == 0 {
-                return Err(lines.fault(CertFaultKind::TooDeep));
+                return Err(deepest);
             }
             nodes.push_inner(cost, kept.set.as_slice())?;
-            let middle = read_node(nodes, kept, frame, room - 1, &after)?;
-            let end = read_node(nodes, kept, frame, room - 1, &middle)?;
-            Ok(end)
+            read_node(nodes, kept, frame, room - 1, lines)?;
+            read_node(nodes, kept, frame, room - 1, lines)?;
+            Ok(())
         }
         NodeLine::Chain(cost, side) => {
             let deep = kept.bits.len();
             if deep > room as usize {
-                return Err(lines.fault(CertFaultKind::TooDeep));
+                return Err(deepest);
             }
             nodes.push_chain(cost, kept.bits.as_slice(), side, kept.set.as_slice())?;
-            let end = read_node(nodes, kept, frame, room - deep as u32, &after)?;
-            Ok(end)
+            read_node(nodes, kept, frame, room - deep as u32, lines)?;
+            Ok(())
         }
     }
 }
 
-// The root with all nodes below it, with at most so many one below the other.
-fn read_root<'a>(
-    alloc: Global,
-    frame: &Frame,
-    lines: &Lines<'a>,
-) -> Result<(Root, Lines<'a>), CertFault>
-    ensures ok { IfOk result (λ x.
-        node_due_at frame.now.format frame.now.width frame.now.labels.now frame.now.width lines.now
-        ≡ Ok (tree_of frame.now.labels.now x.0, x.1)) }
-    ensures form { IfOk result (λ x. HasChainForm (length frame.now.labels.now) x.0 frame.now.width) }
-    ensures kind { IfOk result (λ x. IsNodeOf frame.now.format x.0) }
+// The root with all nodes below it, with at most so many one below the other. The lines go on behind them.
+fn read_root(alloc: Global, frame: &Frame, lines: &mut Lines) -> Result<Root, CertFault>
+    ensures ok { IfOk result (λ root.
+        node_due_at frame.now.format frame.now.width frame.now.labels.now frame.now.width lines.old
+        ≡ Ok (tree_of frame.now.labels.now root, lines.new)) }
+    ensures form { IfOk result (λ root. HasChainForm (length frame.now.labels.now) root frame.now.width) }
+    ensures kind { IfOk result (λ root. IsNodeOf frame.now.format root) }
     ensures err { IfErr result (λ fault. fault.kind ≢ NoMemory →
-        node_due_at frame.now.format frame.now.width frame.now.labels.now frame.now.width lines.now ≡ Err fault) }
+        node_due_at frame.now.format frame.now.width frame.now.labels.now frame.now.width lines.old ≡ Err fault) }
     ensures memory { IfErr result (λ fault. fault.kind ≡ NoMemory → fault.line ≡ 0) }
 {
     let mut nodes = Nodes::new(alloc);
@@ -162,8 +181,8 @@ fn read_root<'a>(
         set: Vec::new(alloc),
         bits: Vec::new(alloc),
     };
-    let rest = read_node(&mut nodes, &mut kept, frame, frame.width, lines)?;
-    Ok((Root::new(nodes), rest))
+    read_node(&mut nodes, &mut kept, frame, frame.width, lines)?;
+    Ok(Root::new(nodes))
 }
 
 // The certificate of a text, or the first fault.
@@ -173,13 +192,13 @@ fn read_all(alloc: Global, text: &[u8]) -> Result<Certificate, CertFault>
     ensures memory { IfErr result (λ fault. fault.kind ≡ NoMemory → fault.line ≡ 0) }
 {
     let (header, lines) = read_header(&Lines::new(text))?;
-    let (labels, lines) = read_labels(alloc, header.count, lines)?;
+    let (labels, mut rest) = read_labels(alloc, header.count, lines)?;
     let frame = Frame {
         format: header.format,
         width: header.version.width(),
         labels: &labels,
     };
-    let (root, rest) = read_root(alloc, &frame, &lines)?;
+    let root = read_root(alloc, &frame, &mut rest)?;
     if rest.is_ended() {
         Ok(Certificate::of_format(header.format, header.version, labels, root))
     } else {

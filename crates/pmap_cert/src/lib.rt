@@ -32,6 +32,7 @@ mod format;
 mod laws;
 mod lines;
 mod nodes;
+mod plain_line;
 mod root;
 mod words;
 mod writing;

@@ -18,41 +18,41 @@ returns-in_err-line-clause-err t c =
 pub returns-then-room-eq0-clause-err : goal.returns-then-room-eq0-clause-err
 returns-then-room-eq0-clause-err t c = λ _.
     let frame = c.args.frame.now in
-    rw (c.if-room-eq0.true, c.fault.ensures)
-    (node-deep (due_in frame.format frame.width frame.labels.now) frame.labels.now c.args.lines.now c.in_ok-line.after c.in-Inner.cost (map (λ (id : LabelId). id.0) c.read_due.new.kept.set.items) (rw c.in-Inner.is at c.in_ok-line.ensures.ok))
+    rw (c.if-room-eq0.true, c.fault-deepest.ensures)
+    (node-deep (due_in frame.format frame.width frame.labels.now) frame.labels.now c.args.lines.now c.read_due.new.lines c.in-Inner.cost (map (λ (id : LabelId). id.0) c.read_due.new.kept.set.items) (rw c.in-Inner.is at c.in_ok-line.ensures.ok))
 
-pub returns-in_err-middle-in-Inner-clause-err : goal.returns-in_err-middle-in-Inner-clause-err
-returns-in_err-middle-in-Inner-clause-err t c =
+pub returns-in_err-read_node-in-Inner-clause-err : goal.returns-in_err-read_node-in-Inner-clause-err
+returns-in_err-read_node-in-Inner-clause-err t c =
     let frame = c.args.frame.now in
-    let p = err_from_is_err_and c.from_residual-in_err-middle-in-Inner.result c.from_residual-in_err-middle-in-Inner.ensures.1 in
+    let p = err_from_is_err_and c.from_residual-in_err-read_node-in-Inner.result c.from_residual-in_err-read_node-in-Inner.ensures.1 in
     rw (p.1, p.2)
-    (λ some. node-lower_fault (due_in frame.format frame.width frame.labels.now) frame.labels.now c.args.lines.now c.in_ok-line.after c.in-Inner.cost (map (λ (id : LabelId). id.0) c.read_due.new.kept.set.items) (rw c.in-Inner.is at c.in_ok-line.ensures.ok)
-    c.args.room (omega arith) c.in_err-middle-in-Inner.field-0.0 (c.in_err-middle-in-Inner.ensures.err some))
+    (λ some. node-lower_fault (due_in frame.format frame.width frame.labels.now) frame.labels.now c.args.lines.now c.read_due.new.lines c.in-Inner.cost (map (λ (id : LabelId). id.0) c.read_due.new.kept.set.items) (rw c.in-Inner.is at c.in_ok-line.ensures.ok)
+    c.args.room (omega arith) c.in_err-read_node-in-Inner.field-0.0 (c.in_err-read_node-in-Inner.ensures.err some))
 
-pub returns-in_err-end-in-Inner-clause-err : goal.returns-in_err-end-in-Inner-clause-err
-returns-in_err-end-in-Inner-clause-err t c =
+pub returns-in_err-read_node-in-Inner-2-clause-err : goal.returns-in_err-read_node-in-Inner-2-clause-err
+returns-in_err-read_node-in-Inner-2-clause-err t c =
     let frame = c.args.frame.now in
-    let p = err_from_is_err_and c.from_residual-in_err-end-in-Inner.result c.from_residual-in_err-end-in-Inner.ensures.1 in
-    let low = c.in_ok-middle-in-Inner.ensures.ok in
+    let p = err_from_is_err_and c.from_residual-in_err-read_node-in-Inner-2.result c.from_residual-in_err-read_node-in-Inner-2.ensures.1 in
+    let low = c.in_ok-read_node-in-Inner.ensures.ok in
     rw (p.1, p.2)
-    (λ some. node-upper_fault (due_in frame.format frame.width frame.labels.now) frame.labels.now c.args.lines.now c.in_ok-line.after c.in-Inner.cost (map (λ (id : LabelId). id.0) c.read_due.new.kept.set.items) (rw c.in-Inner.is at c.in_ok-line.ensures.ok)
-    c.args.room (omega arith) (tree_of frame.labels.now low.node) c.in_ok-middle-in-Inner.middle low.read
-    c.in_err-end-in-Inner.field-0.0 (c.in_err-end-in-Inner.ensures.err some))
+    (λ some. node-upper_fault (due_in frame.format frame.width frame.labels.now) frame.labels.now c.args.lines.now c.read_due.new.lines c.in-Inner.cost (map (λ (id : LabelId). id.0) c.read_due.new.kept.set.items) (rw c.in-Inner.is at c.in_ok-line.ensures.ok)
+    c.args.room (omega arith) (tree_of frame.labels.now low.node) c.read_node.new.lines low.read
+    c.in_err-read_node-in-Inner-2.field-0.0 (c.in_err-read_node-in-Inner-2.ensures.err some))
 
 pub returns-in_ok-push_leaf-in-Leaf-clause-ok : goal.returns-in_ok-push_leaf-in-Leaf-clause-ok
 returns-in_ok-push_leaf-in-Leaf-clause-ok t c =
     let frame = c.args.frame.now in
-    read-leaf frame.format frame.width frame.labels.now c.args.room c.args.lines.now c.in_ok-line.after c.in-Leaf.id.0 c.args.nodes.now c.push_leaf.new.self (rw c.in-Leaf.is at c.in_ok-line.ensures.ok)
+    read-leaf frame.format frame.width frame.labels.now c.args.room c.args.lines.now c.read_due.new.lines c.in-Leaf.id.0 c.args.nodes.now c.push_leaf.new.self (rw c.in-Leaf.is at c.in_ok-line.ensures.ok)
     c.in_ok-push_leaf-in-Leaf.ensures.ok
 
-pub returns-in_ok-end-in-Inner-clause-ok : goal.returns-in_ok-end-in-Inner-clause-ok
-returns-in_ok-end-in-Inner-clause-ok t c =
+pub returns-in_ok-read_node-in-Inner-2-clause-ok : goal.returns-in_ok-read_node-in-Inner-2-clause-ok
+returns-in_ok-read_node-in-Inner-2-clause-ok t c =
     let frame = c.args.frame.now in
-    read-inner frame.format frame.width frame.labels.now c.args.room c.args.lines.now c.in_ok-line.after c.in_ok-middle-in-Inner.middle c.in_ok-end-in-Inner.end c.in-Inner.cost
+    read-inner frame.format frame.width frame.labels.now c.args.room c.args.lines.now c.read_due.new.lines c.read_node.new.lines c.read_node-in-Inner.new.lines c.in-Inner.cost
     (map (λ (id : LabelId). id.0) c.read_due.new.kept.set.items) c.args.nodes.now c.push_inner.new.self c.read_node.new.nodes c.read_node-in-Inner.new.nodes
     (rw c.in-Inner.is at c.in_ok-line.ensures.ok) (omega arith)
     (c.in_ok-push_inner-in-Inner.ensures.ok ∙ ap (λ (l : List LabelId). c.args.nodes.now ++ PlainLine (InnerLine c.in-Inner.cost (map (λ (id : LabelId). id.0) l)) ∷ []) c.as_slice.ensures.value)
-    c.in_ok-middle-in-Inner.ensures.ok c.in_ok-end-in-Inner.ensures.ok
+    c.in_ok-read_node-in-Inner.ensures.ok c.in_ok-read_node-in-Inner-2.ensures.ok
 
 pub returns-then-deep-room-clause-err : goal.returns-then-deep-room-clause-err
 returns-then-deep-room-clause-err t c = λ _.
@@ -60,11 +60,11 @@ returns-then-deep-room-clause-err t c = λ _.
     let bits : List Bool = c.read_due.new.kept.bits.items in
     let numbers : List ℕ = map (λ (id : LabelId). id.0) c.read_due.new.kept.set.items in
     let due = rw c.in-Chain.is at c.in_ok-line.ensures.ok in
-    let some = chain-bits frame.format frame.width frame.labels.now c.args.lines.now c.in_ok-line.after c.in-Chain.cost bits c.in-Chain.side.0 numbers due in
+    let some = chain-bits frame.format frame.width frame.labels.now c.args.lines.now c.read_due.new.lines c.in-Chain.cost bits c.in-Chain.side.0 numbers due in
     let deep : c.len-deep.result ≡ length bits = omega (arith, c.len-deep.ensures) in
     let more = c.if-deep-room.true in
-    rw c.fault-then-deep-room.ensures
-    (chain-deep (due_in frame.format frame.width frame.labels.now) frame.labels.now c.args.lines.now c.in_ok-line.after c.in-Chain.cost numbers bits c.in-Chain.side.0 c.args.room due
+    rw c.fault-deepest.ensures
+    (chain-deep (due_in frame.format frame.width frame.labels.now) frame.labels.now c.args.lines.now c.read_due.new.lines c.in-Chain.cost numbers bits c.in-Chain.side.0 c.args.room due
     (omega arith) some)
 
 pub read_node-requires-in-Chain : goal.read_node-requires-in-Chain
@@ -73,40 +73,40 @@ read_node-requires-in-Chain t c =
     let bits : List Bool = c.read_due.new.kept.bits.items in
     let numbers : List ℕ = map (λ (id : LabelId). id.0) c.read_due.new.kept.set.items in
     let due = rw c.in-Chain.is at c.in_ok-line.ensures.ok in
-    let some = chain-bits frame.format frame.width frame.labels.now c.args.lines.now c.in_ok-line.after c.in-Chain.cost bits c.in-Chain.side.0 numbers due in
+    let some = chain-bits frame.format frame.width frame.labels.now c.args.lines.now c.read_due.new.lines c.in-Chain.cost bits c.in-Chain.side.0 numbers due in
     let deep : c.len-deep.result ≡ length bits = omega (arith, c.len-deep.ensures) in
     let fits = c.if-deep-room.false in
     let less = c.decreases in
     (omega arith, tt)
 
-pub returns-in_err-end-in-Chain-clause-err : goal.returns-in_err-end-in-Chain-clause-err
-returns-in_err-end-in-Chain-clause-err t c =
+pub returns-in_err-read_node-in-Chain-clause-err : goal.returns-in_err-read_node-in-Chain-clause-err
+returns-in_err-read_node-in-Chain-clause-err t c =
     let frame = c.args.frame.now in
     let bits : List Bool = c.read_due.new.kept.bits.items in
     let numbers : List ℕ = map (λ (id : LabelId). id.0) c.read_due.new.kept.set.items in
     let due = rw c.in-Chain.is at c.in_ok-line.ensures.ok in
-    let some = chain-bits frame.format frame.width frame.labels.now c.args.lines.now c.in_ok-line.after c.in-Chain.cost bits c.in-Chain.side.0 numbers due in
+    let some = chain-bits frame.format frame.width frame.labels.now c.args.lines.now c.read_due.new.lines c.in-Chain.cost bits c.in-Chain.side.0 numbers due in
     let deep : c.len-deep.result ≡ length bits = omega (arith, c.len-deep.ensures) in
     let fits = c.if-deep-room.false in
     let due_by = due_in frame.format frame.width frame.labels.now in
-    let p = err_from_is_err_and c.from_residual-in_err-end-in-Chain.result c.from_residual-in_err-end-in-Chain.ensures.1 in
+    let p = err_from_is_err_and c.from_residual-in_err-read_node-in-Chain.result c.from_residual-in_err-read_node-in-Chain.ensures.1 in
     rw (p.1, p.2)
-    (λ some_fault. chain-in due_by frame.labels.now c.args.lines.now c.in_ok-line.after c.in-Chain.cost numbers bits c.in-Chain.side.0 c.args.room due (omega arith) some
-    ∙ ap (end_then due_by frame.labels.now c.args.lines.now c.in_ok-line.after c.in-Chain.cost numbers bits c.in-Chain.side.0)
-    (ap (λ (n : ℕ). nodes_at due_by frame.labels.now (c.args.room - n) 0 c.in_ok-line.after) (sym deep) ∙ c.in_err-end-in-Chain.ensures.err some_fault))
+    (λ some_fault. chain-in due_by frame.labels.now c.args.lines.now c.read_due.new.lines c.in-Chain.cost numbers bits c.in-Chain.side.0 c.args.room due (omega arith) some
+    ∙ ap (end_then due_by frame.labels.now c.args.lines.now c.read_due.new.lines c.in-Chain.cost numbers bits c.in-Chain.side.0)
+    (ap (λ (n : ℕ). nodes_at due_by frame.labels.now (c.args.room - n) 0 c.read_due.new.lines) (sym deep) ∙ c.in_err-read_node-in-Chain.ensures.err some_fault))
 
-pub returns-in_ok-end-in-Chain-clause-ok : goal.returns-in_ok-end-in-Chain-clause-ok
-returns-in_ok-end-in-Chain-clause-ok t c =
+pub returns-in_ok-read_node-in-Chain-clause-ok : goal.returns-in_ok-read_node-in-Chain-clause-ok
+returns-in_ok-read_node-in-Chain-clause-ok t c =
     let frame = c.args.frame.now in
     let bits : List Bool = c.read_due.new.kept.bits.items in
     let numbers : List ℕ = map (λ (id : LabelId). id.0) c.read_due.new.kept.set.items in
     let due = rw c.in-Chain.is at c.in_ok-line.ensures.ok in
-    let some = chain-bits frame.format frame.width frame.labels.now c.args.lines.now c.in_ok-line.after c.in-Chain.cost bits c.in-Chain.side.0 numbers due in
+    let some = chain-bits frame.format frame.width frame.labels.now c.args.lines.now c.read_due.new.lines c.in-Chain.cost bits c.in-Chain.side.0 numbers due in
     let deep : c.len-deep.result ≡ length bits = omega (arith, c.len-deep.ensures) in
     let fits = c.if-deep-room.false in
-    read-chain frame.format frame.width frame.labels.now c.args.room c.args.lines.now c.in_ok-line.after c.in_ok-end-in-Chain.end c.in-Chain.cost bits c.in-Chain.side.0 numbers
+    read-chain frame.format frame.width frame.labels.now c.args.room c.args.lines.now c.read_due.new.lines c.read_node-in-Chain.new.lines c.in-Chain.cost bits c.in-Chain.side.0 numbers
     c.args.nodes.now c.push_chain.new.self c.read_node-in-Chain.new.nodes due (omega arith)
     (c.in_ok-push_chain-in-Chain.ensures.ok
     ∙ (λ i. c.args.nodes.now ++ ChainLine c.in-Chain.cost (c.as_slice-in-Chain.ensures.value i) c.in-Chain.side.0 (map (λ (id : LabelId). id.0) (c.as_slice-in-Chain-2.ensures.value i)) ∷ []))
-    (subst (λ (n : ℕ). IsReadNode frame.format frame.width frame.labels.now (c.args.room - n) c.in_ok-line.after c.push_chain.new.self c.read_node-in-Chain.new.nodes c.in_ok-end-in-Chain.end)
-    deep c.in_ok-end-in-Chain.ensures.ok)
+    (subst (λ (n : ℕ). IsReadNode frame.format frame.width frame.labels.now (c.args.room - n) c.read_due.new.lines c.push_chain.new.self c.read_node-in-Chain.new.nodes c.read_node-in-Chain.new.lines)
+    deep c.in_ok-read_node-in-Chain.ensures.ok)

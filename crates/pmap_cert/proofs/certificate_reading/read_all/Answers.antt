@@ -25,7 +25,7 @@ returns-in_err-root-clause-err c =
     let labels = c.in_ok-labels in
     rw (p.1, p.2)
     (λ some. reading-root_fault c.args.text.now (format_number header.header.format) header.header.version header.header.count header.lines (rw c.new.ensures at header.ensures.ok)
-    labels.labels labels.lines labels.ensures.ok c.in_err-root.field-0.0 (rw c.width.ensures at (c.in_err-root.ensures.err some)))
+    labels.labels labels.rest labels.ensures.ok c.in_err-root.field-0.0 (rw c.width.ensures at (c.in_err-root.ensures.err some)))
 
 pub returns-then-is_ended-clause-ok : goal.returns-then-is_ended-clause-ok
 returns-then-is_ended-clause-ok c =
@@ -34,7 +34,7 @@ returns-then-is_ended-clause-ok c =
     let root = c.in_ok-root in
     let made = c.of_format.ensures in
     reading-ended c.args.text.now (format_number header.header.format) header.header.version header.header.count header.lines (rw c.new.ensures at header.ensures.ok)
-    labels.labels labels.lines labels.ensures.ok (tree_of labels.labels root.root) root.rest (rw c.width.ensures at root.ensures.ok)
+    labels.labels labels.rest labels.ensures.ok (tree_of labels.labels root.root) c.read_root.new.lines (rw c.width.ensures at root.ensures.ok)
     (sym c.is_ended.ensures ∙ c.if-is_ended.true)
     ∙ (λ i. Ok (record {
       format = format_number (sym made.format i);
@@ -50,5 +50,5 @@ returns-else-is_ended-clause-err c = λ _.
     let root = c.in_ok-root in
     rw c.fault.ensures
     (reading-left c.args.text.now (format_number header.header.format) header.header.version header.header.count header.lines (rw c.new.ensures at header.ensures.ok)
-    labels.labels labels.lines labels.ensures.ok (tree_of labels.labels root.root) root.rest (rw c.width.ensures at root.ensures.ok)
+    labels.labels labels.rest labels.ensures.ok (tree_of labels.labels root.root) c.read_root.new.lines (rw c.width.ensures at root.ensures.ok)
     (sym c.is_ended.ensures ∙ c.if-is_ended.false))
