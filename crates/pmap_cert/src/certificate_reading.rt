@@ -73,11 +73,12 @@ fn read_labels<'a>(
     Ok((labels, lines))
 }
 
-// The line of the node that is due, behind which the lines go on. The set of an inner node or a chain is kept, and the bits
-// of a chain. Lines that are plainly those of leaves and inner nodes are read in one pass.
+// The line of the node that is due, behind which the lines go on. The set of an inner node or a chain is kept, and the
+// bits of a chain. Lines that are plainly those of leaves and inner nodes are read in one pass.
 fn read_due(kept: &mut Kept, frame: &Frame, lines: &mut Lines) -> Result<NodeLine, CertFault>
     ensures ok { IfOk result (λ line. line_due_at (format_number frame.now.format) frame.now.width
-        (length frame.now.labels.now) lines.old ≡ Ok (line_model kept.new.set.items kept.new.bits.items line, lines.new)) }
+        (length frame.now.labels.now) lines.old
+        ≡ Ok (line_model kept.new.set.items kept.new.bits.items line, lines.new)) }
     ensures err { IfErr result (λ fault. fault.kind ≢ NoMemory → line_due_at (format_number frame.now.format)
         frame.now.width (length frame.now.labels.now) lines.old ≡ Err fault) }
     ensures memory { IfErr result (λ fault. fault.kind ≡ NoMemory → fault.line ≡ 0) }
@@ -97,7 +98,8 @@ fn read_due(kept: &mut Kept, frame: &Frame, lines: &mut Lines) -> Result<NodeLin
 // The same by the words of the line.
 fn read_words(kept: &mut Kept, frame: &Frame, lines: &mut Lines) -> Result<NodeLine, CertFault>
     ensures ok { IfOk result (λ line. line_due_at (format_number frame.now.format) frame.now.width
-        (length frame.now.labels.now) lines.old ≡ Ok (line_model kept.new.set.items kept.new.bits.items line, lines.new)) }
+        (length frame.now.labels.now) lines.old
+        ≡ Ok (line_model kept.new.set.items kept.new.bits.items line, lines.new)) }
     ensures err { IfErr result (λ fault. fault.kind ≢ NoMemory → line_due_at (format_number frame.now.format)
         frame.now.width (length frame.now.labels.now) lines.old ≡ Err fault) }
     ensures memory { IfErr result (λ fault. fault.kind ≡ NoMemory → fault.line ≡ 0) }

@@ -55,8 +55,8 @@ impl<'a> Lines<'a> {
         }
     }
 
-    /// The leaf whose line comes next, in a certificate of so many labels, and what comes behind it, where the line is plainly
-    /// one of a leaf.
+    /// The leaf whose line comes next, in a certificate of so many labels, and what comes behind it, where the line is
+    /// plainly one of a leaf.
     pub fn next_leaf(&self, count: u64) -> Option<(LabelId, Lines<'a>)>
         requires { count ≤ 2 ^ 32 }
         ensures { IfSome result (λ x. (format most : ℕ) → line_due_at format most count self.now
@@ -70,8 +70,8 @@ impl<'a> Lines<'a> {
         Some((id, lines))
     }
 
-    /// The cost of the inner node whose line comes next, and what comes behind it, where the line is plainly one of an inner
-    /// node. Its set is kept.
+    /// The cost of the inner node whose line comes next, and what comes behind it, where the line is plainly one of an
+    /// inner node. Its set is kept.
     pub fn next_inner(
         &self,
         set: &mut Vec<LabelId>,

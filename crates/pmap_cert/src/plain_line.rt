@@ -1,5 +1,5 @@
-//! The lines of leaves and inner nodes, where they are plainly such, read in one pass over their bytes. A line that isn't
-//! has no answer here, and the reader of words decides what it is.
+//! The lines of leaves and inner nodes, where they are plainly such, read in one pass over their bytes. A line that
+//! isn't has no answer here, and the reader of words decides what it is.
 ghost use Rattle.std.specs.Prelude.{◌≡◌, ◌≢◌, ◌^◌, ◌<◌, ◌≤◌, ◌⊎◌, ◌∷◌, IfOk, IfSome, IsTrue, length, map, slice_index};
 ghost use Rattle.pmap_cert.specs.PlainLines.{BeginsWithInner, BeginsWithLeaf, BeginsWithNumber, BeginsWithSet};
 
@@ -29,8 +29,8 @@ fn are_plain(text: &[u8], count: usize) -> bool
     }
 }
 
-// The number below the bound whose decimal text, without leading zeros, a text begins with, and what stands behind that:
-// there is something, and it begins with no digit.
+// The number below the bound whose decimal text, without leading zeros, a text begins with, and what stands behind
+// that: there is something, and it begins with no digit.
 fn leading_number(text: &[u8], bound: u64) -> Option<(u32, &[u8])>
     requires { bound ≤ 2 ^ 32 }
     ensures { IfSome result (λ x. BeginsWithNumber bound x.0 text.now x.1.now) }

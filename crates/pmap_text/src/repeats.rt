@@ -57,8 +57,8 @@ fn come_in_order(entries: &[Entry]) -> bool
     true
 }
 
-/// Whether the entries are seen to have distinct blocks: as they stand, or by sorting the starts and lengths. Unlike in a
-/// hash table, no choice of blocks makes that slow.
+/// Whether the entries are seen to have distinct blocks: as they stand, or by sorting the starts and lengths. Unlike in
+/// a hash table, no choice of blocks makes that slow.
 pub fn have_distinct_blocks(alloc: Global, entries: &[Entry]) -> Result<bool, AllocError>
     ensures { IfOk result (λ distinct. IsTrue distinct → HasDistinctBlocks entries.now) }
 {
