@@ -122,7 +122,7 @@ pub record IsInner (nodes : List Node) (at high : ℕ) : Type 0 where
   pub high_is : high ≡ at + 1 + size lower
   pub small : 1 + (size lower + size upper) ≤ length nodes
 
-leaf_is_not_inner : (label : Option LabelId) (high : ℕ) → leaf_node label ≡ Inner high → ⊥
+pub leaf_is_not_inner : (label : Option LabelId) (high : ℕ) → leaf_node label ≡ Inner high → ⊥
 leaf_is_not_inner None high e = cc
 leaf_is_not_inner (Some id) high e = cc
 
@@ -158,7 +158,7 @@ same_leaf None (Some id) e = cc
 same_leaf (Some id) None e = cc
 same_leaf (Some id) (Some id') e = cc
 
-leaf_tree : (nodes : List Node) (at : ℕ) (label : Option LabelId) (t : Tree) → IsAt nodes at t → slice_get nodes at ≡ Some (leaf_node label) → t ≡ Tip label
+pub leaf_tree : (nodes : List Node) (at : ℕ) (label : Option LabelId) (t : Tree) → IsAt nodes at t → slice_get nodes at ≡ Some (leaf_node label) → t ≡ Tip label
 leaf_tree nodes at label (Tip other) here node =
     ap Tip (same_leaf other label (same_Some (leaf_node other) (leaf_node label) (sym here ∙ node)))
 leaf_tree nodes at label (Fork low high) here node =

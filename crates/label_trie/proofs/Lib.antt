@@ -12,3 +12,4 @@ pub mod Built
 pub mod SeenLeaves
 pub mod ListBuilt
 pub mod Runs
+pub mod NodeKinds

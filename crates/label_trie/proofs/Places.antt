@@ -15,7 +15,7 @@ use Rattle.label_trie.proofs.Encoded.{IsInner, nodes_at, size_leaves}
 use Rattle.label_trie.proofs.NodeLeaves.{length_leaves}
 
 -- the nodes of a tree stand in their own list
-whole_nodes : (t : Tree) → HasNodes (nodes_of t 0 0) 0 t 0 0
+pub whole_nodes : (t : Tree) → HasNodes (nodes_of t 0 0) 0 t 0 0
 whole_nodes t = subst (λ (nodes : List NodeModel). HasNodes nodes 0 t 0 0) (append-nil (nodes_of t 0 0)) (nodes_at [] t 0 0 [] 0 refl)
 
 no_number : (P : ℕ) → 0 / P ≡ 0

@@ -3,6 +3,7 @@ pub mod Leaf
 pub mod CursorModel
 pub mod Parts
 pub mod Tree
+pub mod Kind
 pub mod Nodes
 pub mod Layers
 pub mod Runs

@@ -24,6 +24,7 @@
 
 mod cursor;
 mod growing;
+mod kind;
 mod laws;
 mod leaf;
 mod leaves;
@@ -32,6 +33,7 @@ mod tops;
 mod trie;
 
 pub use cursor::{Cursor, Parts};
+pub use kind::Kind;
 pub use laws::labelling_has_its_runs;
 pub use leaf::Leaf;
 pub use leaves::Leaves;

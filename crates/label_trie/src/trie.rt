@@ -1,15 +1,18 @@
 ghost use Rattle.std.specs.Prelude.{◌≡◌, ℕ, ◌+◌, ◌*◌, ◌^◌, ◌<◌, ◌≤◌, ◌++◌, [], Some, All, IfOk, OnOk, length, map, option_map, option_and_then, slice_get};
+ghost use Rattle.std.specs.Option.{ForSome};
 ghost use Rattle.prefix_keys.specs.Version.{width_of};
 ghost use Rattle.pmap_text.specs.ListModel.{list_label};
 ghost use Rattle.pmap_text.specs.PrefixList.{list_of};
 ghost use Rattle.pmap_text.specs.MapModel.{map_label};
 ghost use Rattle.pmap_text.specs.MapText.{map_of};
+ghost use Rattle.label_trie.specs.Kind.{IsKindOf, IsOfTree};
 ghost use Rattle.label_trie.specs.Layers.{AddsTree};
 ghost use Rattle.label_trie.specs.Leaf.{model_of};
 ghost use Rattle.label_trie.specs.TrieModel.{IsCut, IsDecidedLeaf, IsSettledLeaf, IsUndivided, label_in};
 
 use crate::cursor::{Cursor, Parts, cursor_at};
 use crate::growing::push_block;
+use crate::kind::Kind;
 use crate::leaf::Leaf;
 use crate::leaves::Leaves;
 use crate::node::Node;
@@ -117,8 +120,22 @@ impl Trie {
     pub fn node_count(&self) -> u32
         ensures leaves { result + 1 ≡ 2 * length self.now.leaves }
         ensures nodes { result ≡ length self.now.nodes }
+        // The leaves and the nodes are those of one tree.
+        ensures tree { IsOfTree self.now }
     {
         self.nodes.len() as u32
+    }
+
+    /// What there is at the node with this number, which is below `node_count`.
+    pub fn kind(&self, number: u32) -> Kind
+        requires { number < length self.now.nodes }
+        ensures { ForSome (slice_get self.now.nodes number) (λ node. IsKindOf node result) }
+    {
+        match self.nodes[number as usize] {
+            Node::Labelled(label) => Kind::Leaf(Some(label)),
+            Node::Unlabelled => Kind::Leaf(None),
+            Node::Inner(_) => Kind::Divided,
+        }
     }
 
     /// The leaves in rising order of their blocks.

@@ -1,4 +1,4 @@
-use Rattle.std.proofs.Common.{arith}
+use Rattle.std.proofs.Common.{refl, arith}
 use Rattle.label_trie.specs.Nodes.{tree_of}
 use Rattle.label_trie.proofs.Encoded.{length_nodes, size_leaves}
 use Rattle.label_trie.proofs.NodeLeaves.{length_leaves}
@@ -15,3 +15,8 @@ returns-clause-leaves c =
 pub returns-clause-nodes : goal.returns-clause-nodes
 returns-clause-nodes c =
     rw (← c.self.view_is, length_nodes (tree_of c.self.inside.nodes.items) 0 0) (omega (arith, c.self.invariant.0.all))
+
+pub returns-clause-tree : goal.returns-clause-tree
+returns-clause-tree c =
+    rw (← c.self.view_is)
+    (record { tree = tree_of c.self.inside.nodes.items; leaves = refl; nodes = refl; room = c.self.invariant.0.room })
