@@ -2,19 +2,17 @@
 use Rattle.std.proofs.Common.{◌≡◌, ℕ, zero, suc, ◌+◌, ◌<◌, ◌∙◌, List, [], ◌∷◌, ◌++◌, Some, length, map, take, get_or, sym, ap, subst}
 use Rattle.std.specs.Fmt.{decimal}
 use Rattle.std.specs.List.{flat_map, join_with_byte, slice_get}
+use Rattle.std.proofs.lemmas.Fmt.{decimal_digit}
 use Rattle.std.proofs.lemmas.List.{append-nil, append_assoc, map-append, take_more}
 use Rattle.std.proofs.lemmas.List.Concat.{flat_map-append}
 use Rattle.std.proofs.lemmas.Option.{get_or_from_slice_get, slice_get_within}
-use Rattle.prefix_keys.specs.Version.{width_of}
+use Rattle.prefix_keys.specs.declared.version.Version.{Version}
 use Rattle.pmap_text.specs.Label.{IsLabelTable}
 use Rattle.pmap_text.specs.MapModel.{Label}
-use Rattle.pmap_cert.specs.Certificate.{certificate_of}
 use Rattle.pmap_cert.specs.CertificateForm.{HasNodeForm, IsRising}
 use Rattle.pmap_cert.specs.CertificateText.{certificate_text, chain_line, format_header, inner_line, leaf_line, node_lines, text_of_lines}
-use Rattle.pmap_cert.specs.Format.{format_number}
 use Rattle.pmap_cert.specs.FormatReading.{DueLine}
 use Rattle.pmap_cert.specs.Node.{Chain, HasChainForm, Inner, Leaf, Node, line_text, lines_of, tree_of}
-use Rattle.pmap_cert.specs.declared.certificate.Certificate.{Certificate}
 use Rattle.pmap_cert.proofs.ChainWords.{end-room, other-room}
 use Rattle.pmap_cert.proofs.Tables.{place_of-text_at, places-texts}
 
@@ -22,6 +20,12 @@ use Rattle.pmap_cert.proofs.Tables.{place_of-text_at, places-texts}
 pub joined-numbers : (word : List ℕ) (ns : List ℕ) → join_with_byte 32 (word ∷ map decimal ns) ≡ word ++ flat_map (λ n. 32 ∷ decimal n) ns
 joined-numbers word [] = sym (append-nil word)
 joined-numbers word (n ∷ ns) = ap (λ text. word ++ 32 ∷ text) (joined-numbers (decimal n) ns)
+
+-- a number of one digit
+pub pushed-digit : (out o1 o2 : List ℕ) (n d : ℕ) → n < 10 → d ≡ 48 + n → o1 ≡ out ++ 32 ∷ [] → o2 ≡ o1 ++ d ∷ [] → o2 ≡ out ++ 32 ∷ decimal n
+pushed-digit out o1 o2 n d small digit e1 e2 =
+    e2 ∙ ap (λ t. t ++ d ∷ []) e1 ∙ append_assoc out (32 ∷ []) (d ∷ [])
+    ∙ ap (λ t. out ++ 32 ∷ t) (ap (λ (x : ℕ). x ∷ []) digit ∙ sym (decimal_digit n small))
 
 -- lines one after the other
 pub text_of_lines-append : (lines more : List (List ℕ)) → text_of_lines (lines ++ more) ≡ text_of_lines lines ++ text_of_lines more
@@ -97,17 +101,17 @@ pushed-line out o o1 lines i z e inside e1 =
     ∙ text_of_lines-append before (text ∷ []) ∙ ap (λ t. text_of_lines before ++ t) (append-nil (text ++ 10 ∷ [])) in
     e1 ∙ ap (λ t. t ++ (text ++ 10 ∷ [])) e ∙ append_assoc out (text_of_lines before) (text ++ 10 ∷ []) ∙ ap (λ t. out ++ t) (sym last)
 
--- the header, the labels and the nodes are the text
-pub whole_text : (c : Certificate) (count : ℕ) (nodes : List DueLine) (o1 o2 o3 : List ℕ) → IsLabelTable c.labels → HasChainForm (length c.labels) c.root (width_of c.version) → count ≡ length c.labels → nodes ≡ lines_of c.root
-    → o1 ≡ format_header (format_number c.format) c.version count ++ 10 ∷ [] → o2 ≡ o1 ++ text_of_lines c.labels → o3 ≡ o2 ++ text_of_lines (map line_text nodes) → o3 ≡ certificate_text (certificate_of c)
-whole_text c count nodes o1 o2 o3 ok form is same e1 e2 e3 =
-    let header : List ℕ = format_header (format_number c.format) c.version (length c.labels) ++ 10 ∷ [] in
-    let labels : List ℕ = text_of_lines c.labels in
-    let lines : List (List ℕ) = node_lines c.labels (tree_of c.labels c.root) in
+-- the header and the labels
+pub pushed-head : (out o1 o2 header : List ℕ) (labels : List Label) → o1 ≡ out ++ (header ++ 10 ∷ []) → o2 ≡ o1 ++ text_of_lines labels → o2 ≡ out ++ text_of_lines (header ∷ labels)
+pushed-head out o1 o2 header labels e1 e2 = e2 ∙ ap (λ t. t ++ text_of_lines labels) e1 ∙ append_assoc out (header ++ 10 ∷ []) (text_of_lines labels)
+
+-- with the lines of the nodes they are the text
+pub whole_text : (format : ℕ) (version : Version) (table : List Label) (root : Node) (room : ℕ) (nodes : List DueLine) (o1 o2 : List ℕ) → IsLabelTable table → HasChainForm (length table) root room
+    → nodes ≡ lines_of root → o1 ≡ text_of_lines (format_header format version (length table) ∷ table) → o2 ≡ o1 ++ text_of_lines (map line_text nodes)
+    → o2 ≡ certificate_text (record { format = format; version = version; table = table; root = tree_of table root })
+whole_text format version table root room nodes o1 o2 ok form same e1 e2 =
+    let head : List (List ℕ) = format_header format version (length table) ∷ table in
+    let lines : List (List ℕ) = node_lines table (tree_of table root) in
     let texts : text_of_lines (map line_text nodes) ≡ text_of_lines lines =
-    ap (λ (ls : List DueLine). text_of_lines (map line_text ls)) same ∙ ap text_of_lines (line_texts-tree c.labels ok c.root (width_of c.version) form) in
-    let first : o1 ≡ header = e1 ∙ ap (λ (n : ℕ). format_header (format_number c.format) c.version n ++ 10 ∷ []) is in
-    e3 ∙ ap (λ t. t ++ text_of_lines (map line_text nodes)) (e2 ∙ ap (λ t. t ++ labels) first)
-    ∙ ap (λ t. (header ++ labels) ++ t) texts
-    ∙ append_assoc header labels (text_of_lines lines)
-    ∙ ap (λ t. header ++ t) (sym (text_of_lines-append c.labels lines))
+    ap (λ (ls : List DueLine). text_of_lines (map line_text ls)) same ∙ ap text_of_lines (line_texts-tree table ok root room form) in
+    e2 ∙ ap (λ t. t ++ text_of_lines (map line_text nodes)) e1 ∙ ap (λ t. text_of_lines head ++ t) texts ∙ sym (text_of_lines-append head lines)

@@ -57,4 +57,4 @@ pub use laws::{
 };
 pub use nodes::Nodes;
 pub use root::Root;
-pub use writing::write_cert;
+pub use writing::{push_head, push_inner_line, push_leaf_line, write_cert};

@@ -21,8 +21,12 @@ use std::alloc::{AllocError, Global};
 fn push_number(out: &mut Vec<u8>, number: u32) -> Result<(), AllocError>
     ensures { OnOk result (out.new.items ≡ out.old.items ++ 32 ∷ decimal number) }
 {
-    let mut buffer = Buffer::new();
     out.push(b' ')?;
+    if number < 10 {
+        out.push(b'0' + number as u8)?;
+        return Ok(());
+    }
+    let mut buffer = Buffer::new();
     out.extend_from_slice(buffer.format(number).as_bytes())?;
     Ok(())
 }
@@ -37,8 +41,8 @@ fn push_set(out: &mut Vec<u8>, set: &[LabelId]) -> Result<(), AllocError>
     Ok(())
 }
 
-// Appends the line of a leaf.
-fn push_leaf(out: &mut Vec<u8>, id: LabelId) -> Result<(), AllocError>
+/// Appends the line of a leaf with this label.
+pub fn push_leaf_line(out: &mut Vec<u8>, id: LabelId) -> Result<(), AllocError>
     ensures { OnOk result (out.new.items ≡ out.old.items ++ (leaf_line id.0 ++ 10 ∷ [])) }
 {
     out.push(b'l')?;
@@ -47,8 +51,8 @@ fn push_leaf(out: &mut Vec<u8>, id: LabelId) -> Result<(), AllocError>
     Ok(())
 }
 
-// Appends the line of an inner node.
-fn push_inner(out: &mut Vec<u8>, cost: u32, set: &[LabelId]) -> Result<(), AllocError>
+/// Appends the line of an inner node that claims this.
+pub fn push_inner_line(out: &mut Vec<u8>, cost: u32, set: &[LabelId]) -> Result<(), AllocError>
     ensures { OnOk result (out.new.items ≡ out.old.items ++ (inner_line cost (map (λ id. id.0) set.now) ++ 10 ∷ [])) }
 {
     out.push(b'n')?;
@@ -96,13 +100,13 @@ fn push_line(out: &mut Vec<u8>, nodes: &Nodes, number: usize) -> Result<(), Allo
         ++ (line_text (slice_index_or nodes.now number (PlainLine (LeafLine 0))) ++ 10 ∷ [])) }
 {
     if let Some(id) = nodes.label(number) {
-        return push_leaf(out, id);
+        return push_leaf_line(out, id);
     }
     let cost = nodes.cost(number);
     let set = nodes.set(number);
     match nodes.side(number) {
         Some(side) => push_chain(out, cost, nodes.bits(number), side, set),
-        None => push_inner(out, cost, set),
+        None => push_inner_line(out, cost, set),
     }
 }
 
@@ -169,6 +173,20 @@ fn push_header(
     Ok(())
 }
 
+/// Appends what the text of a certificate begins with: its header and its label table. The lines of its nodes follow.
+pub fn push_head(
+    out: &mut Vec<u8>,
+    format: Format,
+    version: Version,
+    labels: &Labels,
+) -> Result<(), AllocError>
+    ensures { OnOk result (out.new.items ≡ out.old.items
+        ++ text_of_lines (format_header (format_number format) version (length labels.now) ∷ labels.now)) }
+{
+    push_header(out, format, version, labels.len() as u32)?;
+    push_labels(out, labels)
+}
+
 /// The text of a certificate: a header, its label table and its nodes in preorder.
 ///
 /// The lines are `flowlabel-cert FORMAT VERSION COUNT`, then COUNT labels, and then `l NUMBER` for a leaf,
@@ -178,14 +196,15 @@ fn push_header(
 pub fn write_cert(alloc: Global, certificate: &Certificate) -> Result<Vec<u8>, AllocError>
     ensures { IfOk result (λ text. text.items ≡ certificate_text (certificate_of certificate.now)) }
 {
+    // For its law: the table's labels are distinct.
+    let _labels = certificate.labels.len();
     let mut out = Vec::new(alloc);
-    push_header(
+    push_head(
         &mut out,
         certificate.format,
         certificate.version,
-        certificate.labels.len() as u32,
+        &certificate.labels,
     )?;
-    push_labels(&mut out, &certificate.labels)?;
     push_nodes(&mut out, certificate.root.nodes())?;
     Ok(out)
 }

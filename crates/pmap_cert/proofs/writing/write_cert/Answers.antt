@@ -1,5 +1,6 @@
-use Rattle.std.proofs.Common.{◌++◌, ◌∷◌, [], ◌∙◌, ap}
-use Rattle.pmap_cert.specs.CertificateText.{format_header}
+use Rattle.std.proofs.Common.{◌++◌, ◌∷◌, ◌∙◌, ap, length}
+use Rattle.prefix_keys.specs.Version.{width_of}
+use Rattle.pmap_cert.specs.CertificateText.{format_header, text_of_lines}
 use Rattle.pmap_cert.specs.Format.{format_number}
 use Rattle.pmap_cert.proofs.Written.{whole_text}
 use Rattle.pmap_cert.proofs.writing.write_cert.Goals as goal
@@ -7,7 +8,7 @@ use Rattle.pmap_cert.proofs.writing.write_cert.Goals as goal
 pub returns : goal.returns
 returns c =
     let certificate = c.args.certificate.now in
-    whole_text certificate c.len.result c.nodes.result.now c.push_header.new.out.items c.push_labels.new.out.items c.push_nodes.new.out.items
-    c.len.ensures.table certificate.form c.len.ensures.value c.nodes.ensures
-    (c.in_ok-push_header.ensures ∙ ap (λ out. out ++ (format_header (format_number certificate.format) certificate.version c.len.result ++ 10 ∷ [])) c.new-out.ensures.items)
-    c.in_ok-push_labels.ensures c.in_ok-push_nodes.ensures
+    whole_text (format_number certificate.format) certificate.version certificate.labels certificate.root (width_of certificate.version) c.nodes.result.now c.push_head.new.out.items c.push_nodes.new.out.items
+    c.len-labels.ensures.table certificate.form c.nodes.ensures
+    (c.in_ok-push_head.ensures ∙ ap (λ out. out ++ text_of_lines (format_header (format_number certificate.format) certificate.version (length certificate.labels) ∷ certificate.labels)) c.new-out.ensures.items)
+    c.in_ok-push_nodes.ensures

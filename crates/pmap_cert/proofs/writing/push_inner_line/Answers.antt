@@ -2,7 +2,7 @@ use Rattle.std.proofs.Common.{◌++◌, ◌∷◌, [], ◌∙◌, ap, map, sym}
 use Rattle.std.specs.Fmt.{decimal}
 use Rattle.std.specs.List.{flat_map}
 use Rattle.pmap_cert.proofs.Written.{joined-numbers, pushed}
-use Rattle.pmap_cert.proofs.writing.push_inner.Goals as goal
+use Rattle.pmap_cert.proofs.writing.push_inner_line.Goals as goal
 
 pub returns : goal.returns
 returns c =
