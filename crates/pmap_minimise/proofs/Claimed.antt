@@ -3,11 +3,10 @@ use Rattle.std.proofs.Common.{◌≡◌, ℕ, ◌+◌, ◌<◌, ◌≤◌, ◌^�
 use Rattle.std.proofs.Math.Seq.{get_or-append_seam}
 use Rattle.std.proofs.Math.ListN.{get_or-append}
 use Rattle.std.proofs.lemmas.List.{append-nil, append_assoc, same_from_push}
-use Rattle.pmap_text.specs.declared.label.LabelId.{LabelId}
-use Rattle.pmap_cert.specs.Node.{Chain, Inner, Leaf, Node, cost_of, set_of}
+use Rattle.pmap_cert.specs.Node.{Chain, Inner, Leaf, Node}
 use Rattle.pmap_minimise.specs.Claiming.{AreClaimsFrom, AreClaimsOf, AreHalvesOf, IsHalfAdded, IsHalfIn, IsHalfOf, IsHalfReady, IsKeptAs, all_claims, claimed_by, claims_of}
 use Rattle.pmap_minimise.specs.Kept.{AreKept, claims_in}
-use Rattle.pmap_minimise.specs.Numbers.{Claim, IsExactClaim, IsJoined, no_claim, node_claim}
+use Rattle.pmap_minimise.specs.Numbers.{Claim, IsExactClaim, no_claim, node_claim}
 use Rattle.pmap_minimise.specs.Outline.{IsOutline, IsReady}
 use Rattle.pmap_minimise.specs.declared.claim_list.Claims.{Claims}
 use Rattle.pmap_minimise.specs.declared.claiming.Half.{Half}

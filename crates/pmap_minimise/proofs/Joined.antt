@@ -10,11 +10,11 @@ use Rattle.pmap_text.specs.MapModel.{IsSettled, Label, MapModel, settled_label}
 use Rattle.pmap_text.specs.MapText.{text_at}
 use Rattle.pmap_text.specs.declared.label.LabelId.{LabelId}
 use Rattle.pmap_cert.specs.CertificateForm.{IsRising}
-use Rattle.pmap_cert.specs.CertificateModel.{Pair, Tree, claim_of}
+use Rattle.pmap_cert.specs.CertificateModel.{Pair, claim_of}
 use Rattle.pmap_cert.specs.ExactPair.{IsSamePair, exact_pair}
 use Rattle.pmap_cert.specs.MinimalPair.{StandsFor}
 use Rattle.pmap_cert.specs.Node.{Chain, HasNumberForm, Inner, Leaf, Node, cost_of, set_of, tree_of}
-use Rattle.label_trie.specs.Leaf.{model_of, number_of}
+use Rattle.label_trie.specs.Leaf.{number_of}
 use Rattle.label_trie.specs.Parts.{IsHalf}
 use Rattle.label_trie.specs.TrieModel.{IsSettledLeaf, IsUndivided, LeafModel}
 use Rattle.pmap_minimise.specs.Certified.{IsCertified, IsKnownLeaf}
@@ -57,9 +57,6 @@ set-some (Inner cost set left right) zero sound = absurd sound
 set-some (Inner cost set left right) (suc room) sound = sound.0
 set-some (Chain cost set bits side end) room sound = absurd sound
 
-pub moved : (m : MapModel) (t : Tree) (n n' q q' : ℕ) → n ≡ n' → q ≡ q' → StandsFor m t n q → StandsFor m t n' q'
-moved m t n n' q q' e f stands = subst (λ (k : ℕ). StandsFor m t k q') e (subst (λ (k : ℕ). StandsFor m t n k) f stands)
-
 -- a half has one host bit less
 pub half-room : (side : ℕ) (block half : Block) → IsHalf side block half → width_of block.version - block.len ≡ suc (width_of half.version - half.len)
 half-room side block half is =
@@ -76,65 +73,47 @@ pub whole-number : (block : Block) → block.value ≡ 0 → number_of block ≡
 whole-number block value =
     ap (λ (a : ℕ). a / 2 ^ (width_of block.version - block.len)) value ∙ no_number (2 ^ (width_of block.version - block.len))
 
-pub leaf-certified : (block : Block) (leaves : List LeafModel) (id : LabelId) → leaves ≡ model_of (record { block = block; label = Some id }) ∷ []
-    → IsCertified block leaves (Leaf id.0)
-leaf-certified block leaves id is = record {
+pub leaf-certified : (n q h : ℕ) (id : LabelId) → IsCertified n q h (record { bits = n; number = q; label = Some id.0 } ∷ []) (Leaf id.0)
+leaf-certified n q h id = record {
   stands = λ m ok settled undivided.
-      let own = All-head (IsSettledLeaf m) (model_of (record { block = block; label = Some id })) [] (subst (λ (l : List LeafModel). All (IsSettledLeaf m) l) is settled) in
-      subst (λ (n : ℕ). IsSettled m block.len (number_of block) (text_at m.table n)) (sym (same_Some id.0 own.id own.is)) own.settled;
-  form = λ count known.
-      (All-head (IsKnownLeaf count) (model_of (record { block = block; label = Some id })) [] (subst (λ (l : List LeafModel). All (IsKnownLeaf count) l) is known)) id.0 refl;
+      let own = All-head (IsSettledLeaf m) leaf [] settled in
+      subst (λ (k : ℕ). IsSettled m n q (text_at m.table k)) (sym (same_Some id.0 own.id own.is)) own.settled;
+  form = λ count known. (All-head (IsKnownLeaf count) leaf [] known) id.0 refl;
   sound = tt;
-  cost = subst (λ (l : List LeafModel). 0 < length l) (sym is) (omega arith);
+  cost = omega arith;
 }
+  where
+    leaf : LeafModel
+    leaf = record { bits = n; number = q; label = Some id.0 }
 
 pub settled-known : (m : MapModel) (leaf : LeafModel) → IsSettledLeaf m leaf → IsKnownLeaf (length m.table) leaf
 settled-known m leaf settled = λ x e. subst (λ (n : ℕ). n < length m.table) (same_Some settled.id x (sym settled.is ∙ e)) settled.known
 
-module _ (block low_block high_block : Block) (leaves low_leaves high_leaves : List LeafModel) (low high : Node)
-    (low_half : IsHalf 0 block low_block) (high_half : IsHalf 1 block high_block) (leaves_are : leaves ≡ low_leaves ++ high_leaves)
-    (unsettled : (m : MapModel) → All (IsUndivided m) leaves → settled_label m block.len (number_of block) ≡ None)
-    (few : length leaves < 2 ^ 32) (lower : IsCertified low_block low_leaves low) (upper : IsCertified high_block high_leaves high) where
-  abbrev room : ℕ
-  room = width_of low_block.version - low_block.len
-
-  room_is : width_of block.version - block.len ≡ suc room
-  room_is = half-room 0 block low_block low_half
-
-  same_room : width_of high_block.version - high_block.len ≡ room
-  same_room = let a = half-room 0 block low_block low_half in let b = half-room 1 block high_block high_half in omega arith
+module _ (n q room : ℕ) (low_leaves high_leaves : List LeafModel) (low high : Node)
+    (unsettled : (m : MapModel) → All (IsUndivided m) (low_leaves ++ high_leaves) → settled_label m n q ≡ None)
+    (few : length (low_leaves ++ high_leaves) < 2 ^ 32) (lower : IsCertified (suc n) (2 * q) room low_leaves low)
+    (upper : IsCertified (suc n) (2 * q + 1) room high_leaves high) where
+  abbrev leaves : List LeafModel
+  leaves = low_leaves ++ high_leaves
 
   low_form : (count : ℕ) → All (IsKnownLeaf count) leaves → HasNumberForm count low room
-  low_form count known = lower.form count (all-left (IsKnownLeaf count) leaves low_leaves high_leaves leaves_are known)
+  low_form count known = lower.form count (all-left (IsKnownLeaf count) leaves low_leaves high_leaves refl known)
 
   high_form : (count : ℕ) → All (IsKnownLeaf count) leaves → HasNumberForm count high room
-  high_form count known =
-      subst (λ (r : ℕ). HasNumberForm count high r) same_room (upper.form count (all-right (IsKnownLeaf count) leaves low_leaves high_leaves leaves_are known))
-
-  low_settled : (m : MapModel) → All (IsSettledLeaf m) leaves → All (IsSettledLeaf m) low_leaves
-  low_settled m settled = all-left (IsSettledLeaf m) leaves low_leaves high_leaves leaves_are settled
-
-  high_settled : (m : MapModel) → All (IsSettledLeaf m) leaves → All (IsSettledLeaf m) high_leaves
-  high_settled m settled = all-right (IsSettledLeaf m) leaves low_leaves high_leaves leaves_are settled
+  high_form count known = upper.form count (all-right (IsKnownLeaf count) leaves low_leaves high_leaves refl known)
 
   known_leaves : (m : MapModel) → All (IsSettledLeaf m) leaves → All (IsKnownLeaf (length m.table)) leaves
   known_leaves m settled = All-weaker (IsSettledLeaf m) (IsKnownLeaf (length m.table)) (settled-known m) leaves settled
 
-  stands_low : (m : MapModel) → IsLabelTable m.table → All (IsSettledLeaf m) leaves → All (IsUndivided m) leaves
-      → StandsFor m (tree_of m.table low) (suc block.len) (2 * number_of block)
+  stands_low : (m : MapModel) → IsLabelTable m.table → All (IsSettledLeaf m) leaves → All (IsUndivided m) leaves → StandsFor m (tree_of m.table low) (suc n) (2 * q)
   stands_low m ok settled undivided =
-      let len = low_half.len in
-      let number = low_half.number in
-      moved m (tree_of m.table low) low_block.len (suc block.len) (number_of low_block) (2 * number_of block) (omega arith) (omega arith)
-      (lower.stands m ok (low_settled m settled) (all-left (IsUndivided m) leaves low_leaves high_leaves leaves_are undivided))
+      lower.stands m ok (all-left (IsSettledLeaf m) leaves low_leaves high_leaves refl settled)
+      (all-left (IsUndivided m) leaves low_leaves high_leaves refl undivided)
 
-  stands_high : (m : MapModel) → IsLabelTable m.table → All (IsSettledLeaf m) leaves → All (IsUndivided m) leaves
-      → StandsFor m (tree_of m.table high) (suc block.len) (2 * number_of block + 1)
+  stands_high : (m : MapModel) → IsLabelTable m.table → All (IsSettledLeaf m) leaves → All (IsUndivided m) leaves → StandsFor m (tree_of m.table high) (suc n) (2 * q + 1)
   stands_high m ok settled undivided =
-      let len = high_half.len in
-      let number = high_half.number in
-      moved m (tree_of m.table high) high_block.len (suc block.len) (number_of high_block) (2 * number_of block + 1) (omega arith) (omega arith)
-      (upper.stands m ok (high_settled m settled) (all-right (IsUndivided m) leaves low_leaves high_leaves leaves_are undivided))
+      upper.stands m ok (all-right (IsSettledLeaf m) leaves low_leaves high_leaves refl settled)
+      (all-right (IsUndivided m) leaves low_leaves high_leaves refl undivided)
 
   pair : (m : MapModel) (cost : ℕ) (set : List ℕ) → IsLabelTable m.table → All (IsSettledLeaf m) leaves → IsExact low high cost set
       → IsSamePair (record { cost = cost; labels = map (text_at m.table) set }) (exact_pair (claim_of (tree_of m.table low)) (claim_of (tree_of m.table high)))
@@ -156,40 +135,30 @@ module _ (block low_block high_block : Block) (leaves low_leaves high_leaves : L
       let most = exact-cost (cost_of low) (cost_of high) (set_of low) (set_of high) cost set exact in
       let a = lower.cost in
       let b = upper.cost in
-      let count : length leaves ≡ length low_leaves + length high_leaves = ap length leaves_are ∙ length-append low_leaves high_leaves in
-      omega arith
+      omega (arith, length-append low_leaves high_leaves)
 
-  pub joined-certified : (node : Node) → IsJoined low high node → IsCertified block leaves node
+  pub joined-certified : (node : Node) → IsJoined low high node → IsCertified n q (suc room) leaves node
   joined-certified (Leaf id) joined = absurd joined
   joined-certified (Chain cost set bits side end) joined = absurd joined
   joined-certified (Inner cost set left right) joined = record {
     stands = λ m ok settled undivided. (
       unsettled m undivided,
-      subst (λ (n : Node). IsSamePair (record { cost = cost; labels = map (text_at m.table) set }) (exact_pair (claim_of (tree_of m.table n)) (claim_of (tree_of m.table right)))) (sym joined.0)
-          (subst (λ (n : Node). IsSamePair (record { cost = cost; labels = map (text_at m.table) set }) (exact_pair (claim_of (tree_of m.table low)) (claim_of (tree_of m.table n)))) (sym joined.1)
+      subst (λ (child : Node). IsSamePair (record { cost = cost; labels = map (text_at m.table) set }) (exact_pair (claim_of (tree_of m.table child)) (claim_of (tree_of m.table right)))) (sym joined.0)
+          (subst (λ (child : Node). IsSamePair (record { cost = cost; labels = map (text_at m.table) set }) (exact_pair (claim_of (tree_of m.table low)) (claim_of (tree_of m.table child)))) (sym joined.1)
           (pair m cost set ok settled joined.2)),
-      subst (λ (n : Node). StandsFor m (tree_of m.table n) (suc block.len) (2 * number_of block)) (sym joined.0) (stands_low m ok settled undivided),
-      subst (λ (n : Node). StandsFor m (tree_of m.table n) (suc block.len) (2 * number_of block + 1)) (sym joined.1) (stands_high m ok settled undivided),
+      subst (λ (child : Node). StandsFor m (tree_of m.table child) (suc n) (2 * q)) (sym joined.0) (stands_low m ok settled undivided),
+      subst (λ (child : Node). StandsFor m (tree_of m.table child) (suc n) (2 * q + 1)) (sym joined.1) (stands_high m ok settled undivided),
     );
-    form = λ count known.
-        subst (λ (r : ℕ). HasNumberForm count (Inner cost set left right) r) (sym room_is) (
-          (let small = cheap cost set joined.2 in omega arith),
-          rising count cost set known joined.2,
-          subst (λ (n : Node). HasNumberForm count n room) (sym joined.0) (low_form count known),
-          subst (λ (n : Node). HasNumberForm count n room) (sym joined.1) (high_form count known),
-        );
-    sound =
-        subst (λ (r : ℕ). IsSound (Inner cost set left right) r) (sym room_is) (
-          exact-some (cost_of low) (cost_of high) (set_of low) (set_of high) cost set (set-some low room lower.sound) joined.2,
-          subst (λ (n : Node). IsSound n room) (sym joined.0) lower.sound,
-          subst (λ (n : Node). IsSound n room) (sym joined.1) (subst (λ (r : ℕ). IsSound high r) same_room upper.sound),
-        );
+    form = λ count known. (
+      (let small = cheap cost set joined.2 in omega arith),
+      rising count cost set known joined.2,
+      subst (λ (child : Node). HasNumberForm count child room) (sym joined.0) (low_form count known),
+      subst (λ (child : Node). HasNumberForm count child room) (sym joined.1) (high_form count known),
+    );
+    sound = (
+      exact-some (cost_of low) (cost_of high) (set_of low) (set_of high) cost set (set-some low room lower.sound) joined.2,
+      subst (λ (child : Node). IsSound child room) (sym joined.0) lower.sound,
+      subst (λ (child : Node). IsSound child room) (sym joined.1) upper.sound,
+    );
     cost = cheap cost set joined.2;
   }
-
--- the root's node stands for the address space
-pub root-stands : (m : MapModel) (root : Node) (block : Block) (all leaves : List LeafModel) → IsCertified block leaves root → leaves ≡ all → IsLabelTable m.table
-    → All (IsSettledLeaf m) all → All (IsUndivided m) all → block.len ≡ 0 → block.value ≡ 0 → StandsFor m (tree_of m.table root) 0 0
-root-stands m root block all leaves certified is ok settled undivided len value =
-    moved m (tree_of m.table root) block.len 0 (number_of block) 0 len (whole-number block value)
-    (certified.stands m ok (subst (λ (l : List LeafModel). All (IsSettledLeaf m) l) (sym is) settled) (subst (λ (l : List LeafModel). All (IsUndivided m) l) (sym is) undivided))

@@ -6,7 +6,7 @@ pub mod Distinct
 pub mod Whole
 pub mod Outlined
 pub mod Walked
-pub mod Laid
+pub mod Planned
 pub mod Pieces
 pub mod Claimed
 pub mod Waiting

@@ -1,19 +1,22 @@
 -- The entries that are listed along an outline, by the claims of the certificate's nodes.
-use Rattle.std.proofs.Common.{◌≡◌, ℕ, zero, suc, ◌+◌, ◌-◌, ◌^◌, ◌<◌, ◌≤◌, ◌∙◌, List, [], ◌∷◌, ◌++◌, Some, None, All, length, map, drop, get_or, refl, sym, ap, subst, arith, length-append}
+use Rattle.std.proofs.Common.{◌≡◌, ℕ, zero, suc, ◌+◌, ◌-◌, ◌^◌, ◌<◌, ◌≤◌, ◌∙◌, List, [], ◌∷◌, ◌++◌, Some, None, All, IsSome, length, map, get_or, refl, sym, ap, subst, arith, length-append}
 use Rattle.std.proofs.lemmas.List.{map_push, same_from_push}
 use Rattle.std.proofs.lemmas.List.Elements.{All-from_recursion, All-head, All-push}
 use Rattle.prefix_keys.specs.Version.{width_of}
 use Rattle.prefix_keys.specs.declared.block.Block.{Block}
+use Rattle.prefix_keys.specs.declared.version.Version.{Version}
 use Rattle.pmap_text.specs.declared.entry.Entry.{Entry}
 use Rattle.pmap_text.specs.declared.label.LabelId.{LabelId}
 use Rattle.pmap_cert.specs.Node.{Chain, Inner, Leaf, Node, set_of}
-use Rattle.label_trie.specs.TrieModel.{LeafModel}
+use Rattle.label_trie.specs.Kind.{IsOfTree}
+use Rattle.label_trie.specs.TrieModel.{LeafModel, TrieModel}
 use Rattle.pmap_minimise.specs.Claiming.{AreClaimsOf}
 use Rattle.pmap_minimise.specs.Entered.{AddsEntries}
 use Rattle.pmap_minimise.specs.Kept.{claims_in}
 use Rattle.pmap_minimise.specs.Listing.{AddsListed, AddsVisit, AreHalvesPut, AreWaiting, HasClaims, IsClaimed, IsListedBy, IsListing, IsSoundVisit, Visit, nodes_in, nodes_visited}
 use Rattle.pmap_minimise.specs.Numbers.{Claim, HasHalves, IsJoined, IsOwn, IsSound, no_claim, node_claim, numbers_of}
-use Rattle.pmap_minimise.specs.Outline.{AddsOutline, IsOutline, parts_of}
+use Rattle.pmap_minimise.specs.Outline.{IsOutline, outline_of}
+use Rattle.pmap_minimise.specs.Shortest.{IsWhole}
 use Rattle.pmap_minimise.specs.Walk.{AddsAll}
 use Rattle.pmap_minimise.specs.declared.claim_list.Claims.{Claims}
 use Rattle.pmap_minimise.specs.declared.listing.Heir.{Heir}
@@ -21,8 +24,8 @@ use Rattle.pmap_minimise.specs.declared.outline.Part.{Part}
 use Rattle.pmap_minimise.specs.declared.outline.Part.TheVariants.{Divided, Labelled}
 use Rattle.pmap_minimise.proofs.Entered.{inner-adds, leaf-adds, sound-halves}
 use Rattle.pmap_minimise.proofs.Joined.{all-left, all-right, set-some}
-use Rattle.pmap_minimise.proofs.Outlined.{plan-certified, plan-length}
-use Rattle.pmap_minimise.proofs.Waiting.{IsInnerWaiting, waiting-end, waiting-inner, waiting-leaf, waiting-some, waiting-start}
+use Rattle.pmap_minimise.proofs.Planned.{trie-certified}
+use Rattle.pmap_minimise.proofs.Waiting.{waiting-end, waiting-inner, waiting-leaf, waiting-some, waiting-start}
 use Rattle.pmap_minimise.proofs.Walked.{halves-visited, leaf-visited}
 
 abbrev node_at : Visit → Node
@@ -240,40 +243,30 @@ same_listing block parts claims root old next left left' heirs heirs' entries en
     (subst (λ (l : List Heir). IsListing block parts claims root old next left l entries') (sym f)
     (subst (λ (l : List Entry). IsListing block parts claims root old next left heirs l) (sym g) listing))
 
--- the claims that are made of the outline of a place
-module _ (block : Block) (leaves : List LeafModel) (none all : List Part) (empty : none ≡ []) (out : AddsOutline block leaves none all) where
-  parts-are : all ≡ parts_of out.plan
-  parts-are = out.parts ∙ ap (λ (l : List Part). l ++ parts_of out.plan) empty
+-- the claims that are made of the outline of a trie
+pub trie-claimed : (t : TrieModel) (claims : Claims) (node : Node) → IsOfTree t → All (λ leaf. IsSome leaf.label) t.leaves → length t.leaves < 2 ^ 32
+    → AreClaimsOf (outline_of t.nodes) claims node → IsClaimed t.version t.leaves (outline_of t.nodes) claims node
+trie-claimed t claims node of labelled few are = record { are = are; certified = trie-certified t of labelled node are.node_is few }
 
-  pub outline-is : (parts : List Part) → parts ≡ all → IsOutline parts
-  outline-is parts same = record { plan = out.plan; is = same ∙ parts-are }
-
-  pub outline-few : (parts : List Part) → parts ≡ all → length leaves ≤ 2 ^ 31 → length parts ≤ 2 ^ 32
-  outline-few parts same few =
-      let count : length parts ≡ length (parts_of out.plan) = ap length (same ∙ parts-are) in
-      let most = plan-length out.plan block leaves out.is in
-      omega arith
-
-  pub outline-claimed : (parts : List Part) (claims : Claims) (node : Node) → parts ≡ all → length leaves ≤ 2 ^ 31 → AreClaimsOf parts claims node → IsClaimed block leaves all claims node
-  outline-claimed parts claims node same few are = record {
-    are = subst (λ (l : List Part). AreClaimsOf l claims node) same are;
-    certified = plan-certified out.plan block leaves node out.is (are.node_is out.plan (same ∙ parts-are)) (omega arith);
-  }
+-- the block of a trie's root
+pub whole-block : (version : Version) (root block : Block) → block ≡ root → root.version ≡ version → root.value ≡ 0 → root.len ≡ 0 → IsWhole version block
+whole-block version root block is of start bits =
+    subst (IsWhole version) (sym is) (record { version_is = of; start = start; bits = bits })
 
 -- and the entries that are listed by them
-pub claimed-has : (block whole : Block) (leaves : List LeafModel) (all parts : List Part) (claims : Claims) (node : Node) → block ≡ whole → parts ≡ all
-    → IsClaimed whole leaves all claims node → HasClaims block parts claims node
-claimed-has block whole leaves all parts claims node same is claimed = record {
-  are = subst (λ (l : List Part). AreClaimsOf l claims node) (sym is) claimed.are;
-  sound = subst (λ (b : Block). IsSound node (width_of b.version - b.len)) (sym same) claimed.certified.sound;
-}
+pub claimed-has : (version : Version) (block : Block) (leaves : List LeafModel) (parts : List Part) (claims : Claims) (node : Node) → IsWhole version block
+    → IsClaimed version leaves parts claims node → HasClaims block parts claims node
+claimed-has version block leaves parts claims node whole claimed =
+    let bits = whole.bits in
+    let width : width_of block.version ≡ width_of version = ap width_of whole.version_is in
+    let room : width_of version ≡ width_of block.version - block.len = omega arith in
+    record { are = claimed.are; sound = subst (IsSound node) room claimed.certified.sound }
 
-pub claimed-listed : (block whole : Block) (leaves : List LeafModel) (all parts : List Part) (claims : Claims) (node : Node) (old new : List Entry) → block ≡ whole → parts ≡ all → old ≡ []
-    → IsClaimed whole leaves all claims node → AddsListed block parts claims old new → IsListedBy whole leaves node new
-claimed-listed block whole leaves all parts claims node old new same is first claimed adds = record {
+pub claimed-listed : (version : Version) (block : Block) (leaves : List LeafModel) (parts : List Part) (claims : Claims) (node : Node) (old new : List Entry) → IsWhole version block → old ≡ []
+    → IsClaimed version leaves parts claims node → AddsListed block parts claims old new → IsListedBy version leaves node new
+claimed-listed version block leaves parts claims node old new whole first claimed adds = record {
+  block = block;
+  whole = whole;
   certified = claimed.certified;
-  adds =
-      subst (λ (b : Block). AddsEntries node b None [] new) same
-      (subst (λ (l : List Entry). AddsEntries node block None l new) first
-      (adds node (claimed-has block whole leaves all parts claims node same is claimed)));
+  adds = subst (λ (l : List Entry). AddsEntries node block None l new) first (adds node (claimed-has version block leaves parts claims node whole claimed));
 }

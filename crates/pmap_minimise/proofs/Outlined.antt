@@ -1,47 +1,12 @@
 -- The certificate's nodes from the outline of a trie.
-use Rattle.std.proofs.Common.{◌≡◌, ℕ, zero, suc, ◌+◌, ◌*◌, ◌^◌, ◌<◌, ◌≤◌, ◌∙◌, List, [], ◌∷◌, ◌++◌, Some, length, drop, get_or, refl, sym, ap, subst, arith, drop-cons, length-append, length-drop}
+use Rattle.std.proofs.Common.{◌≡◌, ℕ, zero, suc, ◌+◌, ◌^◌, ◌<◌, ◌≤◌, ◌∙◌, List, [], ◌∷◌, ◌++◌, length, drop, get_or, refl, sym, ap, subst, arith, drop-cons, length-append, length-drop}
 use Rattle.std.proofs.lemmas.List.{append-nil, append_assoc, drop_all, same_from_push}
-use Rattle.prefix_keys.specs.declared.block.Block.{Block}
-use Rattle.pmap_text.specs.declared.label.LabelId.{LabelId}
-use Rattle.label_trie.specs.CursorModel.{CursorModel}
-use Rattle.label_trie.specs.Leaf.{model_of}
-use Rattle.label_trie.specs.Parts.{IsDivided}
-use Rattle.label_trie.specs.TrieModel.{LeafModel}
-use Rattle.pmap_minimise.specs.Certified.{IsCertified}
 use Rattle.pmap_minimise.specs.Numbers.{IsJoined}
-use Rattle.pmap_minimise.specs.Outline.{AddsOutline, AreNodesFrom, AreStacked, AreWhole, Fork, IsAdded, IsNodeFor, IsOutline, IsPlanOf, IsReady, Plan, Tip, forked, parts_of, plans_of, tips}
+use Rattle.pmap_minimise.specs.Outline.{AreNodesFrom, AreStacked, AreWhole, Fork, IsAdded, IsNodeFor, IsOutline, IsReady, Plan, Tip, forked, parts_of, plans_of, tips}
 use Rattle.pmap_minimise.specs.declared.outline.Part.{Part}
 use Rattle.pmap_minimise.specs.declared.outline.Part.TheVariants.{Divided, Labelled}
-use Rattle.pmap_minimise.proofs.Joined.{joined-certified, leaf-certified}
 use Rattle.pmap_minimise.proofs.Texts.{exact-cost}
 use Rattle.pmap_cert.specs.Node.{Chain, Inner, Leaf, Node, cost_of, set_of}
-
--- a leaf's part, and the parts of two halves behind their block's
-pub leaf-outline : (block : Block) (leaves : List LeafModel) (id : LabelId) (old new : List Part) → new ≡ old ++ Labelled id ∷ []
-    → leaves ≡ model_of (record { block = block; label = Some id }) ∷ [] → AddsOutline block leaves old new
-leaf-outline block leaves id old new is leaf = record { plan = Tip id; parts = is; is = leaf }
-
-pub halves-outline : (whole low high : CursorModel) (old new0 new1 new2 : List Part) → IsDivided whole low high → new0 ≡ old ++ Divided ∷ []
-    → AddsOutline low.block low.leaves new0 new1 → AddsOutline high.block high.leaves new1 new2 → AddsOutline whole.block whole.leaves old new2
-halves-outline whole low high old new0 new1 new2 divided is lower upper = record {
-  plan = Fork lower.plan upper.plan;
-  parts =
-      upper.parts ∙ ap (λ (l : List Part). l ++ parts_of upper.plan) (lower.parts ∙ ap (λ (l : List Part). l ++ parts_of lower.plan) is)
-      ∙ append_assoc (old ++ Divided ∷ []) (parts_of lower.plan) (parts_of upper.plan)
-      ∙ append_assoc old (Divided ∷ []) (parts_of lower.plan ++ parts_of upper.plan);
-  is = record {
-    low_block = low.block;
-    high_block = high.block;
-    low_leaves = low.leaves;
-    high_leaves = high.leaves;
-    low_half = divided.low_half;
-    high_half = divided.high_half;
-    leaves_are = divided.leaves;
-    unsettled = divided.unsettled;
-    low = lower.is;
-    high = upper.is;
-  };
-}
 
 -- the node of a tree costs less than its leaves
 joined-cost : (low high node : Node) → IsJoined low high node → cost_of node ≤ cost_of low + cost_of high + 1
@@ -56,25 +21,6 @@ node-cost (Fork low high) node is =
     let b = node-cost high is.high is.high_is in
     let c = joined-cost is.low is.high node is.joined in
     omega arith
-
--- the node of the tree of a block is the certificate's
-pub plan-certified : (plan : Plan) (block : Block) (leaves : List LeafModel) (node : Node) → IsPlanOf plan block leaves → IsNodeFor plan node → length leaves < 2 ^ 32
-    → IsCertified block leaves node
-plan-certified (Tip id) block leaves node plan is few = subst (λ (n : Node). IsCertified block leaves n) (sym is) (leaf-certified block leaves id plan)
-plan-certified (Fork low high) block leaves node plan is few =
-    let count : length leaves ≡ length plan.low_leaves + length plan.high_leaves = ap length plan.leaves_are ∙ length-append plan.low_leaves plan.high_leaves in
-    joined-certified block plan.low_block plan.high_block leaves plan.low_leaves plan.high_leaves is.low is.high plan.low_half plan.high_half plan.leaves_are
-    plan.unsettled few (plan-certified low plan.low_block plan.low_leaves is.low plan.low is.low_is (omega arith))
-    (plan-certified high plan.high_block plan.high_leaves is.high plan.high is.high_is (omega arith)) node is.joined
-
--- a tree has one part less than twice its leaves
-pub plan-length : (plan : Plan) (block : Block) (leaves : List LeafModel) → IsPlanOf plan block leaves → length (parts_of plan) + 1 ≡ 2 * length leaves
-plan-length (Tip id) block leaves plan = let one : length leaves ≡ 1 = ap length plan in omega arith
-plan-length (Fork low high) block leaves plan =
-    let count : length leaves ≡ length plan.low_leaves + length plan.high_leaves = ap length plan.leaves_are ∙ length-append plan.low_leaves plan.high_leaves in
-    let a = plan-length low plan.low_block plan.low_leaves plan.low in
-    let b = plan-length high plan.high_block plan.high_leaves plan.high in
-    omega (arith, length-append (parts_of low) (parts_of high))
 
 -- the parts of a tree are read as that tree
 read-plan : (plan : Plan) (rest : List Part) → plans_of (parts_of plan ++ rest) ≡ plan ∷ plans_of rest

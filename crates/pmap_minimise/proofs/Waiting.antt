@@ -3,7 +3,7 @@ use Rattle.std.proofs.Common.{◌≡◌, ℕ, ◌+◌, ◌-◌, ◌<◌, ◌≤�
 use Rattle.std.proofs.Math.Seq.{get_or-append_seam, take-append_seam, take-length}
 use Rattle.std.proofs.lemmas.List.{append-nil, append_assoc, drop_all, take-append-drop}
 use Rattle.pmap_text.specs.declared.label.LabelId.{LabelId}
-use Rattle.pmap_cert.specs.Node.{Chain, Inner, Leaf, Node, cost_of, set_of}
+use Rattle.pmap_cert.specs.Node.{Chain, Inner, Leaf, Node}
 use Rattle.pmap_minimise.specs.Claiming.{AreClaimsOf, all_claims, claims_of}
 use Rattle.pmap_minimise.specs.Kept.{claims_in}
 use Rattle.pmap_minimise.specs.Listing.{AreWaiting}

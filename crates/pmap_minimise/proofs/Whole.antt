@@ -1,11 +1,12 @@
 -- The map's label table has the map's labels, and a list and a certificate by numbers that are the map's minimal pair.
-use Rattle.std.proofs.Common.{◌≡◌, ℕ, ◌-◌, ◌<◌, ◌∙◌, List, [], ◌++◌, None, All, IsTrue, length, map, refl, sym, ap, subst, arith}
+use Rattle.std.proofs.Common.{◌≡◌, ℕ, ◌-◌, ◌<◌, ◌∙◌, List, [], ◌∷◌, ◌++◌, None, All, IsTrue, length, map, refl, sym, ap, subst, arith}
 use Rattle.std.proofs.lemmas.List.Elements.{All-from_recursion, All-map, All-weaker}
 use Rattle.std.proofs.lemmas.List.Folds.{list_any_at}
 use Rattle.std.proofs.lemmas.Option.{none-some, unwrap_or-slice_get}
 use Rattle.std.specs.Str.{bytes_eq}
 use Rattle.prefix_keys.specs.Version.{width_of}
 use Rattle.prefix_keys.specs.declared.block.Block.{Block}
+use Rattle.prefix_keys.specs.declared.version.Version.{Version}
 use Rattle.pmap_text.specs.Label.{IsLabelTable}
 use Rattle.pmap_text.specs.ListModel.{ListModel}
 use Rattle.pmap_text.specs.MapModel.{Label, MapModel}
@@ -15,12 +16,13 @@ use Rattle.pmap_text.specs.declared.entry.Entry.{Entry}
 use Rattle.pmap_text.specs.declared.map_text.MapText.{MapText}
 use Rattle.pmap_cert.specs.CertificateModel.{CertificateModel, Tree, has}
 use Rattle.pmap_cert.specs.ListForm.{HasListForm, IsInOrder}
-use Rattle.pmap_cert.specs.Node.{HasNumberForm, Node, tree_of}
+use Rattle.pmap_cert.specs.CertificateText.{certificate_text, format_header, text_of_lines}
+use Rattle.pmap_cert.specs.Node.{HasNumberForm, Node, line_text, lines_of, tree_of}
 use Rattle.label_trie.specs.Leaf.{number_of}
 use Rattle.label_trie.specs.TrieModel.{IsSettledLeaf, IsUndivided, LeafModel}
 use Rattle.pmap_cert.specs.CertificateForm.{HasTextForm}
 use Rattle.pmap_cert.proofs.Plain.{number-form, number-plain, plain-tree_of}
-use Rattle.pmap_cert.proofs.Written.{node_form}
+use Rattle.pmap_cert.proofs.Written.{node_form, whole_text}
 use Rattle.pmap_text.specs.ListEntries.{HasDistinctBlocks}
 use Rattle.pmap_cert.specs.MinimalPair.{HasItsLabels, IsMinimalPair, StandsFor, entries_of}
 use Rattle.pmap_cert.proofs.InOrder.{list-form}
@@ -30,8 +32,10 @@ use Rattle.pmap_minimise.specs.Shortest.{IsWhole, list_with, shortest_list}
 use Rattle.pmap_minimise.proofs.Distinct.{order-distinct}
 use Rattle.pmap_minimise.proofs.Entered.{half-entries}
 use Rattle.pmap_minimise.specs.Certified.{IsKnownLeaf}
-use Rattle.pmap_minimise.specs.Listing.{IsListedBy}
-use Rattle.pmap_minimise.proofs.Joined.{root-stands, settled-known, whole-number}
+use Rattle.pmap_minimise.specs.Listing.{IsClaimed, IsListedBy}
+use Rattle.pmap_minimise.specs.declared.claim_list.Claims.{Claims}
+use Rattle.pmap_minimise.specs.declared.outline.Part.{Part}
+use Rattle.pmap_minimise.proofs.Joined.{settled-known, whole-number}
 
 table-has : (table : List Label) (n : ℕ) → n < length table → IsTrue (has table (text_at table n))
 table-has table n known =
@@ -84,6 +88,34 @@ whole-entries m root whole old new is ok form none adds =
     ∙ half-entries m.labels (tree_of m.labels root) None None (width_of m.version) (width_of whole.version) 0 whole.len 0 (number_of whole) width refl bits
     (whole-number whole is.start)
 
+-- a root's certificate
+abbrev root_certificate : MapText → Node → CertificateModel
+root_certificate m root = record { format = 1; version = m.version; table = m.labels; root = tree_of m.labels root }
+
+root-form : (m : MapText) (root : Node) → HasNumberForm (length m.labels) root (width_of m.version) → IsLabelTable m.labels → HasTextForm (root_certificate m root)
+root-form m root form ok = record {
+  format = refl;
+  plain = plain-tree_of m.labels root (number-plain (length m.labels) root (width_of m.version) form);
+  table = ok;
+  root = node_form m.labels ok root (width_of m.version) (number-form (length m.labels) root (width_of m.version) form);
+}
+
+-- the text of a root's certificate that is part of the map's minimal pair
+pub claimed-text : (m : MapText) (version : Version) (leaves : List LeafModel) (parts : List Part) (claims : Claims) (root : Node) (head text : List ℕ) → IsClaimed version leaves parts claims root
+    → version ≡ m.version → IsLabelTable m.labels → All (IsSettledLeaf (map_of m)) leaves → All (IsUndivided (map_of m)) leaves
+    → head ≡ text_of_lines (format_header 1 m.version (length m.labels) ∷ m.labels) → text ≡ head ++ text_of_lines (map line_text (lines_of root))
+    → (l : ListModel) × (c : CertificateModel) × IsMinimalPair (map_of m) l c × HasTextForm c × (text ≡ certificate_text c)
+claimed-text m version leaves parts claims root head text claimed same ok settled undivided head_is text_is =
+    let known = All-weaker (IsSettledLeaf (map_of m)) (IsKnownLeaf (length m.labels)) (settled-known (map_of m)) leaves settled in
+    let form : HasNumberForm (length m.labels) root (width_of m.version) =
+    subst (λ (v : Version). HasNumberForm (length m.labels) root (width_of v)) same (claimed.certified.form (length m.labels) known) in (
+      shortest_list (map_of m) (tree_of m.labels root),
+      root_certificate m root,
+      minimal (map_of m) _ _ (tree_of m.labels root) (claimed.certified.stands (map_of m) ok settled undivided) refl refl,
+      root-form m root form ok,
+      whole_text 1 m.version m.labels root (width_of m.version) (lines_of root) head text ok (number-form (length m.labels) root (width_of m.version) form) refl head_is text_is,
+    )
+
 -- the entries are those of a certificate's root, which stands for the address space
 pub record IsShortestBy (m : MapText) (root : Node) (items : List Entry) : Type 0 where
   pub versions : All (λ e. e.block.version ≡ m.version) items
@@ -92,22 +124,23 @@ pub record IsShortestBy (m : MapText) (root : Node) (items : List Entry) : Type 
   pub form : HasNumberForm (length m.labels) root (width_of m.version)
   pub entries : map (prefix_of m.labels) items ≡ entries_of (width_of m.version) m.labels (tree_of m.labels root) None 0 0
 
-pub listed-shortest : (m : MapText) (block : Block) (all leaves : List LeafModel) (root : Node) (items : List Entry) → IsListedBy block leaves root items → leaves ≡ all
-    → IsLabelTable m.labels → All (IsSettledLeaf (map_of m)) all → All (IsUndivided (map_of m)) all → IsWhole m.version block → IsShortestBy m root items
-listed-shortest m block all leaves root items listed is ok settled undivided whole =
-    let version = whole.version_is in
+pub listed-shortest : (m : MapText) (version : Version) (leaves : List LeafModel) (root : Node) (items : List Entry) → IsListedBy version leaves root items → version ≡ m.version
+    → IsLabelTable m.labels → All (IsSettledLeaf (map_of m)) leaves → All (IsUndivided (map_of m)) leaves → IsShortestBy m root items
+listed-shortest m version leaves root items listed same ok settled undivided =
+    let block = listed.block in
+    let whole : IsWhole m.version block = subst (λ (v : Version). IsWhole v block) same listed.whole in
     let bits = whole.bits in
-    let width : width_of block.version ≡ width_of m.version = ap width_of version in
-    let room : width_of block.version - block.len ≡ width_of m.version = omega arith in
-    let known = All-weaker (IsSettledLeaf (map_of m)) (IsKnownLeaf (length m.labels)) (settled-known (map_of m)) leaves (subst (λ (l : List LeafModel). All (IsSettledLeaf (map_of m)) l) (sym is) settled) in
+    let width : width_of block.version ≡ width_of m.version = ap width_of whole.version_is in
+    let room : width_of m.version ≡ width_of block.version - block.len = omega arith in
+    let known = All-weaker (IsSettledLeaf (map_of m)) (IsKnownLeaf (length m.labels)) (settled-known (map_of m)) leaves settled in
     let form : HasNumberForm (length m.labels) root (width_of m.version) =
-    subst (λ (r : ℕ). HasNumberForm (length m.labels) root r) room (listed.certified.form (length m.labels) known) in
+    subst (λ (v : Version). HasNumberForm (length m.labels) root (width_of v)) same (listed.certified.form (length m.labels) known) in
     let fit : All (IsEntryOf block (length m.labels)) items =
-    listed.adds.fit (length m.labels) (λ x e. absurd (none-some x e)) (listed.certified.form (length m.labels) known) (All-from_recursion (IsEntryOf block (length m.labels)) [] tt) in
+    listed.adds.fit (length m.labels) (λ x e. absurd (none-some x e)) (subst (λ (r : ℕ). HasNumberForm (length m.labels) root r) room form) (All-from_recursion (IsEntryOf block (length m.labels)) [] tt) in
     record {
-      versions = All-weaker (IsEntryOf block (length m.labels)) (λ e. e.block.version ≡ m.version) (λ e fits. fits.version ∙ version) items fit;
+      versions = All-weaker (IsEntryOf block (length m.labels)) (λ e. e.block.version ≡ m.version) (λ e fits. fits.version ∙ whole.version_is) items fit;
       known = All-weaker (IsEntryOf block (length m.labels)) (λ e. e.label.0 < length m.labels) (λ e fits. fits.known) items fit;
-      stands = root-stands (map_of m) root block all leaves listed.certified is ok settled undivided bits whole.start;
+      stands = listed.certified.stands (map_of m) ok settled undivided;
       form = form;
       entries = whole-entries m root block [] items whole ok form refl listed.adds;
     }
@@ -131,13 +164,4 @@ module _ (m : MapText) (root : Node) (items : List Entry) (shortest : IsShortest
     listed-minimal c certificate = minimal (map_of m) l c (tree_of m.labels root) shortest.stands listed-is certificate
 
     pub listed-pair : IsLabelTable m.labels → (c : CertificateModel) × IsMinimalPair (map_of m) l c × HasTextForm c
-    listed-pair ok = (
-      record { format = 1; version = m.version; table = m.labels; root = tree_of m.labels root },
-      listed-minimal (record { format = 1; version = m.version; table = m.labels; root = tree_of m.labels root }) refl,
-      record {
-        format = refl;
-        plain = plain-tree_of m.labels root (number-plain (length m.labels) root (width_of m.version) shortest.form);
-        table = ok;
-        root = node_form m.labels ok root (width_of m.version) (number-form (length m.labels) root (width_of m.version) shortest.form);
-      },
-    )
+    listed-pair ok = (root_certificate m root, listed-minimal (root_certificate m root) refl, root-form m root shortest.form ok)

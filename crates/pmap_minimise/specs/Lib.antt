@@ -4,7 +4,6 @@ pub mod Entered
 pub mod Shortest
 pub mod Outline
 pub mod Walk
-pub mod Laid
 pub mod Kept
 pub mod Claiming
 pub mod Listing

@@ -1,6 +1,7 @@
 use Rattle.std.specs.Prelude.{◌≡◌, ℕ, ◌+◌, ◌-◌, ◌≤◌, List, [], ◌∷◌, ◌++◌, Some, None, drop, length, map, take}
 use Rattle.prefix_keys.specs.Version.{width_of}
 use Rattle.prefix_keys.specs.declared.block.Block.{Block}
+use Rattle.prefix_keys.specs.declared.version.Version.{Version}
 use Rattle.pmap_text.specs.declared.entry.Entry.{Entry}
 use Rattle.pmap_text.specs.declared.label.LabelId.{LabelId}
 use Rattle.pmap_cert.specs.Node.{Chain, Inner, Leaf, Node}
@@ -12,6 +13,7 @@ use Rattle.pmap_minimise.specs.Entered.{AddsEntries}
 use Rattle.pmap_minimise.specs.Kept.{claims_in}
 use Rattle.pmap_minimise.specs.Numbers.{IsSound}
 use Rattle.pmap_minimise.specs.Outline.{AreStacked, plans_of}
+use Rattle.pmap_minimise.specs.Shortest.{IsWhole}
 use Rattle.pmap_minimise.specs.Walk.{IsUnderWay}
 use Rattle.pmap_minimise.specs.declared.claim_list.Claims.{Claims}
 use Rattle.pmap_minimise.specs.declared.listing.Heir.{Heir}
@@ -36,14 +38,16 @@ pub record HasClaims (block : Block) (parts : List Part) (claims : Claims) (node
 abbrev pub AddsListed : Block → List Part → Claims → List Entry → List Entry → Type 0
 AddsListed block parts claims old new = (node : Node) → HasClaims block parts claims node → AddsEntries node block None old new
 
--- the claims are those of the node, which is the certificate's for a block with these leaves
-pub record IsClaimed (block : Block) (leaves : List LeafModel) (parts : List Part) (claims : Claims) (node : Node) : Type 0 where
+-- the claims are those of the node, which is the certificate's for the address space with these leaves
+pub record IsClaimed (version : Version) (leaves : List LeafModel) (parts : List Part) (claims : Claims) (node : Node) : Type 0 where
   pub are : AreClaimsOf parts claims node
-  pub certified : IsCertified block leaves node
+  pub certified : IsCertified 0 0 (width_of version) leaves node
 
--- the entries are those of the node, which is the certificate's for a block with these leaves
-pub record IsListedBy (block : Block) (leaves : List LeafModel) (node : Node) (entries : List Entry) : Type 0 where
-  pub certified : IsCertified block leaves node
+-- the entries are those of the node, which is the certificate's for the address space with these leaves
+pub record IsListedBy (version : Version) (leaves : List LeafModel) (node : Node) (entries : List Entry) : Type 0 where
+  pub block : Block
+  pub whole : IsWhole version block
+  pub certified : IsCertified 0 0 (width_of version) leaves node
   pub adds : AddsEntries node block None [] entries
 
 -- how many nodes there are at and below it

@@ -1,16 +1,25 @@
-use Rattle.std.specs.Prelude.{◌≡◌, ℕ, ◌+◌, ◌^◌, ◌<◌, ◌≤◌, List, [], ◌∷◌, ◌++◌, None, Some, All, drop, length}
-use Rattle.prefix_keys.specs.declared.block.Block.{Block}
-use Rattle.pmap_text.specs.MapModel.{MapModel, settled_label}
+use Rattle.std.specs.Prelude.{◌≡◌, ℕ, ◌+◌, ◌^◌, ◌<◌, ◌≤◌, List, [], ◌∷◌, ◌++◌, Option, None, Some, drop, length, map}
 use Rattle.pmap_text.specs.declared.label.LabelId.{LabelId}
-use Rattle.label_trie.specs.Leaf.{model_of, number_of}
-use Rattle.label_trie.specs.Parts.{IsHalf}
-use Rattle.label_trie.specs.TrieModel.{IsUndivided, LeafModel}
+use Rattle.label_trie.specs.TrieModel.{LeafModel, NodeModel}
 use Rattle.pmap_minimise.specs.Numbers.{IsJoined}
 use Rattle.pmap_minimise.specs.declared.outline.Part.{Part}
 use Rattle.pmap_minimise.specs.declared.outline.Part.TheVariants.{Divided, Labelled}
 use Rattle.pmap_cert.specs.Node.{Leaf, Node, cost_of}
 
 -- The outline of a trie, and the certificate's nodes made of it from its end: how the code goes over a trie.
+
+-- what there is at a node with these leaves, of which each has a label
+abbrev pub label_part : Option ℕ → Part
+label_part None = Divided
+label_part (Some n) = Labelled (record { 0 = n })
+
+abbrev pub leaves_part : List LeafModel → Part
+leaves_part (leaf ∷ []) = label_part leaf.label
+leaves_part leaves = Divided
+
+-- what there is at each node of a trie
+abbrev pub outline_of : List NodeModel → List Part
+outline_of nodes = map (λ node. leaves_part node.leaves) nodes
 
 -- a trie's tree: a leaf with its label, or two halves
 pub data Plan : Type 0 where
@@ -26,30 +35,6 @@ parts_of (Fork low high) = Divided ∷ (parts_of low ++ parts_of high)
 abbrev pub tips : Plan → ℕ
 tips (Tip id) = 1
 tips (Fork low high) = tips low + tips high
-
--- the block with these leaves is divided into two, of which each holds for its block and leaves
-pub record IsDividedBy (block : Block) (leaves : List LeafModel) (Low High : Block → List LeafModel → Type 0) : Type 0 where
-  pub low_block : Block
-  pub high_block : Block
-  pub low_leaves : List LeafModel
-  pub high_leaves : List LeafModel
-  pub low_half : IsHalf 0 block low_block
-  pub high_half : IsHalf 1 block high_block
-  pub leaves_are : leaves ≡ low_leaves ++ high_leaves
-  pub unsettled : (m : MapModel) → All (IsUndivided m) leaves → settled_label m block.len (number_of block) ≡ None
-  pub low : Low low_block low_leaves
-  pub high : High high_block high_leaves
-
--- the tree is that of a block with these leaves
-abbrev pub IsPlanOf : Plan → Block → List LeafModel → Type 0
-IsPlanOf (Tip id) block leaves = leaves ≡ model_of (record { block = block; label = Some id }) ∷ []
-IsPlanOf (Fork low high) block leaves = IsDividedBy block leaves (IsPlanOf low) (IsPlanOf high)
-
--- the new parts are the old ones and those of the tree of the block with these leaves
-pub record AddsOutline (block : Block) (leaves : List LeafModel) (old new : List Part) : Type 0 where
-  pub plan : Plan
-  pub parts : new ≡ old ++ parts_of plan
-  pub is : IsPlanOf plan block leaves
 
 -- the node is one of two nodes of which each holds
 pub record IsNodeOver (Low High : Node → Type 0) (node : Node) : Type 0 where

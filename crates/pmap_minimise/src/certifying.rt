@@ -1,24 +1,29 @@
-//! The certificate's nodes, from the outline of a trie and what they claim.
-ghost use Rattle.std.specs.Prelude.{◌≡◌, IfOk};
-ghost use Rattle.pmap_cert.specs.Node.{Node};
+//! The certificate's nodes and their lines, from a trie and what they claim.
+ghost use Rattle.std.specs.Prelude.{◌≡◌, ◌++◌, All, IfOk, IsSome, OnOk, map};
+ghost use Rattle.pmap_cert.specs.CertificateText.{text_of_lines};
+ghost use Rattle.pmap_cert.specs.Node.{Node, line_text, lines_of};
 ghost use Rattle.pmap_minimise.specs.Claiming.{AreClaimsOf};
+ghost use Rattle.pmap_minimise.specs.Outline.{outline_of};
 
 use crate::claim_list::Claims;
-use crate::outline::Part;
-use pmap_cert::{Nodes, Root};
+use crate::outline::{Part, part_at};
+use label_trie::Trie;
+use pmap_cert::{Nodes, Root, push_inner_line, push_leaf_line};
 use std::alloc::{AllocError, Global};
 
-/// The certificate's nodes of an outline, whose inner nodes claim this. The parts are met from the first to the last,
-/// and so the claims from the last to the first.
-pub fn certified(alloc: Global, parts: &[Part], claims: &Claims) -> Result<Root, AllocError>
-    requires { (node : Node) × AreClaimsOf parts.now claims.now node }
-    ensures { IfOk result (λ root. (node : Node) → AreClaimsOf parts.now claims.now node → root ≡ node) }
+/// The certificate's nodes of a trie, whose inner nodes claim this. The trie's nodes are met from the first to the
+/// last, and so the claims from the last to the first.
+pub fn certified(alloc: Global, trie: &Trie, claims: &Claims) -> Result<Root, AllocError>
+    requires labelled { All (λ leaf. IsSome leaf.label) trie.now.leaves }
+    requires claimed { (node : Node) × AreClaimsOf (outline_of trie.now.nodes) claims.now node }
+    ensures { IfOk result (λ root. (node : Node) → AreClaimsOf (outline_of trie.now.nodes) claims.now node
+        → root ≡ node) }
 {
     let mut nodes = Nodes::new(alloc);
     let mut left = claims.len();
-    for part in parts {
-        match part {
-            Part::Labelled(id) => nodes.push_leaf(*id)?,
+    for number in 0..trie.node_count() {
+        match part_at(trie, number) {
+            Part::Labelled(id) => nodes.push_leaf(id)?,
             Part::Divided => {
                 left -= 1;
                 nodes.push_inner(claims.cost(left), claims.set(left))?;
@@ -26,4 +31,24 @@ pub fn certified(alloc: Global, parts: &[Part], claims: &Claims) -> Result<Root,
         }
     }
     Ok(Root::new(nodes))
+}
+
+/// Appends the lines of these nodes, without making the nodes.
+pub fn push_lines(out: &mut Vec<u8>, trie: &Trie, claims: &Claims) -> Result<(), AllocError>
+    requires labelled { All (λ leaf. IsSome leaf.label) trie.now.leaves }
+    requires claimed { (node : Node) × AreClaimsOf (outline_of trie.now.nodes) claims.now node }
+    ensures { OnOk result ((node : Node) → AreClaimsOf (outline_of trie.now.nodes) claims.now node
+        → out.new.items ≡ out.old.items ++ text_of_lines (map line_text (lines_of node))) }
+{
+    let mut left = claims.len();
+    for number in 0..trie.node_count() {
+        match part_at(trie, number) {
+            Part::Labelled(id) => push_leaf_line(out, id)?,
+            Part::Divided => {
+                left -= 1;
+                push_inner_line(out, claims.cost(left), claims.set(left))?;
+            }
+        }
+    }
+    Ok(())
 }

@@ -1,16 +1,19 @@
 //! What the inner nodes of a certificate claim, without these nodes: all that the list and the certificate are told by.
-ghost use Rattle.std.specs.Prelude.{◌≡◌, ◌^◌, ◌≤◌, IfOk, OnOk, length};
+ghost use Rattle.std.specs.Prelude.{◌≡◌, ◌^◌, ◌∷◌, [], All, IfOk, IsSome, OnOk};
+ghost use Rattle.std.specs.Option.{ForSome};
 ghost use Rattle.pmap_cert.specs.CertificateForm.{IsRising};
 ghost use Rattle.pmap_cert.specs.Node.{Node};
 ghost use Rattle.pmap_minimise.specs.Kept.{AreKept, claims_in};
-ghost use Rattle.pmap_minimise.specs.Claiming.{AreCheap, AreClaimsOf, IsHalfAdded, IsHalfIn, IsHalfJoined, IsHalfReady, claimed_by};
+ghost use Rattle.pmap_minimise.specs.Claiming.{AreCheap, IsHalfAdded, IsHalfIn, IsHalfJoined, IsHalfReady, claimed_by};
 ghost use Rattle.pmap_minimise.specs.Numbers.{IsExactClaim, numbers_of};
-ghost use Rattle.pmap_minimise.specs.Outline.{IsOutline};
+ghost use Rattle.pmap_minimise.specs.Listing.{IsClaimed};
+ghost use Rattle.pmap_minimise.specs.Outline.{outline_of};
 
 use crate::claim_list::Claims;
-use crate::outline::Part;
+use crate::outline::{Part, part_at};
 use crate::sets::{SmallSet, exact_set};
 use crate::stack::pop;
+use label_trie::Trie;
 use pmap_text::LabelId;
 use std::alloc::{AllocError, Global};
 use std::slice;
@@ -50,6 +53,22 @@ fn cost_at(claims: &Claims, half: &Half) -> u32
     }
 }
 
+// The label that each of two halves claims alone, if there is one: so it is with most halves.
+fn shared_label(claims: &Claims, low: &Half, high: &Half) -> Option<LabelId>
+    requires kept { AreKept claims.now }
+    requires low { IsHalfIn (claims_in claims.now) low.now }
+    requires high { IsHalfIn (claims_in claims.now) high.now }
+    ensures { ForSome result (λ id. ((claimed_by (claims_in claims.now) low.now).set ≡ id.0 ∷ [])
+        × ((claimed_by (claims_in claims.now) high.now).set ≡ id.0 ∷ [])) }
+{
+    let lower = labels_at(claims, low);
+    let higher = labels_at(claims, high);
+    if lower.len() == 1 && higher.len() == 1 && lower[0].0 == higher[0].0 {
+        return Some(lower[0]);
+    }
+    None
+}
+
 // The exact cost and set of two halves.
 fn exact_of(
     alloc: Global,
@@ -78,8 +97,13 @@ fn join(alloc: Global, claims: &mut Claims, low: Half, high: Half) -> Result<Hal
     requires cheap { AreCheap (claims_in claims.old) low high }
     ensures { IfOk result (IsHalfJoined low high claims.old claims.new) }
 {
-    let (cost, set) = exact_of(alloc, claims, &low, &high)?;
     let number = claims.len();
+    if let Some(id) = shared_label(claims, &low, &high) {
+        let cost = cost_at(claims, &low) + cost_at(claims, &high);
+        claims.push(cost, slice::from_ref(&id.0))?;
+        return Ok(Half::Claiming(number));
+    }
+    let (cost, set) = exact_of(alloc, claims, &low, &high)?;
     claims.push(cost, set.as_slice())?;
     Ok(Half::Claiming(number))
 }
@@ -107,18 +131,18 @@ fn push_half(
     Ok(())
 }
 
-/// What the inner nodes of the certificate of an outline claim, from its last part to its first.
-pub fn claimed(alloc: Global, parts: &[Part]) -> Result<Claims, AllocError>
-    requires outline { IsOutline parts.now }
-    requires few { length parts.now ≤ 2 ^ 32 }
-    ensures { IfOk result (λ claims. (node : Node) × AreClaimsOf parts.now claims node) }
+/// What the inner nodes of the certificate of a trie claim, from its last node to its first.
+pub fn claimed(alloc: Global, trie: &Trie) -> Result<Claims, AllocError>
+    requires { All (λ leaf. IsSome leaf.label) trie.now.leaves }
+    ensures { IfOk result (λ claims. (node : Node)
+        × IsClaimed trie.now.version trie.now.leaves (outline_of trie.now.nodes) claims node) }
 {
     let mut claims = Claims::new(alloc);
     let mut halves = Vec::new(alloc);
-    let mut left = parts.len();
+    let mut left = trie.node_count();
     while left > 0 {
         left -= 1;
-        push_half(alloc, &mut halves, &mut claims, parts[left])?;
+        push_half(alloc, &mut halves, &mut claims, part_at(trie, left))?;
     }
     Ok(claims)
 }

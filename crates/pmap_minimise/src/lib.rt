@@ -15,7 +15,8 @@
 //! It stands on label_trie (the map's trie), pmap_cert (certificates, and the laws on minimal pairs), pmap_text (maps
 //! and lists) and `smallvec` for small sets of labels. The layer above may rely on `minimise`: the list and the
 //! certificate are the map's minimal pair, so the list is equivalent to the map, has the root's cost and one entries,
-//! no equivalent list has fewer, and the certificate is accepted for the two. `shortest` makes the list alone.
+//! no equivalent list has fewer, and the certificate is accepted for the two. `shortest` makes the list
+//! alone, and `certificate_text` the text of the certificate.
 #![tactic(auto)]
 
 mod certifying;
@@ -28,4 +29,4 @@ mod outline;
 mod sets;
 mod stack;
 
-pub use minimal::{Minimal, minimise, shortest};
+pub use minimal::{Minimal, certificate_text, minimise, shortest};

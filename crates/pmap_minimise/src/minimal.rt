@@ -1,20 +1,23 @@
 ghost use Rattle.std.specs.Prelude.{◌≡◌, ◌+◌, ◌<◌, All, IfOk, length};
 ghost use Rattle.pmap_text.specs.ListEntries.{HasDistinctBlocks};
-ghost use Rattle.pmap_text.specs.ListModel.{IsEquivalent};
+ghost use Rattle.pmap_text.specs.ListModel.{IsEquivalent, ListModel};
 ghost use Rattle.pmap_text.specs.MapText.{map_of};
 ghost use Rattle.pmap_text.specs.PrefixList.{list_of};
 ghost use Rattle.pmap_cert.specs.Acceptance.{IsAccepted, IsLeast};
 ghost use Rattle.pmap_cert.specs.Certificate.{certificate_of};
 ghost use Rattle.pmap_cert.specs.CertificateForm.{HasTextForm};
 ghost use Rattle.pmap_cert.specs.CertificateModel.{CertificateModel, claim_of};
+ghost use Rattle.pmap_cert.specs.CertificateText.{certificate_text};
 ghost use Rattle.pmap_cert.specs.ListForm.{HasListForm};
 ghost use Rattle.pmap_cert.specs.MinimalPair.{IsMinimalPair};
 ghost use Rattle.label_trie.specs.TrieModel.{IsSettledLeaf, IsUndivided};
 ghost use Rattle.pmap_minimise.specs.Shortest.{list_with};
 
+use crate::certifying::push_lines;
+use crate::claiming::claimed;
 use crate::listing::{listed, listed_and_certified};
 use label_trie::Trie;
-use pmap_cert::{Certificate, minimal_pair_is_accepted};
+use pmap_cert::{Certificate, Format, minimal_pair_is_accepted, push_head};
 use pmap_text::{Entries, Entry, MapText, Name, PrefixList};
 use std::alloc::{AllocError, Global};
 
@@ -45,11 +48,10 @@ pub fn minimise(alloc: Global, map: &MapText, trie: &Trie) -> Result<Minimal, Al
     // The entries are blocks by rising first address, of one address the shorter first.
     ensures order { IfOk result (λ m. HasListForm (list_of m.list)) }
 {
-    // For their laws: a minimal pair is accepted, the table's labels are distinct, and the leaves are few.
+    // For their laws: a minimal pair is accepted, and the table's labels are distinct.
     minimal_pair_is_accepted();
     let _labels = map.labels.len();
-    let place = trie.root();
-    let (items, root) = listed_and_certified(alloc, &place, trie.node_count())?;
+    let (items, root) = listed_and_certified(alloc, trie)?;
     let list = list_with(alloc, map, items)?;
     let labels = map.labels.copy()?;
     let certificate = Certificate::new(map.version, labels, root);
@@ -81,8 +83,27 @@ pub fn shortest(alloc: Global, map: &MapText, trie: &Trie) -> Result<PrefixList,
     // For their laws: a minimal pair is accepted, and the table's labels are distinct.
     minimal_pair_is_accepted();
     let _labels = map.labels.len();
-    let items = listed(alloc, &trie.root(), trie.node_count())?;
+    let items = listed(alloc, trie)?;
     list_with(alloc, map, items)
+}
+
+/// The text of the certificate of `minimise` alone, which is made without the list and without the certificate's nodes.
+/// The trie is the map's, as `Trie::build` makes it.
+pub fn certificate_text(alloc: Global, map: &MapText, trie: &Trie) -> Result<Vec<u8>, AllocError>
+    requires version { trie.now.version ≡ map.now.version }
+    requires settled { All (IsSettledLeaf (map_of map.now)) trie.now.leaves }
+    requires undivided { All (IsUndivided (map_of map.now)) trie.now.leaves }
+    // It is the text of the certificate of the map's minimal pair.
+    ensures { IfOk result (λ text. (l : ListModel) × (c : CertificateModel) × IsMinimalPair (map_of map.now) l c
+        × HasTextForm c × (text.items ≡ certificate_text c)) }
+{
+    // For its law: the table's labels are distinct.
+    let _labels = map.labels.len();
+    let claims = claimed(alloc, trie)?;
+    let mut out = Vec::new(alloc);
+    push_head(&mut out, Format::One, map.version, &map.labels)?;
+    push_lines(&mut out, trie, &claims)?;
+    Ok(out)
 }
 
 // The list of the map's name and table with these entries.

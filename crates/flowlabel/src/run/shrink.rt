@@ -11,8 +11,8 @@ ghost use Rattle.flowlabel.specs.Output.{PrintsMinimal};
 use crate::command::Shrunk;
 use crate::run::recert::compact_text;
 use label_trie::Trie;
-use pmap_cert::{Certificate, write_cert};
-use pmap_minimise::{minimise, shortest};
+use pmap_cert::Certificate;
+use pmap_minimise::{certificate_text, minimise, shortest};
 use pmap_print::print_list;
 use pmap_text::MapText;
 use std::alloc::{AllocError, Global};
@@ -38,7 +38,7 @@ pub fn shrunk_text(alloc: Global, map: &MapText, printed: Shrunk) -> Result<Vec<
     let trie = Trie::build(alloc, map)?;
     match printed {
         Shrunk::List => print_list(alloc, &shortest(alloc, map, &trie)?),
-        Shrunk::Certificate => write_cert(alloc, &minimal_certificate(alloc, map, &trie)?),
+        Shrunk::Certificate => certificate_text(alloc, map, &trie),
         Shrunk::Compact => compact_text(alloc, &minimal_certificate(alloc, map, &trie)?),
     }
 }

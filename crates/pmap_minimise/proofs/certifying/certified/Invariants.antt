@@ -1,7 +1,8 @@
 use Rattle.pmap_cert.specs.Node.{Node}
 use Rattle.pmap_minimise.specs.MadeLines.{IsCertifying}
 use Rattle.pmap_minimise.specs.Claiming.{AreClaimsOf}
+use Rattle.pmap_minimise.specs.Outline.{outline_of}
 use Rattle.pmap_minimise.proofs.certifying.certified.Given as goal
 
-abbrev pub invariant-loop-part : goal.invariant-loop-part
-invariant-loop-part l = (node : Node) → AreClaimsOf l.parts l.claims node → IsCertifying l.parts l.claims node l.part-index l.left l.nodes
+abbrev pub invariant-loop-number : goal.invariant-loop-number
+invariant-loop-number l = (node : Node) → AreClaimsOf (outline_of l.trie.nodes) l.claims node → IsCertifying (outline_of l.trie.nodes) l.claims node l.number l.left l.nodes

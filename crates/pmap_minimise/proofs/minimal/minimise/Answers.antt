@@ -7,7 +7,6 @@ use Rattle.pmap_text.specs.PrefixList.{list_of, prefix_of}
 use Rattle.pmap_cert.specs.Certificate.{certificate_of}
 use Rattle.pmap_cert.specs.Format.{format_number}
 use Rattle.pmap_cert.specs.Node.{HasNumberForm, Node, cost_of, first_node, tree_of}
-use Rattle.pmap_minimise.specs.Shortest.{IsWhole}
 use Rattle.pmap_minimise.proofs.Joined.{claim-cost}
 use Rattle.pmap_minimise.proofs.Whole.{listed-form, listed-minimal, listed-shortest, shortest-distinct}
 use Rattle.pmap_minimise.proofs.minimal.minimise.Goals as goal
@@ -15,41 +14,36 @@ use Rattle.pmap_minimise.proofs.minimal.minimise.Goals as goal
 pub list_with-requires-clause-versions : goal.list_with-requires-clause-versions
 list_with-requires-clause-versions c =
     let m = c.args.map.now in
-    let whole : IsWhole m.version c.root-place.result.block = record { version_is = c.root-place.ensures.version ∙ c.requires.version; start = c.root-place.ensures.value; bits = c.root-place.ensures.len } in
-    let made = listed-shortest m c.root-place.result.block c.args.trie.now.leaves c.root-place.result.leaves c.in_ok-items.root c.in_ok-items.items.items c.in_ok-items.ensures c.root-place.ensures.leaves
-    c.len-labels.ensures.table c.requires.settled c.requires.undivided whole in
+    let made = listed-shortest m c.args.trie.now.version c.args.trie.now.leaves c.in_ok-items.root c.in_ok-items.items.items c.in_ok-items.ensures c.requires.version
+    c.len-labels.ensures.table c.requires.settled c.requires.undivided in
     made.versions
 
 pub list_with-requires-clause-known : goal.list_with-requires-clause-known
 list_with-requires-clause-known c =
     let m = c.args.map.now in
-    let whole : IsWhole m.version c.root-place.result.block = record { version_is = c.root-place.ensures.version ∙ c.requires.version; start = c.root-place.ensures.value; bits = c.root-place.ensures.len } in
-    let made = listed-shortest m c.root-place.result.block c.args.trie.now.leaves c.root-place.result.leaves c.in_ok-items.root c.in_ok-items.items.items c.in_ok-items.ensures c.root-place.ensures.leaves
-    c.len-labels.ensures.table c.requires.settled c.requires.undivided whole in
+    let made = listed-shortest m c.args.trie.now.version c.args.trie.now.leaves c.in_ok-items.root c.in_ok-items.items.items c.in_ok-items.ensures c.requires.version
+    c.len-labels.ensures.table c.requires.settled c.requires.undivided in
     made.known
 
 pub list_with-requires-clause-distinct : goal.list_with-requires-clause-distinct
 list_with-requires-clause-distinct c =
     let m = c.args.map.now in
-    let whole : IsWhole m.version c.root-place.result.block = record { version_is = c.root-place.ensures.version ∙ c.requires.version; start = c.root-place.ensures.value; bits = c.root-place.ensures.len } in
-    let made = listed-shortest m c.root-place.result.block c.args.trie.now.leaves c.root-place.result.leaves c.in_ok-items.root c.in_ok-items.items.items c.in_ok-items.ensures c.root-place.ensures.leaves
-    c.len-labels.ensures.table c.requires.settled c.requires.undivided whole in
+    let made = listed-shortest m c.args.trie.now.version c.args.trie.now.leaves c.in_ok-items.root c.in_ok-items.items.items c.in_ok-items.ensures c.requires.version
+    c.len-labels.ensures.table c.requires.settled c.requires.undivided in
     shortest-distinct m c.in_ok-items.root c.in_ok-items.items.items made
 
 pub new-certificate-requires : goal.new-certificate-requires
 new-certificate-requires c =
     let m = c.args.map.now in
-    let whole : IsWhole m.version c.root-place.result.block = record { version_is = c.root-place.ensures.version ∙ c.requires.version; start = c.root-place.ensures.value; bits = c.root-place.ensures.len } in
-    let made = listed-shortest m c.root-place.result.block c.args.trie.now.leaves c.root-place.result.leaves c.in_ok-items.root c.in_ok-items.items.items c.in_ok-items.ensures c.root-place.ensures.leaves
-    c.len-labels.ensures.table c.requires.settled c.requires.undivided whole in
+    let made = listed-shortest m c.args.trie.now.version c.args.trie.now.leaves c.in_ok-items.root c.in_ok-items.items.items c.in_ok-items.ensures c.requires.version
+    c.len-labels.ensures.table c.requires.settled c.requires.undivided in
     subst (λ (t : List Label). HasNumberForm (length t) c.in_ok-items.root (width_of m.version)) (sym c.in_ok-labels.ensures) made.form
 
 pub returns-clause-minimal : goal.returns-clause-minimal
 returns-clause-minimal c =
     let m = c.args.map.now in
-    let whole : IsWhole m.version c.root-place.result.block = record { version_is = c.root-place.ensures.version ∙ c.requires.version; start = c.root-place.ensures.value; bits = c.root-place.ensures.len } in
-    let made = listed-shortest m c.root-place.result.block c.args.trie.now.leaves c.root-place.result.leaves c.in_ok-items.root c.in_ok-items.items.items c.in_ok-items.ensures c.root-place.ensures.leaves
-    c.len-labels.ensures.table c.requires.settled c.requires.undivided whole in
+    let made = listed-shortest m c.args.trie.now.version c.args.trie.now.leaves c.in_ok-items.root c.in_ok-items.items.items c.in_ok-items.ensures c.requires.version
+    c.len-labels.ensures.table c.requires.settled c.requires.undivided in
     let l = list_of c.in_ok-list.list in
     let certificate = certificate_of c.new-certificate.result in
     let table = c.new-certificate.ensures.labels ∙ c.in_ok-labels.ensures in
@@ -61,9 +55,8 @@ returns-clause-minimal c =
 pub returns-clause-equivalent : goal.returns-clause-equivalent
 returns-clause-equivalent c =
     let m = c.args.map.now in
-    let whole : IsWhole m.version c.root-place.result.block = record { version_is = c.root-place.ensures.version ∙ c.requires.version; start = c.root-place.ensures.value; bits = c.root-place.ensures.len } in
-    let made = listed-shortest m c.root-place.result.block c.args.trie.now.leaves c.root-place.result.leaves c.in_ok-items.root c.in_ok-items.items.items c.in_ok-items.ensures c.root-place.ensures.leaves
-    c.len-labels.ensures.table c.requires.settled c.requires.undivided whole in
+    let made = listed-shortest m c.args.trie.now.version c.args.trie.now.leaves c.in_ok-items.root c.in_ok-items.items.items c.in_ok-items.ensures c.requires.version
+    c.len-labels.ensures.table c.requires.settled c.requires.undivided in
     let l = list_of c.in_ok-list.list in
     let certificate = certificate_of c.new-certificate.result in
     let table = c.new-certificate.ensures.labels ∙ c.in_ok-labels.ensures in
@@ -75,9 +68,8 @@ returns-clause-equivalent c =
 pub returns-clause-least : goal.returns-clause-least
 returns-clause-least c =
     let m = c.args.map.now in
-    let whole : IsWhole m.version c.root-place.result.block = record { version_is = c.root-place.ensures.version ∙ c.requires.version; start = c.root-place.ensures.value; bits = c.root-place.ensures.len } in
-    let made = listed-shortest m c.root-place.result.block c.args.trie.now.leaves c.root-place.result.leaves c.in_ok-items.root c.in_ok-items.items.items c.in_ok-items.ensures c.root-place.ensures.leaves
-    c.len-labels.ensures.table c.requires.settled c.requires.undivided whole in
+    let made = listed-shortest m c.args.trie.now.version c.args.trie.now.leaves c.in_ok-items.root c.in_ok-items.items.items c.in_ok-items.ensures c.requires.version
+    c.len-labels.ensures.table c.requires.settled c.requires.undivided in
     let l = list_of c.in_ok-list.list in
     let certificate = certificate_of c.new-certificate.result in
     let table = c.new-certificate.ensures.labels ∙ c.in_ok-labels.ensures in
@@ -89,9 +81,8 @@ returns-clause-least c =
 pub returns-clause-accepted : goal.returns-clause-accepted
 returns-clause-accepted c =
     let m = c.args.map.now in
-    let whole : IsWhole m.version c.root-place.result.block = record { version_is = c.root-place.ensures.version ∙ c.requires.version; start = c.root-place.ensures.value; bits = c.root-place.ensures.len } in
-    let made = listed-shortest m c.root-place.result.block c.args.trie.now.leaves c.root-place.result.leaves c.in_ok-items.root c.in_ok-items.items.items c.in_ok-items.ensures c.root-place.ensures.leaves
-    c.len-labels.ensures.table c.requires.settled c.requires.undivided whole in
+    let made = listed-shortest m c.args.trie.now.version c.args.trie.now.leaves c.in_ok-items.root c.in_ok-items.items.items c.in_ok-items.ensures c.requires.version
+    c.len-labels.ensures.table c.requires.settled c.requires.undivided in
     let l = list_of c.in_ok-list.list in
     let certificate = certificate_of c.new-certificate.result in
     let table = c.new-certificate.ensures.labels ∙ c.in_ok-labels.ensures in
@@ -103,9 +94,8 @@ returns-clause-accepted c =
 pub returns-clause-count : goal.returns-clause-count
 returns-clause-count c =
     let m = c.args.map.now in
-    let whole : IsWhole m.version c.root-place.result.block = record { version_is = c.root-place.ensures.version ∙ c.requires.version; start = c.root-place.ensures.value; bits = c.root-place.ensures.len } in
-    let made = listed-shortest m c.root-place.result.block c.args.trie.now.leaves c.root-place.result.leaves c.in_ok-items.root c.in_ok-items.items.items c.in_ok-items.ensures c.root-place.ensures.leaves
-    c.len-labels.ensures.table c.requires.settled c.requires.undivided whole in
+    let made = listed-shortest m c.args.trie.now.version c.args.trie.now.leaves c.in_ok-items.root c.in_ok-items.items.items c.in_ok-items.ensures c.requires.version
+    c.len-labels.ensures.table c.requires.settled c.requires.undivided in
     let l = list_of c.in_ok-list.list in
     let certificate = certificate_of c.new-certificate.result in
     let table = c.new-certificate.ensures.labels ∙ c.in_ok-labels.ensures in
@@ -127,9 +117,8 @@ returns-clause-cost c =
 pub returns-clause-order : goal.returns-clause-order
 returns-clause-order c =
     let m = c.args.map.now in
-    let whole : IsWhole m.version c.root-place.result.block = record { version_is = c.root-place.ensures.version ∙ c.requires.version; start = c.root-place.ensures.value; bits = c.root-place.ensures.len } in
-    let made = listed-shortest m c.root-place.result.block c.args.trie.now.leaves c.root-place.result.leaves c.in_ok-items.root c.in_ok-items.items.items c.in_ok-items.ensures c.root-place.ensures.leaves
-    c.len-labels.ensures.table c.requires.settled c.requires.undivided whole in
+    let made = listed-shortest m c.args.trie.now.version c.args.trie.now.leaves c.in_ok-items.root c.in_ok-items.items.items c.in_ok-items.ensures c.requires.version
+    c.len-labels.ensures.table c.requires.settled c.requires.undivided in
     let l = list_of c.in_ok-list.list in
     let certificate = certificate_of c.new-certificate.result in
     let table = c.new-certificate.ensures.labels ∙ c.in_ok-labels.ensures in
