@@ -101,11 +101,7 @@ pushed-line out o o1 lines i z e inside e1 =
     ∙ text_of_lines-append before (text ∷ []) ∙ ap (λ t. text_of_lines before ++ t) (append-nil (text ++ 10 ∷ [])) in
     e1 ∙ ap (λ t. t ++ (text ++ 10 ∷ [])) e ∙ append_assoc out (text_of_lines before) (text ++ 10 ∷ []) ∙ ap (λ t. out ++ t) (sym last)
 
--- the header and the labels
-pub pushed-head : (out o1 o2 header : List ℕ) (labels : List Label) → o1 ≡ out ++ (header ++ 10 ∷ []) → o2 ≡ o1 ++ text_of_lines labels → o2 ≡ out ++ text_of_lines (header ∷ labels)
-pushed-head out o1 o2 header labels e1 e2 = e2 ∙ ap (λ t. t ++ text_of_lines labels) e1 ∙ append_assoc out (header ++ 10 ∷ []) (text_of_lines labels)
-
--- with the lines of the nodes they are the text
+-- the header, the labels and the nodes are the text
 pub whole_text : (format : ℕ) (version : Version) (table : List Label) (root : Node) (room : ℕ) (nodes : List DueLine) (o1 o2 : List ℕ) → IsLabelTable table → HasChainForm (length table) root room
     → nodes ≡ lines_of root → o1 ≡ text_of_lines (format_header format version (length table) ∷ table) → o2 ≡ o1 ++ text_of_lines (map line_text nodes)
     → o2 ≡ certificate_text (record { format = format; version = version; table = table; root = tree_of table root })
