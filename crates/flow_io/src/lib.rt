@@ -25,6 +25,7 @@
 //! flush, with all of them. Nothing else here allocates.
 #![tactic(auto)]
 
+mod buffered;
 mod countdown;
 mod devices;
 mod last_call;
@@ -34,6 +35,7 @@ mod watch;
 mod whole_input;
 mod whole_output;
 
+pub use buffered::Buffered;
 pub use devices::{DeviceFault, Input, Output};
 pub use last_call::LastCall;
 pub use memory_input::MemoryInput;
