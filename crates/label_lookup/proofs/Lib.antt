@@ -3,3 +3,5 @@ pub mod SortedEntries
 pub mod Outers
 pub mod Indexed
 pub mod Labellings
+pub mod WalkLabels
+pub mod MapIndexed

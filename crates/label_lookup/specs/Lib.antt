@@ -1,3 +1,4 @@
 pub mod Labelling
 pub mod TrieLabels
 pub mod EntryOrder
+pub mod MapIndex

@@ -22,6 +22,7 @@
 mod address_labels;
 mod labeller;
 mod list_index;
+mod map_index;
 mod map_labels;
 mod row;
 mod scan;
@@ -30,6 +31,7 @@ mod trie_labeller;
 pub use address_labels::AddressLabels;
 pub use labeller::Labeller;
 pub use list_index::ListIndex;
+pub use map_index::MapIndex;
 pub use map_labels::MapLabels;
 pub use row::{label_row, label_row_under};
 pub use scan::Scan;
