@@ -1,42 +1,57 @@
 -- The stretches of a map as its index keeps them, and how many begin at an address or before it.
-use Rattle.std.proofs.Common.{◌≡◌, ◌∙◌, ℕ, zero, suc, ◌+◌, ◌-◌, ◌/◌, ◌^◌, ◌<◌, ◌≤◌, inl, inr, ◌⊎◌, true, false, leb, leb-true, List, [], ◌∷◌, ◌++◌, Option, Some, None, get_or, length, take, drop, refl, sym, ap, subst, arith, slice_get, slice_range, unwrap_or}
+use Rattle.std.proofs.Common.{◌≡◌, ◌∙◌, ℕ, zero, suc, ◌+◌, ◌-◌, ◌/◌, ◌<◌, ◌≤◌, inl, inr, ◌⊎◌, true, false, leb, leb-true, List, [], ◌∷◌, ◌++◌, Option, Some, None, get_or, length, drop, refl, sym, ap, subst, arith, slice_get, slice_range, unwrap_or}
 use Rattle.std.specs.List.Sorted.{IsNonDecreasingBy, IsPartitionPoint}
 use Rattle.std.proofs.lemmas.Bool.{cases_eq, cases_lt, leb-false}
 use Rattle.std.proofs.lemmas.Nat.{div-add-mod', le-div}
-use Rattle.std.proofs.lemmas.List.{get_or-drop, get_or-take, get_or_append_left, get_or_default, get_or_past, get_or_push, length-drop, length-take, length_push}
+use Rattle.std.proofs.lemmas.List.{get_or-drop, get_or-map, get_or-take, get_or_append_left, get_or_default, get_or_past, get_or_push, length-drop, length-map, length-take, length_push, map_push}
 use Rattle.pmap_text.specs.MapModel.{map_label}
 use Rattle.pmap_text.specs.MapText.{map_of}
-use Rattle.pmap_text.specs.declared.label.LabelId.{LabelId}
 use Rattle.pmap_text.specs.declared.map_text.MapText.{MapText}
 use Rattle.pmap_text.proofs.LabelTexts.{slice_get-push}
-use Rattle.label_lookup.specs.MapIndex.{AreLabelled, AreRising, AreTops, IsCount, IsTop}
+use Rattle.label_lookup.specs.MapIndex.{AreLabelled, AreRising, AreTops, IsCount, IsTop, firsts_of}
+use Rattle.label_lookup.specs.declared.map_index.Begin.{Begin}
+
+-- where the stretch at a place begins
+pub first_at : (begins : List Begin) (i : ℕ) (d : Begin) → i < length begins → get_or (firsts_of begins) i 0 ≡ (get_or begins i d).first
+first_at begins i d h = get_or-map (λ (b : Begin). b.first) begins i d 0 h
+
+pub length-firsts : (begins : List Begin) → length (firsts_of begins) ≡ length begins
+length-firsts begins = length-map begins (λ (b : Begin). b.first)
+
+abbrev pub nothing : Begin
+nothing = record { first = 0; label = record { 0 = 0 } }
 
 -- the first stretch
-pub labelled_first : (m : MapText) (id : LabelId) (end : ℕ) → 0 < end
-    → ((a : ℕ) → 0 ≤ a → a < end → slice_get m.labels id.0 ≡ Some (map_label (map_of m) a)) → AreLabelled m (0 ∷ []) (id ∷ []) end
-labelled_first m id end some given = record {
-  long = refl;
+pub labelled_first : (m : MapText) (b : Begin) (end : ℕ) → b.first ≡ 0 → 0 < end
+    → ((a : ℕ) → 0 ≤ a → a < end → slice_get m.labels b.label.0 ≡ Some (map_label (map_of m) a)) → AreLabelled m (b ∷ []) end
+labelled_first m b end none some given = record {
   some = omega arith;
-  zero = refl;
+  zero = none;
   rising = λ i j under within. absurd (omega (arith, under, within));
   below = below;
   label = label;
 }
   where
-    below : (i : ℕ) → i < 1 → get_or (0 ∷ []) i 0 < end
-    below zero h = some
+    below : (i : ℕ) → i < 1 → get_or (b.first ∷ []) i 0 < end
+    below zero h = omega (arith, none, some)
     below (suc i) h = absurd (omega arith)
 
-    label : (i a : ℕ) (d : LabelId) → i < 1 → get_or (0 ∷ []) i 0 ≤ a → a < get_or (0 ∷ []) (i + 1) end
-        → slice_get m.labels (get_or (id ∷ []) i d).0 ≡ Some (map_label (map_of m) a)
-    label zero a d h from to = given a from to
+    label : (i a : ℕ) (d : Begin) → i < 1 → get_or (b.first ∷ []) i 0 ≤ a → a < get_or (b.first ∷ []) (i + 1) end
+        → slice_get m.labels (get_or (b ∷ []) i d).label.0 ≡ Some (map_label (map_of m) a)
+    label zero a d h from to = given a (omega arith) to
     label (suc i) a d h from to = absurd (omega arith)
 
 -- one more
-module _ (m : MapText) (firsts : List ℕ) (labels : List LabelId) (end more : ℕ) (id : LabelId) (is : AreLabelled m firsts labels end)
-    (some : end < more) (given : (a : ℕ) → end ≤ a → a < more → slice_get m.labels id.0 ≡ Some (map_label (map_of m) a)) where
-  new : List ℕ
-  new = firsts ++ end ∷ []
+module _ (m : MapText) (begins : List Begin) (end more : ℕ) (b : Begin) (is : AreLabelled m begins end) (begun : b.first ≡ end)
+    (some : end < more) (given : (a : ℕ) → end ≤ a → a < more → slice_get m.labels b.label.0 ≡ Some (map_label (map_of m) a)) where
+  abbrev firsts : List ℕ
+  firsts = firsts_of begins
+
+  count : length firsts ≡ length begins
+  count = length-firsts begins
+
+  new_is : firsts_of (begins ++ b ∷ []) ≡ firsts ++ end ∷ []
+  new_is = map_push (λ (x : Begin). x.first) begins b ∙ ap (λ (n : ℕ). firsts ++ n ∷ []) begun
 
   long_new : length (firsts ++ end ∷ []) ≡ length firsts + 1
   long_new = length_push firsts end
@@ -61,14 +76,14 @@ module _ (m : MapText) (firsts : List ℕ) (labels : List LabelId) (end more : �
             omega (arith, h, early i 0 (omega (arith, under, within')), early j 0 within')
         | inr last ↦
             let within' : i < length firsts = omega (arith, under, last) in
-            let h : get_or firsts i 0 < end = is.below i within' in
+            let h : get_or firsts i 0 < end = is.below i (omega (arith, within', count)) in
             omega (arith, h, early i 0 within', late j 0 last)
       ]
 
   below_more : (i : ℕ) → i < length (firsts ++ end ∷ []) → get_or (firsts ++ end ∷ []) i 0 < more
   below_more i within =
       elim (one_of i within) [
-        | inl within' ↦ let h : get_or firsts i 0 < end = is.below i within' in omega (arith, h, some, early i 0 within')
+        | inl within' ↦ let h : get_or firsts i 0 < end = is.below i (omega (arith, within', count)) in omega (arith, h, some, early i 0 within')
         | inr last ↦ omega (arith, some, late i 0 last)
       ]
 
@@ -82,32 +97,36 @@ module _ (m : MapText) (firsts : List ℕ) (labels : List LabelId) (end more : �
             late (i + 1) more last ∙ sym (get_or_past firsts (i + 1) end from)
       ]
 
-  label_more : (i a : ℕ) (d : LabelId) → i < length (firsts ++ end ∷ []) → get_or (firsts ++ end ∷ []) i 0 ≤ a
+  label_more : (i a : ℕ) (d : Begin) → i < length (firsts ++ end ∷ []) → get_or (firsts ++ end ∷ []) i 0 ≤ a
       → a < get_or (firsts ++ end ∷ []) (i + 1) more
-      → slice_get m.labels (get_or (labels ++ id ∷ []) i d).0 ≡ Some (map_label (map_of m) a)
+      → slice_get m.labels (get_or (begins ++ b ∷ []) i d).label.0 ≡ Some (map_label (map_of m) a)
   label_more i a d within from to =
       elim (one_of i within) [
         | inl within' ↦
             let from' : get_or firsts i 0 ≤ a = omega (arith, from, early i 0 within') in
             let to' : a < get_or firsts (i + 1) end = omega (arith, to, next_of i within') in
-            let labelled : i < length labels = omega (arith, within', is.long) in
-            ap (λ (l : LabelId). slice_get m.labels l.0) (get_or_append_left labels (id ∷ []) d i labelled)
-            ∙ is.label i a d within' from' to'
+            let inside : i < length begins = omega (arith, within', count) in
+            ap (λ (x : Begin). slice_get m.labels x.label.0) (get_or_append_left begins (b ∷ []) d i inside)
+            ∙ is.label i a d inside from' to'
         | inr last ↦
             let from' : end ≤ a = omega (arith, from, late i 0 last) in
             let to' : a < more = omega (arith, to, get_or_past (firsts ++ end ∷ []) (i + 1) more (omega (arith, last, long_new))) in
-            ap (λ (l : LabelId). slice_get m.labels l.0) (get_or_push labels id d i (omega (arith, last, is.long)))
+            ap (λ (x : Begin). slice_get m.labels x.label.0) (get_or_push begins b d i (omega (arith, last, count)))
             ∙ given a from' to'
       ]
 
-  pub labelled_more : AreLabelled m (firsts ++ end ∷ []) (labels ++ id ∷ []) more
+  inside_new : (i : ℕ) → i < length (begins ++ b ∷ []) → i < length (firsts ++ end ∷ [])
+  inside_new i h = omega (arith, h, long_new, count, length_push begins b)
+
+  pub labelled_more : AreLabelled m (begins ++ b ∷ []) more
   labelled_more = record {
-    long = length_push labels id ∙ ap (λ (n : ℕ). n + 1) is.long ∙ sym long_new;
-    some = omega (arith, long_new);
-    zero = early 0 0 is.some ∙ is.zero;
-    rising = rising_more;
-    below = below_more;
-    label = label_more;
+    some = omega (arith, length_push begins b);
+    zero = subst (λ (l : List ℕ). get_or l 0 0 ≡ 0) (sym new_is) (early 0 0 (omega (arith, is.some, count)) ∙ is.zero);
+    rising = subst AreRising (sym new_is) rising_more;
+    below = λ i h. subst (λ (l : List ℕ). get_or l i 0 < more) (sym new_is) (below_more i (inside_new i h));
+    label = λ i a d h from to.
+        label_more i a d (inside_new i h) (subst (λ (l : List ℕ). get_or l i 0 ≤ a) new_is from)
+        (subst (λ (l : List ℕ). a < get_or l (i + 1) more) new_is to);
   }
 
 -- quotients don't fall where numbers don't
@@ -181,86 +200,96 @@ tops_up firsts size block from to within early late =
     ]
 
 -- those between two places
-sliced : (firsts : List ℕ) (from to i d : ℕ) → i < to - from → get_or (slice_range firsts from to) i d ≡ get_or firsts (from + i) d
-sliced firsts from to i d h = get_or-take (to - from) (drop from firsts) i d h ∙ get_or-drop from firsts i d
+sliced : (begins : List Begin) (from to i : ℕ) (d : Begin) → i < to - from → get_or (slice_range begins from to) i d ≡ get_or begins (from + i) d
+sliced begins from to i d h = get_or-take (to - from) (drop from begins) i d h ∙ get_or-drop from begins i d
 
-length-sliced : (firsts : List ℕ) (from to : ℕ) → from ≤ to → to ≤ length firsts → length (slice_range firsts from to) ≡ to - from
-length-sliced firsts from to up within = omega (arith, length-take (to - from) (drop from firsts), length-drop from firsts)
+length-sliced : (begins : List Begin) (from to : ℕ) → from ≤ to → to ≤ length begins → length (slice_range begins from to) ≡ to - from
+length-sliced begins from to up within = omega (arith, length-take (to - from) (drop from begins), length-drop from begins)
 
-pub sliced_rising : (firsts : List ℕ) (from to : ℕ) → AreRising firsts → from ≤ to → to ≤ length firsts
-    → IsNonDecreasingBy (λ (y : ℕ). y) (slice_range firsts from to)
-sliced_rising firsts from to rising up within i j d under inside =
-    let long = length-sliced firsts from to up within in
-    let here : get_or (slice_range firsts from to) i d ≡ get_or firsts (from + i) d = sliced firsts from to i d (omega (arith, under, inside, long)) in
-    let there : get_or (slice_range firsts from to) j d ≡ get_or firsts (from + j) d = sliced firsts from to j d (omega (arith, inside, long)) in
-    let here' : get_or firsts (from + i) d ≡ get_or firsts (from + i) 0 = get_or_default firsts (from + i) d 0 (omega (arith, under, inside, long, within)) in
-    let there' : get_or firsts (from + j) d ≡ get_or firsts (from + j) 0 = get_or_default firsts (from + j) d 0 (omega (arith, inside, long, within)) in
+-- where the one at a place among them begins
+first_sliced : (begins : List Begin) (from to i : ℕ) (d : Begin) → to ≤ length begins → i < to - from
+    → (get_or (slice_range begins from to) i d).first ≡ get_or (firsts_of begins) (from + i) 0
+first_sliced begins from to i d within h =
+    ap (λ (b : Begin). b.first) (sliced begins from to i d h) ∙ sym (first_at begins (from + i) d (omega (arith, h, within)))
+
+pub sliced_rising : (begins : List Begin) (from to : ℕ) → AreRising (firsts_of begins) → from ≤ to → to ≤ length begins
+    → IsNonDecreasingBy (λ (b : Begin). b.first) (slice_range begins from to)
+sliced_rising begins from to rising up within i j d under inside =
+    let long = length-sliced begins from to up within in
+    let here = first_sliced begins from to i d within (omega (arith, under, inside, long)) in
+    let there = first_sliced begins from to j d within (omega (arith, inside, long)) in
     elim (cases_eq i j) [
-      | inl same ↦ let e : get_or firsts (from + i) 0 ≡ get_or firsts (from + j) 0 = ap (λ (k : ℕ). get_or firsts (from + k) 0) same in
-          omega (arith, here, here', there, there', e)
+      | inl same ↦
+          let e : get_or (firsts_of begins) (from + i) 0 ≡ get_or (firsts_of begins) (from + j) 0 = ap (λ (k : ℕ). get_or (firsts_of begins) (from + k) 0) same in
+          omega (arith, here, there, e)
       | inr other ↦
-          let h : get_or firsts (from + i) 0 < get_or firsts (from + j) 0 = rising (from + i) (from + j) (omega (arith, under, other)) (omega (arith, inside, long, within)) in
-          omega (arith, here, here', there, there', h)
+          let h : get_or (firsts_of begins) (from + i) 0 < get_or (firsts_of begins) (from + j) 0 =
+          rising (from + i) (from + j) (omega (arith, under, other)) (omega (arith, inside, long, within, length-firsts begins)) in
+          omega (arith, here, there, h)
     ]
 
 -- how many begin at an address or before it, by those of the block of the address
-module _ (firsts : List ℕ) (size a from to point : ℕ) (some : 0 < size) (up : from ≤ to) (within : to ≤ length firsts)
-    (early : (j : ℕ) → j < from → get_or firsts j 0 / size < a / size)
-    (late : (j : ℕ) → to ≤ j → j < length firsts → a / size + 1 ≤ get_or firsts j 0 / size)
-    (is : IsPartitionPoint (λ y. leb y a ≡ true) (λ y. leb y a ≡ false) (slice_range firsts from to) point)
-    (fits : point ≤ length (slice_range firsts from to)) where
-  long : length (slice_range firsts from to) ≡ to - from
-  long = length-sliced firsts from to up within
+module _ (begins : List Begin) (size a from to point : ℕ) (some : 0 < size) (up : from ≤ to) (within : to ≤ length begins)
+    (early : (j : ℕ) → j < from → get_or (firsts_of begins) j 0 / size < a / size)
+    (late : (j : ℕ) → to ≤ j → j < length (firsts_of begins) → a / size + 1 ≤ get_or (firsts_of begins) j 0 / size)
+    (is : IsPartitionPoint (λ y. leb y.first a ≡ true) (λ y. leb y.first a ≡ false) (slice_range begins from to) point)
+    (fits : point ≤ length (slice_range begins from to)) where
+  long : length (slice_range begins from to) ≡ to - from
+  long = length-sliced begins from to up within
 
   -- the one at a place among them
-  at : (j : ℕ) → from ≤ j → j < to → get_or (slice_range firsts from to) (j - from) 0 ≡ get_or firsts j 0
+  at : (j : ℕ) → from ≤ j → j < to → (get_or (slice_range begins from to) (j - from) nothing).first ≡ get_or (firsts_of begins) j 0
   at j low high =
       let back : from + (j - from) ≡ j = omega (arith, low) in
-      sliced firsts from to (j - from) 0 (omega (arith, low, high)) ∙ ap (λ (k : ℕ). get_or firsts k 0) back
+      first_sliced begins from to (j - from) nothing within (omega (arith, low, high)) ∙ ap (λ (k : ℕ). get_or (firsts_of begins) k 0) back
 
-  pub begun_count : IsCount firsts a (from + point)
+  pub begun_count : IsCount (firsts_of begins) a (from + point)
   begun_count = record {
-    few = omega (arith, long, fits, up, within);
+    few = omega (arith, long, fits, up, within, length-firsts begins);
     begun = λ j under.
         elim (cases_lt j from) [
-          | inl before ↦ let h : get_or firsts j 0 < a = div_less size (get_or firsts j 0) a some (early j before) in omega (arith, h)
+          | inl before ↦ let h : get_or (firsts_of begins) j 0 < a = div_less size (get_or (firsts_of begins) j 0) a some (early j before) in omega (arith, h)
           | inr low ↦
-              let h : get_or (slice_range firsts from to) (j - from) 0 ≤ a = leb-true _ _ (is.0 (j - from) 0 (omega arith) (omega (arith, under, low))) in
+              let h : (get_or (slice_range begins from to) (j - from) nothing).first ≤ a =
+              leb-true _ _ (is.0 (j - from) nothing (omega arith) (omega (arith, under, low))) in
               omega (arith, h, at j low (omega (arith, under, long, fits, up)))
         ];
     behind = λ j low inside.
         elim (cases_lt j to) [
           | inl before ↦
-              let h : a < get_or (slice_range firsts from to) (j - from) 0 =
-              leb-false _ _ (is.1 (j - from) 0 (omega (arith, low)) (omega (arith, low, before, long))) in
+              let h : a < (get_or (slice_range begins from to) (j - from) nothing).first =
+              leb-false _ _ (is.1 (j - from) nothing (omega (arith, low)) (omega (arith, low, before, long))) in
               omega (arith, h, at j (omega (arith, low)) before)
           | inr from_to ↦
-              let h : a / size + 1 ≤ get_or firsts j 0 / size = late j from_to inside in
-              div_less size a (get_or firsts j 0) some (omega (arith, h))
+              let h : a / size + 1 ≤ get_or (firsts_of begins) j 0 / size = late j from_to inside in
+              div_less size a (get_or (firsts_of begins) j 0) some (omega (arith, h))
         ];
   }
 
 -- there is one at least
-pub count_some : (m : MapText) (firsts : List ℕ) (labels : List LabelId) (end a count : ℕ) → AreLabelled m firsts labels end → IsCount firsts a count → 0 < count
-count_some m firsts labels end a count is counts =
+pub count_some : (m : MapText) (begins : List Begin) (end a count : ℕ) → AreLabelled m begins end → IsCount (firsts_of begins) a count → 0 < count
+count_some m begins end a count is counts =
     elim (cases_lt 0 count) [
       | inl some ↦ some
-      | inr none ↦ let h : a < get_or firsts 0 0 = counts.behind 0 none is.some in absurd (omega (arith, h, is.zero))
+      | inr none ↦
+          let h : a < get_or (firsts_of begins) 0 0 = counts.behind 0 none (omega (arith, is.some, length-firsts begins)) in
+          absurd (omega (arith, h, is.zero))
     ]
 
 -- the label of an address is that of the last stretch that begins at it or before it
-pub label_counted : (m : MapText) (firsts : List ℕ) (labels : List LabelId) (end a count : ℕ) (d : LabelId) → AreLabelled m firsts labels end → a < end
-    → IsCount firsts a count → slice_get m.labels (get_or labels (count - 1) d).0 ≡ Some (map_label (map_of m) a)
-label_counted m firsts labels end a count d is within counts =
-    let some : 0 < count = count_some m firsts labels end a count is counts in
-    is.label (count - 1) a d (omega (arith, some, counts.few)) (counts.begun (count - 1) (omega (arith, some))) (next (omega (arith, some)))
+pub label_counted : (m : MapText) (begins : List Begin) (end a count : ℕ) (d : Begin) → AreLabelled m begins end → a < end
+    → IsCount (firsts_of begins) a count → slice_get m.labels (get_or begins (count - 1) d).label.0 ≡ Some (map_label (map_of m) a)
+label_counted m begins end a count d is within counts =
+    let some : 0 < count = count_some m begins end a count is counts in
+    is.label (count - 1) a d (omega (arith, some, counts.few, length-firsts begins)) (counts.begun (count - 1) (omega (arith, some)))
+    (next (omega (arith, some)))
   where
-    next : count - 1 + 1 ≡ count → a < get_or firsts (count - 1 + 1) end
-    next same = elim (cases_lt count (length firsts)) [
+    next : count - 1 + 1 ≡ count → a < get_or (firsts_of begins) (count - 1 + 1) end
+    next same = elim (cases_lt count (length (firsts_of begins))) [
       | inl more ↦
-          let h : a < get_or firsts count 0 = counts.behind count (omega arith) more in
-          omega (arith, h, ap (λ (k : ℕ). get_or firsts k end) same, get_or_default firsts count end 0 more)
-      | inr none ↦ omega (arith, within, ap (λ (k : ℕ). get_or firsts k end) same, get_or_past firsts count end none)
+          let h : a < get_or (firsts_of begins) count 0 = counts.behind count (omega arith) more in
+          omega (arith, h, ap (λ (k : ℕ). get_or (firsts_of begins) k end) same, get_or_default (firsts_of begins) count end 0 more)
+      | inr none ↦ omega (arith, within, ap (λ (k : ℕ). get_or (firsts_of begins) k end) same, get_or_past (firsts_of begins) count end none)
     ]
 
 -- one top more

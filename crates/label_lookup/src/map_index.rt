@@ -1,7 +1,7 @@
-ghost use Rattle.std.specs.Prelude.{◌≡◌, ℕ, ◌-◌, ◌/◌, ◌^◌, ◌<◌, ◌≤◌, IfOk, length, slice_get, slice_index, unwrap_or};
-ghost use Rattle.prefix_keys.specs.Version.{width_of};
+ghost use Rattle.std.specs.Prelude.{◌≡◌, ℕ, ◌/◌, ◌^◌, ◌<◌, ◌≤◌, IfOk, length, slice_get, slice_index, unwrap_or};
 ghost use Rattle.pmap_text.specs.MapText.{map_of};
-ghost use Rattle.label_lookup.specs.MapIndex.{AreLabelled, AreRising, AreTops, IsCount, IsTop};
+ghost use Rattle.pmap_text.specs.Stretches.{StandsAt};
+ghost use Rattle.label_lookup.specs.MapIndex.{AreLabelled, AreRising, AreTops, IsCount, IsTop, firsts_of};
 
 use crate::labeller::Labeller;
 use pmap_text::{LabelId, MapText, Stretches};
@@ -9,18 +9,26 @@ use prefix_keys::{Addr, Version};
 use std::alloc::{AllocError, Global};
 use std::marker::Model;
 
-// The bits of an address by which a look-up needn't search.
-const TOP_BITS: u32 = 16;
+// How many blocks of 16 bits there are, and how many addresses each has.
+const BLOCKS: u32 = 65536;
 
-/// The labels of a prefix map, found among the stretches of addresses that have one label each: the label of an address is
-/// that of the last stretch that begins at it or before it. A table tells of the first 16 bits of an address among
-/// which stretches to look, which are few for most addresses.
+const BLOCK_SIZE: u32 = 65536;
+
+/// Where a stretch of IPv4 addresses that have one label begins, and the number of the label.
+#[derive(Clone, Copy, Debug)]
+pub struct Begin {
+    pub first: u32,
+    pub label: LabelId,
+}
+
+/// The labels of a prefix map of IPv4, found among the stretches of addresses that have one label each: the label of an
+/// address is that of the last stretch that begins at it or before it. A table tells of the first 16 bits of an address
+/// among which stretches to look, which are few for most addresses.
 #[derive(Drop)]
 pub struct MapIndex<'a> {
     map: &'a MapText,
-    // The first addresses of the stretches in rising order, and the number of the label of each.
-    firsts: Vec<u128>,
-    labels: Vec<LabelId>,
+    // The stretches in rising order.
+    begins: Vec<Begin>,
     // For each block of 16 bits, how many stretches begin before it.
     tops: Vec<u32>,
 }
@@ -35,22 +43,18 @@ impl<'a> Model for MapIndex<'a> {
 
     ghost view = { λ i. map_of i.map.now };
 
-    ghost invariant = { λ i. IsMapIndex i.map.now i.firsts.items i.labels.items i.tops.items };
+    ghost invariant = { λ i. IsMapIndex i.map.now i.begins.items i.tops.items };
 }
 
 impl<'a> MapIndex<'a> {
-    /// The labels of this map.
+    /// The labels of this map, which is of IPv4.
     pub fn build(alloc: Global, map: &'a MapText) -> Result<MapIndex<'a>, AllocError>
+        requires { map.now.version ≡ Version.V4 }
         ensures { IfOk result (λ index. index ≡ map_of map.now) }
     {
-        let (firsts, labels) = labelled(alloc, map)?;
-        let tops = tops_of(alloc, map.version, firsts.as_slice())?;
-        Ok(MapIndex {
-            map,
-            firsts,
-            labels,
-            tops,
-        })
+        let begins = labelled(alloc, map)?;
+        let tops = tops_of(alloc, begins.as_slice())?;
+        Ok(MapIndex { map, begins, tops })
     }
 }
 
@@ -67,54 +71,68 @@ impl<'a> Labeller for MapIndex<'a> {
     }
 
     fn label_of(&self, addr: Addr) -> Option<&[u8]> {
-        let count = count_begun(self.firsts.as_slice(), self.tops.as_slice(), addr);
-        self.map.labels.text(self.labels[count - 1])
+        let begins = self.begins.as_slice();
+        let count = count_begun(begins, self.tops.as_slice(), addr.value as u32);
+        self.map.labels.text(begins[count - 1].label)
     }
 }
 
-// The first addresses of the stretches of a map, and the number of the label of each.
-fn labelled(alloc: Global, map: &MapText) -> Result<(Vec<u128>, Vec<LabelId>), AllocError>
-    ensures { IfOk result (λ r. AreLabelled map.now r.0.items r.1.items (2 ^ width_of map.now.version)) }
+// The stretch that begins at this address, where a walk over the map stands.
+fn begin_at(first: u128, stretches: &Stretches<'_>, map: &MapText) -> Begin
+    requires { first < 2 ^ 32 }
+    ensures first { result.first ≡ first }
+    ensures label { result.label ≡ unwrap_or stretches.now.label map.now.default }
+    ensures stretch { StandsAt stretches.now }
+{
+    Begin {
+        first: first as u32,
+        label: stretches.label().unwrap_or(map.default),
+    }
+}
+
+// The stretches of a map.
+fn labelled(alloc: Global, map: &MapText) -> Result<Vec<Begin>, AllocError>
+    requires { map.now.version ≡ Version.V4 }
+    ensures { IfOk result (λ begins. AreLabelled map.now begins.items (2 ^ 32)) }
 {
     let mut stretches = Stretches::of_map(alloc, map)?;
-    let mut firsts = Vec::new(alloc);
-    let mut labels = Vec::new(alloc);
-    firsts.push(0)?;
-    labels.push(stretches.label().unwrap_or(map.default))?;
+    let mut begins = Vec::new(alloc);
+    begins.push(begin_at(0, &stretches, map))?;
     while !stretches.is_at_end() {
         let next = stretches.last() + 1;
         stretches.reach(next)?;
-        firsts.push(next)?;
-        labels.push(stretches.label().unwrap_or(map.default))?;
+        begins.push(begin_at(next, &stretches, map))?;
     }
-    Ok((firsts, labels))
+    Ok(begins)
 }
 
 // How many stretches begin before the block of this number, where these begin before an earlier one.
-fn count_before(firsts: &[u128], earlier: usize, host_bits: u32, block: u32) -> usize
-    requires rising { AreRising firsts.now }
-    requires narrow { host_bits < 128 }
-    requires few { earlier ≤ length firsts.now }
-    requires before { (j : ℕ) → j < earlier → slice_index firsts.now j / 2 ^ host_bits < block }
-    ensures { IsTop firsts.now (2 ^ host_bits) block result }
+fn count_before(begins: &[Begin], earlier: usize, block: u32) -> usize
+    requires rising { AreRising (firsts_of begins.now) }
+    requires few { earlier ≤ length begins.now }
+    requires before { (j : ℕ) → j < earlier → slice_index (firsts_of begins.now) j / 65536 < block }
+    ensures { IsTop (firsts_of begins.now) 65536 block result }
 {
     let mut count = earlier;
-    while count < firsts.len() && firsts[count] >> host_bits < u128::from(block) {
+    while count < begins.len() {
+        let begin = begins[count];
+        if begin.first / BLOCK_SIZE >= block {
+            return count;
+        }
         count += 1;
     }
     count
 }
 
 // For each block of 16 bits, how many stretches begin before it.
-fn tops_of(alloc: Global, version: Version, firsts: &[u128]) -> Result<Vec<u32>, AllocError>
-    requires { AreRising firsts.now }
-    ensures { IfOk result (λ tops. AreTops (2 ^ (width_of version - 16)) firsts.now tops.items) }
+fn tops_of(alloc: Global, begins: &[Begin]) -> Result<Vec<u32>, AllocError>
+    requires { AreRising (firsts_of begins.now) }
+    ensures { IfOk result (λ tops. AreTops 65536 (firsts_of begins.now) tops.items) }
 {
-    let host_bits = version.width() - TOP_BITS;
-    let mut tops = Vec::with_capacity(alloc, 65536)?;
+    let mut tops = Vec::with_capacity(alloc, BLOCKS as usize)?;
     let mut count = 0;
-    for block in 0..65536 {
-        count = count_before(firsts, count, host_bits, block);
+    for block in 0..BLOCKS {
+        count = count_before(begins, count, block);
         let top = u32::try_from(count).map_err(|_| AllocError)?;
         tops.push(top)?;
     }
@@ -132,13 +150,13 @@ fn top_at(tops: &[u32], block: usize, otherwise: usize) -> usize
 }
 
 // How many stretches begin at an address or before it.
-fn count_begun(firsts: &[u128], tops: &[u32], addr: Addr) -> usize
-    requires rising { AreRising firsts.now }
-    requires tops { AreTops (2 ^ (width_of addr.version - 16)) firsts.now tops.now }
-    ensures { IsCount firsts.now addr.value result }
+fn count_begun(begins: &[Begin], tops: &[u32], address: u32) -> usize
+    requires rising { AreRising (firsts_of begins.now) }
+    requires tops { AreTops 65536 (firsts_of begins.now) tops.now }
+    ensures { IsCount (firsts_of begins.now) address result }
 {
-    let block = (addr.value >> (addr.version.width() - TOP_BITS)) as usize;
+    let block = (address / BLOCK_SIZE) as usize;
     let from = top_at(tops, block, 0);
-    let to = top_at(tops, block + 1, firsts.len());
-    from + firsts[from..to].partition_point(|first| *first <= addr.value)
+    let to = top_at(tops, block + 1, begins.len());
+    from + begins[from..to].partition_point(|begin| begin.first <= address)
 }

@@ -1,27 +1,29 @@
-use Rattle.std.proofs.Common.{◌≡◌, ℕ, ◌+◌, ◌-◌, ◌/◌, ◌^◌, ◌<◌, ◌≤◌, leb, length, rules, slice_range, sym, ap, subst, arith}
+use Rattle.std.proofs.Common.{◌≡◌, ℕ, ◌+◌, ◌/◌, ◌<◌, ◌≤◌, ◌∙◌, List, leb, length, rules, slice_get, slice_range, sym, ap, arith, unwrap_or}
 use Rattle.std.proofs.lemmas.List.Sorted.{IsPartitionPoint-from_clause, IsPartitionedBy-leb}
-use Rattle.std.proofs.lemmas.Nat.{pow_pos}
-use Rattle.label_lookup.specs.MapIndex.{AreTops}
-use Rattle.label_lookup.proofs.MapIndexed.{begun_count, from_top, sliced_rising, to_top, tops_up}
+use Rattle.label_lookup.specs.MapIndex.{firsts_of}
+use Rattle.label_lookup.specs.declared.map_index.Begin.{Begin}
+use Rattle.label_lookup.proofs.MapIndexed.{begun_count, from_top, length-firsts, sliced_rising, to_top, tops_up}
 use Rattle.label_lookup.proofs.map_index.count_begun.Goals as goal
 
 pub returns : goal.returns
 returns c =
-    let firsts = c.args.firsts.now in
-    let a = c.args.addr.value in
-    let size : ℕ = 2 ^ (c.width.result - 16) in
-    let some : 0 < size = pow_pos (c.width.result - 16) in
-    let tops : AreTops size firsts c.args.tops.now = rw c.width.ensures c.requires.tops in
-    let from = from_top firsts c.args.tops.now size (a / size) tops in
-    let to = to_top firsts c.args.tops.now size (a / size + 1) tops in
+    let begins = c.args.begins.now in
+    let firsts : List ℕ = firsts_of begins in
+    let a = c.args.address in
+    let some : 0 < 65536 = omega arith in
+    let long : length firsts ≡ length begins = length-firsts begins in
+    let from = from_top firsts c.args.tops.now 65536 (a / 65536) c.requires.tops in
+    let to = to_top firsts c.args.tops.now 65536 (a / 65536 + 1) c.requires.tops in
     let from_is = c.top_at-from.ensures in
     let to_is = c.top_at-to.ensures in
     let early : (j : ℕ) → j < c.top_at-from.result → _ = λ j h. from.1 j (omega (arith, h, from_is)) in
-    let late : (j : ℕ) → c.top_at-to.result ≤ j → j < length firsts → _ = λ j h k. to.1 j (omega (arith, h, to_is)) k in
-    let within : c.top_at-to.result ≤ length firsts = omega (arith, to.0, to_is) in
-    let up : c.top_at-from.result ≤ c.top_at-to.result = tops_up firsts size (a / size) c.top_at-from.result c.top_at-to.result (omega (arith, from.0, from_is)) early late in
-    let slice = slice_range firsts c.top_at-from.result c.top_at-to.result in
-    let parted = IsPartitionedBy-leb (λ (y : ℕ). y) slice a (sliced_rising firsts c.top_at-from.result c.top_at-to.result c.requires.rising up within) in
-    let point = IsPartitionPoint-from_clause (λ (y : ℕ). leb y a) slice c.partition_point.result
+    let to_same : c.top_at-to.result ≡ unwrap_or (slice_get c.args.tops.now (a / 65536 + 1)) (length firsts) =
+    to_is ∙ ap (λ (n : ℕ). unwrap_or (slice_get c.args.tops.now (a / 65536 + 1)) n) (sym long) in
+    let to_bound : c.top_at-to.result ≤ length begins = omega (arith, to.0, to_same, long) in
+    let late : (j : ℕ) → c.top_at-to.result ≤ j → j < length firsts → _ = λ j h k. to.1 j (omega (arith, h, to_same)) k in
+    let up : c.top_at-from.result ≤ c.top_at-to.result = tops_up firsts 65536 (a / 65536) c.top_at-from.result c.top_at-to.result (omega (arith, from.0, from_is)) early late in
+    let slice = slice_range begins c.top_at-from.result c.top_at-to.result in
+    let parted = IsPartitionedBy-leb (λ (b : Begin). b.first) slice a (sliced_rising begins c.top_at-from.result c.top_at-to.result c.requires.rising up to_bound) in
+    let point = IsPartitionPoint-from_clause (λ (b : Begin). leb b.first a) slice c.partition_point.result
     c.partition_point.ensures.partitioned parted (λ x r q k. search rules) in
-    begun_count firsts size a c.top_at-from.result c.top_at-to.result c.partition_point.result some up within early late point c.partition_point.ensures.bound
+    begun_count begins 65536 a c.top_at-from.result c.top_at-to.result c.partition_point.result some up to_bound early late point c.partition_point.ensures.bound

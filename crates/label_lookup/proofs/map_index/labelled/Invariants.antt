@@ -8,7 +8,7 @@ use Rattle.label_lookup.proofs.map_index.labelled.Given as goal
 abbrev pub invariant-loop-stretches : goal.invariant-loop-stretches
 invariant-loop-stretches l = record {
   same : HasSameStatements l.initial.stretches l.stretches;
-  kept : AreLabelled l.map l.firsts.items l.labels.items (l.stretches.last + 1);
+  kept : AreLabelled l.map l.begins.items (l.stretches.last + 1);
 }
 
 abbrev pub decreases-loop-stretches : goal.decreases-loop-stretches
