@@ -5,14 +5,18 @@ ghost use Rattle.flow_uniq.specs.Key.{AddressPart, LabelPart};
 
 use crate::part::KeyPart;
 use prefix_keys::{Addr, Version};
+use smallvec::SmallVec;
 use std::alloc::{AllocError, Global};
 use std::hash::{Hash, Hasher};
 use std::marker::Model;
 
+// The bytes of a key. Those of most keys are few, and lie in the value itself.
+type Bytes = SmallVec<u8, 24>;
+
 /// The bytes of a key. They are hashed in one piece.
 #[derive(Debug, Drop)]
 pub struct Code {
-    bytes: Vec<u8>,
+    bytes: Bytes,
 }
 
 impl Model for Code {
@@ -58,7 +62,7 @@ impl Hash for Code {
 }
 
 // Appends the bytes of an address.
-fn append_address(out: &mut Vec<u8>, addr: Addr) -> Result<(), AllocError>
+fn append_address(out: &mut Bytes, addr: Addr) -> Result<(), AllocError>
     ensures { OnOk result (out.new.items ≡ out.old.items ++ part_code (AddressPart (addr.version, addr.value))) }
 {
     match addr.version {
@@ -78,7 +82,7 @@ fn append_address(out: &mut Vec<u8>, addr: Addr) -> Result<(), AllocError>
 }
 
 // Appends the bytes of the text of a label.
-fn append_text(out: &mut Vec<u8>, text: &[u8]) -> Result<(), AllocError>
+fn append_text(out: &mut Bytes, text: &[u8]) -> Result<(), AllocError>
     ensures bytes { OnOk result (out.new.items ≡ out.old.items ++ part_code (LabelPart (Some text.now))) }
     ensures small { OnOk result (length text.now < 2 ^ 64) }
 {
@@ -95,7 +99,7 @@ impl Code {
         ensures { result ≡ [] }
     {
         Code {
-            bytes: Vec::new(alloc),
+            bytes: SmallVec::new(alloc),
         }
     }
 
@@ -111,7 +115,7 @@ impl Code {
         ensures { IfOk result (λ code. code ≡ self.now) }
     {
         Ok(Code {
-            bytes: Vec::from_slice(alloc, self.bytes.as_slice())?,
+            bytes: SmallVec::from_slice(alloc, self.bytes.as_slice())?,
         })
     }
 
