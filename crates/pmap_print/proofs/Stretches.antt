@@ -1,10 +1,9 @@
 -- Stretches of a walk, neighbours of one label joined, are the runs of the labels that the statements give.
-use Rattle.std.proofs.Common.{◌≡◌, ◌≢◌, ℕ, ◌+◌, ◌^◌, ◌<◌, ◌≤◌, ◌==◌, ◌⊎◌, inl, inr, Bool, true, false, List, [], ◌∷◌, ◌++◌, Option, Some, None, All, Contains, refl, sym, ◌∙◌, ap, subst, arith, length, option_and_then, option_map, slice_get, append_assoc}
+use Rattle.std.proofs.Common.{◌≡◌, ◌≢◌, ℕ, ◌+◌, ◌^◌, ◌<◌, ◌≤◌, ◌==◌, ◌⊎◌, inl, inr, true, false, List, [], ◌∷◌, ◌++◌, Option, Some, None, All, refl, sym, ◌∙◌, ap, subst, arith, length, option_and_then, option_map, slice_get, append_assoc}
 use Rattle.std.proofs.lemmas.List.{append-nil}
 use Rattle.std.specs.List.{flat_map}
 use Rattle.std.specs.Option.{ForSome}
 use Rattle.std.proofs.lemmas.Bool.{both_ways, cases_lt, eq-eqb}
-use Rattle.std.proofs.lemmas.List.Elements.{All-contains}
 use Rattle.std.proofs.lemmas.Grind.{flat_map-append}
 use Rattle.std.proofs.lemmas.List.Folds.{flat_map-map}
 use Rattle.std.proofs.lemmas.Bool.{eqb-true}
@@ -12,14 +11,14 @@ use Rattle.std.proofs.lemmas.Option.{none-some, same_Some}
 use Rattle.prefix_keys.specs.Version.{width_of}
 use Rattle.prefix_keys.specs.declared.version.Version.{Version}
 use Rattle.pmap_text.specs.Label.{IsLabelTable}
-use Rattle.pmap_text.specs.MapModel.{Label, MapModel, last_such, spans}
-use Rattle.pmap_text.specs.MapText.{mapping_of, text_at}
-use Rattle.pmap_text.specs.Stretches.{HasSameStatements, StandsAt, StretchesModel, label_seen, mappings_of, text_or, text_won}
+use Rattle.pmap_text.specs.MapModel.{Label}
+use Rattle.pmap_text.specs.MapText.{text_at}
+use Rattle.pmap_text.specs.Stretches.{HasSameStatements, StandsAt, StretchesModel, text_won}
 use Rattle.pmap_text.specs.declared.label.LabelId.{LabelId}
-use Rattle.pmap_text.specs.declared.statement.Statement.{Statement}
 use Rattle.pmap_text.proofs.Orders.{known_text}
-use Rattle.label_trie.specs.Runs.{AreRuns, AreRunsOf, HasOneLabel, Run}
-use Rattle.pmap_print.specs.Runs.{IsRunsText, run_fields, run_text, run_titles, runs_text}
+use Rattle.label_lookup.proofs.WalkLabels.{known_label, same_walks, walk_text}
+use Rattle.label_trie.specs.Runs.{AreRuns, HasOneLabel}
+use Rattle.pmap_print.specs.Runs.{IsRunsText, run_fields, run_text, run_titles}
 use Rattle.pmap_print.specs.Stretches.{IsPrinted, IsPrintedTo, Numbered, is_same_number, run_of, stretch_view, walk_view}
 use Rattle.pmap_print.specs.declared.runs.Stretch.{Stretch}
 use Rattle.pmap_print.specs.Table.{Text, line_text}
@@ -61,25 +60,10 @@ one-joined f table s t one more follows same =
     by a ge le (inl behind) = more.each a (omega (arith, follows, behind)) le ∙ ap (option_and_then (slice_get table)) (sym same)
     by a ge le (inr within) = one.each a ge within
 
--- the label of a stretch has a text, and that is the text of the statement that wins there, or of the default
-known_label : (table : List Label) (ss : List Statement) (default : Option LabelId) (top : Option Statement) → All (λ s. s.label.0 < length table) ss
-    → ForSome default (λ id. id.0 < length table) → ((s : Statement) → top ≡ Some s → Contains ss s)
-    → ForSome (label_seen default top) (λ id. id.0 < length table)
-known_label table ss default None known fallback listed = fallback
-known_label table ss default (Some s) known fallback listed =
-    λ id is. subst (λ (i : LabelId). i.0 < length table) (same_Some s.label id is)
-    (All-contains (λ (r : Statement). r.label.0 < length table) ss s known (listed s refl))
-
+-- the label of a stretch has a text
 number_of_known : (n : ℕ) (label : Option LabelId) → ForSome label (λ id. id.0 < n) → ForSome (option_map (λ id. id.0) label) (λ i. i < n)
 number_of_known n None known = λ i e. absurd (none-some i e)
 number_of_known n (Some id) known = λ i e. subst (λ (j : ℕ). j < n) (same_Some id.0 i e) (known id refl)
-
-label_text : (table : List Label) (default : Option LabelId) (top : Option Statement) → ForSome (label_seen default top) (λ id. id.0 < length table)
-    → text_or (option_map (mapping_of table) top) (option_map (λ id. text_at table id.0) default)
-    ≡ option_and_then (slice_get table) (option_map (λ id. id.0) (label_seen default top))
-label_text table None None known = refl
-label_text table (Some id) None known = sym (known_text table id.0 (known id refl))
-label_text table default (Some s) known = sym (known_text table s.label.0 (known s.label refl))
 
 pub walk_known : (s : StretchesModel) (table : List Label) → StandsAt s → All (λ r. r.label.0 < length table) s.statements
     → ForSome s.default (λ id. id.0 < length table) → ForSome (walk_view s).label (λ i. i < length table)
@@ -89,17 +73,10 @@ walk_known s table stands known fallback =
 
 pub walk_label : (s : StretchesModel) (table : List Label) → StandsAt s → All (λ r. r.label.0 < length table) s.statements
     → ForSome s.default (λ id. id.0 < length table) → HasOneLabel (text_won table s.default s.statements) (run_of table (walk_view s))
-walk_label s table stands known fallback =
-    let m : MapModel = record { version = s.version; name = None; fallback = []; mappings = mappings_of table s.statements; table = table } in
-    let stretch = stands.stretch m refl refl in
-    let is = stands.label_is in
-    record {
-      some = stands.ordered;
-      each = λ a ge le.
-          let seen : last_such (spans a) (mappings_of table s.statements) ≡ option_map (mapping_of table) stands.top = stretch.same a ge le in
-          rw (seen, is)
-          (label_text table s.default stands.top (known_label table s.statements s.default stands.top known fallback stands.listed));
-    }
+walk_label s table stands known fallback = record {
+  some = stands.ordered;
+  each = λ a ge le. walk_text s table stands known fallback a ge le;
+}
 
 -- the first stretch
 pub printed_first : (f : ℕ → Option Label) (table : List Label) (v : Version) (end : ℕ) (out : Text) (s : Numbered) → s.low ≡ 0
@@ -183,13 +160,6 @@ run_begins table start out s stands view low high first known fallback =
       printed = printed_first (text_won table start.default start.statements) table start.version (2 ^ width_of start.version) out (stretch_view s)
           (ap (λ (n : Numbered). n.low) view ∙ first);
     }
-
-same_walks : (start now next : StretchesModel) → HasSameStatements start now → HasSameStatements now next → HasSameStatements start next
-same_walks start now next first second = record {
-  version = first.version ∙ second.version;
-  default = first.default ∙ second.default;
-  statements = first.statements ∙ second.statements;
-}
 
 -- the walk goes on to a stretch of the same label
 pub run_goes_on : (table : List Label) (start now next : StretchesModel) (before out : Text) (s t : Stretch) → IsPrintedTo table start now before out s

@@ -3,7 +3,7 @@ use Rattle.std.specs.Prelude.{slice_index}
 use Rattle.std.proofs.lemmas.List.{length-map}
 use Rattle.flow_uniq.specs.Kept.{group_model}
 use Rattle.pmap_print.specs.Cell.{cell_text}
-use Rattle.pmap_print.specs.Groups.{group_fields, group_lines}
+use Rattle.pmap_print.specs.Groups.{group_lines}
 use Rattle.pmap_print.specs.Table.{Line, column_width, table_lines}
 use Rattle.pmap_print.proofs.Filled.{map-filled_line-zero, slice_index-zeros}
 use Rattle.pmap_print.proofs.GroupLines.{all_group_lines, group_lines-group, group_lines-same, length-group_fields, length-group_lines, whole_slice}

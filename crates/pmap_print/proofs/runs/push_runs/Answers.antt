@@ -1,4 +1,4 @@
-use Rattle.std.proofs.Common.{◌≡◌, ◌+◌, ◌∙◌, sym, arith}
+use Rattle.std.proofs.Common.{◌∙◌, sym, arith}
 use Rattle.std.proofs.lemmas.Result.{on_ok_weaker}
 use Rattle.pmap_print.proofs.Stretches.{run_begins, run_ends, run_goes_on, runs_end}
 use Rattle.pmap_print.proofs.runs.push_runs.Goals as goal
