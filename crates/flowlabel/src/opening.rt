@@ -9,7 +9,7 @@ ghost use Rattle.flowlabel.specs.declared.command.Needs.{Needs};
 use crate::command::Files;
 use crate::fault::RunFault;
 use crate::inputs::{Inputs, Source};
-use flow_io::{Input, Watched};
+use flow_io::{Buffered, Input, Watched};
 use std::fs::File;
 use thiserror::Error;
 
@@ -33,13 +33,13 @@ pub trait Opener {
 
 // The files of the system, of which no contract says what they are.
 impl Opener for HostRuntime {
-    type Reader = Watched<File>;
+    type Reader = Buffered<Watched<File>>;
 
     ghost answers = { λ _ _ _. Unit {0} };
 
-    fn open(&self, name: &str) -> Result<Watched<File>, OpenFault> {
+    fn open(&self, name: &str) -> Result<Buffered<Watched<File>>, OpenFault> {
         match File::open(self, name) {
-            Ok(file) => Ok(Watched::new(file)),
+            Ok(file) => Ok(Buffered::new(Watched::new(file))),
             Err(_) => Err(OpenFault),
         }
     }
