@@ -133,10 +133,7 @@ fn usage_line(alloc: Global, fault: &UsageFault) -> Result<String, AllocError>
             alloc,
             "flowlabel: usage: P5 LabelNeedsMap\n",
         ),
-        UsageFault::CompactAlone => String::from_str(
-            alloc,
-            "flowlabel: usage: P6 CompactAlone\n",
-        ),
+        UsageFault::CompactAlone => String::from_str(alloc, "flowlabel: usage: P6 CompactAlone\n"),
         UsageFault::NoMemory => String::from_str(alloc, OUT_OF_MEMORY),
     }
 }

@@ -216,7 +216,10 @@ fn file_in<'a>(entries: &ArgMatches<'a>, id: &str) -> &'a str
 fn shrunk_in(entries: &ArgMatches<'_>) -> Result<Shrunk, UsageFault>
     ensures { result ≡ shrunk_in_rows (rows_of (found_of entries.now)) }
 {
-    match (is_given(entries, "certificate"), is_given(entries, "compact")) {
+    match (
+        is_given(entries, "certificate"),
+        is_given(entries, "compact"),
+    ) {
         (false, false) => Ok(Shrunk::List),
         (true, false) => Ok(Shrunk::Certificate),
         (true, true) => Ok(Shrunk::Compact),
