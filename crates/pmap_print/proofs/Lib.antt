@@ -11,3 +11,4 @@ pub mod MapTexts
 pub mod FewLabels
 pub mod MinimalLists
 pub mod GroupLines
+pub mod GroupText

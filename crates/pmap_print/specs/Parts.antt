@@ -1,6 +1,7 @@
 -- How the lines of rows come about, one by one.
 use Rattle.std.specs.Prelude.{◌≡◌, ℕ, List, [], ◌∷◌, ◌++◌, decimal, length, slice_index_or, Option, Some, None}
 use Rattle.flow_rows.specs.Row.{RowView}
+use Rattle.flow_uniq.specs.declared.totals.Totals.{Totals}
 use Rattle.pmap_print.specs.Rows.{LabelTexts}
 use Rattle.pmap_print.specs.Table.{Line, Text}
 
@@ -29,3 +30,7 @@ number_fields r =
 abbrev pub barred : Line → Text → Text
 barred [] rest = rest
 barred (field ∷ fields) rest = 124 ∷ (field ++ barred fields rest)
+
+-- the fields of the totals of a group
+abbrev pub total_fields : Totals → Line
+total_fields t = decimal t.records ∷ decimal t.packets ∷ decimal t.octets ∷ []

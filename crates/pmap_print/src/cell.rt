@@ -57,8 +57,8 @@ pub fn number_length(number: u64) -> usize
     length + short_length(left)
 }
 
-// Appends a number that may have more than 64 bits, in decimal.
-fn print_total(out: &mut Vec<u8>, total: u128) -> Result<(), AllocError>
+/// Appends a number that may have more than 64 bits, in decimal.
+pub fn print_total(out: &mut Vec<u8>, total: u128) -> Result<(), AllocError>
     ensures { OnOk result (out.new.items ≡ out.old.items ++ decimal total) }
 {
     let mut buffer = Buffer::new();

@@ -1,15 +1,17 @@
 //! The text of groups.
-ghost use Rattle.std.specs.Prelude.{◌≡◌, ◌+◌, All, IfOk, OnOk, length, map, slice_index};
+ghost use Rattle.std.specs.Prelude.{◌≡◌, ◌+◌, ◌++◌, All, false, IfOk, OnOk, length, map, slice_index};
 ghost use Rattle.flow_uniq.specs.Kept.{group_model, key_model};
 ghost use Rattle.flow_uniq.specs.Parts.{part_model};
 ghost use Rattle.flow_uniq.specs.Sorted.{shown_groups};
 ghost use Rattle.pmap_print.specs.Cell.{cell_text};
 ghost use Rattle.pmap_print.specs.Groups.{group_fields, group_lines, group_titles, groups_text, part_text};
-ghost use Rattle.pmap_print.specs.Table.{filled_line, table_lines};
+ghost use Rattle.pmap_print.specs.Parts.{total_fields};
+ghost use Rattle.pmap_print.specs.Table.{filled_line, line_text, table_lines};
 
-use crate::cell::Cell;
-use crate::table::{print_line, widen};
-use flow_uniq::{Group, Groups, KeyField, KeyPart};
+use crate::cell::{Cell, print_number, print_total};
+use crate::table::{print_line, print_plain_line, widen};
+use flow_uniq::{Group, Groups, KeyField, KeyPart, Totals};
+use prefix_keys::print_addr;
 use std::alloc::{AllocError, Global};
 
 // How many columns the totals of a group have.
@@ -122,6 +124,59 @@ fn print_shown<'a>(
     Ok(out)
 }
 
+// Appends the text of a part of a key. Without a label there is nothing in it.
+fn print_part(out: &mut Vec<u8>, part: KeyPart<'_>) -> Result<(), AllocError>
+    ensures { OnOk result (out.new.items ≡ out.old.items ++ part_text (part_model part.entry)) }
+{
+    match part {
+        KeyPart::Address(addr) => print_addr(out, addr),
+        KeyPart::Number(number) => print_number(out, u64::from(number)),
+        KeyPart::Label(label) => out.extend_from_slice(label.unwrap_or(b"")),
+    }
+}
+
+// Appends the totals of a group, and the end of its line.
+fn print_totals(out: &mut Vec<u8>, totals: &Totals) -> Result<(), AllocError>
+    ensures { OnOk result (out.new.items ≡ out.old.items ++ line_text (total_fields totals.now)) }
+{
+    print_number(out, totals.records)?;
+    out.push(b'|')?;
+    print_total(out, totals.packets)?;
+    out.push(b'|')?;
+    print_total(out, totals.octets)?;
+    out.push(b'\n')?;
+    Ok(())
+}
+
+// Appends the line of a group with its fields as they are.
+fn print_group(out: &mut Vec<u8>, group: &Group<'_>) -> Result<(), AllocError>
+    ensures { OnOk result (out.new.items ≡ out.old.items ++ line_text (group_fields (group_model group.now))) }
+{
+    let mut rest = group.key;
+    while let Some((part, behind)) = rest.split_first() {
+        print_part(out, part)?;
+        out.push(b'|')?;
+        rest = behind;
+    }
+    print_totals(out, &group.totals)
+}
+
+// The text of groups in the order of their first rows, with the fields as they are. No list of the groups is made.
+fn print_in_place(alloc: Global, groups: &Groups) -> Result<Vec<u8>, AllocError>
+    ensures { IfOk result (λ out. out.items ≡ groups_text groups.now.fields groups.now.groups false) }
+{
+    let mut cells = Vec::new(alloc);
+    fill_title(&mut cells, groups.fields())?;
+    let mut out = Vec::new(alloc);
+    print_plain_line(&mut out, cells.as_slice())?;
+    for place in 0..groups.group_count() {
+        if let Some(group) = groups.group(place) {
+            print_group(&mut out, &group)?;
+        }
+    }
+    Ok(out)
+}
+
 /// The text of groups: a title, and a line for each group with the parts of its key and its totals. They stand in the
 /// order of their first rows, or `sorted` by their keys. With `columns` each field is filled with spaces on the left to
 /// the width of its column.
@@ -134,6 +189,9 @@ pub fn print_groups(
     ensures { IfOk result (λ out. out.items
         ≡ groups_text groups.now.fields (shown_groups sorted groups.now.groups) columns) }
 {
+    if !sorted && !columns {
+        return print_in_place(alloc, groups);
+    }
     let shown = shown(alloc, groups, sorted)?;
     print_shown(alloc, groups.fields(), shown.as_slice(), columns)
 }

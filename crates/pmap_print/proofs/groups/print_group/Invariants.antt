@@ -1,0 +1,15 @@
+-- The parts so far are printed, and behind them the others and the totals are to be.
+use Rattle.std.proofs.Common.{◌≡◌, ◌++◌, length, map}
+use Rattle.flow_uniq.specs.Kept.{group_model, key_model}
+use Rattle.pmap_print.specs.Groups.{group_fields, part_text}
+use Rattle.pmap_print.specs.Parts.{total_fields}
+use Rattle.pmap_print.specs.Table.{line_text}
+use Rattle.pmap_print.proofs.groups.print_group.Given as goal
+
+abbrev pub invariant-loop-part : goal.invariant-loop-part
+invariant-loop-part l =
+    l.out.items ++ line_text (map part_text (key_model l.rest) ++ total_fields l.group.totals)
+    ≡ l.initial.out.items ++ line_text (group_fields (group_model l.group))
+
+abbrev pub decreases-loop-part : goal.decreases-loop-part
+decreases-loop-part l = length (key_model l.rest)
