@@ -37,12 +37,12 @@ Contains-mapped f xs x has =
 any-listed : {X : Type 0} (p : X → Bool) (xs : List X) (x : X) → Contains xs x → p x ≡ true → list_any p xs ≡ true
 any-listed p xs x has passes = list_any_at p xs has.0 x has.1 (ap p has.2 ∙ passes)
 
-none-listed : {X Y : Type 0} (f : X → Y) (p : Y → Bool) (xs : List X) → ((x : X) → Contains xs x → p (f x) ≡ false) → list_any p (map f xs) ≡ false
+pub none-listed : {X Y : Type 0} (f : X → Y) (p : Y → Bool) (xs : List X) → ((x : X) → Contains xs x → p (f x) ≡ false) → list_any p (map f xs) ≡ false
 none-listed f p [] fails = refl
 none-listed f p (x ∷ xs) fails =
     ap (λ b. b || list_any p (map f xs)) (fails x (Contains-first x xs)) ∙ none-listed f p xs (λ y has. fails y (Contains-later x xs y has))
 
-never-found : {X Y : Type 0} (f : X → Y) (p : Y → Bool) (xs : List X) → ((x : X) → Contains xs x → p (f x) ≡ false) → find p (map f xs) ≡ None
+pub never-found : {X Y : Type 0} (f : X → Y) (p : Y → Bool) (xs : List X) → ((x : X) → Contains xs x → p (f x) ≡ false) → find p (map f xs) ≡ None
 never-found f p [] fails = refl
 never-found f p (x ∷ xs) fails =
     ap (λ b. cond b (Some (f x)) (find p (map f xs))) (fails x (Contains-first x xs))

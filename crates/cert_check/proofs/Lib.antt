@@ -13,3 +13,5 @@ pub mod Walked
 pub mod Nodes
 pub mod Ways
 pub mod Passing
+pub mod Cleared
+pub mod WayEnds

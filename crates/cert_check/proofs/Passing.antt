@@ -92,7 +92,7 @@ passed-block m l b old new over coming same begun held passes = record {
     default = sym same.default ∙ over.default;
     statements = sym same.statements ∙ over.statements;
   };
-  begun = begun;
+  begun = omega (arith, begun);
   held = held;
   coming = passes l.entries (place_at b.value b.len + 1) coming (before-end l b old.coming.now coming);
 }

@@ -51,17 +51,23 @@ module _ (m : MapText) (s : StretchesModel) (over : IsOverMap m s) (at : StandsA
           (All-contains (λ (r : Statement). r.label.0 < length m.labels) m.statements t m.numbers_known
           (subst (λ (ss : List Statement). Contains ss t) over.statements (at.listed t e)))
 
+  pub settled-at : (j r : ℕ) → s.first ≤ first_of (width_of m.version) j r → first_of (width_of m.version) j r ≤ s.last
+      → last_of (width_of m.version) j r < 2 ^ width_of m.version
+      → settled_label (map_of m) j r ≡ cond (nat_le (last_of (width_of m.version) j r) s.last) (text_of m.labels s.label) None
+  settled-at j r from here fits =
+      let top = option_map (mapping_of m.labels) at.top in
+      let stretch = at.stretch (map_of m) (ap width_of (sym over.version)) (ap (map (mapping_of m.labels)) (sym over.statements)) in
+      settled_stretch (map_of m) j r s.first s.last top (have-addresses m) stretch from here fits
+      ∙ ap (λ (o : Option Label). cond (nat_le (last_of (width_of m.version) j r) s.last) o None) (label-text m.labels m.default at.top ∙ ap (text_of m.labels) (sym label-is))
+
   pub settled-by : (b : Block) → b.version ≡ m.version → s.first ≤ b.value → b.value ≤ s.last → last_in b < 2 ^ width_of b.version
       → settled_label (map_of m) b.len (number_of b) ≡ cond (nat_le (last_in b) s.last) (text_of m.labels s.label) None
   settled-by b version from here fits =
-      let top = option_map (mapping_of m.labels) at.top in
-      let stretch = at.stretch (map_of m) (ap width_of (sym over.version)) (ap (map (mapping_of m.labels)) (sym over.statements)) in
       let same : width_of b.version ≡ width_of m.version = ap width_of version in
       let first : first_of (width_of m.version) b.len (number_of b) ≡ b.value =
       ap (λ (W : ℕ). first_of W b.len (number_of b)) (sym same) ∙ block-first b in
       let last : last_of (width_of m.version) b.len (number_of b) ≡ last_in b = ap (λ (W : ℕ). last_of W b.len (number_of b)) (sym same) in
       let fits' : last_of (width_of m.version) b.len (number_of b) < 2 ^ width_of m.version =
       subst (λ (W : ℕ). last_of W b.len (number_of b) < 2 ^ W) same fits in
-      settled_stretch (map_of m) b.len (number_of b) s.first s.last top (have-addresses m) stretch (omega (arith, first, from)) (omega (arith, first, here)) fits'
-      ∙ ap (λ (k : ℕ). cond (nat_le k s.last) (Some (label_or top (text_at m.labels m.default.0))) None) last
-      ∙ ap (λ (o : Option Label). cond (nat_le (last_in b) s.last) o None) (label-text m.labels m.default at.top ∙ ap (text_of m.labels) (sym label-is))
+      settled-at b.len (number_of b) (omega (arith, first, from)) (omega (arith, first, here)) fits'
+      ∙ ap (λ (k : ℕ). cond (nat_le k s.last) (text_of m.labels s.label) None) last

@@ -15,11 +15,12 @@ use Rattle.pmap_cert.specs.Chain.{chain_pair, chosen_half, side_half}
 use Rattle.pmap_cert.specs.Node.{Chain, HasChainForm, Inner, Leaf, Node, behind, bits_of, first_node, from_next_line, set_of, side_of, tree_of}
 use Rattle.cert_check.specs.Carrying.{number_of}
 use Rattle.cert_check.specs.Checking.{bits_fault, claim_fault, fault_at, is_decided, is_label_of, leaf_fault, node_count, node_fault}
+use Rattle.cert_check.specs.Ways.{upper_fault}
 use Rattle.cert_check.specs.declared.fault.CheckFault.{CheckFault}
 use Rattle.cert_check.specs.declared.fault.CheckFaultKind.{CheckFaultKind}
 use Rattle.cert_check.specs.declared.fault.CheckFaultKind.TheVariants.{CostTooHigh, LeafNotUniform, ListDiffers, NoMemory, SetTooSmall}
 use Rattle.cert_check.proofs.HalfBlocks.{IsHalf, half-number}
-use Rattle.cert_check.proofs.Nodes.{or-first, or-neither, or-second, rising-of}
+use Rattle.cert_check.proofs.Nodes.{or-first, rising-of}
 
 -- what is known at the place of a chain
 pub record IsChainAt (count : ℕ) (nodes : List Node) (side room : ℕ) : Type 0 where
@@ -142,6 +143,18 @@ leaf-kinds false b e = let bad : LeafNotUniform ≡ NoMemory = same_Some LeafNot
 
 pub leaf-no-memory : (m : MapModel) (ps : List Prefix) (n q : ℕ) (x : Label) → leaf_fault m ps n q x ≡ Some NoMemory → ⊥
 leaf-no-memory m ps n q x e = leaf-kinds (is_label_of (settled_label m n q) x) (is_decided (width_of m.version) ps n q x) e
+
+or-no-memory : (a b : Option CheckFaultKind) → (a ≡ Some NoMemory → ⊥) → (b ≡ Some NoMemory → ⊥) → option_or a b ≡ Some NoMemory → ⊥
+or-no-memory None b first second e = second e
+or-no-memory (Some kind) b first second e = first e
+
+pub upper-no-memory : (m : MapModel) (ps : List Prefix) (x : Label) (bits : List Bool) (n q : ℕ) → upper_fault m ps x bits n q ≡ Some NoMemory → ⊥
+upper-no-memory m ps x [] n q e = absurd (none-some NoMemory e)
+upper-no-memory m ps x (true ∷ bits) n q e =
+    or-no-memory (upper_fault m ps x bits (suc n) (2 * q + 1)) None (upper-no-memory m ps x bits (suc n) (2 * q + 1)) (λ none. absurd (none-some NoMemory none)) e
+upper-no-memory m ps x (false ∷ bits) n q e =
+    or-no-memory (upper_fault m ps x bits (suc n) (2 * q)) (leaf_fault m ps (suc n) (2 * q + 1) x) (upper-no-memory m ps x bits (suc n) (2 * q))
+    (leaf-no-memory m ps (suc n) (2 * q + 1) x) e
 
 claim-kinds : (a b : Bool) → ◌≡◌ {A = Option CheckFaultKind} (cond a (Some CostTooHigh) (cond b (Some SetTooSmall) None)) (Some NoMemory) → ⊥
 claim-kinds true b e = let bad : CostTooHigh ≡ NoMemory = same_Some CostTooHigh NoMemory e in cc

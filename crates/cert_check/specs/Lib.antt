@@ -4,3 +4,4 @@ pub mod Checking
 pub mod Sources
 pub mod Kept
 pub mod Walking
+pub mod Ways

@@ -62,10 +62,10 @@ pub record HasComeTo (m : MapText) (l : PrefixList) (b : Block) (walk : Walk) : 
   pub near : b.value ≤ walk.stretches.last + 1
   pub coming : AreComing l.entries (place_at b.value b.len) walk.coming.now
 
--- The walk has passed the block: it stands at the stretch that has its last address, and the next entry is the first that
--- begins behind it.
+-- The walk has passed the block: it stands at the stretch that has its last address or at the one behind, and the next entry is
+-- the first that begins behind it.
 pub record HasPassed (m : MapText) (l : PrefixList) (b : Block) (walk : Walk) : Type 0 where
   pub map : IsOverMap m walk.stretches
-  pub begun : walk.stretches.first ≤ last_in b
+  pub begun : walk.stretches.first ≤ last_in b + 1
   pub held : last_in b ≤ walk.stretches.last
   pub coming : AreComing l.entries (place_at (last_in b + 1) 0) walk.coming.now

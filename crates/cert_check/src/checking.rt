@@ -12,9 +12,11 @@ ghost use Rattle.cert_check.specs.Carrying.{number_of};
 ghost use Rattle.cert_check.specs.Checking.{bits_fault, first_fault, node_count, node_fault, told};
 ghost use Rattle.cert_check.specs.Kept.{AreSources};
 ghost use Rattle.cert_check.specs.Walking.{AreComing, HasComeTo, HasPassed, IsHandedDown};
+ghost use Rattle.cert_check.specs.Ways.{IsClear, IsFreeWay, IsWay};
 ghost use Rattle.cert_check.specs.declared.fault.CheckFaultKind.TheVariants.{NoMemory};
 
 use crate::claims::{chain_fault, claim_fault};
+use crate::descent::way_end;
 use crate::entry_order::{are_in_order, in_order};
 use crate::fault::{CheckFault, CheckFaultKind};
 use crate::labels::numbers_in;
@@ -183,10 +185,111 @@ fn check_chain<'a>(
     ensures memory { IfErr result (λ fault. fault.kind ≡ NoMemory → fault.node ≡ 0) }
 {
     let bits = place.node.bits();
-    let next = check_way(sources, walk, place, side, bits, &place.block, above)?;
+    let next = check_below(sources, walk, place, side, bits, above)?;
     let end = place.node.next();
     let fault = chain_fault(&sources.certificate.labels, &place.node, &end, side);
     unless_fault(fault, place.number, next)
+}
+
+// Checks what is below a chain: from the end of its way on where one look clears all that comes before that, else block
+// by block.
+#[cycle(nodes)]
+fn check_below<'a>(
+    sources: &Sources,
+    walk: &mut Walk,
+    chain: &Place<'a>,
+    side: LabelId,
+    bits: &[bool],
+    above: Option<LabelId>,
+) -> Result<(Cursor<'a>, u64), CheckFault>
+    requires sources { AreSources sources.now }
+    requires version { chain.now.block.version ≡ sources.now.map.now.version }
+    requires here { 0 < length chain.now.node }
+    requires end { 0 < length (from_next_line chain.now.node) }
+    requires some { 0 < length bits.now }
+    requires form { HasRoomBelow (HasChainForm (length sources.now.certificate.now.labels)
+        (first_node (from_next_line chain.now.node))) bits.now (width_of chain.now.block.version - chain.now.block.len) }
+    requires known { side.0 < length sources.now.certificate.now.labels }
+    requires come { HasComeTo sources.now.map.now sources.now.list.now chain.now.block walk.old }
+    requires above { IsHandedDown sources.now.list.now chain.now.block.len chain.now.block.value above }
+    ensures passed { OnOk result (HasPassed sources.now.map.now sources.now.list.now chain.now.block walk.new) }
+    ensures behind { IfOk result (λ next. next.0 ≡ behind (from_next_line chain.now.node)) }
+    ensures ok { IfOk result (λ next. (k : ℕ) → told k ≡ chain.now.number →
+        (next.1 ≡ told (k + 1 + node_count (tree_of sources.now.certificate.now.labels
+        (first_node (from_next_line chain.now.node)))))
+        × (bits_fault (map_of sources.now.map.now) (list_of sources.now.list.now).prefixes
+        (text_at sources.now.certificate.now.labels side.0) k
+        (node_fault (map_of sources.now.map.now) (list_of sources.now.list.now).prefixes
+        (tree_of sources.now.certificate.now.labels (first_node (from_next_line chain.now.node))) (k + 1))
+        bits.now chain.now.block.len (number_of chain.now.block) ≡ None)) }
+    ensures err { IfErr result (λ fault. fault.kind ≢ NoMemory → (k : ℕ) → told k ≡ chain.now.number →
+        bits_fault (map_of sources.now.map.now) (list_of sources.now.list.now).prefixes
+        (text_at sources.now.certificate.now.labels side.0) k
+        (node_fault (map_of sources.now.map.now) (list_of sources.now.list.now).prefixes
+        (tree_of sources.now.certificate.now.labels (first_node (from_next_line chain.now.node))) (k + 1))
+        bits.now chain.now.block.len (number_of chain.now.block) ≡ Some fault) }
+    ensures memory { IfErr result (λ fault. fault.kind ≡ NoMemory → fault.node ≡ 0) }
+{
+    let end = way_end(&chain.block, bits);
+    if walk.is_clear_to(sources, &chain.block, &end, above, side)? {
+        check_end(sources, walk, chain, side, bits, &end, above)
+    } else {
+        check_way(sources, walk, chain, side, bits, &chain.block, above)
+    }
+}
+
+// The same where the walk has come to the end of the way, and nothing is wrong with what comes before that.
+#[cycle(nodes)]
+fn check_end<'a>(
+    sources: &Sources,
+    walk: &mut Walk,
+    chain: &Place<'a>,
+    side: LabelId,
+    bits: &[bool],
+    end: &Block,
+    above: Option<LabelId>,
+) -> Result<(Cursor<'a>, u64), CheckFault>
+    requires sources { AreSources sources.now }
+    requires version { chain.now.block.version ≡ sources.now.map.now.version }
+    requires here { 0 < length chain.now.node }
+    requires end { 0 < length (from_next_line chain.now.node) }
+    requires some { 0 < length bits.now }
+    requires form { HasRoomBelow (HasChainForm (length sources.now.certificate.now.labels)
+        (first_node (from_next_line chain.now.node))) bits.now (width_of chain.now.block.version - chain.now.block.len) }
+    requires known { side.0 < length sources.now.certificate.now.labels }
+    requires way { IsWay chain.now.block end.now bits.now }
+    requires free { IsFreeWay sources.now.list.now.entries chain.now.block end.now }
+    requires clear { IsClear (map_of sources.now.map.now) (list_of sources.now.list.now).prefixes
+        (width_of sources.now.list.now.version) chain.now.block.len chain.now.block.value end.now.value
+        (text_at sources.now.certificate.now.labels side.0) }
+    requires come { HasComeTo sources.now.map.now sources.now.list.now end.now walk.old }
+    requires above { IsHandedDown sources.now.list.now chain.now.block.len chain.now.block.value above }
+    ensures passed { OnOk result (HasPassed sources.now.map.now sources.now.list.now chain.now.block walk.new) }
+    ensures behind { IfOk result (λ next. next.0 ≡ behind (from_next_line chain.now.node)) }
+    ensures ok { IfOk result (λ next. (k : ℕ) → told k ≡ chain.now.number →
+        (next.1 ≡ told (k + 1 + node_count (tree_of sources.now.certificate.now.labels
+        (first_node (from_next_line chain.now.node)))))
+        × (bits_fault (map_of sources.now.map.now) (list_of sources.now.list.now).prefixes
+        (text_at sources.now.certificate.now.labels side.0) k
+        (node_fault (map_of sources.now.map.now) (list_of sources.now.list.now).prefixes
+        (tree_of sources.now.certificate.now.labels (first_node (from_next_line chain.now.node))) (k + 1))
+        bits.now chain.now.block.len (number_of chain.now.block) ≡ None)) }
+    ensures err { IfErr result (λ fault. fault.kind ≢ NoMemory → (k : ℕ) → told k ≡ chain.now.number →
+        bits_fault (map_of sources.now.map.now) (list_of sources.now.list.now).prefixes
+        (text_at sources.now.certificate.now.labels side.0) k
+        (node_fault (map_of sources.now.map.now) (list_of sources.now.list.now).prefixes
+        (tree_of sources.now.certificate.now.labels (first_node (from_next_line chain.now.node))) (k + 1))
+        bits.now chain.now.block.len (number_of chain.now.block) ≡ Some fault) }
+    ensures memory { IfErr result (λ fault. fault.kind ≡ NoMemory → fault.node ≡ 0) }
+{
+    let place = Place {
+        node: chain.node.next(),
+        block: *end,
+        number: chain.number.saturating_add(1),
+    };
+    let next = check_node(sources, walk, &place, above)?;
+    let fault = walk.fault_behind(sources, &chain.block, end, bits, above, side)?;
+    unless_fault(fault, chain.number, next)
 }
 
 // Checks what is below a chain, from a block of its way on with the bits that are left: the end with all below it, and then

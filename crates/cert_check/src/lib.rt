@@ -22,6 +22,7 @@
 mod carrying;
 mod checking;
 mod claims;
+mod descent;
 mod entry_order;
 mod fault;
 mod labels;

@@ -1,4 +1,4 @@
-use Rattle.std.proofs.Common.{◌≡◌, ◌∙◌, ◌+◌, ◌-◌, ◌*◌, ◌<◌, Bool, true, false, List, [], ◌∷◌, Some, ap, arith, drop, length, option_map, refl, subst, sym, take}
+use Rattle.std.proofs.Common.{◌≡◌, ◌∙◌, ◌+◌, ◌-◌, ◌*◌, ◌<◌, Bool, true, false, List, [], ◌∷◌, Some, ap, arith, drop, length, option_map, refl, subst, sym, take, ℕ}
 use Rattle.std.proofs.lemmas.Result.{IfErr-weaker, IfOk-weaker, err_from_is_err_and}
 use Rattle.prefix_keys.specs.Version.{width_of}
 use Rattle.pmap_text.specs.MapText.{map_of, text_at}
@@ -11,13 +11,17 @@ use Rattle.pmap_cert.specs.Node.{HasChainForm, behind, bits_of, first_node, from
 use Rattle.cert_check.specs.Carrying.{number_of}
 use Rattle.cert_check.specs.Checking.{claim_fault, fault_at, node_count, node_fault, told}
 use Rattle.cert_check.specs.Walking.{HasPassed}
-use Rattle.cert_check.proofs.Covered.{first-is, first-none}
+use Rattle.cert_check.proofs.Covered.{first-is, first-none, block-last}
 use Rattle.cert_check.proofs.Lists.{slice-from}
 use Rattle.cert_check.proofs.Decided.{handed-half}
 use Rattle.cert_check.proofs.HalfBlocks.{AreHalves, high-number, low-number}
-use Rattle.cert_check.proofs.Nodes.{all-behind, at-number, count-all, high-fault, high-form, high-here, low-fault, low-form, low-here, own-fault, split, told-next}
+use Rattle.cert_check.proofs.Nodes.{all-behind, at-number, count-all, high-fault, high-form, high-here, low-fault, low-form, low-here, own-fault, split, told-next, or-first}
 use Rattle.cert_check.proofs.Walked.{come-high, come-low, passed-both}
-use Rattle.cert_check.proofs.Ways.{IsChainAt, as-told, chain-at, chain-count, chain-low, chain-own, claim-no-memory, end-rising, half-room, leaf-no-memory, on-ok, way-deep, way-room, way-side, way_fault}
+use Rattle.cert_check.proofs.Ways.{IsChainAt, as-told, chain-at, chain-count, chain-low, chain-own, claim-no-memory, end-rising, half-room, leaf-no-memory, on-ok, way-deep, way-room, way-side, way_fault, upper-no-memory}
+use Rattle.std.specs.Option.{option_or}
+use Rattle.cert_check.specs.Ways.{upper_fault}
+use Rattle.cert_check.proofs.Cleared.{handed-there, quiet-end}
+use Rattle.cert_check.proofs.WayEnds.{end-bits, end-room, room-long, way-within}
 use Rattle.cert_check.proofs.checking.+nodes.Goals as goal
 
 pub check_plain-check_node-requires : goal.check_plain-check_node-requires
@@ -242,18 +246,18 @@ check_node-check_plain-requires t c = (
   (c.requires.sources, (c.requires.version, (c.requires.here, (c.requires.form, (c.requires.come, (c.requires.above, sym c.side.ensures ∙ ap (option_map (λ (id : LabelId). id.0)) c.in-None.is)))))),
 )
 
-pub check_chain-check_way-requires : goal.check_chain-check_way-requires
-check_chain-check_way-requires t c =
+pub check_chain-check_below-requires : goal.check_chain-check_below-requires
+check_chain-check_below-requires t c =
     let count = length c.args.sources.now.certificate.now.labels in
     let nodes = c.args.place.now.node in
     let b = c.args.place.now.block in
     let room = width_of b.version - b.len in
     let at : IsChainAt count nodes c.args.side.0 room = chain-at count nodes c.args.side.0 room c.requires.chain c.requires.form in
     let many = ap length c.bits-bits.ensures in (
-      omega (arith, many, at.some),
+      omega arith,
       (
         c.requires.sources,
-        (c.requires.version, (c.requires.here, (at.here, (subst (λ (xs : List Bool). HasRoomBelow (HasChainForm count (first_node (from_next_line nodes))) xs room) (sym c.bits-bits.ensures) at.form, (at.known, (c.requires.come, c.requires.above)))))),
+        (c.requires.version, (c.requires.here, (at.here, (omega (arith, many, at.some), (subst (λ (xs : List Bool). HasRoomBelow (HasChainForm count (first_node (from_next_line nodes))) xs room) (sym c.bits-bits.ensures) at.form, (at.known, (c.requires.come, c.requires.above))))))),
       ),
     )
 
@@ -376,8 +380,17 @@ check_way-check_node-requires t c =
       omega (arith, few),
       (
         c.requires.sources,
-        (c.requires.version, (subst (λ (ns : List _). 0 < length ns) (sym c.next.ensures) c.requires.end, (subst (λ (ns : List _). HasChainForm count (first_node ns) room) (sym c.next.ensures)
-        (subst (λ (xs : List Bool). HasRoomBelow (HasChainForm count (first_node (from_next_line nodes))) xs room) none c.requires.form), (c.requires.come, c.requires.above)))),
+        (
+          c.requires.version,
+          (
+            subst (λ (ns : List _). 0 < length ns) (sym c.next.ensures) c.requires.end,
+            (
+              subst (λ (ns : List _). HasChainForm count (first_node ns) room) (sym c.next.ensures)
+                  (subst (λ (xs : List Bool). HasRoomBelow (HasChainForm count (first_node (from_next_line nodes))) xs room) none c.requires.form),
+              (c.requires.come, c.requires.above),
+            ),
+          ),
+        ),
       ),
     )
 
@@ -498,8 +511,25 @@ check_way-check_way-requires t c =
       omega (arith, width, are.upper.len, fits.1, long),
       (
         c.requires.sources,
-        (are.upper.version ∙ c.requires.version, (c.requires.here, (c.requires.end, (half-room (HasChainForm (length labels) (first_node (from_next_line nodes))) rest b high (2 * number_of b + 1) fits.0 are.upper fits.1 fits.2, (c.requires.known, (come-high m l b low high are c.side_fault.new.self version c.in_ok-fault.ensures.passed,
-        handed-half l b version high c.covering-covering.result (omega (arith, are.upper.len)) (high-number b low high are) c.covering-covering.ensures.covering)))))),
+        (
+          are.upper.version ∙ c.requires.version,
+          (
+            c.requires.here,
+            (
+              c.requires.end,
+              (
+                half-room (HasChainForm (length labels) (first_node (from_next_line nodes))) rest b high (2 * number_of b + 1) fits.0 are.upper fits.1 fits.2,
+                (
+                  c.requires.known,
+                  (
+                    come-high m l b low high are c.side_fault.new.self version c.in_ok-fault.ensures.passed,
+                    handed-half l b version high c.covering-covering.result (omega (arith, are.upper.len)) (high-number b low high are) c.covering-covering.ensures.covering,
+                  ),
+                ),
+              ),
+            ),
+          ),
+        ),
       ),
     )
 
@@ -682,8 +712,25 @@ check_way-check_way-requires-else-bit t c =
       omega (arith, width, are.lower.len, fits.1, long),
       (
         c.requires.sources,
-        (are.lower.version ∙ c.requires.version, (c.requires.here, (c.requires.end, (half-room (HasChainForm (length labels) (first_node (from_next_line nodes))) rest b low (2 * number_of b) fits.0 are.lower fits.1 fits.2, (c.requires.known, (come-low m l b low high are c.args.walk.now c.covering-covering.new.self c.requires.come c.covering-covering.ensures.stretches c.covering-covering.ensures.coming,
-        handed-half l b version low c.covering-covering.result (omega (arith, are.lower.len)) (low-number b low high are) c.covering-covering.ensures.covering)))))),
+        (
+          are.lower.version ∙ c.requires.version,
+          (
+            c.requires.here,
+            (
+              c.requires.end,
+              (
+                half-room (HasChainForm (length labels) (first_node (from_next_line nodes))) rest b low (2 * number_of b) fits.0 are.lower fits.1 fits.2,
+                (
+                  c.requires.known,
+                  (
+                    come-low m l b low high are c.args.walk.now c.covering-covering.new.self c.requires.come c.covering-covering.ensures.stretches c.covering-covering.ensures.coming,
+                    handed-half l b version low c.covering-covering.result (omega (arith, are.lower.len)) (low-number b low high are) c.covering-covering.ensures.covering,
+                  ),
+                ),
+              ),
+            ),
+          ),
+        ),
       ),
     )
 
@@ -882,3 +929,164 @@ check_way-returns-in_ok-fault-2-clause-memory t c =
     let ps = (list_of l).prefixes in
     IfErr-weaker c.unless_fault-else-bit.result _ _
     (λ found said. λ none. absurd (leaf-no-memory model ps high.len (number_of high) (text_at labels side) (sym c.in_ok-fault-2.ensures.fault ∙ said.0 ∙ ap Some none))) c.unless_fault-else-bit.ensures.err
+
+pub check_below-way_end-end-requires : goal.check_below-way_end-end-requires
+check_below-way_end-end-requires t c =
+    let labels = c.args.sources.now.certificate.now.labels in
+    let m = c.args.sources.now.map.now in
+    let l = c.args.sources.now.list.now in
+    let model = map_of m in
+    let ps = (list_of l).prefixes in
+    let nodes = c.args.chain.now.node in
+    let side = c.args.side.0 in
+    let x = text_at labels side in
+    let b = c.args.chain.now.block in
+    let bits = c.args.bits.now in
+    let version = c.requires.version ∙ sym c.requires.sources.list_version in
+    let long = room-long (HasChainForm (length labels) (first_node (from_next_line nodes))) bits (width_of b.version - b.len) c.requires.form in
+    record { room = long }
+
+pub check_below-is_clear_to-requires-clause-within : goal.check_below-is_clear_to-requires-clause-within
+check_below-is_clear_to-requires-clause-within t c =
+    way-within c.args.chain.now.block c.way_end-end.result c.args.bits.now c.way_end-end.ensures c.requires.some
+
+pub check_below-check_end-requires : goal.check_below-check_end-requires
+check_below-check_end-requires t c =
+    let clear = c.if-branch.true in (
+      omega arith,
+      (
+        c.requires.sources,
+        (c.requires.version, (c.requires.here, (c.requires.end, (c.requires.some, (c.requires.form, (c.requires.known, (c.way_end-end.ensures, (c.in_ok-is_clear_to.ensures.free clear, (c.in_ok-is_clear_to.ensures.clear clear, (c.in_ok-is_clear_to.ensures.come clear, c.requires.above)))))))))),
+      ),
+    )
+
+pub check_end-check_node-requires : goal.check_end-check_node-requires
+check_end-check_node-requires t c =
+    let labels = c.args.sources.now.certificate.now.labels in
+    let m = c.args.sources.now.map.now in
+    let l = c.args.sources.now.list.now in
+    let model = map_of m in
+    let ps = (list_of l).prefixes in
+    let nodes = c.args.chain.now.node in
+    let side = c.args.side.0 in
+    let x = text_at labels side in
+    let b = c.args.chain.now.block in
+    let bits = c.args.bits.now in
+    let version = c.requires.version ∙ sym c.requires.sources.list_version in
+    let end = c.args.end.now in
+    let way = c.requires.way in
+    let within = way-within b end bits way c.requires.some in
+    let width : width_of end.version ≡ width_of b.version = ap width_of way.version in
+    let room : width_of b.version - b.len ≡ (width_of end.version - end.len) + length bits = omega (arith, width, way.len, end.len_in_range) in
+    let form = end-room (HasChainForm (length labels) (first_node (from_next_line nodes))) bits (width_of b.version - b.len) (width_of end.version - end.len) room c.requires.form in (
+      omega (arith, width, way.len, end.len_in_range, c.requires.some),
+      (
+        c.requires.sources,
+        (
+          way.version ∙ c.requires.version,
+          (
+            subst (λ (ns : List _). 0 < length ns) (sym c.next.ensures) c.requires.end,
+            (
+              subst (λ (ns : List _). HasChainForm (length labels) (first_node ns) (width_of end.version - end.len)) (sym c.next.ensures) form,
+              (
+                c.requires.come,
+                handed-there l b version c.args.above c.requires.above end.len end.value (end.value + 1) within.first (let last = block-last end in let ends = within.last in omega (arith, last, ends))
+                    (quiet-end l b version end within c.requires.free) end within.longer refl (omega arith) (omega arith),
+              ),
+            ),
+          ),
+        ),
+      ),
+    )
+
+pub check_end-returns-in_err-next-clause-err : goal.check_end-returns-in_err-next-clause-err
+check_end-returns-in_err-next-clause-err t c =
+    let labels = c.args.sources.now.certificate.now.labels in
+    let m = c.args.sources.now.map.now in
+    let l = c.args.sources.now.list.now in
+    let model = map_of m in
+    let ps = (list_of l).prefixes in
+    let nodes = c.args.chain.now.node in
+    let side = c.args.side.0 in
+    let x = text_at labels side in
+    let b = c.args.chain.now.block in
+    let bits = c.args.bits.now in
+    let version = c.requires.version ∙ sym c.requires.sources.list_version in
+    let end = c.args.end.now in
+    let all = λ (k : ℕ). end-bits b end bits c.requires.way l.version version model ps x c.requires.clear k
+    (node_fault model ps (tree_of labels (first_node (from_next_line nodes))) (k + 1)) in
+    let node-is = λ (k : ℕ). ap (λ (ns : List _). node_fault model ps (tree_of labels (first_node ns)) (k + 1) end.len (number_of end)) (sym c.next.ensures) in
+    let next-number = λ (k : ℕ) (told_is : told k ≡ c.args.chain.now.number). told-next k c.args.chain.now.number told_is c.saturating_add.result c.saturating_add.ensures in
+    let p = err_from_is_err_and c.from_residual.result c.from_residual.ensures.1 in
+    rw (p.1, p.2)
+    (λ some k told_is.
+    let there = node-is k ∙ c.in_err-next.ensures.err some (k + 1) (next-number k told_is) in
+    all k ∙ or-first (node_fault model ps (tree_of labels (first_node (from_next_line nodes))) (k + 1) end.len (number_of end))
+    (option_map (fault_at k) (upper_fault model ps x bits b.len (number_of b))) c.in_err-next.field-0.0 there)
+
+pub check_end-returns-clause-ok : goal.check_end-returns-clause-ok
+check_end-returns-clause-ok t c =
+    let labels = c.args.sources.now.certificate.now.labels in
+    let m = c.args.sources.now.map.now in
+    let l = c.args.sources.now.list.now in
+    let model = map_of m in
+    let ps = (list_of l).prefixes in
+    let nodes = c.args.chain.now.node in
+    let side = c.args.side.0 in
+    let x = text_at labels side in
+    let b = c.args.chain.now.block in
+    let bits = c.args.bits.now in
+    let version = c.requires.version ∙ sym c.requires.sources.list_version in
+    let end = c.args.end.now in
+    let all = λ (k : ℕ). end-bits b end bits c.requires.way l.version version model ps x c.requires.clear k
+    (node_fault model ps (tree_of labels (first_node (from_next_line nodes))) (k + 1)) in
+    let node-is = λ (k : ℕ). ap (λ (ns : List _). node_fault model ps (tree_of labels (first_node ns)) (k + 1) end.len (number_of end)) (sym c.next.ensures) in
+    let next-number = λ (k : ℕ) (told_is : told k ≡ c.args.chain.now.number). told-next k c.args.chain.now.number told_is c.saturating_add.result c.saturating_add.ensures in
+    IfOk-weaker c.unless_fault.result _ _
+    (λ found said. λ k told_is.
+    let there = c.in_ok-next.ensures.ok (k + 1) (next-number k told_is) in (
+      ap (λ p. p.1) said.1 ∙ there.0 ∙ ap (λ (ns : List _). told (k + 1 + node_count (tree_of labels (first_node ns)))) c.next.ensures,
+      all k ∙ (λ i. option_or ((node-is k ∙ there.1) i) (option_map (fault_at k) (sym c.in_ok-fault.ensures.fault i))) ∙ ap (option_map (fault_at k)) said.0,
+    )) c.unless_fault.ensures.ok
+
+pub check_end-returns-clause-err : goal.check_end-returns-clause-err
+check_end-returns-clause-err t c =
+    let labels = c.args.sources.now.certificate.now.labels in
+    let m = c.args.sources.now.map.now in
+    let l = c.args.sources.now.list.now in
+    let model = map_of m in
+    let ps = (list_of l).prefixes in
+    let nodes = c.args.chain.now.node in
+    let side = c.args.side.0 in
+    let x = text_at labels side in
+    let b = c.args.chain.now.block in
+    let bits = c.args.bits.now in
+    let version = c.requires.version ∙ sym c.requires.sources.list_version in
+    let end = c.args.end.now in
+    let all = λ (k : ℕ). end-bits b end bits c.requires.way l.version version model ps x c.requires.clear k
+    (node_fault model ps (tree_of labels (first_node (from_next_line nodes))) (k + 1)) in
+    let node-is = λ (k : ℕ). ap (λ (ns : List _). node_fault model ps (tree_of labels (first_node ns)) (k + 1) end.len (number_of end)) (sym c.next.ensures) in
+    let next-number = λ (k : ℕ) (told_is : told k ≡ c.args.chain.now.number). told-next k c.args.chain.now.number told_is c.saturating_add.result c.saturating_add.ensures in
+    IfErr-weaker c.unless_fault.result _ _
+    (λ found said. λ some k told_is.
+    let there = c.in_ok-next.ensures.ok (k + 1) (next-number k told_is) in
+    all k ∙ (λ i. option_or ((node-is k ∙ there.1) i) (option_map (fault_at k) (sym c.in_ok-fault.ensures.fault i)))
+    ∙ ap (option_map (fault_at k)) said.0 ∙ at-number k c.args.chain.now.number found.kind told_is ∙ as-told found c.args.chain.now.number said.1)
+    c.unless_fault.ensures.err
+
+pub check_end-returns-clause-memory : goal.check_end-returns-clause-memory
+check_end-returns-clause-memory t c =
+    let labels = c.args.sources.now.certificate.now.labels in
+    let m = c.args.sources.now.map.now in
+    let l = c.args.sources.now.list.now in
+    let model = map_of m in
+    let ps = (list_of l).prefixes in
+    let nodes = c.args.chain.now.node in
+    let side = c.args.side.0 in
+    let x = text_at labels side in
+    let b = c.args.chain.now.block in
+    let bits = c.args.bits.now in
+    let version = c.requires.version ∙ sym c.requires.sources.list_version in
+    let end = c.args.end.now in
+    IfErr-weaker c.unless_fault.result _ _
+    (λ found said. λ none. absurd (upper-no-memory model ps x bits b.len (number_of b) (sym c.in_ok-fault.ensures.fault ∙ said.0 ∙ ap Some none))) c.unless_fault.ensures.err

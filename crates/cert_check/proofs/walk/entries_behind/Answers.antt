@@ -1,4 +1,4 @@
-use Rattle.std.proofs.Common.{◌+◌, ◌<◌, List, drop, length, subst, sym, arith}
+use Rattle.std.proofs.Common.{◌+◌, ◌<◌, List, length, subst, sym, arith}
 use Rattle.pmap_text.specs.declared.entry.Entry.{Entry}
 use Rattle.cert_check.specs.Walking.{place_at}
 use Rattle.cert_check.proofs.Covered.{first-is, first-none}
