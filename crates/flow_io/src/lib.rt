@@ -17,7 +17,8 @@
 //! still gives, or those that it has taken. Each read and write then says which bytes moved.
 //! `Watched` stands on any reader or writer of std and tells the bytes of those that tell theirs: a slice
 //! or a `Vec` does, and a file does not, as no contract speaks of what the system gives or takes.
-//! `MemoryInput` and `MemoryOutput` tell theirs, and fail where a test wants.
+//! `Buffered` stands on any `Input`: it reads ahead, so that small reads cost no call of the device each, gives the same bytes
+//! and fails at the same one. `MemoryInput` and `MemoryOutput` tell theirs, and fail where a test wants.
 //!
 //! `read_whole` answers the bytes that a reader still gave, all of them, and a read fault exactly where the reader
 //! failed; want of memory is its only other answer. `write_whole` hands a writer all of some bytes and then flushes it

@@ -12,7 +12,8 @@
 //!
 //! It stands on prefix_keys (addresses and their versions), pmap_text (prefix maps, prefix lists and label tables) and
 //! label_trie. The layer above may rely on `Labeller`'s law: the answer is the label that the labeller's `label` has at
-//! the address. For a `Scan` and for `MapLabels`, which find it in the map's trie, it's the map's. For a `TrieLabeller`
+//! the address. For a `Scan`, for `MapLabels`, which find it in the map's trie, and for a `MapIndex`, which finds it among the
+//! stretches of a map of IPv4, it's the map's. For a `TrieLabeller`
 //! it's the text of the trie's label, which is the map's or the prefix list's where the trie was built from one. For a
 //! `ListIndex` it's that of the prefix list that it was built from. `AddressLabels` have the labels of another labeller
 //! at the addresses of its version, and none at other numbers. `label_row` is the label of the address of a row, which
