@@ -1,4 +1,4 @@
-use Rattle.std.proofs.Common.{◌≡◌, map, option_map}
+use Rattle.std.proofs.Common.{map, option_map}
 use Rattle.flow_filter.specs.Blocks.{view_of}
 use Rattle.flow_filter.specs.Cut.{size_of}
 use Rattle.flow_filter.specs.Texts.{address_item, address_list}
