@@ -1,5 +1,5 @@
 -- What `recert` prints of a certificate is as good as the certificate.
-use Rattle.std.proofs.Common.{◌≡◌, ◌∙◌, ◌≤◌, ℕ, List, Ok, ap, inl, inr, refl, subst, sym, arith}
+use Rattle.std.proofs.Common.{◌≡◌, ◌∙◌, ◌≤◌, ℕ, List, Ok, ap, inl, inr, refl, subst, sym}
 use Rattle.std.specs.Prelude.{◌↔◌, length}
 use Rattle.pmap_text.specs.ListModel.{ListModel}
 use Rattle.pmap_text.specs.MapModel.{MapModel}
@@ -9,10 +9,7 @@ use Rattle.pmap_cert.specs.CertificateModel.{CertificateModel}
 use Rattle.pmap_cert.specs.CertificateText.{certificate_text}
 use Rattle.pmap_cert.specs.Chain.{IsOfFormat}
 use Rattle.pmap_cert.specs.Compacting.{compact, line_count}
-use Rattle.pmap_cert.specs.Format.{format_number}
 use Rattle.pmap_cert.specs.FormatReading.{format_reading}
-use Rattle.pmap_cert.specs.declared.format.Format.{Format}
-use Rattle.pmap_cert.specs.declared.format.Format.TheVariants.{One, Two}
 use Rattle.flowlabel.specs.Output.{CertificateThen, Checks, FileTexts, IsAsGood, IsOutput, ListThen, PrintsCompact, ReadsCertificate, RecertIsAsGood, minimal_text}
 use Rattle.flowlabel.specs.Request.{check}
 use Rattle.flowlabel.proofs.CheckLemmas.{accepted_of, printed_of_certificate, printed_of_list, printed_of_map}
@@ -59,8 +56,3 @@ recert_is_as_good law text lines twice keeps certificate texts out is =
       );
       checks = λ map list other others printed told. checks_again law keeps c texts.certificate out reads after map list other others printed told;
     }
-
--- the format with the number 1
-pub first_format : (f : Format) → format_number f ≡ 1 → f ≡ One
-first_format One is = refl
-first_format Two is = absurd (omega (arith, is))

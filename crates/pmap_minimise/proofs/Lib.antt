@@ -12,3 +12,4 @@ pub mod Claimed
 pub mod Waiting
 pub mod Listed
 pub mod MadeLines
+pub mod Compacted

@@ -2,18 +2,21 @@
 use Rattle.std.proofs.Common.{◌≡◌, ℕ, suc, ◌+◌, ◌-◌, ◌*◌, ◌^◌, ◌<◌, ◌≤◌, ◌∙◌, List, [], ◌∷◌, ◌++◌, Option, Some, None, All, IsSome, length, slice_get, get_or, refl, sym, ap, subst, arith, length-append, true≢false}
 use Rattle.std.proofs.lemmas.List.{get_or-map, length-map, map-append}
 use Rattle.std.proofs.lemmas.List.Elements.{All-append, All-cons, All-get_or, All-head, All-nil}
-use Rattle.std.proofs.lemmas.Option.{slice_get-get_or}
+use Rattle.std.proofs.lemmas.Option.{get_or_from_slice_get, same_Some, slice_get-get_or, slice_get_within}
 use Rattle.std.specs.Option.{ForSome}
 use Rattle.pmap_text.specs.declared.label.LabelId.{LabelId}
 use Rattle.label_trie.specs.Kind.{IsKindOf, IsOfTree}
-use Rattle.label_trie.specs.Tree.{Fork as TreeFork, HasRoom, IsLabelled, Tip as TreeTip, Tree, leaves_of, nodes_of, top_of}
+use Rattle.label_trie.specs.Tree.{Fork as TreeFork, HasNodes, HasRoom, IsLabelled, Tip as TreeTip, Tree, leaf_count, leaves_of, nodes_of, size, top_of}
 use Rattle.label_trie.specs.TrieModel.{LeafModel, NodeModel, TrieModel}
 use Rattle.label_trie.specs.declared.kind.Kind.TheVariants.{Divided as DividedKind, Leaf as LeafKind}
 use Rattle.label_trie.proofs.Encoded.{size_leaves, size_pos}
 use Rattle.label_trie.proofs.NodeLeaves.{inner_unsettled, length_leaves}
+use Rattle.label_trie.proofs.Places.{whole_nodes}
 use Rattle.prefix_keys.specs.Version.{width_of}
-use Rattle.pmap_cert.specs.Node.{Node}
+use Rattle.pmap_cert.specs.Node.{Chain, Inner, Leaf, Node}
 use Rattle.pmap_minimise.specs.Certified.{IsCertified}
+use Rattle.pmap_minimise.specs.Compacting.{HasPart, StandsAt, inners}
+use Rattle.pmap_minimise.specs.Numbers.{IsJoined}
 use Rattle.pmap_minimise.specs.Outline.{Fork, IsNodeFor, IsOutline, Plan, Tip, leaves_part, outline_of, parts_of}
 use Rattle.pmap_minimise.specs.declared.outline.Part.{Part}
 use Rattle.pmap_minimise.specs.declared.outline.Part.TheVariants.{Divided, Labelled}
@@ -80,6 +83,68 @@ tree-certified (TreeFork low high) n q h node labelled room is few =
     (tree-certified low (suc n) (2 * q) (h - 1) is.low labelled.0 room.1 is.low_is (omega arith))
     (tree-certified high (suc n) (2 * q + 1) (h - 1) is.high labelled.1 room.2 is.high_is (omega arith)) node is.joined)
 
+-- the part at a node
+part-at : (nodes : List NodeModel) (at : ℕ) (model : NodeModel) → slice_get nodes at ≡ Some model → HasPart nodes at (leaves_part model.leaves) (length model.leaves)
+part-at nodes at model is =
+    let inside = slice_get_within nodes at model is in
+    record {
+      inside = inside;
+      is =
+          get_or-map (λ (node : NodeModel). leaves_part node.leaves) nodes at model Divided inside
+          ∙ ap (λ (node : NodeModel). leaves_part node.leaves) (get_or_from_slice_get nodes at model model is);
+      count = λ node e. ap (λ (m : NodeModel). length m.leaves) (same_Some node model (sym e ∙ is));
+    }
+
+same-part : (nodes : List NodeModel) (at : ℕ) (part part' : Part) (leaves leaves' : ℕ) → part ≡ part' → leaves ≡ leaves' → HasPart nodes at part leaves → HasPart nodes at part' leaves'
+same-part nodes at part part' leaves leaves' e f has =
+    subst (λ (p : Part). HasPart nodes at p leaves') e (subst (λ (n : ℕ). HasPart nodes at part n) f has)
+
+-- the certificate's node for a tree has one leaf more than inner nodes
+tree-inners : (t : Tree) (node : Node) → IsNodeFor (plan_of t) node → inners node + 1 ≡ leaf_count t
+unfolding plan_of
+tree-inners (TreeTip None) node is = ap (λ (n : Node). inners n + 1) is
+tree-inners (TreeTip (Some id)) node is = ap (λ (n : Node). inners n + 1) is
+tree-inners (TreeFork low high) node is = by node is.joined
+  where
+    by : (n : Node) → IsJoined is.low is.high n → inners n + 1 ≡ leaf_count low + leaf_count high
+    by (Leaf number) joined = absurd joined
+    by (Inner cost set lower upper) joined =
+        let a = tree-inners low is.low is.low_is in
+        let b = tree-inners high is.high is.high_is in
+        let c = ap inners joined.0 in
+        let d = ap inners joined.1 in
+        omega arith
+    by (Chain cost set bits side end) joined = absurd joined
+
+-- and stands where the tree's nodes do
+tree-stands : (nodes : List NodeModel) (t : Tree) (n q at : ℕ) (node : Node) → HasNodes nodes at t n q → IsLabelled t → IsNodeFor (plan_of t) node → StandsAt nodes at node
+unfolding plan_of
+tree-stands nodes (TreeTip None) n q at node has labelled is = absurd (true≢false (sym labelled))
+tree-stands nodes (TreeTip (Some id)) n q at node has labelled is =
+    subst (StandsAt nodes at) (sym is) (part-at nodes at (top_of (TreeTip (Some id)) n q) has)
+tree-stands nodes (TreeFork low high) n q at node has labelled is = by node is.joined
+  where
+    by : (k : Node) → IsJoined is.low is.high k → StandsAt nodes at k
+    by (Leaf number) joined = absurd joined
+    by (Chain cost set bits side end) joined = absurd joined
+    by (Inner cost set lower upper) joined =
+        let low_leaves = leaves_of low (suc n) (2 * q) in
+        let high_leaves = leaves_of high (suc n) (2 * q + 1) in
+        let low_is = subst (IsNodeFor (plan_of low)) (sym joined.0) is.low_is in
+        let high_is = subst (IsNodeFor (plan_of high)) (sym joined.1) is.high_is in
+        let low_count = tree-inners low lower low_is in
+        let high_count = tree-inners high upper high_is in
+        let count = length-append low_leaves high_leaves in
+        let low_length = length_leaves low (suc n) (2 * q) in
+        let high_length = length_leaves high (suc n) (2 * q + 1) in
+        let divided : leaves_part (low_leaves ++ high_leaves) ≡ Divided = two-divided (low_leaves ++ high_leaves) (omega arith) in
+        let place : at + 1 + size low ≡ at + 2 * inners lower + 2 = omega (arith, size_leaves low) in (
+          same-part nodes at (leaves_part (low_leaves ++ high_leaves)) Divided (length (low_leaves ++ high_leaves)) (inners lower + inners upper + 2) divided (omega arith)
+              (part-at nodes at (top_of (TreeFork low high) n q) has.0),
+          tree-stands nodes low (suc n) (2 * q) (at + 1) lower has.1 labelled.0 low_is,
+          tree-stands nodes high (suc n) (2 * q + 1) (at + 2 * inners lower + 2) upper (subst (λ (k : ℕ). HasNodes nodes k high (suc n) (2 * q + 1)) place has.2) labelled.1 high_is,
+        )
+
 -- a trie whose leaves have labels
 module _ (t : TrieModel) (of : IsOfTree t) (labelled : All HasLabel t.leaves) where
   all-labelled : IsLabelled of.tree
@@ -97,6 +162,12 @@ module _ (t : TrieModel) (of : IsOfTree t) (labelled : All HasLabel t.leaves) wh
       let same = of.leaves in
       subst (λ (l : List LeafModel). IsCertified 0 0 (width_of t.version) l node) (sym same)
       (tree-certified of.tree 0 0 (width_of t.version) node all-labelled of.room (is (plan_of of.tree) parts-are) (subst (λ (l : List LeafModel). length l < 2 ^ 32) same few))
+
+  pub trie-stands : (node : Node) → ((plan : Plan) → outline_of t.nodes ≡ parts_of plan → IsNodeFor plan node) → StandsAt t.nodes 0 node
+  trie-stands node is =
+      let same = of.nodes in
+      subst (λ (l : List NodeModel). StandsAt l 0 node) (sym same)
+      (tree-stands (nodes_of of.tree 0 0) of.tree 0 0 0 node (whole_nodes of.tree) all-labelled (is (plan_of of.tree) parts-are))
 
 -- the leaves of each node of a tree have labels
 labelled-leaves : (t : Tree) (n q : ℕ) → IsLabelled t → All HasLabel (leaves_of t n q)

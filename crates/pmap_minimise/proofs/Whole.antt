@@ -17,10 +17,14 @@ use Rattle.pmap_text.specs.declared.map_text.MapText.{MapText}
 use Rattle.pmap_cert.specs.CertificateModel.{CertificateModel, Tree, has}
 use Rattle.pmap_cert.specs.ListForm.{HasListForm, IsInOrder}
 use Rattle.pmap_cert.specs.CertificateText.{certificate_text, format_header, text_of_lines}
-use Rattle.pmap_cert.specs.Node.{HasNumberForm, Node, line_text, lines_of, tree_of}
+use Rattle.pmap_cert.specs.Compacting.{compact}
+use Rattle.pmap_cert.specs.Node.{HasChainForm, HasNumberForm, Node, line_text, lines_of, tree_of}
+use Rattle.pmap_cert.specs.Placing.{IsCompactNode}
+use Rattle.pmap_cert.specs.declared.format.Format.TheVariants.{One}
 use Rattle.label_trie.specs.Leaf.{number_of}
 use Rattle.label_trie.specs.TrieModel.{IsSettledLeaf, IsUndivided, LeafModel}
 use Rattle.pmap_cert.specs.CertificateForm.{HasTextForm}
+use Rattle.pmap_cert.proofs.CompactNodes.{compact-one}
 use Rattle.pmap_cert.proofs.Plain.{number-form, number-plain, plain-tree_of}
 use Rattle.pmap_cert.proofs.Written.{node_form, whole_text}
 use Rattle.pmap_text.specs.ListEntries.{HasDistinctBlocks}
@@ -31,7 +35,7 @@ use Rattle.pmap_minimise.specs.Entered.{AddsEntries, IsEntryOf}
 use Rattle.pmap_minimise.specs.Shortest.{IsWhole, list_with, shortest_list}
 use Rattle.pmap_minimise.proofs.Distinct.{order-distinct}
 use Rattle.pmap_minimise.proofs.Entered.{half-entries}
-use Rattle.pmap_minimise.specs.Certified.{IsKnownLeaf}
+use Rattle.pmap_minimise.specs.Certified.{IsCertified, IsKnownLeaf}
 use Rattle.pmap_minimise.specs.Listing.{IsClaimed, IsListedBy}
 use Rattle.pmap_minimise.specs.declared.claim_list.Claims.{Claims}
 use Rattle.pmap_minimise.specs.declared.outline.Part.{Part}
@@ -100,20 +104,45 @@ root-form m root form ok = record {
   root = node_form m.labels ok root (width_of m.version) (number-form (length m.labels) root (width_of m.version) form);
 }
 
+-- the numbers of a root fit the map's label table
+certified-form : (m : MapText) (version : Version) (leaves : List LeafModel) (root : Node) → IsCertified 0 0 (width_of version) leaves root → version ≡ m.version
+    → All (IsSettledLeaf (map_of m)) leaves → HasNumberForm (length m.labels) root (width_of m.version)
+certified-form m version leaves root certified same settled =
+    let known = All-weaker (IsSettledLeaf (map_of m)) (IsKnownLeaf (length m.labels)) (settled-known (map_of m)) leaves settled in
+    subst (λ (v : Version). HasNumberForm (length m.labels) root (width_of v)) same (certified.form (length m.labels) known)
+
 -- the text of a root's certificate that is part of the map's minimal pair
 pub claimed-text : (m : MapText) (version : Version) (leaves : List LeafModel) (parts : List Part) (claims : Claims) (root : Node) (head text : List ℕ) → IsClaimed version leaves parts claims root
     → version ≡ m.version → IsLabelTable m.labels → All (IsSettledLeaf (map_of m)) leaves → All (IsUndivided (map_of m)) leaves
     → head ≡ text_of_lines (format_header 1 m.version (length m.labels) ∷ m.labels) → text ≡ head ++ text_of_lines (map line_text (lines_of root))
     → (l : ListModel) × (c : CertificateModel) × IsMinimalPair (map_of m) l c × HasTextForm c × (text ≡ certificate_text c)
 claimed-text m version leaves parts claims root head text claimed same ok settled undivided head_is text_is =
-    let known = All-weaker (IsSettledLeaf (map_of m)) (IsKnownLeaf (length m.labels)) (settled-known (map_of m)) leaves settled in
-    let form : HasNumberForm (length m.labels) root (width_of m.version) =
-    subst (λ (v : Version). HasNumberForm (length m.labels) root (width_of v)) same (claimed.certified.form (length m.labels) known) in (
+    let form = certified-form m version leaves root claimed.certified same settled in (
       shortest_list (map_of m) (tree_of m.labels root),
       root_certificate m root,
       minimal (map_of m) _ _ (tree_of m.labels root) (claimed.certified.stands (map_of m) ok settled undivided) refl refl,
       root-form m root form ok,
       whole_text 1 m.version m.labels root (width_of m.version) (lines_of root) head text ok (number-form (length m.labels) root (width_of m.version) form) refl head_is text_is,
+    )
+
+-- .. and those of the root compacted
+pub compacted-form : (m : MapText) (version : Version) (leaves : List LeafModel) (root compacted : Node) → IsCertified 0 0 (width_of version) leaves root → IsCompactNode root compacted
+    → version ≡ m.version → All (IsSettledLeaf (map_of m)) leaves → HasChainForm (length m.labels) compacted (width_of m.version)
+compacted-form m version leaves root compacted certified is same settled =
+    is.form (length m.labels) (width_of m.version) (number-form (length m.labels) root (width_of m.version) (certified-form m version leaves root certified same settled))
+
+-- the text of a root's certificate compacted, where that certificate is part of the map's minimal pair
+pub compacted-text : (m : MapText) (version : Version) (leaves : List LeafModel) (root compacted : Node) (c : CertificateModel) (text : List ℕ) → IsCertified 0 0 (width_of version) leaves root
+    → IsCompactNode root compacted → version ≡ m.version → IsLabelTable m.labels → All (IsSettledLeaf (map_of m)) leaves → All (IsUndivided (map_of m)) leaves
+    → c ≡ record { format = 2; version = m.version; table = m.labels; root = tree_of m.labels compacted } → text ≡ certificate_text c
+    → (l : ListModel) × (d : CertificateModel) × IsMinimalPair (map_of m) l d × HasTextForm d × (text ≡ certificate_text (compact d))
+compacted-text m version leaves root compacted c text certified is same ok settled undivided c_is text_is =
+    let form = certified-form m version leaves root certified same settled in (
+      shortest_list (map_of m) (tree_of m.labels root),
+      root_certificate m root,
+      minimal (map_of m) _ _ (tree_of m.labels root) (certified.stands (map_of m) ok settled undivided) refl refl,
+      root-form m root form ok,
+      text_is ∙ ap certificate_text (c_is ∙ compact-one One m.version m.labels root compacted ok (number-form (length m.labels) root (width_of m.version) form) refl is),
     )
 
 -- the entries are those of a certificate's root, which stands for the address space

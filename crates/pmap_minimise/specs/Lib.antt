@@ -8,3 +8,4 @@ pub mod Kept
 pub mod Claiming
 pub mod Listing
 pub mod MadeLines
+pub mod Compacting

@@ -16,12 +16,13 @@
 //! and lists) and `smallvec` for small sets of labels. The layer above may rely on `minimise`: the list and the
 //! certificate are the map's minimal pair, so the list is equivalent to the map, has the root's cost and one entries,
 //! no equivalent list has fewer, and the certificate is accepted for the two. `shortest` makes the list
-//! alone, and `certificate_text` the text of the certificate.
+//! alone, `certificate_text` the text of the certificate, and `compact_text` that of the certificate compacted.
 #![tactic(auto)]
 
 mod certifying;
 mod claim_list;
 mod claiming;
+mod compacting;
 mod entering;
 mod listing;
 mod minimal;
@@ -29,4 +30,4 @@ mod outline;
 mod sets;
 mod stack;
 
-pub use minimal::{Minimal, certificate_text, minimise, shortest};
+pub use minimal::{Minimal, certificate_text, compact_text, minimise, shortest};

@@ -8,6 +8,7 @@ ghost use Rattle.pmap_cert.specs.Certificate.{certificate_of};
 ghost use Rattle.pmap_cert.specs.CertificateForm.{HasTextForm};
 ghost use Rattle.pmap_cert.specs.CertificateModel.{CertificateModel, claim_of};
 ghost use Rattle.pmap_cert.specs.CertificateText.{certificate_text};
+ghost use Rattle.pmap_cert.specs.Compacting.{compact};
 ghost use Rattle.pmap_cert.specs.ListForm.{HasListForm};
 ghost use Rattle.pmap_cert.specs.MinimalPair.{IsMinimalPair};
 ghost use Rattle.label_trie.specs.TrieModel.{IsSettledLeaf, IsUndivided};
@@ -15,9 +16,10 @@ ghost use Rattle.pmap_minimise.specs.Shortest.{list_with};
 
 use crate::certifying::push_lines;
 use crate::claiming::claimed;
+use crate::compacting::compacted;
 use crate::listing::{listed, listed_and_certified};
 use label_trie::Trie;
-use pmap_cert::{Certificate, Format, minimal_pair_is_accepted, push_head};
+use pmap_cert::{Certificate, Format, minimal_pair_is_accepted, push_head, write_cert};
 use pmap_text::{Entries, Entry, MapText, Name, PrefixList};
 use std::alloc::{AllocError, Global};
 
@@ -104,6 +106,24 @@ pub fn certificate_text(alloc: Global, map: &MapText, trie: &Trie) -> Result<Vec
     push_head(&mut out, Format::One, map.version, &map.labels)?;
     push_lines(&mut out, trie, &claims)?;
     Ok(out)
+}
+
+/// The text of the certificate of `minimise` compacted, which is made without the list and without the nodes of the
+/// certificate that it compacts. The trie is the map's, as `Trie::build` makes it.
+pub fn compact_text(alloc: Global, map: &MapText, trie: &Trie) -> Result<Vec<u8>, AllocError>
+    requires version { trie.now.version ≡ map.now.version }
+    requires settled { All (IsSettledLeaf (map_of map.now)) trie.now.leaves }
+    requires undivided { All (IsUndivided (map_of map.now)) trie.now.leaves }
+    // It is the text of the certificate of the map's minimal pair, compacted.
+    ensures { IfOk result (λ text. (l : ListModel) × (c : CertificateModel) × IsMinimalPair (map_of map.now) l c
+        × HasTextForm c × (text.items ≡ certificate_text (compact c))) }
+{
+    // For its law: the table's labels are distinct.
+    let _labels = map.labels.len();
+    let root = compacted(alloc, trie)?;
+    let labels = map.labels.copy()?;
+    let certificate = Certificate::of_format(Format::Two, map.version, labels, root);
+    write_cert(alloc, &certificate)
 }
 
 // The list of the map's name and table with these entries.
