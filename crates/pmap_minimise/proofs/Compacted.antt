@@ -206,9 +206,11 @@ below-in claims before behind (Inner cost set lower upper) left plain is count =
 pub root-placed : (nodes : List NodeModel) (claims : List Claim) (left : ℕ) (node : Node) → StandsAt nodes 0 node → claims ≡ claims_of node → left ≡ length claims → IsPlaced nodes claims 0 left node
 root-placed nodes claims left node stands is all =
     let plain = stands-plain nodes 0 node stands in
+    let same = ap length is in
+    let count = claims-count node plain in
     record {
       stands = stands;
-      claimed = below-in claims [] [] node left plain (is ∙ sym (append-nil (claims_of node))) (all ∙ ap length is ∙ claims-count node plain);
+      claimed = below-in claims [] [] node left plain (is ∙ sym (append-nil (claims_of node))) (omega arith);
     }
 
 -- those of a run's end are behind one claim for each bit
@@ -229,12 +231,6 @@ run-claims claims left side (Inner cost set lower upper) below =
     (run-claims claims (left - (inners lower + 1)) side upper below.2) in
     record { few = both.0; claimed = both.1 }
   where
-    abbrev bits_by : Bool → Bool → List Bool
-    bits_by b c = cond b (true ∷ bits_down side upper) (cond c (false ∷ bits_down side lower) [])
-
-    abbrev end_by : Bool → Bool → Node
-    end_by b c = cond b (end_down side upper) (cond c (end_down side lower) (Inner cost set lower upper))
-
     some : 0 < left
     some = below.0.some
 
@@ -246,7 +242,9 @@ run-claims claims left side (Inner cost set lower upper) below =
         (omega arith, subst (λ (n : ℕ). HasClaimsBelow claims n end) same claimed)
 
     by : (b c : Bool) → is_leaf side lower ≡ b → IsBelowRun claims (left - 1) side lower → IsBelowRun claims (left - (inners lower + 1)) side upper
-        → (length (bits_by b c) ≤ left) × HasClaimsBelow claims (left - length (bits_by b c)) (end_by b c)
+        → (length (cond b (true ∷ bits_down side upper) (cond c (false ∷ bits_down side lower) [])) ≤ left)
+        × HasClaimsBelow claims (left - length (cond b (true ∷ bits_down side upper) (cond c (false ∷ bits_down side lower) [])))
+        (cond b (end_down side upper) (cond c (end_down side lower) (Inner cost set lower upper)))
     by true c first low up =
         let none = leaf-inners side lower first in
         let less : left - (inners lower + 1) ≡ left - 1 = omega arith in

@@ -100,50 +100,54 @@ same-part nodes at part part' leaves leaves' e f has =
     subst (λ (p : Part). HasPart nodes at p leaves') e (subst (λ (n : ℕ). HasPart nodes at part n) f has)
 
 -- the certificate's node for a tree has one leaf more than inner nodes
+joined-inners : (low high node : Node) (a b : ℕ) → IsJoined low high node → inners low + 1 ≡ a → inners high + 1 ≡ b → inners node + 1 ≡ a + b
+joined-inners low high (Leaf number) a b joined e f = absurd joined
+joined-inners low high (Inner cost set lower upper) a b joined e f =
+    let c = ap inners joined.0 in
+    let d = ap inners joined.1 in
+    omega arith
+joined-inners low high (Chain cost set bits side end) a b joined e f = absurd joined
+
 tree-inners : (t : Tree) (node : Node) → IsNodeFor (plan_of t) node → inners node + 1 ≡ leaf_count t
 unfolding plan_of
 tree-inners (TreeTip None) node is = ap (λ (n : Node). inners n + 1) is
 tree-inners (TreeTip (Some id)) node is = ap (λ (n : Node). inners n + 1) is
-tree-inners (TreeFork low high) node is = by node is.joined
-  where
-    by : (n : Node) → IsJoined is.low is.high n → inners n + 1 ≡ leaf_count low + leaf_count high
-    by (Leaf number) joined = absurd joined
-    by (Inner cost set lower upper) joined =
-        let a = tree-inners low is.low is.low_is in
-        let b = tree-inners high is.high is.high_is in
-        let c = ap inners joined.0 in
-        let d = ap inners joined.1 in
-        omega arith
-    by (Chain cost set bits side end) joined = absurd joined
+tree-inners (TreeFork low high) node is =
+    joined-inners is.low is.high node (leaf_count low) (leaf_count high) is.joined (tree-inners low is.low is.low_is) (tree-inners high is.high is.high_is)
 
 -- and stands where the tree's nodes do
+joined-stands : (nodes : List NodeModel) (at : ℕ) (low high node : Node) → IsJoined low high node → HasPart nodes at Divided (inners low + inners high + 2) → StandsAt nodes (at + 1) low
+    → StandsAt nodes (at + 2 * inners low + 2) high → StandsAt nodes at node
+joined-stands nodes at low high (Leaf number) joined part first second = absurd joined
+joined-stands nodes at low high (Chain cost set bits side end) joined part first second = absurd joined
+joined-stands nodes at low high (Inner cost set lower upper) joined part first second =
+    let low_is = sym joined.0 in
+    let high_is = sym joined.1 in (
+      subst (λ (n : ℕ). HasPart nodes at Divided n) (λ i. inners (low_is i) + inners (high_is i) + 2) part,
+      subst (StandsAt nodes (at + 1)) low_is first,
+      subst (λ (n : Node). StandsAt nodes (at + 2 * inners n + 2) upper) low_is (subst (StandsAt nodes (at + 2 * inners low + 2)) high_is second),
+    )
+
 tree-stands : (nodes : List NodeModel) (t : Tree) (n q at : ℕ) (node : Node) → HasNodes nodes at t n q → IsLabelled t → IsNodeFor (plan_of t) node → StandsAt nodes at node
 unfolding plan_of
 tree-stands nodes (TreeTip None) n q at node has labelled is = absurd (true≢false (sym labelled))
 tree-stands nodes (TreeTip (Some id)) n q at node has labelled is =
     subst (StandsAt nodes at) (sym is) (part-at nodes at (top_of (TreeTip (Some id)) n q) has)
-tree-stands nodes (TreeFork low high) n q at node has labelled is = by node is.joined
-  where
-    by : (k : Node) → IsJoined is.low is.high k → StandsAt nodes at k
-    by (Leaf number) joined = absurd joined
-    by (Chain cost set bits side end) joined = absurd joined
-    by (Inner cost set lower upper) joined =
-        let low_leaves = leaves_of low (suc n) (2 * q) in
-        let high_leaves = leaves_of high (suc n) (2 * q + 1) in
-        let low_is = subst (IsNodeFor (plan_of low)) (sym joined.0) is.low_is in
-        let high_is = subst (IsNodeFor (plan_of high)) (sym joined.1) is.high_is in
-        let low_count = tree-inners low lower low_is in
-        let high_count = tree-inners high upper high_is in
-        let count = length-append low_leaves high_leaves in
-        let low_length = length_leaves low (suc n) (2 * q) in
-        let high_length = length_leaves high (suc n) (2 * q + 1) in
-        let divided : leaves_part (low_leaves ++ high_leaves) ≡ Divided = two-divided (low_leaves ++ high_leaves) (omega arith) in
-        let place : at + 1 + size low ≡ at + 2 * inners lower + 2 = omega (arith, size_leaves low) in (
-          same-part nodes at (leaves_part (low_leaves ++ high_leaves)) Divided (length (low_leaves ++ high_leaves)) (inners lower + inners upper + 2) divided (omega arith)
-              (part-at nodes at (top_of (TreeFork low high) n q) has.0),
-          tree-stands nodes low (suc n) (2 * q) (at + 1) lower has.1 labelled.0 low_is,
-          tree-stands nodes high (suc n) (2 * q + 1) (at + 2 * inners lower + 2) upper (subst (λ (k : ℕ). HasNodes nodes k high (suc n) (2 * q + 1)) place has.2) labelled.1 high_is,
-        )
+tree-stands nodes (TreeFork low high) n q at node has labelled is =
+    let low_leaves = leaves_of low (suc n) (2 * q) in
+    let high_leaves = leaves_of high (suc n) (2 * q + 1) in
+    let low_count = tree-inners low is.low is.low_is in
+    let high_count = tree-inners high is.high is.high_is in
+    let count = length-append low_leaves high_leaves in
+    let low_length = length_leaves low (suc n) (2 * q) in
+    let high_length = length_leaves high (suc n) (2 * q + 1) in
+    let divided : leaves_part (low_leaves ++ high_leaves) ≡ Divided = two-divided (low_leaves ++ high_leaves) (omega arith) in
+    let place : at + 1 + size low ≡ at + 2 * inners is.low + 2 = omega (arith, size_leaves low) in
+    joined-stands nodes at is.low is.high node is.joined
+    (same-part nodes at (leaves_part (low_leaves ++ high_leaves)) Divided (length (low_leaves ++ high_leaves)) (inners is.low + inners is.high + 2) divided (omega arith)
+    (part-at nodes at (top_of (TreeFork low high) n q) has.0))
+    (tree-stands nodes low (suc n) (2 * q) (at + 1) is.low has.1 labelled.0 is.low_is)
+    (tree-stands nodes high (suc n) (2 * q + 1) (at + 2 * inners is.low + 2) is.high (subst (λ (k : ℕ). HasNodes nodes k high (suc n) (2 * q + 1)) place has.2) labelled.1 is.high_is)
 
 -- a trie whose leaves have labels
 module _ (t : TrieModel) (of : IsOfTree t) (labelled : All HasLabel t.leaves) where

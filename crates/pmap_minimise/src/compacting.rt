@@ -138,23 +138,26 @@ fn compact_node(
             out.push_leaf(id)?;
             Ok(())
         }
-        Part::Divided => match run_of(bits, trie, number)? {
-            Some((side, end)) => {
-                let below = left - bits.len();
-                out.push_chain(claims.cost(left - 1), bits.as_slice(), side, claims.set(left - 1))?;
-                compact_node(out, bits, trie, claims, end, below)?;
-                Ok(())
+        Part::Divided => {
+            let own = left - 1;
+            match run_of(bits, trie, number)? {
+                Some((side, end)) => {
+                    let below = left - bits.len();
+                    out.push_chain(claims.cost(own), bits.as_slice(), side, claims.set(own))?;
+                    compact_node(out, bits, trie, claims, end, below)?;
+                    Ok(())
+                }
+                None => {
+                    let upper = trie.high_number(number);
+                    // Half of the nodes from this one up to that one are divided, and have claims.
+                    let above = left - ((upper - number) / 2) as usize;
+                    out.push_inner(claims.cost(own), claims.set(own))?;
+                    compact_node(out, bits, trie, claims, number + 1, own)?;
+                    compact_node(out, bits, trie, claims, upper, above)?;
+                    Ok(())
+                }
             }
-            None => {
-                let upper = trie.high_number(number);
-                // Half of the nodes from this one up to that one are divided, and have claims.
-                let above = left - ((upper - number) / 2) as usize;
-                out.push_inner(claims.cost(left - 1), claims.set(left - 1))?;
-                compact_node(out, bits, trie, claims, number + 1, left - 1)?;
-                compact_node(out, bits, trie, claims, upper, above)?;
-                Ok(())
-            }
-        },
+        }
     }
 }
 

@@ -1,0 +1,37 @@
+use Rattle.std.proofs.Common.{◌≡◌, ◌∙◌, List, length, subst, sym}
+use Rattle.std.proofs.lemmas.Result.{IfOk-weaker}
+use Rattle.prefix_keys.specs.Version.{width_of}
+use Rattle.pmap_text.specs.ListModel.{ListModel}
+use Rattle.pmap_text.specs.MapModel.{Label}
+use Rattle.pmap_text.specs.MapText.{map_of}
+use Rattle.pmap_cert.specs.Certificate.{certificate_of}
+use Rattle.pmap_cert.specs.CertificateForm.{HasTextForm}
+use Rattle.pmap_cert.specs.CertificateModel.{CertificateModel}
+use Rattle.pmap_cert.specs.CertificateText.{certificate_text}
+use Rattle.pmap_cert.specs.Compacting.{compact}
+use Rattle.pmap_cert.specs.Format.{format_number}
+use Rattle.pmap_cert.specs.MinimalPair.{IsMinimalPair}
+use Rattle.pmap_cert.specs.Node.{HasChainForm, tree_of}
+use Rattle.pmap_minimise.proofs.Whole.{compacted-form, compacted-text}
+use Rattle.pmap_minimise.proofs.minimal.compact_text.Goals as goal
+
+pub of_format-certificate-requires-clause-form : goal.of_format-certificate-requires-clause-form
+of_format-certificate-requires-clause-form c =
+    let m = c.args.map.now in
+    let made = c.in_ok-root.ensures in
+    subst (λ (t : List Label). HasChainForm (length t) c.in_ok-root.root (width_of m.version)) (sym c.in_ok-labels.ensures)
+    (compacted-form m c.args.trie.now.version c.args.trie.now.leaves made.0 c.in_ok-root.root made.1 made.2 c.requires.version c.requires.settled)
+
+pub returns : goal.returns
+returns c =
+    let m = c.args.map.now in
+    let made = c.in_ok-root.ensures in
+    let certificate = c.of_format-certificate.ensures in
+    let labels = certificate.labels ∙ c.in_ok-labels.ensures in
+    let same : certificate_of c.of_format-certificate.result ≡ record { format = 2; version = m.version; table = m.labels; root = tree_of m.labels c.in_ok-root.root } =
+    λ i. record { format = format_number (certificate.format i); version = certificate.version i; table = labels i; root = tree_of (labels i) (certificate.root i) } in
+    IfOk-weaker c.write_cert.result (λ text. text.items ≡ certificate_text (certificate_of c.of_format-certificate.result))
+    (λ text. (l : ListModel) × (d : CertificateModel) × IsMinimalPair (map_of m) l d × HasTextForm d × (text.items ≡ certificate_text (compact d)))
+    (λ text is. compacted-text m c.args.trie.now.version c.args.trie.now.leaves made.0 c.in_ok-root.root (certificate_of c.of_format-certificate.result) text.items made.1 made.2
+    c.requires.version c.len-labels.ensures.table c.requires.settled c.requires.undivided same is)
+    c.write_cert.ensures
