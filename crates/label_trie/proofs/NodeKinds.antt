@@ -112,8 +112,8 @@ module _ (W : ℕ) (nodes : List Node) (number : ℕ) (x : Node) (trie : IsTrie 
       let count = length_leaves low (suc n) (2 * q) in
       let own : high + 1 ≡ number + 1 + 2 * length (leaves_of low (suc n) (2 * q)) = omega (arith, high_is, count, size_leaves low) in
       λ model e.
-          subst (λ (m : NodeModel). high + 1 ≡ number + 1 + 2 * length m.leaves)
-          (same_Some (top_of low (suc n) (2 * q)) model (sym (top-at (number + 1) low (suc n) (2 * q) known.1) ∙ e)) own
+      subst (λ (m : NodeModel). high + 1 ≡ number + 1 + 2 * length m.leaves)
+      (same_Some (top_of low (suc n) (2 * q)) model (sym (top-at (number + 1) low (suc n) (2 * q) known.1) ∙ e)) own
 
   pub number-of-high : (high : ℕ) → x ≡ Inner high → ForSome (slice_get models (number + 1)) (λ low. high + 1 ≡ number + 1 + 2 * length low.leaves)
   number-of-high high inner =

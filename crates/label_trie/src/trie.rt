@@ -144,7 +144,8 @@ impl Trie {
         requires inside { number < length self.now.nodes }
         requires divided { ForSome (slice_get self.now.nodes number) (λ node. 2 ≤ length node.leaves) }
         // Between the two stand the nodes of the lower half, which are one less than twice its leaves.
-        ensures { ForSome (slice_get self.now.nodes (number + 1)) (λ low. result + 1 ≡ number + 1 + 2 * length low.leaves) }
+        ensures { ForSome (slice_get self.now.nodes (number + 1))
+            (λ low. result + 1 ≡ number + 1 + 2 * length low.leaves) }
     {
         match self.nodes[number as usize] {
             Node::Inner(high_number) => high_number,

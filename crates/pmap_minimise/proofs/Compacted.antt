@@ -8,8 +8,8 @@ use Rattle.label_trie.specs.TrieModel.{NodeModel}
 use Rattle.pmap_cert.specs.Node.{Chain, Inner, IsPlainNode, Leaf, Node, cost_of, label_of, set_of}
 use Rattle.pmap_cert.specs.Placing.{bits_down, end_down, is_leaf, side_below}
 use Rattle.pmap_minimise.specs.Claiming.{claims_of}
-use Rattle.pmap_minimise.specs.Compacting.{HasClaimsBelow, HasPart, IsLast, IsPlaced, IsRun, IsRunEnd, IsStep, StandsAt, inners}
-use Rattle.pmap_minimise.specs.Numbers.{Claim, no_claim, node_claim}
+use Rattle.pmap_minimise.specs.Compacting.{HasClaimsBelow, HasPart, IsPlaced, IsRun, IsRunEnd, IsStep, StandsAt, inners}
+use Rattle.pmap_minimise.specs.Numbers.{Claim, no_claim}
 use Rattle.pmap_minimise.specs.Outline.{outline_of}
 use Rattle.pmap_minimise.specs.declared.outline.Part.{Part}
 use Rattle.pmap_minimise.specs.declared.outline.Part.TheVariants.{Divided, Labelled}

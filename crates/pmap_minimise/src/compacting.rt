@@ -39,8 +39,8 @@ fn is_leaf(trie: &Trie, number: u32, label: LabelId) -> bool
     }
 }
 
-// The step of a run of the side label from the node with this number: the bit and the number of the half that is chosen,
-// none where the run ends.
+// The step of a run of the side label from the node with this number: the bit and the number of the half that is
+// chosen, none where the run ends.
 fn step(trie: &Trie, number: u32, side: LabelId) -> Option<(bool, u32)>
     requires trie { IsLabelledTrie trie.now }
     requires stands { (node : Node) × StandsAt trie.now.nodes number node }
@@ -62,12 +62,7 @@ fn step(trie: &Trie, number: u32, side: LabelId) -> Option<(bool, u32)>
 }
 
 // Goes down a run of the side label, whose bits are kept, and answers the number of the node at its end.
-fn go_down(
-    bits: &mut Vec<bool>,
-    trie: &Trie,
-    first: u32,
-    side: LabelId,
-) -> Result<u32, AllocError>
+fn go_down(bits: &mut Vec<bool>, trie: &Trie, first: u32, side: LabelId) -> Result<u32, AllocError>
     requires trie { IsLabelledTrie trie.now }
     requires stands { (node : Node) × StandsAt trie.now.nodes first node }
     ensures { IfOk result (λ end. (node : Node) → StandsAt trie.now.nodes first node
@@ -104,8 +99,8 @@ fn run_of(
 ) -> Result<Option<(LabelId, u32)>, AllocError>
     requires trie { IsLabelledTrie trie.now }
     requires stands { (node : Node) × StandsAt trie.now.nodes number node × (label_of node ≡ None) }
-    ensures { IfOk result (λ found. (node : Node) → StandsAt trie.now.nodes number node → MatchOption found (IsShort node)
-        (λ x. IsLong trie.now.nodes number node x.0.0 bits.new.items x.1)) }
+    ensures { IfOk result (λ found. (node : Node) → StandsAt trie.now.nodes number node
+        → MatchOption found (IsShort node) (λ x. IsLong trie.now.nodes number node x.0.0 bits.new.items x.1)) }
 {
     let Some(side) = side_of(trie, number) else {
         return Ok(None);

@@ -1,7 +1,6 @@
-use Rattle.std.proofs.Common.{◌≡◌, ◌+◌, ◌∙◌, None, ap, arith, sym}
-use Rattle.pmap_cert.specs.Node.{Node, label_of}
+use Rattle.std.proofs.Common.{◌∙◌, arith, sym}
 use Rattle.pmap_cert.proofs.CompactPlaces.{leaf-only, no_label, some_label}
-use Rattle.pmap_minimise.proofs.Compacted.{end-leaf, halves-at, halves-divided, high-number, high-stands, low-inside, stands-inside, step-lower, step-none, step-upper}
+use Rattle.pmap_minimise.proofs.Compacted.{end-leaf, halves-at, halves-divided, high-stands, low-inside, stands-inside, step-lower, step-none, step-upper}
 use Rattle.pmap_minimise.proofs.compacting.step.Goals as goal
 
 pub returns-then-is_some : goal.returns-then-is_some
