@@ -9,15 +9,15 @@ use crate::run::loaded::Loaded;
 use pmap_cert::{Certificate, compact, write_cert};
 use std::alloc::{AllocError, Global};
 
-/// The text of a certificate compacted.
-pub fn compact_text(alloc: Global, certificate: &Certificate) -> Result<Vec<u8>, AllocError>
+// The text of a certificate compacted.
+fn compact_text(alloc: Global, certificate: &Certificate) -> Result<Vec<u8>, AllocError>
     ensures { IfOk result (λ out. PrintsCompact (certificate_of certificate.now) (Ok out.items)) }
 {
     let compacted = compact(alloc, certificate)?;
     write_cert(alloc, &compacted)
 }
 
-/// The same of the certificate that is loaded.
+/// The text of the certificate that is loaded, compacted.
 pub fn compact_loaded(alloc: Global, loaded: &Loaded) -> Result<Vec<u8>, AllocError>
     requires { ArePresent (needs_named (file_compacted [])) loaded.now }
     ensures { IfOk result (λ out. ComesOf (recert []) loaded.now [] (Ok out.items)) }
