@@ -1,105 +1,124 @@
--- The claims that are made from an outline's end, and the certificate's nodes that they stand for.
-use Rattle.std.proofs.Common.{◌≡◌, ℕ, ◌+◌, ◌<◌, ◌≤◌, ◌^◌, ◌∙◌, List, [], ◌∷◌, ◌++◌, length, get_or, refl, sym, ap, subst, arith, length-append}
-use Rattle.std.proofs.Math.Seq.{get_or-append_seam}
-use Rattle.std.proofs.Math.ListN.{get_or-append}
-use Rattle.std.proofs.lemmas.List.{append-nil, append_assoc, same_from_push}
-use Rattle.pmap_cert.specs.Node.{Chain, Inner, Leaf, Node}
-use Rattle.pmap_minimise.specs.Claiming.{AreClaimsFrom, AreClaimsOf, AreHalvesOf, IsHalfAdded, IsHalfIn, IsHalfOf, IsHalfReady, IsKeptAs, all_claims, claimed_by, claims_of}
-use Rattle.pmap_minimise.specs.Kept.{AreKept, claims_in}
-use Rattle.pmap_minimise.specs.Numbers.{Claim, IsExactClaim, no_claim, node_claim}
-use Rattle.pmap_minimise.specs.Outline.{IsOutline, IsReady}
+-- The sets and the costs that are made from an outline's end, and the certificate's nodes that claim them.
+use Rattle.std.proofs.Common.{◌≡◌, ℕ, ◌+◌, ◌<◌, ◌≤◌, ◌^◌, ◌∙◌, Bool, true, false, List, [], ◌∷◌, ◌++◌, length, map, get_or, refl, sym, ap, subst, arith}
+use Rattle.std.proofs.lemmas.List.{append-nil, append_assoc, map_push, same_from_push}
+use Rattle.pmap_text.specs.declared.label.LabelId.{LabelId}
+use Rattle.pmap_cert.specs.Node.{Inner, Leaf, Node, cost_of, set_of}
+use Rattle.pmap_minimise.specs.Claiming.{AreClaimsFrom, AreClaimsOf, AreHalvesOf, AreSetsFrom, AreSetsOf, HoldsLabel, IsCostAdded, IsCostReady, IsHalfAdded, IsHalfJoined, IsHalfReady, JoinsCosts, JoinsHalves, all_claims, claims_of, exact_cost, sets_of}
+use Rattle.pmap_minimise.specs.Kept.{AreSetsKept, IsHeldAs, IsHeldIn, IsSetAdded, IsSetOf, claims_in, larger_in, set_by, sets_in}
+use Rattle.pmap_minimise.specs.Numbers.{Claim, IsExactBy, IsExactSet, IsExactSetBy, common_numbers, node_claim, numbers_of}
+use Rattle.pmap_minimise.specs.Outline.{IsOutline, IsReady, Plan, parts_of}
 use Rattle.pmap_minimise.specs.declared.claim_list.Claims.{Claims}
-use Rattle.pmap_minimise.specs.declared.claiming.Half.{Half}
-use Rattle.pmap_minimise.specs.declared.claiming.Half.TheVariants.{Claiming, Labelled as LabelledHalf}
 use Rattle.pmap_minimise.specs.declared.outline.Part.{Part}
 use Rattle.pmap_minimise.specs.declared.outline.Part.TheVariants.{Divided, Labelled}
+use Rattle.pmap_minimise.specs.declared.set_list.SetId.{SetId}
+use Rattle.pmap_minimise.specs.declared.set_list.Sets.{Sets}
+use Rattle.pmap_minimise.proofs.Merged.{common-same}
 use Rattle.pmap_minimise.proofs.Outlined.{add-step, at-end, one-node, ready-step, root-node}
+use Rattle.pmap_minimise.proofs.Pieces.{held-added, held-grown, same-added, set-grown, set-of_label}
+use Rattle.pmap_minimise.proofs.Priced.{claims-all, claims-count}
 
--- the node of two halves with a claim
-abbrev over : Claim → Node → Node → Node
-over claim low high = Inner claim.cost claim.set low high
+-- the exact set of two halves makes the exact claim
+exact-by : (low_cost high_cost : ℕ) (low high shared set : List ℕ) (apart : Bool) → IsExactSetBy low high apart shared set
+    → IsExactBy low_cost high_cost low high shared (exact_cost low_cost high_cost apart) set
+exact-by low_cost high_cost low high [] set apart exact = (ap (exact_cost low_cost high_cost) exact.0, exact.1, exact.2)
+exact-by low_cost high_cost low high (n ∷ ns) set apart exact = (ap (exact_cost low_cost high_cost) exact.0, exact.1)
+
+-- the exact set of two halves is added: of the same one label
+one-exact : (n : ℕ) → IsExactSet (n ∷ []) (n ∷ []) false (n ∷ [])
+one-exact n =
+    let same : common_numbers (n ∷ []) (n ∷ []) ≡ n ∷ [] = common-same (n + 1) 0 n [] [] (omega arith, omega arith, tt) in
+    subst (λ (shared : List ℕ). IsExactSetBy (n ∷ []) (n ∷ []) false shared (n ∷ [])) (sym same) (refl, refl)
+
+pub one-joined : (old new : Sets) (low high : SetId) → IsHeldIn (larger_in old) low → low.code.0 < 2 ^ 31 → high.code.0 ≡ low.code.0 → IsSetAdded old new low → IsHalfJoined low high old new low false
+one-joined old new low high held less same add =
+    let low_is : set_by (larger_in old) low ≡ low.code.0 ∷ [] = set-of_label (larger_in old) low less in
+    let high_is : set_by (larger_in old) high ≡ low.code.0 ∷ [] = set-of_label (larger_in old) high (omega arith) ∙ ap (λ (n : ℕ). n ∷ []) same in
+    record {
+      set = set_by (larger_in old) low;
+      exact =
+          subst (λ (s : List ℕ). IsExactSet s (set_by (larger_in old) high) false s) (sym low_is)
+          (subst (λ (s : List ℕ). IsExactSet (low.code.0 ∷ []) s false (low.code.0 ∷ [])) (sym high_is) (one-exact low.code.0));
+      added = same-added old new low held add;
+    }
+
+-- and of others
+pub set-joined : (old middle new : Sets) (low high half : SetId) (apart : Bool) (items set : List ℕ) → IsExactSet (set_by (larger_in old) low) (set_by (larger_in old) high) apart items → set ≡ items
+    → IsHeldAs old middle set half → IsSetAdded middle new half → IsHalfJoined low high old new half apart
+set-joined old middle new low high half apart items set exact is held add = record {
+  set = set;
+  exact = subst (IsExactSet (set_by (larger_in old) low) (set_by (larger_in old) high) apart) (sym is) exact;
+  added = held-added old middle new set half held add;
+}
 
 -- halves and their nodes
-half-in : (claims : List Claim) (node : Node) (half : Half) → IsHalfOf claims node half → IsHalfIn claims half
-half-in claims (Leaf id) (LabelledHalf x) is = tt
-half-in claims (Leaf id) (Claiming number) is = absurd is
-half-in claims (Inner cost set left right) (LabelledHalf x) is = absurd is
-half-in claims (Inner cost set left right) (Claiming number) is = is.0
-half-in claims (Chain cost set bits side end) half is = absurd is
+half-grown : (larger more : List (List ℕ)) (half : SetId) (set : List ℕ) → IsSetOf larger half set → IsSetOf (larger ++ more) half set
+half-grown larger more half set is = record { held = held-grown larger more half is.held; set_is = set-grown larger more half is.held ∙ is.set_is }
 
-half-claims : (claims : List Claim) (node : Node) (half : Half) → IsHalfOf claims node half → claimed_by claims half ≡ node_claim node
-half-claims claims (Leaf n) (LabelledHalf x) is = ap (λ (n : ℕ). record { cost = 0; set = n ∷ [] }) is
-half-claims claims (Leaf n) (Claiming number) is = absurd is
-half-claims claims (Inner cost set left right) (LabelledHalf x) is = absurd is
-half-claims claims (Inner cost set left right) (Claiming number) is = is.1
-half-claims claims (Chain cost set bits side end) half is = absurd is
+halves-grown : (larger more : List (List ℕ)) (nodes : List Node) (halves : List SetId) → AreHalvesOf larger nodes halves → AreHalvesOf (larger ++ more) nodes halves
+halves-grown larger more [] [] are = tt
+halves-grown larger more [] (half ∷ halves) are = absurd are
+halves-grown larger more (node ∷ nodes) [] are = absurd are
+halves-grown larger more (node ∷ nodes) (half ∷ halves) are = (half-grown larger more half (set_of node) are.0, halves-grown larger more nodes halves are.1)
 
-half-grown : (claims : List Claim) (claim : Claim) (node : Node) (half : Half) → IsHalfOf claims node half → IsHalfOf (claims ++ claim ∷ []) node half
-half-grown claims claim (Leaf n) (LabelledHalf x) is = is
-half-grown claims claim (Leaf n) (Claiming number) is = absurd is
-half-grown claims claim (Inner cost set left right) (LabelledHalf x) is = absurd is
-half-grown claims claim (Inner cost set left right) (Claiming number) is =
-    let inside = is.0 in
-    (omega (arith, length-append claims (claim ∷ [])), get_or-append claims (claim ∷ []) no_claim number inside ∙ is.1)
-half-grown claims claim (Chain cost set bits side end) half is = is
-
-halves-grown : (claims : List Claim) (claim : Claim) (nodes : List Node) (halves : List Half) → AreHalvesOf claims nodes halves → AreHalvesOf (claims ++ claim ∷ []) nodes halves
-halves-grown claims claim [] [] are = tt
-halves-grown claims claim [] (half ∷ halves) are = absurd are
-halves-grown claims claim (node ∷ nodes) [] are = absurd are
-halves-grown claims claim (node ∷ nodes) (half ∷ halves) are = (half-grown claims claim node half are.0, halves-grown claims claim nodes halves are.1)
-
-halves-push : (claims : List Claim) (nodes : List Node) (halves : List Half) (node : Node) (half : Half) → AreHalvesOf claims nodes halves → IsHalfOf claims node half
-    → AreHalvesOf claims (nodes ++ node ∷ []) (halves ++ half ∷ [])
-halves-push claims [] [] node half are is = (is, tt)
-halves-push claims [] (h ∷ halves) node half are is = absurd are
-halves-push claims (n ∷ nodes) [] node half are is = absurd are
-halves-push claims (n ∷ nodes) (h ∷ halves) node half are is = (are.0, halves-push claims nodes halves node half are.1 is)
+halves-push : (larger : List (List ℕ)) (nodes : List Node) (halves : List SetId) (node : Node) (half : SetId) → AreHalvesOf larger nodes halves → IsSetOf larger half (set_of node)
+    → AreHalvesOf larger (nodes ++ node ∷ []) (halves ++ half ∷ [])
+halves-push larger [] [] node half are is = (is, tt)
+halves-push larger [] (h ∷ halves) node half are is = absurd are
+halves-push larger (n ∷ nodes) [] node half are is = absurd are
+halves-push larger (n ∷ nodes) (h ∷ halves) node half are is = (are.0, halves-push larger nodes halves node half are.1 is)
 
 -- the half on the top of the stack is that of the last node
-record TopHalf (claims : List Claim) (nodes : List Node) (node : Node) (halves : List Half) : Type 0 where
-  rest : List Half
-  half : Half
+record TopHalf (larger : List (List ℕ)) (nodes : List Node) (node : Node) (halves : List SetId) : Type 0 where
+  rest : List SetId
+  half : SetId
   halves_are : halves ≡ rest ++ half ∷ []
-  half_is : IsHalfOf claims node half
-  rest_are : AreHalvesOf claims nodes rest
+  half_is : IsSetOf larger half (set_of node)
+  rest_are : AreHalvesOf larger nodes rest
 
-top-half : (claims : List Claim) (nodes : List Node) (node : Node) (halves : List Half) → AreHalvesOf claims (nodes ++ node ∷ []) halves → TopHalf claims nodes node halves
-top-half claims [] node [] are = absurd are
-top-half claims [] node (half ∷ []) are = record { rest = []; half = half; halves_are = refl; half_is = are.0; rest_are = tt }
-top-half claims [] node (half ∷ h ∷ halves) are = absurd are.1
-top-half claims (n ∷ nodes) node [] are = absurd are
-top-half claims (n ∷ nodes) node (h ∷ halves) are =
-    let top = top-half claims nodes node halves are.1 in
-    record { rest = h ∷ top.rest; half = top.half; halves_are = ap (λ (l : List Half). h ∷ l) top.halves_are; half_is = top.half_is; rest_are = (are.0, top.rest_are) }
+top-half : (larger : List (List ℕ)) (nodes : List Node) (node : Node) (halves : List SetId) → AreHalvesOf larger (nodes ++ node ∷ []) halves → TopHalf larger nodes node halves
+top-half larger [] node [] are = absurd are
+top-half larger [] node (half ∷ []) are = record { rest = []; half = half; halves_are = refl; half_is = are.0; rest_are = tt }
+top-half larger [] node (half ∷ h ∷ halves) are = absurd are.1
+top-half larger (n ∷ nodes) node [] are = absurd are
+top-half larger (n ∷ nodes) node (h ∷ halves) are =
+    let top = top-half larger nodes node halves are.1 in
+    record { rest = h ∷ top.rest; half = top.half; halves_are = ap (λ (l : List SetId). h ∷ l) top.halves_are; half_is = top.half_is; rest_are = (are.0, top.rest_are) }
 
 -- a half that is taken off is that one
-taken : (claims : List Claim) (nodes : List Node) (node : Node) (halves rest : List Half) (half : Half) → AreHalvesOf claims (nodes ++ node ∷ []) halves → halves ≡ rest ++ half ∷ []
-    → IsHalfOf claims node half × AreHalvesOf claims nodes rest
-taken claims nodes node halves rest half are is =
-    let top = top-half claims nodes node halves are in
+taken : (larger : List (List ℕ)) (nodes : List Node) (node : Node) (halves rest : List SetId) (half : SetId) → AreHalvesOf larger (nodes ++ node ∷ []) halves → halves ≡ rest ++ half ∷ []
+    → IsSetOf larger half (set_of node) × AreHalvesOf larger nodes rest
+taken larger nodes node halves rest half are is =
+    let top = top-half larger nodes node halves are in
     let same = same_from_push top.rest rest top.half half (sym top.halves_are ∙ is) in
-    (subst (IsHalfOf claims node) same.1 top.half_is, subst (AreHalvesOf claims nodes) same.0 top.rest_are)
+    (subst (λ (h : SetId). IsSetOf larger h (set_of node)) same.1 top.half_is, subst (AreHalvesOf larger nodes) same.0 top.rest_are)
 
--- a part finds the halves that it needs
-halves-ready : (claims : List Claim) (part : Part) (nodes : List Node) (halves : List Half) → IsReady part nodes → AreHalvesOf claims nodes halves → IsHalfReady part claims halves
-halves-ready claims (Labelled id) nodes halves ready are = tt
-halves-ready claims Divided nodes halves ready are =
-    let few = ready.few in
-    let low = top-half claims (ready.rest ++ ready.high ∷ []) ready.low halves (subst (λ (l : List Node). AreHalvesOf claims l halves) ready.nodes_are are) in
-    let high = top-half claims ready.rest ready.high low.rest low.rest_are in
+-- a part finds the halves that it needs, and the costs
+halves-ready : (larger : List (List ℕ)) (part : Part) (nodes : List Node) (halves : List SetId) → IsReady part nodes → AreHalvesOf larger nodes halves → IsHalfReady part larger halves
+halves-ready larger (Labelled id) nodes halves ready are = tt
+halves-ready larger Divided nodes halves ready are =
+    let low = top-half larger (ready.rest ++ ready.high ∷ []) ready.low halves (subst (λ (l : List Node). AreHalvesOf larger l halves) ready.nodes_are are) in
+    let high = top-half larger ready.rest ready.high low.rest low.rest_are in
     record {
       rest = high.rest;
       low = low.half;
       high = high.half;
-      halves_are = low.halves_are ∙ ap (λ (l : List Half). l ++ low.half ∷ []) high.halves_are;
-      low_in = half-in claims ready.low low.half low.half_is;
-      high_in = half-in claims ready.high high.half high.half_is;
-      cheap =
-          let a = ap (λ (c : Claim). c.cost) (half-claims claims ready.low low.half low.half_is) in
-          let b = ap (λ (c : Claim). c.cost) (half-claims claims ready.high high.half high.half_is) in
-          omega arith;
+      halves_are = low.halves_are ∙ ap (λ (l : List SetId). l ++ low.half ∷ []) high.halves_are;
+      low_held = low.half_is.held;
+      high_held = high.half_is.held;
     }
+
+two-costs : (rest : List Node) (high low : Node) → map cost_of ((rest ++ high ∷ []) ++ low ∷ []) ≡ (map cost_of rest ++ cost_of high ∷ []) ++ cost_of low ∷ []
+two-costs rest high low = map_push cost_of (rest ++ high ∷ []) low ∙ ap (λ (l : List ℕ). l ++ cost_of low ∷ []) (map_push cost_of rest high)
+
+costs-ready : (part : Part) (nodes : List Node) (waiting : List ℕ) → IsReady part nodes → waiting ≡ map cost_of nodes → IsCostReady part waiting
+costs-ready (Labelled id) nodes waiting ready are = tt
+costs-ready Divided nodes waiting ready are = record {
+  rest = map cost_of ready.rest;
+  low = cost_of ready.low;
+  high = cost_of ready.high;
+  are = are ∙ ap (map cost_of) ready.nodes_are ∙ two-costs ready.rest ready.high ready.low;
+  few = ready.few;
+}
 
 -- claims of nodes one after the other
 all-append : (a b : List Node) → all_claims (a ++ b) ≡ all_claims a ++ all_claims b
@@ -122,79 +141,160 @@ all-joined nodes high low node claim is =
     ∙ sym (append_assoc (all_claims nodes) (claims_of high ++ claims_of low) (claim ∷ []))
     ∙ ap (λ (s : List Claim). s ++ claim ∷ []) (sym (all-two nodes high low))
 
-pub claims-end : (parts : List Part) (left : ℕ) (halves : List Half) (claims : Claims) → left ≡ length parts → halves ≡ [] → AreKept claims → claims_in claims ≡ []
-    → AreClaimsFrom parts left halves claims
-claims-end parts left halves claims end none kept empty = record {
-  nodes = [];
+pub sets-end : (parts : List Part) (left : ℕ) (halves : List SetId) (sets : Sets) → left ≡ length parts → halves ≡ [] → AreSetsKept sets → sets_in sets ≡ []
+    → AreSetsFrom parts left halves sets []
+sets-end parts left halves sets end none kept empty = record {
   from = at-end parts left [] end refl;
-  halves_are = subst (AreHalvesOf (claims_in claims) []) (sym none) tt;
+  halves_are = subst (AreHalvesOf (larger_in sets) []) (sym none) tt;
   kept = kept;
-  claims_are = empty;
+  sets_are = empty;
 }
 
-kept_as : (number : ℕ) (half : Half) → IsKeptAs number half → half ≡ Claiming number
-kept_as number (LabelledHalf id) is = absurd is
-kept_as number (Claiming k) is = ap (λ (n : ℕ). Claiming n) is
+pub claims-end : (parts : List Part) (left : ℕ) (halves : List SetId) (sets : Sets) (waiting costs : List ℕ) → left ≡ length parts → halves ≡ [] → AreSetsKept sets → sets_in sets ≡ []
+    → waiting ≡ [] → costs ≡ [] → AreClaimsFrom parts left halves sets waiting costs
+claims-end parts left halves sets waiting costs end none kept empty no_waiting no_costs =
+    record { nodes = []; sets_from = sets-end parts left halves sets end none kept empty; waiting_are = no_waiting; costs_are = no_costs }
 
-module _ (parts : List Part) (left next : ℕ) (halves : List Half) (claims : Claims) (outline : IsOutline parts) (few : length parts ≤ 2 ^ 32) (next_is : left + 1 ≡ next)
-    (inside : left < length parts) (from : AreClaimsFrom parts next halves claims) where
-  ready : (part d : Part) → part ≡ get_or parts left d → IsReady part from.nodes
-  ready part d is = ready-step parts left next from.nodes outline next_is inside from.from part d is few
+-- the two last nodes gave way to the one over them
+record IsNodeJoined (parts : List Part) (left : ℕ) (nodes : List Node) (new : List SetId) (sets' : Sets) (apart : Bool) : Type 0 where
+  rest : List Node
+  low : Node
+  high : Node
+  node : Node
+  nodes_are : nodes ≡ (rest ++ high ∷ []) ++ low ∷ []
+  cost : cost_of node ≡ exact_cost (cost_of low) (cost_of high) apart
+  claims : all_claims (rest ++ node ∷ []) ≡ all_claims nodes ++ node_claim node ∷ []
+  from : AreSetsFrom parts left new sets' (rest ++ node ∷ [])
 
-  pub claims-ready : (part d : Part) → part ≡ get_or parts left d → IsHalfReady part (claims_in claims) halves
-  claims-ready part d is = halves-ready (claims_in claims) part from.nodes halves (ready part d is) from.halves_are
+module _ (parts : List Part) (left next : ℕ) (halves : List SetId) (sets : Sets) (nodes : List Node) (outline : IsOutline parts) (few : length parts ≤ 2 ^ 32) (next_is : left + 1 ≡ next)
+    (inside : left < length parts) (from : AreSetsFrom parts next halves sets nodes) where
+  ready : (part d : Part) → part ≡ get_or parts left d → IsReady part nodes
+  ready part d is = ready-step parts left next nodes outline next_is inside from.from part d is few
 
-  pub claims-step : (part d : Part) (new : List Half) (claims' : Claims) → part ≡ get_or parts left d → IsHalfAdded part halves new claims claims' → AreClaimsFrom parts left new claims'
-  claims-step (Labelled id) d new claims' is added =
-      let same : claims_in claims' ≡ claims_in claims = ap claims_in added.1 in
+  pub sets-ready : (part d : Part) → part ≡ get_or parts left d → IsHalfReady part (larger_in sets) halves
+  sets-ready part d is = halves-ready (larger_in sets) part nodes halves (ready part d is) from.halves_are
+
+  leaf-step : (id : LabelId) (d : Part) (new : List SetId) (sets' : Sets) → Labelled id ≡ get_or parts left d → HoldsLabel id halves new sets sets' → AreSetsFrom parts left new sets' (nodes ++ Leaf id.0 ∷ [])
+  leaf-step id d new sets' is added =
+      let grown = added.held.grown in
+      let before : AreHalvesOf (larger_in sets') nodes halves =
+      subst (λ (l : List (List ℕ)). AreHalvesOf l nodes halves) (sym grown.larger) (halves-grown (larger_in sets) grown.more nodes halves from.halves_are) in
       record {
-        nodes = from.nodes ++ Leaf id.0 ∷ [];
-        from = add-step parts left next from.nodes outline next_is inside from.from (Labelled id) d (from.nodes ++ Leaf id.0 ∷ []) is refl;
-        halves_are =
-            subst (λ (s : List Claim). AreHalvesOf s (from.nodes ++ Leaf id.0 ∷ []) new) (sym same)
-            (subst (AreHalvesOf (claims_in claims) (from.nodes ++ Leaf id.0 ∷ [])) (sym added.0)
-            (halves-push (claims_in claims) from.nodes halves (Leaf id.0) (LabelledHalf id) from.halves_are refl));
-        kept = subst AreKept (sym added.1) from.kept;
-        claims_are = same ∙ from.claims_are ∙ sym (append-nil (all_claims from.nodes)) ∙ sym (all-push from.nodes (Leaf id.0));
+        from = add-step parts left next nodes outline next_is inside from.from (Labelled id) d (nodes ++ Leaf id.0 ∷ []) is refl;
+        halves_are = subst (AreHalvesOf (larger_in sets') (nodes ++ Leaf id.0 ∷ [])) (sym added.new_is) (halves-push (larger_in sets') nodes halves (Leaf id.0) added.half before added.held.stands);
+        kept = grown.kept;
+        sets_are = added.held.sets ∙ from.sets_are ∙ ap sets_of (sym (append-nil (all_claims nodes)) ∙ sym (all-push nodes (Leaf id.0)));
       }
-  claims-step Divided d new claims' is added =
+
+  join-step : (d : Part) (new : List SetId) (sets' : Sets) (apart : Bool) → Divided ≡ get_or parts left d → JoinsHalves halves new sets sets' apart → IsNodeJoined parts left nodes new sets' apart
+  join-step d new sets' apart is added =
       let two = ready Divided d is in
       let joined = added.joined in
-      let low = taken (claims_in claims) (two.rest ++ two.high ∷ []) two.low halves (added.rest ++ added.high ∷ []) added.low
-      (subst (λ (l : List Node). AreHalvesOf (claims_in claims) l halves) two.nodes_are from.halves_are) added.old_is in
-      let high = taken (claims_in claims) two.rest two.high (added.rest ++ added.high ∷ []) added.rest added.high low.1 refl in
-      let exact : IsExactClaim (node_claim two.low) (node_claim two.high) joined.claim =
-      subst (λ (c : Claim). IsExactClaim c (node_claim two.high) joined.claim) (half-claims (claims_in claims) two.low added.low low.0)
-      (subst (λ (c : Claim). IsExactClaim (claimed_by (claims_in claims) added.low) c joined.claim) (half-claims (claims_in claims) two.high added.high high.0) joined.exact) in
-      let node : Node = over joined.claim two.low two.high in
-      let nodes : List Node = two.rest ++ node ∷ [] in
-      let own : IsHalfOf (claims_in claims ++ joined.claim ∷ []) node added.half =
-      subst (IsHalfOf (claims_in claims ++ joined.claim ∷ []) node) (sym (kept_as (length (claims_in claims)) added.half joined.half_is))
-      (omega (arith, length-append (claims_in claims) (joined.claim ∷ [])), get_or-append_seam (claims_in claims) joined.claim [] no_claim) in
+      let grown = joined.added.grown in
+      let low = taken (larger_in sets) (two.rest ++ two.high ∷ []) two.low halves (added.rest ++ added.high ∷ []) added.low
+      (subst (λ (l : List Node). AreHalvesOf (larger_in sets) l halves) two.nodes_are from.halves_are) added.old_is in
+      let high = taken (larger_in sets) two.rest two.high (added.rest ++ added.high ∷ []) added.rest added.high low.1 refl in
+      let exact : IsExactSetBy (set_of two.low) (set_of two.high) apart (common_numbers (set_of two.low) (set_of two.high)) joined.set =
+      subst (λ (s : List ℕ). IsExactSetBy s (set_of two.high) apart (common_numbers s (set_of two.high)) joined.set) low.0.set_is
+      (subst (λ (s : List ℕ). IsExactSetBy (set_by (larger_in sets) added.low) s apart (common_numbers (set_by (larger_in sets) added.low) s) joined.set) high.0.set_is joined.exact) in
+      let cost = exact_cost (cost_of two.low) (cost_of two.high) apart in
+      let node : Node = Inner cost joined.set two.low two.high in
+      let claim : Claim = record { cost = cost; set = joined.set } in
+      let after : List Node = two.rest ++ node ∷ [] in
+      let claims : all_claims after ≡ all_claims nodes ++ claim ∷ [] =
+      all-joined two.rest two.high two.low node claim refl ∙ ap (λ (l : List Node). all_claims l ++ claim ∷ []) (sym two.nodes_are) in
+      let below : AreHalvesOf (larger_in sets') two.rest added.rest =
+      subst (λ (l : List (List ℕ)). AreHalvesOf l two.rest added.rest) (sym grown.larger) (halves-grown (larger_in sets) grown.more two.rest added.rest high.1) in
       record {
-        nodes = nodes;
-        from = add-step parts left next from.nodes outline next_is inside from.from Divided d nodes is
-            (record { rest = two.rest; low = two.low; high = two.high; node = node; old_is = two.nodes_are; joined = (refl, refl, exact); new_is = refl });
-        halves_are =
-            subst (λ (s : List Claim). AreHalvesOf s nodes new) (sym joined.claims)
-            (subst (AreHalvesOf (claims_in claims ++ joined.claim ∷ []) nodes) (sym added.new_is)
-            (halves-push (claims_in claims ++ joined.claim ∷ []) two.rest added.rest node added.half (halves-grown (claims_in claims) joined.claim two.rest added.rest high.1) own));
-        kept = joined.kept;
-        claims_are =
-            joined.claims ∙ ap (λ (s : List Claim). s ++ joined.claim ∷ []) (from.claims_are ∙ ap all_claims two.nodes_are)
-            ∙ sym (all-joined two.rest two.high two.low node joined.claim refl);
+        rest = two.rest;
+        low = two.low;
+        high = two.high;
+        node = node;
+        nodes_are = two.nodes_are;
+        cost = refl;
+        claims = claims;
+        from = record {
+          from = add-step parts left next nodes outline next_is inside from.from Divided d after is
+              (record {
+                rest = two.rest;
+                low = two.low;
+                high = two.high;
+                node = node;
+                old_is = two.nodes_are;
+                joined = (
+                  refl,
+                  refl,
+                  exact-by (cost_of two.low) (cost_of two.high) (set_of two.low) (set_of two.high) (common_numbers (set_of two.low) (set_of two.high)) joined.set apart exact,
+                );
+                new_is = refl;
+              });
+          halves_are = subst (AreHalvesOf (larger_in sets') after) (sym added.new_is) (halves-push (larger_in sets') two.rest added.rest node added.half below joined.added.stands);
+          kept = grown.kept;
+          sets_are =
+              joined.added.sets ∙ ap (λ (l : List (List ℕ)). l ++ joined.set ∷ []) from.sets_are
+              ∙ sym (map_push (λ (claim : Claim). claim.set) (all_claims nodes) claim) ∙ ap sets_of (sym claims);
+        };
       }
 
--- at the first part the claims are those of the tree's node
-pub claims-root : (parts : List Part) (left : ℕ) (halves : List Half) (claims : Claims) → IsOutline parts → left ≡ 0 → AreClaimsFrom parts left halves claims
-    → (node : Node) × AreClaimsOf parts claims node
-claims-root parts left halves claims outline first from =
-    let root = one-node parts left from.nodes outline first from.from in (
+  pub sets-step : (part d : Part) (new : List SetId) (sets' : Sets) (apart : Bool) → part ≡ get_or parts left d → IsHalfAdded part halves new sets sets' apart
+      → (after : List Node) × AreSetsFrom parts left new sets' after
+  sets-step (Labelled id) d new sets' apart is added = (nodes ++ Leaf id.0 ∷ [], leaf-step id d new sets' is added)
+  sets-step Divided d new sets' apart is added =
+      let step = join-step d new sets' apart is added in
+      (step.rest ++ step.node ∷ [], step.from)
+
+  -- the same with the costs
+  module _ (waiting costs : List ℕ) (waiting_are : waiting ≡ map cost_of nodes) (costs_are : costs ≡ map (λ claim. claim.cost) (all_claims nodes)) where
+    pub waiting-ready : (part d : Part) → part ≡ get_or parts left d → IsCostReady part waiting
+    waiting-ready part d is = costs-ready part nodes waiting (ready part d is) waiting_are
+
+    pub claims-step : (part d : Part) (new : List SetId) (sets' : Sets) (apart : Bool) (waiting' costs' : List ℕ) → part ≡ get_or parts left d → IsHalfAdded part halves new sets sets' apart
+        → IsCostAdded part apart waiting waiting' costs costs' → AreClaimsFrom parts left new sets' waiting' costs'
+    claims-step (Labelled id) d new sets' apart waiting' costs' is added put = record {
+      nodes = nodes ++ Leaf id.0 ∷ [];
+      sets_from = leaf-step id d new sets' is added;
+      waiting_are = put.0 ∙ ap (λ (l : List ℕ). l ++ 0 ∷ []) waiting_are ∙ sym (map_push cost_of nodes (Leaf id.0));
+      costs_are = put.1 ∙ costs_are ∙ ap (map (λ (claim : Claim). claim.cost)) (sym (append-nil (all_claims nodes)) ∙ sym (all-push nodes (Leaf id.0)));
+    }
+    claims-step Divided d new sets' apart waiting' costs' is added put =
+        let step = join-step d new sets' apart is added in
+        let all : (map cost_of step.rest ++ cost_of step.high ∷ []) ++ cost_of step.low ∷ [] ≡ (put.rest ++ put.high ∷ []) ++ put.low ∷ [] =
+        sym (two-costs step.rest step.high step.low) ∙ ap (map cost_of) (sym step.nodes_are) ∙ sym waiting_are ∙ put.old_is in
+        let low = same_from_push (map cost_of step.rest ++ cost_of step.high ∷ []) (put.rest ++ put.high ∷ []) (cost_of step.low) put.low all in
+        let high = same_from_push (map cost_of step.rest) put.rest (cost_of step.high) put.high low.0 in
+        let cost : exact_cost put.low put.high apart ≡ cost_of step.node = (λ i. exact_cost (sym low.1 i) (sym high.1 i) apart) ∙ sym step.cost in
+        record {
+          nodes = step.rest ++ step.node ∷ [];
+          sets_from = step.from;
+          waiting_are = put.new_is ∙ (λ i. sym high.0 i ++ cost i ∷ []) ∙ sym (map_push cost_of step.rest step.node);
+          costs_are =
+              put.costs_are ∙ (λ i. costs_are i ++ cost i ∷ []) ∙ sym (map_push (λ (claim : Claim). claim.cost) (all_claims nodes) (node_claim step.node))
+              ∙ ap (map (λ (claim : Claim). claim.cost)) (sym step.claims);
+        }
+
+-- at the first part the sets are those of the tree's node
+pub sets-root : (parts : List Part) (left : ℕ) (halves : List SetId) (sets : Sets) (nodes : List Node) → IsOutline parts → left ≡ 0 → AreSetsFrom parts left halves sets nodes
+    → (node : Node) × AreSetsOf parts sets node
+sets-root parts left halves sets nodes outline first from =
+    let root = one-node parts left nodes outline first from.from in (
       root.node,
       record {
         outline = outline;
-        node_is = λ plan is. root-node parts left from.nodes [] root.node first from.from root.nodes_are plan is;
+        node_is = λ plan is. root-node parts left nodes [] root.node first from.from root.nodes_are plan is;
         kept = from.kept;
-        claims_are = from.claims_are ∙ ap all_claims root.nodes_are ∙ append-nil (claims_of root.node);
+        sets_are = from.sets_are ∙ ap sets_of (ap all_claims root.nodes_are ∙ append-nil (claims_of root.node));
+      },
+    )
+
+pub claims-root : (parts : List Part) (left : ℕ) (halves : List SetId) (claims : Claims) (waiting : List ℕ) → IsOutline parts → left ≡ 0
+    → AreClaimsFrom parts left halves claims.sets waiting claims.costs.items → (node : Node) × AreClaimsOf parts claims node
+claims-root parts left halves claims waiting outline first from =
+    let root = one-node parts left from.nodes outline first from.sets_from.from in (
+      root.node,
+      record {
+        outline = outline;
+        node_is = λ plan is. root-node parts left from.nodes [] root.node first from.sets_from.from root.nodes_are plan is;
+        kept = record { sets = from.sets_from.kept; count = claims-count claims (all_claims from.nodes) from.costs_are from.sets_from.sets_are };
+        claims_are = claims-all claims (all_claims from.nodes) from.costs_are from.sets_from.sets_are ∙ ap all_claims root.nodes_are ∙ append-nil (claims_of root.node);
       },
     )

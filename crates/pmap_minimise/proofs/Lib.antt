@@ -8,6 +8,7 @@ pub mod Outlined
 pub mod Walked
 pub mod Planned
 pub mod Pieces
+pub mod Priced
 pub mod Claimed
 pub mod Waiting
 pub mod Listed

@@ -1,6 +1,6 @@
 -- The entries that are listed along an outline, by the claims of the certificate's nodes.
 use Rattle.std.proofs.Common.{◌≡◌, ℕ, zero, suc, ◌+◌, ◌-◌, ◌^◌, ◌<◌, ◌≤◌, ◌∙◌, List, [], ◌∷◌, ◌++◌, Some, None, All, IsSome, length, map, get_or, refl, sym, ap, subst, arith, length-append}
-use Rattle.std.proofs.lemmas.List.{map_push, same_from_push}
+use Rattle.std.proofs.lemmas.List.{length-map, map_push, same_from_push}
 use Rattle.std.proofs.lemmas.List.Elements.{All-from_recursion, All-head, All-push}
 use Rattle.prefix_keys.specs.Version.{width_of}
 use Rattle.prefix_keys.specs.declared.block.Block.{Block}
@@ -10,10 +10,10 @@ use Rattle.pmap_text.specs.declared.label.LabelId.{LabelId}
 use Rattle.pmap_cert.specs.Node.{Chain, Inner, Leaf, Node, set_of}
 use Rattle.label_trie.specs.Kind.{IsOfTree}
 use Rattle.label_trie.specs.TrieModel.{LeafModel, TrieModel}
-use Rattle.pmap_minimise.specs.Claiming.{AreClaimsOf}
+use Rattle.pmap_minimise.specs.Claiming.{AreClaimsOf, AreSetsOf, claims_of, sets_of}
 use Rattle.pmap_minimise.specs.Entered.{AddsEntries}
-use Rattle.pmap_minimise.specs.Kept.{claims_in}
-use Rattle.pmap_minimise.specs.Listing.{AddsListed, AddsVisit, AreHalvesPut, AreWaiting, HasClaims, IsClaimed, IsListedBy, IsListing, IsSoundVisit, Visit, nodes_in, nodes_visited}
+use Rattle.pmap_minimise.specs.Kept.{sets_in}
+use Rattle.pmap_minimise.specs.Listing.{AddsListed, AddsVisit, AreHalvesPut, AreSetsClaimed, AreWaiting, HasClaims, IsClaimed, IsListedBy, IsListing, IsSoundVisit, Visit, nodes_in, nodes_visited}
 use Rattle.pmap_minimise.specs.Numbers.{Claim, HasHalves, IsJoined, IsOwn, IsSound, no_claim, node_claim, numbers_of}
 use Rattle.pmap_minimise.specs.Outline.{IsOutline, outline_of}
 use Rattle.pmap_minimise.specs.Shortest.{IsWhole}
@@ -22,9 +22,11 @@ use Rattle.pmap_minimise.specs.declared.claim_list.Claims.{Claims}
 use Rattle.pmap_minimise.specs.declared.listing.Heir.{Heir}
 use Rattle.pmap_minimise.specs.declared.outline.Part.{Part}
 use Rattle.pmap_minimise.specs.declared.outline.Part.TheVariants.{Divided, Labelled}
+use Rattle.pmap_minimise.specs.declared.set_list.Sets.{Sets}
 use Rattle.pmap_minimise.proofs.Entered.{inner-adds, leaf-adds, sound-halves}
 use Rattle.pmap_minimise.proofs.Joined.{all-left, all-right, set-some}
 use Rattle.pmap_minimise.proofs.Planned.{trie-certified}
+use Rattle.pmap_minimise.proofs.Priced.{sets-claims}
 use Rattle.pmap_minimise.proofs.Waiting.{waiting-end, waiting-inner, waiting-leaf, waiting-some, waiting-start}
 use Rattle.pmap_minimise.proofs.Walked.{halves-visited, leaf-visited}
 
@@ -98,12 +100,26 @@ joined-room low high (Inner cost set left right) zero joined sound = absurd soun
 joined-room low high (Inner cost set left right) (suc room) joined sound = omega arith
 joined-room low high (Chain cost set bits side end) room joined sound = absurd joined
 
+-- the sets that are kept are those of the claims
+sets-at : (claims : List Claim) (n : ℕ) → get_or (sets_of claims) n [] ≡ (get_or claims n no_claim).set
+sets-at [] zero = refl
+sets-at [] (suc n) = refl
+sets-at (claim ∷ claims) zero = refl
+sets-at (claim ∷ claims) (suc n) = sets-at claims n
+
+module _ (block : Block) (parts : List Part) (sets : Sets) (node : Node) (has : HasClaims block parts sets node) where
+  pub listed-set : (n : ℕ) → get_or (sets_in sets) n [] ≡ (get_or (claims_of node) n no_claim).set
+  listed-set n = ap (λ (l : List (List ℕ)). get_or l n []) has.are.sets_are ∙ sets-at (claims_of node) n
+
+  pub listed-length : length (sets_in sets) ≡ length (claims_of node)
+  listed-length = ap length has.are.sets_are ∙ length-map (claims_of node) (λ (claim : Claim). claim.set)
+
 -- the first visit is that of the root
-pub listing-start : (block : Block) (parts : List Part) (claims : Claims) (node : Node) (old : List Entry) (left : ℕ) (heirs : List Heir) → HasClaims block parts claims node
-    → left ≡ length (claims_in claims) → heirs ≡ record { block = block; inherited = None } ∷ [] → IsListing block parts claims node old 0 left heirs old
-listing-start block parts claims node old left heirs has all heirs_are = record {
+pub listing-start : (block : Block) (parts : List Part) (sets : Sets) (node : Node) (old : List Entry) (left : ℕ) (heirs : List Heir) → HasClaims block parts sets node
+    → left ≡ length (sets_in sets) → heirs ≡ record { block = block; inherited = None } ∷ [] → IsListing block parts (claims_of node) node old 0 left heirs old
+listing-start block parts sets node old left heirs has all heirs_are = record {
   visits = root ∷ [];
-  waiting = waiting-start parts claims left node has.are all;
+  waiting = waiting-start parts (claims_of node) left node has.are.outline has.are.node_is refl (all ∙ listed-length block parts sets node has);
   heirs_are = sym heirs_are;
   under_way = record {
     adds = λ final rest. subst (λ (l : List Entry). AddsVisit root l final) rest.first rest.second;
@@ -119,13 +135,13 @@ no_visits [] is = refl
 no_visits (v ∷ visits) is = absurd cc
 
 -- all is listed behind the last part
-pub listing-end : (block : Block) (parts : List Part) (claims : Claims) (node : Node) (old new : List Entry) (next left : ℕ) (heirs : List Heir) → length parts ≤ next
+pub listing-end : (block : Block) (parts : List Part) (claims : List Claim) (node : Node) (old new : List Entry) (next left : ℕ) (heirs : List Heir) → length parts ≤ next
     → IsListing block parts claims node old next left heirs new → AddsEntries node block None old new
 listing-end block parts claims node old new next left heirs end listing =
     let none = no_visits listing.visits (waiting-end parts claims next left (map node_at listing.visits) end listing.waiting) in
     listing.under_way.adds new (subst (λ (l : List Visit). AddsAll AddsVisit l new new) (sym none) refl)
 
-module _ (block : Block) (parts : List Part) (claims : Claims) (root : Node) (old entries : List Entry) (next left : ℕ) (heirs : List Heir) (outline : IsOutline parts) (inside : next < length parts)
+module _ (block : Block) (parts : List Part) (claims : List Claim) (root : Node) (old entries : List Entry) (next left : ℕ) (heirs : List Heir) (outline : IsOutline parts) (inside : next < length parts)
     (listing : IsListing block parts claims root old next left heirs entries) where
   abbrev nodes : List Node
   nodes = map node_at listing.visits
@@ -137,7 +153,7 @@ module _ (block : Block) (parts : List Part) (claims : Claims) (root : Node) (ol
       let same = ap length listing.heirs_are in
       omega (arith, mapped-length heir_at listing.visits)
 
-  pub listing-inside : (d : Part) → Divided ≡ get_or parts next d → (0 < left) × (left ≤ length (claims_in claims))
+  pub listing-inside : (d : Part) → Divided ≡ get_or parts next d → (0 < left) × (left ≤ length claims)
   listing-inside d is =
       let at = waiting-inner parts claims next left nodes outline inside listing.waiting d is in
       (at.some, listing.waiting.within)
@@ -171,7 +187,7 @@ module _ (block : Block) (parts : List Part) (claims : Claims) (root : Node) (ol
       heirs_are : map heir_at front ≡ below
       waiting : AreWaiting parts claims (next + 1) (left - 1) ((map node_at front ++ high ∷ []) ++ low ∷ [])
       sound : IsSound node (width_of heir.block.version - heir.block.len)
-      own : get_or (claims_in claims) (left - 1) no_claim ≡ node_claim node
+      own : get_or claims (left - 1) no_claim ≡ node_claim node
 
     inner-visit : (d : Part) → Divided ≡ get_or parts next d → IsInnerVisit
     inner-visit d is =
@@ -198,7 +214,7 @@ module _ (block : Block) (parts : List Part) (claims : Claims) (root : Node) (ol
         let room = joined-room at.low at.high at.node (width_of heir.block.version - heir.block.len) at.joined at.sound in
         omega arith
 
-    pub visit-some : (d : Part) (ids : List LabelId) → Divided ≡ get_or parts next d → numbers_of ids ≡ (get_or (claims_in claims) (left - 1) no_claim).set → 0 < length ids
+    pub visit-some : (d : Part) (ids : List LabelId) → Divided ≡ get_or parts next d → numbers_of ids ≡ (get_or claims (left - 1) no_claim).set → 0 < length ids
     visit-some d ids is ids_are =
         let at = inner-visit d is in
         let some = set-some at.node (width_of heir.block.version - heir.block.len) at.sound in
@@ -206,7 +222,7 @@ module _ (block : Block) (parts : List Part) (claims : Claims) (root : Node) (ol
         omega (arith, mapped-length (λ (id : LabelId). id.0) ids)
 
     pub listing-inner : (d : Part) (new : List Entry) (after : List Heir) (ids : List LabelId) (label : LabelId) → Divided ≡ get_or parts next d
-        → numbers_of ids ≡ (get_or (claims_in claims) (left - 1) no_claim).set → IsOwn ids heir.block heir.inherited entries new label → AreHalvesPut heir.block label below after
+        → numbers_of ids ≡ (get_or claims (left - 1) no_claim).set → IsOwn ids heir.block heir.inherited entries new label → AreHalvesPut heir.block label below after
         → IsListing block parts claims root old (next + 1) (left - 1) after new
     listing-inner d new after ids label is ids_are own put =
         let at = inner-visit d is in
@@ -236,17 +252,36 @@ module _ (block : Block) (parts : List Part) (claims : Claims) (root : Node) (ol
         }
 
 -- the same of equal values
-pub same_listing : (block : Block) (parts : List Part) (claims : Claims) (root : Node) (old : List Entry) (next left left' : ℕ) (heirs heirs' : List Heir) (entries entries' : List Entry)
+pub same_listing : (block : Block) (parts : List Part) (claims : List Claim) (root : Node) (old : List Entry) (next left left' : ℕ) (heirs heirs' : List Heir) (entries entries' : List Entry)
     → left' ≡ left → heirs' ≡ heirs → entries' ≡ entries → IsListing block parts claims root old next left heirs entries → IsListing block parts claims root old next left' heirs' entries'
 same_listing block parts claims root old next left left' heirs heirs' entries entries' e f g listing =
     subst (λ (n : ℕ). IsListing block parts claims root old next n heirs' entries') (sym e)
     (subst (λ (l : List Heir). IsListing block parts claims root old next left l entries') (sym f)
     (subst (λ (l : List Entry). IsListing block parts claims root old next left heirs l) (sym g) listing))
 
--- the claims that are made of the outline of a trie
+-- the sets, or the claims, that are made of the outline of a trie
+pub trie-sets : (t : TrieModel) (sets : Sets) (node : Node) → IsOfTree t → All (λ leaf. IsSome leaf.label) t.leaves → length t.leaves < 2 ^ 32
+    → AreSetsOf (outline_of t.nodes) sets node → AreSetsClaimed t.version t.leaves (outline_of t.nodes) sets node
+trie-sets t sets node of labelled few are = record { are = are; certified = trie-certified t of labelled node are.node_is few }
+
 pub trie-claimed : (t : TrieModel) (claims : Claims) (node : Node) → IsOfTree t → All (λ leaf. IsSome leaf.label) t.leaves → length t.leaves < 2 ^ 32
     → AreClaimsOf (outline_of t.nodes) claims node → IsClaimed t.version t.leaves (outline_of t.nodes) claims node
 trie-claimed t claims node of labelled few are = record { are = are; certified = trie-certified t of labelled node are.node_is few }
+
+-- the sets of claims
+pub claimed-sets : (version : Version) (leaves : List LeafModel) (parts : List Part) (claims : Claims) (node : Node) → IsClaimed version leaves parts claims node
+    → AreSetsClaimed version leaves parts claims.sets node
+claimed-sets version leaves parts claims node claimed =
+    let are = claimed.are in
+    record {
+      are = record {
+        outline = are.outline;
+        node_is = are.node_is;
+        kept = are.kept.sets;
+        sets_are = sets-claims claims are.kept ∙ ap sets_of are.claims_are;
+      };
+      certified = claimed.certified;
+    }
 
 -- the block of a trie's root
 pub whole-block : (version : Version) (root block : Block) → block ≡ root → root.version ≡ version → root.value ≡ 0 → root.len ≡ 0 → IsWhole version block
@@ -254,19 +289,19 @@ whole-block version root block is of start bits =
     subst (IsWhole version) (sym is) (record { version_is = of; start = start; bits = bits })
 
 -- and the entries that are listed by them
-pub claimed-has : (version : Version) (block : Block) (leaves : List LeafModel) (parts : List Part) (claims : Claims) (node : Node) → IsWhole version block
-    → IsClaimed version leaves parts claims node → HasClaims block parts claims node
-claimed-has version block leaves parts claims node whole claimed =
+pub claimed-has : (version : Version) (block : Block) (leaves : List LeafModel) (parts : List Part) (sets : Sets) (node : Node) → IsWhole version block
+    → AreSetsClaimed version leaves parts sets node → HasClaims block parts sets node
+claimed-has version block leaves parts sets node whole claimed =
     let bits = whole.bits in
     let width : width_of block.version ≡ width_of version = ap width_of whole.version_is in
     let room : width_of version ≡ width_of block.version - block.len = omega arith in
     record { are = claimed.are; sound = subst (IsSound node) room claimed.certified.sound }
 
-pub claimed-listed : (version : Version) (block : Block) (leaves : List LeafModel) (parts : List Part) (claims : Claims) (node : Node) (old new : List Entry) → IsWhole version block → old ≡ []
-    → IsClaimed version leaves parts claims node → AddsListed block parts claims old new → IsListedBy version leaves node new
-claimed-listed version block leaves parts claims node old new whole first claimed adds = record {
+pub claimed-listed : (version : Version) (block : Block) (leaves : List LeafModel) (parts : List Part) (sets : Sets) (node : Node) (old new : List Entry) → IsWhole version block → old ≡ []
+    → AreSetsClaimed version leaves parts sets node → AddsListed block parts sets old new → IsListedBy version leaves node new
+claimed-listed version block leaves parts sets node old new whole first claimed adds = record {
   block = block;
   whole = whole;
   certified = claimed.certified;
-  adds = subst (λ (l : List Entry). AddsEntries node block None l new) first (adds node (claimed-has version block leaves parts claims node whole claimed));
+  adds = subst (λ (l : List Entry). AddsEntries node block None l new) first (adds node (claimed-has version block leaves parts sets node whole claimed));
 }

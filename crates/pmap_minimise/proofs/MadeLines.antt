@@ -36,7 +36,7 @@ pub certifying-start : (parts : List Part) (claims : Claims) (root : Node) (left
     → IsCertifying parts claims root 0 left lines
 certifying-start parts claims root left lines are all none = record {
   nodes = root ∷ [];
-  waiting = waiting-start parts claims left root are all;
+  waiting = waiting-start parts (claims_in claims) left root are.outline are.node_is are.claims_are all;
   lines_are = ap (λ (l : List DueLine). l ++ lines_of root) none;
 }
 
@@ -44,19 +44,19 @@ pub certifying-end : (parts : List Part) (claims : Claims) (root : Node) (next l
     → IsCertifying parts claims root next left lines → lines ≡ lines_of root
 certifying-end parts claims root next left lines end making =
     sym (append-nil lines)
-    ∙ ap (λ (l : List Node). lines ++ lines_left l) (sym (waiting-end parts claims next left making.nodes end making.waiting))
+    ∙ ap (λ (l : List Node). lines ++ lines_left l) (sym (waiting-end parts (claims_in claims) next left making.nodes end making.waiting))
     ∙ making.lines_are
 
 module _ (parts : List Part) (claims : Claims) (root : Node) (next left : ℕ) (lines new : List DueLine) (outline : IsOutline parts) (inside : next < length parts)
     (making : IsCertifying parts claims root next left lines) where
   pub certifying-inside : (d : Part) → Divided ≡ get_or parts next d → (0 < left) × (left ≤ length (claims_in claims))
   certifying-inside d is =
-      let at = waiting-inner parts claims next left making.nodes outline inside making.waiting d is in
+      let at = waiting-inner parts (claims_in claims) next left making.nodes outline inside making.waiting d is in
       (at.some, making.waiting.within)
 
   pub certifying-leaf : (id : LabelId) (d : Part) → Labelled id ≡ get_or parts next d → new ≡ lines ++ PlainLine (LeafLine id.0) ∷ [] → IsCertifying parts claims root (next + 1) left new
   certifying-leaf id d is pushed =
-      let at = waiting-leaf parts claims next left making.nodes outline inside making.waiting id d is in
+      let at = waiting-leaf parts (claims_in claims) next left making.nodes outline inside making.waiting id d is in
       record {
         nodes = at.rest;
         waiting = at.waiting;
@@ -71,7 +71,7 @@ module _ (parts : List Part) (claims : Claims) (root : Node) (next left : ℕ) (
       → numbers_of ids ≡ (get_or (claims_in claims) (left - 1) no_claim).set → new ≡ lines ++ PlainLine (InnerLine cost (numbers_of ids)) ∷ []
       → IsCertifying parts claims root (next + 1) (left - 1) new
   certifying-inner d cost ids is cost_is ids_are pushed =
-      let at = waiting-inner parts claims next left making.nodes outline inside making.waiting d is in
+      let at = waiting-inner parts (claims_in claims) next left making.nodes outline inside making.waiting d is in
       let halves : List Node = (at.rest ++ at.high ∷ []) ++ at.low ∷ [] in
       let own_cost : cost ≡ cost_of at.node = cost_is ∙ ap (λ (c : Claim). c.cost) at.own in
       let own_set : numbers_of ids ≡ set_of at.node = ids_are ∙ ap (λ (c : Claim). c.set) at.own in

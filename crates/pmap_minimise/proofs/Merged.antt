@@ -34,7 +34,7 @@ common-first b k x r y s rising less =
     let none : has_number (y ∷ s) x ≡ false = lacks b y (y ∷ s) x (omega arith, rising.1, rising.2) less in
     cond-false (has_number (y ∷ s) x) (x ∷ common_numbers r (y ∷ s)) (common_numbers r (y ∷ s)) none
 
-common-same : (b k : ℕ) (x : ℕ) (r s : List ℕ) → IsRising b k (x ∷ r) → common_numbers (x ∷ r) (x ∷ s) ≡ x ∷ common_numbers r s
+pub common-same : (b k : ℕ) (x : ℕ) (r s : List ℕ) → IsRising b k (x ∷ r) → common_numbers (x ∷ r) (x ∷ s) ≡ x ∷ common_numbers r s
 common-same b k x r s rising =
     let own : (x == x) ≡ true = eq-eqb x x refl in
     let rest = common-above b (x + 1) r x s rising.2 (omega arith) in

@@ -4,12 +4,10 @@ use Rattle.std.proofs.Math.Seq.{get_or-append_seam, take-append_seam, take-lengt
 use Rattle.std.proofs.lemmas.List.{append-nil, append_assoc, drop_all, take-append-drop}
 use Rattle.pmap_text.specs.declared.label.LabelId.{LabelId}
 use Rattle.pmap_cert.specs.Node.{Chain, Inner, Leaf, Node}
-use Rattle.pmap_minimise.specs.Claiming.{AreClaimsOf, all_claims, claims_of}
-use Rattle.pmap_minimise.specs.Kept.{claims_in}
+use Rattle.pmap_minimise.specs.Claiming.{all_claims, claims_of}
 use Rattle.pmap_minimise.specs.Listing.{AreWaiting}
 use Rattle.pmap_minimise.specs.Numbers.{Claim, IsJoined, no_claim, node_claim}
-use Rattle.pmap_minimise.specs.Outline.{AreStacked, Fork, IsOutline, Plan, Tip, forked, plans_of}
-use Rattle.pmap_minimise.specs.declared.claim_list.Claims.{Claims}
+use Rattle.pmap_minimise.specs.Outline.{AreStacked, Fork, IsNodeFor, IsOutline, Plan, Tip, forked, parts_of, plans_of}
 use Rattle.pmap_minimise.specs.declared.outline.Part.{Part}
 use Rattle.pmap_minimise.specs.declared.outline.Part.TheVariants.{Divided, Labelled}
 use Rattle.pmap_minimise.proofs.Claimed.{all-joined, all-push}
@@ -103,30 +101,30 @@ joined-claims low high (Chain cost set bits side end) joined = absurd joined
 joined-claims low high (Inner cost set left right) joined = λ i. (claims_of (joined.1 i) ++ claims_of (joined.0 i)) ++ record { cost = cost; set = set } ∷ []
 
 -- before the first part the root waits
-pub waiting-start : (parts : List Part) (claims : Claims) (left : ℕ) (node : Node) → AreClaimsOf parts claims node → left ≡ length (claims_in claims)
-    → AreWaiting parts claims 0 left (node ∷ [])
-waiting-start parts claims left node are all = record {
+pub waiting-start : (parts : List Part) (claims : List Claim) (left : ℕ) (node : Node) → IsOutline parts → ((plan : Plan) → parts ≡ parts_of plan → IsNodeFor plan node) → claims ≡ claims_of node
+    → left ≡ length claims → AreWaiting parts claims 0 left (node ∷ [])
+waiting-start parts claims left node outline node_is claims_are all = record {
   stacked =
-      subst (λ (l : List Plan). AreStacked l (node ∷ [])) (sym (read-parts are.outline.plan parts are.outline.is))
-      (record { rest = []; top = node; nodes_are = refl; top_is = are.node_is are.outline.plan are.outline.is; rest_is = refl });
+      subst (λ (l : List Plan). AreStacked l (node ∷ [])) (sym (read-parts outline.plan parts outline.is))
+      (record { rest = []; top = node; nodes_are = refl; top_is = node_is outline.plan outline.is; rest_is = refl });
   within = omega arith;
   claims_are =
-      ap (λ (n : ℕ). take n (claims_in claims)) all ∙ take-length (claims_in claims) ∙ are.claims_are ∙ sym (append-nil (claims_of node));
+      ap (λ (n : ℕ). take n claims) all ∙ take-length claims ∙ claims_are ∙ sym (append-nil (claims_of node));
 }
 
 -- behind the last part none waits
-pub waiting-end : (parts : List Part) (claims : Claims) (next left : ℕ) (nodes : List Node) → length parts ≤ next → AreWaiting parts claims next left nodes → nodes ≡ []
+pub waiting-end : (parts : List Part) (claims : List Claim) (next left : ℕ) (nodes : List Node) → length parts ≤ next → AreWaiting parts claims next left nodes → nodes ≡ []
 waiting-end parts claims next left nodes end waiting =
     subst (λ (l : List Part). AreStacked (plans_of l) nodes) (drop_all next parts end) waiting.stacked
 
 -- a leaf that waits next
-pub record IsLeafWaiting (id : LabelId) (parts : List Part) (claims : Claims) (next left : ℕ) (nodes : List Node) : Type 0 where
+pub record IsLeafWaiting (id : LabelId) (parts : List Part) (claims : List Claim) (next left : ℕ) (nodes : List Node) : Type 0 where
   pub rest : List Node
   pub nodes_are : nodes ≡ rest ++ Leaf id.0 ∷ []
   pub waiting : AreWaiting parts claims (next + 1) left rest
 
 -- an inner node that waits next, with the claim that it has, and the nodes of its halves
-pub record IsInnerWaiting (parts : List Part) (claims : Claims) (next left : ℕ) (nodes : List Node) : Type 0 where
+pub record IsInnerWaiting (parts : List Part) (claims : List Claim) (next left : ℕ) (nodes : List Node) : Type 0 where
   pub rest : List Node
   pub node : Node
   pub low : Node
@@ -134,10 +132,10 @@ pub record IsInnerWaiting (parts : List Part) (claims : Claims) (next left : ℕ
   pub nodes_are : nodes ≡ rest ++ node ∷ []
   pub joined : IsJoined low high node
   pub some : 0 < left
-  pub own : get_or (claims_in claims) (left - 1) no_claim ≡ node_claim node
+  pub own : get_or claims (left - 1) no_claim ≡ node_claim node
   pub waiting : AreWaiting parts claims (next + 1) (left - 1) ((rest ++ high ∷ []) ++ low ∷ [])
 
-module _ (parts : List Part) (claims : Claims) (next left : ℕ) (nodes : List Node) (outline : IsOutline parts) (inside : next < length parts)
+module _ (parts : List Part) (claims : List Claim) (next left : ℕ) (nodes : List Node) (outline : IsOutline parts) (inside : next < length parts)
     (waiting : AreWaiting parts claims next left nodes) where
   pub waiting-some : 0 < length nodes
   waiting-some =
@@ -161,7 +159,7 @@ module _ (parts : List Part) (claims : Claims) (next left : ℕ) (nodes : List N
   waiting-inner d is =
       let at = next-node parts next nodes outline inside waiting.stacked Divided d is in
       let within = waiting.within in
-      let last = last-claim (claims_in claims) left (all_claims ((at.rest ++ at.high ∷ []) ++ at.low ∷ [])) (node_claim at.node) within
+      let last = last-claim claims left (all_claims ((at.rest ++ at.high ∷ []) ++ at.low ∷ [])) (node_claim at.node) within
       (waiting.claims_are ∙ ap all_claims at.nodes_are
       ∙ all-joined at.rest at.high at.low at.node (node_claim at.node) (joined-claims at.low at.high at.node at.joined)) in
       record {

@@ -1,13 +1,14 @@
-use Rattle.std.specs.Prelude.{◌≡◌, ℕ, ◌+◌, ◌^◌, ◌<◌, List, [], ◌∷◌, ◌++◌, length, slice_index_or}
-use Rattle.pmap_cert.specs.Node.{Chain, Inner, Leaf, Node}
-use Rattle.pmap_minimise.specs.Kept.{AreKept, claims_in}
-use Rattle.pmap_minimise.specs.Numbers.{Claim, IsExactClaim, no_claim}
+use Rattle.std.specs.Prelude.{◌≡◌, ℕ, ◌+◌, ◌^◌, ◌<◌, Bool, List, [], ◌∷◌, ◌++◌, if◌then◌else◌, map}
+use Rattle.pmap_text.specs.declared.label.LabelId.{LabelId}
+use Rattle.pmap_cert.specs.Node.{Chain, Inner, Leaf, Node, cost_of, set_of}
+use Rattle.pmap_minimise.specs.Kept.{AreKept, AreSetsKept, IsHeldAs, IsHeldIn, IsNewSet, IsSetOf, claims_in, larger_in, set_by, sets_in}
+use Rattle.pmap_minimise.specs.Numbers.{Claim, IsExactSet}
 use Rattle.pmap_minimise.specs.Outline.{AreNodesFrom, IsNodeFor, IsOutline, Plan, parts_of}
 use Rattle.pmap_minimise.specs.declared.claim_list.Claims.{Claims}
-use Rattle.pmap_minimise.specs.declared.claiming.Half.{Half}
-use Rattle.pmap_minimise.specs.declared.claiming.Half.TheVariants.{Claiming, Labelled as LabelledHalf}
 use Rattle.pmap_minimise.specs.declared.outline.Part.{Part}
 use Rattle.pmap_minimise.specs.declared.outline.Part.TheVariants.{Divided, Labelled}
+use Rattle.pmap_minimise.specs.declared.set_list.SetId.{SetId}
+use Rattle.pmap_minimise.specs.declared.set_list.Sets.{Sets}
 
 -- What a certificate's inner nodes claim, which is made without the nodes.
 
@@ -22,80 +23,106 @@ abbrev pub all_claims : List Node → List Claim
 all_claims [] = []
 all_claims (node ∷ nodes) = claims_of node ++ all_claims nodes
 
--- what a half claims
-abbrev pub claimed_by : List Claim → Half → Claim
-claimed_by claims (LabelledHalf id) = record { cost = 0; set = id.0 ∷ [] }
-claimed_by claims (Claiming number) = slice_index_or claims number no_claim
-
--- its claim is there
-abbrev pub IsHalfIn : List Claim → Half → Type 0
-IsHalfIn claims (LabelledHalf id) = Unit {0}
-IsHalfIn claims (Claiming number) = number < length claims
-
--- a node over two halves has room for its cost
-abbrev pub AreCheap : List Claim → Half → Half → Type 0
-AreCheap claims low high = (claimed_by claims low).cost + (claimed_by claims high).cost + 1 < 2 ^ 32
-
--- one more claim is kept, the exact one of two halves, and the half claims that
-abbrev pub IsKeptAs : ℕ → Half → Type 0
-IsKeptAs number (LabelledHalf id) = ⊥
-IsKeptAs number (Claiming k) = k ≡ number
-
-pub record IsHalfJoined (low high : Half) (old new : Claims) (half : Half) : Type 0 where
-  pub claim : Claim
-  pub exact : IsExactClaim (claimed_by (claims_in old) low) (claimed_by (claims_in old) high) claim
-  pub kept : AreKept new
-  pub claims : claims_in new ≡ claims_in old ++ claim ∷ []
-  pub half_is : IsKeptAs (length (claims_in old)) half
+-- the sets of claims
+abbrev pub sets_of : List Claim → List (List ℕ)
+sets_of claims = map (λ claim. claim.set) claims
 
 -- two halves stand last, the lower one behind the higher one
-pub record HasTwoHalves (claims : List Claim) (halves : List Half) : Type 0 where
-  pub rest : List Half
-  pub low : Half
-  pub high : Half
+pub record HasTwoHalves (larger : List (List ℕ)) (halves : List SetId) : Type 0 where
+  pub rest : List SetId
+  pub low : SetId
+  pub high : SetId
   pub halves_are : halves ≡ (rest ++ high ∷ []) ++ low ∷ []
-  pub low_in : IsHalfIn claims low
-  pub high_in : IsHalfIn claims high
-  pub cheap : AreCheap claims low high
+  pub low_held : IsHeldIn larger low
+  pub high_held : IsHeldIn larger high
 
-abbrev pub IsHalfReady : Part → List Claim → List Half → Type 0
-IsHalfReady (Labelled id) claims halves = Unit {0}
-IsHalfReady Divided claims halves = HasTwoHalves claims halves
+abbrev pub IsHalfReady : Part → List (List ℕ) → List SetId → Type 0
+IsHalfReady (Labelled id) larger halves = Unit {0}
+IsHalfReady Divided larger halves = HasTwoHalves larger halves
+
+-- the exact set of two halves was added, and the half stands for that
+pub record IsHalfJoined (low high : SetId) (old new : Sets) (half : SetId) (apart : Bool) : Type 0 where
+  pub set : List ℕ
+  pub exact : IsExactSet (set_by (larger_in old) low) (set_by (larger_in old) high) apart set
+  pub added : IsNewSet old new set half
 
 -- the two last halves give way to what is joined of them
-pub record JoinsHalves (old new : List Half) (claims claims' : Claims) : Type 0 where
-  pub rest : List Half
-  pub low : Half
-  pub high : Half
-  pub half : Half
+pub record JoinsHalves (old new : List SetId) (sets sets' : Sets) (apart : Bool) : Type 0 where
+  pub rest : List SetId
+  pub low : SetId
+  pub high : SetId
+  pub half : SetId
   pub old_is : old ≡ (rest ++ high ∷ []) ++ low ∷ []
-  pub joined : IsHalfJoined low high claims claims' half
+  pub joined : IsHalfJoined low high sets sets' half apart
   pub new_is : new ≡ rest ++ half ∷ []
 
+-- what stands for a leaf's label goes onto the stack
+pub record HoldsLabel (id : LabelId) (old new : List SetId) (sets sets' : Sets) : Type 0 where
+  pub half : SetId
+  pub held : IsHeldAs sets sets' (id.0 ∷ []) half
+  pub new_is : new ≡ old ++ half ∷ []
+
 -- what the part's block claims goes onto the stack
-abbrev pub IsHalfAdded : Part → List Half → List Half → Claims → Claims → Type 0
-IsHalfAdded (Labelled id) old new claims claims' = (new ≡ old ++ LabelledHalf id ∷ []) × (claims' ≡ claims)
-IsHalfAdded Divided old new claims claims' = JoinsHalves old new claims claims'
+abbrev pub IsHalfAdded : Part → List SetId → List SetId → Sets → Sets → Bool → Type 0
+IsHalfAdded (Labelled id) old new sets sets' apart = HoldsLabel id old new sets sets'
+IsHalfAdded Divided old new sets sets' apart = JoinsHalves old new sets sets' apart
 
--- the half claims what the node does
-abbrev pub IsHalfOf : List Claim → Node → Half → Type 0
-IsHalfOf claims (Leaf number) (LabelledHalf id) = id.0 ≡ number
-IsHalfOf claims (Inner cost set left right) (Claiming number) =
-    (number < length claims) × (slice_index_or claims number no_claim ≡ record { cost = cost; set = set })
-IsHalfOf claims node half = ⊥
+-- the cost of a node over two halves with these costs
+abbrev pub exact_cost : ℕ → ℕ → Bool → ℕ
+exact_cost low high apart = if apart then low + high + 1 else low + high
 
-abbrev pub AreHalvesOf : List Claim → List Node → List Half → Type 0
-AreHalvesOf claims [] [] = Unit {0}
-AreHalvesOf claims (node ∷ nodes) (half ∷ halves) = IsHalfOf claims node half × AreHalvesOf claims nodes halves
-AreHalvesOf claims nodes halves = ⊥
+-- two costs stand last, the lower half's behind the higher half's, and a node above them has room for its cost
+pub record HasTwoCosts (waiting : List ℕ) : Type 0 where
+  pub rest : List ℕ
+  pub low : ℕ
+  pub high : ℕ
+  pub are : waiting ≡ (rest ++ high ∷ []) ++ low ∷ []
+  pub few : low + high + 1 < 2 ^ 32
 
--- the halves and the claims are those of the nodes of the parts from a place on
-pub record AreClaimsFrom (parts : List Part) (left : ℕ) (halves : List Half) (claims : Claims) : Type 0 where
-  pub nodes : List Node
+abbrev pub IsCostReady : Part → List ℕ → Type 0
+IsCostReady (Labelled id) waiting = Unit {0}
+IsCostReady Divided waiting = HasTwoCosts waiting
+
+-- the two last costs give way to the node's, which is one of those of the inner nodes
+pub record JoinsCosts (old new costs costs' : List ℕ) (apart : Bool) : Type 0 where
+  pub rest : List ℕ
+  pub low : ℕ
+  pub high : ℕ
+  pub old_is : old ≡ (rest ++ high ∷ []) ++ low ∷ []
+  pub new_is : new ≡ rest ++ exact_cost low high apart ∷ []
+  pub costs_are : costs' ≡ costs ++ exact_cost low high apart ∷ []
+
+-- the cost that the part's block claims goes onto the stack
+abbrev pub IsCostAdded : Part → Bool → List ℕ → List ℕ → List ℕ → List ℕ → Type 0
+IsCostAdded (Labelled id) apart old new costs costs' = (new ≡ old ++ 0 ∷ []) × (costs' ≡ costs)
+IsCostAdded Divided apart old new costs costs' = JoinsCosts old new costs costs' apart
+
+-- the halves claim the sets that the nodes do
+abbrev pub AreHalvesOf : List (List ℕ) → List Node → List SetId → Type 0
+AreHalvesOf larger [] [] = Unit {0}
+AreHalvesOf larger (node ∷ nodes) (half ∷ halves) = IsSetOf larger half (set_of node) × AreHalvesOf larger nodes halves
+AreHalvesOf larger nodes halves = ⊥
+
+-- the halves and the sets are those of these nodes, which are those of the parts from a place on
+pub record AreSetsFrom (parts : List Part) (left : ℕ) (halves : List SetId) (sets : Sets) (nodes : List Node) : Type 0 where
   pub from : AreNodesFrom parts left nodes
-  pub halves_are : AreHalvesOf (claims_in claims) nodes halves
-  pub kept : AreKept claims
-  pub claims_are : claims_in claims ≡ all_claims nodes
+  pub halves_are : AreHalvesOf (larger_in sets) nodes halves
+  pub kept : AreSetsKept sets
+  pub sets_are : sets_in sets ≡ sets_of (all_claims nodes)
+
+-- and so are the costs
+pub record AreClaimsFrom (parts : List Part) (left : ℕ) (halves : List SetId) (sets : Sets) (waiting costs : List ℕ) : Type 0 where
+  pub nodes : List Node
+  pub sets_from : AreSetsFrom parts left halves sets nodes
+  pub waiting_are : waiting ≡ map cost_of nodes
+  pub costs_are : costs ≡ map (λ claim. claim.cost) (all_claims nodes)
+
+-- the sets are those that the node and those below it claim, and it is the certificate's node of the parts' tree
+pub record AreSetsOf (parts : List Part) (sets : Sets) (node : Node) : Type 0 where
+  pub outline : IsOutline parts
+  pub node_is : (plan : Plan) → parts ≡ parts_of plan → IsNodeFor plan node
+  pub kept : AreSetsKept sets
+  pub sets_are : sets_in sets ≡ sets_of (claims_of node)
 
 -- the claims are those of the node, which is the certificate's node of the parts' tree
 pub record AreClaimsOf (parts : List Part) (claims : Claims) (node : Node) : Type 0 where

@@ -8,16 +8,16 @@ use Rattle.pmap_cert.specs.Node.{Chain, Inner, Leaf, Node}
 use Rattle.label_trie.specs.Parts.{IsHalf}
 use Rattle.label_trie.specs.TrieModel.{LeafModel}
 use Rattle.pmap_minimise.specs.Certified.{IsCertified}
-use Rattle.pmap_minimise.specs.Claiming.{AreClaimsOf, all_claims}
+use Rattle.pmap_minimise.specs.Claiming.{AreClaimsOf, AreSetsOf, all_claims}
 use Rattle.pmap_minimise.specs.Entered.{AddsEntries}
-use Rattle.pmap_minimise.specs.Kept.{claims_in}
-use Rattle.pmap_minimise.specs.Numbers.{IsSound}
+use Rattle.pmap_minimise.specs.Numbers.{Claim, IsSound}
 use Rattle.pmap_minimise.specs.Outline.{AreStacked, plans_of}
 use Rattle.pmap_minimise.specs.Shortest.{IsWhole}
 use Rattle.pmap_minimise.specs.Walk.{IsUnderWay}
 use Rattle.pmap_minimise.specs.declared.claim_list.Claims.{Claims}
 use Rattle.pmap_minimise.specs.declared.listing.Heir.{Heir}
 use Rattle.pmap_minimise.specs.declared.outline.Part.{Part}
+use Rattle.pmap_minimise.specs.declared.set_list.Sets.{Sets}
 
 -- The list that is read off the claims of a certificate's nodes, along the outline.
 
@@ -29,16 +29,21 @@ pub record AreHalvesPut (block : Block) (label : LabelId) (old new : List Heir) 
   pub high_half : IsHalf 1 block high
   pub new_is : new ≡ (old ++ record { block = high; inherited = Some label } ∷ []) ++ record { block = low; inherited = Some label } ∷ []
 
--- the claims are those of the certificate's node of the block with this outline, whose sets are not empty and fit the block
-pub record HasClaims (block : Block) (parts : List Part) (claims : Claims) (node : Node) : Type 0 where
-  pub are : AreClaimsOf parts claims node
+-- the sets are those of the certificate's node of the block with this outline, which are not empty and fit the block
+pub record HasClaims (block : Block) (parts : List Part) (claims : Sets) (node : Node) : Type 0 where
+  pub are : AreSetsOf parts claims node
   pub sound : IsSound node (width_of block.version - block.len)
 
--- the new entries are the old ones and those of the certificate's node of the block with these claims
-abbrev pub AddsListed : Block → List Part → Claims → List Entry → List Entry → Type 0
+-- the new entries are the old ones and those of the certificate's node of the block with these sets
+abbrev pub AddsListed : Block → List Part → Sets → List Entry → List Entry → Type 0
 AddsListed block parts claims old new = (node : Node) → HasClaims block parts claims node → AddsEntries node block None old new
 
--- the claims are those of the node, which is the certificate's for the address space with these leaves
+-- the sets are those of the node, which is the certificate's for the address space with these leaves
+pub record AreSetsClaimed (version : Version) (leaves : List LeafModel) (parts : List Part) (sets : Sets) (node : Node) : Type 0 where
+  pub are : AreSetsOf parts sets node
+  pub certified : IsCertified 0 0 (width_of version) leaves node
+
+-- and so are the claims
 pub record IsClaimed (version : Version) (leaves : List LeafModel) (parts : List Part) (claims : Claims) (node : Node) : Type 0 where
   pub are : AreClaimsOf parts claims node
   pub certified : IsCertified 0 0 (width_of version) leaves node
@@ -70,15 +75,14 @@ nodes_visited v = nodes_in v.node
 abbrev pub AddsVisit : Visit → List Entry → List Entry → Type 0
 AddsVisit v old new = AddsEntries v.node v.heir.block v.heir.inherited old new
 
--- The nodes of the parts from a place on, the first of them last, wait, and their claims are the first of those that are
--- kept.
-pub record AreWaiting (parts : List Part) (claims : Claims) (next left : ℕ) (nodes : List Node) : Type 0 where
+-- the nodes of the parts from a place on, the first of them last, wait, and their claims are the first of these
+pub record AreWaiting (parts : List Part) (claims : List Claim) (next left : ℕ) (nodes : List Node) : Type 0 where
   pub stacked : AreStacked (plans_of (drop next parts)) nodes
-  pub within : left ≤ length (claims_in claims)
-  pub claims_are : take left (claims_in claims) ≡ all_claims nodes
+  pub within : left ≤ length claims
+  pub claims_are : take left claims ≡ all_claims nodes
 
 -- Nodes wait with these blocks: what they add to the entries completes those of the whole.
-pub record IsListing (block : Block) (parts : List Part) (claims : Claims) (node : Node) (old : List Entry) (next left : ℕ) (heirs : List Heir) (entries : List Entry) : Type 0 where
+pub record IsListing (block : Block) (parts : List Part) (claims : List Claim) (node : Node) (old : List Entry) (next left : ℕ) (heirs : List Heir) (entries : List Entry) : Type 0 where
   pub visits : List Visit
   pub waiting : AreWaiting parts claims next left (map (λ v. v.node) visits)
   pub heirs_are : map (λ v. v.heir) visits ≡ heirs

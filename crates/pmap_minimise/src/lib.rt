@@ -27,6 +27,7 @@ mod entering;
 mod listing;
 mod minimal;
 mod outline;
+mod set_list;
 mod sets;
 mod stack;
 

@@ -6,10 +6,10 @@ ghost use Rattle.pmap_minimise.specs.Listing.{AddsListed, AreHalvesPut, HasClaim
 ghost use Rattle.pmap_minimise.specs.Outline.{outline_of};
 
 use crate::certifying::certified;
-use crate::claim_list::Claims;
-use crate::claiming::claimed;
+use crate::claiming::{claimed, claimed_sets};
 use crate::entering::push_own;
 use crate::outline::{Part, part_at};
+use crate::set_list::Sets;
 use crate::stack::pop;
 use label_trie::Trie;
 use pmap_cert::Root;
@@ -50,7 +50,7 @@ fn push_listed(
     alloc: Global,
     entries: &mut Vec<Entry>,
     trie: &Trie,
-    claims: &Claims,
+    claims: &Sets,
     block: Block,
 ) -> Result<(), AllocError>
     requires labelled { All (λ leaf. IsSome leaf.label) trie.now.leaves }
@@ -85,9 +85,9 @@ pub fn listed(alloc: Global, trie: &Trie) -> Result<Vec<Entry>, AllocError>
     requires { All (λ leaf. IsSome leaf.label) trie.now.leaves }
     ensures { IfOk result (λ entries. (node : Node) × IsListedBy trie.now.version trie.now.leaves node entries.items) }
 {
-    let claims = claimed(alloc, trie)?;
+    let sets = claimed_sets(alloc, trie)?;
     let mut entries = Vec::new(alloc);
-    push_listed(alloc, &mut entries, trie, &claims, trie.root().block())?;
+    push_listed(alloc, &mut entries, trie, &sets, trie.root().block())?;
     Ok(entries)
 }
 
@@ -98,7 +98,7 @@ pub fn listed_and_certified(alloc: Global, trie: &Trie) -> Result<(Vec<Entry>, R
 {
     let claims = claimed(alloc, trie)?;
     let mut entries = Vec::new(alloc);
-    push_listed(alloc, &mut entries, trie, &claims, trie.root().block())?;
+    push_listed(alloc, &mut entries, trie, &claims.sets, trie.root().block())?;
     let root = certified(alloc, trie, &claims)?;
     Ok((entries, root))
 }

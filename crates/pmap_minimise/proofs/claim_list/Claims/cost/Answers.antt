@@ -1,11 +1,9 @@
 use Rattle.std.proofs.Common.{arith}
-use Rattle.pmap_minimise.proofs.Pieces.{cost-at, cut-length}
+use Rattle.pmap_minimise.proofs.Priced.{claims-cost, claims-length}
 use Rattle.pmap_minimise.proofs.claim_list.Claims.cost.Goals as goal
 
 pub index-requires : goal.index-requires
-index-requires c = omega (arith, cut-length 0 c.args.self.now.ids.items c.args.self.now.kept.items)
+index-requires c = omega (arith, claims-length c.args.self.now)
 
 pub returns : goal.returns
-returns c =
-    cost-at 0 c.args.self.now.ids.items c.args.self.now.kept.items c.args.number c.index.result.now
-    (omega (arith, cut-length 0 c.args.self.now.ids.items c.args.self.now.kept.items)) c.index.ensures
+returns c = claims-cost c.args.self.now c.args.number c.index.result.now c.requires c.index.ensures
