@@ -1,11 +1,14 @@
 -- The sets and the costs that are made from an outline's end, and the certificate's nodes that claim them.
-use Rattle.std.proofs.Common.{◌≡◌, ℕ, ◌+◌, ◌<◌, ◌≤◌, ◌^◌, ◌∙◌, Bool, true, false, List, [], ◌∷◌, ◌++◌, length, map, get_or, refl, sym, ap, subst, arith}
+use Rattle.std.proofs.Common.{◌≡◌, ℕ, ◌+◌, ◌<◌, ◌≤◌, ◌^◌, ◌⊎◌, ◌||◌, ◌∙◌, Bool, true, false, List, [], ◌∷◌, ◌++◌, length, map, get_or, refl, sym, ap, subst, arith}
+use mathlib.Core.Logic.{inl, inr}
+use Rattle.std.proofs.lemmas.Bool.{cases_lt, cond-false, cond_above, cond_below, ne_eqb}
 use Rattle.std.proofs.lemmas.List.{append-nil, append_assoc, map_push, same_from_push}
 use Rattle.pmap_text.specs.declared.label.LabelId.{LabelId}
+use Rattle.pmap_cert.specs.CertificateForm.{IsRising}
 use Rattle.pmap_cert.specs.Node.{Inner, Leaf, Node, cost_of, set_of}
 use Rattle.pmap_minimise.specs.Claiming.{AreClaimsFrom, AreClaimsOf, AreHalvesOf, AreSetsFrom, AreSetsOf, HoldsLabel, IsCostAdded, IsCostReady, IsHalfAdded, IsHalfJoined, IsHalfReady, JoinsCosts, JoinsHalves, all_claims, claims_of, exact_cost, sets_of}
-use Rattle.pmap_minimise.specs.Kept.{AreSetsKept, IsHeldAs, IsHeldIn, IsSetAdded, IsSetOf, claims_in, larger_in, set_by, sets_in}
-use Rattle.pmap_minimise.specs.Numbers.{Claim, IsExactBy, IsExactSet, IsExactSetBy, common_numbers, node_claim, numbers_of}
+use Rattle.pmap_minimise.specs.Kept.{AreSetsKept, AreTwoLabels, IsHeldAs, IsHeldIn, IsSetAdded, IsSetOf, claims_in, larger_in, set_by, sets_in, two_of}
+use Rattle.pmap_minimise.specs.Numbers.{Claim, IsExactBy, IsExactSet, IsExactSetBy, IsUnion, common_numbers, has_number, node_claim}
 use Rattle.pmap_minimise.specs.Outline.{IsOutline, IsReady, Plan, parts_of}
 use Rattle.pmap_minimise.specs.declared.claim_list.Claims.{Claims}
 use Rattle.pmap_minimise.specs.declared.outline.Part.{Part}
@@ -40,6 +43,51 @@ one-joined old new low high held less same add =
           (subst (λ (s : List ℕ). IsExactSet (low.code.0 ∷ []) s false (low.code.0 ∷ [])) (sym high_is) (one-exact low.code.0));
       added = same-added old new low held add;
     }
+
+-- of two labels
+abbrev IsExactPair : ℕ → ℕ → List ℕ → Type 0
+IsExactPair x y set = IsExactSet (x ∷ []) (y ∷ []) true set
+
+either-way : (p x y : Bool) → (p ≡ (x || (y || false))) → p ≡ ((x || false) || (y || false))
+either-way p x y is = grind arith
+
+other-way : (p x y : Bool) → (p ≡ (y || (x || false))) → p ≡ ((x || false) || (y || false))
+other-way p x y is = grind arith
+
+none-shared : (x y : ℕ) (set : List ℕ) → (x ≡ y → ⊥) → IsUnion (x ∷ []) (y ∷ []) set → IsRising (2 ^ 32) 0 set → IsExactPair x y set
+none-shared x y set apart union rising =
+    let none : common_numbers (x ∷ []) (y ∷ []) ≡ [] =
+    cond-false (has_number (y ∷ []) x) (x ∷ []) [] (ap (λ (t : Bool). t || false) (ne_eqb x y apart)) in
+    subst (λ (shared : List ℕ). IsExactSetBy (x ∷ []) (y ∷ []) true shared set) (sym none) (refl, union, rising)
+
+two-exact : (low high : SetId) → AreTwoLabels low high → IsExactPair low.code.0 high.code.0 (two_of low high)
+two-exact low high two = by (cases_lt low.code.0 high.code.0)
+  where
+    by : (low.code.0 < high.code.0) ⊎ (high.code.0 ≤ low.code.0) → IsExactPair low.code.0 high.code.0 (two_of low high)
+    by (inl less) =
+        let small = two.high_is in
+        subst (IsExactPair low.code.0 high.code.0) (cond_below low.code.0 high.code.0 (low.code.0 ∷ high.code.0 ∷ []) (high.code.0 ∷ low.code.0 ∷ []) less)
+        (none-shared low.code.0 high.code.0 (low.code.0 ∷ high.code.0 ∷ []) two.apart
+        (λ p. either-way (p low.code.0 || (p high.code.0 || false)) (p low.code.0) (p high.code.0) refl)
+        (omega arith, omega arith, (omega arith, omega arith, tt)))
+    by (inr le) =
+        let small = two.low_is in
+        let ne = two.apart in
+        subst (IsExactPair low.code.0 high.code.0)
+        (cond_above low.code.0 high.code.0 (low.code.0 ∷ high.code.0 ∷ []) (high.code.0 ∷ low.code.0 ∷ []) (high.code.0 ∷ low.code.0 ∷ []) le refl)
+        (none-shared low.code.0 high.code.0 (high.code.0 ∷ low.code.0 ∷ []) two.apart
+        (λ p. other-way (p high.code.0 || (p low.code.0 || false)) (p low.code.0) (p high.code.0) refl)
+        (omega arith, omega arith, (omega arith, omega arith, tt)))
+
+pub two-joined : (old middle new : Sets) (low high half : SetId) → AreTwoLabels low high → IsHeldAs old middle (two_of low high) half → IsSetAdded middle new half
+    → IsHalfJoined low high old new half true
+two-joined old middle new low high half two held add = record {
+  set = two_of low high;
+  exact =
+      subst (λ (s : List ℕ). IsExactSet s (set_by (larger_in old) high) true (two_of low high)) (sym (set-of_label (larger_in old) low two.low_is))
+      (subst (λ (s : List ℕ). IsExactSet (low.code.0 ∷ []) s true (two_of low high)) (sym (set-of_label (larger_in old) high two.high_is)) (two-exact low high two));
+  added = held-added old middle new (two_of low high) half held add;
+}
 
 -- and of others
 pub set-joined : (old middle new : Sets) (low high half : SetId) (apart : Bool) (items set : List ℕ) → IsExactSet (set_by (larger_in old) low) (set_by (larger_in old) high) apart items → set ≡ items

@@ -1,4 +1,4 @@
-use Rattle.std.specs.Prelude.{◌≡◌, ℕ, zero, suc, ◌+◌, ◌-◌, ◌^◌, ◌<◌, ◌≤◌, List, [], ◌∷◌, ◌++◌, All, if◌then◌else◌, length, map, nat_lt, slice_index_or, slice_range}
+use Rattle.std.specs.Prelude.{◌≡◌, ℕ, zero, suc, ◌+◌, ◌-◌, ◌^◌, ◌<◌, ◌≤◌, ◌≢◌, List, [], ◌∷◌, ◌++◌, All, if◌then◌else◌, length, map, nat_lt, slice_index_or, slice_range}
 use Rattle.pmap_text.specs.declared.label.LabelId.{LabelId}
 use Rattle.pmap_cert.specs.CertificateForm.{IsRising}
 use Rattle.pmap_minimise.specs.Numbers.{Claim, numbers_of}
@@ -48,6 +48,17 @@ IsHeldIn larger id = id.code.0 < 2 ^ 31 + length larger
 pub record IsSetOf (larger : List (List ℕ)) (id : SetId) (set : List ℕ) : Type 0 where
   pub held : IsHeldIn larger id
   pub set_is : set_by larger id ≡ set
+
+-- the two stand for one label each, which are not the same
+pub record AreTwoLabels (low high : SetId) : Type 0 where
+  pub low_is : low.code.0 < 2 ^ 31
+  pub high_is : high.code.0 < 2 ^ 31
+  pub apart : low.code.0 ≢ high.code.0
+
+-- the set of both
+abbrev pub two_of : SetId → SetId → List ℕ
+two_of low high =
+    if nat_lt low.code.0 high.code.0 then low.code.0 ∷ high.code.0 ∷ [] else high.code.0 ∷ low.code.0 ∷ []
 
 -- the sets that were added
 abbrev pub sets_in : Sets → List (List ℕ)

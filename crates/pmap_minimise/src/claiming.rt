@@ -10,7 +10,7 @@ ghost use Rattle.pmap_minimise.specs.Outline.{outline_of};
 
 use crate::claim_list::Claims;
 use crate::outline::{Part, part_at};
-use crate::set_list::{SetId, Sets, are_one_label};
+use crate::set_list::{SetId, Sets, are_one_label, are_two_labels};
 use crate::sets::{SmallSet, exact_set};
 use crate::stack::pop;
 use label_trie::Trie;
@@ -35,6 +35,7 @@ fn exact_of(
 }
 
 // Adds the exact set of two halves, and answers what stands for it, and whether the halves' sets are apart.
+#[inline(always)]
 fn join(
     alloc: Global,
     sets: &mut Sets,
@@ -51,6 +52,27 @@ fn join(
         sets.push(low)?;
         return Ok((low, false));
     }
+    join_others(alloc, sets, low, high)
+}
+
+// The same of halves that may claim others than the same one label.
+#[inline(never)]
+fn join_others(
+    alloc: Global,
+    sets: &mut Sets,
+    low: SetId,
+    high: SetId,
+) -> Result<(SetId, bool), AllocError>
+    requires kept { AreSetsKept sets.old }
+    requires low { IsHeldIn (larger_in sets.old) low }
+    requires high { IsHeldIn (larger_in sets.old) high }
+    ensures { IfOk result (λ half. IsHalfJoined low high sets.old sets.new half.0 half.1) }
+{
+    if are_two_labels(low, high) {
+        let half = sets.hold_two(low, high)?;
+        sets.push(half)?;
+        return Ok((half, true));
+    }
     let (set, apart) = exact_of(alloc, sets, &low, &high)?;
     let half = sets.hold(set.as_slice())?;
     sets.push(half)?;
@@ -59,6 +81,7 @@ fn join(
 
 // Puts what a part's block claims onto the stack, on which the halves of a divided one stand, the lower one last, and
 // answers whether the sets of these are apart.
+#[inline(always)]
 fn push_half(
     alloc: Global,
     halves: &mut Vec<SetId>,
@@ -87,6 +110,7 @@ fn push_half(
 
 // Puts the cost that a part's block claims onto the stack, on which those of the halves of a divided one stand, the
 // lower one's last, and adds it to those of the inner nodes if it is one's.
+#[inline(always)]
 fn push_cost(
     waiting: &mut Vec<u32>,
     costs: &mut Vec<u32>,

@@ -1,7 +1,7 @@
 ghost use Rattle.std.specs.Prelude.{◌≡◌, ◌^◌, ◌<◌, ◌∷◌, [], IfOk, OnOk, length, slice_index_or};
 ghost use Rattle.std.specs.Bool.{OnTrue};
 ghost use Rattle.pmap_cert.specs.CertificateForm.{IsRising};
-ghost use Rattle.pmap_minimise.specs.Kept.{AreLabelsBehind, AreSetsKept, IsHeldAs, IsHeldIn, IsSetAdded, end_at, larger_in, set_by, sets_in, start_of};
+ghost use Rattle.pmap_minimise.specs.Kept.{AreLabelsBehind, AreSetsKept, AreTwoLabels, IsHeldAs, IsHeldIn, IsSetAdded, end_at, larger_in, set_by, sets_in, start_of, two_of};
 ghost use Rattle.pmap_minimise.specs.Numbers.{numbers_of};
 
 use pmap_text::LabelId;
@@ -105,6 +105,7 @@ impl Sets {
 
     /// Answers what stands for the set with these rising numbers, which is kept but not added. Beyond 2 ^ 31 larger
     /// sets, or 2 ^ 32 - 1 labels in all of them, memory is refused.
+    #[inline(always)]
     pub fn hold(&mut self, set: &[u32]) -> Result<SetId, AllocError>
         requires kept { AreSetsKept self.old }
         requires rising { IsRising (2 ^ 32) 0 set.now }
@@ -118,7 +119,23 @@ impl Sets {
         self.hold_larger(set)
     }
 
+    /// The same of the set of two labels.
+    pub fn hold_two(&mut self, low: SetId, high: SetId) -> Result<SetId, AllocError>
+        requires kept { AreSetsKept self.old }
+        requires two { AreTwoLabels low high }
+        ensures { IfOk result (IsHeldAs self.old self.new (two_of low high)) }
+    {
+        let x = low.code.0;
+        let y = high.code.0;
+        if x < y {
+            self.hold_larger(&[x, y])
+        } else {
+            self.hold_larger(&[y, x])
+        }
+    }
+
     // The same of a set that is kept as a larger one.
+    #[inline(never)]
     fn hold_larger(&mut self, set: &[u32]) -> Result<SetId, AllocError>
         requires kept { AreSetsKept self.old }
         requires rising { IsRising (2 ^ 32) 0 set.now }
@@ -155,6 +172,13 @@ pub fn are_one_label(low: SetId, high: SetId) -> bool
     ensures { OnTrue result ((low.code.0 < 2 ^ 31) × (high.code.0 ≡ low.code.0)) }
 {
     low.code.0 == high.code.0 && low.code.0 < LARGER
+}
+
+/// Whether these two stand for one label each, and not for the same.
+pub fn are_two_labels(low: SetId, high: SetId) -> bool
+    ensures { OnTrue result (AreTwoLabels low high) }
+{
+    low.code.0 < LARGER && high.code.0 < LARGER && low.code.0 != high.code.0
 }
 
 // Adds the labels with these numbers at the end.

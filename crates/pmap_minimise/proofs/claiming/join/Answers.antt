@@ -1,5 +1,6 @@
-use Rattle.pmap_minimise.proofs.Claimed.{set-joined}
+use Rattle.pmap_minimise.proofs.Claimed.{one-joined}
 use Rattle.pmap_minimise.proofs.claiming.join.Goals as goal
 
-pub returns : goal.returns
-returns c = set-joined _ _ _ _ _ _ _ _ _ c.in_ok-set.ensures.exact c.as_slice.ensures c.in_ok-half.ensures c.in_ok-push-2.ensures
+pub returns-then-are_one_label : goal.returns-then-are_one_label
+returns-then-are_one_label c =
+    one-joined c.args.sets.now c.push.new.self c.args.low c.args.high c.requires.low c.if-are_one_label.ensures.0 c.if-are_one_label.ensures.1 c.in_ok-push.ensures
