@@ -46,6 +46,12 @@ pub record IsHalfJoined (low high : SetId) (old new : Sets) (half : SetId) (apar
   pub exact : IsExactSet (set_by (larger_in old) low) (set_by (larger_in old) high) apart set
   pub added : IsNewSet old new set half
 
+-- and it goes onto the stack
+pub record IsJoinedPushed (low high : SetId) (old new : List SetId) (sets sets' : Sets) (apart : Bool) : Type 0 where
+  pub half : SetId
+  pub joined : IsHalfJoined low high sets sets' half apart
+  pub new_is : new ≡ old ++ half ∷ []
+
 -- the two last halves give way to what is joined of them
 pub record JoinsHalves (old new : List SetId) (sets sets' : Sets) (apart : Bool) : Type 0 where
   pub rest : List SetId

@@ -4,7 +4,7 @@ ghost use Rattle.pmap_cert.specs.CertificateForm.{IsRising};
 ghost use Rattle.pmap_cert.specs.Node.{Node};
 ghost use Rattle.pmap_minimise.specs.Kept.{AreSetsKept, IsHeldIn, larger_in, set_by};
 ghost use Rattle.pmap_minimise.specs.Numbers.{IsExactSet};
-ghost use Rattle.pmap_minimise.specs.Claiming.{IsCostAdded, IsCostReady, IsHalfAdded, IsHalfJoined, IsHalfReady};
+ghost use Rattle.pmap_minimise.specs.Claiming.{IsCostAdded, IsCostReady, IsHalfAdded, IsHalfJoined, IsHalfReady, IsJoinedPushed};
 ghost use Rattle.pmap_minimise.specs.Listing.{AreSetsClaimed, IsClaimed};
 ghost use Rattle.pmap_minimise.specs.Outline.{outline_of};
 
@@ -15,7 +15,6 @@ use crate::sets::{SmallSet, exact_set};
 use crate::stack::pop;
 use label_trie::Trie;
 use std::alloc::{AllocError, Global};
-use std::slice;
 
 // The exact set of two halves, and whether their sets are apart.
 fn exact_of(
@@ -35,29 +34,7 @@ fn exact_of(
 }
 
 // Adds the exact set of two halves, and answers what stands for it, and whether the halves' sets are apart.
-#[inline(always)]
 fn join(
-    alloc: Global,
-    sets: &mut Sets,
-    low: SetId,
-    high: SetId,
-) -> Result<(SetId, bool), AllocError>
-    requires kept { AreSetsKept sets.old }
-    requires low { IsHeldIn (larger_in sets.old) low }
-    requires high { IsHeldIn (larger_in sets.old) high }
-    ensures { IfOk result (λ half. IsHalfJoined low high sets.old sets.new half.0 half.1) }
-{
-    // So it is with most halves.
-    if are_one_label(low, high) {
-        sets.push(low)?;
-        return Ok((low, false));
-    }
-    join_others(alloc, sets, low, high)
-}
-
-// The same of halves that may claim others than the same one label.
-#[inline(never)]
-fn join_others(
     alloc: Global,
     sets: &mut Sets,
     low: SetId,
@@ -79,6 +56,26 @@ fn join_others(
     Ok((half, apart))
 }
 
+// Adds the exact set of two halves, and puts what stands for it onto the stack. It answers whether the halves' sets are
+// apart.
+#[inline(never)]
+fn push_joined(
+    alloc: Global,
+    halves: &mut Vec<SetId>,
+    sets: &mut Sets,
+    low: SetId,
+    high: SetId,
+) -> Result<bool, AllocError>
+    requires kept { AreSetsKept sets.old }
+    requires low { IsHeldIn (larger_in sets.old) low }
+    requires high { IsHeldIn (larger_in sets.old) high }
+    ensures { IfOk result (IsJoinedPushed low high halves.old.items halves.new.items sets.old sets.new) }
+{
+    let (half, apart) = join(alloc, sets, low, high)?;
+    halves.push(half)?;
+    Ok(apart)
+}
+
 // Puts what a part's block claims onto the stack, on which the halves of a divided one stand, the lower one last, and
 // answers whether the sets of these are apart.
 #[inline(always)]
@@ -94,16 +91,20 @@ fn push_half(
 {
     match part {
         Part::Labelled(id) => {
-            let half = sets.hold(slice::from_ref(&id.0))?;
+            let half = sets.hold_label(id)?;
             halves.push(half)?;
             Ok(false)
         }
         Part::Divided => {
             let low = pop(halves);
             let high = pop(halves);
-            let (half, apart) = join(alloc, sets, low, high)?;
-            halves.push(half)?;
-            Ok(apart)
+            // So it is with most halves.
+            if are_one_label(low, high) {
+                sets.push(low)?;
+                halves.push(low)?;
+                return Ok(false);
+            }
+            push_joined(alloc, halves, sets, low, high)
         }
     }
 }
@@ -136,6 +137,7 @@ fn push_cost(
 }
 
 /// The sets that the inner nodes of the certificate of a trie claim, from its last node to its first.
+#[inline(never)]
 pub fn claimed_sets(alloc: Global, trie: &Trie) -> Result<Sets, AllocError>
     requires { All (λ leaf. IsSome leaf.label) trie.now.leaves }
     ensures { IfOk result (λ sets. (node : Node)
@@ -152,6 +154,7 @@ pub fn claimed_sets(alloc: Global, trie: &Trie) -> Result<Sets, AllocError>
 }
 
 /// What these nodes claim, their costs too.
+#[inline(never)]
 pub fn claimed(alloc: Global, trie: &Trie) -> Result<Claims, AllocError>
     requires { All (λ leaf. IsSome leaf.label) trie.now.leaves }
     ensures { IfOk result (λ claims. (node : Node)

@@ -103,9 +103,20 @@ impl Sets {
         self.end_of(number - 1)
     }
 
+    /// Answers what stands for the set of this label alone, which is kept but not added.
+    #[inline(always)]
+    pub fn hold_label(&mut self, id: LabelId) -> Result<SetId, AllocError>
+        requires { AreSetsKept self.old }
+        ensures { IfOk result (IsHeldAs self.old self.new (id.0 ∷ [])) }
+    {
+        if id.0 < LARGER {
+            return Ok(SetId { code: id });
+        }
+        self.hold_larger(slice::from_ref(&id.0))
+    }
+
     /// Answers what stands for the set with these rising numbers, which is kept but not added. Beyond 2 ^ 31 larger
     /// sets, or 2 ^ 32 - 1 labels in all of them, memory is refused.
-    #[inline(always)]
     pub fn hold(&mut self, set: &[u32]) -> Result<SetId, AllocError>
         requires kept { AreSetsKept self.old }
         requires rising { IsRising (2 ^ 32) 0 set.now }
