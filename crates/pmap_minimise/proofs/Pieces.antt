@@ -6,10 +6,10 @@ use Rattle.std.proofs.Math.ListN.{get_or-append}
 use Rattle.std.proofs.Math.Seq.{drop-append_seam, get_or-append_seam, take-length}
 use Rattle.std.proofs.lemmas.Bool.{cases_lt, cond_above, cond_below}
 use Rattle.std.proofs.lemmas.List.{append-nil, drop-append-le, length-map, map_push, take-append-le}
-use Rattle.std.proofs.lemmas.List.Elements.{All-from_recursion, All-get_or, All-nil, All-push, All-weaker, recursion_from_All}
+use Rattle.std.proofs.lemmas.List.Elements.{All-get_or, All-nil, All-push, All-weaker, recursion_from_All}
 use Rattle.pmap_text.specs.declared.label.LabelId.{LabelId}
 use Rattle.pmap_cert.specs.CertificateForm.{IsRising}
-use Rattle.pmap_minimise.specs.Kept.{AreEnds, AreLabelsBehind, AreSetsKept, HaveGrown, IsHeldAs, IsHeldIn, IsNewSet, IsRisingSet, IsSetAdded, IsSetOf, cut, end_at, larger_in, set_by, sets_in, start_of}
+use Rattle.pmap_minimise.specs.Kept.{AreEnds, AreLabelsBehind, AreSetsKept, IsHeldAs, IsHeldIn, IsNewSet, IsRisingSet, IsSetAdded, IsSetOf, cut, end_at, larger_in, set_by, sets_in, start_of}
 use Rattle.pmap_minimise.specs.Numbers.{numbers_of}
 use Rattle.pmap_minimise.specs.declared.set_list.SetId.{SetId}
 use Rattle.pmap_minimise.specs.declared.set_list.Sets.{Sets}
