@@ -12,7 +12,7 @@ use crate::claim_list::Claims;
 use crate::outline::{Part, part_at};
 use crate::set_list::{SetId, Sets, are_one_label, are_two_labels};
 use crate::sets::{SmallSet, exact_set};
-use crate::stack::pop;
+use crate::stack::{pop, top};
 use label_trie::Trie;
 use std::alloc::{AllocError, Global};
 
@@ -97,13 +97,12 @@ fn push_half(
         }
         Part::Divided => {
             let low = pop(halves);
-            let high = pop(halves);
-            // So it is with most halves.
-            if are_one_label(low, high) {
+            // So it is with most halves: what stands for the set of both stands there.
+            if are_one_label(low, top(halves)) {
                 sets.push(low)?;
-                halves.push(low)?;
                 return Ok(false);
             }
+            let high = pop(halves);
             push_joined(alloc, halves, sets, low, high)
         }
     }

@@ -1,5 +1,5 @@
 //! Stacks.
-ghost use Rattle.std.specs.Prelude.{◌≡◌, ◌<◌, ◌++◌, ◌∷◌, [], length};
+ghost use Rattle.std.specs.Prelude.{◌≡◌, ◌<◌, ◌++◌, ◌∷◌, List, [], length};
 
 /// Takes the top of a stack that isn't empty.
 pub fn pop<T>(stack: &mut Vec<T>) -> T
@@ -10,4 +10,13 @@ pub fn pop<T>(stack: &mut Vec<T>) -> T
         Some(top) => top,
         None => unreachable!(),
     }
+}
+
+/// The top of a stack that isn't empty.
+#[inline(always)]
+pub fn top<T: Copy>(stack: &Vec<T>) -> T
+    requires { 0 < length stack.now.items }
+    ensures { (rest : List T) × (stack.now.items ≡ rest ++ result ∷ []) }
+{
+    stack[stack.len() - 1]
 }
