@@ -11,6 +11,8 @@ pub mod Pieces
 pub mod Priced
 pub mod Claimed
 pub mod Waiting
+pub mod InRow
 pub mod Listed
+pub mod ListedAt
 pub mod MadeLines
 pub mod Compacted

@@ -16,14 +16,15 @@ use Rattle.pmap_minimise.specs.Kept.{sets_in}
 use Rattle.pmap_minimise.specs.Listing.{AddsListed, AddsVisit, AreHalvesPut, AreSetsClaimed, AreWaiting, HasClaims, IsClaimed, IsListedBy, IsListing, IsSoundVisit, Visit, nodes_in, nodes_visited}
 use Rattle.pmap_minimise.specs.Numbers.{Claim, HasHalves, IsJoined, IsOwn, IsSound, no_claim, node_claim, numbers_of}
 use Rattle.pmap_minimise.specs.Outline.{IsOutline, outline_of}
+use Rattle.pmap_minimise.specs.Row.{Heir}
 use Rattle.pmap_minimise.specs.Shortest.{IsWhole}
 use Rattle.pmap_minimise.specs.Walk.{AddsAll}
 use Rattle.pmap_minimise.specs.declared.claim_list.Claims.{Claims}
-use Rattle.pmap_minimise.specs.declared.listing.Heir.{Heir}
 use Rattle.pmap_minimise.specs.declared.outline.Part.{Part}
 use Rattle.pmap_minimise.specs.declared.outline.Part.TheVariants.{Divided, Labelled}
 use Rattle.pmap_minimise.specs.declared.set_list.Sets.{Sets}
 use Rattle.pmap_minimise.proofs.Entered.{inner-adds, leaf-adds, sound-halves}
+use Rattle.pmap_minimise.proofs.InRow.{has-end, mapped-length}
 use Rattle.pmap_minimise.proofs.Joined.{all-left, all-right, set-some}
 use Rattle.pmap_minimise.proofs.Planned.{trie-certified}
 use Rattle.pmap_minimise.proofs.Priced.{sets-claims}
@@ -55,22 +56,6 @@ record IsLastVisit (visits : List Visit) (nodes : List Node) (node : Node) (heir
   visits_are : visits ≡ front ++ record { node = node; heir = heir } ∷ []
   nodes_are : map node_at front ≡ nodes
   heirs_are : map heir_at front ≡ heirs
-
-record HasEnd {X : Type 0} (xs : List X) : Type 0 where
-  front : List X
-  last : X
-  is : xs ≡ front ++ last ∷ []
-
-has-end : {X : Type 0} (xs : List X) → 0 < length xs → HasEnd xs
-has-end [] some = absurd (omega arith)
-has-end (x ∷ []) some = record { front = []; last = x; is = refl }
-has-end {X} (x ∷ y ∷ xs) some =
-    let rest : HasEnd (y ∷ xs) = has-end (y ∷ xs) (omega arith) in
-    record { front = x ∷ rest.front; last = rest.last; is = ap (λ (l : List X). x ∷ l) rest.is }
-
-mapped-length : {X Y : Type 0} (f : X → Y) (xs : List X) → length (map f xs) ≡ length xs
-mapped-length f [] = refl
-mapped-length f (x ∷ xs) = ap suc (mapped-length f xs)
 
 visits-count : (visits : List Visit) (nodes : List Node) → map node_at visits ≡ nodes → length visits ≡ length nodes
 visits-count visits nodes is = sym (mapped-length node_at visits) ∙ ap length is
@@ -250,14 +235,6 @@ module _ (block : Block) (parts : List Part) (claims : List Claim) (root : Node)
             sound = visited.sound (all-left IsSoundVisit listing.visits at.front (visit ∷ []) at.visits_are listing.under_way.sound);
           };
         }
-
--- the same of equal values
-pub same_listing : (block : Block) (parts : List Part) (claims : List Claim) (root : Node) (old : List Entry) (next left left' : ℕ) (heirs heirs' : List Heir) (entries entries' : List Entry)
-    → left' ≡ left → heirs' ≡ heirs → entries' ≡ entries → IsListing block parts claims root old next left heirs entries → IsListing block parts claims root old next left' heirs' entries'
-same_listing block parts claims root old next left left' heirs heirs' entries entries' e f g listing =
-    subst (λ (n : ℕ). IsListing block parts claims root old next n heirs' entries') (sym e)
-    (subst (λ (l : List Heir). IsListing block parts claims root old next left l entries') (sym f)
-    (subst (λ (l : List Entry). IsListing block parts claims root old next left heirs l) (sym g) listing))
 
 -- the sets, or the claims, that are made of the outline of a trie
 pub trie-sets : (t : TrieModel) (sets : Sets) (node : Node) → IsOfTree t → All (λ leaf. IsSome leaf.label) t.leaves → length t.leaves < 2 ^ 32

@@ -6,6 +6,7 @@ pub mod Outline
 pub mod Walk
 pub mod Kept
 pub mod Claiming
+pub mod Row
 pub mod Listing
 pub mod MadeLines
 pub mod Compacting

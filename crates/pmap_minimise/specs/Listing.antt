@@ -1,4 +1,4 @@
-use Rattle.std.specs.Prelude.{◌≡◌, ℕ, ◌+◌, ◌-◌, ◌≤◌, List, [], ◌∷◌, ◌++◌, Some, None, drop, length, map, take}
+use Rattle.std.specs.Prelude.{◌≡◌, ℕ, ◌+◌, ◌-◌, ◌≤◌, List, [], ◌∷◌, ◌++◌, Option, Some, None, drop, length, map, take}
 use Rattle.prefix_keys.specs.Version.{width_of}
 use Rattle.prefix_keys.specs.declared.block.Block.{Block}
 use Rattle.prefix_keys.specs.declared.version.Version.{Version}
@@ -12,10 +12,11 @@ use Rattle.pmap_minimise.specs.Claiming.{AreClaimsOf, AreSetsOf, all_claims}
 use Rattle.pmap_minimise.specs.Entered.{AddsEntries}
 use Rattle.pmap_minimise.specs.Numbers.{Claim, IsSound}
 use Rattle.pmap_minimise.specs.Outline.{AreStacked, plans_of}
+use Rattle.pmap_minimise.specs.Row.{AreKeptAs, Heir, end_of}
 use Rattle.pmap_minimise.specs.Shortest.{IsWhole}
 use Rattle.pmap_minimise.specs.Walk.{IsUnderWay}
 use Rattle.pmap_minimise.specs.declared.claim_list.Claims.{Claims}
-use Rattle.pmap_minimise.specs.declared.listing.Heir.{Heir}
+use Rattle.pmap_minimise.specs.declared.listing.Waiting.{Waiting}
 use Rattle.pmap_minimise.specs.declared.outline.Part.{Part}
 use Rattle.pmap_minimise.specs.declared.set_list.Sets.{Sets}
 
@@ -87,3 +88,9 @@ pub record IsListing (block : Block) (parts : List Part) (claims : List Claim) (
   pub waiting : AreWaiting parts claims next left (map (λ v. v.node) visits)
   pub heirs_are : map (λ v. v.heir) visits ≡ heirs
   pub under_way : IsUnderWay AddsVisit IsSoundVisit (λ final. AddsEntries node block None old final) visits entries
+
+-- The same, where of the last one of the heirs the code has the block and the label, and of the others what doesn't follow.
+pub record IsListingAt (block : Block) (parts : List Part) (claims : List Claim) (node : Node) (old : List Entry) (next left first bits : ℕ) (inherited : Option LabelId) (waiting : List Waiting) (entries : List Entry) : Type 0 where
+  pub heirs : List Heir
+  pub listing : IsListing block parts claims node old next left heirs entries
+  pub kept_as : AreKeptAs block.version (end_of block) first bits inherited waiting heirs

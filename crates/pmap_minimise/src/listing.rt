@@ -1,51 +1,56 @@
 //! The entries of a map's shortest list, from the root down, by what its certificate's nodes claim.
-ghost use Rattle.std.specs.Prelude.{◌<◌, All, IfOk, IsSome, OnOk};
+ghost use Rattle.std.specs.Prelude.{◌≡◌, ◌-◌, ◌^◌, ◌<◌, All, IfOk, IsSome, OnOk};
 ghost use Rattle.prefix_keys.specs.Version.{width_of};
 ghost use Rattle.pmap_cert.specs.Node.{Node};
-ghost use Rattle.pmap_minimise.specs.Listing.{AddsListed, AreHalvesPut, HasClaims, IsListedBy};
+ghost use Rattle.pmap_minimise.specs.Listing.{AddsListed, HasClaims, IsListedBy};
 ghost use Rattle.pmap_minimise.specs.Outline.{outline_of};
+ghost use Rattle.pmap_minimise.specs.Row.{IsAt};
 
 use crate::certifying::certified;
 use crate::claiming::{claimed, claimed_sets};
 use crate::entering::push_own;
 use crate::outline::{Part, part_at};
 use crate::set_list::Sets;
-use crate::stack::pop;
 use label_trie::Trie;
 use pmap_cert::Root;
 use pmap_text::{Entry, LabelId};
-use prefix_keys::Block;
+use prefix_keys::{Block, Version};
 use std::alloc::{AllocError, Global};
 use std::slice;
 
-/// A block whose entries are still to be added, and the label that it inherits from above.
+/// A block that waits: how many bits it has, and the label that it inherits from above. It begins where the one before
+/// it ends.
 #[derive(Clone, Copy)]
-pub struct Heir {
-    block: Block,
-    inherited: Option<LabelId>,
+pub struct Waiting {
+    len: u32,
+    label: LabelId,
 }
 
-// Puts the halves of a block, which inherit this label, onto the stack, the lower one last.
-fn push_halves(heirs: &mut Vec<Heir>, block: Block, label: LabelId) -> Result<(), AllocError>
-    requires { block.len < width_of block.version }
-    ensures { OnOk result (AreHalvesPut block label heirs.old.items heirs.new.items) }
+// The block of so many bits that begins at this address.
+#[inline(always)]
+fn block_at(version: Version, first: u128, len: u32) -> Block
+    requires { (block : Block) × IsAt version first len block }
+    ensures { IsAt version first len result }
 {
-    let Some((low, high)) = block.halves() else {
-        unreachable!()
-    };
-    heirs.push(Heir {
-        block: high,
-        inherited: Some(label),
-    })?;
-    heirs.push(Heir {
-        block: low,
-        inherited: Some(label),
-    })?;
-    Ok(())
+    Block {
+        version,
+        value: first,
+        len,
+    }
+}
+
+// How many addresses a block has.
+#[inline(always)]
+fn size_of(block: Block) -> u128
+    requires { 2 ^ (width_of block.version - block.len) < 2 ^ 128 }
+    ensures { result ≡ 2 ^ (width_of block.version - block.len) }
+{
+    1 << (block.version.width() - block.len)
 }
 
 // Adds the entries of a block with a trie and what its certificate's nodes claim, by rising first address. The trie's
-// nodes are met from the first to the last, and so the claims from the last to the first.
+// nodes are met from the first to the last, and so the claims from the last to the first. Of the block that comes next
+// the first address, the bits and the label that it inherits are at hand; the higher halves behind it wait.
 fn push_listed(
     alloc: Global,
     entries: &mut Vec<Entry>,
@@ -58,22 +63,28 @@ fn push_listed(
     ensures { OnOk result (AddsListed block (outline_of trie.now.nodes) claims.now entries.old.items
         entries.new.items) }
 {
-    let mut heirs = Vec::new(alloc);
-    heirs.push(Heir {
-        block,
-        inherited: None,
-    })?;
+    let mut first = block.value;
+    let mut len = block.len;
+    let mut inherited = None;
+    let mut waiting: Vec<Waiting> = Vec::new(alloc);
     let mut left = claims.len();
     for number in 0..trie.node_count() {
-        let heir = pop(&mut heirs);
+        let here = block_at(block.version, first, len);
         match part_at(trie, number) {
             Part::Labelled(id) => {
-                push_own(entries, slice::from_ref(&id), heir.block, heir.inherited)?;
+                push_own(entries, slice::from_ref(&id), here, inherited)?;
+                if let Some(next) = waiting.pop() {
+                    first += size_of(here);
+                    len = next.len;
+                    inherited = Some(next.label);
+                }
             }
             Part::Divided => {
                 left -= 1;
-                let label = push_own(entries, claims.set(left), heir.block, heir.inherited)?;
-                push_halves(&mut heirs, heir.block, label)?;
+                let label = push_own(entries, claims.set(left), here, inherited)?;
+                len += 1;
+                waiting.push(Waiting { len, label })?;
+                inherited = Some(label);
             }
         }
     }
