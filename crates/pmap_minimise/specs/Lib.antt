@@ -7,6 +7,7 @@ pub mod Walk
 pub mod Kept
 pub mod Claiming
 pub mod Row
+pub mod Sketch
 pub mod Listing
 pub mod MadeLines
 pub mod Compacting

@@ -33,6 +33,28 @@ fn exact_of(
     exact_set(alloc, sets.labels(low), sets.labels(high))
 }
 
+/// Answers what stands for the exact set of two halves, which is kept but not added, and whether the halves' sets are
+/// apart.
+pub fn joined(
+    alloc: Global,
+    sets: &mut Sets,
+    low: SetId,
+    high: SetId,
+) -> Result<(SetId, bool), AllocError>
+    requires kept { AreSetsKept sets.old }
+    requires low { IsHeldIn (larger_in sets.old) low }
+    requires high { IsHeldIn (larger_in sets.old) high }
+    ensures { IfOk result (λ half. IsHalfHeld low high sets.old sets.new half.0 half.1) }
+{
+    if are_two_labels(low, high) {
+        let half = sets.hold_two(low, high)?;
+        return Ok((half, true));
+    }
+    let (set, apart) = exact_of(alloc, sets, &low, &high)?;
+    let half = sets.hold(set.as_slice())?;
+    Ok((half, apart))
+}
+
 // Adds the exact set of two halves, and answers what stands for it, and whether the halves' sets are apart.
 fn join(
     alloc: Global,
@@ -45,13 +67,7 @@ fn join(
     requires high { IsHeldIn (larger_in sets.old) high }
     ensures { IfOk result (λ half. IsHalfJoined low high sets.old sets.new half.0 half.1) }
 {
-    if are_two_labels(low, high) {
-        let half = sets.hold_two(low, high)?;
-        sets.push(half)?;
-        return Ok((half, true));
-    }
-    let (set, apart) = exact_of(alloc, sets, &low, &high)?;
-    let half = sets.hold(set.as_slice())?;
+    let (half, apart) = joined(alloc, sets, low, high)?;
     sets.push(half)?;
     Ok((half, apart))
 }

@@ -19,6 +19,7 @@
 //! alone, `certificate_text` the text of the certificate, and `compact_text` that of the certificate compacted.
 #![tactic(auto)]
 
+mod ahead;
 mod certifying;
 mod claim_list;
 mod claiming;
@@ -27,8 +28,11 @@ mod entering;
 mod listing;
 mod minimal;
 mod outline;
+mod pricing;
 mod set_list;
 mod sets;
+mod sketch;
+mod sketching;
 mod stack;
 
 pub use minimal::{Minimal, certificate_text, compact_text, minimise, shortest};

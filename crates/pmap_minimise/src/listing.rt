@@ -1,18 +1,14 @@
-//! The entries of a map's shortest list, from the root down, by what its certificate's nodes claim.
-ghost use Rattle.std.specs.Prelude.{◌≡◌, ◌-◌, ◌^◌, ◌<◌, All, IfOk, IsSome, OnOk};
+//! The entries of a map's shortest list, from the root down, by the sketch of its certificate.
+ghost use Rattle.std.specs.Prelude.{◌≡◌, ◌-◌, ◌^◌, ◌<◌, List, IfOk, OnOk};
 ghost use Rattle.prefix_keys.specs.Version.{width_of};
 ghost use Rattle.pmap_cert.specs.Node.{Node};
-ghost use Rattle.pmap_minimise.specs.Listing.{AddsListed, HasClaims, IsListedBy};
-ghost use Rattle.pmap_minimise.specs.Outline.{outline_of};
+ghost use Rattle.label_trie.specs.TrieModel.{LeafModel};
+ghost use Rattle.pmap_minimise.specs.Listing.{IsListedBy};
 ghost use Rattle.pmap_minimise.specs.Row.{IsAt};
+ghost use Rattle.pmap_minimise.specs.Sketch.{IsSketchOf};
 
-use crate::certifying::certified;
-use crate::claiming::{claimed, claimed_sets};
 use crate::entering::push_own;
-use crate::outline::{Part, part_at};
-use crate::set_list::Sets;
-use label_trie::Trie;
-use pmap_cert::Root;
+use crate::sketch::{LoneAddress, Mark, Sketch};
 use pmap_text::{Entry, LabelId};
 use prefix_keys::{Block, Version};
 use std::alloc::{AllocError, Global};
@@ -48,68 +44,74 @@ fn size_of(block: Block) -> u128
     1 << (block.version.width() - block.len)
 }
 
-// Adds the entries of a block with a trie and what its certificate's nodes claim, by rising first address. The trie's
-// nodes are met from the first to the last, and so the claims from the last to the first. Of the block that comes next
-// the first address, the bits and the label that it inherits are at hand; the higher halves behind it wait.
-fn push_listed(
-    alloc: Global,
+// Adds the entries of a block with a lone address: its own with the side's label, if it doesn't inherit that, and the
+// address's.
+fn push_lone(entries: &mut Vec<Entry>, lone: &LoneAddress, here: Block, inherited: Option<LabelId>) -> Result<(), AllocError> {
+    let side = push_own(entries, slice::from_ref(&lone.side), here, inherited)?;
+    let address = Block {
+        version: here.version,
+        value: lone.value,
+        len: here.version.width(),
+    };
+    push_own(entries, slice::from_ref(&lone.label), address, Some(side))?;
+    Ok(())
+}
+
+// Adds the entries of a mark that its block has without those of its halves, and answers the label that these inherit, if
+// it has halves.
+#[inline(always)]
+fn push_mark(
     entries: &mut Vec<Entry>,
-    trie: &Trie,
-    claims: &Sets,
-    block: Block,
-) -> Result<(), AllocError>
-    requires labelled { All (λ leaf. IsSome leaf.label) trie.now.leaves }
-    requires claimed { (node : Node) × HasClaims block (outline_of trie.now.nodes) claims.now node }
-    ensures { OnOk result (AddsListed block (outline_of trie.now.nodes) claims.now entries.old.items
-        entries.new.items) }
+    sketch: &Sketch,
+    mark: &Mark,
+    here: Block,
+    inherited: Option<LabelId>,
+) -> Result<Option<LabelId>, AllocError> {
+    match mark {
+        Mark::Leaf(id) => {
+            push_own(entries, slice::from_ref(id), here, inherited)?;
+            Ok(None)
+        }
+        Mark::Lone(number) => {
+            push_lone(entries, &sketch.lones[*number as usize], here, inherited)?;
+            Ok(None)
+        }
+        Mark::Inner(set) => {
+            let label = push_own(entries, sketch.sets.labels(set), here, inherited)?;
+            Ok(Some(label))
+        }
+    }
+}
+
+/// The entries of the shortest list by the sketch of its certificate, by rising first address. The marks are met from the
+/// first to the last. Of the block that comes next the first address, the bits and the label that it inherits are at
+/// hand; the higher halves behind it wait.
+pub fn listed(alloc: Global, sketch: &Sketch, version: Version) -> Result<Vec<Entry>, AllocError>
+    requires { (leaves : List LeafModel) × (node : Node) × IsSketchOf version leaves sketch.now node }
+    ensures { IfOk result (λ entries. (leaves : List LeafModel) (node : Node) → IsSketchOf version leaves sketch.now node
+        → IsListedBy version leaves node entries.items) }
 {
-    let mut first = block.value;
-    let mut len = block.len;
+    let mut entries = Vec::new(alloc);
+    let mut first = 0;
+    let mut len = 0;
     let mut inherited = None;
     let mut waiting: Vec<Waiting> = Vec::new(alloc);
-    let mut left = claims.len();
-    for number in 0..trie.node_count() {
-        let here = block_at(block.version, first, len);
-        match part_at(trie, number) {
-            Part::Labelled(id) => {
-                push_own(entries, slice::from_ref(&id), here, inherited)?;
+    for mark in sketch.marks.as_slice() {
+        let here = block_at(version, first, len);
+        match push_mark(&mut entries, sketch, mark, here, inherited)? {
+            Some(label) => {
+                len += 1;
+                waiting.push(Waiting { len, label })?;
+                inherited = Some(label);
+            }
+            None => {
                 if let Some(next) = waiting.pop() {
                     first += size_of(here);
                     len = next.len;
                     inherited = Some(next.label);
                 }
             }
-            Part::Divided => {
-                left -= 1;
-                let label = push_own(entries, claims.set(left), here, inherited)?;
-                len += 1;
-                waiting.push(Waiting { len, label })?;
-                inherited = Some(label);
-            }
         }
     }
-    Ok(())
-}
-
-/// The entries of the shortest list for a map's trie, by rising first address.
-pub fn listed(alloc: Global, trie: &Trie) -> Result<Vec<Entry>, AllocError>
-    requires { All (λ leaf. IsSome leaf.label) trie.now.leaves }
-    ensures { IfOk result (λ entries. (node : Node) × IsListedBy trie.now.version trie.now.leaves node entries.items) }
-{
-    let sets = claimed_sets(alloc, trie)?;
-    let mut entries = Vec::new(alloc);
-    push_listed(alloc, &mut entries, trie, &sets, trie.root().block())?;
     Ok(entries)
-}
-
-/// The same entries, and the nodes of the certificate.
-pub fn listed_and_certified(alloc: Global, trie: &Trie) -> Result<(Vec<Entry>, Root), AllocError>
-    requires { All (λ leaf. IsSome leaf.label) trie.now.leaves }
-    ensures { IfOk result (λ made. IsListedBy trie.now.version trie.now.leaves made.1 made.0.items) }
-{
-    let claims = claimed(alloc, trie)?;
-    let mut entries = Vec::new(alloc);
-    push_listed(alloc, &mut entries, trie, &claims.sets, trie.root().block())?;
-    let root = certified(alloc, trie, &claims)?;
-    Ok((entries, root))
 }

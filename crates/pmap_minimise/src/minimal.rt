@@ -17,7 +17,9 @@ ghost use Rattle.pmap_minimise.specs.Shortest.{list_with};
 use crate::certifying::push_lines;
 use crate::claiming::claimed;
 use crate::compacting::compacted;
-use crate::listing::{listed, listed_and_certified};
+use crate::listing::listed;
+use crate::sketching::sketched;
+use crate::certifying::certified;
 use label_trie::Trie;
 use pmap_cert::{Certificate, Format, minimal_pair_is_accepted, push_head, write_cert};
 use pmap_text::{Entries, Entry, MapText, Name, PrefixList};
@@ -53,8 +55,9 @@ pub fn minimise(alloc: Global, map: &MapText, trie: &Trie) -> Result<Minimal, Al
     // For their laws: a minimal pair is accepted, and the table's labels are distinct.
     minimal_pair_is_accepted();
     let _labels = map.labels.len();
-    let (items, root) = listed_and_certified(alloc, trie)?;
-    let list = list_with(alloc, map, items)?;
+    let list = shortest(alloc, map)?;
+    let claims = claimed(alloc, trie)?;
+    let root = certified(alloc, trie, &claims)?;
     let labels = map.labels.copy()?;
     let certificate = Certificate::new(map.version, labels, root);
     let top = certificate.root();
@@ -69,10 +72,7 @@ pub fn minimise(alloc: Global, map: &MapText, trie: &Trie) -> Result<Minimal, Al
 /// The list of `minimise` alone, which is made without the certificate's nodes: a shortest prefix list that labels
 /// every address as the map does, with the map's name and label table. The trie is the map's, as `Trie::build` makes
 /// it.
-pub fn shortest(alloc: Global, map: &MapText, trie: &Trie) -> Result<PrefixList, AllocError>
-    requires version { trie.now.version ≡ map.now.version }
-    requires settled { All (IsSettledLeaf (map_of map.now)) trie.now.leaves }
-    requires undivided { All (IsUndivided (map_of map.now)) trie.now.leaves }
+pub fn shortest(alloc: Global, map: &MapText) -> Result<PrefixList, AllocError>
     // With a certificate, which has a text, it is the map's minimal pair.
     ensures minimal { IfOk result (λ list. (c : CertificateModel) × IsMinimalPair (map_of map.now) (list_of list) c
         × HasTextForm c) }
@@ -85,7 +85,8 @@ pub fn shortest(alloc: Global, map: &MapText, trie: &Trie) -> Result<PrefixList,
     // For their laws: a minimal pair is accepted, and the table's labels are distinct.
     minimal_pair_is_accepted();
     let _labels = map.labels.len();
-    let items = listed(alloc, trie)?;
+    let sketch = sketched(alloc, map)?;
+    let items = listed(alloc, &sketch, map.version)?;
     list_with(alloc, map, items)
 }
 
@@ -110,17 +111,15 @@ pub fn certificate_text(alloc: Global, map: &MapText, trie: &Trie) -> Result<Vec
 
 /// The text of the certificate of `minimise` compacted, which is made without the list and without the nodes of the
 /// certificate that it compacts. The trie is the map's, as `Trie::build` makes it.
-pub fn compact_text(alloc: Global, map: &MapText, trie: &Trie) -> Result<Vec<u8>, AllocError>
-    requires version { trie.now.version ≡ map.now.version }
-    requires settled { All (IsSettledLeaf (map_of map.now)) trie.now.leaves }
-    requires undivided { All (IsUndivided (map_of map.now)) trie.now.leaves }
+pub fn compact_text(alloc: Global, map: &MapText) -> Result<Vec<u8>, AllocError>
     // It is the text of the certificate of the map's minimal pair, compacted.
     ensures { IfOk result (λ text. (l : ListModel) × (c : CertificateModel) × IsMinimalPair (map_of map.now) l c
         × HasTextForm c × (text.items ≡ certificate_text (compact c))) }
 {
     // For its law: the table's labels are distinct.
     let _labels = map.labels.len();
-    let root = compacted(alloc, trie)?;
+    let sketch = sketched(alloc, map)?;
+    let root = compacted(alloc, &sketch)?;
     let labels = map.labels.copy()?;
     let certificate = Certificate::of_format(Format::Two, map.version, labels, root);
     write_cert(alloc, &certificate)

@@ -97,3 +97,22 @@ pub fn exact_set(
     }
     Ok((shared, false))
 }
+
+/// Whether no label is in both sets.
+pub fn are_apart(low: &[LabelId], high: &[LabelId]) -> bool {
+    let mut lower = low;
+    let mut higher = high;
+    while let Some((x, lower_rest)) = lower.split_first() {
+        let Some((y, higher_rest)) = higher.split_first() else {
+            return true;
+        };
+        if x.0 < y.0 {
+            lower = lower_rest;
+        } else if y.0 < x.0 {
+            higher = higher_rest;
+        } else {
+            return false;
+        }
+    }
+    true
+}

@@ -14,10 +14,9 @@ use std::alloc::{AllocError, Global};
 pub fn shrunk_text(alloc: Global, map: &MapText, printed: Shrunk) -> Result<Vec<u8>, AllocError>
     ensures { IfOk result (λ out. PrintsMinimal printed (map_of map.now) (Ok out.items)) }
 {
-    let trie = Trie::build(alloc, map)?;
     match printed {
-        Shrunk::List => print_list(alloc, &shortest(alloc, map, &trie)?),
-        Shrunk::Certificate => certificate_text(alloc, map, &trie),
-        Shrunk::Compact => compact_text(alloc, map, &trie),
+        Shrunk::List => print_list(alloc, &shortest(alloc, map)?),
+        Shrunk::Certificate => certificate_text(alloc, map, &Trie::build(alloc, map)?),
+        Shrunk::Compact => compact_text(alloc, map),
     }
 }
