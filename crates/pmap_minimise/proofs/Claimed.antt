@@ -6,7 +6,7 @@ use Rattle.std.proofs.lemmas.List.{append-nil, append_assoc, map_push, same_from
 use Rattle.pmap_text.specs.declared.label.LabelId.{LabelId}
 use Rattle.pmap_cert.specs.CertificateForm.{IsRising}
 use Rattle.pmap_cert.specs.Node.{Inner, Leaf, Node, cost_of, set_of}
-use Rattle.pmap_minimise.specs.Claiming.{AreClaimsFrom, AreClaimsOf, AreHalvesOf, AreSetsFrom, AreSetsOf, HoldsLabel, IsCostAdded, IsCostReady, IsHalfAdded, IsHalfJoined, IsHalfReady, JoinsHalves, all_claims, claims_of, exact_cost, sets_of}
+use Rattle.pmap_minimise.specs.Claiming.{AreClaimsFrom, AreClaimsOf, AreHalvesOf, AreSetsFrom, AreSetsOf, HoldsLabel, IsCostAdded, IsCostReady, IsHalfAdded, IsHalfHeld, IsHalfJoined, IsHalfReady, JoinsHalves, all_claims, claims_of, exact_cost, sets_of}
 use Rattle.pmap_minimise.specs.Kept.{AreSetsKept, AreTwoLabels, IsHeldAs, IsHeldIn, IsSetAdded, IsSetOf, larger_in, set_by, sets_in, two_of}
 use Rattle.pmap_minimise.specs.Numbers.{Claim, IsExactBy, IsExactSet, IsExactSetBy, IsUnion, common_numbers, has_number, node_claim}
 use Rattle.pmap_minimise.specs.Outline.{IsOutline, IsReady}
@@ -21,7 +21,7 @@ use Rattle.pmap_minimise.proofs.Pieces.{held-added, held-grown, same-added, set-
 use Rattle.pmap_minimise.proofs.Priced.{claims-all, claims-count}
 
 -- the exact set of two halves makes the exact claim
-exact-by : (low_cost high_cost : ℕ) (low high shared set : List ℕ) (apart : Bool) → IsExactSetBy low high apart shared set
+pub exact-by : (low_cost high_cost : ℕ) (low high shared set : List ℕ) (apart : Bool) → IsExactSetBy low high apart shared set
     → IsExactBy low_cost high_cost low high shared (exact_cost low_cost high_cost apart) set
 exact-by low_cost high_cost low high [] set apart exact = (ap (exact_cost low_cost high_cost) exact.0, exact.1, exact.2)
 exact-by low_cost high_cost low high (n ∷ ns) set apart exact = (ap (exact_cost low_cost high_cost) exact.0, exact.1)
@@ -79,27 +79,14 @@ two-exact low high two = by (cases_lt low.code.0 high.code.0)
         (λ p. other-way (p high.code.0 || (p low.code.0 || false)) (p low.code.0) (p high.code.0) refl)
         (omega arith, omega arith, (omega arith, omega arith, tt)))
 
-pub two-joined : (old middle new : Sets) (low high half : SetId) → AreTwoLabels low high → IsHeldAs old middle (two_of low high) half → IsSetAdded middle new half
-    → IsHalfJoined low high old new half true
-two-joined old middle new low high half two held add = record {
-  set = two_of low high;
-  exact =
-      subst (λ (s : List ℕ). IsExactSet s (set_by (larger_in old) high) true (two_of low high)) (sym (set-of_label (larger_in old) low two.low_is))
-      (subst (λ (s : List ℕ). IsExactSet (low.code.0 ∷ []) s true (two_of low high)) (sym (set-of_label (larger_in old) high two.high_is)) (two-exact low high two));
-  added = held-added old middle new (two_of low high) half held add;
-}
-
--- and of others
-pub set-joined : (old middle new : Sets) (low high half : SetId) (apart : Bool) (items set : List ℕ) → IsExactSet (set_by (larger_in old) low) (set_by (larger_in old) high) apart items → set ≡ items
-    → IsHeldAs old middle set half → IsSetAdded middle new half → IsHalfJoined low high old new half apart
-set-joined old middle new low high half apart items set exact is held add = record {
-  set = set;
-  exact = subst (IsExactSet (set_by (larger_in old) low) (set_by (larger_in old) high) apart) (sym is) exact;
-  added = held-added old middle new set half held add;
-}
+-- what is kept for two halves, and then added
+pub half-added : (old middle new : Sets) (low high half : SetId) (apart : Bool) → IsHalfHeld low high old middle half apart → IsSetAdded middle new half
+    → IsHalfJoined low high old new half apart
+half-added old middle new low high half apart is add =
+    record { set = is.set; exact = is.exact; added = held-added old middle new is.set half is.held add }
 
 -- halves and their nodes
-half-grown : (larger more : List (List ℕ)) (half : SetId) (set : List ℕ) → IsSetOf larger half set → IsSetOf (larger ++ more) half set
+pub half-grown : (larger more : List (List ℕ)) (half : SetId) (set : List ℕ) → IsSetOf larger half set → IsSetOf (larger ++ more) half set
 half-grown larger more half set is = record { held = held-grown larger more half is.held; set_is = set-grown larger more half is.held ∙ is.set_is }
 
 halves-grown : (larger more : List (List ℕ)) (nodes : List Node) (halves : List SetId) → AreHalvesOf larger nodes halves → AreHalvesOf (larger ++ more) nodes halves

@@ -10,6 +10,8 @@ pub mod Planned
 pub mod Pieces
 pub mod Priced
 pub mod Claimed
+pub mod Lone
+pub mod Sketched
 pub mod Waiting
 pub mod InRow
 pub mod Listed

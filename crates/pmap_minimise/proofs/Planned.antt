@@ -17,16 +17,10 @@ use Rattle.pmap_cert.specs.Node.{Chain, Inner, Leaf, Node}
 use Rattle.pmap_minimise.specs.Certified.{IsCertified}
 use Rattle.pmap_minimise.specs.Compacting.{HasPart, StandsAt, inners}
 use Rattle.pmap_minimise.specs.Numbers.{IsJoined}
-use Rattle.pmap_minimise.specs.Outline.{Fork, IsNodeFor, IsOutline, Plan, Tip, leaves_part, outline_of, parts_of}
+use Rattle.pmap_minimise.specs.Outline.{Fork, IsNodeFor, IsOutline, Plan, Tip, leaves_part, outline_of, parts_of, plan_of}
 use Rattle.pmap_minimise.specs.declared.outline.Part.{Part}
 use Rattle.pmap_minimise.specs.declared.outline.Part.TheVariants.{Divided, Labelled}
 use Rattle.pmap_minimise.proofs.Joined.{all-left, all-right, joined-certified, leaf-certified}
-
--- the tree of a trie whose leaves have labels
-plan_of : Tree → Plan
-plan_of (TreeTip None) = Tip (record { 0 = 0 })
-plan_of (TreeTip (Some id)) = Tip id
-plan_of (TreeFork low high) = Fork (plan_of low) (plan_of high)
 
 abbrev HasLabel : LeafModel → Type 0
 HasLabel leaf = IsSome leaf.label
@@ -67,7 +61,7 @@ tree-parts (TreeFork low high) n q labelled =
     ∙ ap (λ (l : List Part). parts_of (plan_of low) ++ l) (tree-parts high (suc n) (2 * q + 1) labelled.1))
 
 -- the node of a trie's tree is the certificate's
-tree-certified : (t : Tree) (n q h : ℕ) (node : Node) → IsLabelled t → HasRoom t h → IsNodeFor (plan_of t) node → length (leaves_of t n q) < 2 ^ 32
+pub tree-certified : (t : Tree) (n q h : ℕ) (node : Node) → IsLabelled t → HasRoom t h → IsNodeFor (plan_of t) node → length (leaves_of t n q) < 2 ^ 32
     → IsCertified n q h (leaves_of t n q) node
 unfolding plan_of
 tree-certified (TreeTip None) n q h node labelled room is few = absurd (true≢false (sym labelled))

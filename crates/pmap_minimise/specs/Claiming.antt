@@ -40,6 +40,12 @@ abbrev pub IsHalfReady : Part → List (List ℕ) → List SetId → Type 0
 IsHalfReady (Labelled id) larger halves = Unit {0}
 IsHalfReady Divided larger halves = HasTwoHalves larger halves
 
+-- the exact set of two halves is kept, and the half stands for that
+pub record IsHalfHeld (low high : SetId) (old new : Sets) (half : SetId) (apart : Bool) : Type 0 where
+  pub set : List ℕ
+  pub exact : IsExactSet (set_by (larger_in old) low) (set_by (larger_in old) high) apart set
+  pub held : IsHeldAs old new set half
+
 -- the exact set of two halves was added, and the half stands for that
 pub record IsHalfJoined (low high : SetId) (old new : Sets) (half : SetId) (apart : Bool) : Type 0 where
   pub set : List ℕ

@@ -8,6 +8,7 @@ pub mod Kept
 pub mod Claiming
 pub mod Row
 pub mod Sketch
+pub mod Sketching
 pub mod Listing
 pub mod MadeLines
 pub mod Compacting

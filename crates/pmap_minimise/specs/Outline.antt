@@ -1,5 +1,6 @@
 use Rattle.std.specs.Prelude.{◌≡◌, ℕ, ◌+◌, ◌^◌, ◌<◌, ◌≤◌, List, [], ◌∷◌, ◌++◌, Option, None, Some, drop, length, map}
 use Rattle.pmap_text.specs.declared.label.LabelId.{LabelId}
+use Rattle.label_trie.specs.Tree.{Fork as TreeFork, Tip as TreeTip, Tree}
 use Rattle.label_trie.specs.TrieModel.{LeafModel, NodeModel}
 use Rattle.pmap_minimise.specs.Numbers.{IsJoined}
 use Rattle.pmap_minimise.specs.declared.outline.Part.{Part}
@@ -25,6 +26,12 @@ outline_of nodes = map (λ node. leaves_part node.leaves) nodes
 pub data Plan : Type 0 where
   Tip : (id : LabelId) → Plan
   Fork : (low high : Plan) → Plan
+
+-- that of a trie's tree whose leaves have labels
+unfoldable pub plan_of : Tree → Plan
+plan_of (TreeTip None) = Tip (record { 0 = 0 })
+plan_of (TreeTip (Some id)) = Tip id
+plan_of (TreeFork low high) = Fork (plan_of low) (plan_of high)
 
 -- its parts in preorder
 abbrev pub parts_of : Plan → List Part

@@ -1,5 +1,8 @@
 //! A walk over the stretches of a map that sees the two stretches behind the one where it stands.
 ghost use Rattle.std.specs.Prelude.{◌≡◌, ◌+◌, ◌<◌, ◌≤◌, ◌^◌, Some, IfOk, MatchOption, OnOk};
+ghost use Rattle.prefix_keys.specs.Version.{width_of};
+ghost use Rattle.pmap_text.specs.Stretches.{HasSameStatements, StandsAt};
+ghost use Rattle.pmap_minimise.specs.Sketching.{Follows, IsAhead, IsAlone, IsStretchOf};
 
 use pmap_text::{LabelId, MapText, Stretches};
 use std::alloc::{AllocError, Global};
@@ -21,7 +24,7 @@ pub struct Ahead<'a> {
     pub walk: Stretches<'a>,
 }
 
-/// A single address with a label between two stretches of another one.
+/// A single address with a label between two stretches of another one, the side's.
 #[derive(Clone, Copy)]
 pub struct Alone {
     pub value: u128,
@@ -30,7 +33,10 @@ pub struct Alone {
 }
 
 // The stretch where the walk stands.
-fn stretch_at(walk: &Stretches) -> Stretch {
+fn stretch_at(walk: &Stretches) -> Stretch
+    ensures is { IsStretchOf walk.now result }
+    ensures stretch { StandsAt walk.now }
+{
     Stretch {
         first: walk.first(),
         last: walk.last(),
@@ -39,7 +45,10 @@ fn stretch_at(walk: &Stretches) -> Stretch {
 }
 
 // Goes on to the next stretch, if there is one.
-fn go_on(walk: &mut Stretches) -> Result<(), AllocError> {
+fn go_on(walk: &mut Stretches) -> Result<(), AllocError>
+    ensures same { HasSameStatements walk.old walk.new }
+    ensures follows { OnOk result (Follows (width_of walk.old.version) walk.old.last walk.new.first) }
+{
     if walk.is_at_end() {
         return Ok(());
     }
@@ -49,7 +58,13 @@ fn go_on(walk: &mut Stretches) -> Result<(), AllocError> {
 
 impl<'a> Ahead<'a> {
     /// A walk that stands at the first stretch of a map.
-    pub fn of_map(alloc: Global, map: &'a MapText) -> Result<Ahead<'a>, AllocError> {
+    pub fn of_map(alloc: Global, map: &'a MapText) -> Result<Ahead<'a>, AllocError>
+        ensures ahead { IfOk result (λ a. IsAhead a) }
+        ensures version { IfOk result (λ a. a.walk.version ≡ map.now.version) }
+        ensures default { IfOk result (λ a. a.walk.default ≡ Some map.now.default) }
+        ensures statements { IfOk result (λ a. a.walk.statements ≡ map.now.statements) }
+        ensures first { IfOk result (λ a. a.at.first ≡ 0) }
+    {
         let mut walk = Stretches::of_map(alloc, map)?;
         let at = stretch_at(&walk);
         go_on(&mut walk)?;
@@ -61,7 +76,18 @@ impl<'a> Ahead<'a> {
 
 impl Ahead<'_> {
     /// Goes on to the stretch that has the address: this one or the next.
-    pub fn reach(&mut self, address: u128) -> Result<(), AllocError> {
+    pub fn reach(&mut self, address: u128) -> Result<(), AllocError>
+        requires ahead { IsAhead self.old }
+        requires within { address < 2 ^ width_of self.old.walk.version }
+        requires begun { self.old.at.first ≤ address }
+        requires near { address ≤ self.old.at.last + 1 }
+        ensures same { HasSameStatements self.old.walk self.new.walk }
+        ensures ahead { OnOk result (IsAhead self.new) }
+        ensures begun { OnOk result (self.new.at.first ≤ address) }
+        ensures here { OnOk result (address ≤ self.new.at.last) }
+        ensures on { OnOk result (self.old.at.last < address → self.new.at ≡ self.old.next) }
+        ensures next { OnOk result (self.old.at.last < address → IsStretchOf self.old.walk self.new.next) }
+    {
         if address <= self.at.last {
             return Ok(());
         }
@@ -71,8 +97,12 @@ impl Ahead<'_> {
     }
 
     /// The next stretch, if it is a single address before this one, and the stretch behind it goes on to that and has the
-    /// label of the one where the walk stands, but not the next one's.
-    pub fn alone(&self, last: u128) -> Option<Alone> {
+    /// label of the one where the walk stands, which is not the next one's.
+    pub fn alone(&self, last: u128) -> Option<Alone>
+        requires ahead { IsAhead self.now }
+        requires within { last < 2 ^ width_of self.now.walk.version }
+        ensures { MatchOption result (Unit {0}) (λ x. IsAlone self.now last x) }
+    {
         let value = self.next.first;
         if self.next.last != value || last <= value || self.at.last >= value {
             return None;

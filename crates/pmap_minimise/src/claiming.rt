@@ -4,8 +4,8 @@ ghost use Rattle.pmap_cert.specs.CertificateForm.{IsRising};
 ghost use Rattle.pmap_cert.specs.Node.{Node};
 ghost use Rattle.pmap_minimise.specs.Kept.{AreSetsKept, IsHeldIn, larger_in, set_by};
 ghost use Rattle.pmap_minimise.specs.Numbers.{IsExactSet};
-ghost use Rattle.pmap_minimise.specs.Claiming.{IsCostAdded, IsCostReady, IsHalfAdded, IsHalfJoined, IsHalfReady, IsJoinedPushed};
-ghost use Rattle.pmap_minimise.specs.Listing.{AreSetsClaimed, IsClaimed};
+ghost use Rattle.pmap_minimise.specs.Claiming.{IsCostAdded, IsCostReady, IsHalfAdded, IsHalfHeld, IsHalfJoined, IsHalfReady, IsJoinedPushed};
+ghost use Rattle.pmap_minimise.specs.Listing.{IsClaimed};
 ghost use Rattle.pmap_minimise.specs.Outline.{outline_of};
 
 use crate::claim_list::Claims;
@@ -151,24 +151,7 @@ fn push_cost(
     Ok(())
 }
 
-/// The sets that the inner nodes of the certificate of a trie claim, from its last node to its first.
-#[inline(never)]
-pub fn claimed_sets(alloc: Global, trie: &Trie) -> Result<Sets, AllocError>
-    requires { All (λ leaf. IsSome leaf.label) trie.now.leaves }
-    ensures { IfOk result (λ sets. (node : Node)
-        × AreSetsClaimed trie.now.version trie.now.leaves (outline_of trie.now.nodes) sets node) }
-{
-    let mut left = trie.node_count();
-    let mut sets = Sets::with_capacity(alloc, left as usize / 2)?;
-    let mut halves = Vec::new(alloc);
-    while left > 0 {
-        left -= 1;
-        push_half(alloc, &mut halves, &mut sets, part_at(trie, left))?;
-    }
-    Ok(sets)
-}
-
-/// What these nodes claim, their costs too.
+/// What the inner nodes of the certificate of a trie claim, from its last node to its first.
 #[inline(never)]
 pub fn claimed(alloc: Global, trie: &Trie) -> Result<Claims, AllocError>
     requires { All (λ leaf. IsSome leaf.label) trie.now.leaves }
