@@ -24,6 +24,7 @@ use Rattle.pmap_cert.specs.declared.format.Format.TheVariants.{One}
 use Rattle.label_trie.specs.Leaf.{number_of}
 use Rattle.label_trie.specs.TrieModel.{IsSettledLeaf, IsUndivided, LeafModel}
 use Rattle.pmap_cert.specs.CertificateForm.{HasTextForm}
+use Rattle.pmap_cert.proofs.Alike.{list-unique}
 use Rattle.pmap_cert.proofs.CompactNodes.{compact-one}
 use Rattle.pmap_cert.proofs.Plain.{number-form, number-plain, plain-tree_of}
 use Rattle.pmap_cert.proofs.Written.{node_form, whole_text}
@@ -105,11 +106,20 @@ root-form m root form ok = record {
 }
 
 -- the numbers of a root fit the map's label table
-certified-form : (m : MapText) (version : Version) (leaves : List LeafModel) (root : Node) → IsCertified 0 0 (width_of version) leaves root → version ≡ m.version
+pub certified-form : (m : MapText) (version : Version) (leaves : List LeafModel) (root : Node) → IsCertified 0 0 (width_of version) leaves root → version ≡ m.version
     → All (IsSettledLeaf (map_of m)) leaves → HasNumberForm (length m.labels) root (width_of m.version)
 certified-form m version leaves root certified same settled =
     let known = All-weaker (IsSettledLeaf (map_of m)) (IsKnownLeaf (length m.labels)) (settled-known (map_of m)) leaves settled in
     subst (λ (v : Version). HasNumberForm (length m.labels) root (width_of v)) same (certified.form (length m.labels) known)
+
+-- a root's certificate is part of the map's minimal pair with the list of any other
+pub certificate-pair : (m : MapText) (version : Version) (leaves : List LeafModel) (root : Node) (l : ListModel) (d c : CertificateModel) → IsCertified 0 0 (width_of version) leaves root
+    → version ≡ m.version → IsLabelTable m.labels → All (IsSettledLeaf (map_of m)) leaves → All (IsUndivided (map_of m)) leaves → c ≡ root_certificate m root → IsMinimalPair (map_of m) l d
+    → IsMinimalPair (map_of m) l c
+certificate-pair m version leaves root l d c certified same ok settled undivided c_is pair =
+    let tree = tree_of m.labels root in
+    let own = minimal (map_of m) (shortest_list (map_of m) tree) c tree (certified.stands (map_of m) ok settled undivided) refl c_is in
+    subst (λ (k : ListModel). IsMinimalPair (map_of m) k c) (sym (list-unique (map_of m) l (shortest_list (map_of m) tree) d c pair own (own-labels m))) own
 
 -- the text of a root's certificate that is part of the map's minimal pair
 pub claimed-text : (m : MapText) (version : Version) (leaves : List LeafModel) (parts : List Part) (claims : Claims) (root : Node) (head text : List ℕ) → IsClaimed version leaves parts claims root

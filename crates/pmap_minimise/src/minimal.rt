@@ -14,12 +14,11 @@ ghost use Rattle.pmap_cert.specs.MinimalPair.{IsMinimalPair};
 ghost use Rattle.label_trie.specs.TrieModel.{IsSettledLeaf, IsUndivided};
 ghost use Rattle.pmap_minimise.specs.Shortest.{list_with};
 
-use crate::certifying::push_lines;
+use crate::certifying::{certified, push_lines};
 use crate::claiming::claimed;
 use crate::compacting::compacted;
 use crate::listing::listed;
 use crate::sketching::sketched;
-use crate::certifying::certified;
 use label_trie::Trie;
 use pmap_cert::{Certificate, Format, minimal_pair_is_accepted, push_head, write_cert};
 use pmap_text::{Entries, Entry, MapText, Name, PrefixList};
@@ -69,9 +68,8 @@ pub fn minimise(alloc: Global, map: &MapText, trie: &Trie) -> Result<Minimal, Al
     })
 }
 
-/// The list of `minimise` alone, which is made without the certificate's nodes: a shortest prefix list that labels
-/// every address as the map does, with the map's name and label table. The trie is the map's, as `Trie::build` makes
-/// it.
+/// The list of `minimise` alone, which is made without a trie and without the certificate's nodes: a shortest prefix list
+/// that labels every address as the map does, with the map's name and label table.
 pub fn shortest(alloc: Global, map: &MapText) -> Result<PrefixList, AllocError>
     // With a certificate, which has a text, it is the map's minimal pair.
     ensures minimal { IfOk result (λ list. (c : CertificateModel) × IsMinimalPair (map_of map.now) (list_of list) c
@@ -109,8 +107,8 @@ pub fn certificate_text(alloc: Global, map: &MapText, trie: &Trie) -> Result<Vec
     Ok(out)
 }
 
-/// The text of the certificate of `minimise` compacted, which is made without the list and without the nodes of the
-/// certificate that it compacts. The trie is the map's, as `Trie::build` makes it.
+/// The text of the certificate of `minimise` compacted, which is made without a trie, without the list and without the
+/// nodes of the certificate that it compacts.
 pub fn compact_text(alloc: Global, map: &MapText) -> Result<Vec<u8>, AllocError>
     // It is the text of the certificate of the map's minimal pair, compacted.
     ensures { IfOk result (λ text. (l : ListModel) × (c : CertificateModel) × IsMinimalPair (map_of map.now) l c

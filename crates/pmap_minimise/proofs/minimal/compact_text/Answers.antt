@@ -1,4 +1,4 @@
-use Rattle.std.proofs.Common.{◌≡◌, ◌∙◌, List, length, subst, sym}
+use Rattle.std.proofs.Common.{◌≡◌, ◌∙◌, List, length, refl, subst, sym}
 use Rattle.std.proofs.lemmas.Result.{IfOk-weaker}
 use Rattle.prefix_keys.specs.Version.{width_of}
 use Rattle.pmap_text.specs.ListModel.{ListModel}
@@ -18,20 +18,22 @@ use Rattle.pmap_minimise.proofs.minimal.compact_text.Goals as goal
 pub of_format-certificate-requires-clause-form : goal.of_format-certificate-requires-clause-form
 of_format-certificate-requires-clause-form c =
     let m = c.args.map.now in
-    let made = c.in_ok-root.ensures in
+    let sketch = c.in_ok-sketch.ensures in
+    let compacted = c.in_ok-root.ensures m.version sketch.leaves sketch.node sketch.sketch in
     subst (λ (t : List Label). HasChainForm (length t) c.in_ok-root.root (width_of m.version)) (sym c.in_ok-labels.ensures)
-    (compacted-form m c.args.trie.now.version c.args.trie.now.leaves made.0 c.in_ok-root.root made.1 made.2 c.requires.version c.requires.settled)
+    (compacted-form m m.version sketch.leaves sketch.node c.in_ok-root.root sketch.sketch.certified compacted refl sketch.settled)
 
 pub returns : goal.returns
 returns c =
     let m = c.args.map.now in
-    let made = c.in_ok-root.ensures in
+    let sketch = c.in_ok-sketch.ensures in
+    let compacted = c.in_ok-root.ensures m.version sketch.leaves sketch.node sketch.sketch in
     let certificate = c.of_format-certificate.ensures in
     let labels = certificate.labels ∙ c.in_ok-labels.ensures in
     let same : certificate_of c.of_format-certificate.result ≡ record { format = 2; version = m.version; table = m.labels; root = tree_of m.labels c.in_ok-root.root } =
     λ i. record { format = format_number (certificate.format i); version = certificate.version i; table = labels i; root = tree_of (labels i) (certificate.root i) } in
     IfOk-weaker c.write_cert.result (λ text. text.items ≡ certificate_text (certificate_of c.of_format-certificate.result))
     (λ text. (l : ListModel) × (d : CertificateModel) × IsMinimalPair (map_of m) l d × HasTextForm d × (text.items ≡ certificate_text (compact d)))
-    (λ text is. compacted-text m c.args.trie.now.version c.args.trie.now.leaves made.0 c.in_ok-root.root (certificate_of c.of_format-certificate.result) text.items made.1 made.2
-    c.requires.version c.len-labels.ensures.table c.requires.settled c.requires.undivided same is)
+    (λ text is. compacted-text m m.version sketch.leaves sketch.node c.in_ok-root.root (certificate_of c.of_format-certificate.result) text.items sketch.sketch.certified compacted
+    refl c.len-labels.ensures.table sketch.settled sketch.undivided same is)
     c.write_cert.ensures
