@@ -126,7 +126,7 @@ pub leaf_is_not_inner : (label : Option LabelId) (high : ℕ) → leaf_node labe
 leaf_is_not_inner None high e = cc
 leaf_is_not_inner (Some id) high e = cc
 
-pub inner_number : (a b : ℕ) → ◌≡◌ {A = Node} (Inner a) (Inner b) → a ≡ b
+inner_number : (a b : ℕ) → ◌≡◌ {A = Node} (Inner a) (Inner b) → a ≡ b
 inner_number a b e = cc
 
 inner_tree : (nodes : List Node) (at high : ℕ) (t : Tree) → tree_at nodes at ≡ t → IsAt nodes at t → size t ≤ length nodes

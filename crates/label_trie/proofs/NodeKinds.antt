@@ -12,7 +12,7 @@ use Rattle.label_trie.specs.declared.kind.Kind.{Kind}
 use Rattle.label_trie.specs.declared.kind.Kind.TheVariants.{Divided, Leaf}
 use Rattle.label_trie.specs.declared.node.Node.{Node}
 use Rattle.label_trie.specs.declared.node.Node.TheVariants.{Inner}
-use Rattle.label_trie.proofs.Encoded.{inner_number, leaf_is_not_inner, leaf_tree, size_leaves, size_pos}
+use Rattle.label_trie.proofs.Encoded.{leaf_is_not_inner, leaf_tree, size_leaves, size_pos}
 use Rattle.label_trie.proofs.NodeLeaves.{length_leaves}
 use Rattle.label_trie.proofs.Places.{whole_nodes}
 
@@ -64,12 +64,9 @@ module _ (W : ℕ) (nodes : List Node) (number : ℕ) (x : Node) (trie : IsTrie 
   there-is : slice_get nodes number ≡ Some x
   there-is = slice_get-get_or nodes number x inside ∙ ap Some (sym is)
 
-  top-at : (at : ℕ) (t : Tree) (n q : ℕ) → HasNodes models at t n q → slice_get models at ≡ Some (top_of t n q)
-  top-at at (Tip label) n q known = known
-  top-at at (Fork low high) n q known = known.0
-
   top-known : (t : Tree) (n q : ℕ) → HasNodes models number t n q → slice_get models number ≡ Some (top_of t n q)
-  top-known t n q known = top-at number t n q known
+  top-known (Tip label) n q known = known
+  top-known (Fork low high) n q known = known.0
 
   kind-by : (t : Tree) (n q : ℕ) (kind : Kind) → HasNodes models number t n q → IsKindOf (top_of t n q) kind → ForSome (slice_get models number) (λ node. IsKindOf node kind)
   kind-by t n q kind known holds =
@@ -92,30 +89,3 @@ module _ (W : ℕ) (nodes : List Node) (number : ℕ) (x : Node) (trie : IsTrie 
   kind-divided high inner =
       let there = tree_there in
       kind-by there.tree there.bits there.block Divided there.known (two-leaves there.tree there.bits there.block high there.here (there-is ∙ ap Some inner))
-
-  -- a leaf is not divided
-  pub leaf-undivided : (label : Option LabelId) → x ≡ leaf_node label → ForSome (slice_get models number) (λ node. 2 ≤ length node.leaves) → ⊥
-  leaf-undivided label leaf divided =
-      let there = tree_there in
-      let tip : there.tree ≡ Tip label = leaf_tree nodes number label there.tree there.here (there-is ∙ ap Some leaf) in
-      let known = subst (λ (t : Tree). HasNodes models number t there.bits there.block) tip there.known in
-      let two = divided (top_of (Tip label) there.bits there.block) known in
-      omega arith
-
-  -- behind a divided node stand the nodes of its lower half, and behind these that of its higher half
-  high-by : (t : Tree) (n q high : ℕ) → IsAt nodes number t → HasNodes models number t n q → slice_get nodes number ≡ Some (Inner high)
-      → ForSome (slice_get models (number + 1)) (λ low. high + 1 ≡ number + 1 + 2 * length low.leaves)
-  high-by (Tip label) n q high here known node =
-      absurd (leaf_is_not_inner label high (same_Some (leaf_node label) (Inner high) (sym here ∙ node)))
-  high-by (Fork low up) n q high here known node =
-      let high_is : high ≡ number + 1 + size low = inner_number high (number + 1 + size low) (same_Some (Inner high) (Inner (number + 1 + size low)) (sym node ∙ here.0)) in
-      let count = length_leaves low (suc n) (2 * q) in
-      let own : high + 1 ≡ number + 1 + 2 * length (leaves_of low (suc n) (2 * q)) = omega (arith, high_is, count, size_leaves low) in
-      λ model e.
-      subst (λ (m : NodeModel). high + 1 ≡ number + 1 + 2 * length m.leaves)
-      (same_Some (top_of low (suc n) (2 * q)) model (sym (top-at (number + 1) low (suc n) (2 * q) known.1) ∙ e)) own
-
-  pub number-of-high : (high : ℕ) → x ≡ Inner high → ForSome (slice_get models (number + 1)) (λ low. high + 1 ≡ number + 1 + 2 * length low.leaves)
-  number-of-high high inner =
-      let there = tree_there in
-      high-by there.tree there.bits there.block high there.here there.known (there-is ∙ ap Some inner)

@@ -138,22 +138,6 @@ impl Trie {
         }
     }
 
-    /// The number of the node of the higher half of a block, where the node with this number is divided. That of the
-    /// lower half has the next number.
-    pub fn high_number(&self, number: u32) -> u32
-        requires inside { number < length self.now.nodes }
-        requires divided { ForSome (slice_get self.now.nodes number) (λ node. 2 ≤ length node.leaves) }
-        // Between the two stand the nodes of the lower half, which are one less than twice its leaves.
-        ensures { ForSome (slice_get self.now.nodes (number + 1))
-            (λ low. result + 1 ≡ number + 1 + 2 * length low.leaves) }
-    {
-        match self.nodes[number as usize] {
-            Node::Inner(high_number) => high_number,
-            Node::Labelled(_) => unreachable!(),
-            Node::Unlabelled => unreachable!(),
-        }
-    }
-
     /// The leaves in rising order of their blocks.
     pub fn leaves(&self, alloc: Global) -> Result<Leaves, AllocError>
         ensures version { IfOk result (All (λ leaf. leaf.block.version ≡ self.now.version)) }
