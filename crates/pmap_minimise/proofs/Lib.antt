@@ -12,6 +12,7 @@ pub mod Priced
 pub mod Claimed
 pub mod Waiting
 pub mod InRow
+pub mod LoneEntries
 pub mod Listed
 pub mod ListedAt
 pub mod MadeLines
