@@ -1,5 +1,5 @@
 -- The entries that are listed along the marks of a sketch.
-use Rattle.std.proofs.Common.{◌≡◌, ℕ, zero, suc, ◌+◌, ◌-◌, ◌*◌, ◌^◌, ◌<◌, ◌≤◌, ◌⊎◌, ◌∙◌, List, [], ◌∷◌, ◌++◌, Option, Some, None, All, IsSome, drop, inl, inr, length, map, slice_get, refl, sym, ap, subst, arith, length-append}
+use Rattle.std.proofs.Common.{◌≡◌, ℕ, zero, suc, ◌+◌, ◌-◌, ◌*◌, ◌^◌, ◌<◌, ◌≤◌, ◌∙◌, List, [], ◌∷◌, ◌++◌, Some, None, All, IsSome, drop, inl, inr, length, map, slice_get, refl, sym, ap, subst, arith, length-append}
 use Rattle.std.proofs.lemmas.List.{append-nil, append_assoc, drop_all, map_push, same_from_push}
 use Rattle.std.proofs.lemmas.List.Elements.{All-from_recursion, All-head, All-push}
 use Rattle.std.proofs.lemmas.Option.{same_Some}
@@ -12,15 +12,15 @@ use Rattle.pmap_cert.specs.Node.{Chain, Inner, Leaf, Node, set_of}
 use Rattle.label_trie.specs.Kind.{IsOfTree}
 use Rattle.label_trie.specs.Leaf.{number_of}
 use Rattle.label_trie.specs.Parts.{IsHalf}
-use Rattle.label_trie.specs.TrieModel.{LeafModel, TrieModel}
+use Rattle.label_trie.specs.TrieModel.{TrieModel}
 use Rattle.pmap_minimise.specs.Claiming.{AreClaimsOf, AreSetsOf}
 use Rattle.pmap_minimise.specs.Entered.{AddsEntries}
-use Rattle.pmap_minimise.specs.Kept.{AreSetsKept, IsSetOf, larger_in, set_by}
-use Rattle.pmap_minimise.specs.Listing.{AddsMark, AddsVisit, AreHalvesPut, AreInTwo, AreMarksLeft, AreSetsClaimed, HandsOn, IsClaimed, IsListing, IsLoneIn, IsMarkFor, IsSoundVisit, Visit, node_of_lone}
+use Rattle.pmap_minimise.specs.Kept.{AreSetsKept, IsSetOf, larger_in}
+use Rattle.pmap_minimise.specs.Listing.{AddsMark, AddsVisit, AreHalvesPut, AreMarksLeft, AreSetsClaimed, IsClaimed, IsListing, IsMarkFor, IsSoundVisit, Visit}
 use Rattle.pmap_minimise.specs.Numbers.{HasHalves, IsOwn, IsSound, numbers_of}
 use Rattle.pmap_minimise.specs.Outline.{outline_of}
 use Rattle.pmap_minimise.specs.Row.{Heir}
-use Rattle.pmap_minimise.specs.Sketch.{AreMarks, IsInnerMark, IsLoneMark}
+use Rattle.pmap_minimise.specs.Sketch.{AreMarks, IsLoneMark}
 use Rattle.pmap_minimise.specs.Walk.{AddsAll}
 use Rattle.pmap_minimise.specs.declared.claim_list.Claims.{Claims}
 use Rattle.pmap_minimise.specs.declared.set_list.SetId.{SetId}
@@ -196,20 +196,21 @@ half-marks W larger lones side block half is node marks q q_is are =
     subst (λ (n : ℕ). AreMarks W larger lones n (number_of half) node marks) len
     (subst (λ (r : ℕ). AreMarks W larger lones (suc block.len) r node marks) (q_is ∙ sym is.number) are)
 
--- no mark is left of no visits alone
-left-none : (W : ℕ) (larger : List (List ℕ)) (lones : List LoneAddress) (n q : ℕ) (node : Node) (marks : List Mark) → AreMarks W larger lones n q node marks → 0 < length marks
-left-none W larger lones n q (Leaf number) marks are = let count = ap length are in omega arith
-left-none W larger lones n q (Inner cost set lower upper) marks are =
+-- a node has a mark at least
+some-mark : (W : ℕ) (larger : List (List ℕ)) (lones : List LoneAddress) (n q : ℕ) (node : Node) (marks : List Mark) → AreMarks W larger lones n q node marks → 0 < length marks
+some-mark W larger lones n q (Leaf number) marks are = let count = ap length are in omega arith
+some-mark W larger lones n q (Inner cost set lower upper) marks are =
     elim are [
       | inl lone ↦ let count = ap length lone.marks_are in omega arith
       | inr inner ↦ let count = ap length inner.marks_are in omega arith
     ]
-left-none W larger lones n q (Chain cost set bits side end) marks are = absurd are
+some-mark W larger lones n q (Chain cost set bits side end) marks are = absurd are
 
+-- where no mark is left, no node waits
 no-visits : (W : ℕ) (larger : List (List ℕ)) (lones : List LoneAddress) (visits : List Visit) (marks : List Mark) → marks ≡ [] → AreMarksLeft W larger lones visits marks → visits ≡ []
 no-visits W larger lones [] marks none left = refl
 no-visits W larger lones (v ∷ visits) marks none left =
-    let some = left-none W larger lones v.heir.block.len (number_of v.heir.block) v.node left.behind left.behind_are in
+    let some = some-mark W larger lones v.heir.block.len (number_of v.heir.block) v.node left.behind left.behind_are in
     let count = ap length (sym left.marks_are ∙ none) in
     absurd (omega (arith, length-append left.front left.behind))
 
