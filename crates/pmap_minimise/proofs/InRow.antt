@@ -1,7 +1,8 @@
 -- Heirs whose blocks lie in a row, of which the code has what doesn't follow.
 use Rattle.std.proofs.Common.{◌≡◌, ℕ, suc, ◌+◌, ◌-◌, ◌*◌, ◌%◌, ◌^◌, ◌<◌, ◌≤◌, ◌∙◌, List, [], ◌∷◌, ◌++◌, Option, Some, length, map, refl, sym, ap, subst, arith, length-append}
 use Rattle.std.proofs.Math.Bridge.{le_prop}
-use Rattle.std.proofs.Math.Nat.{ℕ_set}
+use Rattle.std.proofs.Math.Nat.{ℕ_set, sub_self}
+use Rattle.std.proofs.lemmas.Nat.{pow_pos}
 use Rattle.std.proofs.lemmas.List.{map_push, same_from_push}
 use Rattle.prefix_keys.specs.Block.{block_number}
 use Rattle.prefix_keys.specs.Version.{width_of}
@@ -14,12 +15,27 @@ use Rattle.label_trie.specs.Parts.{IsHalf}
 use Rattle.label_trie.proofs.Divided.{is_half}
 use Rattle.pmap_minimise.specs.Listing.{AreHalvesPut}
 use Rattle.pmap_minimise.specs.Row.{AreInRow, AreKeptAs, Heir, IsAt, Share, end_of, share_kept, share_of}
+use Rattle.pmap_minimise.specs.Shortest.{IsWhole}
 use Rattle.pmap_minimise.specs.declared.listing.Waiting.{Waiting}
 
 -- a block by its parts
 abbrev made : (version : Version) (value len : ℕ) → len ≤ width_of version → value < 2 ^ width_of version → value % 2 ^ (width_of version - len) ≡ 0 → Block
 made version value len inside fits free =
     record { version = version; value = value; len = len; len_in_range = inside; in_range = fits; no_host_bit = free }
+
+-- the block of all addresses
+pub block-of-all : (version : Version) → (block : Block) × IsWhole version block
+block-of-all version =
+    let some : 0 < 2 ^ width_of version = pow_pos (width_of version) in
+    let free : 0 % 2 ^ (width_of version - 0) ≡ 0 = omega arith in
+    (made version 0 0 (omega arith) some free, record { version_is = refl; start = refl; bits = refl })
+
+-- and that of one
+pub block-of-one : (version : Version) (value : ℕ) → value < 2 ^ width_of version → (block : Block) × IsAt version value (width_of version) block
+block-of-one version value fits =
+    let single : value % 1 ≡ 0 = omega arith in
+    let alone : value % 2 ^ (width_of version - width_of version) ≡ 0 = ap (λ n. value % 2 ^ n) (sub_self (width_of version)) ∙ single in
+    (made version value (width_of version) (omega arith) fits alone, record { version_is = refl; value_is = refl; len_is = refl })
 
 abbrev IsMadeAs : Block → Version → ℕ → ℕ → Type 0
 IsMadeAs b version value len =
@@ -48,16 +64,16 @@ same-place version first bits a b at at' =
     same_block a b (at.version_is ∙ sym at'.version_is) (at.value_is ∙ sym at'.value_is) (at.len_is ∙ sym at'.len_is)
 
 -- both halves of a block
-record HasHalves (block : Block) : Type 0 where
-  low : Block
-  high : Block
-  low_half : IsHalf 0 block low
-  high_half : IsHalf 1 block high
-  low_at : IsAt block.version block.value (block.len + 1) low
-  high_at : IsAt block.version (end_of low) (block.len + 1) high
-  ends : end_of high ≡ end_of block
+pub record HasHalves (block : Block) : Type 0 where
+  pub low : Block
+  pub high : Block
+  pub low_half : IsHalf 0 block low
+  pub high_half : IsHalf 1 block high
+  pub low_at : IsAt block.version block.value (block.len + 1) low
+  pub high_at : IsAt block.version (end_of low) (block.len + 1) high
+  pub ends : end_of high ≡ end_of block
 
-has-halves : (block : Block) → block.len < width_of block.version → HasHalves block
+pub has-halves : (block : Block) → block.len < width_of block.version → HasHalves block
 has-halves block short =
     let half : ℕ = 2 ^ (width_of block.version - (block.len + 1)) in
     let halves = are_halves (width_of block.version) block.len block.value half short block.in_range block.no_host_bit refl in

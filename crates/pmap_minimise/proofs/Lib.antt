@@ -14,6 +14,7 @@ pub mod Lone
 pub mod Sketched
 pub mod Waiting
 pub mod InRow
+pub mod LoneEntries
 pub mod Listed
 pub mod ListedAt
 pub mod MadeLines

@@ -1,7 +1,8 @@
--- The entries that are listed along an outline, by the claims of the certificate's nodes.
-use Rattle.std.proofs.Common.{◌≡◌, ℕ, zero, suc, ◌+◌, ◌-◌, ◌^◌, ◌<◌, ◌≤◌, ◌∙◌, List, [], ◌∷◌, ◌++◌, Some, None, All, IsSome, length, map, get_or, refl, sym, ap, subst, arith, length-append}
-use Rattle.std.proofs.lemmas.List.{length-map, map_push, same_from_push}
+-- The entries that are listed along the marks of a sketch.
+use Rattle.std.proofs.Common.{◌≡◌, ℕ, zero, suc, ◌+◌, ◌-◌, ◌*◌, ◌^◌, ◌<◌, ◌≤◌, ◌∙◌, List, [], ◌∷◌, ◌++◌, Some, None, All, IsSome, drop, inl, inr, length, map, slice_get, refl, sym, ap, subst, arith, length-append}
+use Rattle.std.proofs.lemmas.List.{append-nil, append_assoc, drop_all, map_push, same_from_push}
 use Rattle.std.proofs.lemmas.List.Elements.{All-from_recursion, All-head, All-push}
+use Rattle.std.proofs.lemmas.Option.{same_Some}
 use Rattle.prefix_keys.specs.Version.{width_of}
 use Rattle.prefix_keys.specs.declared.block.Block.{Block}
 use Rattle.prefix_keys.specs.declared.version.Version.{Version}
@@ -9,230 +10,412 @@ use Rattle.pmap_text.specs.declared.entry.Entry.{Entry}
 use Rattle.pmap_text.specs.declared.label.LabelId.{LabelId}
 use Rattle.pmap_cert.specs.Node.{Chain, Inner, Leaf, Node, set_of}
 use Rattle.label_trie.specs.Kind.{IsOfTree}
-use Rattle.label_trie.specs.TrieModel.{LeafModel, TrieModel}
-use Rattle.pmap_minimise.specs.Claiming.{AreClaimsOf, AreSetsOf, claims_of, sets_of}
+use Rattle.label_trie.specs.Leaf.{number_of}
+use Rattle.label_trie.specs.Parts.{IsHalf}
+use Rattle.label_trie.specs.TrieModel.{TrieModel}
+use Rattle.pmap_minimise.specs.Claiming.{AreClaimsOf, AreSetsOf}
 use Rattle.pmap_minimise.specs.Entered.{AddsEntries}
-use Rattle.pmap_minimise.specs.Kept.{sets_in}
-use Rattle.pmap_minimise.specs.Listing.{AddsListed, AddsVisit, AreHalvesPut, AreSetsClaimed, AreWaiting, HasClaims, IsClaimed, IsListedBy, IsListing, IsSoundVisit, Visit, nodes_in, nodes_visited}
-use Rattle.pmap_minimise.specs.Numbers.{Claim, HasHalves, IsJoined, IsOwn, IsSound, no_claim, node_claim, numbers_of}
-use Rattle.pmap_minimise.specs.Outline.{IsOutline, outline_of}
+use Rattle.pmap_minimise.specs.Kept.{AreSetsKept, IsSetOf, larger_in}
+use Rattle.pmap_minimise.specs.Listing.{AddsMark, AddsVisit, AreHalvesPut, AreMarksLeft, AreSetsClaimed, IsClaimed, IsListing, IsMarkFor, IsSoundVisit, Visit}
+use Rattle.pmap_minimise.specs.Numbers.{HasHalves, IsOwn, IsSound, numbers_of}
+use Rattle.pmap_minimise.specs.Outline.{outline_of}
 use Rattle.pmap_minimise.specs.Row.{Heir}
-use Rattle.pmap_minimise.specs.Shortest.{IsWhole}
+use Rattle.pmap_minimise.specs.Sketch.{AreMarks, IsLoneMark}
 use Rattle.pmap_minimise.specs.Walk.{AddsAll}
 use Rattle.pmap_minimise.specs.declared.claim_list.Claims.{Claims}
-use Rattle.pmap_minimise.specs.declared.outline.Part.{Part}
-use Rattle.pmap_minimise.specs.declared.outline.Part.TheVariants.{Divided, Labelled}
+use Rattle.pmap_minimise.specs.declared.set_list.SetId.{SetId}
 use Rattle.pmap_minimise.specs.declared.set_list.Sets.{Sets}
-use Rattle.pmap_minimise.proofs.Entered.{inner-adds, leaf-adds, sound-halves}
+use Rattle.pmap_minimise.specs.declared.sketch.LoneAddress.{LoneAddress}
+use Rattle.pmap_minimise.specs.declared.sketch.Mark.{Mark}
+use Rattle.pmap_minimise.specs.declared.sketch.Mark.TheVariants.{Inner as InnerMark, Leaf as LeafMark, Lone as LoneMark}
+use Rattle.pmap_minimise.specs.declared.sketch.Sketch.{Sketch}
+use Rattle.pmap_minimise.proofs.Entered.{inner-adds, sound-halves}
 use Rattle.pmap_minimise.proofs.InRow.{has-end, mapped-length}
 use Rattle.pmap_minimise.proofs.Joined.{all-left, all-right, set-some}
 use Rattle.pmap_minimise.proofs.Planned.{trie-certified}
-use Rattle.pmap_minimise.proofs.Priced.{sets-claims}
-use Rattle.pmap_minimise.proofs.Waiting.{waiting-end, waiting-inner, waiting-leaf, waiting-some, waiting-start}
-use Rattle.pmap_minimise.proofs.Walked.{halves-visited, leaf-visited}
-
-abbrev node_at : Visit → Node
-node_at v = v.node
+use Rattle.pmap_minimise.proofs.Walked.{done-visited, halves-visited}
 
 abbrev heir_at : Visit → Heir
 heir_at v = v.heir
 
-node-some : (node : Node) → 0 < nodes_in node
-node-some (Leaf n) = omega arith
-node-some (Inner cost set left right) = omega arith
-node-some (Chain cost set bits side end) = omega arith
-
-halves-nodes : (node left right : Node) → HasHalves node left right → nodes_in left + nodes_in right < nodes_in node
-halves-nodes (Leaf n) left right halves = absurd halves
-halves-nodes (Chain cost set bits side end) left right halves = absurd halves
-halves-nodes (Inner cost set l r) left right halves =
-    let lower = ap nodes_in halves.0 in
-    let upper = ap nodes_in halves.1 in
-    omega arith
-
--- the last visit, with its node and its heir
-record IsLastVisit (visits : List Visit) (nodes : List Node) (node : Node) (heirs : List Heir) (heir : Heir) : Type 0 where
+-- the last visit, with its heir
+record IsLastVisit (visits : List Visit) (heirs : List Heir) (heir : Heir) : Type 0 where
   front : List Visit
+  node : Node
   visits_are : visits ≡ front ++ record { node = node; heir = heir } ∷ []
-  nodes_are : map node_at front ≡ nodes
   heirs_are : map heir_at front ≡ heirs
 
-visits-count : (visits : List Visit) (nodes : List Node) → map node_at visits ≡ nodes → length visits ≡ length nodes
-visits-count visits nodes is = sym (mapped-length node_at visits) ∙ ap length is
-
-last-visit : (visits : List Visit) (nodes : List Node) (node : Node) (heirs : List Heir) (heir : Heir) → map node_at visits ≡ nodes ++ node ∷ [] → map heir_at visits ≡ heirs ++ heir ∷ []
-    → IsLastVisit visits nodes node heirs heir
-last-visit visits nodes node heirs heir nodes_are heirs_are =
-    let count = visits-count visits (nodes ++ node ∷ []) nodes_are in
-    let end = has-end visits (omega (arith, length-append nodes (node ∷ []))) in
-    let of_nodes = same_from_push (map node_at end.front) nodes end.last.node node (sym (map_push node_at end.front end.last) ∙ ap (map node_at) (sym end.is) ∙ nodes_are) in
+last-visit : (visits : List Visit) (heirs : List Heir) (heir : Heir) → map heir_at visits ≡ heirs ++ heir ∷ [] → IsLastVisit visits heirs heir
+last-visit visits heirs heir heirs_are =
+    let count : length visits ≡ length (heirs ++ heir ∷ []) = sym (mapped-length heir_at visits) ∙ ap length heirs_are in
+    let end = has-end visits (omega (arith, length-append heirs (heir ∷ []))) in
     let of_heirs = same_from_push (map heir_at end.front) heirs end.last.heir heir (sym (map_push heir_at end.front end.last) ∙ ap (map heir_at) (sym end.is) ∙ heirs_are) in
     record {
       front = end.front;
-      visits_are = end.is ∙ (λ i. end.front ++ record { node = of_nodes.1 i; heir = of_heirs.1 i } ∷ []);
-      nodes_are = of_nodes.0;
+      node = end.last.node;
+      visits_are = end.is ∙ (λ i. end.front ++ record { node = end.last.node; heir = of_heirs.1 i } ∷ []);
       heirs_are = of_heirs.0;
     }
 
-joined-halves : (low high node : Node) → IsJoined low high node → HasHalves node low high
-joined-halves low high (Leaf id) joined = absurd joined
-joined-halves low high (Inner cost set left right) joined = (joined.0, joined.1)
-joined-halves low high (Chain cost set bits side end) joined = absurd joined
+-- equal lists begin alike and go on alike
+record AreAlike {X : Type 0} (x y : X) (xs ys : List X) : Type 0 where
+  first : x ≡ y
+  others : xs ≡ ys
 
-joined-room : (low high node : Node) (room : ℕ) → IsJoined low high node → IsSound node room → 0 < room
-joined-room low high (Leaf id) room joined sound = absurd joined
-joined-room low high (Inner cost set left right) zero joined sound = absurd sound
-joined-room low high (Inner cost set left right) (suc room) joined sound = omega arith
-joined-room low high (Chain cost set bits side end) room joined sound = absurd joined
+are-alike : {X : Type 0} (x y : X) (xs ys : List X) → x ∷ xs ≡ y ∷ ys → AreAlike x y xs ys
+are-alike x y xs ys same = record { first = cc; others = cc }
 
--- the sets that are kept are those of the claims
-sets-at : (claims : List Claim) (n : ℕ) → get_or (sets_of claims) n [] ≡ (get_or claims n no_claim).set
-sets-at [] zero = refl
-sets-at [] (suc n) = refl
-sets-at (claim ∷ claims) zero = refl
-sets-at (claim ∷ claims) (suc n) = sets-at claims n
+module _ (W : ℕ) (larger : List (List ℕ)) (lones : List LoneAddress) where
+  -- the marks of the last visit's node stand first
+  record IsLeftLast (front : List Visit) (last : Visit) (marks : List Mark) : Type 0 where
+    own : List Mark
+    rest : List Mark
+    marks_are : marks ≡ own ++ rest
+    own_are : AreMarks W larger lones last.heir.block.len (number_of last.heir.block) last.node own
+    rest_are : AreMarksLeft W larger lones front rest
 
-module _ (block : Block) (parts : List Part) (sets : Sets) (node : Node) (has : HasClaims block parts sets node) where
-  pub listed-set : (n : ℕ) → get_or (sets_in sets) n [] ≡ (get_or (claims_of node) n no_claim).set
-  listed-set n = ap (λ (l : List (List ℕ)). get_or l n []) has.are.sets_are ∙ sets-at (claims_of node) n
+  left-last : (front : List Visit) (last : Visit) (marks : List Mark) → AreMarksLeft W larger lones (front ++ last ∷ []) marks → IsLeftLast front last marks
+  left-last [] last marks left = record {
+    own = left.behind;
+    rest = [];
+    marks_are = left.marks_are ∙ ap (λ (l : List Mark). l ++ left.behind) left.front_are ∙ sym (append-nil left.behind);
+    own_are = left.behind_are;
+    rest_are = refl;
+  }
+  left-last (v ∷ front) last marks left =
+      let under = left-last front last left.front left.front_are in
+      record {
+        own = under.own;
+        rest = under.rest ++ left.behind;
+        marks_are = left.marks_are ∙ ap (λ (l : List Mark). l ++ left.behind) under.marks_are ∙ append_assoc under.own under.rest left.behind;
+        own_are = under.own_are;
+        rest_are = record { front = under.rest; behind = left.behind; marks_are = refl; front_are = under.rest_are; behind_are = left.behind_are };
+      }
 
-  pub listed-length : length (sets_in sets) ≡ length (claims_of node)
-  listed-length = ap length has.are.sets_are ∙ length-map (claims_of node) (λ (claim : Claim). claim.set)
+  left-push : (front : List Visit) (last : Visit) (own rest : List Mark) → AreMarks W larger lones last.heir.block.len (number_of last.heir.block) last.node own
+      → AreMarksLeft W larger lones front rest → AreMarksLeft W larger lones (front ++ last ∷ []) (own ++ rest)
+  left-push [] last own rest own_are rest_are =
+      record { front = []; behind = own; marks_are = ap (λ (l : List Mark). own ++ l) rest_are ∙ append-nil own; front_are = refl; behind_are = own_are }
+  left-push (v ∷ front) last own rest own_are rest_are = record {
+    front = own ++ rest_are.front;
+    behind = rest_are.behind;
+    marks_are = ap (λ (l : List Mark). own ++ l) rest_are.marks_are ∙ sym (append_assoc own rest_are.front rest_are.behind);
+    front_are = left-push front last own rest_are.front own_are rest_are.front_are;
+    behind_are = rest_are.behind_are;
+  }
+
+  module _ (n q : ℕ) (node : Node) (behind rest : List Mark) where
+    -- what a mark stands for: a leaf, the node of a block with a lone address, or an inner node, whose marks follow
+    record IsLone (number : ℕ) : Type 0 where
+      marks : List Mark
+      is : IsLoneMark W lones n q node marks
+      number_is : is.number ≡ number
+      behind_is : behind ≡ rest
+
+    record IsInner (id : SetId) : Type 0 where
+      left : Node
+      right : Node
+      halves : HasHalves node left right
+      stands : IsSetOf larger id (set_of node)
+      low : List Mark
+      high : List Mark
+      behind_is : behind ≡ low ++ (high ++ rest)
+      low_are : AreMarks W larger lones (suc n) (2 * q) left low
+      high_are : AreMarks W larger lones (suc n) (2 * q + 1) right high
+
+    abbrev StandsHere : Mark → Type 0
+    StandsHere (LeafMark id) = (node ≡ Leaf id.0) × (behind ≡ rest)
+    StandsHere (LoneMark number) = IsLone number
+    StandsHere (InnerMark id) = IsInner id
+
+  stands-here : (n q : ℕ) (node : Node) (mark : Mark) (behind rest own : List Mark) → own ++ rest ≡ mark ∷ behind → AreMarks W larger lones n q node own
+      → StandsHere n q node behind rest mark
+  stands-here n q (Leaf number) mark behind rest own same are =
+      let alike = are-alike (LeafMark (record { 0 = number })) mark rest behind (ap (λ (l : List Mark). l ++ rest) (sym are) ∙ same) in
+      subst (λ (m : Mark). StandsHere n q (Leaf number) behind rest m) alike.first (refl, sym alike.others)
+  stands-here n q (Inner cost set lower upper) mark behind rest own same are =
+      elim are [
+        | inl lone ↦
+            let alike = are-alike (LoneMark lone.number) mark rest behind (ap (λ (l : List Mark). l ++ rest) (sym lone.marks_are) ∙ same) in
+            subst (λ (m : Mark). StandsHere n q (Inner cost set lower upper) behind rest m) alike.first
+            (record { marks = own; is = lone; number_is = refl; behind_is = sym alike.others })
+        | inr inner ↦
+            let alike = are-alike (InnerMark inner.id) mark ((inner.low ++ inner.high) ++ rest) behind (ap (λ (l : List Mark). l ++ rest) (sym inner.marks_are) ∙ same) in
+            subst (λ (m : Mark). StandsHere n q (Inner cost set lower upper) behind rest m) alike.first
+            (record {
+              left = lower;
+              right = upper;
+              halves = (refl, refl);
+              stands = inner.stands;
+              low = inner.low;
+              high = inner.high;
+              behind_is = sym alike.others ∙ append_assoc inner.low inner.high rest;
+              low_are = inner.low_are;
+              high_are = inner.high_are;
+            })
+      ]
+  stands-here n q (Chain cost set bits side end) mark behind rest own same are = absurd are
+
+halves-room : (node left right : Node) (room : ℕ) → HasHalves node left right → IsSound node room → 0 < room
+halves-room (Leaf id) left right room halves sound = absurd halves
+halves-room (Inner cost set lower upper) left right zero halves sound = absurd sound
+halves-room (Inner cost set lower upper) left right (suc room) halves sound = omega arith
+halves-room (Chain cost set bits side end) left right room halves sound = absurd halves
 
 -- the first visit is that of the root
-pub listing-start : (block : Block) (parts : List Part) (sets : Sets) (node : Node) (old : List Entry) (left : ℕ) (heirs : List Heir) → HasClaims block parts sets node
-    → left ≡ length (sets_in sets) → heirs ≡ record { block = block; inherited = None } ∷ [] → IsListing block parts (claims_of node) node old 0 left heirs old
-listing-start block parts sets node old left heirs has all heirs_are = record {
-  visits = root ∷ [];
-  waiting = waiting-start parts (claims_of node) left node has.are.outline has.are.node_is refl (all ∙ listed-length block parts sets node has);
-  heirs_are = sym heirs_are;
+pub listing-start : (version : Version) (s : Sketch) (root : Node) (block : Block) → block.version ≡ version → block.len ≡ 0 → number_of block ≡ 0
+    → IsSound root (width_of version) → AreMarks (width_of version) (larger_in s.sets) s.lones.items 0 0 root s.marks.items
+    → IsListing version s root block 0 (record { block = block; inherited = None } ∷ []) []
+listing-start version s root block of bits first sound marks = record {
+  visits = visit ∷ [];
+  left = record {
+    front = [];
+    behind = s.marks.items;
+    marks_are = refl;
+    front_are = refl;
+    behind_are =
+        subst (λ (n : ℕ). AreMarks (width_of version) (larger_in s.sets) s.lones.items n (number_of block) root s.marks.items) (sym bits)
+        (subst (λ (q : ℕ). AreMarks (width_of version) (larger_in s.sets) s.lones.items 0 q root s.marks.items) (sym first) marks);
+  };
+  heirs_are = refl;
   under_way = record {
-    adds = λ final rest. subst (λ (l : List Entry). AddsVisit root l final) rest.first rest.second;
-    sound = All-push IsSoundVisit [] root (All-from_recursion IsSoundVisit [] tt) has.sound;
+    adds = λ final rest. subst (λ (l : List Entry). AddsVisit visit l final) rest.first rest.second;
+    sound = All-push IsSoundVisit [] visit (All-from_recursion IsSoundVisit [] tt)
+        (let width = ap width_of of in let room : width_of version ≡ width_of block.version - block.len = omega arith in subst (IsSound root) room sound);
   };
 }
   where
-    root : Visit
-    root = record { node = node; heir = record { block = block; inherited = None } }
+    visit : Visit
+    visit = record { node = root; heir = record { block = block; inherited = None } }
 
-no_visits : (visits : List Visit) → map node_at visits ≡ [] → visits ≡ []
-no_visits [] is = refl
-no_visits (v ∷ visits) is = absurd cc
+-- the marks of a half are those of its block
+half-marks : (W : ℕ) (larger : List (List ℕ)) (lones : List LoneAddress) (side : ℕ) (block half : Block) → IsHalf side block half → (node : Node) (marks : List Mark) (q : ℕ)
+    → q ≡ 2 * number_of block + side → AreMarks W larger lones (suc block.len) q node marks → AreMarks W larger lones half.len (number_of half) node marks
+half-marks W larger lones side block half is node marks q q_is are =
+    let len : suc block.len ≡ half.len = let e = is.len in omega arith in
+    subst (λ (n : ℕ). AreMarks W larger lones n (number_of half) node marks) len
+    (subst (λ (r : ℕ). AreMarks W larger lones (suc block.len) r node marks) (q_is ∙ sym is.number) are)
 
--- all is listed behind the last part
-pub listing-end : (block : Block) (parts : List Part) (claims : List Claim) (node : Node) (old new : List Entry) (next left : ℕ) (heirs : List Heir) → length parts ≤ next
-    → IsListing block parts claims node old next left heirs new → AddsEntries node block None old new
-listing-end block parts claims node old new next left heirs end listing =
-    let none = no_visits listing.visits (waiting-end parts claims next left (map node_at listing.visits) end listing.waiting) in
-    listing.under_way.adds new (subst (λ (l : List Visit). AddsAll AddsVisit l new new) (sym none) refl)
+-- a node has a mark at least
+some-mark : (W : ℕ) (larger : List (List ℕ)) (lones : List LoneAddress) (n q : ℕ) (node : Node) (marks : List Mark) → AreMarks W larger lones n q node marks → 0 < length marks
+some-mark W larger lones n q (Leaf number) marks are = let count = ap length are in omega arith
+some-mark W larger lones n q (Inner cost set lower upper) marks are =
+    elim are [
+      | inl lone ↦ let count = ap length lone.marks_are in omega arith
+      | inr inner ↦ let count = ap length inner.marks_are in omega arith
+    ]
+some-mark W larger lones n q (Chain cost set bits side end) marks are = absurd are
 
-module _ (block : Block) (parts : List Part) (claims : List Claim) (root : Node) (old entries : List Entry) (next left : ℕ) (heirs : List Heir) (outline : IsOutline parts) (inside : next < length parts)
-    (listing : IsListing block parts claims root old next left heirs entries) where
-  abbrev nodes : List Node
-  nodes = map node_at listing.visits
+-- where no mark is left, no node waits
+no-visits : (W : ℕ) (larger : List (List ℕ)) (lones : List LoneAddress) (visits : List Visit) (marks : List Mark) → marks ≡ [] → AreMarksLeft W larger lones visits marks → visits ≡ []
+no-visits W larger lones [] marks none left = refl
+no-visits W larger lones (v ∷ visits) marks none left =
+    let some = some-mark W larger lones v.heir.block.len (number_of v.heir.block) v.node left.behind left.behind_are in
+    let count = ap length (sym left.marks_are ∙ none) in
+    absurd (omega (arith, length-append left.front left.behind))
 
+-- all is listed behind the last mark
+pub listing-end : (version : Version) (s : Sketch) (root : Node) (block : Block) (next : ℕ) (heirs : List Heir) (entries : List Entry) → length s.marks.items ≤ next
+    → IsListing version s root block next heirs entries → AddsEntries root block None [] entries
+listing-end version s root block next heirs entries end listing =
+    let none : listing.visits ≡ [] = no-visits (width_of version) (larger_in s.sets) s.lones.items listing.visits (drop next s.marks.items) (drop_all next s.marks.items end) listing.left in
+    listing.under_way.adds entries (subst (λ (l : List Visit). AddsAll AddsVisit l entries entries) (sym none) refl)
+
+module _ (version : Version) (s : Sketch) (root : Node) (block : Block) (next : ℕ) (heirs : List Heir) (entries : List Entry) (kept : AreSetsKept s.sets)
+    (mark : Mark) (mark_is : drop next s.marks.items ≡ mark ∷ drop (next + 1) s.marks.items) (listing : IsListing version s root block next heirs entries) where
   pub listing-some : 0 < length heirs
-  listing-some =
-      let some = waiting-some parts claims next left nodes outline inside listing.waiting in
-      let count = mapped-length node_at listing.visits in
-      let same = ap length listing.heirs_are in
-      omega (arith, mapped-length heir_at listing.visits)
+  listing-some = by listing.visits listing.left listing.heirs_are
+    where
+      by : (visits : List Visit) → AreMarksLeft (width_of version) (larger_in s.sets) s.lones.items visits (drop next s.marks.items) → map heir_at visits ≡ heirs → 0 < length heirs
+      by [] none same = absurd (let e = sym mark_is ∙ none in cc)
+      by (v ∷ visits) left same = let count = ap length same in omega arith
 
-  pub listing-inside : (d : Part) → Divided ≡ get_or parts next d → (0 < left) × (left ≤ length claims)
-  listing-inside d is =
-      let at = waiting-inner parts claims next left nodes outline inside listing.waiting d is in
-      (at.some, listing.waiting.within)
-
-  module _ (heir : Heir) (below : List Heir) (popped : heirs ≡ below ++ heir ∷ []) where
-    pub listing-leaf : (id : LabelId) (d : Part) (new : List Entry) (ids : List LabelId) (label : LabelId) → Labelled id ≡ get_or parts next d → numbers_of ids ≡ id.0 ∷ []
-        → IsOwn ids heir.block heir.inherited entries new label → IsListing block parts claims root old (next + 1) left below new
-    listing-leaf id d new ids label is ids_are own =
-        let at = waiting-leaf parts claims next left nodes outline inside listing.waiting id d is in
-        let last = last-visit listing.visits at.rest (Leaf id.0) below heir at.nodes_are (listing.heirs_are ∙ popped) in
-        let visit : Visit = record { node = Leaf id.0; heir = heir } in
-        let visited = leaf-visited AddsVisit IsSoundVisit nodes_visited visit last.front entries new (leaf-adds id heir.block heir.inherited entries new ids label ids_are own) (node-some (Leaf id.0)) in
-        record {
-          visits = last.front;
-          waiting = subst (AreWaiting parts claims (next + 1) left) (sym last.nodes_are) at.waiting;
-          heirs_are = last.heirs_are;
-          under_way = record {
-            adds = λ final rest. listing.under_way.adds final (subst (λ (l : List Visit). AddsAll AddsVisit l entries final) (sym last.visits_are) (visited.adds final rest));
-            sound = visited.sound (all-left IsSoundVisit listing.visits last.front (visit ∷ []) last.visits_are listing.under_way.sound);
-          };
-        }
-
-    -- what stands at a divided part
-    record IsInnerVisit : Type 0 where
+  module _ (heir : Heir) (below : List Heir) (popped : heirs ≡ below ++ heir ∷ []) (of : heir.block.version ≡ version) where
+    -- what the next mark stands for
+    record IsNext : Type 0 where
       node : Node
-      low : Node
-      high : Node
-      joined : IsJoined low high node
       front : List Visit
       visits_are : listing.visits ≡ front ++ record { node = node; heir = heir } ∷ []
       heirs_are : map heir_at front ≡ below
-      waiting : AreWaiting parts claims (next + 1) (left - 1) ((map node_at front ++ high ∷ []) ++ low ∷ [])
+      rest : List Mark
+      rest_are : AreMarksLeft (width_of version) (larger_in s.sets) s.lones.items front rest
+      stands : StandsHere (width_of version) (larger_in s.sets) s.lones.items heir.block.len (number_of heir.block) node (drop (next + 1) s.marks.items) rest mark
       sound : IsSound node (width_of heir.block.version - heir.block.len)
-      own : get_or claims (left - 1) no_claim ≡ node_claim node
+      others : All IsSoundVisit front
 
-    inner-visit : (d : Part) → Divided ≡ get_or parts next d → IsInnerVisit
-    inner-visit d is =
-        let at = waiting-inner parts claims next left nodes outline inside listing.waiting d is in
-        let last = last-visit listing.visits at.rest at.node below heir at.nodes_are (listing.heirs_are ∙ popped) in
-        let visit : Visit = record { node = at.node; heir = heir } in
+    is-next : IsNext
+    is-next =
+        let last = last-visit listing.visits below heir (listing.heirs_are ∙ popped) in
+        let visit : Visit = record { node = last.node; heir = heir } in
+        let left = left-last (width_of version) (larger_in s.sets) s.lones.items last.front visit (drop next s.marks.items)
+        (subst (λ (l : List Visit). AreMarksLeft (width_of version) (larger_in s.sets) s.lones.items l (drop next s.marks.items)) last.visits_are listing.left) in
         let sound : All IsSoundVisit (visit ∷ []) = all-right IsSoundVisit listing.visits last.front (visit ∷ []) last.visits_are listing.under_way.sound in
         record {
-          node = at.node;
-          low = at.low;
-          high = at.high;
-          joined = at.joined;
+          node = last.node;
           front = last.front;
           visits_are = last.visits_are;
           heirs_are = last.heirs_are;
-          waiting = subst (λ (l : List Node). AreWaiting parts claims (next + 1) (left - 1) ((l ++ at.high ∷ []) ++ at.low ∷ [])) (sym last.nodes_are) at.waiting;
+          rest = left.rest;
+          rest_are = left.rest_are;
+          stands = stands-here (width_of version) (larger_in s.sets) s.lones.items heir.block.len (number_of heir.block) last.node mark (drop (next + 1) s.marks.items) left.rest left.own
+              (sym left.marks_are ∙ mark_is) left.own_are;
           sound = All-head IsSoundVisit visit [] sound;
-          own = at.own;
+          others = all-left IsSoundVisit listing.visits last.front (visit ∷ []) last.visits_are listing.under_way.sound;
         }
 
-    pub visit-room : (d : Part) → Divided ≡ get_or parts next d → heir.block.len < width_of heir.block.version
-    visit-room d is =
-        let at = inner-visit d is in
-        let room = joined-room at.low at.high at.node (width_of heir.block.version - heir.block.len) at.joined at.sound in
+    -- the block may have the mark
+    pub listing-mark : IsMarkFor s heir.block mark
+    listing-mark = by mark at.stands
+      where
+        at : IsNext
+        at = is-next
+
+        by : (m : Mark) → StandsHere (width_of version) (larger_in s.sets) s.lones.items heir.block.len (number_of heir.block) at.node (drop (next + 1) s.marks.items) at.rest m → IsMarkFor s heir.block m
+        by (LeafMark id) stands = tt
+        by (LoneMark number) stands =
+            let is = stands.is in
+            let width : width_of version ≡ width_of heir.block.version = ap width_of (sym of) in
+            let bits_are : is.lone.bits + heir.block.len ≡ width_of heir.block.version = is.bits_are ∙ width in
+            record {
+              lone = is.lone;
+              listed = subst (λ (n : ℕ). slice_get s.lones.items n ≡ Some is.lone) stands.number_is is.listed;
+              is_in = record {
+                apart = is.apart;
+                long = is.long;
+                bits_are = bits_are;
+                block_is = is.block_is;
+                fits = subst (λ (n : ℕ). is.lone.value < 2 ^ n) width is.fits;
+              };
+            }
+        by (InnerMark id) stands =
+            let set_is = stands.stands.set_is in (
+              stands.stands.held,
+              record {
+                kept = kept;
+                some = subst (λ (l : List ℕ). 0 < length l) (sym set_is) (set-some at.node (width_of heir.block.version - heir.block.len) at.sound);
+              },
+            )
+
+    -- a mark without halves is done with
+    pub listing-done : (new : List Entry) → AddsMark s heir.block heir.inherited entries new None mark → IsListing version s root block (next + 1) below new
+    listing-done new adds = by mark at.stands adds
+      where
+        at : IsNext
+        at = is-next
+
+        visit : Visit
+        visit = record { node = at.node; heir = heir }
+
+        done : AddsVisit visit entries new → drop (next + 1) s.marks.items ≡ at.rest → IsListing version s root block (next + 1) below new
+        done adds_visit rest_is =
+            let visited = done-visited AddsVisit IsSoundVisit visit at.front entries new adds_visit in
+            record {
+              visits = at.front;
+              left = subst (AreMarksLeft (width_of version) (larger_in s.sets) s.lones.items at.front) (sym rest_is) at.rest_are;
+              heirs_are = at.heirs_are;
+              under_way = record {
+                adds = λ final rest. listing.under_way.adds final (subst (λ (l : List Visit). AddsAll AddsVisit l entries final) (sym at.visits_are) (visited.adds final rest));
+                sound = at.others;
+              };
+            }
+
+        by : (m : Mark) → StandsHere (width_of version) (larger_in s.sets) s.lones.items heir.block.len (number_of heir.block) at.node (drop (next + 1) s.marks.items) at.rest m
+            → AddsMark s heir.block heir.inherited entries new None m → IsListing version s root block (next + 1) below new
+        by (LeafMark id) stands added = done (subst (λ (n : Node). AddsEntries n heir.block heir.inherited entries new) (sym stands.0) added.0) stands.1
+        by (LoneMark number) stands added =
+            let is = stands.is in
+            done (subst (λ (n : Node). AddsEntries n heir.block heir.inherited entries new) (sym is.node_is)
+            (added.0 is.lone (subst (λ (n : ℕ). slice_get s.lones.items n ≡ Some is.lone) stands.number_is is.listed))) stands.behind_is
+        by (InnerMark id) stands added = absurd (let e = added.halves_are in cc)
+
+    -- what stands at a mark whose halves inherit a label
+    record IsInnerVisit (label : LabelId) (new : List Entry) : Type 0 where
+      node : Node
+      front : List Visit
+      visits_are : listing.visits ≡ front ++ record { node = node; heir = heir } ∷ []
+      heirs_are : map heir_at front ≡ below
+      sound : IsSound node (width_of heir.block.version - heir.block.len)
+      others : All IsSoundVisit front
+      left : Node
+      right : Node
+      halves : HasHalves node left right
+      low : List Mark
+      high : List Mark
+      rest : List Mark
+      behind_is : drop (next + 1) s.marks.items ≡ low ++ (high ++ rest)
+      low_are : AreMarks (width_of version) (larger_in s.sets) s.lones.items (suc heir.block.len) (2 * number_of heir.block) left low
+      high_are : AreMarks (width_of version) (larger_in s.sets) s.lones.items (suc heir.block.len) (2 * number_of heir.block + 1) right high
+      rest_are : AreMarksLeft (width_of version) (larger_in s.sets) s.lones.items front rest
+      ids : List LabelId
+      numbers_are : numbers_of ids ≡ set_of node
+      own : IsOwn ids heir.block heir.inherited entries new label
+
+    inner-visit : (label : LabelId) (new : List Entry) → AddsMark s heir.block heir.inherited entries new (Some label) mark → IsInnerVisit label new
+    inner-visit label new adds = by mark at.stands adds
+      where
+        at : IsNext
+        at = is-next
+
+        by : (m : Mark) → StandsHere (width_of version) (larger_in s.sets) s.lones.items heir.block.len (number_of heir.block) at.node (drop (next + 1) s.marks.items) at.rest m
+            → AddsMark s heir.block heir.inherited entries new (Some label) m → IsInnerVisit label new
+        by (LeafMark id) stands added = absurd (let e = added.1 in cc)
+        by (LoneMark number) stands added = absurd (let e = added.1 in cc)
+        by (InnerMark id) stands added =
+            let same : label ≡ added.label = same_Some label added.label added.halves_are in
+            record {
+              node = at.node;
+              front = at.front;
+              visits_are = at.visits_are;
+              heirs_are = at.heirs_are;
+              sound = at.sound;
+              others = at.others;
+              left = stands.left;
+              right = stands.right;
+              halves = stands.halves;
+              low = stands.low;
+              high = stands.high;
+              rest = at.rest;
+              behind_is = stands.behind_is;
+              low_are = stands.low_are;
+              high_are = stands.high_are;
+              rest_are = at.rest_are;
+              ids = added.ids;
+              numbers_are = added.numbers_are ∙ stands.stands.set_is;
+              own = subst (λ (l : LabelId). IsOwn added.ids heir.block heir.inherited entries new l) (sym same) added.own;
+            }
+
+    pub listing-room : (label : LabelId) (new : List Entry) → AddsMark s heir.block heir.inherited entries new (Some label) mark → heir.block.len < width_of heir.block.version
+    listing-room label new adds =
+        let at = inner-visit label new adds in
+        let room = halves-room at.node at.left at.right (width_of heir.block.version - heir.block.len) at.halves at.sound in
         omega arith
 
-    pub visit-some : (d : Part) (ids : List LabelId) → Divided ≡ get_or parts next d → numbers_of ids ≡ (get_or claims (left - 1) no_claim).set → 0 < length ids
-    visit-some d ids is ids_are =
-        let at = inner-visit d is in
-        let some = set-some at.node (width_of heir.block.version - heir.block.len) at.sound in
-        let count = ap length (ids_are ∙ ap (λ (c : Claim). c.set) at.own) in
-        omega (arith, mapped-length (λ (id : LabelId). id.0) ids)
-
-    pub listing-inner : (d : Part) (new : List Entry) (after : List Heir) (ids : List LabelId) (label : LabelId) → Divided ≡ get_or parts next d
-        → numbers_of ids ≡ (get_or claims (left - 1) no_claim).set → IsOwn ids heir.block heir.inherited entries new label → AreHalvesPut heir.block label below after
-        → IsListing block parts claims root old (next + 1) (left - 1) after new
-    listing-inner d new after ids label is ids_are own put =
-        let at = inner-visit d is in
+    pub listing-inner : (label : LabelId) (new : List Entry) (after : List Heir) → AddsMark s heir.block heir.inherited entries new (Some label) mark
+        → AreHalvesPut heir.block label below after → IsListing version s root block (next + 1) after new
+    listing-inner label new after adds put =
+        let at = inner-visit label new adds in
         let visit : Visit = record { node = at.node; heir = heir } in
-        let low : Visit = record { node = at.low; heir = record { block = put.low; inherited = Some label } } in
-        let high : Visit = record { node = at.high; heir = record { block = put.high; inherited = Some label } } in
-        let halves = joined-halves at.low at.high at.node at.joined in
-        let sounds = sound-halves at.node at.low at.high heir.block put.low put.high halves put.low_half put.high_half at.sound in
+        let low : Visit = record { node = at.left; heir = record { block = put.low; inherited = Some label } } in
+        let high : Visit = record { node = at.right; heir = record { block = put.high; inherited = Some label } } in
+        let sounds = sound-halves at.node at.left at.right heir.block put.low put.high at.halves put.low_half put.high_half at.sound in
         let visits : List Visit = (at.front ++ high ∷ []) ++ low ∷ [] in
-        let set_is : numbers_of ids ≡ set_of at.node = ids_are ∙ ap (λ (c : Claim). c.set) at.own in
-        let visited = halves-visited AddsVisit IsSoundVisit nodes_visited visit low high at.front (at.front ++ high ∷ []) visits entries new
+        let visited = halves-visited AddsVisit IsSoundVisit visit low high at.front (at.front ++ high ∷ []) visits entries new
         (λ middle final lower upper.
-        inner-adds at.node at.low at.high heir.block put.low put.high heir.inherited entries new middle final ids label halves set_is own put.low_half put.high_half lower upper)
-        sounds.0 sounds.1 (halves-nodes at.node at.low at.high halves) refl refl in
-        let of_nodes : map node_at visits ≡ (map node_at at.front ++ at.high ∷ []) ++ at.low ∷ [] =
-        map_push node_at (at.front ++ high ∷ []) low ∙ ap (λ (l : List Node). l ++ at.low ∷ []) (map_push node_at at.front high) in
+        inner-adds at.node at.left at.right heir.block put.low put.high heir.inherited entries new middle final at.ids label at.halves at.numbers_are at.own put.low_half put.high_half lower upper)
+        sounds.0 sounds.1 refl refl in
         let of_heirs : map heir_at visits ≡ (map heir_at at.front ++ high.heir ∷ []) ++ low.heir ∷ [] =
         map_push heir_at (at.front ++ high ∷ []) low ∙ ap (λ (l : List Heir). l ++ low.heir ∷ []) (map_push heir_at at.front high) in
+        let low_are = half-marks (width_of version) (larger_in s.sets) s.lones.items 0 heir.block put.low put.low_half at.left at.low (2 * number_of heir.block) (omega arith) at.low_are in
+        let high_are = half-marks (width_of version) (larger_in s.sets) s.lones.items 1 heir.block put.high put.high_half at.right at.high (2 * number_of heir.block + 1) refl at.high_are in
         record {
           visits = visits;
-          waiting = subst (AreWaiting parts claims (next + 1) (left - 1)) (sym of_nodes) at.waiting;
+          left = subst (AreMarksLeft (width_of version) (larger_in s.sets) s.lones.items visits) (sym at.behind_is)
+              (left-push (width_of version) (larger_in s.sets) s.lones.items (at.front ++ high ∷ []) low at.low (at.high ++ at.rest) low_are
+              (left-push (width_of version) (larger_in s.sets) s.lones.items at.front high at.high at.rest high_are at.rest_are));
           heirs_are = of_heirs ∙ ap (λ (l : List Heir). (l ++ high.heir ∷ []) ++ low.heir ∷ []) at.heirs_are ∙ sym put.new_is;
           under_way = record {
             adds = λ final rest. listing.under_way.adds final (subst (λ (l : List Visit). AddsAll AddsVisit l entries final) (sym at.visits_are) (visited.adds final rest));
-            sound = visited.sound (all-left IsSoundVisit listing.visits at.front (visit ∷ []) at.visits_are listing.under_way.sound);
+            sound = visited.sound at.others;
           };
         }
 
@@ -244,41 +427,3 @@ trie-sets t sets node of labelled few are = record { are = are; certified = trie
 pub trie-claimed : (t : TrieModel) (claims : Claims) (node : Node) → IsOfTree t → All (λ leaf. IsSome leaf.label) t.leaves → length t.leaves < 2 ^ 32
     → AreClaimsOf (outline_of t.nodes) claims node → IsClaimed t.version t.leaves (outline_of t.nodes) claims node
 trie-claimed t claims node of labelled few are = record { are = are; certified = trie-certified t of labelled node are.node_is few }
-
--- the sets of claims
-pub claimed-sets : (version : Version) (leaves : List LeafModel) (parts : List Part) (claims : Claims) (node : Node) → IsClaimed version leaves parts claims node
-    → AreSetsClaimed version leaves parts claims.sets node
-claimed-sets version leaves parts claims node claimed =
-    let are = claimed.are in
-    record {
-      are = record {
-        outline = are.outline;
-        node_is = are.node_is;
-        kept = are.kept.sets;
-        sets_are = sets-claims claims are.kept ∙ ap sets_of are.claims_are;
-      };
-      certified = claimed.certified;
-    }
-
--- the block of a trie's root
-pub whole-block : (version : Version) (root block : Block) → block ≡ root → root.version ≡ version → root.value ≡ 0 → root.len ≡ 0 → IsWhole version block
-whole-block version root block is of start bits =
-    subst (IsWhole version) (sym is) (record { version_is = of; start = start; bits = bits })
-
--- and the entries that are listed by them
-pub claimed-has : (version : Version) (block : Block) (leaves : List LeafModel) (parts : List Part) (sets : Sets) (node : Node) → IsWhole version block
-    → AreSetsClaimed version leaves parts sets node → HasClaims block parts sets node
-claimed-has version block leaves parts sets node whole claimed =
-    let bits = whole.bits in
-    let width : width_of block.version ≡ width_of version = ap width_of whole.version_is in
-    let room : width_of version ≡ width_of block.version - block.len = omega arith in
-    record { are = claimed.are; sound = subst (IsSound node) room claimed.certified.sound }
-
-pub claimed-listed : (version : Version) (block : Block) (leaves : List LeafModel) (parts : List Part) (sets : Sets) (node : Node) (old new : List Entry) → IsWhole version block → old ≡ []
-    → AreSetsClaimed version leaves parts sets node → AddsListed block parts sets old new → IsListedBy version leaves node new
-claimed-listed version block leaves parts sets node old new whole first claimed adds = record {
-  block = block;
-  whole = whole;
-  certified = claimed.certified;
-  adds = subst (λ (l : List Entry). AddsEntries node block None l new) first (adds node (claimed-has version block leaves parts sets node whole claimed));
-}

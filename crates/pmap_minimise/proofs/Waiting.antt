@@ -72,10 +72,6 @@ next-node parts at nodes outline inside stacked Divided d is =
     next-inner two.low two.high two.plans (drop (at + 1) parts) nodes two.read
     (subst (λ (l : List Plan). AreStacked (forked l) nodes) two.read (subst (λ (l : List Part). AreStacked (plans_of l) nodes) before stacked))
 
-next-some : (part : Part) (behind : List Part) (nodes : List Node) → IsNext part behind nodes → 0 < length nodes
-next-some (Labelled id) behind nodes next = let count = ap length next.nodes_are in omega (arith, length-append next.rest (Leaf id.0 ∷ []))
-next-some Divided behind nodes next = let count = ap length next.nodes_are in omega (arith, length-append next.rest (next.node ∷ []))
-
 -- the last claim of those that are left
 record IsLastClaim (claims : List Claim) (left : ℕ) (before : List Claim) (claim : Claim) : Type 0 where
   some : 0 < left
@@ -137,11 +133,6 @@ pub record IsInnerWaiting (parts : List Part) (claims : List Claim) (next left :
 
 module _ (parts : List Part) (claims : List Claim) (next left : ℕ) (nodes : List Node) (outline : IsOutline parts) (inside : next < length parts)
     (waiting : AreWaiting parts claims next left nodes) where
-  pub waiting-some : 0 < length nodes
-  waiting-some =
-      let part = get_or parts next Divided in
-      next-some part (drop (next + 1) parts) nodes (next-node parts next nodes outline inside waiting.stacked part Divided refl)
-
   pub waiting-leaf : (id : LabelId) (d : Part) → Labelled id ≡ get_or parts next d → IsLeafWaiting id parts claims next left nodes
   waiting-leaf id d is =
       let at = next-node parts next nodes outline inside waiting.stacked (Labelled id) d is in

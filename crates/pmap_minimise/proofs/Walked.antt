@@ -1,8 +1,8 @@
 -- The stack of places whose items are still to be added.
-use Rattle.std.proofs.Common.{◌≡◌, ℕ, ◌+◌, ◌<◌, ◌∙◌, List, [], ◌∷◌, ◌++◌, All, refl, sym, ap, subst, arith}
+use Rattle.std.proofs.Common.{◌≡◌, ◌∙◌, List, [], ◌∷◌, ◌++◌, All, refl, sym, ap, subst}
 use Rattle.std.proofs.lemmas.List.{append-nil, append_assoc}
 use Rattle.std.proofs.lemmas.List.Elements.{All-push}
-use Rattle.pmap_minimise.specs.Walk.{AddsAll, IsVisited, size_of_all}
+use Rattle.pmap_minimise.specs.Walk.{AddsAll, IsVisited}
 
 module _ {P X : Type 0} (Adds : P → List X → List X → Type 0) where
   -- other places on the top of the stack, which add the same
@@ -15,37 +15,29 @@ module _ {P X : Type 0} (Adds : P → List X → List X → Type 0) where
     second = adds.second;
   }
 
-size-append : {P : Type 0} (size : P → ℕ) (a b : List P) → size_of_all size (a ++ b) ≡ size_of_all size a + size_of_all size b
-size-append size [] b = omega arith
-size-append size (p ∷ ps) b = omega (arith, size-append size ps b)
-
-module _ {P X : Type 0} (Adds : P → List X → List X → Type 0) (IsSoundPlace : P → Type 0) (size : P → ℕ) where
-  -- a leaf leaves the stack
-  pub leaf-visited : (place : P) (before : List P) (old new : List X) → Adds place old new → 0 < size place → IsVisited Adds IsSoundPlace size place before before old new
-  leaf-visited place before old new adds some = record {
+module _ {P X : Type 0} (Adds : P → List X → List X → Type 0) (IsSoundPlace : P → Type 0) where
+  -- a place without halves that are still to come leaves the stack
+  pub done-visited : (place : P) (before : List P) (old new : List X) → Adds place old new → IsVisited Adds IsSoundPlace place before before old new
+  done-visited place before old new adds = record {
     adds = λ final rest.
         add-under Adds before [] (place ∷ []) new old final
         (λ m e. record { middle = old; first = refl; second = subst (λ (l : List X). Adds place old l) (sym e) adds })
         (subst (λ (l : List P). AddsAll Adds l new final) (sym (append-nil before)) rest);
     sound = λ all. all;
-    smaller = omega (arith, size-append size before (place ∷ []));
   }
 
   -- a place gives way to those of its halves
   pub halves-visited : (place low high : P) (before between after : List P) (old new : List X)
       → ((middle final : List X) → Adds low new middle → Adds high middle final → Adds place old final)
-      → IsSoundPlace low → IsSoundPlace high → size low + size high < size place
-      → between ≡ before ++ high ∷ [] → after ≡ between ++ low ∷ [] → IsVisited Adds IsSoundPlace size place before after old new
-  halves-visited place low high before between after old new adds low_sound high_sound less put_high put_low =
+      → IsSoundPlace low → IsSoundPlace high
+      → between ≡ before ++ high ∷ [] → after ≡ between ++ low ∷ [] → IsVisited Adds IsSoundPlace place before after old new
+  halves-visited place low high before between after old new adds low_sound high_sound put_high put_low =
       let after_is : after ≡ before ++ (high ∷ low ∷ []) = put_low ∙ ap (λ (l : List P). l ++ low ∷ []) put_high ∙ append_assoc before (high ∷ []) (low ∷ []) in
       record {
         adds = λ final rest. add-under Adds before (high ∷ low ∷ []) (place ∷ []) new old final both (subst (λ (l : List P). AddsAll Adds l new final) after_is rest);
         sound = λ all.
             subst (λ (l : List P). All IsSoundPlace l) (sym put_low)
             (All-push IsSoundPlace between low (subst (λ (l : List P). All IsSoundPlace l) (sym put_high) (All-push IsSoundPlace before high all high_sound)) low_sound);
-        smaller =
-            let count : size_of_all size after ≡ size_of_all size before + size_of_all size (high ∷ low ∷ []) = ap (size_of_all size) after_is ∙ size-append size before (high ∷ low ∷ []) in
-            omega (arith, size-append size before (place ∷ []));
       }
     where
       both : (m : List X) → AddsAll Adds (high ∷ low ∷ []) new m → AddsAll Adds (place ∷ []) old m

@@ -3,7 +3,8 @@ ghost use Rattle.std.specs.Prelude.{◌≡◌, ◌-◌, ◌^◌, ◌<◌, List, 
 ghost use Rattle.prefix_keys.specs.Version.{width_of};
 ghost use Rattle.pmap_cert.specs.Node.{Node};
 ghost use Rattle.label_trie.specs.TrieModel.{LeafModel};
-ghost use Rattle.pmap_minimise.specs.Listing.{IsListedBy};
+ghost use Rattle.pmap_minimise.specs.Entered.{AddsEntries};
+ghost use Rattle.pmap_minimise.specs.Listing.{AddsMark, IsListedBy, IsLoneIn, IsMarkFor, node_of_lone};
 ghost use Rattle.pmap_minimise.specs.Row.{IsAt};
 ghost use Rattle.pmap_minimise.specs.Sketch.{IsSketchOf};
 
@@ -46,19 +47,23 @@ fn size_of(block: Block) -> u128
 
 // Adds the entries of a block with a lone address: its own with the side's label, if it doesn't inherit that, and the
 // address's.
-fn push_lone(entries: &mut Vec<Entry>, lone: &LoneAddress, here: Block, inherited: Option<LabelId>) -> Result<(), AllocError> {
+fn push_lone(
+    entries: &mut Vec<Entry>,
+    lone: &LoneAddress,
+    here: Block,
+    inherited: Option<LabelId>,
+) -> Result<(), AllocError>
+    requires { IsLoneIn lone.now here }
+    ensures { OnOk result (AddsEntries (node_of_lone lone.now) here inherited entries.old.items entries.new.items) }
+{
     let side = push_own(entries, slice::from_ref(&lone.side), here, inherited)?;
-    let address = Block {
-        version: here.version,
-        value: lone.value,
-        len: here.version.width(),
-    };
+    let address = block_at(here.version, lone.value, here.version.width());
     push_own(entries, slice::from_ref(&lone.label), address, Some(side))?;
     Ok(())
 }
 
-// Adds the entries of a mark that its block has without those of its halves, and answers the label that these inherit, if
-// it has halves.
+// Adds the entries of a block by its mark: all of them for a leaf or a lone address. For an inner node it adds the own
+// one, and answers the label that the halves inherit.
 #[inline(always)]
 fn push_mark(
     entries: &mut Vec<Entry>,
@@ -66,7 +71,11 @@ fn push_mark(
     mark: &Mark,
     here: Block,
     inherited: Option<LabelId>,
-) -> Result<Option<LabelId>, AllocError> {
+) -> Result<Option<LabelId>, AllocError>
+    requires { IsMarkFor sketch.now here mark.now }
+    ensures { IfOk result (λ halves. AddsMark sketch.now here inherited entries.old.items entries.new.items halves
+        mark.now) }
+{
     match mark {
         Mark::Leaf(id) => {
             push_own(entries, slice::from_ref(id), here, inherited)?;
@@ -83,13 +92,13 @@ fn push_mark(
     }
 }
 
-/// The entries of the shortest list by the sketch of its certificate, by rising first address. The marks are met from the
-/// first to the last. Of the block that comes next the first address, the bits and the label that it inherits are at
-/// hand; the higher halves behind it wait.
+/// The entries of the shortest list by the sketch of its certificate, by rising first address. The marks are met from
+/// the first to the last. Of the block that comes next the first address, the bits and the label that it inherits are
+/// at hand; the higher halves behind it wait.
 pub fn listed(alloc: Global, sketch: &Sketch, version: Version) -> Result<Vec<Entry>, AllocError>
     requires { (leaves : List LeafModel) × (node : Node) × IsSketchOf version leaves sketch.now node }
-    ensures { IfOk result (λ entries. (leaves : List LeafModel) (node : Node) → IsSketchOf version leaves sketch.now node
-        → IsListedBy version leaves node entries.items) }
+    ensures { IfOk result (λ entries. (leaves : List LeafModel) (node : Node)
+        → IsSketchOf version leaves sketch.now node → IsListedBy version leaves node entries.items) }
 {
     let mut entries = Vec::new(alloc);
     let mut first = 0;
