@@ -15,4 +15,5 @@ pub mod InRow
 pub mod Listed
 pub mod ListedAt
 pub mod MadeLines
+pub mod PricedMarks
 pub mod Compacted

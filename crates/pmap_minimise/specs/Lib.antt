@@ -10,4 +10,5 @@ pub mod Row
 pub mod Sketch
 pub mod Listing
 pub mod MadeLines
+pub mod Pricing
 pub mod Compacting

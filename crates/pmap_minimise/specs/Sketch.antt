@@ -8,6 +8,7 @@ use Rattle.pmap_cert.specs.Node.{Chain, Inner, Leaf, Node}
 use Rattle.label_trie.specs.TrieModel.{IsSettledLeaf, IsUndivided, LeafModel}
 use Rattle.pmap_minimise.specs.Certified.{IsCertified}
 use Rattle.pmap_minimise.specs.Kept.{AreSetsKept, IsSetOf, larger_in}
+use Rattle.pmap_minimise.specs.Outline.{IsNodeFor, Plan}
 use Rattle.pmap_minimise.specs.declared.set_list.SetId.{SetId}
 use Rattle.pmap_minimise.specs.declared.sketch.LoneAddress.{LoneAddress}
 use Rattle.pmap_minimise.specs.declared.sketch.Mark.{Mark}
@@ -73,6 +74,8 @@ pub record IsSketchOf (version : Version) (leaves : List LeafModel) (s : Sketch)
   pub certified : IsCertified 0 0 (width_of version) leaves node
   pub kept : AreSetsKept s.sets
   pub marks : AreMarks (width_of version) (larger_in s.sets) s.lones.items 0 0 node s.marks.items
+  pub plan : Plan
+  pub plan_is : IsNodeFor plan node
 
 -- and the leaves are those of the map
 pub record IsSketched (m : MapText) (s : Sketch) : Type 0 where
