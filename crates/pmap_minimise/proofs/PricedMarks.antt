@@ -142,6 +142,18 @@ module _ (s : Sketch) (Price_is : ℕ → ℕ → ℕ → Type 0) where
   }
   inner-there (Chain cost set bits side down) number end id is there = absurd is
 
+-- its address as it was read
+pub lone-read_at : (s : Sketch) (P : ℕ → ℕ → ℕ → Type 0) (node : Node) (at number end : ℕ) (is : IsLoneNode s P node at number end) (read : LoneAddress) → read ≡ get_or s.lones.items at read
+    → read ≡ is.lone.lone
+lone-read_at s P node at number end is read there =
+    lone-read s.lones.items at read is.lone.lone (subst (λ (n : ℕ). slice_get s.lones.items n ≡ Some is.lone.lone) is.at_is is.lone.listed) there
+
+pub lone-not_inner : (s : Sketch) (node : Node) (number : ℕ) (id : SetId) → IsLoneAt s node number → slice_get s.marks.items number ≡ Some (InnerMark id) → ⊥
+lone-not_inner s node number id lone there = not lone.at (sym lone.mark_is ∙ there)
+  where
+    not : (n : ℕ) → ◌≡◌ {A = Option Mark} (Some (LoneMark n)) (Some (InnerMark id)) → ⊥
+    not n e = cc
+
 -- prices that agree where the node's marks are
 pub stands-other : (s : Sketch) (P Q : ℕ → ℕ → ℕ → Type 0) (node : Node) (number end : ℕ) → ((k cost high : ℕ) → number ≤ k → k < end → P k cost high → Q k cost high)
     → Stands s P node number end → Stands s Q node number end

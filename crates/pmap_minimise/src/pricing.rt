@@ -11,9 +11,9 @@ ghost use Rattle.pmap_minimise.specs.Sketch.{IsSketchOf};
 
 use crate::sets::are_apart;
 use crate::sketch::{Mark, Sketch};
+use pmap_text::LabelId;
 use std::alloc::{AllocError, Global};
 use std::slice;
-use pmap_text::LabelId;
 
 /// What an inner node claims to cost, and the number of the mark of its higher half.
 #[derive(Clone, Copy)]
@@ -63,16 +63,28 @@ fn push_prices(prices: &mut Vec<Price>, sketch: &Sketch, number: usize) -> Resul
 {
     prices.push(Price { cost: 0, high: 0 })?;
     match sketch.marks[number] {
-        Mark::Leaf(_) => Ok(Total { end: number + 1, cost: 0 }),
-        Mark::Lone(_) => Ok(Total { end: number + 1, cost: 1 }),
+        Mark::Leaf(_) => Ok(Total {
+            end: number + 1,
+            cost: 0,
+        }),
+        Mark::Lone(_) => Ok(Total {
+            end: number + 1,
+            cost: 1,
+        }),
         Mark::Inner(_) => {
             let low = push_prices(prices, sketch, number + 1)?;
             let high = push_prices(prices, sketch, low.end)?;
             let sum = low.cost + high.cost;
             let apart = are_apart(set_at(sketch, number + 1), set_at(sketch, low.end));
             let cost = if apart { sum + 1 } else { sum };
-            prices[number] = Price { cost, high: low.end };
-            Ok(Total { end: high.end, cost })
+            prices[number] = Price {
+                cost,
+                high: low.end,
+            };
+            Ok(Total {
+                end: high.end,
+                cost,
+            })
         }
     }
 }

@@ -1,36 +1,22 @@
-use Rattle.std.proofs.Common.{◌++◌, ◌∙◌, List, ap, subst, sym}
-use Rattle.pmap_cert.specs.FormatReading.{DueLine}
-use Rattle.pmap_cert.specs.Node.{lines_of}
-use Rattle.pmap_cert.specs.Placing.{IsCompactNode}
-use Rattle.pmap_minimise.specs.Kept.{claims_in}
-use Rattle.pmap_minimise.proofs.Compacted.{root-placed}
-use Rattle.pmap_minimise.proofs.Planned.{trie-stands}
+use Rattle.std.proofs.Common.{rules, ◌≡◌, ℕ, ◌++◌, ◌<◌, ◌≤◌, List, IfOk, MatchOption, OnOk, length, option_map, ◌+◌, ◌-◌, ◌*◌, ◌/◌, ◌%◌, Bool, true, false, nat_eq, nat_lt, [], ◌∷◌, slice_index_or, slice_set, bit_and, bit_or, Fits, w8, w32, w64, Bor, MutBor}
+use Rattle.prefix_keys.specs.declared.version.Version.{Version as AnyVersion}
+use Rattle.pmap_cert.specs.Node.{Node, label_of}
+use Rattle.pmap_cert.specs.Placing.{IsCompactNode, IsCompacted, IsShort, is_leaf, side_below}
+use Rattle.label_trie.specs.TrieModel.{LeafModel}
+use Rattle.pmap_minimise.specs.Compacting.{IsChained, IsLong, IsRest, IsRun, IsStep, IsStop, label_there, way_to}
+use Rattle.pmap_minimise.specs.Kept.{AreSetsKept}
+use Rattle.pmap_minimise.specs.Pricing.{IsAt, IsPricedAt}
+use Rattle.pmap_minimise.specs.Sketch.{IsSketchOf}
 use Rattle.pmap_minimise.proofs.compacting.compacted.Goals as goal
 
-pub compact_node-requires-clause-placed : goal.compact_node-requires-clause-placed
-compact_node-requires-clause-placed c =
-    let node = c.in_ok-claims.ensures.0 in
-    let are = c.in_ok-claims.ensures.1.are in (
-      node,
-      root-placed c.args.trie.now.nodes (claims_in c.in_ok-claims.claims) _ node
-          (trie-stands c.args.trie.now c.node_count-count.ensures.tree c.requires node are.node_is) are.claims_are c.len.ensures,
-    )
+-- src/compacting.rt:228:5
+pub push_compact-requires-clause-stands : goal.push_compact-requires-clause-stands
+push_compact-requires-clause-stands c = ?
 
+-- src/compacting.rt:229:8
 pub new-requires : goal.new-requires
-new-requires c =
-    let node = c.in_ok-claims.ensures.0 in
-    let are = c.in_ok-claims.ensures.1.are in
-    let placed = root-placed c.args.trie.now.nodes (claims_in c.in_ok-claims.claims) _ node
-    (trie-stands c.args.trie.now c.node_count-count.ensures.tree c.requires node are.node_is) are.claims_are c.len.ensures in
-    let done = c.in_ok-compact_node.ensures node placed in
-    record { node = done.compact; is = done.lines ∙ ap (λ (ls : List DueLine). ls ++ lines_of done.compact) c.new-out.ensures }
+new-requires c = ?
 
+-- src/compacting.rt:220:1
 pub returns : goal.returns
-returns c =
-    let node = c.in_ok-claims.ensures.0 in
-    let are = c.in_ok-claims.ensures.1.are in
-    let placed = root-placed c.args.trie.now.nodes (claims_in c.in_ok-claims.claims) _ node
-    (trie-stands c.args.trie.now c.node_count-count.ensures.tree c.requires node are.node_is) are.claims_are c.len.ensures in
-    let done = c.in_ok-compact_node.ensures node placed in
-    let same = c.new.ensures done.compact (done.lines ∙ ap (λ (ls : List DueLine). ls ++ lines_of done.compact) c.new-out.ensures) in
-    (node, c.in_ok-claims.ensures.1.certified, subst (IsCompactNode node) (sym same) done.is)
+returns c = ?

@@ -1,49 +1,54 @@
-use Rattle.std.proofs.Common.{◌∙◌, ap, arith, option_map, sym}
-use Rattle.pmap_text.specs.declared.label.LabelId.{LabelId}
-use Rattle.pmap_minimise.proofs.Compacted.{halves-at, halves-divided, high-stands, low-inside, same-kind, side-low, side-up, stands-inside}
+use Rattle.std.proofs.Common.{rules, ◌≡◌, ℕ, ◌++◌, ◌<◌, ◌≤◌, List, IfOk, MatchOption, OnOk, length, option_map, ◌+◌, ◌-◌, ◌*◌, ◌/◌, ◌%◌, Bool, true, false, nat_eq, nat_lt, [], ◌∷◌, slice_index_or, slice_set, bit_and, bit_or, Fits, w8, w32, w64, Bor, MutBor}
+use Rattle.prefix_keys.specs.declared.version.Version.{Version as AnyVersion}
+use Rattle.pmap_cert.specs.Node.{Node, label_of}
+use Rattle.pmap_cert.specs.Placing.{IsCompactNode, IsCompacted, IsShort, is_leaf, side_below}
+use Rattle.label_trie.specs.TrieModel.{LeafModel}
+use Rattle.pmap_minimise.specs.Compacting.{IsChained, IsLong, IsRest, IsRun, IsStep, IsStop, label_there, way_to}
+use Rattle.pmap_minimise.specs.Kept.{AreSetsKept}
+use Rattle.pmap_minimise.specs.Pricing.{IsAt, IsPricedAt}
+use Rattle.pmap_minimise.specs.Sketch.{IsSketchOf}
 use Rattle.pmap_minimise.proofs.compacting.side_of.Goals as goal
 
+-- src/compacting.rt:139:11
+pub index-requires : goal.index-requires
+index-requires c = ?
+
+-- src/compacting.rt:140:50
 pub overflow_add-number : goal.overflow_add-number
-overflow_add-number c =
-    let nodes = c.args.trie.now.nodes in
-    let node = c.requires.stands.0 in
-    let halves = halves-at nodes c.args.number node c.requires.stands.1 c.requires.stands.2 in
-    let low = low-inside nodes c.args.number node halves in
-    let few = c.requires.trie.few in
-    omega arith
+overflow_add-number c = ?
 
-pub label_at-requires-clause-stands : goal.label_at-requires-clause-stands
-label_at-requires-clause-stands c =
-    let halves = halves-at c.args.trie.now.nodes c.args.number c.requires.stands.0 c.requires.stands.1 c.requires.stands.2 in
-    (halves.lower, halves.low)
+-- src/compacting.rt:140:33
+pub label_at-requires : goal.label_at-requires
+label_at-requires c = ?
 
-pub high_number-requires-clause-inside : goal.high_number-requires-clause-inside
-high_number-requires-clause-inside c = stands-inside c.args.trie.now.nodes c.args.number c.requires.stands.0 c.requires.stands.1
+-- src/compacting.rt:142:38
+pub offset_bounds-prices-number : goal.offset_bounds-prices-number
+offset_bounds-prices-number c = ?
 
-pub high_number-requires-clause-divided : goal.high_number-requires-clause-divided
-high_number-requires-clause-divided c =
-    let nodes = c.args.trie.now.nodes in
-    let node = c.requires.stands.0 in
-    halves-divided nodes c.args.number node (halves-at nodes c.args.number node c.requires.stands.1 c.requires.stands.2)
+-- src/compacting.rt:142:38
+pub bounds-prices-number : goal.bounds-prices-number
+bounds-prices-number c = ?
 
-pub label_at-requires-in-None-clause-stands : goal.label_at-requires-in-None-clause-stands
-label_at-requires-in-None-clause-stands c =
-    let nodes = c.args.trie.now.nodes in
-    let node = c.requires.stands.0 in
-    let halves = halves-at nodes c.args.number node c.requires.stands.1 c.requires.stands.2 in
-    (halves.upper, high-stands nodes c.args.number node halves c.high_number.result c.high_number.ensures)
+-- src/compacting.rt:142:21
+pub label_at-requires-in-None : goal.label_at-requires-in-None
+label_at-requires-in-None c = ?
 
+-- src/compacting.rt:144:32
+pub index-requires-in-Lone : goal.index-requires-in-Lone
+index-requires-in-Lone c = ?
+
+-- src/compacting.rt:134:1
 pub returns-in-Some : goal.returns-in-Some
-returns-in-Some c node stands =
-    let nodes = c.args.trie.now.nodes in
-    let none = same-kind nodes c.args.number c.requires.stands.0 node c.requires.stands.1 stands c.requires.stands.2 in
-    let halves = halves-at nodes c.args.number node stands none in
-    side-low nodes c.args.number node halves c.in-Some.id.0 (sym (c.label_at.ensures halves.lower halves.low) ∙ ap (option_map (λ (id : LabelId). id.0)) c.in-Some.is)
+returns-in-Some c = ?
 
+-- src/compacting.rt:134:1
 pub returns-in-None : goal.returns-in-None
-returns-in-None c node stands =
-    let nodes = c.args.trie.now.nodes in
-    let none = same-kind nodes c.args.number c.requires.stands.0 node c.requires.stands.1 stands c.requires.stands.2 in
-    let halves = halves-at nodes c.args.number node stands none in
-    c.label_at-in-None.ensures halves.upper (high-stands nodes c.args.number node halves c.high_number.result c.high_number.ensures)
-    ∙ side-up nodes c.args.number node halves (sym (c.label_at.ensures halves.lower halves.low) ∙ ap (option_map (λ (id : LabelId). id.0)) c.in-None.is)
+returns-in-None c = ?
+
+-- src/compacting.rt:134:1
+pub returns-in-Lone : goal.returns-in-Lone
+returns-in-Lone c = ?
+
+-- src/compacting.rt:134:1
+pub returns-in-Leaf : goal.returns-in-Leaf
+returns-in-Leaf c = ?

@@ -1,75 +1,54 @@
-use Rattle.std.proofs.Common.{◌∙◌, arith, sym}
-use Rattle.pmap_cert.proofs.CompactPlaces.{leaf-only, no_label, some_label}
-use Rattle.pmap_minimise.proofs.Compacted.{end-leaf, halves-at, halves-divided, high-stands, low-inside, stands-inside, step-lower, step-none, step-upper}
+use Rattle.std.proofs.Common.{rules, ◌≡◌, ℕ, ◌++◌, ◌<◌, ◌≤◌, List, IfOk, MatchOption, OnOk, length, option_map, ◌+◌, ◌-◌, ◌*◌, ◌/◌, ◌%◌, Bool, true, false, nat_eq, nat_lt, [], ◌∷◌, slice_index_or, slice_set, bit_and, bit_or, Fits, w8, w32, w64, Bor, MutBor}
+use Rattle.prefix_keys.specs.declared.version.Version.{Version as AnyVersion}
+use Rattle.pmap_cert.specs.Node.{Node, label_of}
+use Rattle.pmap_cert.specs.Placing.{IsCompactNode, IsCompacted, IsShort, is_leaf, side_below}
+use Rattle.label_trie.specs.TrieModel.{LeafModel}
+use Rattle.pmap_minimise.specs.Compacting.{IsChained, IsLong, IsRest, IsRun, IsStep, IsStop, label_there, way_to}
+use Rattle.pmap_minimise.specs.Kept.{AreSetsKept}
+use Rattle.pmap_minimise.specs.Pricing.{IsAt, IsPricedAt}
+use Rattle.pmap_minimise.specs.Sketch.{IsSketchOf}
 use Rattle.pmap_minimise.proofs.compacting.step.Goals as goal
 
-pub returns-then-is_some : goal.returns-then-is_some
-returns-then-is_some c node stands =
-    let some = some_label c.label_at.result (sym c.is_some.ensures ∙ c.if-is_some.true) in
-    end-leaf c.args.side.0 some.0 node (leaf-only node some.0 (sym (c.label_at.ensures node stands) ∙ some.1))
+-- src/compacting.rt:57:11
+pub index-requires : goal.index-requires
+index-requires c = ?
 
+-- src/compacting.rt:59:25
 pub overflow_add-lower : goal.overflow_add-lower
-overflow_add-lower c =
-    let nodes = c.args.trie.now.nodes in
-    let node = c.requires.stands.0 in
-    let stands = c.requires.stands.1 in
-    let none = sym (c.label_at.ensures node stands) ∙ no_label c.label_at.result (sym c.is_some.ensures ∙ c.if-is_some.false) in
-    let halves = halves-at nodes c.args.number node stands none in
-    let low = low-inside nodes c.args.number node halves in
-    let few = c.requires.trie.few in
-    omega arith
+overflow_add-lower c = ?
 
-pub high_number-upper-requires-clause-inside : goal.high_number-upper-requires-clause-inside
-high_number-upper-requires-clause-inside c = stands-inside c.args.trie.now.nodes c.args.number c.requires.stands.0 c.requires.stands.1
+-- src/compacting.rt:60:25
+pub offset_bounds-prices-number : goal.offset_bounds-prices-number
+offset_bounds-prices-number c = ?
 
-pub high_number-upper-requires-clause-divided : goal.high_number-upper-requires-clause-divided
-high_number-upper-requires-clause-divided c =
-    let nodes = c.args.trie.now.nodes in
-    let node = c.requires.stands.0 in
-    let stands = c.requires.stands.1 in
-    let none = sym (c.label_at.ensures node stands) ∙ no_label c.label_at.result (sym c.is_some.ensures ∙ c.if-is_some.false) in
-    halves-divided nodes c.args.number node (halves-at nodes c.args.number node stands none)
+-- src/compacting.rt:60:17
+pub bounds-prices-number : goal.bounds-prices-number
+bounds-prices-number c = ?
 
-pub is_leaf-requires-clause-stands : goal.is_leaf-requires-clause-stands
-is_leaf-requires-clause-stands c =
-    let nodes = c.args.trie.now.nodes in
-    let node = c.requires.stands.0 in
-    let stands = c.requires.stands.1 in
-    let none = sym (c.label_at.ensures node stands) ∙ no_label c.label_at.result (sym c.is_some.ensures ∙ c.if-is_some.false) in
-    let halves = halves-at nodes c.args.number node stands none in
-    (halves.lower, halves.low)
+-- src/compacting.rt:61:16
+pub is_leaf-requires : goal.is_leaf-requires
+is_leaf-requires c = ?
 
-pub is_leaf-requires-else-is_leaf-clause-stands : goal.is_leaf-requires-else-is_leaf-clause-stands
-is_leaf-requires-else-is_leaf-clause-stands c =
-    let nodes = c.args.trie.now.nodes in
-    let node = c.requires.stands.0 in
-    let stands = c.requires.stands.1 in
-    let none = sym (c.label_at.ensures node stands) ∙ no_label c.label_at.result (sym c.is_some.ensures ∙ c.if-is_some.false) in
-    let halves = halves-at nodes c.args.number node stands none in
-    (halves.upper, high-stands nodes c.args.number node halves c.high_number-upper.result c.high_number-upper.ensures)
+-- src/compacting.rt:63:23
+pub is_leaf-requires-else-is_leaf : goal.is_leaf-requires-else-is_leaf
+is_leaf-requires-else-is_leaf c = ?
 
+-- src/compacting.rt:51:1
 pub returns-then-is_leaf : goal.returns-then-is_leaf
-returns-then-is_leaf c node stands =
-    let nodes = c.args.trie.now.nodes in
-    let none = sym (c.label_at.ensures node stands) ∙ no_label c.label_at.result (sym c.is_some.ensures ∙ c.if-is_some.false) in
-    let halves = halves-at nodes c.args.number node stands none in
-    step-upper nodes c.args.number node halves c.high_number-upper.result c.high_number-upper.ensures c.args.side.0
-    (sym (c.is_leaf.ensures halves.lower halves.low) ∙ c.if-is_leaf.true)
+returns-then-is_leaf c = ?
 
+-- src/compacting.rt:51:1
 pub returns-then-is_leaf-2 : goal.returns-then-is_leaf-2
-returns-then-is_leaf-2 c node stands =
-    let nodes = c.args.trie.now.nodes in
-    let none = sym (c.label_at.ensures node stands) ∙ no_label c.label_at.result (sym c.is_some.ensures ∙ c.if-is_some.false) in
-    let halves = halves-at nodes c.args.number node stands none in
-    step-lower nodes c.args.number node halves c.high_number-upper.result c.high_number-upper.ensures c.args.side.0
-    (sym (c.is_leaf.ensures halves.lower halves.low) ∙ c.if-is_leaf.false)
-    (sym (c.is_leaf-else-is_leaf.ensures halves.upper (high-stands nodes c.args.number node halves c.high_number-upper.result c.high_number-upper.ensures)) ∙ c.if-is_leaf-2.true)
+returns-then-is_leaf-2 c = ?
 
+-- src/compacting.rt:51:1
 pub returns-else-is_leaf-2 : goal.returns-else-is_leaf-2
-returns-else-is_leaf-2 c node stands =
-    let nodes = c.args.trie.now.nodes in
-    let none = sym (c.label_at.ensures node stands) ∙ no_label c.label_at.result (sym c.is_some.ensures ∙ c.if-is_some.false) in
-    let halves = halves-at nodes c.args.number node stands none in
-    step-none nodes c.args.number node halves c.high_number-upper.result c.high_number-upper.ensures c.args.side.0
-    (sym (c.is_leaf.ensures halves.lower halves.low) ∙ c.if-is_leaf.false)
-    (sym (c.is_leaf-else-is_leaf.ensures halves.upper (high-stands nodes c.args.number node halves c.high_number-upper.result c.high_number-upper.ensures)) ∙ c.if-is_leaf-2.false)
+returns-else-is_leaf-2 c = ?
+
+-- src/compacting.rt:51:1
+pub returns-in-Leaf : goal.returns-in-Leaf
+returns-in-Leaf c = ?
+
+-- src/compacting.rt:51:1
+pub returns-in-Lone : goal.returns-in-Lone
+returns-in-Lone c = ?

@@ -122,7 +122,7 @@ returns-after-apart t c node end is =
     let high_set = c.set_at-in-Inner.ensures.value inner.upper end at_high in
     let cost_is : c.if-apart.cost ≡ inner.cost =
     elim c.if-apart.branch [
-      then-apart w ↦
+      | then-apart w ↦
           let cost =
           cost-apart inner.lower inner.upper inner.cost inner.set inner.inner.exact (numbers_of c.set_at.result.now) (numbers_of c.set_at-in-Inner.result.now) c.are_apart-apart.result
           low_set high_set c.are_apart-apart.ensures w.if-apart.true in
