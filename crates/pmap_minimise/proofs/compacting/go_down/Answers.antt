@@ -1,22 +1,28 @@
-use Rattle.std.proofs.Common.{rules, ◌≡◌, ℕ, ◌++◌, ◌<◌, ◌≤◌, List, IfOk, MatchOption, OnOk, length, option_map, ◌+◌, ◌-◌, ◌*◌, ◌/◌, ◌%◌, Bool, true, false, nat_eq, nat_lt, [], ◌∷◌, slice_index_or, slice_set, bit_and, bit_or, Fits, w8, w32, w64, Bor, MutBor}
-use Rattle.prefix_keys.specs.declared.version.Version.{Version as AnyVersion}
-use Rattle.pmap_cert.specs.Node.{Node, label_of}
-use Rattle.pmap_cert.specs.Placing.{IsCompactNode, IsCompacted, IsShort, is_leaf, side_below}
-use Rattle.label_trie.specs.TrieModel.{LeafModel}
-use Rattle.pmap_minimise.specs.Compacting.{IsChained, IsLong, IsRest, IsRun, IsStep, IsStop, label_there, way_to}
-use Rattle.pmap_minimise.specs.Kept.{AreSetsKept}
-use Rattle.pmap_minimise.specs.Pricing.{IsAt, IsPricedAt}
-use Rattle.pmap_minimise.specs.Sketch.{IsSketchOf}
+use Rattle.std.proofs.Common.{arith}
+use Rattle.pmap_minimise.proofs.Compacted.{if_ok, run-down}
+use Rattle.pmap_minimise.proofs.PricedMarks.{at-any, stands-inside}
 use Rattle.pmap_minimise.proofs.compacting.go_down.Goals as goal
 
--- src/compacting.rt:126:5
 pub loop-bit-smaller : goal.loop-bit-smaller
-loop-bit-smaller c = ?
+loop-bit-smaller c =
+    let s = c.args.sketch.now in
+    let at = c.loop-bit.invariant c.requires.0 c.requires.1 c.requires.2 in
+    let next = c.in-Some.ensures at.here at.stands.end at.stands.priced in
+    let inside = stands-inside s _ at.here c.loop-bit.number at.stands.end at.stands.priced in
+    let after = next.stands.after in
+    omega arith
 
--- src/compacting.rt:130:5
 pub end_at-requires : goal.end_at-requires
-end_at-requires c = ?
+end_at-requires c =
+    let at = c.loop-bit.invariant c.requires.0 c.requires.1 c.requires.2 in
+    (at.here, at.stands.end, at-any c.args.sketch.now _ at.here c.loop-bit.number at.stands.end at.stands.priced)
 
--- src/compacting.rt:113:1
 pub returns : goal.returns
-returns c = ?
+returns c =
+    if_ok c.end_at.result _ _ c.end_at.ensures
+    (λ last rest node end is.
+    let s = c.args.sketch.now in
+    let at = c.loop-bit.invariant node end is in
+    let stop = c.in_default.ensures at.here at.stands.end at.stands.priced in
+    run-down s c.args.prices.now c.args.side.0 c.args.first node c.loop-bit.bits.items c.end_at.new.bits.items c.loop-bit.number last at
+    (rest at.here at.stands.end (at-any s _ at.here c.loop-bit.number at.stands.end at.stands.priced) stop))

@@ -1,54 +1,85 @@
-use Rattle.std.proofs.Common.{rules, ◌≡◌, ℕ, ◌++◌, ◌<◌, ◌≤◌, List, IfOk, MatchOption, OnOk, length, option_map, ◌+◌, ◌-◌, ◌*◌, ◌/◌, ◌%◌, Bool, true, false, nat_eq, nat_lt, [], ◌∷◌, slice_index_or, slice_set, bit_and, bit_or, Fits, w8, w32, w64, Bor, MutBor}
-use Rattle.prefix_keys.specs.declared.version.Version.{Version as AnyVersion}
-use Rattle.pmap_cert.specs.Node.{Node, label_of}
-use Rattle.pmap_cert.specs.Placing.{IsCompactNode, IsCompacted, IsShort, is_leaf, side_below}
-use Rattle.label_trie.specs.TrieModel.{LeafModel}
-use Rattle.pmap_minimise.specs.Compacting.{IsChained, IsLong, IsRest, IsRun, IsStep, IsStop, label_there, way_to}
-use Rattle.pmap_minimise.specs.Kept.{AreSetsKept}
-use Rattle.pmap_minimise.specs.Pricing.{IsAt, IsPricedAt}
-use Rattle.pmap_minimise.specs.Sketch.{IsSketchOf}
+use Rattle.std.proofs.Common.{◌∙◌, ap, arith, option_map, sym}
+use Rattle.std.proofs.lemmas.Option.{slice_get_within}
+use Rattle.pmap_text.specs.declared.label.LabelId.{LabelId}
+use Rattle.pmap_cert.specs.Placing.{side_below}
+use Rattle.pmap_minimise.proofs.Compacted.{high-inside, low-inside, own-side, price-inside, side-high, side-low}
+use Rattle.pmap_minimise.proofs.PricedMarks.{inner-there, leaf-there, lone-read_at, lone-there, mark-there, stands-inside}
 use Rattle.pmap_minimise.proofs.compacting.side_of.Goals as goal
 
--- src/compacting.rt:139:11
 pub index-requires : goal.index-requires
-index-requires c = ?
+index-requires c =
+    let inside = stands-inside c.args.sketch.now _ c.requires.0 c.args.number c.requires.1 c.requires.2 in
+    omega arith
 
--- src/compacting.rt:140:50
 pub overflow_add-number : goal.overflow_add-number
-overflow_add-number c = ?
+overflow_add-number c =
+    let inside = stands-inside c.args.sketch.now _ c.requires.0 c.args.number c.requires.1 c.requires.2 in
+    omega arith
 
--- src/compacting.rt:140:33
 pub label_at-requires : goal.label_at-requires
-label_at-requires c = ?
+label_at-requires c =
+    let s = c.args.sketch.now in
+    let there = mark-there s.marks.items c.args.number c.index.result.now _ (stands-inside s _ c.requires.0 c.args.number c.requires.1 c.requires.2) c.index.ensures c.in-Inner.is in
+    let inner = inner-there s _ c.requires.0 c.args.number c.requires.1 c.in-Inner.field-0 c.requires.2 there in
+    low-inside s c.args.prices.now c.requires.0 c.in-Inner.field-0 c.args.number c.requires.1 inner
 
--- src/compacting.rt:142:38
 pub offset_bounds-prices-number : goal.offset_bounds-prices-number
-offset_bounds-prices-number c = ?
+offset_bounds-prices-number c =
+    let s = c.args.sketch.now in
+    let there = mark-there s.marks.items c.args.number c.index.result.now _ (stands-inside s _ c.requires.0 c.args.number c.requires.1 c.requires.2) c.index.ensures c.in-Inner.is in
+    let inner = inner-there s _ c.requires.0 c.args.number c.requires.1 c.in-Inner.field-0 c.requires.2 there in
+    let inside = price-inside s c.args.prices.now c.requires.0 c.in-Inner.field-0 c.args.number c.requires.1 inner in
+    omega arith
 
--- src/compacting.rt:142:38
 pub bounds-prices-number : goal.bounds-prices-number
-bounds-prices-number c = ?
+bounds-prices-number c =
+    let s = c.args.sketch.now in
+    let there = mark-there s.marks.items c.args.number c.index.result.now _ (stands-inside s _ c.requires.0 c.args.number c.requires.1 c.requires.2) c.index.ensures c.in-Inner.is in
+    let inner = inner-there s _ c.requires.0 c.args.number c.requires.1 c.in-Inner.field-0 c.requires.2 there in
+    price-inside s c.args.prices.now c.requires.0 c.in-Inner.field-0 c.args.number c.requires.1 inner
 
--- src/compacting.rt:142:21
 pub label_at-requires-in-None : goal.label_at-requires-in-None
-label_at-requires-in-None c = ?
+label_at-requires-in-None c =
+    let s = c.args.sketch.now in
+    let there = mark-there s.marks.items c.args.number c.index.result.now _ (stands-inside s _ c.requires.0 c.args.number c.requires.1 c.requires.2) c.index.ensures c.in-Inner.is in
+    let inner = inner-there s _ c.requires.0 c.args.number c.requires.1 c.in-Inner.field-0 c.requires.2 there in
+    high-inside s c.args.prices.now c.requires.0 c.in-Inner.field-0 c.args.number c.requires.1 inner _
 
--- src/compacting.rt:144:32
 pub index-requires-in-Lone : goal.index-requires-in-Lone
-index-requires-in-Lone c = ?
+index-requires-in-Lone c =
+    let s = c.args.sketch.now in
+    let there = mark-there s.marks.items c.args.number c.index.result.now _ (stands-inside s _ c.requires.0 c.args.number c.requires.1 c.requires.2) c.index.ensures c.in-Lone.is in
+    let lone = lone-there s _ c.requires.0 c.args.number c.requires.1 c.in-Lone.at c.requires.2 there in
+    let inside = slice_get_within s.lones.items lone.lone.at lone.lone.lone lone.lone.listed in
+    let same = lone.at_is in
+    omega arith
 
--- src/compacting.rt:134:1
 pub returns-in-Some : goal.returns-in-Some
-returns-in-Some c = ?
+returns-in-Some c node end is =
+    let s = c.args.sketch.now in
+    let there = mark-there s.marks.items c.args.number c.index.result.now _ (stands-inside s _ node c.args.number end is) c.index.ensures c.in-Inner.is in
+    let inner = inner-there s _ node c.args.number end c.in-Inner.field-0 is there in
+    side-low s c.args.prices.now node c.in-Inner.field-0 c.args.number end inner (record { cost = 0; high = 0 }) c.in-Some.id.0
+    (sym (ap (option_map (λ (id : LabelId). id.0)) c.in-Some.is) ∙ c.label_at.ensures)
 
--- src/compacting.rt:134:1
 pub returns-in-None : goal.returns-in-None
-returns-in-None c = ?
+returns-in-None c node end is =
+    let s = c.args.sketch.now in
+    let there = mark-there s.marks.items c.args.number c.index.result.now _ (stands-inside s _ node c.args.number end is) c.index.ensures c.in-Inner.is in
+    let inner = inner-there s _ node c.args.number end c.in-Inner.field-0 is there in
+    side-high s c.args.prices.now node c.in-Inner.field-0 c.args.number end inner _ (option_map (λ (id : LabelId). id.0) c.label_at-in-None.result)
+    (sym (ap (option_map (λ (id : LabelId). id.0)) c.in-None.is) ∙ c.label_at.ensures) c.label_at-in-None.ensures
 
--- src/compacting.rt:134:1
 pub returns-in-Lone : goal.returns-in-Lone
-returns-in-Lone c = ?
+returns-in-Lone c node end is =
+    let s = c.args.sketch.now in
+    let there = mark-there s.marks.items c.args.number c.index.result.now _ (stands-inside s _ node c.args.number end is) c.index.ensures c.in-Lone.is in
+    let lone = lone-there s _ node c.args.number end c.in-Lone.at is there in
+    own-side s node c.args.number lone.lone c.index-in-Lone.result.now (lone-read_at s _ node c.in-Lone.at c.args.number end lone c.index-in-Lone.result.now c.index-in-Lone.ensures)
 
--- src/compacting.rt:134:1
 pub returns-in-Leaf : goal.returns-in-Leaf
-returns-in-Leaf c = ?
+returns-in-Leaf c node end is =
+    let s = c.args.sketch.now in
+    let there = mark-there s.marks.items c.args.number c.index.result.now _ (stands-inside s _ node c.args.number end is) c.index.ensures c.in-Leaf.is in
+    let leaf = leaf-there s _ node c.args.number end c.in-Leaf.field-0 is there in
+    sym (ap side_below leaf.node_is)
