@@ -1,22 +1,35 @@
-use Rattle.std.proofs.Common.{rules, ◌≡◌, ℕ, ◌++◌, ◌<◌, ◌≤◌, List, IfOk, MatchOption, OnOk, length, option_map, ◌+◌, ◌-◌, ◌*◌, ◌/◌, ◌%◌, Bool, true, false, nat_eq, nat_lt, [], ◌∷◌, slice_index_or, slice_set, bit_and, bit_or, Fits, w8, w32, w64, Bor, MutBor}
-use Rattle.prefix_keys.specs.declared.version.Version.{Version as AnyVersion}
-use Rattle.pmap_cert.specs.Node.{Node, label_of}
-use Rattle.pmap_cert.specs.Placing.{IsCompactNode, IsCompacted, IsShort, is_leaf, side_below}
-use Rattle.label_trie.specs.TrieModel.{LeafModel}
-use Rattle.pmap_minimise.specs.Compacting.{IsChained, IsLong, IsRest, IsRun, IsStep, IsStop, label_there, way_to}
-use Rattle.pmap_minimise.specs.Kept.{AreSetsKept}
-use Rattle.pmap_minimise.specs.Pricing.{IsAt, IsPricedAt}
-use Rattle.pmap_minimise.specs.Sketch.{IsSketchOf}
+use Rattle.std.proofs.Common.{◌++◌, ◌∙◌, List, ap, length, subst, sym}
+use Rattle.pmap_cert.specs.FormatReading.{DueLine}
+use Rattle.pmap_cert.specs.Node.{Node, lines_of}
+use Rattle.pmap_cert.specs.Placing.{IsCompactNode}
+use Rattle.pmap_minimise.specs.Pricing.{IsPricedAt}
+use Rattle.pmap_minimise.specs.declared.pricing.Price.{Price}
 use Rattle.pmap_minimise.proofs.compacting.compacted.Goals as goal
 
--- src/compacting.rt:228:5
+pub push_compact-requires-clause-kept : goal.push_compact-requires-clause-kept
+push_compact-requires-clause-kept c = c.requires.3.kept
+
 pub push_compact-requires-clause-stands : goal.push_compact-requires-clause-stands
-push_compact-requires-clause-stands c = ?
+push_compact-requires-clause-stands c =
+    let s = c.args.sketch.now in
+    let node = c.requires.2 in
+    let end = length s.marks.items in
+    (node, end, subst (λ (l : List Price). IsPricedAt s l node 0 end) (sym c.as_slice.ensures.value) (c.in_ok-prices.ensures c.requires.0 c.requires.1 node c.requires.3))
 
--- src/compacting.rt:229:8
 pub new-requires : goal.new-requires
-new-requires c = ?
+new-requires c =
+    let s = c.args.sketch.now in
+    let node = c.requires.2 in
+    let end = length s.marks.items in
+    let placed = subst (λ (l : List Price). IsPricedAt s l node 0 end) (sym c.as_slice.ensures.value) (c.in_ok-prices.ensures c.requires.0 c.requires.1 node c.requires.3) in
+    let done = c.in_ok-push_compact.ensures node end placed in
+    record { node = done.compact; is = done.lines ∙ ap (λ (ls : List DueLine). ls ++ lines_of done.compact) c.new-out.ensures }
 
--- src/compacting.rt:220:1
 pub returns : goal.returns
-returns c = ?
+returns c version leaves node sketch =
+    let s = c.args.sketch.now in
+    let end = length s.marks.items in
+    let placed = subst (λ (l : List Price). IsPricedAt s l node 0 end) (sym c.as_slice.ensures.value) (c.in_ok-prices.ensures version leaves node sketch) in
+    let done = c.in_ok-push_compact.ensures node end placed in
+    let same = c.new.ensures done.compact (done.lines ∙ ap (λ (ls : List DueLine). ls ++ lines_of done.compact) c.new-out.ensures) in
+    subst (IsCompactNode node) (sym same) done.is
