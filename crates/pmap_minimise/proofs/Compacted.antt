@@ -1,19 +1,18 @@
 -- How a certificate's nodes are compacted from the marks of its sketch.
-use Rattle.std.proofs.Common.{◌≡◌, ◌≢◌, ℕ, zero, suc, ◌+◌, ◌*◌, ◌/◌, ◌%◌, ◌^◌, ◌<◌, ◌≤◌, ◌==◌, ◌∙◌, ◌⊎◌, Bool, true, false, cond, List, [], ◌∷◌, ◌++◌, Option, Some, None, Result, length, get_or, slice_get, option_map, refl, sym, ap, subst, arith, inl, inr, length-append}
+use Rattle.std.proofs.Common.{◌≡◌, ◌≢◌, ℕ, zero, suc, ◌+◌, ◌<◌, ◌≤◌, ◌==◌, ◌∙◌, Bool, true, false, cond, List, [], ◌∷◌, ◌++◌, Option, Some, None, Result, length, get_or, slice_get, refl, sym, ap, subst, arith, inl, inr}
 use Rattle.std.specs.Prelude.{IfOk, OnOk}
 use Rattle.std.specs.Option.{option_or}
 use Rattle.std.proofs.lemmas.Bool.{eq-eqb, ne_eqb}
 use Rattle.std.proofs.lemmas.List.{append-nil}
-use Rattle.std.proofs.lemmas.Option.{get_or_from_slice_get, none-some, same_Some, slice_get_within}
+use Rattle.std.proofs.lemmas.Option.{get_or_from_slice_get, slice_get_within}
 use Rattle.std.proofs.lemmas.Result.{IfOk-weaker}
 use Rattle.pmap_text.specs.declared.label.LabelId.{LabelId}
-use Rattle.pmap_cert.specs.CertificateReading.{LeafLine}
-use Rattle.pmap_cert.specs.FormatReading.{ChainLine, DueLine, PlainLine}
-use Rattle.pmap_cert.specs.Node.{Chain, Inner, Leaf, Node, cost_of, label_of, set_of}
+use Rattle.pmap_cert.specs.FormatReading.{ChainLine, DueLine}
+use Rattle.pmap_cert.specs.Node.{Chain, Inner, Leaf, Node, cost_of, label_of}
 use Rattle.pmap_cert.specs.Placing.{IsCompacted, bits_down, end_down, is_leaf, side_below}
 use Rattle.pmap_cert.proofs.CompactNodes.{chain-lines, leaf-lines}
-use Rattle.pmap_minimise.specs.Compacting.{IsChained, IsEnd, IsFrom, IsGoingDown, IsLast, IsRest, IsRun, IsRunEnd, IsStep, IsStop, label_by, label_there, way_to}
-use Rattle.pmap_minimise.specs.Pricing.{HasPrice, IsAt, IsInnerAt, IsLoneAt, IsPricedAt, Stands}
+use Rattle.pmap_minimise.specs.Compacting.{IsChained, IsGoingDown, IsRest, IsRun, IsRunEnd, IsStep, IsStop, label_by, label_there, way_to}
+use Rattle.pmap_minimise.specs.Pricing.{HasPrice, IsLoneAt, IsPricedAt, Stands}
 use Rattle.pmap_minimise.specs.Sketch.{digit, lone_node, node_over, set_above}
 use Rattle.pmap_minimise.specs.declared.compacting.End.{End}
 use Rattle.pmap_minimise.specs.declared.compacting.End.TheVariants.{Leaf as LeafEnd, Mark as MarkEnd}
@@ -22,7 +21,7 @@ use Rattle.pmap_minimise.specs.declared.set_list.SetId.{SetId}
 use Rattle.pmap_minimise.specs.declared.sketch.LoneAddress.{LoneAddress}
 use Rattle.pmap_minimise.specs.declared.sketch.Mark.TheVariants.{Inner as InnerMark}
 use Rattle.pmap_minimise.specs.declared.sketch.Sketch.{Sketch}
-use Rattle.pmap_minimise.proofs.PricedMarks.{IsInnerNode, IsLoneNode, lone-claims, lone-not_inner, stands-after, stands-inside}
+use Rattle.pmap_minimise.proofs.PricedMarks.{IsInnerNode, lone-claims, lone-not_inner, stands-after, stands-inside}
 
 -- what holds where a call went well holds in another form too
 pub if_ok : {T E : Type 0} (r : Result T E) (P Q : T → Type 0) → IfOk r P → ((x : T) → P x → Q x) → IfOk r Q

@@ -1,9 +1,9 @@
 -- Where a certificate's nodes are among the marks of a sketch, and how their prices are found.
-use Rattle.std.proofs.Common.{◌≡◌, ◌≢◌, ℕ, zero, suc, ◌+◌, ◌*◌, ◌^◌, ◌<◌, ◌≤◌, ◌∙◌, ◌⊎◌, Bool, true, false, List, [], ◌∷◌, ◌++◌, Option, Some, None, All, length, get_or, set, slice_get, refl, sym, ap, subst, arith, inl, inr, length-append, true≢false}
+use Rattle.std.proofs.Common.{◌≡◌, ◌≢◌, ℕ, zero, suc, ◌+◌, ◌*◌, ◌^◌, ◌<◌, ◌≤◌, ◌∙◌, Bool, true, false, List, [], ◌∷◌, ◌++◌, Option, Some, None, All, length, get_or, set, slice_get, refl, sym, ap, subst, arith, inl, inr, length-append, true≢false}
 use Rattle.std.specs.Prelude.{◌↔◌, IsTrue}
-use Rattle.std.proofs.lemmas.List.{append_assoc, append-nil, get_or-set_same, length-set}
+use Rattle.std.proofs.lemmas.List.{append_assoc, append-nil, length-set}
 use Rattle.std.proofs.lemmas.List.Elements.{All-cons, All-nil, All-weaker}
-use Rattle.std.proofs.lemmas.Option.{none-some, same_Some, slice_get-get_or, slice_get_read, slice_get_within}
+use Rattle.std.proofs.lemmas.Option.{none-some, same_Some, slice_get_read, slice_get_within}
 use Rattle.prefix_keys.specs.Version.{width_of}
 use Rattle.prefix_keys.specs.declared.version.Version.{Version}
 use Rattle.prefix_keys.specs.declared.version.Version.TheVariants.{V4, V6}
@@ -15,8 +15,8 @@ use Rattle.pmap_minimise.specs.Certified.{IsKnownLeaf}
 use Rattle.pmap_minimise.specs.Kept.{IsSetOf, larger_in}
 use Rattle.pmap_minimise.specs.Numbers.{IsExact, IsExactBy, common_numbers, numbers_of}
 use Rattle.pmap_minimise.specs.Outline.{Fork, IsNodeFor, Plan, Tip}
-use Rattle.pmap_minimise.specs.Pricing.{ArePricesOf, HasPrice, IsAt, IsInnerAt, IsLeafAt, IsLoneAt, IsLoneTo, IsPricedAt, Stands}
-use Rattle.pmap_minimise.specs.Sketch.{AreMarks, IsInnerMark, IsLoneMark, IsSketchOf, lone_node, node_over, digit, set_above}
+use Rattle.pmap_minimise.specs.Pricing.{ArePricesOf, HasPrice, IsAt, IsInnerAt, IsLoneAt, IsPricedAt, Stands}
+use Rattle.pmap_minimise.specs.Sketch.{AreMarks, IsSketchOf, lone_node, node_over, digit}
 use Rattle.pmap_minimise.specs.declared.pricing.Price.{Price}
 use Rattle.pmap_minimise.specs.declared.pricing.Total.{Total}
 use Rattle.pmap_minimise.specs.declared.set_list.SetId.{SetId}

@@ -46,8 +46,8 @@ fn is_leaf(sketch: &Sketch, number: usize, label: LabelId) -> bool
     }
 }
 
-// The step of a run of the side label from the mark with this number: the bit and the number of the half that is chosen,
-// none where the run ends or goes on to a lone address.
+// The step of a run of the side label from the mark with this number: the bit and the number of the half that is
+// chosen, none where the run ends or goes on to a lone address.
 fn step(sketch: &Sketch, prices: &[Price], number: usize, side: LabelId) -> Option<(bool, usize)>
     requires { (node : Node) × (end : ℕ) × IsPricedAt sketch.now prices.now node number end }
     ensures { (node : Node) (end : ℕ) → IsPricedAt sketch.now prices.now node number end
@@ -82,8 +82,8 @@ fn push_way(bits: &mut Vec<bool>, lone: &LoneAddress) -> Result<(), AllocError>
     Ok(())
 }
 
-// The end of a run of the side label that has come to the mark with this number, from which it goes on to a lone address
-// among others with that label.
+// The end of a run of the side label that has come to the mark with this number, from which it goes on to a lone
+// address among others with that label.
 fn end_at(
     bits: &mut Vec<bool>,
     sketch: &Sketch,
@@ -130,7 +130,7 @@ fn go_down(
     end_at(bits, sketch, number, side)
 }
 
-// The side label of the run of the mark with this number, which is no leaf's.
+// The side label of the run from the mark with this number, none where no half is a leaf.
 fn side_of(sketch: &Sketch, prices: &[Price], number: usize) -> Option<LabelId>
     requires { (node : Node) × (end : ℕ) × IsPricedAt sketch.now prices.now node number end }
     ensures { (node : Node) (end : ℕ) → IsPricedAt sketch.now prices.now node number end
@@ -146,7 +146,8 @@ fn side_of(sketch: &Sketch, prices: &[Price], number: usize) -> Option<LabelId>
     }
 }
 
-// The side label and the end of the run from the mark with this number, where that has two bits or more, which are kept.
+// The side label and the end of the run from the mark with this number, where that has two bits or more, which are
+// kept.
 fn run_of(
     bits: &mut Vec<bool>,
     sketch: &Sketch,
@@ -218,7 +219,8 @@ fn push_compact(
 
 /// The root of a certificate by its sketch, compacted.
 pub fn compacted(alloc: Global, sketch: &Sketch) -> Result<Root, AllocError>
-    requires { (version : AnyVersion) × (leaves : List LeafModel) × (node : Node) × IsSketchOf version leaves sketch.now node }
+    requires { (version : AnyVersion) × (leaves : List LeafModel) × (node : Node)
+        × IsSketchOf version leaves sketch.now node }
     ensures { IfOk result (λ root. (version : AnyVersion) (leaves : List LeafModel) (node : Node)
         → IsSketchOf version leaves sketch.now node → IsCompactNode node root) }
 {

@@ -91,7 +91,8 @@ fn push_prices(prices: &mut Vec<Price>, sketch: &Sketch, number: usize) -> Resul
 
 /// The prices of a sketch, one for each mark. That of a leaf or a lone address says nothing.
 pub fn priced(alloc: Global, sketch: &Sketch) -> Result<Vec<Price>, AllocError>
-    requires { (version : AnyVersion) × (leaves : List LeafModel) × (node : Node) × IsSketchOf version leaves sketch.now node }
+    requires { (version : AnyVersion) × (leaves : List LeafModel) × (node : Node)
+        × IsSketchOf version leaves sketch.now node }
     ensures { IfOk result (λ prices. (version : AnyVersion) (leaves : List LeafModel) (node : Node)
         → IsSketchOf version leaves sketch.now node
         → IsPricedAt sketch.now prices.items node 0 (length sketch.now.marks.items)) }

@@ -1,11 +1,11 @@
-use Rattle.std.proofs.Common.{◌≡◌, ◌∷◌, ◌++◌, ◌∙◌, [], Bool, List, ap, arith, get_or, map, refl, sym}
+use Rattle.std.proofs.Common.{◌∷◌, ◌++◌, ◌∙◌, [], Bool, List, ap, arith, get_or, map, refl, sym}
 use Rattle.std.proofs.lemmas.Option.{slice_get_within}
 use Rattle.pmap_text.specs.declared.label.LabelId.{LabelId}
 use Rattle.pmap_cert.specs.FormatReading.{ChainLine}
 use Rattle.pmap_cert.specs.Node.{Node, set_of}
 use Rattle.pmap_cert.specs.Placing.{end_down}
 use Rattle.pmap_cert.proofs.CompactNodes.{chain-lines, inner-lines, leaf-lines}
-use Rattle.pmap_minimise.proofs.Compacted.{high-after, high-stands, lone-lines, low-inside, on_ok, own-few, price-cost, price-inside}
+use Rattle.pmap_minimise.proofs.Compacted.{high-after, high-stands, lone-lines, on_ok, own-few, price-cost, price-inside}
 use Rattle.pmap_minimise.proofs.PricedMarks.{inner-there, leaf-there, lone-read_at, lone-there, mark-there, stands-inside}
 use Rattle.pmap_minimise.proofs.compacting.+push_compact.Goals as goal
 

@@ -1,6 +1,6 @@
 use Rattle.std.proofs.Common.{◌++◌, ◌∙◌, List, ap, length, subst, sym}
 use Rattle.pmap_cert.specs.FormatReading.{DueLine}
-use Rattle.pmap_cert.specs.Node.{Node, lines_of}
+use Rattle.pmap_cert.specs.Node.{lines_of}
 use Rattle.pmap_cert.specs.Placing.{IsCompactNode}
 use Rattle.pmap_minimise.specs.Pricing.{IsPricedAt}
 use Rattle.pmap_minimise.specs.declared.pricing.Price.{Price}

@@ -1,4 +1,4 @@
-use Rattle.std.proofs.Common.{◌≡◌, ◌⊎◌, Some, arith, inl, inr, slice_get, subst, sym}
+use Rattle.std.proofs.Common.{arith}
 use Rattle.std.proofs.lemmas.Option.{slice_get_within}
 use Rattle.pmap_minimise.proofs.Compacted.{end-leaf, other-side, own-few, rest-none, rest-way, stop-inner}
 use Rattle.pmap_minimise.proofs.PricedMarks.{leaf-there, lone-read_at, lone-there, mark-there, stands-inside}

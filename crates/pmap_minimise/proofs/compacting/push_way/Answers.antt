@@ -1,4 +1,4 @@
-use Rattle.std.proofs.Common.{◌≡◌, ◌-◌, ◌∷◌, ◌∙◌, ◌==◌, ◌++◌, [], suc, Bool, List, ap, arith, sym}
+use Rattle.std.proofs.Common.{◌≡◌, ◌-◌, ◌∷◌, ◌∙◌, ◌==◌, ◌++◌, [], suc, Bool, List, ap, arith}
 use Rattle.std.proofs.lemmas.List.{append_assoc}
 use Rattle.pmap_minimise.specs.Compacting.{way_to}
 use Rattle.pmap_minimise.specs.Sketch.{digit}

@@ -1,5 +1,4 @@
 use Rattle.std.proofs.Common.{◌∙◌, arith, inl, inr, sym}
-use Rattle.std.proofs.lemmas.Option.{slice_get_within}
 use Rattle.pmap_minimise.proofs.Compacted.{end-leaf, high-inside, high-label, low-inside, low-label, price-inside, step-lower, step-none, step-upper}
 use Rattle.pmap_minimise.proofs.PricedMarks.{inner-there, leaf-there, lone-there, mark-there, stands-inside}
 use Rattle.pmap_minimise.proofs.compacting.step.Goals as goal

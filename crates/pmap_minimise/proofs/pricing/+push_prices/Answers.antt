@@ -1,5 +1,4 @@
-use Rattle.std.proofs.Common.{◌≡◌, ◌∙◌, ap, arith, length, refl, subst, sym, ℕ, ◌+◌, ◌<◌, length-append}
-use Rattle.std.proofs.lemmas.Option.{slice_get_within}
+use Rattle.std.proofs.Common.{◌≡◌, arith, refl, subst, sym, ℕ, ◌+◌}
 use Rattle.pmap_minimise.specs.Numbers.{numbers_of}
 use Rattle.pmap_minimise.specs.Pricing.{IsAt}
 use Rattle.pmap_minimise.proofs.PricedMarks.{after-push, cost-apart, cost-shared, exact-sum, inner-prices, inner-there, leaf-prices, leaf-there, lone-prices, lone-there, mark-there, stands-after, stands-inside}
