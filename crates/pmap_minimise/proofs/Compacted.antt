@@ -1,329 +1,295 @@
--- A certificate's nodes where they stand in a trie, and their claims among those that are kept.
-use Rattle.std.proofs.Common.{◌≡◌, ℕ, ◌+◌, ◌-◌, ◌*◌, ◌/◌, ◌<◌, ◌≤◌, ◌∙◌, Bool, true, false, List, [], ◌∷◌, ◌++◌, Option, Some, None, cond, length, get_or, slice_get, refl, sym, ap, subst, arith, length-append}
-use Rattle.std.specs.Option.{ForSome, option_or}
-use Rattle.std.proofs.lemmas.List.{append-nil, append_assoc, get_or_at}
-use Rattle.std.proofs.lemmas.Option.{none-some, slice_get-get_or}
+-- How a certificate's nodes are compacted from the marks of its sketch.
+use Rattle.std.proofs.Common.{◌≡◌, ◌≢◌, ℕ, zero, suc, ◌+◌, ◌<◌, ◌≤◌, ◌==◌, ◌∙◌, Bool, true, false, cond, List, [], ◌∷◌, ◌++◌, Option, Some, None, Result, length, get_or, slice_get, refl, sym, ap, subst, arith, inl, inr}
+use Rattle.std.specs.Prelude.{IfOk, OnOk}
+use Rattle.std.specs.Option.{option_or}
+use Rattle.std.proofs.lemmas.Bool.{eq-eqb, ne_eqb}
+use Rattle.std.proofs.lemmas.List.{append-nil}
+use Rattle.std.proofs.lemmas.Option.{get_or_from_slice_get, slice_get_within}
+use Rattle.std.proofs.lemmas.Result.{IfOk-weaker}
 use Rattle.pmap_text.specs.declared.label.LabelId.{LabelId}
-use Rattle.label_trie.specs.TrieModel.{NodeModel}
-use Rattle.pmap_cert.specs.Node.{Chain, Inner, IsPlainNode, Leaf, Node, cost_of, label_of, set_of}
-use Rattle.pmap_cert.specs.Placing.{bits_down, end_down, is_leaf, side_below}
-use Rattle.pmap_minimise.specs.Claiming.{claims_of}
-use Rattle.pmap_minimise.specs.Compacting.{HasClaimsBelow, HasPart, IsPlaced, IsRun, IsRunEnd, IsStep, StandsAt, inners}
-use Rattle.pmap_minimise.specs.Numbers.{Claim, no_claim}
-use Rattle.pmap_minimise.specs.Outline.{outline_of}
-use Rattle.pmap_minimise.specs.declared.outline.Part.{Part}
-use Rattle.pmap_minimise.specs.declared.outline.Part.TheVariants.{Divided, Labelled}
+use Rattle.pmap_cert.specs.FormatReading.{ChainLine, DueLine}
+use Rattle.pmap_cert.specs.Node.{Chain, Inner, Leaf, Node, cost_of, label_of}
+use Rattle.pmap_cert.specs.Placing.{IsCompacted, bits_down, end_down, is_leaf, side_below}
+use Rattle.pmap_cert.proofs.CompactNodes.{chain-lines, leaf-lines}
+use Rattle.pmap_minimise.specs.Compacting.{IsChained, IsGoingDown, IsRest, IsRun, IsRunEnd, IsStep, IsStop, label_by, label_there, way_to}
+use Rattle.pmap_minimise.specs.Pricing.{HasPrice, IsLoneAt, IsPricedAt, Stands}
+use Rattle.pmap_minimise.specs.Sketch.{digit, lone_node, node_over, set_above}
+use Rattle.pmap_minimise.specs.declared.compacting.End.{End}
+use Rattle.pmap_minimise.specs.declared.compacting.End.TheVariants.{Leaf as LeafEnd, Mark as MarkEnd}
+use Rattle.pmap_minimise.specs.declared.pricing.Price.{Price}
+use Rattle.pmap_minimise.specs.declared.set_list.SetId.{SetId}
+use Rattle.pmap_minimise.specs.declared.sketch.LoneAddress.{LoneAddress}
+use Rattle.pmap_minimise.specs.declared.sketch.Mark.TheVariants.{Inner as InnerMark}
+use Rattle.pmap_minimise.specs.declared.sketch.Sketch.{Sketch}
+use Rattle.pmap_minimise.proofs.PricedMarks.{IsInnerNode, lone-claims, lone-not_inner, stands-after, stands-inside}
 
--- a node that stands in a trie has no chain
-stands-plain : (nodes : List NodeModel) (number : ℕ) (node : Node) → StandsAt nodes number node → IsPlainNode node
-stands-plain nodes number (Leaf label) stands = tt
-stands-plain nodes number (Inner cost set lower upper) stands =
-    (stands-plain nodes (number + 1) lower stands.1, stands-plain nodes (number + 2 * inners lower + 2) upper stands.2)
-stands-plain nodes number (Chain cost set bits side end) stands = absurd stands
+-- what holds where a call went well holds in another form too
+pub if_ok : {T E : Type 0} (r : Result T E) (P Q : T → Type 0) → IfOk r P → ((x : T) → P x → Q x) → IfOk r Q
+if_ok r P Q holds so = IfOk-weaker r P Q so holds
 
--- the trie's node where it stands
-record IsThere (nodes : List NodeModel) (number : ℕ) (node : Node) : Type 0 where
-  inside : number < length nodes
-  count : ForSome (slice_get nodes number) (λ model. length model.leaves ≡ inners node + 1)
+pub on_ok : {T E : Type 0} (r : Result T E) (P Q : Type 0) → OnOk r P → (P → Q) → OnOk r Q
+on_ok r P Q holds so = IfOk-weaker r (λ x. P) (λ x. Q) (λ x. so) holds
 
-there : (nodes : List NodeModel) (number : ℕ) (node : Node) → StandsAt nodes number node → IsThere nodes number node
-there nodes number (Leaf label) stands = record { inside = stands.inside; count = stands.count }
-there nodes number (Inner cost set lower upper) stands =
-    record { inside = stands.0.inside; count = λ model e. let count = stands.0.count model e in omega arith }
-there nodes number (Chain cost set bits side end) stands = absurd stands
+-- what a mark says of the label of its node
+pub stands-label : (s : Sketch) (P : ℕ → ℕ → ℕ → Type 0) (node : Node) (number end : ℕ) → Stands s P node number end → label_of node ≡ label_there s number
+stands-label s P (Leaf label) number end is = sym (ap label_by is.mark_is)
+stands-label s P (Inner cost set lower upper) number end (inl is) = sym (ap label_by is.lone.mark_is)
+stands-label s P (Inner cost set lower upper) number end (inr is) = sym (ap label_by is.mark_is)
+stands-label s P (Chain cost set bits side down) number end is = absurd is
 
-pub stands-inside : (nodes : List NodeModel) (number : ℕ) (node : Node) → StandsAt nodes number node → number < length nodes
-stands-inside nodes number node stands = let at = there nodes number node stands in at.inside
+-- an inner node by its mark and its price
+module _ (s : Sketch) (prices : List Price) (node : Node) (id : SetId) (number end : ℕ) (is : IsInnerNode s (HasPrice prices) node id number end) where
+  pub price-inside : number < length prices
+  price-inside = slice_get_within prices number _ is.inner.price
 
--- what the trie has there says which node it is
-labelled-number : (a b : LabelId) → ◌≡◌ {A = Part} (Labelled a) (Labelled b) → b.0 ≡ a.0
-labelled-number a b e = cc
+  pub low-inside : number + 1 < length s.marks.items
+  low-inside = stands-inside s (HasPrice prices) is.lower (number + 1) is.inner.middle is.inner.low_is
 
-not-both : (a : LabelId) → ◌≡◌ {A = Part} (Labelled a) Divided → ⊥
-not-both a e = cc
+  module _ (d : Price) where
+    price-is : get_or prices number d ≡ record { cost = is.cost; high = is.inner.middle }
+    price-is = get_or_from_slice_get prices number (record { cost = is.cost; high = is.inner.middle }) d is.inner.price
 
-pub leaf-there : (nodes : List NodeModel) (number : ℕ) (node : Node) (id : LabelId) → StandsAt nodes number node → Labelled id ≡ get_or (outline_of nodes) number Divided → node ≡ Leaf id.0
-leaf-there nodes number (Leaf label) id stands is = ap Leaf (labelled-number id (record { 0 = label }) (is ∙ stands.is))
-leaf-there nodes number (Inner cost set lower upper) id stands is = absurd (not-both id (is ∙ stands.0.is))
-leaf-there nodes number (Chain cost set bits side end) id stands is = absurd stands
+    pub price-cost : (get_or prices number d).cost ≡ cost_of node
+    price-cost = ap (λ (p : Price). p.cost) price-is ∙ sym (ap cost_of is.node_is)
 
-pub inner-there : (nodes : List NodeModel) (number : ℕ) (node : Node) → StandsAt nodes number node → Divided ≡ get_or (outline_of nodes) number Divided → label_of node ≡ None
-inner-there nodes number (Leaf label) stands is = absurd (not-both (record { 0 = label }) (sym stands.is ∙ sym is))
-inner-there nodes number (Inner cost set lower upper) stands is = refl
-inner-there nodes number (Chain cost set bits side end) stands is = absurd stands
+    pub high-number : (get_or prices number d).high ≡ is.inner.middle
+    high-number = ap (λ (p : Price). p.high) price-is
 
--- so two nodes that stand there are both leaves or both inner ones
-pub same-kind : (nodes : List NodeModel) (number : ℕ) (node other : Node) → StandsAt nodes number node → StandsAt nodes number other → label_of node ≡ None → label_of other ≡ None
-same-kind nodes number (Leaf label) other stands others none = absurd (none-some label (sym none))
-same-kind nodes number (Inner cost set lower upper) other stands others none = inner-there nodes number other others (sym stands.0.is)
-same-kind nodes number (Chain cost set bits side end) other stands others none = absurd stands
+    pub high-stands : IsPricedAt s prices is.upper (get_or prices number d).high end
+    high-stands = subst (λ (n : ℕ). IsPricedAt s prices is.upper n end) (sym high-number) is.inner.high_is
 
--- an inner node and its halves
-pub record HasHalvesAt (nodes : List NodeModel) (number : ℕ) (node : Node) : Type 0 where
-  pub cost : ℕ
-  pub set : List ℕ
-  pub lower : Node
-  pub upper : Node
-  pub is : node ≡ Inner cost set lower upper
-  pub part : HasPart nodes number Divided (inners lower + inners upper + 2)
-  pub low : StandsAt nodes (number + 1) lower
-  pub up : StandsAt nodes (number + 2 * inners lower + 2) upper
+    pub high-inside : (get_or prices number d).high < length s.marks.items
+    high-inside = stands-inside s (HasPrice prices) is.upper (get_or prices number d).high end high-stands
 
-pub halves-at : (nodes : List NodeModel) (number : ℕ) (node : Node) → StandsAt nodes number node → label_of node ≡ None → HasHalvesAt nodes number node
-halves-at nodes number (Leaf label) stands none = absurd (none-some label (sym none))
-halves-at nodes number (Inner cost set lower upper) stands none = record {
-  cost = cost;
-  set = set;
-  lower = lower;
-  upper = upper;
-  is = refl;
-  part = stands.0;
-  low = stands.1;
-  up = stands.2;
-}
-halves-at nodes number (Chain cost set bits side end) stands none = absurd stands
-
-module _ (nodes : List NodeModel) (number : ℕ) (node : Node) (halves : HasHalvesAt nodes number node) where
-  pub halves-divided : ForSome (slice_get nodes number) (λ model. 2 ≤ length model.leaves)
-  halves-divided = λ model e. let count = halves.part.count model e in omega arith
-
-  pub low-inside : number + 1 < length nodes
-  low-inside = stands-inside nodes (number + 1) halves.lower halves.low
-
-  -- the side label of its run
-  pub side-low : (label : ℕ) → label_of halves.lower ≡ Some label → Some label ≡ side_below node
-  side-low label is = sym (ap side_below halves.is ∙ ap (λ (o : Option ℕ). option_or o (label_of halves.upper)) is)
-
-  pub side-up : label_of halves.lower ≡ None → label_of halves.upper ≡ side_below node
-  side-up none = sym (ap side_below halves.is ∙ ap (λ (o : Option ℕ). option_or o (label_of halves.upper)) none)
-
-  -- the number of the upper half
-  module _ (high : ℕ) (is : ForSome (slice_get nodes (number + 1)) (λ low. high + 1 ≡ number + 1 + 2 * length low.leaves)) where
-    pub high-number : high ≡ number + 2 * inners halves.lower + 2
-    high-number =
-        let at = there nodes (number + 1) halves.lower halves.low in
-        let model : NodeModel = get_or nodes (number + 1) no_model in
-        let some = slice_get-get_or nodes (number + 1) no_model at.inside in
-        let count = at.count model some in
-        let own = is model some in
+    pub high-after : number + 1 < (get_or prices number d).high
+    high-after =
+        let middle = stands-after s (HasPrice prices) is.lower (number + 1) is.inner.middle is.inner.low_is in
+        let same = high-number in
         omega arith
-      where
-        no_model : NodeModel
-        no_model = record { bits = 0; number = 0; leaves = [] }
 
-    pub high-stands : StandsAt nodes high halves.upper
-    high-stands = subst (λ (k : ℕ). StandsAt nodes k halves.upper) (sym high-number) halves.up
+    -- the label of each half
+    pub low-label : label_of is.lower ≡ label_there s (number + 1)
+    low-label = stands-label s (HasPrice prices) is.lower (number + 1) is.inner.middle is.inner.low_is
+
+    pub high-label : label_of is.upper ≡ label_there s (get_or prices number d).high
+    high-label = stands-label s (HasPrice prices) is.upper (get_or prices number d).high end high-stands
+
+    -- the side label of its run
+    pub side-low : (label : ℕ) → Some label ≡ label_there s (number + 1) → Some label ≡ side_below node
+    side-low label said =
+        sym (ap side_below is.node_is ∙ ap (λ (o : Option ℕ). option_or o (label_of is.upper)) (low-label ∙ sym said))
+
+    pub side-high : (o : Option ℕ) → None ≡ label_there s (number + 1) → o ≡ label_there s (get_or prices number d).high → o ≡ side_below node
+    side-high o none said =
+        said ∙ sym high-label
+        ∙ sym (ap side_below is.node_is ∙ ap (λ (o : Option ℕ). option_or o (label_of is.upper)) (low-label ∙ sym none))
 
     -- the steps of a run
     module _ (side : ℕ) where
-      bits-here : (b c : Bool) → is_leaf side halves.lower ≡ b → is_leaf side halves.upper ≡ c
-          → bits_down side node ≡ cond b (true ∷ bits_down side halves.upper) (cond c (false ∷ bits_down side halves.lower) [])
+      bits-here : (b c : Bool) → is_leaf side is.lower ≡ b → is_leaf side is.upper ≡ c
+          → bits_down side node ≡ cond b (true ∷ bits_down side is.upper) (cond c (false ∷ bits_down side is.lower) [])
       bits-here b c first second =
-          ap (bits_down side) halves.is ∙ (λ i. cond (first i) (true ∷ bits_down side halves.upper) (cond (second i) (false ∷ bits_down side halves.lower) []))
+          ap (bits_down side) is.node_is ∙ (λ i. cond (first i) (true ∷ bits_down side is.upper) (cond (second i) (false ∷ bits_down side is.lower) []))
 
-      end-here : (b c : Bool) → is_leaf side halves.lower ≡ b → is_leaf side halves.upper ≡ c
-          → end_down side node ≡ cond b (end_down side halves.upper) (cond c (end_down side halves.lower) (Inner halves.cost halves.set halves.lower halves.upper))
+      end-here : (b c : Bool) → is_leaf side is.lower ≡ b → is_leaf side is.upper ≡ c
+          → end_down side node ≡ cond b (end_down side is.upper) (cond c (end_down side is.lower) (Inner is.cost is.set is.lower is.upper))
       end-here b c first second =
-          ap (end_down side) halves.is
-          ∙ (λ i. cond (first i) (end_down side halves.upper) (cond (second i) (end_down side halves.lower) (Inner halves.cost halves.set halves.lower halves.upper)))
+          ap (end_down side) is.node_is
+          ∙ (λ i. cond (first i) (end_down side is.upper) (cond (second i) (end_down side is.lower) (Inner is.cost is.set is.lower is.upper)))
 
-      pub step-upper : is_leaf side halves.lower ≡ true → IsStep nodes side number node true high
+      pub step-upper : is_leaf side is.lower ≡ true → IsStep s prices side number node true (get_or prices number d).high
       step-upper first = record {
-        next = halves.upper;
-        stands = high-stands;
-        bits = bits-here true (is_leaf side halves.upper) first refl;
-        end = end-here true (is_leaf side halves.upper) first refl;
-        after = let place = high-number in omega arith;
+        next = is.upper;
+        stands = record { end = end; priced = high-stands; after = let more = high-after in omega arith };
+        bits = bits-here true (is_leaf side is.upper) first refl;
+        end = end-here true (is_leaf side is.upper) first refl;
       }
 
-      pub step-lower : is_leaf side halves.lower ≡ false → is_leaf side halves.upper ≡ true → IsStep nodes side number node false (number + 1)
+      pub step-lower : is_leaf side is.lower ≡ false → is_leaf side is.upper ≡ true → IsStep s prices side number node false (number + 1)
       step-lower first second = record {
-        next = halves.lower;
-        stands = halves.low;
+        next = is.lower;
+        stands = record { end = is.inner.middle; priced = is.inner.low_is; after = omega arith };
         bits = bits-here false true first second;
         end = end-here false true first second;
-        after = omega arith;
       }
 
-      pub step-none : is_leaf side halves.lower ≡ false → is_leaf side halves.upper ≡ false → IsRunEnd side node
-      step-none first second = record {
+      pub step-none : is_leaf side is.lower ≡ false → is_leaf side is.upper ≡ false → IsStop s side node number
+      step-none first second = inl (record {
         bits = bits-here false false first second;
-        end = end-here false false first second ∙ sym halves.is;
-      }
+        end = end-here false false first second ∙ sym is.node_is;
+      })
 
 -- a run ends at a leaf
 pub end-leaf : (side number : ℕ) (node : Node) → node ≡ Leaf number → IsRunEnd side node
 end-leaf side number node is = record { bits = ap (bits_down side) is; end = ap (end_down side) is ∙ sym is }
 
--- The claims of a node. There are as many as inner nodes.
-pub few-below : (claims : List Claim) (left : ℕ) (node : Node) → HasClaimsBelow claims left node → inners node ≤ left
-few-below claims left (Leaf label) below = omega arith
-few-below claims left (Inner cost set lower upper) below =
-    let some = below.0.some in
-    let low = few-below claims (left - 1) lower below.1 in
-    let up = few-below claims (left - (inners lower + 1)) upper below.2 in
-    omega arith
-few-below claims left (Chain cost set bits side end) below = absurd below
+-- The nodes of a lone address.
 
-claims-count : (node : Node) → IsPlainNode node → length (claims_of node) ≡ inners node
-claims-count (Leaf label) plain = refl
-claims-count (Inner cost set lower upper) plain =
-    let own : Claim = record { cost = cost; set = set } in
-    let low = claims-count lower plain.0 in
-    let up = claims-count upper plain.1 in
-    omega (arith, length-append (claims_of upper ++ claims_of lower) (own ∷ []), length-append (claims_of upper) (claims_of lower))
-claims-count (Chain cost set bits side end) plain = absurd plain
+over-leaf : (x d : ℕ) (set : List ℕ) (way other : Node) → is_leaf x (node_over d set way other) ≡ false
+over-leaf x zero set way other = refl
+over-leaf x (suc d) set way other = refl
 
--- where a node's claims stand behind others, they are the last so far
-below-in : (claims before behind : List Claim) (node : Node) (left : ℕ) → IsPlainNode node → claims ≡ before ++ (claims_of node ++ behind) → left ≡ length before + inners node
-    → HasClaimsBelow claims left node
-below-in claims before behind (Leaf label) left plain is count = tt
-below-in claims before behind (Chain cost set bits side end) left plain is count = absurd plain
-below-in claims before behind (Inner cost set lower upper) left plain is count =
-    let own : Claim = record { cost = cost; set = set } in
-    let low : List Claim = claims_of lower in
-    let up : List Claim = claims_of upper in
-    let rest : List Claim = own ∷ behind in
-    let apart : claims ≡ before ++ (up ++ (low ++ rest)) =
-    is ∙ ap (λ (s : List Claim). before ++ s) (append_assoc (up ++ low) (own ∷ []) behind ∙ append_assoc up low rest) in
-    let middle : claims ≡ (before ++ up) ++ (low ++ rest) = apart ∙ sym (append_assoc before up (low ++ rest)) in
-    let last : claims ≡ ((before ++ up) ++ low) ++ rest = middle ∙ sym (append_assoc (before ++ up) low rest) in
-    let low_count = claims-count lower plain.0 in
-    let up_count = claims-count upper plain.1 in
-    let front = length-append before up in
-    let place : length ((before ++ up) ++ low) ≡ left - 1 = omega (arith, length-append (before ++ up) low) in
-    let all : length claims ≡ length ((before ++ up) ++ low) + length rest = ap length last ∙ length-append ((before ++ up) ++ low) rest in (
-      record {
-        some = omega arith;
-        within = omega arith;
-        own = ap (λ (s : List Claim). get_or s (left - 1) no_claim) last ∙ get_or_at ((before ++ up) ++ low) own behind no_claim (left - 1) place;
-      },
-      below-in claims (before ++ up) rest lower (left - 1) plain.0 middle (omega arith),
-      below-in claims before (low ++ rest) upper (left - (inners lower + 1)) plain.1 apart (omega arith),
-    )
+way-leaf : (x side label value bits : ℕ) → x ≢ label → is_leaf x (lone_node side label value bits) ≡ false
+way-leaf x side label value zero other = ne_eqb label x (λ e. other (sym e))
+way-leaf x side label value (suc bits) other = over-leaf x (digit value bits) (set_above side label bits) (lone_node side label value bits) (Leaf side)
 
--- the root's claims are all
-pub root-placed : (nodes : List NodeModel) (claims : List Claim) (left : ℕ) (node : Node) → StandsAt nodes 0 node → claims ≡ claims_of node → left ≡ length claims → IsPlaced nodes claims 0 left node
-root-placed nodes claims left node stands is all =
-    let plain = stands-plain nodes 0 node stands in
-    let same = ap length is in
-    let count = claims-count node plain in
+-- the run of the side label goes down the way
+over-bits : (side d : ℕ) (set : List ℕ) (way : Node) → d < 2 → is_leaf side way ≡ false → bits_down side (node_over d set way (Leaf side)) ≡ (d == 1) ∷ bits_down side way
+over-bits side zero set way small other =
+    (λ i. cond (other i) (true ∷ bits_down side (Leaf side)) (cond (eq-eqb side side refl i) (false ∷ bits_down side way) []))
+over-bits side (suc zero) set way small other =
+    (λ i. cond (eq-eqb side side refl i) (true ∷ bits_down side way) (cond (other i) (false ∷ bits_down side (Leaf side)) []))
+over-bits side (suc (suc d)) set way small other = absurd (omega arith)
+
+over-end : (side d : ℕ) (set : List ℕ) (way : Node) → is_leaf side way ≡ false → end_down side (node_over d set way (Leaf side)) ≡ end_down side way
+over-end side zero set way other =
+    (λ i. cond (other i) (end_down side (Leaf side)) (cond (eq-eqb side side refl i) (end_down side way) (Inner 1 set way (Leaf side))))
+over-end side (suc d) set way other =
+    (λ i. cond (eq-eqb side side refl i) (end_down side way) (cond (other i) (end_down side (Leaf side)) (Inner 1 set (Leaf side) way)))
+
+digit-small : (value bits : ℕ) → digit value bits < 2
+digit-small value bits = omega arith
+
+pub lone-bits : (side label value bits : ℕ) → side ≢ label → bits_down side (lone_node side label value bits) ≡ way_to value bits
+lone-bits side label value zero apart = refl
+lone-bits side label value (suc bits) apart =
+    over-bits side (digit value bits) (set_above side label bits) (lone_node side label value bits) (digit-small value bits) (way-leaf side side label value bits apart)
+    ∙ ap (λ (bs : List Bool). (digit value bits == 1) ∷ bs) (lone-bits side label value bits apart)
+
+pub lone-end : (side label value bits : ℕ) → side ≢ label → end_down side (lone_node side label value bits) ≡ Leaf label
+lone-end side label value zero apart = refl
+lone-end side label value (suc bits) apart =
+    over-end side (digit value bits) (set_above side label bits) (lone_node side label value bits) (way-leaf side side label value bits apart)
+    ∙ lone-end side label value bits apart
+
+-- that of another label ends above it
+over-other : (x side d : ℕ) (set : List ℕ) (way : Node) → side ≢ x → is_leaf x way ≡ false → IsRunEnd x (node_over d set way (Leaf side))
+over-other x side zero set way apart other = record {
+  bits = (λ i. cond (other i) (true ∷ bits_down x (Leaf side)) (cond (ne_eqb side x apart i) (false ∷ bits_down x way) []));
+  end = (λ i. cond (other i) (end_down x (Leaf side)) (cond (ne_eqb side x apart i) (end_down x way) (Inner 1 set way (Leaf side))));
+}
+over-other x side (suc d) set way apart other = record {
+  bits = (λ i. cond (ne_eqb side x apart i) (true ∷ bits_down x way) (cond (other i) (false ∷ bits_down x (Leaf side)) []));
+  end = (λ i. cond (ne_eqb side x apart i) (end_down x way) (cond (other i) (end_down x (Leaf side)) (Inner 1 set (Leaf side) way)));
+}
+
+pub lone-other : (x side label value bits : ℕ) → 2 ≤ bits → side ≢ x → IsRunEnd x (lone_node side label value bits)
+lone-other x side label value zero long apart = absurd (omega arith)
+lone-other x side label value (suc zero) long apart = absurd (omega arith)
+lone-other x side label value (suc (suc bits)) long apart =
+    over-other x side (digit value (suc bits)) (set_above side label (suc bits)) (lone_node side label value (suc bits)) apart
+    (over-leaf x (digit value bits) (set_above side label bits) (lone_node side label value bits) (Leaf side))
+
+-- its side label is that of its other addresses
+over-side : (side d : ℕ) (set : List ℕ) (way : Node) → label_of way ≡ None → side_below (node_over d set way (Leaf side)) ≡ Some side
+over-side side zero set way none = ap (λ (o : Option ℕ). option_or o (Some side)) none
+over-side side (suc d) set way none = refl
+
+over-none : (d : ℕ) (set : List ℕ) (way other : Node) → label_of (node_over d set way other) ≡ None
+over-none zero set way other = refl
+over-none (suc d) set way other = refl
+
+pub lone-side : (side label value bits : ℕ) → 2 ≤ bits → side_below (lone_node side label value bits) ≡ Some side
+lone-side side label value zero long = absurd (omega arith)
+lone-side side label value (suc zero) long = absurd (omega arith)
+lone-side side label value (suc (suc bits)) long =
+    over-side side (digit value (suc bits)) (set_above side label (suc bits)) (lone_node side label value (suc bits))
+    (over-none (digit value bits) (set_above side label bits) (lone_node side label value bits) (Leaf side))
+
+way-length : (value bits : ℕ) → length (way_to value bits) ≡ bits
+way-length value zero = refl
+way-length value (suc bits) = let rest = way-length value bits in omega arith
+
+-- it is an inner node
+record IsInnerOf (node : Node) : Type 0 where
+  cost : ℕ
+  set : List ℕ
+  lower : Node
+  upper : Node
+  is : node ≡ Inner cost set lower upper
+
+over-inner : (d : ℕ) (set : List ℕ) (way other : Node) → IsInnerOf (node_over d set way other)
+over-inner zero set way other = record { cost = 1; set = set; lower = way; upper = other; is = refl }
+over-inner (suc d) set way other = record { cost = 1; set = set; lower = other; upper = way; is = refl }
+
+lone-inner : (side label value bits : ℕ) → 2 ≤ bits → IsInnerOf (lone_node side label value bits)
+lone-inner side label value zero long = absurd (omega arith)
+lone-inner side label value (suc bits) long = over-inner (digit value bits) (set_above side label bits) (lone_node side label value bits) (Leaf side)
+
+-- so it is where its mark is
+module _ (s : Sketch) (node : Node) (number : ℕ) (lone : IsLoneAt s node number) (read : LoneAddress) (read_is : read ≡ lone.lone) where
+  pub own-node : node ≡ lone_node read.side.0 read.label.0 read.value read.bits
+  own-node = lone.node_is ∙ ap (λ (l : LoneAddress). lone_node l.side.0 l.label.0 l.value l.bits) (sym read_is)
+
+  own-apart : read.side.0 ≢ read.label.0
+  own-apart = subst (λ (l : LoneAddress). l.side.0 ≢ l.label.0) (sym read_is) lone.apart
+
+  own-long : 2 ≤ read.bits
+  own-long = subst (λ (l : LoneAddress). 2 ≤ l.bits) (sym read_is) lone.long
+
+  pub own-few : read.bits ≤ 128
+  own-few = subst (λ (l : LoneAddress). l.bits ≤ 128) (sym read_is) lone.few
+
+  pub own-side : Some read.side.0 ≡ side_below node
+  own-side = sym (ap side_below own-node ∙ lone-side read.side.0 read.label.0 read.value read.bits own-long)
+
+  -- the rest of a run that comes to it
+  pub rest-way : (side : ℕ) (old new : List Bool) → read.side.0 ≡ side → new ≡ old ++ way_to read.value read.bits → IsRest side number node old new (LeafEnd read.label)
+  rest-way side old new same is =
+      let own : IsRest read.side.0 number node old new (LeafEnd read.label) = record {
+        bits = is ∙ ap (λ (bs : List Bool). old ++ bs) (sym (ap (bits_down read.side.0) own-node ∙ lone-bits read.side.0 read.label.0 read.value read.bits own-apart));
+        last = ap (end_down read.side.0) own-node ∙ lone-end read.side.0 read.label.0 read.value read.bits own-apart;
+      } in
+      subst (λ (x : ℕ). IsRest x number node old new (LeafEnd read.label)) same own
+
+  pub other-side : (side : ℕ) → (read.side.0 ≡ side → ⊥) → IsRunEnd side node
+  other-side side apart =
+      subst (IsRunEnd side) (sym own-node) (lone-other side read.side.0 read.label.0 read.value read.bits own-long apart)
+
+  -- and compacted
+  pub lone-lines : (old new : List DueLine) → IsChained read old new → IsCompacted node old new
+  lone-lines old new chained =
+      let whole : Node = lone_node read.side.0 read.label.0 read.value read.bits in
+      let inner = lone-inner read.side.0 read.label.0 read.value read.bits own-long in
+      let claims = lone-claims read.side.0 read.label.0 read.value read.bits own-long in
+      let long = own-long in
+      let count = way-length read.value read.bits in
+      let mid : List DueLine = old ++ ChainLine 1 (way_to read.value read.bits) read.side.0 (read.side.0 ∷ []) ∷ [] in
+      subst (λ (n : Node). IsCompacted n old new) (sym own-node)
+      (chain-lines whole inner.cost inner.set inner.lower inner.upper inner.is old read.side.0 1 (read.side.0 ∷ []) (way_to read.value read.bits) (Leaf read.label.0) mid new
+      (lone-side read.side.0 read.label.0 read.value read.bits own-long) (sym (lone-bits read.side.0 read.label.0 read.value read.bits own-apart))
+      (sym (lone-end read.side.0 read.label.0 read.value read.bits own-apart)) (omega arith) (sym claims.0) (sym claims.1) refl
+      (leaf-lines (Leaf read.label.0) read.label.0 mid new refl chained))
+
+-- a run that has come to its end
+pub rest-none : (side number : ℕ) (node : Node) (old : List Bool) → IsRunEnd side node → IsRest side number node old old (MarkEnd number)
+rest-none side number node old end = record {
+  bits = sym (ap (λ (bs : List Bool). old ++ bs) end.bits ∙ append-nil old);
+  last = (refl, end);
+}
+
+-- a run that stops at an inner node with a mark of its own ends there
+pub stop-inner : (s : Sketch) (side : ℕ) (node : Node) (number : ℕ) (id : SetId) → slice_get s.marks.items number ≡ Some (InnerMark id) → IsStop s side node number → IsRunEnd side node
+stop-inner s side node number id there (inl end) = end
+stop-inner s side node number id there (inr lone) = absurd (lone-not_inner s node number id lone there)
+
+pub run-down : (s : Sketch) (prices : List Price) (side first : ℕ) (node : Node) (bits new : List Bool) (number : ℕ) (last : End) (down : IsGoingDown s prices side first node bits number)
+    → IsRest side number down.here bits new last → IsRun s prices side first node new last
+run-down s prices side first node bits new number (LeafEnd id) down rest = record {
+  bits_are = rest.bits ∙ sym down.run;
+  last = down.end ∙ rest.last;
+}
+run-down s prices side first node bits new number (MarkEnd n) down rest =
+    let count = ap length (rest.bits ∙ ap (λ (bs : List Bool). bits ++ bs) rest.last.1.bits ∙ append-nil bits) in
+    let after = down.stands.after in
+    let same = rest.last.0 in
     record {
-      stands = stands;
-      claimed = below-in claims [] [] node left plain (is ∙ sym (append-nil (claims_of node))) (omega arith);
+      bits_are = rest.bits ∙ sym down.run;
+      last = record {
+        end = down.stands.end;
+        priced =
+            subst (λ (k : ℕ). IsPricedAt s prices (end_down side node) k down.stands.end) (sym same)
+            (subst (λ (n : Node). IsPricedAt s prices n number down.stands.end) (sym (down.end ∙ rest.last.1.end)) down.stands.priced);
+        after = omega arith;
+      };
     }
-
--- those of a run's end are behind one claim for each bit
-pub record IsBelowRun (claims : List Claim) (left side : ℕ) (node : Node) : Type 0 where
-  pub few : length (bits_down side node) ≤ left
-  pub claimed : HasClaimsBelow claims (left - length (bits_down side node)) (end_down side node)
-
-leaf-inners : (side : ℕ) (node : Node) → is_leaf side node ≡ true → inners node ≡ 0
-leaf-inners side (Leaf label) is = refl
-leaf-inners side (Inner cost set lower upper) is = absurd (cc is)
-leaf-inners side (Chain cost set bits x end) is = absurd (cc is)
-
-pub run-claims : (claims : List Claim) (left side : ℕ) (node : Node) → HasClaimsBelow claims left node → IsBelowRun claims left side node
-run-claims claims left side (Leaf label) below = record { few = omega arith; claimed = tt }
-run-claims claims left side (Chain cost set bits x end) below = absurd below
-run-claims claims left side (Inner cost set lower upper) below =
-    let both = by (is_leaf side lower) (is_leaf side upper) refl (run-claims claims (left - 1) side lower below.1)
-    (run-claims claims (left - (inners lower + 1)) side upper below.2) in
-    record { few = both.0; claimed = both.1 }
-  where
-    some : 0 < left
-    some = below.0.some
-
-    one-less : (bit : Bool) (bits : List Bool) (end : Node) (less : ℕ) → less ≡ left - 1 → length bits ≤ less → HasClaimsBelow claims (less - length bits) end
-        → (length (bit ∷ bits) ≤ left) × HasClaimsBelow claims (left - length (bit ∷ bits)) end
-    one-less bit bits end less is few claimed =
-        let one = some in
-        let same : less - length bits ≡ left - length (bit ∷ bits) = omega arith in
-        (omega arith, subst (λ (n : ℕ). HasClaimsBelow claims n end) same claimed)
-
-    by : (b c : Bool) → is_leaf side lower ≡ b → IsBelowRun claims (left - 1) side lower → IsBelowRun claims (left - (inners lower + 1)) side upper
-        → (length (cond b (true ∷ bits_down side upper) (cond c (false ∷ bits_down side lower) [])) ≤ left)
-        × HasClaimsBelow claims (left - length (cond b (true ∷ bits_down side upper) (cond c (false ∷ bits_down side lower) [])))
-        (cond b (end_down side upper) (cond c (end_down side lower) (Inner cost set lower upper)))
-    by true c first low up =
-        let none = leaf-inners side lower first in
-        let less : left - (inners lower + 1) ≡ left - 1 = omega arith in
-        one-less true (bits_down side upper) (end_down side upper) (left - (inners lower + 1)) less up.few up.claimed
-    by false true first low up = one-less false (bits_down side lower) (end_down side lower) (left - 1) refl low.few low.claimed
-    by false false first low up =
-        let all : left ≡ left - length {A = Bool} [] = omega arith in
-        (omega arith, subst (λ (n : ℕ). HasClaimsBelow claims n (Inner cost set lower upper)) all below)
-
--- the own claim of an inner node, and those of its halves
-pub record HasOwnClaim (claims : List Claim) (left : ℕ) (node lower upper : Node) : Type 0 where
-  pub some : 0 < left
-  pub within : left ≤ length claims
-  pub cost : (get_or claims (left - 1) no_claim).cost ≡ cost_of node
-  pub set : (get_or claims (left - 1) no_claim).set ≡ set_of node
-  pub few : inners lower + 1 ≤ left
-  pub low : HasClaimsBelow claims (left - 1) lower
-  pub up : HasClaimsBelow claims (left - (inners lower + 1)) upper
-
-pub own-claim : (claims : List Claim) (left : ℕ) (node : Node) (cost : ℕ) (set : List ℕ) (lower upper : Node) → node ≡ Inner cost set lower upper → HasClaimsBelow claims left node
-    → HasOwnClaim claims left node lower upper
-own-claim claims left node cost set lower upper is below =
-    let at : HasClaimsBelow claims left (Inner cost set lower upper) = subst (HasClaimsBelow claims left) is below in
-    let most = few-below claims left (Inner cost set lower upper) at in
-    record {
-      some = at.0.some;
-      within = at.0.within;
-      cost = ap (λ (c : Claim). c.cost) at.0.own ∙ sym (ap cost_of is);
-      set = ap (λ (c : Claim). c.set) at.0.own ∙ sym (ap set_of is);
-      few = omega arith;
-      low = at.1;
-      up = at.2;
-    }
-
--- an inner node that is placed, and how its halves are
-pub record IsInnerPlaced (nodes : List NodeModel) (claims : List Claim) (number left : ℕ) (node : Node) : Type 0 where
-  pub halves : HasHalvesAt nodes number node
-  pub own : HasOwnClaim claims left node halves.lower halves.upper
-
-pub inner-placed : (nodes : List NodeModel) (claims : List Claim) (number left : ℕ) (node : Node) → IsPlaced nodes claims number left node → Divided ≡ get_or (outline_of nodes) number Divided
-    → IsInnerPlaced nodes claims number left node
-inner-placed nodes claims number left node placed is =
-    let halves = halves-at nodes number node placed.stands (inner-there nodes number node placed.stands is) in
-    record {
-      halves = halves;
-      own = own-claim claims left node halves.cost halves.set halves.lower halves.upper halves.is placed.claimed;
-    }
-
-module _ (nodes : List NodeModel) (claims : List Claim) (number left : ℕ) (node : Node) (inner : IsInnerPlaced nodes claims number left node) where
-  pub low-placed : IsPlaced nodes claims (number + 1) (left - 1) inner.halves.lower
-  low-placed = record { stands = inner.halves.low; claimed = inner.own.low }
-
-  pub up-placed : (high above : ℕ) → ForSome (slice_get nodes (number + 1)) (λ low. high + 1 ≡ number + 1 + 2 * length low.leaves) → above ≡ left - (high - number) / 2
-      → IsPlaced nodes claims high above inner.halves.upper
-  up-placed high above is above_is =
-      let place = high-number nodes number node inner.halves high is in
-      let half : (high - number) / 2 ≡ inners inner.halves.lower + 1 = omega arith in
-      let same : left - (inners inner.halves.lower + 1) ≡ above = omega arith in
-      record {
-        stands = high-stands nodes number node inner.halves high is;
-        claimed = subst (λ (n : ℕ). HasClaimsBelow claims n inner.halves.upper) same inner.own.up;
-      }
-
-  -- the claims of the lower half and its own are there
-  pub half-few : (high : ℕ) → ForSome (slice_get nodes (number + 1)) (λ low. high + 1 ≡ number + 1 + 2 * length low.leaves) → (number ≤ high) × ((high - number) / 2 ≤ left)
-  half-few high is =
-      let place = high-number nodes number node inner.halves high is in
-      let few = inner.own.few in
-      (omega arith, omega arith)
-
--- the end of a run is placed
-pub end-placed : (nodes : List NodeModel) (claims : List Claim) (number left side : ℕ) (node : Node) (bits : List Bool) (end below : ℕ) → IsPlaced nodes claims number left node → IsRun nodes side number node bits end
-    → below ≡ left - length bits → IsPlaced nodes claims end below (end_down side node)
-end-placed nodes claims number left side node bits end below placed run below_is =
-    let claimed = run-claims claims left side node placed.claimed in
-    let same : left - length (bits_down side node) ≡ below = ap (λ (bs : List Bool). left - length bs) (sym run.bits_are) ∙ sym below_is in
-    record { stands = run.stands; claimed = subst (λ (n : ℕ). HasClaimsBelow claims n (end_down side node)) same claimed.claimed }
-
-pub run-few : (claims : List Claim) (left side : ℕ) (node : Node) (bits : List Bool) → HasClaimsBelow claims left node → bits ≡ bits_down side node → length bits ≤ left
-run-few claims left side node bits below is =
-    let claimed = run-claims claims left side node below in
-    subst (λ (bs : List Bool). length bs ≤ left) (sym is) claimed.few

@@ -18,4 +18,5 @@ pub mod LoneEntries
 pub mod Listed
 pub mod ListedAt
 pub mod MadeLines
+pub mod PricedMarks
 pub mod Compacted

@@ -1,22 +1,102 @@
-use Rattle.std.specs.Prelude.{◌≡◌, ℕ, ◌+◌, ◌-◌, ◌*◌, ◌^◌, ◌<◌, ◌≤◌, Bool, List, [], ◌∷◌, ◌++◌, All, Some, IsSome, length, slice_get, slice_index_or}
+use Rattle.std.specs.Prelude.{◌≡◌, ℕ, zero, suc, ◌+◌, ◌*◌, ◌<◌, ◌≤◌, ◌⊎◌, ◌==◌, Bool, List, [], ◌∷◌, ◌++◌, Option, Some, None, length, slice_get, slice_index_or}
 use Rattle.std.specs.Option.{ForSome}
+use Rattle.pmap_cert.specs.CertificateReading.{LeafLine}
+use Rattle.pmap_cert.specs.FormatReading.{ChainLine, DueLine, PlainLine}
 use Rattle.pmap_cert.specs.Node.{Chain, Inner, Leaf, Node}
 use Rattle.pmap_cert.specs.Placing.{bits_down, end_down, side_below}
-use Rattle.label_trie.specs.Kind.{IsOfTree}
-use Rattle.label_trie.specs.TrieModel.{NodeModel, TrieModel}
-use Rattle.pmap_minimise.specs.Numbers.{Claim, no_claim}
+use Rattle.label_trie.specs.TrieModel.{NodeModel}
 use Rattle.pmap_minimise.specs.Outline.{outline_of}
+use Rattle.pmap_minimise.specs.Pricing.{IsLoneAt, IsPricedAt}
+use Rattle.pmap_minimise.specs.Sketch.{digit}
+use Rattle.pmap_minimise.specs.declared.compacting.End.{End}
+use Rattle.pmap_minimise.specs.declared.compacting.End.TheVariants.{Leaf as LeafEnd, Mark as MarkEnd}
 use Rattle.pmap_minimise.specs.declared.outline.Part.{Part}
 use Rattle.pmap_minimise.specs.declared.outline.Part.TheVariants.{Divided, Labelled}
+use Rattle.pmap_minimise.specs.declared.pricing.Price.{Price}
+use Rattle.pmap_minimise.specs.declared.sketch.LoneAddress.{LoneAddress}
+use Rattle.pmap_minimise.specs.declared.sketch.Mark.{Mark}
+use Rattle.pmap_minimise.specs.declared.sketch.Mark.TheVariants.{Inner as InnerMark, Leaf as LeafMark, Lone as LoneMark}
+use Rattle.pmap_minimise.specs.declared.sketch.Sketch.{Sketch}
 
--- Where a certificate's nodes stand in a trie, and their claims among those that are kept: how the code goes down a trie to
--- compact them.
+-- How the code goes over the marks of a sketch, and down a run, to compact a certificate's nodes.
 
--- the trie's nodes are those of one tree whose leaves have labels, and there are not too many for their numbers
-pub record IsLabelledTrie (t : TrieModel) : Type 0 where
-  pub tree : IsOfTree t
-  pub labelled : All (λ leaf. IsSome leaf.label) t.leaves
-  pub few : length t.nodes < 2 ^ 32
+-- the label of the leaf whose mark has this number
+abbrev pub label_by : Option Mark → Option ℕ
+label_by (Some (LeafMark id)) = Some id.0
+label_by (Some (LoneMark at)) = None
+label_by (Some (InnerMark id)) = None
+label_by None = None
+
+abbrev pub label_there : Sketch → ℕ → Option ℕ
+label_there s number = label_by (slice_get s.marks.items number)
+
+-- the bits of the way to a lone address, from a block with so many host bits down
+abbrev pub way_to : ℕ → ℕ → List Bool
+way_to value zero = []
+way_to value (suc bits) = (digit value bits == 1) ∷ way_to value bits
+
+-- the node whose marks begin at this number, which isn't below `least`
+pub record IsFrom (s : Sketch) (prices : List Price) (node : Node) (least number : ℕ) : Type 0 where
+  pub end : ℕ
+  pub priced : IsPricedAt s prices node number end
+  pub after : least ≤ number
+
+-- the step of a side label's run from a node to the half that is chosen, and to the number of its first mark
+pub record IsStep (s : Sketch) (prices : List Price) (side number : ℕ) (node : Node) (bit : Bool) (chosen : ℕ) : Type 0 where
+  pub next : Node
+  pub stands : IsFrom s prices next (number + 1) chosen
+  pub bits : bits_down side node ≡ bit ∷ bits_down side next
+  pub end : end_down side node ≡ end_down side next
+
+-- the run ends at the node
+pub record IsRunEnd (side : ℕ) (node : Node) : Type 0 where
+  pub bits : bits_down side node ≡ []
+  pub end : end_down side node ≡ node
+
+-- or there it comes to the nodes of a lone address
+abbrev pub IsStop : Sketch → ℕ → Node → ℕ → Type 0
+IsStop s side node number = IsRunEnd side node ⊎ IsLoneAt s node number
+
+-- the run from a node has these bits so far, and goes on at the node whose marks begin at this number
+pub record IsGoingDown (s : Sketch) (prices : List Price) (side first : ℕ) (node : Node) (bits : List Bool) (number : ℕ) : Type 0 where
+  pub here : Node
+  pub stands : IsFrom s prices here (first + length bits) number
+  pub run : bits_down side node ≡ bits ++ bits_down side here
+  pub end : end_down side node ≡ end_down side here
+
+-- the end of the run from the node whose marks begin at a number is that node, or this leaf
+abbrev pub IsLast : ℕ → ℕ → Node → End → Type 0
+IsLast side number node (MarkEnd last) = (last ≡ number) × IsRunEnd side node
+IsLast side number node (LeafEnd id) = end_down side node ≡ Leaf id.0
+
+-- the bits of the run from that node were added
+pub record IsRest (side number : ℕ) (node : Node) (old new : List Bool) (end : End) : Type 0 where
+  pub bits : new ≡ old ++ bits_down side node
+  pub last : IsLast side number node end
+
+-- the end of a run is this node, and its marks don't begin below `least`
+abbrev pub IsEnd : Sketch → List Price → Node → ℕ → End → Type 0
+IsEnd s prices node least (MarkEnd number) = IsFrom s prices node least number
+IsEnd s prices node least (LeafEnd id) = node ≡ Leaf id.0
+
+-- the run from a node whose marks begin at a number has these bits and this end
+pub record IsRun (s : Sketch) (prices : List Price) (side number : ℕ) (node : Node) (bits : List Bool) (end : End) : Type 0 where
+  pub bits_are : bits ≡ bits_down side node
+  pub last : IsEnd s prices (end_down side node) (number + length bits) end
+
+-- the run of an inner node has two bits or more
+pub record IsLong (s : Sketch) (prices : List Price) (number : ℕ) (node : Node) (side : ℕ) (bits : List Bool) (end : End) : Type 0 where
+  pub sides : side_below node ≡ Some side
+  pub run : IsRun s prices side number node bits end
+  pub long : 2 ≤ length bits
+
+-- the lines of a lone address's chain and of the leaf at its end were added
+abbrev pub IsChained : LoneAddress → List DueLine → List DueLine → Type 0
+IsChained lone old new =
+    new ≡ (old ++ ChainLine 1 (way_to lone.value lone.bits) lone.side.0 (lone.side.0 ∷ []) ∷ [])
+    ++ PlainLine (LeafLine lone.label.0) ∷ []
+
+-- A certificate's nodes in a trie, where each node has one.
 
 -- how many inner nodes there are at and below a node without chains, of which there is one less than leaves
 abbrev pub inners : Node → ℕ
@@ -38,55 +118,3 @@ StandsAt nodes number (Inner cost set lower upper) =
     HasPart nodes number Divided (inners lower + inners upper + 2) × StandsAt nodes (number + 1) lower
     × StandsAt nodes (number + 2 * inners lower + 2) upper
 StandsAt nodes number (Chain cost set bits side end) = ⊥
-
--- the claim is the last of the first `left`
-pub record IsLast (claims : List Claim) (left : ℕ) (claim : Claim) : Type 0 where
-  pub some : 0 < left
-  pub within : left ≤ length claims
-  pub own : slice_index_or claims (left - 1) no_claim ≡ claim
-
--- The claims of a node and of those below it are the last of the first `left`: its own behind those of its lower half, and
--- these behind those of its upper one.
-abbrev pub HasClaimsBelow : List Claim → ℕ → Node → Type 0
-HasClaimsBelow claims left (Leaf label) = Unit {0}
-HasClaimsBelow claims left (Inner cost set lower upper) =
-    IsLast claims left (record { cost = cost; set = set }) × HasClaimsBelow claims (left - 1) lower
-    × HasClaimsBelow claims (left - (inners lower + 1)) upper
-HasClaimsBelow claims left (Chain cost set bits side end) = ⊥
-
--- both of it
-pub record IsPlaced (nodes : List NodeModel) (claims : List Claim) (number left : ℕ) (node : Node) : Type 0 where
-  pub stands : StandsAt nodes number node
-  pub claimed : HasClaimsBelow claims left node
-
--- the step of a side label's run from a node to the half that is chosen, and to the number of its node
-pub record IsStep (nodes : List NodeModel) (side number : ℕ) (node : Node) (bit : Bool) (chosen : ℕ) : Type 0 where
-  pub next : Node
-  pub stands : StandsAt nodes chosen next
-  pub bits : bits_down side node ≡ bit ∷ bits_down side next
-  pub end : end_down side node ≡ end_down side next
-  pub after : number < chosen
-
--- the run ends at the node
-pub record IsRunEnd (side : ℕ) (node : Node) : Type 0 where
-  pub bits : bits_down side node ≡ []
-  pub end : end_down side node ≡ node
-
--- the run from a node has these bits so far, and goes on at the node with this number
-pub record IsGoingDown (nodes : List NodeModel) (side : ℕ) (node : Node) (bits : List Bool) (number : ℕ) : Type 0 where
-  pub here : Node
-  pub stands : StandsAt nodes number here
-  pub run : bits_down side node ≡ bits ++ bits_down side here
-  pub end : end_down side node ≡ end_down side here
-
--- the run from a node has these bits, and its end stands at this number
-pub record IsRun (nodes : List NodeModel) (side number : ℕ) (node : Node) (bits : List Bool) (end : ℕ) : Type 0 where
-  pub bits_are : bits ≡ bits_down side node
-  pub stands : StandsAt nodes end (end_down side node)
-  pub after : number + length bits ≤ end
-
--- the run of an inner node has two bits or more
-pub record IsLong (nodes : List NodeModel) (number : ℕ) (node : Node) (side : ℕ) (bits : List Bool) (end : ℕ) : Type 0 where
-  pub sides : side_below node ≡ Some side
-  pub run : IsRun nodes side number node bits end
-  pub long : 2 ≤ length bits

@@ -11,4 +11,5 @@ pub mod Sketch
 pub mod Sketching
 pub mod Listing
 pub mod MadeLines
+pub mod Pricing
 pub mod Compacting

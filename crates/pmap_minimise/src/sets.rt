@@ -1,5 +1,5 @@
 //! Sets of labels, as slices with their numbers in rising order.
-ghost use Rattle.std.specs.Prelude.{◌≡◌, ◌^◌, ◌++◌, IfOk, OnOk};
+ghost use Rattle.std.specs.Prelude.{◌≡◌, ◌^◌, ◌++◌, ◌↔◌, [], IfOk, IsTrue, OnOk};
 ghost use Rattle.pmap_cert.specs.CertificateForm.{IsRising};
 ghost use Rattle.pmap_minimise.specs.Numbers.{IsExactSet, IsUnion, common_numbers, numbers_of};
 
@@ -99,7 +99,11 @@ pub fn exact_set(
 }
 
 /// Whether no label is in both sets.
-pub fn are_apart(low: &[LabelId], high: &[LabelId]) -> bool {
+pub fn are_apart(low: &[LabelId], high: &[LabelId]) -> bool
+    requires low { IsRising (2 ^ 32) 0 (numbers_of low.now) }
+    requires high { IsRising (2 ^ 32) 0 (numbers_of high.now) }
+    ensures { IsTrue result ↔ (common_numbers (numbers_of low.now) (numbers_of high.now) ≡ []) }
+{
     let mut lower = low;
     let mut higher = high;
     while let Some((x, lower_rest)) = lower.split_first() {
