@@ -7,7 +7,7 @@ use Rattle.pmap_text.specs.declared.label.LabelId.{LabelId}
 use Rattle.pmap_cert.specs.CertificateForm.{IsRising}
 use Rattle.pmap_cert.specs.Node.{Inner, Leaf, Node, cost_of, set_of}
 use Rattle.pmap_minimise.specs.Claiming.{AreClaimsFrom, AreClaimsOf, AreHalvesOf, AreSetsFrom, AreSetsOf, HoldsLabel, IsCostAdded, IsCostReady, IsHalfAdded, IsHalfHeld, IsHalfJoined, IsHalfReady, JoinsHalves, all_claims, claims_of, exact_cost, sets_of}
-use Rattle.pmap_minimise.specs.Kept.{AreSetsKept, AreTwoLabels, IsHeldAs, IsHeldIn, IsSetAdded, IsSetOf, larger_in, set_by, sets_in, two_of}
+use Rattle.pmap_minimise.specs.Kept.{AreSetsKept, AreTwoLabels, IsHeldIn, IsSetAdded, IsSetOf, larger_in, set_by, sets_in, two_of}
 use Rattle.pmap_minimise.specs.Numbers.{Claim, IsExactBy, IsExactSet, IsExactSetBy, IsUnion, common_numbers, has_number, node_claim}
 use Rattle.pmap_minimise.specs.Outline.{IsOutline, IsReady}
 use Rattle.pmap_minimise.specs.declared.claim_list.Claims.{Claims}

@@ -1,5 +1,5 @@
 -- The tree of a block whose addresses have one label but for a single address, and the certificate's node for it.
-use Rattle.std.proofs.Common.{◌≡◌, ◌≢◌, ℕ, zero, suc, ◌+◌, ◌-◌, ◌*◌, ◌/◌, ◌%◌, ◌^◌, ◌<◌, ◌≤◌, ◌⊎◌, inl, inr, ◌∙◌, ◌||◌, ◌==◌, Bool, true, false, List, [], ◌∷◌, ◌++◌, Option, Some, None, IsSome, refl, sym, ap, subst, arith}
+use Rattle.std.proofs.Common.{◌≡◌, ◌≢◌, ℕ, zero, suc, ◌+◌, ◌-◌, ◌*◌, ◌/◌, ◌%◌, ◌^◌, ◌<◌, ◌≤◌, inl, inr, ◌∙◌, ◌||◌, ◌==◌, Bool, true, false, List, [], ◌∷◌, Option, Some, None, IsSome, refl, sym, ap, subst, arith}
 use Rattle.std.proofs.Math.Nat.{mul-le-mul_right, pow-suc}
 use Rattle.std.proofs.lemmas.Bool.{cases_lt, cond_above, cond_below, eq-eqb, ne_eqb}
 use Rattle.std.proofs.lemmas.Nat.{pow_pos}
@@ -11,16 +11,15 @@ use Rattle.pmap_text.specs.MapModel.{MapModel}
 use Rattle.pmap_text.specs.Stretches.{HasStretch}
 use Rattle.pmap_text.specs.declared.label.LabelId.{LabelId}
 use Rattle.pmap_text.specs.declared.statement.Statement.{Statement}
-use Rattle.label_trie.specs.Layers.{AddsTree, IsBlock, IsMapOf, parted_sum}
+use Rattle.label_trie.specs.Layers.{IsBlock, IsMapOf, parted_sum}
 use Rattle.label_trie.specs.Nodes.{encode, leaf_node}
 use Rattle.label_trie.specs.Tree.{Fits, Fork, IsLabelled, Tip, Tree, leaf_count}
-use Rattle.label_trie.specs.declared.node.Node.{Node as TrieNode}
 use Rattle.label_trie.proofs.Blocks.{low_lies_in, high_lies_in, halves_ends}
 use Rattle.label_trie.proofs.Grown.{IsSplit, block_some, is_split, leaf_added, number_at}
 use Rattle.pmap_cert.specs.CertificateForm.{IsRising}
-use Rattle.pmap_cert.specs.Node.{Chain, Inner, Leaf, Node, cost_of, set_of}
+use Rattle.pmap_cert.specs.Node.{Leaf, Node, cost_of, set_of}
 use Rattle.pmap_minimise.specs.Numbers.{IsExactBy, IsUnion, common_numbers}
-use Rattle.pmap_minimise.specs.Outline.{Fork as PlanFork, IsNodeFor, Plan, Tip as PlanTip, plan_of}
+use Rattle.pmap_minimise.specs.Outline.{IsNodeFor, plan_of}
 use Rattle.pmap_minimise.specs.Sketch.{AreMarks, IsLoneMark, digit, lone_node, node_over, set_above}
 use Rattle.pmap_minimise.specs.declared.sketch.LoneAddress.{LoneAddress}
 use Rattle.pmap_minimise.specs.declared.sketch.Mark.{Mark}

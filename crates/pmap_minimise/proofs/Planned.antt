@@ -17,7 +17,7 @@ use Rattle.pmap_cert.specs.Node.{Chain, Inner, Leaf, Node}
 use Rattle.pmap_minimise.specs.Certified.{IsCertified}
 use Rattle.pmap_minimise.specs.Compacting.{HasPart, StandsAt, inners}
 use Rattle.pmap_minimise.specs.Numbers.{IsJoined}
-use Rattle.pmap_minimise.specs.Outline.{Fork, IsNodeFor, IsOutline, Plan, Tip, leaves_part, outline_of, parts_of, plan_of}
+use Rattle.pmap_minimise.specs.Outline.{IsNodeFor, IsOutline, Plan, leaves_part, outline_of, parts_of, plan_of}
 use Rattle.pmap_minimise.specs.declared.outline.Part.{Part}
 use Rattle.pmap_minimise.specs.declared.outline.Part.TheVariants.{Divided, Labelled}
 use Rattle.pmap_minimise.proofs.Joined.{all-left, all-right, joined-certified, leaf-certified}

@@ -1,5 +1,5 @@
 -- What a block adds to the sketch of a certificate.
-use Rattle.std.proofs.Common.{◌≡◌, ℕ, suc, ◌+◌, ◌-◌, ◌*◌, ◌/◌, ◌^◌, ◌<◌, ◌≤◌, ◌⊎◌, inl, inr, ◌∙◌, Bool, List, [], ◌∷◌, ◌++◌, Option, Some, None, IsSome, length, set, slice_get, get_or, refl, sym, ap, subst, arith, length-append}
+use Rattle.std.proofs.Common.{◌≡◌, ℕ, suc, ◌+◌, ◌-◌, ◌*◌, ◌/◌, ◌^◌, ◌<◌, ◌≤◌, inl, inr, ◌∙◌, Bool, List, [], ◌∷◌, ◌++◌, Option, Some, length, set, slice_get, get_or, refl, sym, ap, subst, arith, length-append}
 use Rattle.std.proofs.Math.Seq.{get_or-append_seam}
 use Rattle.std.proofs.Math.Nat.{mul-le-mul_right, zero-div}
 use Rattle.std.proofs.lemmas.List.{append-nil, append_assoc, get_or_append_left, set_at}
@@ -14,7 +14,7 @@ use Rattle.pmap_text.specs.declared.label.LabelId.{LabelId}
 use Rattle.pmap_text.specs.declared.map_text.MapText.{MapText}
 use Rattle.pmap_text.specs.declared.statement.Statement.{Statement}
 use Rattle.pmap_cert.specs.Node.{Chain, Inner, Leaf, Node, cost_of, set_of}
-use Rattle.label_trie.specs.Tree.{Fork, Tip, Tree}
+use Rattle.label_trie.specs.Tree.{Fork, Tip}
 use Rattle.label_trie.specs.Tree.{leaves_of}
 use Rattle.label_trie.proofs.Built.{map_layers, parted_most}
 use Rattle.label_trie.proofs.Grown.{IsSplit}
@@ -22,8 +22,8 @@ use Rattle.label_trie.proofs.NodeLeaves.{fits_HasRoom, leaves_settled, leaves_un
 use Rattle.pmap_minimise.specs.Claiming.{IsHalfHeld, exact_cost}
 use Rattle.pmap_minimise.specs.Kept.{HaveGrown, IsSetOf, larger_in, set_by}
 use Rattle.pmap_minimise.specs.Numbers.{IsExactSet, common_numbers}
-use Rattle.pmap_minimise.specs.Outline.{IsNodeFor, plan_of}
-use Rattle.pmap_minimise.specs.Sketch.{AreMarks, IsInnerMark, IsLoneMark, IsSketched, lone_node}
+use Rattle.pmap_minimise.specs.Outline.{plan_of}
+use Rattle.pmap_minimise.specs.Sketch.{AreMarks, IsLoneMark, IsSketched, lone_node}
 use Rattle.pmap_minimise.specs.Sketching.{AddsLeaf, AddsLone, AddsMarks}
 use Rattle.pmap_minimise.specs.declared.ahead.Alone.{Alone}
 use Rattle.pmap_minimise.specs.declared.set_list.SetId.{SetId}

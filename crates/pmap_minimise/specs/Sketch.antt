@@ -2,7 +2,6 @@ use Rattle.std.specs.Prelude.{◌≡◌, ◌≢◌, ℕ, zero, suc, ◌+◌, ◌
 use Rattle.prefix_keys.specs.Version.{width_of}
 use Rattle.prefix_keys.specs.declared.version.Version.{Version}
 use Rattle.pmap_text.specs.MapText.{map_of}
-use Rattle.pmap_text.specs.declared.label.LabelId.{LabelId}
 use Rattle.pmap_text.specs.declared.map_text.MapText.{MapText}
 use Rattle.pmap_cert.specs.Node.{Chain, Inner, Leaf, Node}
 use Rattle.label_trie.specs.TrieModel.{IsSettledLeaf, IsUndivided, LeafModel}
