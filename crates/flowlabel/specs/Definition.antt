@@ -1,8 +1,22 @@
-use Rattle.std.specs.Prelude.{true, Some, codes}
+use Rattle.std.specs.Prelude.{true, List, None, Option, Some, codes, option_map, unwrap_or}
 use Rattle.clap.specs.declared.builder.action.ArgAction.TheVariants.{SetTrue}
-use Rattle.clap.specs.Words.{App, Rule, Text, new_app, new_rule, with_rule, with_subcommand}
+use Rattle.clap.specs.declared.builder.arg.Arg.{Arg}
+use Rattle.clap.specs.Walk.{texts}
+use Rattle.clap.specs.Words.{App, Rule, Text, items_of, new_app, new_rule, with_rule, with_subcommand}
 
 -- What clap reads of the definition of the command line: each subcommand with its options and words.
+
+-- what help calls the values of an option or a word: of ours one name, and none where no value is taken
+abbrev pub value_names : Arg → List Text
+value_names arg = texts (items_of arg.val_names)
+
+-- what help says of it
+abbrev pub help_of : Arg → Option Text
+help_of arg = option_map (λ text. text.now) arg.help
+
+-- the heading that stands above it in help
+abbrev pub heading_of : Arg → Option Text
+heading_of arg = option_map (λ text. text.now) (unwrap_or arg.help_heading None)
 
 -- `--pmap FILE`
 abbrev pub pmap_rule : Rule

@@ -1,7 +1,7 @@
-ghost use Rattle.std.specs.Prelude.{◌≡◌, IfOk, Some, codes, false, true};
+ghost use Rattle.std.specs.Prelude.{[], ◌∷◌, ◌≡◌, IfOk, Some, codes, false, option_map, true};
 ghost use Rattle.clap.specs.Words.{app_of, new_app, rule_of, with_rule, with_subcommand};
 ghost use Rattle.clap.specs.declared.builder.command.Command.TheViews.{out-Command};
-ghost use Rattle.flowlabel.specs.Definition.{cat_app, certificate_rule, columns_rule, flowlabel_app, flows_rule, info_app, label_app, list_rule, needed_pmap_rule, pmap_rule, program, rows_app, shrink_app, cert_rule, check_app, compact_rule, needed_list_rule, recert_app, value_rule, with_filters, with_label_filters, with_value_filters, fields_rule, sort_rule, uniq_app};
+ghost use Rattle.flowlabel.specs.Definition.{address_rule, cat_app, certificate_rule, columns_rule, flowlabel_app, flows_rule, info_app, label_app, list_rule, needed_pmap_rule, pmap_rule, program, rows_app, shrink_app, cert_rule, check_app, compact_rule, needed_list_rule, recert_app, value_rule, with_filters, with_label_filters, with_value_filters, fields_rule, sort_rule, uniq_app, heading_of, help_of, value_names};
 
 use clap::{Arg, ArgAction, Command};
 use std::alloc::{AllocError, Global};
@@ -26,6 +26,7 @@ fn described<'a>(
 ) -> Command<'a>
     ensures app { app_of result ≡ new_app name.entry.now }
     ensures local { (out-Command result).has_globals ≡ false }
+    ensures version { option_map (λ text. text.now) (out-Command result).before_help ≡ Some VERSION.now }
     ensures about { (out-Command result).about ≡ Some about.entry }
     ensures usage { (out-Command result).usage_str ≡ Some usage.entry }
     ensures example { (out-Command result).after_help ≡ Some example.entry }
@@ -41,6 +42,9 @@ fn described<'a>(
 fn map_argument<'a>(alloc: Global) -> Arg<'a>
     ensures rule { rule_of result ≡ pmap_rule }
     ensures local { result.global ≡ false }
+    ensures value { value_names result ≡ codes "FILE" ∷ [] }
+    ensures heading { heading_of result ≡ Some (codes "Labels") }
+    ensures help { help_of result ≡ Some (codes "The prefix map") }
 {
     Arg::new(alloc, "pmap")
         .long("pmap")
@@ -53,6 +57,9 @@ fn map_argument<'a>(alloc: Global) -> Arg<'a>
 fn list_argument<'a>(alloc: Global) -> Arg<'a>
     ensures rule { rule_of result ≡ list_rule }
     ensures local { result.global ≡ false }
+    ensures value { value_names result ≡ codes "FILE" ∷ [] }
+    ensures heading { heading_of result ≡ Some (codes "Labels") }
+    ensures help { help_of result ≡ Some (codes "The prefix list") }
 {
     Arg::new(alloc, "list")
         .long("list")
@@ -61,15 +68,24 @@ fn list_argument<'a>(alloc: Global) -> Arg<'a>
         .help("The prefix list")
 }
 
+// `ADDR`, an address.
+fn address_argument<'a>(alloc: Global) -> Arg<'a>
+    ensures rule { rule_of result ≡ address_rule }
+    ensures local { result.global ≡ false }
+    ensures value { value_names result ≡ codes "ADDR" ∷ [] }
+    ensures help { help_of result ≡ Some (codes "The address to label") }
+{
+    Arg::new(alloc, "address")
+        .value_name("ADDR")
+        .required(true)
+        .help("The address to label")
+}
+
 // `label (--pmap FILE | --list FILE) ADDR`.
 fn label<'a>(alloc: Global) -> Result<Command<'a>, AllocError>
     ensures app { IfOk result (λ c. app_of c ≡ label_app) }
     ensures local { IfOk result (λ c. (out-Command c).has_globals ≡ false) }
 {
-    let address = Arg::new(alloc, "address")
-        .value_name("ADDR")
-        .required(true)
-        .help("The address to label");
     let usage = "flowlabel label (--pmap FILE | --list FILE) ADDR";
     let example = example!(
         "the label of one address",
@@ -84,13 +100,15 @@ fn label<'a>(alloc: Global) -> Result<Command<'a>, AllocError>
     )
     .arg(map_argument(alloc))?
     .arg(list_argument(alloc))?
-    .arg(address)
+    .arg(address_argument(alloc))
 }
 
 // `FILE`, the IPFIX File of `info`, `rows` and `uniq`.
 fn flows_argument<'a>(alloc: Global) -> Arg<'a>
     ensures rule { rule_of result ≡ flows_rule }
     ensures local { result.global ≡ false }
+    ensures value { value_names result ≡ codes "FILE" ∷ [] }
+    ensures help { help_of result ≡ Some (codes "The IPFIX File") }
 {
     Arg::new(alloc, "flows")
         .value_name("FILE")
@@ -122,6 +140,8 @@ fn info<'a>(alloc: Global) -> Result<Command<'a>, AllocError>
 fn columns_argument<'a>(alloc: Global) -> Arg<'a>
     ensures rule { rule_of result ≡ columns_rule }
     ensures local { result.global ≡ false }
+    ensures heading { heading_of result ≡ Some (codes "Output") }
+    ensures help { help_of result ≡ Some (codes "Pad the values to columns") }
 {
     Arg::new(alloc, "columns")
         .long("columns")
@@ -134,6 +154,9 @@ fn columns_argument<'a>(alloc: Global) -> Arg<'a>
 fn value_argument<'a>(alloc: Global, name: &'a str, value: &'a str, help: &'a str) -> Arg<'a>
     ensures rule { rule_of result ≡ value_rule name.entry.now }
     ensures local { result.global ≡ false }
+    ensures value { value_names result ≡ value.entry.now ∷ [] }
+    ensures heading { heading_of result ≡ Some (codes "Filters") }
+    ensures help { help_of result ≡ Some help.entry.now }
 {
     Arg::new(alloc, name)
         .long(name)
@@ -263,6 +286,10 @@ fn rows<'a>(alloc: Global) -> Result<Command<'a>, AllocError>
 fn fields_argument<'a>(alloc: Global) -> Arg<'a>
     ensures rule { rule_of result ≡ fields_rule }
     ensures local { result.global ≡ false }
+    ensures value { value_names result ≡ codes "NAMES" ∷ [] }
+    ensures heading { heading_of result ≡ Some (codes "Keys") }
+    ensures help { help_of result
+        ≡ Some (codes "What to sum by, as sip,dport: sip, dip, sport, dport,\nproto, flags, src-label, dst-label") }
 {
     Arg::new(alloc, "fields")
         .long("fields")
@@ -278,6 +305,8 @@ fn fields_argument<'a>(alloc: Global) -> Arg<'a>
 fn sort_argument<'a>(alloc: Global) -> Arg<'a>
     ensures rule { rule_of result ≡ sort_rule }
     ensures local { result.global ≡ false }
+    ensures heading { heading_of result ≡ Some (codes "Output") }
+    ensures help { help_of result ≡ Some (codes "Print the groups in the order of their keys") }
 {
     Arg::new(alloc, "sort-output")
         .long("sort-output")
@@ -332,6 +361,9 @@ fn cat<'a>(alloc: Global) -> Result<Command<'a>, AllocError>
 fn needed_map_argument<'a>(alloc: Global) -> Arg<'a>
     ensures rule { rule_of result ≡ needed_pmap_rule }
     ensures local { result.global ≡ false }
+    ensures value { value_names result ≡ codes "FILE" ∷ [] }
+    ensures heading { heading_of result ≡ Some (codes "Files") }
+    ensures help { help_of result ≡ Some (codes "The prefix map") }
 {
     map_argument(alloc).required(true).help_heading("Files")
 }
@@ -340,6 +372,8 @@ fn needed_map_argument<'a>(alloc: Global) -> Arg<'a>
 fn certificate_flag<'a>(alloc: Global) -> Arg<'a>
     ensures rule { rule_of result ≡ certificate_rule }
     ensures local { result.global ≡ false }
+    ensures heading { heading_of result ≡ Some (codes "Output") }
+    ensures help { help_of result ≡ Some (codes "Print the certificate in place of the list") }
 {
     Arg::new(alloc, "certificate")
         .long("certificate")
@@ -352,6 +386,8 @@ fn certificate_flag<'a>(alloc: Global) -> Arg<'a>
 fn compact_flag<'a>(alloc: Global) -> Arg<'a>
     ensures rule { rule_of result ≡ compact_rule }
     ensures local { result.global ≡ false }
+    ensures heading { heading_of result ≡ Some (codes "Output") }
+    ensures help { help_of result ≡ Some (codes "Print the certificate compacted") }
 {
     Arg::new(alloc, "compact")
         .long("compact")
@@ -381,6 +417,9 @@ fn shrink<'a>(alloc: Global) -> Result<Command<'a>, AllocError>
 fn needed_list_argument<'a>(alloc: Global) -> Arg<'a>
     ensures rule { rule_of result ≡ needed_list_rule }
     ensures local { result.global ≡ false }
+    ensures value { value_names result ≡ codes "FILE" ∷ [] }
+    ensures heading { heading_of result ≡ Some (codes "Files") }
+    ensures help { help_of result ≡ Some (codes "The prefix list") }
 {
     list_argument(alloc).required(true).help_heading("Files")
 }
@@ -389,6 +428,9 @@ fn needed_list_argument<'a>(alloc: Global) -> Arg<'a>
 fn certificate_argument<'a>(alloc: Global) -> Arg<'a>
     ensures rule { rule_of result ≡ cert_rule }
     ensures local { result.global ≡ false }
+    ensures value { value_names result ≡ codes "FILE" ∷ [] }
+    ensures heading { heading_of result ≡ Some (codes "Files") }
+    ensures help { help_of result ≡ Some (codes "The certificate") }
 {
     Arg::new(alloc, "cert")
         .long("cert")

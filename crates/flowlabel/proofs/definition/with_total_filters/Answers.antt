@@ -1,6 +1,6 @@
 use Rattle.std.proofs.Common.{◌≡◌, ◌∙◌, ap₂, refl, codes}
 use Rattle.std.proofs.lemmas.Result.{IfOk-weaker}
-use Rattle.clap.specs.Words.{App, app_of, with_rule}
+use Rattle.clap.specs.Words.{app_of, with_rule}
 use Rattle.flowlabel.specs.Definition.{value_rule}
 use Rattle.flowlabel.proofs.DefinitionLemmas.{keeps_globals}
 use Rattle.flowlabel.proofs.definition.with_total_filters.Goals as goal
