@@ -1,23 +1,19 @@
 -- The sets and the costs that are made from an outline's end, and the certificate's nodes that claim them.
-use Rattle.std.proofs.Common.{◌≡◌, ℕ, ◌+◌, ◌<◌, ◌≤◌, ◌^◌, ◌⊎◌, ◌||◌, ◌∙◌, Bool, true, false, List, [], ◌∷◌, ◌++◌, length, map, get_or, refl, sym, ap, subst, arith}
-use mathlib.Core.Logic.{inl, inr}
-use Rattle.std.proofs.lemmas.Bool.{cases_lt, cond-false, cond_above, cond_below, ne_eqb}
+use Rattle.std.proofs.Common.{◌≡◌, ℕ, ◌+◌, ◌<◌, ◌≤◌, ◌^◌, ◌∙◌, Bool, List, [], ◌∷◌, ◌++◌, length, map, get_or, refl, sym, ap, subst}
 use Rattle.std.proofs.lemmas.List.{append-nil, append_assoc, map_push, same_from_push}
 use Rattle.pmap_text.specs.declared.label.LabelId.{LabelId}
-use Rattle.pmap_cert.specs.CertificateForm.{IsRising}
 use Rattle.pmap_cert.specs.Node.{Inner, Leaf, Node, cost_of, set_of}
-use Rattle.pmap_minimise.specs.Claiming.{AreClaimsFrom, AreClaimsOf, AreHalvesOf, AreSetsFrom, AreSetsOf, HoldsLabel, IsCostAdded, IsCostReady, IsHalfAdded, IsHalfHeld, IsHalfJoined, IsHalfReady, JoinsHalves, all_claims, claims_of, exact_cost, sets_of}
-use Rattle.pmap_minimise.specs.Kept.{AreSetsKept, AreTwoLabels, IsHeldIn, IsSetAdded, IsSetOf, larger_in, set_by, sets_in, two_of}
-use Rattle.pmap_minimise.specs.Numbers.{Claim, IsExactBy, IsExactSet, IsExactSetBy, IsUnion, common_numbers, has_number, node_claim}
+use Rattle.pmap_minimise.specs.Claiming.{AreClaimsFrom, AreClaimsOf, AreHalvesOf, AreSetsFrom, HoldsLabel, IsCostAdded, IsCostReady, IsHalfAdded, IsHalfHeld, IsHalfJoined, IsHalfReady, JoinsHalves, all_claims, claims_of, exact_cost, sets_of}
+use Rattle.pmap_minimise.specs.Kept.{AreSetsKept, IsSetAdded, IsSetOf, larger_in, set_by, sets_in}
+use Rattle.pmap_minimise.specs.Numbers.{Claim, IsExactBy, IsExactSetBy, common_numbers, node_claim}
 use Rattle.pmap_minimise.specs.Outline.{IsOutline, IsReady}
 use Rattle.pmap_minimise.specs.declared.claim_list.Claims.{Claims}
 use Rattle.pmap_minimise.specs.declared.outline.Part.{Part}
 use Rattle.pmap_minimise.specs.declared.outline.Part.TheVariants.{Divided, Labelled}
 use Rattle.pmap_minimise.specs.declared.set_list.SetId.{SetId}
 use Rattle.pmap_minimise.specs.declared.set_list.Sets.{Sets}
-use Rattle.pmap_minimise.proofs.Merged.{common-same}
 use Rattle.pmap_minimise.proofs.Outlined.{add-step, at-end, one-node, ready-step, root-node}
-use Rattle.pmap_minimise.proofs.Pieces.{held-added, held-grown, same-added, set-grown, set-of_label}
+use Rattle.pmap_minimise.proofs.Pieces.{held-added, held-grown, set-grown}
 use Rattle.pmap_minimise.proofs.Priced.{claims-all, claims-count}
 
 -- the exact set of two halves makes the exact claim
@@ -25,59 +21,6 @@ pub exact-by : (low_cost high_cost : ℕ) (low high shared set : List ℕ) (apar
     → IsExactBy low_cost high_cost low high shared (exact_cost low_cost high_cost apart) set
 exact-by low_cost high_cost low high [] set apart exact = (ap (exact_cost low_cost high_cost) exact.0, exact.1, exact.2)
 exact-by low_cost high_cost low high (n ∷ ns) set apart exact = (ap (exact_cost low_cost high_cost) exact.0, exact.1)
-
--- the exact set of two halves is added: of the same one label
-one-exact : (n : ℕ) → IsExactSet (n ∷ []) (n ∷ []) false (n ∷ [])
-one-exact n =
-    let same : common_numbers (n ∷ []) (n ∷ []) ≡ n ∷ [] = common-same (n + 1) 0 n [] [] (omega arith, omega arith, tt) in
-    subst (λ (shared : List ℕ). IsExactSetBy (n ∷ []) (n ∷ []) false shared (n ∷ [])) (sym same) (refl, refl)
-
-pub one-joined : (old new : Sets) (low high : SetId) → IsHeldIn (larger_in old) low → low.code.0 < 2 ^ 31 → high.code.0 ≡ low.code.0 → IsSetAdded old new low → IsHalfJoined low high old new low false
-one-joined old new low high held less same add =
-    let low_is : set_by (larger_in old) low ≡ low.code.0 ∷ [] = set-of_label (larger_in old) low less in
-    let high_is : set_by (larger_in old) high ≡ low.code.0 ∷ [] = set-of_label (larger_in old) high (omega arith) ∙ ap (λ (n : ℕ). n ∷ []) same in
-    record {
-      set = set_by (larger_in old) low;
-      exact =
-          subst (λ (s : List ℕ). IsExactSet s (set_by (larger_in old) high) false s) (sym low_is)
-          (subst (λ (s : List ℕ). IsExactSet (low.code.0 ∷ []) s false (low.code.0 ∷ [])) (sym high_is) (one-exact low.code.0));
-      added = same-added old new low held add;
-    }
-
--- of two labels
-abbrev IsExactPair : ℕ → ℕ → List ℕ → Type 0
-IsExactPair x y set = IsExactSet (x ∷ []) (y ∷ []) true set
-
-either-way : (p x y : Bool) → (p ≡ (x || (y || false))) → p ≡ ((x || false) || (y || false))
-either-way p x y is = grind arith
-
-other-way : (p x y : Bool) → (p ≡ (y || (x || false))) → p ≡ ((x || false) || (y || false))
-other-way p x y is = grind arith
-
-none-shared : (x y : ℕ) (set : List ℕ) → (x ≡ y → ⊥) → IsUnion (x ∷ []) (y ∷ []) set → IsRising (2 ^ 32) 0 set → IsExactPair x y set
-none-shared x y set apart union rising =
-    let none : common_numbers (x ∷ []) (y ∷ []) ≡ [] =
-    cond-false (has_number (y ∷ []) x) (x ∷ []) [] (ap (λ (t : Bool). t || false) (ne_eqb x y apart)) in
-    subst (λ (shared : List ℕ). IsExactSetBy (x ∷ []) (y ∷ []) true shared set) (sym none) (refl, union, rising)
-
-two-exact : (low high : SetId) → AreTwoLabels low high → IsExactPair low.code.0 high.code.0 (two_of low high)
-two-exact low high two = by (cases_lt low.code.0 high.code.0)
-  where
-    by : (low.code.0 < high.code.0) ⊎ (high.code.0 ≤ low.code.0) → IsExactPair low.code.0 high.code.0 (two_of low high)
-    by (inl less) =
-        let small = two.high_is in
-        subst (IsExactPair low.code.0 high.code.0) (cond_below low.code.0 high.code.0 (low.code.0 ∷ high.code.0 ∷ []) (high.code.0 ∷ low.code.0 ∷ []) less)
-        (none-shared low.code.0 high.code.0 (low.code.0 ∷ high.code.0 ∷ []) two.apart
-        (λ p. either-way (p low.code.0 || (p high.code.0 || false)) (p low.code.0) (p high.code.0) refl)
-        (omega arith, omega arith, (omega arith, omega arith, tt)))
-    by (inr le) =
-        let small = two.low_is in
-        let ne = two.apart in
-        subst (IsExactPair low.code.0 high.code.0)
-        (cond_above low.code.0 high.code.0 (low.code.0 ∷ high.code.0 ∷ []) (high.code.0 ∷ low.code.0 ∷ []) (high.code.0 ∷ low.code.0 ∷ []) le refl)
-        (none-shared low.code.0 high.code.0 (high.code.0 ∷ low.code.0 ∷ []) two.apart
-        (λ p. other-way (p high.code.0 || (p low.code.0 || false)) (p low.code.0) (p high.code.0) refl)
-        (omega arith, omega arith, (omega arith, omega arith, tt)))
 
 -- what is kept for two halves, and then added
 pub half-added : (old middle new : Sets) (low high half : SetId) (apart : Bool) → IsHalfHeld low high old middle half apart → IsSetAdded middle new half
@@ -307,20 +250,7 @@ module _ (parts : List Part) (left next : ℕ) (halves : List SetId) (sets : Set
               ∙ ap (map (λ (claim : Claim). claim.cost)) (sym step.claims);
         }
 
--- at the first part the sets are those of the tree's node
-pub sets-root : (parts : List Part) (left : ℕ) (halves : List SetId) (sets : Sets) (nodes : List Node) → IsOutline parts → left ≡ 0 → AreSetsFrom parts left halves sets nodes
-    → (node : Node) × AreSetsOf parts sets node
-sets-root parts left halves sets nodes outline first from =
-    let root = one-node parts left nodes outline first from.from in (
-      root.node,
-      record {
-        outline = outline;
-        node_is = λ plan is. root-node parts left nodes [] root.node first from.from root.nodes_are plan is;
-        kept = from.kept;
-        sets_are = from.sets_are ∙ ap sets_of (ap all_claims root.nodes_are ∙ append-nil (claims_of root.node));
-      },
-    )
-
+-- at the first part the claims are those of the tree's node
 pub claims-root : (parts : List Part) (left : ℕ) (halves : List SetId) (claims : Claims) (waiting : List ℕ) → IsOutline parts → left ≡ 0
     → AreClaimsFrom parts left halves claims.sets waiting claims.costs.items → (node : Node) × AreClaimsOf parts claims node
 claims-root parts left halves claims waiting outline first from =

@@ -13,10 +13,10 @@ use Rattle.label_trie.specs.Kind.{IsOfTree}
 use Rattle.label_trie.specs.Leaf.{number_of}
 use Rattle.label_trie.specs.Parts.{IsHalf}
 use Rattle.label_trie.specs.TrieModel.{TrieModel}
-use Rattle.pmap_minimise.specs.Claiming.{AreClaimsOf, AreSetsOf}
+use Rattle.pmap_minimise.specs.Claiming.{AreClaimsOf}
 use Rattle.pmap_minimise.specs.Entered.{AddsEntries}
 use Rattle.pmap_minimise.specs.Kept.{AreSetsKept, IsSetOf, larger_in}
-use Rattle.pmap_minimise.specs.Listing.{AddsMark, AddsVisit, AreHalvesPut, AreMarksLeft, AreSetsClaimed, IsClaimed, IsListing, IsMarkFor, IsSoundVisit, Visit}
+use Rattle.pmap_minimise.specs.Listing.{AddsMark, AddsVisit, AreHalvesPut, AreMarksLeft, IsClaimed, IsListing, IsMarkFor, IsSoundVisit, Visit}
 use Rattle.pmap_minimise.specs.Numbers.{HasHalves, IsOwn, IsSound, numbers_of}
 use Rattle.pmap_minimise.specs.Outline.{outline_of}
 use Rattle.pmap_minimise.specs.Row.{Heir}
@@ -24,7 +24,6 @@ use Rattle.pmap_minimise.specs.Sketch.{AreMarks, IsLoneMark}
 use Rattle.pmap_minimise.specs.Walk.{AddsAll}
 use Rattle.pmap_minimise.specs.declared.claim_list.Claims.{Claims}
 use Rattle.pmap_minimise.specs.declared.set_list.SetId.{SetId}
-use Rattle.pmap_minimise.specs.declared.set_list.Sets.{Sets}
 use Rattle.pmap_minimise.specs.declared.sketch.LoneAddress.{LoneAddress}
 use Rattle.pmap_minimise.specs.declared.sketch.Mark.{Mark}
 use Rattle.pmap_minimise.specs.declared.sketch.Mark.TheVariants.{Inner as InnerMark, Leaf as LeafMark, Lone as LoneMark}
@@ -419,11 +418,7 @@ module _ (version : Version) (s : Sketch) (root : Node) (block : Block) (next : 
           };
         }
 
--- the sets, or the claims, that are made of the outline of a trie
-pub trie-sets : (t : TrieModel) (sets : Sets) (node : Node) → IsOfTree t → All (λ leaf. IsSome leaf.label) t.leaves → length t.leaves < 2 ^ 32
-    → AreSetsOf (outline_of t.nodes) sets node → AreSetsClaimed t.version t.leaves (outline_of t.nodes) sets node
-trie-sets t sets node of labelled few are = record { are = are; certified = trie-certified t of labelled node are.node_is few }
-
+-- the claims that are made of the outline of a trie
 pub trie-claimed : (t : TrieModel) (claims : Claims) (node : Node) → IsOfTree t → All (λ leaf. IsSome leaf.label) t.leaves → length t.leaves < 2 ^ 32
     → AreClaimsOf (outline_of t.nodes) claims node → IsClaimed t.version t.leaves (outline_of t.nodes) claims node
 trie-claimed t claims node of labelled few are = record { are = are; certified = trie-certified t of labelled node are.node_is few }

@@ -1,9 +1,8 @@
 -- Two sets by rising numbers that are gone through together.
-use Rattle.std.proofs.Common.{◌≡◌, ℕ, zero, suc, ◌+◌, ◌^◌, ◌<◌, ◌≤◌, ◌==◌, ◌||◌, ◌∙◌, Bool, true, false, cond, List, [], ◌∷◌, ◌++◌, filter, length, take, get_or, All, refl, sym, ap, subst, arith}
-use Rattle.std.specs.List.{AllByRecursion, list_any}
+use Rattle.std.proofs.Common.{◌≡◌, ℕ, ◌+◌, ◌^◌, ◌<◌, ◌≤◌, ◌==◌, ◌||◌, ◌∙◌, Bool, true, false, cond, List, [], ◌∷◌, ◌++◌, filter, length, refl, sym, ap, subst, arith}
+use Rattle.std.specs.List.{list_any}
 use Rattle.std.proofs.lemmas.Bool.{cond-false, eq-eqb, ne_eqb}
 use Rattle.std.proofs.lemmas.List.{append-nil, append_assoc}
-use Rattle.std.proofs.lemmas.List.Elements.{All-from_recursion}
 use Rattle.std.proofs.lemmas.List.Folds.{list_any-append}
 use Rattle.pmap_text.specs.declared.label.LabelId.{LabelId}
 use Rattle.pmap_cert.specs.CertificateForm.{IsRising}
@@ -246,21 +245,6 @@ not-apart low high x y lower higher lower_rest higher_rest lower_is higher_is me
     let both = merging-both low high [] x y lower higher lower_rest higher_rest lower_is higher_is merging (x.0 ∷ []) same refl in
     let all : x.0 ∷ common_numbers (numbers_of lower_rest) (numbers_of higher_rest) ≡ [] = both.all ∙ none in
     cc
-
--- a number of a rising list is above those before it
-least-at : (b low : ℕ) (ns : List ℕ) (i d : ℕ) → IsRising b low ns → i < length ns → low ≤ get_or ns i d
-least-at b low [] i d rising inside = absurd (omega arith)
-least-at b low (n ∷ ns) zero d rising inside = rising.0
-least-at b low (n ∷ ns) (suc i) d rising inside = let least = rising.0 in let rest = least-at b (n + 1) ns i d rising.2 (omega arith) in omega arith
-
-before-at : (b low : ℕ) (ns : List ℕ) (i d : ℕ) → IsRising b low ns → i < length ns → AllByRecursion (λ n. n < get_or ns i d) (take i ns)
-before-at b low [] i d rising inside = absurd (omega arith)
-before-at b low (n ∷ ns) zero d rising inside = tt
-before-at b low (n ∷ ns) (suc i) d rising inside =
-    (let least = least-at b (n + 1) ns i d rising.2 (omega arith) in omega arith, before-at b (n + 1) ns i d rising.2 (omega arith))
-
-pub all-before : (b : ℕ) (ns : List ℕ) (i d : ℕ) → IsRising b 0 ns → i < length ns → All (λ n. n < get_or ns i d) (take i ns)
-all-before b ns i d rising inside = All-from_recursion (λ n. n < get_or ns i d) (take i ns) (before-at b 0 ns i d rising inside)
 
 pub no_items : (xs : List LabelId) → length xs ≡ 0 → xs ≡ []
 no_items [] e = refl

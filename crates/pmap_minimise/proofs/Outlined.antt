@@ -181,12 +181,6 @@ module _ (parts : List Part) (left next : ℕ) (nodes : List Node) (outline : Is
       }
 
 -- at the first part the stack has the tree's node alone
-pub root-some : (parts : List Part) (left : ℕ) (nodes : List Node) → IsOutline parts → left ≡ 0 → AreNodesFrom parts left nodes → 0 < length nodes
-root-some parts left nodes outline first from =
-    stack-some outline.plan [] nodes
-    (subst (λ (l : List Plan). AreStacked l nodes) (read-parts outline.plan parts outline.is)
-    (subst (λ (k : ℕ). AreStacked (plans_of (drop k parts)) nodes) first from.stacked))
-
 pub root-node : (parts : List Part) (left : ℕ) (nodes rest : List Node) (top : Node) → left ≡ 0 → AreNodesFrom parts left nodes → nodes ≡ rest ++ top ∷ []
     → (plan : Plan) → parts ≡ parts_of plan → IsNodeFor plan top
 root-node parts left nodes rest top first from is plan outline =

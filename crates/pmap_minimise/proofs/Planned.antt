@@ -2,21 +2,18 @@
 use Rattle.std.proofs.Common.{◌≡◌, ℕ, suc, ◌+◌, ◌-◌, ◌*◌, ◌^◌, ◌<◌, ◌≤◌, ◌∙◌, List, [], ◌∷◌, ◌++◌, Option, Some, None, All, IsSome, length, slice_get, get_or, refl, sym, ap, subst, arith, length-append, true≢false}
 use Rattle.std.proofs.lemmas.List.{get_or-map, length-map, map-append}
 use Rattle.std.proofs.lemmas.List.Elements.{All-append, All-cons, All-get_or, All-head, All-nil}
-use Rattle.std.proofs.lemmas.Option.{get_or_from_slice_get, same_Some, slice_get-get_or, slice_get_within}
+use Rattle.std.proofs.lemmas.Option.{slice_get-get_or}
 use Rattle.std.specs.Option.{ForSome}
 use Rattle.pmap_text.specs.declared.label.LabelId.{LabelId}
 use Rattle.label_trie.specs.Kind.{IsKindOf, IsOfTree}
-use Rattle.label_trie.specs.Tree.{Fork as TreeFork, HasNodes, HasRoom, IsLabelled, Tip as TreeTip, Tree, leaf_count, leaves_of, nodes_of, size, top_of}
+use Rattle.label_trie.specs.Tree.{Fork as TreeFork, HasRoom, IsLabelled, Tip as TreeTip, Tree, leaves_of, nodes_of, top_of}
 use Rattle.label_trie.specs.TrieModel.{LeafModel, NodeModel, TrieModel}
 use Rattle.label_trie.specs.declared.kind.Kind.TheVariants.{Divided as DividedKind, Leaf as LeafKind}
 use Rattle.label_trie.proofs.Encoded.{size_leaves, size_pos}
 use Rattle.label_trie.proofs.NodeLeaves.{inner_unsettled, length_leaves}
-use Rattle.label_trie.proofs.Places.{whole_nodes}
 use Rattle.prefix_keys.specs.Version.{width_of}
-use Rattle.pmap_cert.specs.Node.{Chain, Inner, Leaf, Node}
+use Rattle.pmap_cert.specs.Node.{Node}
 use Rattle.pmap_minimise.specs.Certified.{IsCertified}
-use Rattle.pmap_minimise.specs.Compacting.{HasPart, StandsAt, inners}
-use Rattle.pmap_minimise.specs.Numbers.{IsJoined}
 use Rattle.pmap_minimise.specs.Outline.{IsNodeFor, IsOutline, Plan, leaves_part, outline_of, parts_of, plan_of}
 use Rattle.pmap_minimise.specs.declared.outline.Part.{Part}
 use Rattle.pmap_minimise.specs.declared.outline.Part.TheVariants.{Divided, Labelled}
@@ -77,72 +74,6 @@ tree-certified (TreeFork low high) n q h node labelled room is few =
     (tree-certified low (suc n) (2 * q) (h - 1) is.low labelled.0 room.1 is.low_is (omega arith))
     (tree-certified high (suc n) (2 * q + 1) (h - 1) is.high labelled.1 room.2 is.high_is (omega arith)) node is.joined)
 
--- the part at a node
-part-at : (nodes : List NodeModel) (at : ℕ) (model : NodeModel) → slice_get nodes at ≡ Some model → HasPart nodes at (leaves_part model.leaves) (length model.leaves)
-part-at nodes at model is =
-    let inside = slice_get_within nodes at model is in
-    record {
-      inside = inside;
-      is =
-          get_or-map (λ (node : NodeModel). leaves_part node.leaves) nodes at model Divided inside
-          ∙ ap (λ (node : NodeModel). leaves_part node.leaves) (get_or_from_slice_get nodes at model model is);
-      count = λ node e. ap (λ (m : NodeModel). length m.leaves) (same_Some node model (sym e ∙ is));
-    }
-
-same-part : (nodes : List NodeModel) (at : ℕ) (part part' : Part) (leaves leaves' : ℕ) → part ≡ part' → leaves ≡ leaves' → HasPart nodes at part leaves → HasPart nodes at part' leaves'
-same-part nodes at part part' leaves leaves' e f has =
-    subst (λ (p : Part). HasPart nodes at p leaves') e (subst (λ (n : ℕ). HasPart nodes at part n) f has)
-
--- the certificate's node for a tree has one leaf more than inner nodes
-joined-inners : (low high node : Node) (a b : ℕ) → IsJoined low high node → inners low + 1 ≡ a → inners high + 1 ≡ b → inners node + 1 ≡ a + b
-joined-inners low high (Leaf number) a b joined e f = absurd joined
-joined-inners low high (Inner cost set lower upper) a b joined e f =
-    let c = ap inners joined.0 in
-    let d = ap inners joined.1 in
-    omega arith
-joined-inners low high (Chain cost set bits side end) a b joined e f = absurd joined
-
-tree-inners : (t : Tree) (node : Node) → IsNodeFor (plan_of t) node → inners node + 1 ≡ leaf_count t
-unfolding plan_of
-tree-inners (TreeTip None) node is = ap (λ (n : Node). inners n + 1) is
-tree-inners (TreeTip (Some id)) node is = ap (λ (n : Node). inners n + 1) is
-tree-inners (TreeFork low high) node is =
-    joined-inners is.low is.high node (leaf_count low) (leaf_count high) is.joined (tree-inners low is.low is.low_is) (tree-inners high is.high is.high_is)
-
--- and stands where the tree's nodes do
-joined-stands : (nodes : List NodeModel) (at : ℕ) (low high node : Node) → IsJoined low high node → HasPart nodes at Divided (inners low + inners high + 2) → StandsAt nodes (at + 1) low
-    → StandsAt nodes (at + 2 * inners low + 2) high → StandsAt nodes at node
-joined-stands nodes at low high (Leaf number) joined part first second = absurd joined
-joined-stands nodes at low high (Chain cost set bits side end) joined part first second = absurd joined
-joined-stands nodes at low high (Inner cost set lower upper) joined part first second =
-    let low_is = sym joined.0 in
-    let high_is = sym joined.1 in (
-      subst (λ (n : ℕ). HasPart nodes at Divided n) (λ i. inners (low_is i) + inners (high_is i) + 2) part,
-      subst (StandsAt nodes (at + 1)) low_is first,
-      subst (λ (n : Node). StandsAt nodes (at + 2 * inners n + 2) upper) low_is (subst (StandsAt nodes (at + 2 * inners low + 2)) high_is second),
-    )
-
-tree-stands : (nodes : List NodeModel) (t : Tree) (n q at : ℕ) (node : Node) → HasNodes nodes at t n q → IsLabelled t → IsNodeFor (plan_of t) node → StandsAt nodes at node
-unfolding plan_of
-tree-stands nodes (TreeTip None) n q at node has labelled is = absurd (true≢false (sym labelled))
-tree-stands nodes (TreeTip (Some id)) n q at node has labelled is =
-    subst (StandsAt nodes at) (sym is) (part-at nodes at (top_of (TreeTip (Some id)) n q) has)
-tree-stands nodes (TreeFork low high) n q at node has labelled is =
-    let low_leaves = leaves_of low (suc n) (2 * q) in
-    let high_leaves = leaves_of high (suc n) (2 * q + 1) in
-    let low_count = tree-inners low is.low is.low_is in
-    let high_count = tree-inners high is.high is.high_is in
-    let count = length-append low_leaves high_leaves in
-    let low_length = length_leaves low (suc n) (2 * q) in
-    let high_length = length_leaves high (suc n) (2 * q + 1) in
-    let divided : leaves_part (low_leaves ++ high_leaves) ≡ Divided = two-divided (low_leaves ++ high_leaves) (omega arith) in
-    let place : at + 1 + size low ≡ at + 2 * inners is.low + 2 = omega (arith, size_leaves low) in
-    joined-stands nodes at is.low is.high node is.joined
-    (same-part nodes at (leaves_part (low_leaves ++ high_leaves)) Divided (length (low_leaves ++ high_leaves)) (inners is.low + inners is.high + 2) divided (omega arith)
-    (part-at nodes at (top_of (TreeFork low high) n q) has.0))
-    (tree-stands nodes low (suc n) (2 * q) (at + 1) is.low has.1 labelled.0 is.low_is)
-    (tree-stands nodes high (suc n) (2 * q + 1) (at + 2 * inners is.low + 2) is.high (subst (λ (k : ℕ). HasNodes nodes k high (suc n) (2 * q + 1)) place has.2) labelled.1 is.high_is)
-
 -- a trie whose leaves have labels
 module _ (t : TrieModel) (of : IsOfTree t) (labelled : All HasLabel t.leaves) where
   all-labelled : IsLabelled of.tree
@@ -160,12 +91,6 @@ module _ (t : TrieModel) (of : IsOfTree t) (labelled : All HasLabel t.leaves) wh
       let same = of.leaves in
       subst (λ (l : List LeafModel). IsCertified 0 0 (width_of t.version) l node) (sym same)
       (tree-certified of.tree 0 0 (width_of t.version) node all-labelled of.room (is (plan_of of.tree) parts-are) (subst (λ (l : List LeafModel). length l < 2 ^ 32) same few))
-
-  pub trie-stands : (node : Node) → ((plan : Plan) → outline_of t.nodes ≡ parts_of plan → IsNodeFor plan node) → StandsAt t.nodes 0 node
-  trie-stands node is =
-      let same = of.nodes in
-      subst (λ (l : List NodeModel). StandsAt l 0 node) (sym same)
-      (tree-stands (nodes_of of.tree 0 0) of.tree 0 0 0 node (whole_nodes of.tree) all-labelled (is (plan_of of.tree) parts-are))
 
 -- the leaves of each node of a tree have labels
 labelled-leaves : (t : Tree) (n q : ℕ) → IsLabelled t → All HasLabel (leaves_of t n q)

@@ -2,7 +2,7 @@
 use Rattle.std.proofs.Common.{◌≡◌, ℕ, zero, suc, ◌<◌, ◌∙◌, List, [], ◌∷◌, length, map, get_or, refl, sym, ap, arith}
 use Rattle.std.proofs.lemmas.List.{length-map}
 use Rattle.pmap_minimise.specs.Claiming.{sets_of}
-use Rattle.pmap_minimise.specs.Kept.{AreKept, claims_in, sets_in, with_sets}
+use Rattle.pmap_minimise.specs.Kept.{claims_in, sets_in, with_sets}
 use Rattle.pmap_minimise.specs.Numbers.{Claim, no_claim}
 use Rattle.pmap_minimise.specs.declared.claim_list.Claims.{Claims}
 
@@ -29,12 +29,6 @@ with-all : (claims : List Claim) → with_sets (map (λ claim. claim.cost) claim
 with-all [] = refl
 with-all (claim ∷ claims) = ap (λ (l : List Claim). claim ∷ l) (with-all claims)
 
-sets-with : (costs : List ℕ) (sets : List (List ℕ)) → length costs ≡ length sets → sets_of (with_sets costs sets) ≡ sets
-sets-with [] [] same = refl
-sets-with [] (set ∷ sets) same = absurd (omega arith)
-sets-with (cost ∷ costs) [] same = absurd (omega arith)
-sets-with (cost ∷ costs) (set ∷ sets) same = ap (λ (l : List (List ℕ)). set ∷ l) (sets-with costs sets (omega arith))
-
 pub claims-length : (c : Claims) → length (claims_in c) ≡ length c.costs.items
 claims-length c = with-length c.costs.items (sets_in c.sets)
 
@@ -51,6 +45,3 @@ claims-all c claims costs sets = (λ i. with_sets (costs i) (sets i)) ∙ with-a
 pub claims-count : (c : Claims) (claims : List Claim) → c.costs.items ≡ map (λ claim. claim.cost) claims → sets_in c.sets ≡ sets_of claims → length c.costs.items ≡ length (sets_in c.sets)
 claims-count c claims costs sets =
     ap length costs ∙ length-map claims (λ (claim : Claim). claim.cost) ∙ sym (length-map claims (λ (claim : Claim). claim.set)) ∙ sym (ap length sets)
-
-pub sets-claims : (c : Claims) → AreKept c → sets_in c.sets ≡ sets_of (claims_in c)
-sets-claims c kept = sym (sets-with c.costs.items (sets_in c.sets) kept.count)

@@ -129,13 +129,6 @@ pub record AreClaimsFrom (parts : List Part) (left : ℕ) (halves : List SetId) 
   pub waiting_are : waiting ≡ map cost_of nodes
   pub costs_are : costs ≡ map (λ claim. claim.cost) (all_claims nodes)
 
--- the sets are those that the node and those below it claim, and it is the certificate's node of the parts' tree
-pub record AreSetsOf (parts : List Part) (sets : Sets) (node : Node) : Type 0 where
-  pub outline : IsOutline parts
-  pub node_is : (plan : Plan) → parts ≡ parts_of plan → IsNodeFor plan node
-  pub kept : AreSetsKept sets
-  pub sets_are : sets_in sets ≡ sets_of (claims_of node)
-
 -- the claims are those of the node, which is the certificate's node of the parts' tree
 pub record AreClaimsOf (parts : List Part) (claims : Claims) (node : Node) : Type 0 where
   pub outline : IsOutline parts

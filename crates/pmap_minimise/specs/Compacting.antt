@@ -1,17 +1,12 @@
-use Rattle.std.specs.Prelude.{◌≡◌, ℕ, zero, suc, ◌+◌, ◌*◌, ◌<◌, ◌≤◌, ◌⊎◌, ◌==◌, Bool, List, [], ◌∷◌, ◌++◌, Option, Some, None, length, slice_get, slice_index_or}
-use Rattle.std.specs.Option.{ForSome}
+use Rattle.std.specs.Prelude.{◌≡◌, ℕ, zero, suc, ◌+◌, ◌≤◌, ◌⊎◌, ◌==◌, Bool, List, [], ◌∷◌, ◌++◌, Option, Some, None, length, slice_get}
 use Rattle.pmap_cert.specs.CertificateReading.{LeafLine}
 use Rattle.pmap_cert.specs.FormatReading.{ChainLine, DueLine, PlainLine}
-use Rattle.pmap_cert.specs.Node.{Chain, Inner, Leaf, Node}
+use Rattle.pmap_cert.specs.Node.{Leaf, Node}
 use Rattle.pmap_cert.specs.Placing.{bits_down, end_down, side_below}
-use Rattle.label_trie.specs.TrieModel.{NodeModel}
-use Rattle.pmap_minimise.specs.Outline.{outline_of}
 use Rattle.pmap_minimise.specs.Pricing.{IsLoneAt, IsPricedAt}
 use Rattle.pmap_minimise.specs.Sketch.{digit}
 use Rattle.pmap_minimise.specs.declared.compacting.End.{End}
 use Rattle.pmap_minimise.specs.declared.compacting.End.TheVariants.{Leaf as LeafEnd, Mark as MarkEnd}
-use Rattle.pmap_minimise.specs.declared.outline.Part.{Part}
-use Rattle.pmap_minimise.specs.declared.outline.Part.TheVariants.{Divided, Labelled}
 use Rattle.pmap_minimise.specs.declared.pricing.Price.{Price}
 use Rattle.pmap_minimise.specs.declared.sketch.LoneAddress.{LoneAddress}
 use Rattle.pmap_minimise.specs.declared.sketch.Mark.{Mark}
@@ -95,26 +90,3 @@ abbrev pub IsChained : LoneAddress → List DueLine → List DueLine → Type 0
 IsChained lone old new =
     new ≡ (old ++ ChainLine 1 (way_to lone.value lone.bits) lone.side.0 (lone.side.0 ∷ []) ∷ [])
     ++ PlainLine (LeafLine lone.label.0) ∷ []
-
--- A certificate's nodes in a trie, where each node has one.
-
--- how many inner nodes there are at and below a node without chains, of which there is one less than leaves
-abbrev pub inners : Node → ℕ
-inners (Leaf label) = 0
-inners (Inner cost set lower upper) = inners lower + inners upper + 1
-inners (Chain cost set bits side end) = 0
-
--- a trie has the part at the node with this number, with so many leaves at and below it
-pub record HasPart (nodes : List NodeModel) (number : ℕ) (part : Part) (leaves : ℕ) : Type 0 where
-  pub inside : number < length nodes
-  pub is : slice_index_or (outline_of nodes) number Divided ≡ part
-  pub count : ForSome (slice_get nodes number) (λ node. length node.leaves ≡ leaves)
-
--- The node stands in a trie from this number on: behind an inner node come those of its lower half, and then those of its
--- upper one.
-abbrev pub StandsAt : List NodeModel → ℕ → Node → Type 0
-StandsAt nodes number (Leaf label) = HasPart nodes number (Labelled (record { 0 = label })) 1
-StandsAt nodes number (Inner cost set lower upper) =
-    HasPart nodes number Divided (inners lower + inners upper + 2) × StandsAt nodes (number + 1) lower
-    × StandsAt nodes (number + 2 * inners lower + 2) upper
-StandsAt nodes number (Chain cost set bits side end) = ⊥

@@ -9,7 +9,7 @@ use Rattle.label_trie.specs.Leaf.{number_of}
 use Rattle.label_trie.specs.Parts.{IsHalf}
 use Rattle.label_trie.specs.TrieModel.{LeafModel}
 use Rattle.pmap_minimise.specs.Certified.{IsCertified}
-use Rattle.pmap_minimise.specs.Claiming.{AreClaimsOf, AreSetsOf, all_claims}
+use Rattle.pmap_minimise.specs.Claiming.{AreClaimsOf, all_claims}
 use Rattle.pmap_minimise.specs.Entered.{AddsEntries}
 use Rattle.pmap_minimise.specs.Kept.{AreSetsKept, IsHeldIn, larger_in, set_by}
 use Rattle.pmap_minimise.specs.Numbers.{Claim, IsOwn, IsSound, numbers_of}
@@ -37,12 +37,7 @@ pub record AreHalvesPut (block : Block) (label : LabelId) (old new : List Heir) 
   pub high_half : IsHalf 1 block high
   pub new_is : new ≡ (old ++ record { block = high; inherited = Some label } ∷ []) ++ record { block = low; inherited = Some label } ∷ []
 
--- the sets are those of the node, which is the certificate's for the address space with these leaves
-pub record AreSetsClaimed (version : Version) (leaves : List LeafModel) (parts : List Part) (sets : Sets) (node : Node) : Type 0 where
-  pub are : AreSetsOf parts sets node
-  pub certified : IsCertified 0 0 (width_of version) leaves node
-
--- and so are the claims
+-- the claims are those of the node, which is the certificate's for the address space with these leaves
 pub record IsClaimed (version : Version) (leaves : List LeafModel) (parts : List Part) (claims : Claims) (node : Node) : Type 0 where
   pub are : AreClaimsOf parts claims node
   pub certified : IsCertified 0 0 (width_of version) leaves node

@@ -50,10 +50,6 @@ IsExactBy low_cost high_cost low high [] cost set =
     (cost ≡ low_cost + high_cost + 1) × IsUnion low high set × IsRising (2 ^ 32) 0 set
 IsExactBy low_cost high_cost low high (n ∷ ns) cost set = (cost ≡ low_cost + high_cost) × (set ≡ n ∷ ns)
 
--- the claim is the exact one of two claims
-abbrev pub IsExactClaim : Claim → Claim → Claim → Type 0
-IsExactClaim low high claim = IsExactBy low.cost high.cost low.set high.set (common_numbers low.set high.set) claim.cost claim.set
-
 -- the cost and the set are the exact ones of what two nodes claim
 abbrev pub IsExact : Node → Node → ℕ → List ℕ → Type 0
 IsExact low high cost set =
