@@ -15,7 +15,9 @@
 //! handed on, is shown by running the program.
 #![tactic(auto)]
 
-ghost use Rattle.std.specs.Prelude.{◌≡◌, false, OnOk};
+ghost use Rattle.std.specs.Prelude.{◌≡◌, false, map, IfOk, OnOk};
+ghost use Rattle.std.specs.String.{string_bytes};
+ghost use Rattle.std.specs.Vec.Iter.{into_iter_items};
 ghost use Rattle.clap.specs.Walk.{texts};
 ghost use Rattle.flow_io.specs.declared.last_call.LastCall.TheVariants.{Flush};
 ghost use Rattle.flowlabel.specs.Ending.{IsEndOf};
@@ -45,7 +47,9 @@ use usage::UsageFault;
 use words::{parse, words_fault};
 
 // These words in a list. Memory for all is asked for once: where it is refused, `collect` asks for less.
-fn listed(alloc: Global, words: env::Args) -> Result<Vec<String>, AllocError> {
+fn listed(alloc: Global, words: env::Args) -> Result<Vec<String>, AllocError>
+    ensures { IfOk result (λ list. list.items ≡ into_iter_items words) }
+{
     let mut list = Vec::with_capacity(alloc, words.len())?;
     for word in words {
         list.push(word)?;
@@ -62,7 +66,9 @@ fn arguments(rt: &HostRuntime) -> Result<Vec<String>, UsageFault> {
 }
 
 // The texts of these words, by one request for memory as well.
-fn lent(alloc: Global, words: &[String]) -> Result<Vec<&str>, AllocError> {
+fn lent(alloc: Global, words: &[String]) -> Result<Vec<&str>, AllocError>
+    ensures { IfOk result (λ list. texts list.items ≡ map string_bytes words.now) }
+{
     let mut list = Vec::with_capacity(alloc, words.len())?;
     for word in words {
         list.push(word.as_str())?;

@@ -14,8 +14,7 @@ use Rattle.pmap_text.specs.declared.label.LabelId.{LabelId}
 use Rattle.pmap_text.specs.declared.map_text.MapText.{MapText}
 use Rattle.pmap_text.specs.declared.statement.Statement.{Statement}
 use Rattle.pmap_cert.specs.Node.{Chain, Inner, Leaf, Node, cost_of, set_of}
-use Rattle.label_trie.specs.Tree.{Fork, Tip}
-use Rattle.label_trie.specs.Tree.{leaves_of}
+use Rattle.label_trie.specs.Tree.{Fork, Tip, Tree, leaf_count, leaves_of}
 use Rattle.label_trie.proofs.Built.{map_layers, parted_most}
 use Rattle.label_trie.proofs.Grown.{IsSplit}
 use Rattle.label_trie.proofs.NodeLeaves.{fits_HasRoom, leaves_settled, leaves_undivided, length_leaves}
@@ -107,8 +106,14 @@ leaf-marks v ss default n q first last label old new id has within from to adds 
       marks = LeafMark adds.own ∷ [];
       marks_are = adds.marks_are;
       are = refl;
+      count = omega arith;
       stands = adds.held.stands;
     }
+
+-- a tree has a leaf
+leaf-some : (t : Tree) → 1 ≤ leaf_count t
+leaf-some (Tip label) = omega arith
+leaf-some (Fork low high) = omega (arith, leaf-some low, leaf-some high)
 
 -- one with a lone address adds the mark of that
 pub lone-marks-added : (v : Version) (ss : List Statement) (default : Option LabelId) (n q first last : ℕ) (x : Alone) (bits : ℕ) (old new : Sketch) (id : SetId)
@@ -146,6 +151,7 @@ lone-marks-added v ss default n q first last x bits old new id island all long b
       marks = LoneMark adds.number ∷ [];
       marks_are = adds.marks_are;
       are = lone-marks W (larger_in new.sets) new.lones.items n q x.side.0 x.label.0 x.value bits (LoneMark adds.number ∷ []) (omega (arith, long)) mark;
+      count = omega (arith, leaf-some (lone_tree x.side x.label x.value bits));
       stands = lone-stands bits long;
     }
   where
@@ -232,6 +238,7 @@ halves-marks v ss default n first last old start mid after new x at low high hal
             (marks-grown W mid.sets after.sets mid.lones.items upper'.lones after.lones.items (suc n) (2 * q) lower'.node lower'.marks upper'.grown upper'.lones_are lower'.are);
         high_are = marks-grown W after.sets new.sets after.lones.items [] new.lones.items (suc n) (2 * q + 1) upper'.node upper'.marks held.held.grown same_lones upper'.are;
       });
+      count = omega (arith, lower'.count, upper'.count, length-append lower'.marks upper'.marks);
       stands = held.held.stands;
     }
 
@@ -267,5 +274,6 @@ whole-sketch m old new id none added =
         marks = subst (λ (l : List Mark). AreMarks W (larger_in new.sets) new.lones.items 0 0 added'.node l) (sym marks) added'.are;
         plan = plan_of added'.tree;
         plan_is = added'.node_is;
+        few = omega (arith, ap length marks, added'.count, few, parted_most W m.statements, most, m.within_limit);
       };
     }

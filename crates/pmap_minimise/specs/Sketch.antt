@@ -1,4 +1,4 @@
-use Rattle.std.specs.Prelude.{◌≡◌, ◌≢◌, ℕ, zero, suc, ◌+◌, ◌*◌, ◌/◌, ◌%◌, ◌^◌, ◌<◌, ◌≤◌, ◌⊎◌, List, [], ◌∷◌, ◌++◌, Some, All, if◌then◌else◌, nat_lt, slice_get}
+use Rattle.std.specs.Prelude.{◌≡◌, ◌≢◌, ℕ, zero, suc, ◌+◌, ◌*◌, ◌/◌, ◌%◌, ◌^◌, ◌<◌, ◌≤◌, ◌⊎◌, List, [], ◌∷◌, ◌++◌, Some, All, if◌then◌else◌, length, nat_lt, slice_get}
 use Rattle.prefix_keys.specs.Version.{width_of}
 use Rattle.prefix_keys.specs.declared.version.Version.{Version}
 use Rattle.pmap_text.specs.MapText.{map_of}
@@ -75,6 +75,7 @@ pub record IsSketchOf (version : Version) (leaves : List LeafModel) (s : Sketch)
   pub marks : AreMarks (width_of version) (larger_in s.sets) s.lones.items 0 0 node s.marks.items
   pub plan : Plan
   pub plan_is : IsNodeFor plan node
+  pub few : length s.marks.items < 2 ^ 32
 
 -- and the leaves are those of the map
 pub record IsSketched (m : MapText) (s : Sketch) : Type 0 where

@@ -1,4 +1,4 @@
-use Rattle.std.specs.Prelude.{◌≡◌, ◌≢◌, ℕ, ◌+◌, ◌-◌, ◌^◌, ◌<◌, ◌≤◌, List, [], ◌∷◌, ◌++◌, Option, Some, IsSome, length}
+use Rattle.std.specs.Prelude.{◌≡◌, ◌≢◌, ℕ, ◌+◌, ◌-◌, ◌*◌, ◌^◌, ◌<◌, ◌≤◌, List, [], ◌∷◌, ◌++◌, Option, Some, IsSome, length}
 use Rattle.prefix_keys.specs.Version.{width_of}
 use Rattle.pmap_text.specs.MapModel.{MapModel}
 use Rattle.pmap_text.specs.Stretches.{HasStretch, StandsAt, StretchesModel}
@@ -95,4 +95,5 @@ pub record AddsMarks (W : ℕ) (ss : List Statement) (default : Option LabelId) 
   pub marks : List Mark
   pub marks_are : new.marks.items ≡ old.marks.items ++ marks
   pub are : AreMarks W (larger_in new.sets) new.lones.items n q node marks
+  pub count : length marks + 1 ≤ 2 * leaf_count tree
   pub stands : IsSetOf (larger_in new.sets) id (set_of node)

@@ -57,7 +57,7 @@ fn step(sketch: &Sketch, prices: &[Price], number: usize, side: LabelId) -> Opti
     match sketch.marks[number] {
         Mark::Inner(_) => {
             let lower = number + 1;
-            let upper = prices[number].high;
+            let upper = prices[number].high as usize;
             if is_leaf(sketch, lower, side) {
                 Some((true, upper))
             } else if is_leaf(sketch, upper, side) {
@@ -139,7 +139,7 @@ fn side_of(sketch: &Sketch, prices: &[Price], number: usize) -> Option<LabelId>
     match sketch.marks[number] {
         Mark::Inner(_) => match label_at(sketch, number + 1) {
             Some(id) => Some(id),
-            None => label_at(sketch, prices[number].high),
+            None => label_at(sketch, prices[number].high as usize),
         },
         Mark::Lone(at) => Some(sketch.lones[at as usize].side),
         Mark::Leaf(_) => None,
@@ -210,7 +210,7 @@ fn push_compact(
                 None => {
                     out.push_inner(price.cost, set)?;
                     push_compact(out, bits, sketch, prices, number + 1)?;
-                    push_compact(out, bits, sketch, prices, price.high)
+                    push_compact(out, bits, sketch, prices, price.high as usize)
                 }
             }
         }

@@ -15,11 +15,12 @@ use pmap_text::LabelId;
 use std::alloc::{AllocError, Global};
 use std::slice;
 
-/// What an inner node claims to cost, and the number of the mark of its higher half.
+/// What an inner node claims to cost, and the number of the mark of its higher half: 8 bytes, since a sketch has fewer
+/// marks than 2 ^ 32.
 #[derive(Clone, Copy)]
 pub struct Price {
     pub cost: u32,
-    pub high: usize,
+    pub high: u32,
 }
 
 /// A block that has been priced: the number behind its marks, and the cost that its node claims.
@@ -56,6 +57,7 @@ fn set_at(sketch: &Sketch, number: usize) -> &[LabelId]
 // Adds the prices of the marks of a block, of which the first has this number.
 fn push_prices(prices: &mut Vec<Price>, sketch: &Sketch, number: usize) -> Result<Total, AllocError>
     requires kept { AreSetsKept sketch.now.sets }
+    requires few { length sketch.now.marks.items < 2 ^ 32 }
     requires stands { (node : Node) × (end : ℕ) × IsAt sketch.now node number end }
     requires count { number ≡ length prices.old.items }
     ensures { IfOk result (λ total. (node : Node) (end : ℕ) → IsAt sketch.now node number end
@@ -79,7 +81,7 @@ fn push_prices(prices: &mut Vec<Price>, sketch: &Sketch, number: usize) -> Resul
             let cost = if apart { sum + 1 } else { sum };
             prices[number] = Price {
                 cost,
-                high: low.end,
+                high: low.end as u32,
             };
             Ok(Total {
                 end: high.end,

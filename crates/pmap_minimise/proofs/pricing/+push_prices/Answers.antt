@@ -17,7 +17,7 @@ push_prices-requires t c =
     let there = mark-there s.marks.items c.args.number c.index.result.now _ inside c.index.ensures c.in-Inner.is in
     let inner = inner-there s _ c.requires.stands.0 c.args.number c.requires.stands.1 c.in-Inner.field-0 c.requires.stands.2 there in
     let less = c.decreases in
-    (omega arith, (c.requires.kept, ((inner.lower, inner.inner.middle, inner.inner.low_is), after-push _ _ _ _ c.requires.count c.in_ok-push.ensures.items)))
+    (omega arith, (c.requires.kept, (c.requires.few, ((inner.lower, inner.inner.middle, inner.inner.low_is), after-push _ _ _ _ c.requires.count c.in_ok-push.ensures.items))))
 
 pub push_prices-requires-in-Inner : goal.push_prices-requires-in-Inner
 push_prices-requires-in-Inner t c =
@@ -30,7 +30,7 @@ push_prices-requires-in-Inner t c =
     let count = low.count in
     let after = stands-after s _ inner.lower (c.args.number + 1) inner.inner.middle inner.inner.low_is in
     let less = c.decreases in
-    (omega arith, (c.requires.kept, ((inner.upper, c.requires.stands.1, subst (λ (n : ℕ). IsAt s inner.upper n c.requires.stands.1) (sym middle) inner.inner.high_is), omega arith)))
+    (omega arith, (c.requires.kept, (c.requires.few, ((inner.upper, c.requires.stands.1, subst (λ (n : ℕ). IsAt s inner.upper n c.requires.stands.1) (sym middle) inner.inner.high_is), omega arith))))
 
 pub overflow_add-sum : goal.overflow_add-sum
 overflow_add-sum t c =
@@ -80,6 +80,18 @@ overflow_add-cost t c =
     cost-apart inner.lower inner.upper inner.cost inner.set inner.inner.exact (numbers_of c.set_at.result.now) (numbers_of c.set_at-in-Inner.result.now) c.are_apart-apart.result
     (c.set_at.ensures.value inner.lower inner.inner.middle inner.inner.low_is) (c.set_at-in-Inner.ensures.value inner.upper c.requires.stands.1 at_high) c.are_apart-apart.ensures
     c.if-apart.true in
+    omega arith
+
+pub overflow_cast-low : goal.overflow_cast-low
+overflow_cast-low t c =
+    let s = c.args.sketch.now in
+    let inside = stands-inside s _ c.requires.stands.0 c.args.number c.requires.stands.1 c.requires.stands.2 in
+    let there = mark-there s.marks.items c.args.number c.index.result.now _ inside c.index.ensures c.in-Inner.is in
+    let inner = inner-there s _ c.requires.stands.0 c.args.number c.requires.stands.1 c.in-Inner.field-0 c.requires.stands.2 there in
+    let low = c.in_ok-low-in-Inner.ensures inner.lower inner.inner.middle inner.inner.low_is in
+    let middle = low.end_is in
+    let below = stands-inside s _ inner.upper inner.inner.middle c.requires.stands.1 inner.inner.high_is in
+    let few = c.requires.few in
     omega arith
 
 pub index_mut-requires : goal.index_mut-requires

@@ -7,6 +7,9 @@ push_prices-requires-clause-stands c =
     let s = c.args.sketch.now in
     (c.requires.2, length s.marks.items, sketch-at c.requires.0 c.requires.1 s c.requires.2 c.requires.3)
 
+pub push_prices-requires-clause-few : goal.push_prices-requires-clause-few
+push_prices-requires-clause-few c = c.requires.3.few
+
 pub push_prices-requires-clause-kept : goal.push_prices-requires-clause-kept
 push_prices-requires-clause-kept c = c.requires.3.kept
 
