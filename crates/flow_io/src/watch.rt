@@ -102,6 +102,3 @@ impl<T: Write> Output for Watched<T> {
         self.failed
     }
 }
-
-#[cfg(test)]
-mod tests;
