@@ -37,6 +37,7 @@ scripts:
 	tests/capture
 	tests/country
 	tests/many
+	tests/table
 
 bench:
 	bench/run
