@@ -1,8 +1,8 @@
 # make test: the gate, with as many tasks at a time as there are processors (RT_JOBS=N: with N), and what each crate
-# cost. Every proof from nothing, then the scripts of tests/: calls of the crates, a caller that must not compile, the built
-# program as a user runs it, each request for memory refused, its installation; and the examples that need no other
-# program. make examples: all examples of the pages. make scripts: the scripts of examples/. What needs packages is
-# skipped where they aren't there.
+# cost. Every proof from nothing, then the scripts of tests/: calls of the crates, a caller that must not compile, how
+# bin/flowlabel builds, the built program as a user runs it, each request for memory refused, its installation; and the
+# examples that need no other program. make examples: all examples of the pages. make scripts: the scripts of examples/.
+# What needs packages is skipped where they aren't there.
 # make bench: the speed of the program.
 # make install, make uninstall: the proved program with its manual pages and completions, below DESTDIR and PREFIX.
 .PHONY: test examples scripts bench install uninstall
@@ -25,6 +25,7 @@ test:
 	mv -f out/gate out/built
 	tests/calls/run
 	tests/borrow
+	tests/build
 	tests/program
 	tests/memory
 	tests/install
