@@ -12,10 +12,10 @@ DESTDIR =
 INSTALL = install
 
 program = crates/flowlabel/out/flowlabel
-to = $(DESTDIR)$(PREFIX)
-files = $(to)/bin/flowlabel $(to)/share/man/man1/flowlabel.1 $(to)/share/man/man5/flowlabel-formats.5 \
-	$(to)/share/bash-completion/completions/flowlabel $(to)/share/zsh/site-functions/_flowlabel \
-	$(to)/share/fish/vendor_completions.d/flowlabel.fish
+to = "$(DESTDIR)$(PREFIX)"
+files = bin/flowlabel share/man/man1/flowlabel.1 share/man/man5/flowlabel-formats.5 \
+	share/bash-completion/completions/flowlabel share/zsh/site-functions/_flowlabel \
+	share/fish/vendor_completions.d/flowlabel.fish
 
 # The gate builds the program from nothing. So bin/flowlabel is told that the program is as old as the gate's start.
 test:
@@ -43,10 +43,11 @@ scripts:
 bench:
 	bench/run
 
-# bin/flowlabel builds the program where it is missing or older than its sources.
+# bin/flowlabel builds the program if it is missing or older than its sources, which needs rt on the path. With sudo,
+# install a program that is built.
 install:
 	bin/flowlabel --help >/dev/null
-	$(INSTALL) -d $(dir $(files))
+	$(INSTALL) -d $(patsubst %,$(to)/%,$(dir $(files)))
 	$(INSTALL) -m 755 $(program) $(to)/bin/flowlabel
 	$(INSTALL) -m 644 man/flowlabel.1 $(to)/share/man/man1/flowlabel.1
 	$(INSTALL) -m 644 man/flowlabel-formats.5 $(to)/share/man/man5/flowlabel-formats.5
@@ -55,4 +56,4 @@ install:
 	$(INSTALL) -m 644 completions/flowlabel.fish $(to)/share/fish/vendor_completions.d/flowlabel.fish
 
 uninstall:
-	rm -f $(files)
+	rm -f $(patsubst %,$(to)/%,$(files))
