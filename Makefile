@@ -1,11 +1,12 @@
 # make test: the gate, with as many tasks at a time as there are processors (RT_JOBS=N: with N), and what each crate
 # cost. Every proof from nothing, then the scripts of tests/: calls of the crates, a caller that must not compile, how
 # bin/flowlabel builds, the built program as a user runs it, each request for memory refused, its installation; and the
-# examples that need no other program. make examples: all examples of the pages. make scripts: the scripts of examples/.
-# What needs packages is skipped where they aren't there.
+# examples that need no other program. make examples: all examples of the pages. make scripts: the scripts of examples/
+# and the packages of make package. What needs packages is skipped where they aren't there.
 # make bench: the speed of the program.
 # make install, make uninstall: the proved program with its manual pages and completions, below DESTDIR and PREFIX.
-.PHONY: test examples scripts bench install uninstall
+# make package: these in out/flowlabel-VERSION-x86_64-linux.tar.gz and out/flowlabel_VERSION_amd64.deb.
+.PHONY: test examples scripts bench install uninstall package
 
 PREFIX = /usr/local
 DESTDIR =
@@ -38,6 +39,7 @@ scripts:
 	tests/capture
 	tests/country
 	tests/many
+	tests/package
 	tests/table
 
 bench:
@@ -57,3 +59,6 @@ install:
 
 uninstall:
 	rm -f $(patsubst %,$(to)/%,$(files))
+
+package:
+	bin/package
