@@ -28,7 +28,7 @@ _flowlabel() {
     local word=${COMP_WORDS[COMP_CWORD]} before=${COMP_WORDS[COMP_CWORD - 1]} command=${COMP_WORDS[1]}
     COMPREPLY=()
     if ((COMP_CWORD == 1)); then
-        mapfile -t COMPREPLY < <(compgen -W 'label info rows uniq cat shrink check recert --help' -- "$word")
+        mapfile -t COMPREPLY < <(compgen -W 'label info rows uniq cat shrink check recert --help --version' -- "$word")
         return
     fi
     case $before in

@@ -5,6 +5,7 @@ set -l of __fish_seen_subcommand_from
 
 complete -c flowlabel -n "not $of $commands" -f
 complete -c flowlabel -s h -l help -d 'Print help'
+complete -c flowlabel -n "not $of $commands" -s V -l version -d 'Print the version'
 complete -c flowlabel -n "not $of $commands" -a label -d 'Print the label of an address'
 complete -c flowlabel -n "not $of $commands" -a info -d 'Print the counts of an IPFIX File'
 complete -c flowlabel -n "not $of $commands" -a rows -d 'Print the flows of an IPFIX File'

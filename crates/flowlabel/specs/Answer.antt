@@ -176,13 +176,15 @@ answer_of found =
 abbrev pub own_answer : List Text → Option Answer
 own_answer words = option_map answer_of (subcommand_of flowlabel_app words)
 
--- the kind of an error that asks for help, and one that is a mistake in the words
+-- the kind of an error that asks for help or the version, and one that is a mistake in the words
 abbrev pub is_help : ErrorKind → Bool
 is_help kind.DisplayHelp = true
+is_help kind.DisplayVersion = true
 is_help k = false
 
 abbrev pub is_mistake : ErrorKind → Bool
 is_mistake kind.DisplayHelp = false
+is_mistake kind.DisplayVersion = false
 is_mistake kind.OutOfMemory = false
 is_mistake k = true
 

@@ -119,10 +119,14 @@ check_app = with_rule (with_rule (with_rule (new_app (codes "check")) needed_pma
 abbrev pub recert_app : App
 recert_app = with_rule (new_app (codes "recert")) cert_rule
 
--- the program before its subcommands: one of them is required, and `help` is none
+-- the program before its subcommands: it has a version, one of them is required, and `help` is none
 abbrev pub program : App
 program = record (new_app (codes "flowlabel")) {
-  top = record (new_app (codes "flowlabel")).top { subcommand_required = true; disable_help_subcommand = true };
+  top = record (new_app (codes "flowlabel")).top {
+    has_version = true;
+    subcommand_required = true;
+    disable_help_subcommand = true;
+  };
 }
 
 -- the command line

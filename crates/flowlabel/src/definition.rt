@@ -6,8 +6,17 @@ ghost use Rattle.flowlabel.specs.Definition.{address_rule, cat_app, certificate_
 use clap::{Arg, ArgAction, Command};
 use std::alloc::{AllocError, Global};
 
+// The version after a text: its one place.
+macro_rules! version {
+    ($before:literal) => {
+        concat!($before, "1.0.0")
+    };
+}
+
+const VERSION: &str = version!("");
+
 // The first line of each help: the program and its version.
-const VERSION: &str = "flowlabel 0.1.0-dev";
+const TITLE: &str = version!("flowlabel ");
 
 // The last lines of a help: a command line with what it prints, and where the manual is.
 macro_rules! example {
@@ -26,13 +35,13 @@ fn described<'a>(
 ) -> Command<'a>
     ensures app { app_of result ≡ new_app name.entry.now }
     ensures local { (out-Command result).has_globals ≡ false }
-    ensures version { option_map (λ text. text.now) (out-Command result).before_help ≡ Some VERSION.now }
+    ensures title { option_map (λ text. text.now) (out-Command result).before_help ≡ Some TITLE.now }
     ensures about { (out-Command result).about ≡ Some about.entry }
     ensures usage { (out-Command result).usage_str ≡ Some usage.entry }
     ensures example { (out-Command result).after_help ≡ Some example.entry }
 {
     Command::new(alloc, name)
-        .before_help(VERSION)
+        .before_help(TITLE)
         .about(about)
         .override_usage(usage)
         .after_help(example)
@@ -476,10 +485,12 @@ fn program<'a>(alloc: Global) -> Command<'a>
     ensures app { app_of result ≡ program }
     ensures local { (out-Command result).has_globals ≡ false }
     ensures required { (out-Command result).subcommand_required ≡ true }
+    ensures version { option_map (λ text. text.now) (out-Command result).version ≡ Some VERSION.now }
 {
     let about = "Label addresses by a prefix map, report on network flows, and shrink maps";
     let example = example!("the options of one command", "flowlabel rows --help");
     described(alloc, "flowlabel", about, "flowlabel COMMAND ...", example)
+        .version(VERSION)
         .subcommand_required(true)
         .disable_help_subcommand(true)
 }

@@ -60,7 +60,7 @@ pub enum UsageFault {
     /// P1 as well: a word of the line is no text, as its bytes aren't UTF-8.
     #[error("P1 NotUtf8")]
     NotUtf8,
-    /// The line asks for help, which is this text.
+    /// The line asks for help or for the version, which is this text.
     #[error("{0}")]
     Help(ClapText),
     /// P3: both a map and a list are named.

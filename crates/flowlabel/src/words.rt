@@ -33,7 +33,7 @@ fn fault_of_error(alloc: Global, error: &clap::Error) -> UsageFault
         Ok(text) => {
             let text = ClapText::new(text);
             match kind {
-                ErrorKind::DisplayHelp => UsageFault::Help(text),
+                ErrorKind::DisplayHelp | ErrorKind::DisplayVersion => UsageFault::Help(text),
                 _ => UsageFault::Refused(text),
             }
         }
@@ -305,8 +305,9 @@ pub fn words_fault(kind: io::ErrorKind) -> UsageFault
 ///
 /// # Errors
 ///
-/// `Refused` or `Help` where clap refuses the line or is asked for help. Where clap takes it, the first of these:
-/// `MapTwice`, `MapMissing`, `BadAddress`, `Filter` of the first filter that can't be read, `Key`, `LabelNeedsMap`, `CompactAlone`.
+/// `Refused` where clap refuses the line, `Help` where it is asked for help or the version. Where clap takes it, the first
+/// of these: `MapTwice`, `MapMissing`, `BadAddress`, `Filter` of the first filter that can't be read, `Key`,
+/// `LabelNeedsMap`, `CompactAlone`.
 /// `NoMemory` where an allocation failed, in place of any other answer.
 pub fn parse<'a>(alloc: Global, words: &'a [&'a str]) -> Result<Command<'a>, UsageFault>
     ensures answer { IsAnswer (texts words.entry.now) result }
