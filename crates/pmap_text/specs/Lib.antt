@@ -18,3 +18,4 @@ pub mod Stretches
 pub mod Starting
 pub mod Sweep
 pub mod Painting
+pub mod Hashing

@@ -24,6 +24,7 @@ mod entries;
 mod entry;
 mod fault;
 mod form;
+mod hashing;
 mod label;
 mod labels;
 mod laws;
@@ -51,6 +52,7 @@ pub use entries::Entries;
 pub use entry::Entry;
 pub use fault::{MapFault, MapFaultKind};
 pub use form::Form;
+pub use hashing::{KeyHasher, KeyHashing};
 pub use label::{LabelId, is_label};
 pub use labels::Labels;
 pub use laws::{
