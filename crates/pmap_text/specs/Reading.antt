@@ -1,4 +1,4 @@
-use Rattle.std.specs.Prelude.{◌≡◌, ℕ, ◌+◌, ◌-◌, ◌&&◌, ◌||◌, ◌==◌, Bool, true, false, List, [], ◌∷◌, ◌++◌, Option, Some, None, Result, Ok, Err, codes, fold, length, nat_le, nat_lt, slice_index, unwrap_or, if◌then◌else◌}
+use Rattle.std.specs.Prelude.{◌≡◌, ◌≢◌, ◌≤◌, ℕ, ◌+◌, ◌-◌, ◌&&◌, ◌||◌, ◌==◌, Bool, true, false, List, [], ◌∷◌, ◌++◌, Option, Some, None, Result, Ok, Err, IfErr, IfOk, codes, fold, length, nat_le, nat_lt, slice_index, unwrap_or, if◌then◌else◌}
 use Rattle.std.specs.List.{flat_map, list_all, list_any}
 use Rattle.std.specs.Option.{option_or}
 use Rattle.std.specs.Str.{bytes_eq}
@@ -15,11 +15,15 @@ use Rattle.pmap_text.specs.Label.{has_label, is_label, with_label}
 use Rattle.pmap_text.specs.Lines.{behind_word, content_of, first_word, lines_of}
 use Rattle.pmap_text.specs.ListModel.{ListModel, Prefix}
 use Rattle.pmap_text.specs.MapModel.{Label, Mapping, MapModel}
+use Rattle.pmap_text.specs.MapText.{map_of}
+use Rattle.pmap_text.specs.PrefixList.{list_of}
 use Rattle.pmap_text.specs.declared.fault.MapFault.{MapFault}
 use Rattle.pmap_text.specs.declared.fault.MapFaultKind.{MapFaultKind}
-use Rattle.pmap_text.specs.declared.fault.MapFaultKind.TheVariants.{BadAddress, BadLabel, BadLength, BadMode, BadStatement, DuplicateBlock, LabelConflict, LowAboveHigh, MissingLabel, ModeLate, ModeRepeated, NotAList, TooMany, WrongVersion}
+use Rattle.pmap_text.specs.declared.fault.MapFaultKind.TheVariants.{BadAddress, BadLabel, BadLength, BadMode, BadStatement, DuplicateBlock, LabelConflict, LowAboveHigh, MissingLabel, ModeLate, ModeRepeated, NoMemory, NotAList, TooMany, WrongVersion}
 use Rattle.pmap_text.specs.declared.form.Form.{Form}
 use Rattle.pmap_text.specs.declared.form.Form.TheVariants as form
+use Rattle.pmap_text.specs.declared.map_text.MapText.{MapText}
+use Rattle.pmap_text.specs.declared.prefix_list.PrefixList.{PrefixList}
 
 -- What it is for a text to be read as a map or as a prefix list, and the first fault of a text that isn't.
 
@@ -319,3 +323,15 @@ ReadsMap text map = map_reading text ≡ Ok map
 
 abbrev pub ReadsList : List ℕ → ListModel → Type 0
 ReadsList text list = list_reading text ≡ Ok list
+
+-- what reading a text as a map returns, or as a list; out of memory is reported with the line 0
+pub record ReturnsMap (text : List ℕ) (result : Result MapText MapFault) : Type 0 where
+  pub ok : IfOk result (λ map. ReadsMap text (map_of map))
+  pub fault : IfErr result (λ fault. fault.kind ≢ NoMemory → map_reading text ≡ Err fault)
+  pub memory : IfErr result (λ fault. fault.kind ≡ NoMemory → fault.line ≡ 0)
+
+pub record ReturnsList (text : List ℕ) (result : Result PrefixList MapFault) : Type 0 where
+  pub ok : IfOk result (λ list. ReadsList text (list_of list))
+  pub limit : IfOk result (λ list. length list.entries ≤ 1000000)
+  pub fault : IfErr result (λ fault. fault.kind ≢ NoMemory → list_reading text ≡ Err fault)
+  pub memory : IfErr result (λ fault. fault.kind ≡ NoMemory → fault.line ≡ 0)

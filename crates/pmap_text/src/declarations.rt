@@ -2,6 +2,7 @@ ghost use Rattle.std.specs.Prelude.{◌≡◌, [], false, option_map, IfSome, Is
 ghost use Rattle.pmap_text.specs.Declarations.{conflicts, declared_text, label_number as number_of_text, meant_text, with_declared};
 ghost use Rattle.pmap_text.specs.Label.{is_label};
 
+use crate::hashing::KeyHashing;
 use indexmap::IndexSet;
 use prefix_keys::read_decimal;
 use std::alloc::{AllocError, Global};
@@ -12,8 +13,8 @@ use std::marker::Model;
 #[derive(Debug, Drop)]
 pub struct Declarations {
     alloc: Global,
-    numbers: IndexSet<u32>,
-    texts: IndexSet<Vec<u8>>,
+    numbers: IndexSet<u32, KeyHashing>,
+    texts: IndexSet<Vec<u8>, KeyHashing>,
 }
 
 impl Model for Declarations {
@@ -30,14 +31,14 @@ impl Model for Declarations {
 }
 
 impl Declarations {
-    /// No declarations.
-    pub fn new(alloc: Global) -> Declarations
+    /// No declarations. Numbers and texts are hashed by the numbers of `hashing`.
+    pub fn new(alloc: Global, hashing: KeyHashing) -> Declarations
         ensures { result ≡ [] }
     {
         Declarations {
             alloc,
-            numbers: IndexSet::new(alloc),
-            texts: IndexSet::new(alloc),
+            numbers: IndexSet::with_hasher(alloc, hashing),
+            texts: IndexSet::with_hasher(alloc, hashing),
         }
     }
 

@@ -1,6 +1,7 @@
 ghost use Rattle.std.specs.Prelude.{◌≡◌, ◌<◌, ◌≤◌, ◌↔◌, IsOk, ℕ, [], List, length, Some, IsTrue, IfOk, IfSome, OnErr, OnOk, option_map, slice_get};
 ghost use Rattle.pmap_text.specs.Label.{is_label, has_label, number_of, with_label, IsLabelTable};
 
+use crate::hashing::KeyHashing;
 use crate::label::LabelId;
 use indexmap::IndexSet;
 use std::alloc::{AllocError, Global};
@@ -10,7 +11,7 @@ use std::marker::Model;
 #[derive(Debug, Drop)]
 pub struct Labels {
     alloc: Global,
-    texts: IndexSet<Vec<u8>>,
+    texts: IndexSet<Vec<u8>, KeyHashing>,
 }
 
 impl Model for Labels {
@@ -25,13 +26,20 @@ impl Model for Labels {
 }
 
 impl Labels {
-    /// An empty table.
+    /// An empty table, whose texts are hashed by the fixed numbers.
     pub fn new(alloc: Global) -> Labels
+        ensures { result ≡ [] }
+    {
+        Labels::with_hashing(alloc, KeyHashing::known())
+    }
+
+    /// An empty table, whose texts are hashed by these numbers.
+    pub fn with_hashing(alloc: Global, hashing: KeyHashing) -> Labels
         ensures { result ≡ [] }
     {
         Labels {
             alloc,
-            texts: IndexSet::new(alloc),
+            texts: IndexSet::with_hasher(alloc, hashing),
         }
     }
 
@@ -79,7 +87,8 @@ impl Labels {
     pub fn copy(&self) -> Result<Labels, AllocError>
         ensures { IfOk result (λ copy. copy ≡ self.now) }
     {
-        let mut texts = IndexSet::with_capacity(self.alloc, self.texts.len())?;
+        let hashing = *self.texts.hasher();
+        let mut texts = IndexSet::with_capacity_and_hasher(self.alloc, self.texts.len(), hashing)?;
         for text in self.texts.as_slice() {
             texts.insert(Vec::from_slice(self.alloc, text.as_slice())?)?;
         }

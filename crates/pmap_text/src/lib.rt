@@ -68,4 +68,4 @@ pub use statement::Statement;
 pub use statements::Statements;
 pub use stretches::Stretches;
 pub use sweep::last_address;
-pub use texts::{read_list, read_map};
+pub use texts::{read_list, read_list_with_hashing, read_map, read_map_with_hashing};

@@ -13,6 +13,7 @@ use crate::declarations::Declarations;
 use crate::entries::Entries;
 use crate::entry::Entry;
 use crate::fault::MapFaultKind;
+use crate::hashing::KeyHashing;
 use crate::label::LabelId;
 use crate::labels::Labels;
 use crate::map_text::MapText;
@@ -115,8 +116,8 @@ fn number_for(
 }
 
 impl Reading {
-    /// No line was read.
-    pub fn new(alloc: Global) -> Reading
+    /// No line was read. Labels are hashed by the numbers of `hashing`.
+    pub fn new(alloc: Global, hashing: KeyHashing) -> Reading
         ensures { result ≡ earlier_of [] }
     {
         Reading {
@@ -124,11 +125,11 @@ impl Reading {
             mode: false,
             version: None,
             name: None,
-            declared: Declarations::new(alloc),
+            declared: Declarations::new(alloc, hashing),
             default: None,
             statements: Statements::new(alloc),
             entries: Vec::new(alloc),
-            labels: Labels::new(alloc),
+            labels: Labels::with_hashing(alloc, hashing),
             recent: Recent::new(),
         }
     }

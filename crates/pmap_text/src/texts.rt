@@ -3,15 +3,14 @@ ghost use Rattle.std.specs.Prelude.{◌≡◌, ◌≢◌, ◌≤◌, [], List, O
 ghost use Rattle.std.specs.Result.{IsErr};
 ghost use Rattle.pmap_text.specs.Filed.{HasOncePlaced};
 ghost use Rattle.pmap_text.specs.Lines.{lines_of};
-ghost use Rattle.pmap_text.specs.MapText.{map_of};
-ghost use Rattle.pmap_text.specs.PrefixList.{list_of};
-ghost use Rattle.pmap_text.specs.Reading.{Entry, ReadsList, ReadsMap, earlier_of, entries_from, list_reading, map_reading};
+ghost use Rattle.pmap_text.specs.Reading.{Entry, ReturnsList, ReturnsMap, earlier_of, entries_from};
 ghost use Rattle.pmap_text.specs.declared.form.Form.TheVariants as form;
 ghost use Rattle.pmap_text.specs.declared.fault.MapFaultKind.TheVariants.{NoMemory};
 
 use crate::checked::{Keys, read_checked};
 use crate::fault::{MapFault, MapFaultKind};
 use crate::form::Form;
+use crate::hashing::KeyHashing;
 use crate::lines::split_content;
 use crate::map_text::MapText;
 use crate::prefix_list::PrefixList;
@@ -33,7 +32,12 @@ fn fault_at(kind: MapFaultKind, number: u64) -> MapFault
 }
 
 // Reads the lines of a text of this form, up to its first fault.
-fn read_lines(alloc: Global, form: Form, text: &[u8]) -> Result<Reading, MapFault>
+fn read_lines(
+    alloc: Global,
+    form: Form,
+    text: &[u8],
+    hashing: KeyHashing,
+) -> Result<Reading, MapFault>
     ensures ok { IfOk result (λ lines. (entries : List Entry) × (entries_from form [] 0 (lines_of text.now)
         ≡ Ok entries) × (lines ≡ earlier_of entries)) }
     ensures distinct { IfOk result (λ lines. HasOncePlaced lines.prefixes) }
@@ -41,7 +45,7 @@ fn read_lines(alloc: Global, form: Form, text: &[u8]) -> Result<Reading, MapFaul
         ≡ Err fault) }
     ensures memory { IfErr result (λ fault. fault.kind ≡ NoMemory → fault.line ≡ 0) }
 {
-    let mut reading = Reading::new(alloc);
+    let mut reading = Reading::new(alloc, hashing);
     let mut keys = Keys::new(alloc);
     let mut rest = text;
     let mut number = 0;
@@ -58,12 +62,12 @@ fn read_lines(alloc: Global, form: Form, text: &[u8]) -> Result<Reading, MapFaul
 
 // Reads the lines of a list text, and doesn't look for the block of an entry among those before. What was read counts
 // where all blocks are distinct. A fault says nothing of the text, but where it is want of memory.
-fn read_unchecked(alloc: Global, text: &[u8]) -> Result<Reading, MapFaultKind>
+fn read_unchecked(alloc: Global, text: &[u8], hashing: KeyHashing) -> Result<Reading, MapFaultKind>
     ensures { IfOk result (λ lines. HasOncePlaced lines.prefixes →
         (entries : List Entry) × (entries_from form.List [] 0 (lines_of text.now) ≡ Ok entries)
         × (lines ≡ earlier_of entries)) }
 {
-    let mut reading = Reading::new(alloc);
+    let mut reading = Reading::new(alloc, hashing);
     let mut rest = text;
     while !rest.is_empty() {
         let (content, after) = split_content(rest);
@@ -124,11 +128,20 @@ fn settled(unchecked: Result<Reading, MapFaultKind>) -> Result<Option<Reading>, 
 ///   `BadLabel`, `TooMany`.
 /// - Any other first word: `BadAddress` where it begins with a digit or has a `:`, else `BadStatement`.
 pub fn read_map(alloc: Global, text: &[u8]) -> Result<MapText, MapFault>
-    ensures ok { IfOk result (λ map. ReadsMap text.now (map_of map)) }
-    ensures fault { IfErr result (λ fault. fault.kind ≢ NoMemory → map_reading text.now ≡ Err fault) }
-    ensures memory { IfErr result (λ fault. fault.kind ≡ NoMemory → fault.line ≡ 0) }
+    ensures { ReturnsMap text.now result }
 {
-    let reading = read_lines(alloc, Form::Map, text)?;
+    read_map_with_hashing(alloc, text, KeyHashing::known())
+}
+
+/// Like [`read_map`], but labels are hashed by these numbers, on which nothing that is returned depends.
+pub fn read_map_with_hashing(
+    alloc: Global,
+    text: &[u8],
+    hashing: KeyHashing,
+) -> Result<MapText, MapFault>
+    ensures { ReturnsMap text.now result }
+{
+    let reading = read_lines(alloc, Form::Map, text, hashing)?;
     match reading.into_map() {
         Ok(map) => Ok(map),
         Err(_) => Err(fault_at(MapFaultKind::NoMemory, 0)),
@@ -147,15 +160,23 @@ pub fn read_map(alloc: Global, text: &[u8]) -> Result<MapText, MapFault>
 /// As of `read_map`, with two faults more: `NotAList` is the only fault of a line of `default`, or of two addresses,
 /// and `DuplicateBlock` comes behind `BadLabel` and before `TooMany`.
 pub fn read_list(alloc: Global, text: &[u8]) -> Result<PrefixList, MapFault>
-    ensures ok { IfOk result (λ list. ReadsList text.now (list_of list)) }
-    ensures limit { IfOk result (λ list. length list.entries ≤ 1000000) }
-    ensures fault { IfErr result (λ fault. fault.kind ≢ NoMemory → list_reading text.now ≡ Err fault) }
-    ensures memory { IfErr result (λ fault. fault.kind ≡ NoMemory → fault.line ≡ 0) }
+    ensures { ReturnsList text.now result }
+{
+    read_list_with_hashing(alloc, text, KeyHashing::known())
+}
+
+/// Like [`read_list`], but labels are hashed by these numbers, on which nothing that is returned depends.
+pub fn read_list_with_hashing(
+    alloc: Global,
+    text: &[u8],
+    hashing: KeyHashing,
+) -> Result<PrefixList, MapFault>
+    ensures { ReturnsList text.now result }
 {
     // Sorting all blocks once is faster than looking for each, and tells of most lists that they have no fault.
-    if let Some(reading) = settled(read_unchecked(alloc, text))? {
+    if let Some(reading) = settled(read_unchecked(alloc, text, hashing))? {
         return Ok(reading.into_list());
     }
-    let reading = read_lines(alloc, Form::List, text)?;
+    let reading = read_lines(alloc, Form::List, text, hashing)?;
     Ok(reading.into_list())
 }

@@ -10,5 +10,5 @@ none_paired = record { same_count = refl; numbers_once = tt; texts_once = tt; la
 
 pub invariant_of-result : goal.invariant_of-result
 invariant_of-result c =
-    subst (λ numbers. ArePaired numbers (map (λ v. v.items) c.new-2.result.keys)) (sym c.new.ensures.empty)
-    (subst (λ keys. ArePaired [] (map (λ v. v.items) keys)) (sym c.new-2.ensures.empty) none_paired)
+    subst (λ numbers. ArePaired numbers (map (λ v. v.items) c.with_hasher-2.result.keys)) (sym c.with_hasher.ensures.empty)
+    (subst (λ keys. ArePaired [] (map (λ v. v.items) keys)) (sym c.with_hasher-2.ensures.empty) none_paired)
