@@ -1,9 +1,24 @@
+use Rattle.std.specs.Prelude.{◌≡◌, ◌≢◌, ℕ, List, Result, Err, IfErr, IfOk}
+use Rattle.pmap_cert.specs.CertificateForm.{HasFormatText}
 use Rattle.pmap_cert.specs.CertificateModel.{CertificateModel}
+use Rattle.pmap_cert.specs.CertificateText.{certificate_text}
 use Rattle.pmap_cert.specs.Format.{format_number}
+use Rattle.pmap_cert.specs.FormatReading.{format_reading}
 use Rattle.pmap_cert.specs.Node.{tree_of}
 use Rattle.pmap_cert.specs.declared.certificate.Certificate.{Certificate}
+use Rattle.pmap_cert.specs.declared.fault.CertFault.{CertFault}
+use Rattle.pmap_cert.specs.declared.fault.CertFaultKind.TheVariants.{NoMemory}
 
 -- a certificate of the code, which has label numbers, as the certificate that it is
 abbrev pub certificate_of : Certificate → CertificateModel
 certificate_of c =
     record { format = format_number c.format; version = c.version; table = c.labels; root = tree_of c.labels c.root }
+
+-- What reading a text as a certificate returns: the certificate whose text it is, or the text's first fault. The text of a
+-- certificate is read as that certificate, unless memory runs out, which is reported with the line 0.
+pub record ReturnsCertificate (text : List ℕ) (result : Result Certificate CertFault) : Type 0 where
+  pub ok : IfOk result (λ c. text ≡ certificate_text (certificate_of c))
+  pub only : (c : CertificateModel) → HasFormatText c → text ≡ certificate_text c
+      → IfOk result (λ found. certificate_of found ≡ c) × IfErr result (λ fault. fault.kind ≡ NoMemory)
+  pub fault : IfErr result (λ fault. fault.kind ≢ NoMemory → format_reading text ≡ Err fault)
+  pub memory : IfErr result (λ fault. fault.kind ≡ NoMemory → fault.line ≡ 0)

@@ -1,11 +1,8 @@
 //! Certificates' texts, which are read line by line.
 ghost use Rattle.std.specs.Prelude.{◌≡◌, ◌≢◌, ◌-◌, ◌<◌, ◌≤◌, [], Ok, Err, false, length, IfErr, IfOk, IsTrue, OnOk, if◌then◌else◌};
 ghost use Rattle.pmap_text.specs.Label.{has_label, is_label as is_label_text};
-ghost use Rattle.pmap_cert.specs.Certificate.{certificate_of};
-ghost use Rattle.pmap_cert.specs.CertificateForm.{HasFormatText};
-ghost use Rattle.pmap_cert.specs.CertificateModel.{CertificateModel};
+ghost use Rattle.pmap_cert.specs.Certificate.{ReturnsCertificate, certificate_of};
 ghost use Rattle.pmap_cert.specs.CertificateReading.{is_ended, label_at, labels_at};
-ghost use Rattle.pmap_cert.specs.CertificateText.{certificate_text};
 ghost use Rattle.pmap_cert.specs.Format.{IsNodeOf, format_number};
 ghost use Rattle.pmap_cert.specs.FormatReading.{format_reading, line_due_at};
 ghost use Rattle.pmap_cert.specs.Node.{HasChainForm, tree_of};
@@ -20,7 +17,7 @@ use crate::nodes::Nodes;
 use crate::root::Root;
 use header::read_header;
 use node_line::{Frame, Kept, NodeLine, node_line};
-use pmap_text::{Labels, is_label};
+use pmap_text::{KeyHashing, Labels, is_label};
 use std::alloc::Global;
 
 mod header;
@@ -57,13 +54,14 @@ fn read_labels<'a>(
     alloc: Global,
     count: u32,
     lines: Lines<'a>,
+    hashing: KeyHashing,
 ) -> Result<(Labels, Lines<'a>), CertFault>
     requires { count ≤ 65536 }
     ensures ok { IfOk result (λ x. labels_at count [] lines.entry ≡ Ok x) }
     ensures err { IfErr result (λ fault. fault.kind ≢ NoMemory → labels_at count [] lines.entry ≡ Err fault) }
     ensures memory { IfErr result (λ fault. fault.kind ≡ NoMemory → fault.line ≡ 0) }
 {
-    let mut labels = Labels::new(alloc);
+    let mut labels = Labels::with_hashing(alloc, hashing);
     let mut lines = lines;
     while labels.len() < count as usize {
         let (label, after) = read_label(&labels, &lines)?;
@@ -188,13 +186,13 @@ fn read_root(alloc: Global, frame: &Frame, lines: &mut Lines) -> Result<Root, Ce
 }
 
 // The certificate of a text, or the first fault.
-fn read_all(alloc: Global, text: &[u8]) -> Result<Certificate, CertFault>
+fn read_all(alloc: Global, text: &[u8], hashing: KeyHashing) -> Result<Certificate, CertFault>
     ensures ok { IfOk result (λ c. format_reading text.now ≡ Ok (certificate_of c)) }
     ensures err { IfErr result (λ fault. fault.kind ≢ NoMemory → format_reading text.now ≡ Err fault) }
     ensures memory { IfErr result (λ fault. fault.kind ≡ NoMemory → fault.line ≡ 0) }
 {
     let (header, lines) = read_header(&Lines::new(text))?;
-    let (labels, mut rest) = read_labels(alloc, header.count, lines)?;
+    let (labels, mut rest) = read_labels(alloc, header.count, lines, hashing)?;
     let frame = Frame {
         format: header.format,
         width: header.version.width(),
@@ -227,14 +225,18 @@ fn read_all(alloc: Global, text: &[u8]) -> Result<Certificate, CertFault>
 /// A line without its line feed is not of its form. Numbers are decimal without leading zeros, words have one space
 /// between, a label's number is below the count, and a cost is at most 4294967295.
 pub fn read_cert(alloc: Global, text: &[u8]) -> Result<Certificate, CertFault>
-    // What is read is the text of the certificate that is answered.
-    ensures ok { IfOk result (λ c. text.now ≡ certificate_text (certificate_of c)) }
-    // The text of a certificate is read, as that certificate, unless memory runs out.
-    ensures only { (c : CertificateModel) → HasFormatText c → text.now ≡ certificate_text c →
-        IfOk result (λ found. certificate_of found ≡ c) × IfErr result (λ fault. fault.kind ≡ NoMemory) }
-    // Which fault it is.
-    ensures fault { IfErr result (λ fault. fault.kind ≢ NoMemory → format_reading text.now ≡ Err fault) }
-    ensures memory { IfErr result (λ fault. fault.kind ≡ NoMemory → fault.line ≡ 0) }
+    ensures { ReturnsCertificate text.now result }
 {
-    read_all(alloc, text)
+    read_cert_with_hashing(alloc, text, KeyHashing::known())
+}
+
+/// Like [`read_cert`], but labels are hashed by these numbers, on which nothing that is returned depends.
+pub fn read_cert_with_hashing(
+    alloc: Global,
+    text: &[u8],
+    hashing: KeyHashing,
+) -> Result<Certificate, CertFault>
+    ensures { ReturnsCertificate text.now result }
+{
+    read_all(alloc, text, hashing)
 }

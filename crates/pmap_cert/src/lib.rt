@@ -38,7 +38,7 @@ mod words;
 mod writing;
 
 pub use certificate::Certificate;
-pub use certificate_reading::read_cert;
+pub use certificate_reading::{read_cert, read_cert_with_hashing};
 pub use chain_laws::{
     chain_pair_is_bit_by_bit, compact_gives_back_equal, compact_has_a_text,
     compact_has_no_more_lines, compact_keeps_acceptance, compact_opens_to_the_same,
