@@ -1,5 +1,5 @@
 -- The groups of rows by their keys, and their totals.
-use Rattle.std.specs.Prelude.{ℕ, List, [], ◌∷◌, Option, not, length, map, filter, sum_by}
+use Rattle.std.specs.Prelude.{◌≡◌, ℕ, List, [], ◌∷◌, Option, not, length, map, filter, sum_by}
 use Rattle.prefix_keys.specs.Text.{AddressOf}
 use Rattle.pmap_text.specs.MapModel.{Label}
 use Rattle.flow_rows.specs.Row.{RowView}
@@ -54,3 +54,8 @@ groups_of fields label rows = groups_of_keyed (keyed fields label rows)
 -- how many rows groups have together
 abbrev pub record_count : List GroupModel → ℕ
 record_count groups = sum_by (λ g. g.totals.records) groups
+
+-- the groups of no rows, by these fields
+pub record AreOfNoRows (asked : List KeyField) (g : GroupsModel) : Type 0 where
+  pub fields : g.fields ≡ asked
+  pub groups : g.groups ≡ groups_of_keyed []

@@ -2,7 +2,7 @@ ghost use Rattle.std.specs.Prelude.{All, ◌≡◌, ◌++◌, ℕ, ◌∷◌, []
 ghost use Rattle.std.specs.List.Sorted.{IsPermutation, IsSortedBy};
 ghost use Rattle.flow_rows.specs.Row.{row_view};
 ghost use Rattle.label_lookup.specs.Labelling.{label_where, labelling_lent};
-ghost use Rattle.flow_uniq.specs.Groups.{KeyedRow, groups_of_keyed, keyed, record_count};
+ghost use Rattle.flow_uniq.specs.Groups.{AreOfNoRows, KeyedRow, groups_of_keyed, keyed, record_count};
 ghost use Rattle.flow_uniq.specs.Key.{key_of};
 ghost use Rattle.flow_uniq.specs.Kept.{group_model};
 ghost use Rattle.flow_uniq.specs.Sorted.{is_before, sorted_groups};
@@ -19,6 +19,7 @@ use crate::totals::Totals;
 use flow_rows::Row;
 use indexmap::IndexSet;
 use label_lookup::Labeller;
+use pmap_text::KeyHashing;
 use std::alloc::{AllocError, Global};
 use std::marker::Model;
 
@@ -27,7 +28,7 @@ use std::marker::Model;
 pub struct Groups {
     alloc: Global,
     fields: Vec<KeyField>,
-    codes: IndexSet<Code>,
+    codes: IndexSet<Code, KeyHashing>,
     totals: Vec<Totals>,
     scratch: Code,
 }
@@ -78,15 +79,25 @@ fn in_order(mut groups: Vec<Group<'_>>) -> Result<Vec<Group<'_>>, AllocError>
 }
 
 impl Groups {
-    /// No groups, by the fields of these keys.
+    /// No groups, by the fields of these keys, which are hashed by the fixed numbers.
     pub fn new(alloc: Global, keys: &Keys) -> Result<Groups, AllocError>
-        ensures fields { IfOk result (λ g. g.fields ≡ keys.now) }
-        ensures groups { IfOk result (λ g. g.groups ≡ groups_of_keyed []) }
+        ensures { IfOk result (AreOfNoRows keys.now) }
+    {
+        Groups::with_hashing(alloc, keys, KeyHashing::known())
+    }
+
+    /// No groups, by the fields of these keys, which are hashed by these numbers.
+    pub fn with_hashing(
+        alloc: Global,
+        keys: &Keys,
+        hashing: KeyHashing,
+    ) -> Result<Groups, AllocError>
+        ensures { IfOk result (AreOfNoRows keys.now) }
     {
         Ok(Groups {
             alloc,
             fields: Vec::from_slice(alloc, keys.fields())?,
-            codes: IndexSet::new(alloc),
+            codes: IndexSet::with_hasher(alloc, hashing),
             totals: Vec::new(alloc),
             scratch: Code::new(alloc),
         })

@@ -11,10 +11,11 @@ use crate::code::Code;
 use crate::totals::Totals;
 use flow_rows::Row;
 use indexmap::IndexSet;
+use pmap_text::KeyHashing;
 use std::alloc::{AllocError, Global};
 
 // The place of a code, or none.
-fn place_of(codes: &IndexSet<Code>, code: &Code) -> Option<usize>
+fn place_of(codes: &IndexSet<Code, KeyHashing>, code: &Code) -> Option<usize>
     ensures { result ≡ position (bytes_eq code.now) codes.now.keys }
 {
     codes.get_index_of(code)
@@ -36,7 +37,7 @@ fn grow(totals: &mut Vec<Totals>, place: usize, row: &Row)
 
 // Puts a new code and its totals behind the others, both or neither.
 fn enter(
-    codes: &mut IndexSet<Code>,
+    codes: &mut IndexSet<Code, KeyHashing>,
     totals: &mut Vec<Totals>,
     code: Code,
     first: Totals,
@@ -57,7 +58,7 @@ fn enter(
 /// Where memory is refused, codes and totals stay as they were.
 pub fn put(
     alloc: Global,
-    codes: &mut IndexSet<Code>,
+    codes: &mut IndexSet<Code, KeyHashing>,
     totals: &mut Vec<Totals>,
     code: &Code,
     row: &Row,
