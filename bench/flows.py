@@ -4,9 +4,12 @@
   have ten fields, and nearly each has addresses of its own;
 - usual: the same in messages of 1,400 bytes, with fourteen fields, of some 240,000 hosts, few of which have most flows.
 
+- sources: as mixed, all flows of IPv6 and from random addresses.
+
 The others are made to hurt:
 
-- colliding: as mixed, all flows of IPv6 and from addresses that all have one hash as the key of a group;
+- colliding: as sources, from addresses that all have one value as the key of a group under the hash of the kit's `FoldHasher`;
+- known: as sources, from addresses that all have one value under the fixed numbers of `KeyHashing`;
 - domains: so many messages, each with a template and a record in a domain of its own, whose numbers collide in a hash
   (bench/domains.rs prints them to bench/data/domains.txt);
 - fields: so many messages full of records of 8 bytes, whose template has thousands of fields without a byte;
@@ -31,8 +34,10 @@ V4_ID, V6_ID = 256, 257
 # How many messages stand before the templates are sent again.
 RESENT = 1000
 V4_HOSTS, V6_HOSTS = 200_000, 40_000
-# The hash of a key multiplies the exclusive or of these bytes of an address and a number of its own, which here is 0.
+# The kit's hash of a key multiplies the exclusive or of these bytes of an address and a number of its own, which here is 0.
 COLLIDING = 0x157C_4A7F_B979_379E
+# The fixed numbers of `KeyHashing`.
+KNOWN_SEED, KNOWN_MULTIPLIER = 0x243F_6A88_85A3_08D3, 0x9E37_79B9_7F4A_7C15
 # As many fields as a message can hold, but for some.
 MANY = 16_000
 
@@ -76,8 +81,28 @@ def v6_flow(rng):
     return v6_address(rng) + v6_address(rng) + common(rng)
 
 
-def colliding_flow(rng):
-    return struct.pack(">QQ", 0x2001_0DB8 << 32 | rng.getrandbits(32), COLLIDING) + v6_address(rng) + common(rng)
+def colliding_address(rng):
+    return struct.pack(">QQ", 0x2001_0DB8 << 32 | rng.getrandbits(32), COLLIDING)
+
+
+def known_address(rng):
+    """An address whose second word, of the key's bytes 9 to 16, takes the state back to the same one for each."""
+    front = bytes((6, 0x20, 0x01)) + rng.randbytes(5)
+    product = (KNOWN_SEED ^ int.from_bytes(front, "little")) * KNOWN_MULTIPLIER
+    return front[1:] + ((product ^ product >> 64) % 2**64).to_bytes(8, "little") + bytes(1)
+
+
+def source_address(rng):
+    return struct.pack(">QQ", 0x2001_0DB8 << 32 | rng.getrandbits(32), rng.getrandbits(64))
+
+
+# The makers of the sources of the kinds whose flows are all of IPv6.
+V6_SOURCES = {"sources": source_address, "colliding": colliding_address, "known": known_address}
+
+
+def flow_from(source):
+    """A maker of flows of IPv6 from the addresses that `source` makes."""
+    return lambda rng: source(rng) + v6_address(rng) + common(rng)
 
 
 def usual_flow(hosts):
@@ -90,11 +115,10 @@ def usual_flow(hosts):
 
 def makers(kind, rng):
     """How many flows of IPv4 a message has and what makes one, the same of IPv6, and the fields behind addresses."""
-    match kind:
-        case "mixed":
-            return 10, v4_flow, 14, v6_flow, COMMON
-        case "colliding":
-            return 0, v4_flow, 17, colliding_flow, COMMON
+    if kind == "mixed":
+        return 10, v4_flow, 14, v6_flow, COMMON
+    if kind in V6_SOURCES:
+        return 0, v4_flow, 17, flow_from(V6_SOURCES[kind]), COMMON
     v4_hosts = [struct.pack(">I", rng.randrange(1 << 24, 224 << 24)) for _ in range(V4_HOSTS)]
     v6_hosts = [v6_address(rng) for _ in range(V6_HOSTS)]
     return 17, usual_flow(v4_hosts), 4, usual_flow(v6_hosts), USUAL
@@ -138,7 +162,7 @@ def main():
     count = int(count)
     empty = [(210, 0)] * MANY
     match kind:
-        case "mixed" | "usual" | "colliding":
+        case "mixed" | "usual" | "sources" | "colliding" | "known":
             messages = messages_of(kind, count)
         case "domains":
             with open(DOMAINS, encoding="ascii") as numbers:

@@ -13,6 +13,12 @@ So are those with labels as neighbours share them, for which a shorter list is w
 - distinct: sorted, each prefix with a label of its own;
 - striped: neighbouring ranges of 1 to 64 addresses with two labels in turn.
 
+These have single addresses in rising order, each with a label of its own, of ten letters:
+
+- labels: random ones;
+- fold_labels: labels that lie close together in a table under the hash of the kit's `FoldHasher`;
+- known_labels: labels that do so under the fixed numbers of `KeyHashing`.
+
 The others are over IPv6:
 
 - countries6: the same as countries;
@@ -28,6 +34,7 @@ The others are over IPv6:
 - colliding: the same, of addresses that all have one value under the standard library's hash, whose seed is fixed.
 """
 
+import functools
 import ipaddress
 import itertools
 import random
@@ -53,6 +60,12 @@ CHAIN = range(29, 129)
 MIDDLE = 0x2001_0DB8_0000_0000_8000_0000_0000_0000
 # The hash multiplies the exclusive or of a key's first 64 bits and this number, which here is 0.
 COLLIDING = 0x9E37_79B9_7F4A_7C15
+# The fixed numbers of both hashes.
+SEED_NUMBER, MULTIPLIER = 0x243F_6A88_85A3_08D3, 0x9E37_79B9_7F4A_7C15
+# The letters of chosen labels, how many letters a label has, and how many of them vary most.
+LETTERS, LABEL_LENGTH, VARYING = "abcdefghijklmnopqrstuvwxyz", 10, 2
+# The places of a table of 65,535 labels are so many, and chosen labels lie in the first sixteenth of them.
+PLACES, NEAR = 8192, 512
 
 
 def text_of(value):
@@ -167,6 +180,51 @@ def distinct(rng, count):
         yield f"{dotted(value)}/{length} network {number}"
 
 
+def folded(state, number):
+    """The halves of a product of 128 bits, joined by exclusive or."""
+    product = state * number
+    return (product ^ product >> 64) % 2**64
+
+
+# A hash of labels: the state behind the label's length, the state behind one letter more, and the hash at the end.
+HASHES = {
+    "fold_labels": (folded(SEED_NUMBER ^ LABEL_LENGTH, MULTIPLIER ^ 16),
+                    lambda state, letter: folded(state ^ 0x01_0101 * ord(letter), MULTIPLIER ^ 2),
+                    lambda state: state),
+    "known_labels": (folded(folded(SEED_NUMBER ^ LABEL_LENGTH, MULTIPLIER) ^ 1, MULTIPLIER),
+                     lambda state, letter: folded(state ^ 256 ^ ord(letter), MULTIPLIER),
+                     lambda state: folded(state, SEED_NUMBER)),
+}
+
+
+def near_labels(rng, order):
+    """Endless distinct labels that lie close together in a table."""
+    start, step, end = HASHES[order]
+    for front in random_labels(rng, LABEL_LENGTH - VARYING):
+        front_state = functools.reduce(step, front, start)
+        for back in map("".join, itertools.product(LETTERS, repeat=VARYING)):
+            number = end(functools.reduce(step, back, front_state))
+            if (number ^ number >> 32) % PLACES < NEAR:
+                yield front + back
+
+
+def random_labels(rng, length=LABEL_LENGTH):
+    """Endless distinct labels."""
+    made = set()
+    while True:
+        label = "".join(rng.choices(LETTERS, k=length))
+        if label not in made:
+            made.add(label)
+            yield label
+
+
+def own_labels(rng, count, order):
+    """The lines of so many single addresses, each with a label of its own."""
+    names = random_labels(rng) if order == "labels" else near_labels(rng, order)
+    for number, name in enumerate(itertools.islice(names, count)):
+        yield f"{dotted((10 << 24) + number)} {name}"
+
+
 def lines_with_labels(rng, count, order):
     """The lines of a text over IPv4 for a shorter list."""
     if order == "striped":
@@ -217,6 +275,9 @@ def lines(count, order):
         # With a default there would be a label more than a text may have.
         yield "# made by bench/maps.py"
         yield from distinct(rng, count - 1)
+        return
+    if order in ("labels", *HASHES):
+        yield from own_labels(rng, count, order)
         return
     if order in ("striped", "countries", *SHARED_LABELS):
         yield "# made by bench/maps.py"

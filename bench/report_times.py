@@ -1,7 +1,7 @@
 """Times reports on IPFIX Files, and prints a table: report_times.py PROGRAM PLAIN MAP FLOWS..
 
 The reports are `rows` under a map, `rows` with filters, some of them with thousands of items, and `uniq`; over a File
-whose addresses collide `uniq` by them alone. The seconds are those of the fastest of three runs whose output goes to
+of IPv6 with random or colliding sources `uniq` by them alone. The seconds are those of the fastest of three runs whose output goes to
 /dev/null, and the memory is the most that a run had at a time. Where plain Rust is there, it makes those that it can
 too, and must write the same bytes. Each report under the map is also made under `--list` where a list stands beside
 the map, and must be the same.
@@ -17,6 +17,8 @@ from measure import Growth, Yardstick, fastest, peak, print_table, written
 
 SEED = 20260101
 ITEMS = 3000
+# The kinds of Files of which only the sources matter.
+SOURCES = ("sources", "colliding", "known")
 
 
 def many_numbers(rng):
@@ -63,10 +65,10 @@ def main():
     growth = Growth()
     for name in files:
         kind, count = re.fullmatch(r"(\w+)-(\d+)\.ipfix", os.path.basename(name)).groups()
-        for report, own, is_plain in reports(map_name)[:1 if kind == "colliding" else None]:
+        for report, own, is_plain in reports(map_name)[:1 if kind in SOURCES else None]:
             words = (*own, name)
             compare_with_list(program, words, map_name, yardstick.folder)
-            if is_plain and kind != "colliding":
+            if is_plain and kind not in SOURCES:
                 yardstick.output(words)
                 seconds, memory, cells = yardstick.measure(words)
             else:

@@ -1,6 +1,8 @@
-use Rattle.std.specs.Prelude.{◌≡◌, ◌||◌, ℕ, Bool, true, false, List, [], Option, Some, None, is_some, Result, Ok, Err, option_map}
+use Rattle.std.specs.Prelude.{◌≡◌, ◌||◌, ℕ, Bool, true, false, List, [], Option, Some, None, is_some, Result, Ok, Err, IfErr, OnOk, option_map}
 use Rattle.std.specs.Borrow.{Bor}
+use Rattle.std.specs.Io.KnownBytes.{Appends}
 use Rattle.flow_io.specs.declared.last_call.LastCall.{LastCall}
+use Rattle.flow_io.specs.declared.last_call.LastCall.TheVariants.{Flush}
 use Rattle.flow_io.specs.WriterStates.{IsUntouched, StopsWriting}
 use Rattle.flowlabel.specs.Output.{FileTexts, IsOutput, Outcome}
 use Rattle.flowlabel.specs.Request.{Request, Text}
@@ -125,3 +127,15 @@ is_read_stop result = false
 abbrev pub is_write_stop : {A : Type 0} → Result A RunFault → Bool
 is_write_stop (Err CannotWrite) = true
 is_write_stop result = false
+
+-- What a run of a request does, where no reader and not the writer has failed before.
+module _ {R W : Type 0} (left : R → Option (List ℕ)) (failed : R → Bool) (taken : W → Option (List ℕ)) (last : W → LastCall) (stuck : W → Bool) where
+  pub record IsRunOf (request : Request) (old new : Inputs R) (writer writer' : W) (result : Result (Unit {0}) RunFault) : Type 0 where
+    -- the writer took exactly the output of the bytes read, and was flushed after it
+    pub ok : OnOk result (PrintsThen left old request (Appends (taken writer) (taken writer')))
+    pub flushed : OnOk result (last writer' ≡ Flush)
+    -- a fault of the bytes is the output's, and nothing is written but a prefix of the output before a write fault
+    pub err : IfErr result (IsFaultOfRun left failed taken last old new writer writer' request)
+    -- device faults come exactly from devices that failed
+    pub read_fault : any_failed failed new ≡ is_read_stop result
+    pub write_fault : stuck writer' ≡ is_write_stop result

@@ -39,7 +39,8 @@ use ending::end;
 use fault::RunFault;
 use flow_io::{Output, Watched};
 use opening::{Opener, open_all};
-use run::run;
+use pmap_text::KeyHashing;
+use run::run_with_hashing;
 use std::alloc::{AllocError, Global};
 use std::env;
 use std::process::ExitCode;
@@ -76,12 +77,13 @@ fn lent(alloc: Global, words: &[String]) -> Result<Vec<&str>, AllocError>
     Ok(list)
 }
 
-// What a command line asks for, carried out over the files that it names.
+// What a command line asks for, carried out over the files that it names. Labels and groups are hashed by these numbers.
 fn execute<'a, O: Opener, W: Output>(
     alloc: Global,
     words: &'a [&'a str],
     opener: &O,
     output: &mut W,
+    hashing: KeyHashing,
 ) -> Result<(), RunFault<'a>>
     requires { W.failed output.old ≡ false }
     ensures end { IsEndOf (O.answers opener.now) O.Reader.bytes_left O.Reader.failed W.bytes_taken W.last_call
@@ -94,7 +96,7 @@ fn execute<'a, O: Opener, W: Output>(
         Err(fault) => return Err(RunFault::Usage(fault)),
     };
     let mut inputs = open_all(opener, command.files())?;
-    run(alloc, &command, &mut inputs, output)
+    run_with_hashing(alloc, &command, &mut inputs, output, hashing)
 }
 
 // Carries out the command line and gives the exit status.
@@ -110,7 +112,8 @@ fn answer(rt: &HostRuntime) -> u8 {
     };
     match lent(rt.alloc(), arguments.as_slice()) {
         Ok(words) => {
-            let outcome = execute(rt.alloc(), words.as_slice(), rt, &mut output);
+            let hashing = KeyHashing::drawn(rt);
+            let outcome = execute(rt.alloc(), words.as_slice(), rt, &mut output, hashing);
             end(rt.alloc(), &outcome, &mut output, &mut error)
         }
         Err(AllocError) => end(

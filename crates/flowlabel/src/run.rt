@@ -1,15 +1,14 @@
-ghost use Rattle.std.specs.Prelude.{◌≡◌, ℕ, List, Ok, false, IfErr, IfOk, OnOk};
-ghost use Rattle.std.specs.Io.KnownBytes.{Appends};
-ghost use Rattle.flow_io.specs.declared.last_call.LastCall.TheVariants.{Flush};
+ghost use Rattle.std.specs.Prelude.{◌≡◌, ℕ, List, Ok, false, IfErr, IfOk};
 ghost use Rattle.flowlabel.specs.Loading.{ArePresent, ComesOf, HasFewEntries, IsFaultOfAnswer};
 ghost use Rattle.flowlabel.specs.Output.{FileTexts, IsOutput};
 ghost use Rattle.flowlabel.specs.Request.{needs_of, request_of};
-ghost use Rattle.flowlabel.specs.Run.{any_failed, is_read_stop, is_write_stop, AreNeeded, HasText, HaveTexts, IsFaultOfBytes, IsFaultOfRun, PrintsThen};
+ghost use Rattle.flowlabel.specs.Run.{any_failed, is_read_stop, AreNeeded, HasText, HaveTexts, IsFaultOfBytes, IsRunOf};
 
 use crate::command::Command;
 use crate::fault::RunFault;
 use crate::inputs::Inputs;
 use flow_io::{Input, Output, WriteFault, write_whole};
+use pmap_text::KeyHashing;
 use std::alloc::Global;
 
 mod cat;
@@ -47,6 +46,7 @@ fn answer<'a, R: Input>(
     command: &Command<'_>,
     loaded: &Loaded,
     inputs: &mut Inputs<'a, R>,
+    hashing: KeyHashing,
 ) -> Result<Vec<u8>, RunFault<'a>>
     requires needed { AreNeeded (needs_of (request_of command.now)) inputs.old }
     requires present { ArePresent (needs_of (request_of command.now)) loaded.now }
@@ -87,6 +87,7 @@ fn answer<'a, R: Input>(
                 filter,
                 sorted: *sorted,
                 columns: *columns,
+                hashing,
             };
             report_under(alloc, loaded.labels(), inputs, &report)
         }
@@ -112,6 +113,7 @@ fn output<'a, R: Input>(
     alloc: Global,
     command: &Command<'_>,
     inputs: &mut Inputs<'a, R>,
+    hashing: KeyHashing,
 ) -> Result<Vec<u8>, RunFault<'a>>
     requires needed { AreNeeded (needs_of (request_of command.now)) inputs.old }
     requires readers { any_failed R.failed inputs.old ≡ false }
@@ -120,8 +122,8 @@ fn output<'a, R: Input>(
     ensures err { IfErr result (IsFaultOfBytes R.bytes_left R.failed inputs.old inputs.new (IsOutput (request_of command.now))) }
     ensures failed { any_failed R.failed inputs.new ≡ is_read_stop result }
 {
-    let loaded = load(alloc, inputs)?;
-    answer(alloc, command, &loaded, inputs)
+    let loaded = load(alloc, inputs, hashing)?;
+    answer(alloc, command, &loaded, inputs, hashing)
 }
 
 /// Runs a command: reads its inputs, makes the whole output, and then writes it and flushes once. The files are read in the
@@ -141,20 +143,27 @@ pub fn run<'a, R: Input, W: Output>(
     requires needed { AreNeeded (needs_of (request_of command.now)) inputs.old }
     requires readers { any_failed R.failed inputs.old ≡ false }
     requires writer { W.failed writer.old ≡ false }
-
-    // The writer took exactly the output of the bytes read, and was flushed behind it.
-    ensures ok { OnOk result (PrintsThen R.bytes_left inputs.old (request_of command.now) (Appends (W.bytes_taken writer.old) (W.bytes_taken writer.new))) }
-
-    ensures flushed { OnOk result (W.last_call writer.new ≡ Flush) }
-
-    // A fault of the bytes is the output's, and nothing is written but a prefix of the output before a write fault.
-    ensures err { IfErr result (IsFaultOfRun R.bytes_left R.failed W.bytes_taken W.last_call inputs.old inputs.new writer.old writer.new (request_of command.now)) }
-
-    // Device faults come exactly from devices that failed.
-    ensures read_fault { any_failed R.failed inputs.new ≡ is_read_stop result }
-    ensures write_fault { W.failed writer.new ≡ is_write_stop result }
+    ensures { IsRunOf R.bytes_left R.failed W.bytes_taken W.last_call W.failed (request_of command.now) inputs.old inputs.new
+        writer.old writer.new result }
 {
-    let out = output(alloc, command, inputs)?;
+    run_with_hashing(alloc, command, inputs, writer, KeyHashing::known())
+}
+
+/// Like [`run`], but labels and groups are hashed by these numbers, on which nothing that is written depends.
+pub fn run_with_hashing<'a, R: Input, W: Output>(
+    alloc: Global,
+    command: &Command<'_>,
+    inputs: &mut Inputs<'a, R>,
+    writer: &mut W,
+    hashing: KeyHashing,
+) -> Result<(), RunFault<'a>>
+    requires needed { AreNeeded (needs_of (request_of command.now)) inputs.old }
+    requires readers { any_failed R.failed inputs.old ≡ false }
+    requires writer { W.failed writer.old ≡ false }
+    ensures { IsRunOf R.bytes_left R.failed W.bytes_taken W.last_call W.failed (request_of command.now) inputs.old inputs.new
+        writer.old writer.new result }
+{
+    let out = output(alloc, command, inputs, hashing)?;
     match write_whole(writer, out.as_slice()) {
         Ok(()) => Ok(()),
         Err(WriteFault) => Err(RunFault::CannotWrite),

@@ -4,8 +4,8 @@ use Rattle.flowlabel.specs.Request.{FileNames, files_of, request_of}
 use Rattle.flowlabel.proofs.EndLemmas.{end_of_open, end_of_run, passed_unwritten, passed_up, same_names}
 use Rattle.flowlabel.proofs.execute.Goals as goal
 
-pub run-requires-clause-needed : goal.run-requires-clause-needed
-run-requires-clause-needed g c = c.in_ok-inputs.ensures.needed _ c.files.ensures.needed
+pub run_with_hashing-requires-clause-needed : goal.run_with_hashing-requires-clause-needed
+run_with_hashing-requires-clause-needed g c = c.in_ok-inputs.ensures.needed _ c.files.ensures.needed
 
 pub returns-in_err-inputs-clause-end : goal.returns-in_err-inputs-clause-end
 returns-in_err-inputs-clause-end g c =
@@ -23,10 +23,10 @@ pub returns-clause-end : goal.returns-clause-end
 returns-clause-end g c =
     let request = request_of c.in-Ok.command in
     let named = same_names c.files.result (files_of request) c.files.ensures.map c.files.ensures.list c.files.ensures.certificate c.files.ensures.flows in
-    end_of_run (g.O.Opener.answers c.args.opener.now) g.O.Reader.Input.bytes_left g.O.Reader.Input.failed g.W.Output.bytes_taken g.W.Output.last_call _ _ request c.in_ok-inputs.inputs _ _ c.run.result
+    end_of_run (g.O.Opener.answers c.args.opener.now) g.O.Reader.Input.bytes_left g.O.Reader.Input.failed g.W.Output.bytes_taken g.W.Output.last_call _ _ request c.in_ok-inputs.inputs _ _ c.run_with_hashing.result
     (record {
       asked = c.in-Ok.ensures.answer;
       named = subst (λ (names : FileNames). HaveNames names c.in_ok-inputs.inputs) named c.in_ok-inputs.ensures.named;
       opened = c.in_ok-inputs.ensures.opened;
     })
-    c.run.ensures.ok c.run.ensures.err
+    c.run_with_hashing.ensures.ok c.run_with_hashing.ensures.err

@@ -12,8 +12,8 @@ use crate::fault::RunFault;
 use crate::inputs::{Inputs, Source};
 use crate::run::loaded::Loaded;
 use flow_io::{Input, ReadStop, read_whole};
-use pmap_cert::{Certificate, read_cert};
-use pmap_text::{MapText, PrefixList, read_list, read_map};
+use pmap_cert::{Certificate, read_cert_with_hashing};
+use pmap_text::{KeyHashing, MapText, PrefixList, read_list_with_hashing, read_map_with_hashing};
 use std::alloc::Global;
 
 // What the text of a file is decoded to.
@@ -27,8 +27,8 @@ trait Decode {
     // What holds of each value that a text is read as.
     ghost limits: { Self → Type 0 };
 
-    // What the text is read as, or its first fault.
-    fn decode(alloc: Global, text: &[u8]) -> Result<Self, BytesFault>
+    // What the text is read as, or its first fault. Labels are hashed by these numbers.
+    fn decode(alloc: Global, text: &[u8], hashing: KeyHashing) -> Result<Self, BytesFault>
         ensures ok { IfOk result (reads text.now) }
         ensures limits { IfOk result limits }
         ensures turn { IfErr result (λ fault. turn_of fault ≡ turn) }
@@ -46,8 +46,8 @@ impl Decode for MapText {
 
     ghost limits = { λ map. Unit {0} };
 
-    fn decode(alloc: Global, text: &[u8]) -> Result<MapText, BytesFault> {
-        match read_map(alloc, text) {
+    fn decode(alloc: Global, text: &[u8], hashing: KeyHashing) -> Result<MapText, BytesFault> {
+        match read_map_with_hashing(alloc, text, hashing) {
             Ok(map) => Ok(map),
             Err(fault) => Err(BytesFault::Map(fault)),
         }
@@ -65,8 +65,8 @@ impl Decode for PrefixList {
 
     ghost limits = { λ list. length list.entries ≤ 1000000 };
 
-    fn decode(alloc: Global, text: &[u8]) -> Result<PrefixList, BytesFault> {
-        match read_list(alloc, text) {
+    fn decode(alloc: Global, text: &[u8], hashing: KeyHashing) -> Result<PrefixList, BytesFault> {
+        match read_list_with_hashing(alloc, text, hashing) {
             Ok(list) => Ok(list),
             Err(fault) => Err(BytesFault::List(fault)),
         }
@@ -83,8 +83,8 @@ impl Decode for Certificate {
 
     ghost limits = { λ certificate. Unit {0} };
 
-    fn decode(alloc: Global, text: &[u8]) -> Result<Certificate, BytesFault> {
-        match read_cert(alloc, text) {
+    fn decode(alloc: Global, text: &[u8], hashing: KeyHashing) -> Result<Certificate, BytesFault> {
+        match read_cert_with_hashing(alloc, text, hashing) {
             Ok(certificate) => {
                 // For its law: a certificate that is read has a text.
                 let _root = certificate.root();
@@ -117,6 +117,7 @@ pub fn text_of_file<'a, R: Input>(
 fn load_one<'a, R: Input, T: Decode>(
     alloc: Global,
     source: &mut Option<Source<'a, R>>,
+    hashing: KeyHashing,
 ) -> Result<Option<T>, RunFault<'a>>
     requires { source_failed R.failed source.old ≡ false }
     ensures there { IfOk result (λ value. is_some value ≡ is_some source.old) }
@@ -130,7 +131,7 @@ fn load_one<'a, R: Input, T: Decode>(
         return Ok(None);
     };
     let text = text_of_file(alloc, source)?;
-    match T::decode(alloc, text.as_slice()) {
+    match T::decode(alloc, text.as_slice(), hashing) {
         Ok(value) => Ok(Some(value)),
         Err(fault) => Err(RunFault::in_file(source.name, fault)),
     }
@@ -138,7 +139,11 @@ fn load_one<'a, R: Input, T: Decode>(
 
 /// Reads and decodes the map, the list and the certificate that are there, in this order. The first fault ends it, and the
 /// files behind that one are not read.
-pub fn load<'a, R: Input>(alloc: Global, inputs: &mut Inputs<'a, R>) -> Result<Loaded, RunFault<'a>>
+pub fn load<'a, R: Input>(
+    alloc: Global,
+    inputs: &mut Inputs<'a, R>,
+    hashing: KeyHashing,
+) -> Result<Loaded, RunFault<'a>>
     requires readers { any_failed R.failed inputs.old ≡ false }
     ensures present { (needs : Needs) → AreNeeded needs inputs.old → IfOk result (ArePresent needs) }
     ensures ok { IfOk result (λ loaded. (texts : FileTexts) → HaveTexts R.bytes_left inputs.old texts → AreLoaded loaded texts) }
@@ -151,9 +156,9 @@ pub fn load<'a, R: Input>(alloc: Global, inputs: &mut Inputs<'a, R>) -> Result<L
     ensures flows { inputs.new.flows ≡ inputs.old.flows }
     ensures failed { any_failed R.failed inputs.new ≡ is_read_stop result }
 {
-    let map = load_one(alloc, &mut inputs.map)?;
-    let list = load_one(alloc, &mut inputs.list)?;
-    let certificate = load_one(alloc, &mut inputs.certificate)?;
+    let map = load_one(alloc, &mut inputs.map, hashing)?;
+    let list = load_one(alloc, &mut inputs.list, hashing)?;
+    let certificate = load_one(alloc, &mut inputs.certificate, hashing)?;
     Ok(Loaded {
         map,
         list,

@@ -6,16 +6,18 @@ use flow_uniq::{Groups, Keys};
 use ipfix_read::Message;
 use label_lookup::Labeller;
 use pmap_print::print_groups;
+use pmap_text::KeyHashing;
 use std::alloc::{AllocError, Global};
 
 /// The groups of the rows of messages that pass a filter, by fields of them: sorted or in the order of their first rows, in
 /// columns of even width or not.
-#[derive(Clone, Copy, Debug)]
+#[derive(Clone, Copy)]
 pub struct UniqReport<'a> {
     pub keys: &'a Keys,
     pub filter: &'a Filter<'a>,
     pub sorted: bool,
     pub columns: bool,
+    pub hashing: KeyHashing,
 }
 
 /// The groups so far, and room for the rows of a message.
@@ -42,7 +44,7 @@ impl<'a> Report for UniqReport<'a> {
         _labels: Option<&L>,
     ) -> Result<UniqTaken, AllocError> {
         Ok(UniqTaken {
-            groups: Groups::new(alloc, self.keys)?,
+            groups: Groups::with_hashing(alloc, self.keys, self.hashing)?,
             rows: Vec::new(alloc),
         })
     }
