@@ -56,11 +56,6 @@ pub record ArePresent (needs : Needs) (loaded : Loaded) : Type 0 where
   pub list : is_some loaded.list ≡ needs.list
   pub certificate : is_some loaded.certificate ≡ needs.certificate
 
--- the list that is loaded has as few entries as a text may have
-abbrev pub HasFewEntries : Option PrefixList → Type 0
-HasFewEntries None = Unit {0}
-HasFewEntries (Some list) = length list.entries ≤ 1000000
-
 -- the text of a file, where the file is needed, is read without fault at its turn
 abbrev pub IsReadIf : Bool → Turn → List ℕ → Type 0
 IsReadIf false turn text = Unit {0}
@@ -81,11 +76,6 @@ IsFirstFault needs texts (Err (InCheck fault)) = ⊥
 abbrev pub labelling_of_either : LoadedLabels → Labelling
 labelling_of_either (Map map) = labelling_of_map (map_of map.now)
 labelling_of_either (Prefixes list) = labelling_of_list (list_of list.now)
-
--- a list of these has few entries
-abbrev pub HasFewLabels : LoadedLabels → Type 0
-HasFewLabels (Map map) = Unit {0}
-HasFewLabels (Prefixes list) = length list.now.entries ≤ 1000000
 
 -- the labelling of the map that is loaded, or else of the list
 abbrev pub labelling_of_parts : Option MapText → Option PrefixList → Option Labelling

@@ -1,5 +1,5 @@
 ghost use Rattle.std.specs.Prelude.{◌≡◌, ℕ, List, Ok, false, IfErr, IfOk};
-ghost use Rattle.flowlabel.specs.Loading.{ArePresent, ComesOf, HasFewEntries, IsFaultOfAnswer};
+ghost use Rattle.flowlabel.specs.Loading.{ArePresent, ComesOf, IsFaultOfAnswer};
 ghost use Rattle.flowlabel.specs.Output.{FileTexts, IsOutput};
 ghost use Rattle.flowlabel.specs.Request.{needs_of, request_of};
 ghost use Rattle.flowlabel.specs.Run.{any_failed, is_read_stop, AreNeeded, HasText, HaveTexts, IsFaultOfBytes, IsRunOf};
@@ -29,8 +29,8 @@ use check::check_loaded;
 use info::InfoReport;
 use label::label_line;
 pub use laws::{
-    check_accepts_minimal, check_is_enough, has_output, one_output, recert_is_as_good,
-    same_under_equivalents, shrunk_list_is_least,
+    check_accepts_minimal, check_is_enough, has_output, minimal_pair_is_shortest, one_output,
+    output_keeps_headline, recert_is_as_good, same_under_equivalents, shrunk_list_is_least,
 };
 use loaded::Loaded;
 use loading::load;
@@ -50,7 +50,6 @@ fn answer<'a, R: Input>(
 ) -> Result<Vec<u8>, RunFault<'a>>
     requires needed { AreNeeded (needs_of (request_of command.now)) inputs.old }
     requires present { ArePresent (needs_of (request_of command.now)) loaded.now }
-    requires few { HasFewEntries loaded.now.list }
     requires readers { any_failed R.failed inputs.old ≡ false }
     ensures ok { IfOk result (λ out. (bytes : List ℕ) → HasText R.bytes_left inputs.old.flows bytes
         → ComesOf (request_of command.now) loaded.now bytes (Ok out.items)) }
@@ -163,6 +162,8 @@ pub fn run_with_hashing<'a, R: Input, W: Output>(
     ensures { IsRunOf R.bytes_left R.failed W.bytes_taken W.last_call W.failed (request_of command.now) inputs.old inputs.new
         writer.old writer.new result }
 {
+    // For its law: each output keeps the headline.
+    output_keeps_headline();
     let out = output(alloc, command, inputs, hashing)?;
     match write_whole(writer, out.as_slice()) {
         Ok(()) => Ok(()),

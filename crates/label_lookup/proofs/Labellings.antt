@@ -18,7 +18,7 @@ guarded true x y h = h refl
 guarded false x y h = refl
 
 -- labels that agree at the addresses of a version make one labelling
-alike : (v : Version) (f g : ℕ → Option Label) → ((a : ℕ) → a < 2 ^ width_of v → f a ≡ g a) → labelling v f ≡ labelling v g
+pub alike : (v : Version) (f g : ℕ → Option Label) → ((a : ℕ) → a < 2 ^ width_of v → f a ≡ g a) → labelling v f ≡ labelling v g
 alike v f g same =
     ap (λ (k : ℕ → Option Label). record { version = v; label = k })
     (fun_ext (λ a. guarded (nat_lt a (2 ^ width_of v)) (f a) (g a) (λ within. same a (ltb-true a (2 ^ width_of v) within))))

@@ -1,7 +1,7 @@
 pub mod Scanned
-pub mod SortedEntries
-pub mod Outers
-pub mod Indexed
 pub mod Labellings
+pub mod Begun
+pub mod Stretched
 pub mod WalkLabels
-pub mod MapIndexed
+pub mod Gathered
+pub mod Scanning

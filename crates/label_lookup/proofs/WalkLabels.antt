@@ -1,13 +1,12 @@
 -- The label text of a stretch at which a walk stands.
-use Rattle.std.proofs.Common.{◌≡◌, ◌∙◌, ℕ, ◌<◌, ◌≤◌, List, [], Option, Some, None, All, Contains, refl, sym, subst, length, option_and_then, option_map, slice_get, unwrap_or}
+use Rattle.std.proofs.Common.{◌≡◌, ◌∙◌, ℕ, ◌<◌, ◌≤◌, List, [], Option, Some, None, All, Contains, refl, sym, subst, length, option_and_then, option_map, slice_get}
 use Rattle.std.proofs.lemmas.List.Elements.{All-contains}
-use Rattle.std.proofs.lemmas.Option.{none-some, same_Some}
+use Rattle.std.proofs.lemmas.Option.{same_Some}
 use Rattle.std.specs.Option.{ForSome}
-use Rattle.pmap_text.specs.MapModel.{Label, MapModel, last_such, map_label, spans}
-use Rattle.pmap_text.specs.MapText.{map_of, mapping_of, text_at}
+use Rattle.pmap_text.specs.MapModel.{Label, MapModel, last_such, spans}
+use Rattle.pmap_text.specs.MapText.{mapping_of, text_at}
 use Rattle.pmap_text.specs.Stretches.{HasSameStatements, StandsAt, StretchesModel, label_seen, mappings_of, text_or, text_won}
 use Rattle.pmap_text.specs.declared.label.LabelId.{LabelId}
-use Rattle.pmap_text.specs.declared.map_text.MapText.{MapText}
 use Rattle.pmap_text.specs.declared.statement.Statement.{Statement}
 use Rattle.pmap_text.proofs.Orders.{known_text}
 
@@ -37,34 +36,7 @@ walk_text s table stands known fallback a ge le =
     rw (seen, is)
     (label_text table s.default stands.top (known_label table s.statements s.default stands.top known fallback stands.listed))
 
-text_of_number : (table : List Label) (label : Option LabelId) (d : LabelId) (text : Label)
-    → option_and_then (slice_get table) (option_map (λ id. id.0) label) ≡ Some text → slice_get table (unwrap_or label d).0 ≡ Some text
-text_of_number table None d text e = absurd (none-some text e)
-text_of_number table (Some id) d text e = e
-
--- that of a walk over a map is the map's label there
-pub map_walk_text : (m : MapText) (s : StretchesModel) (d : LabelId) → StandsAt s → All (λ r. r.label.0 < length m.labels) s.statements
-    → ForSome s.default (λ id. id.0 < length m.labels)
-    → ((a : ℕ) → text_won m.labels s.default s.statements a ≡ Some (map_label (map_of m) a))
-    → (a : ℕ) → s.first ≤ a → a ≤ s.last → slice_get m.labels (unwrap_or s.label d).0 ≡ Some (map_label (map_of m) a)
-map_walk_text m s d stands known fallback labels a ge le =
-    text_of_number m.labels s.label d (map_label (map_of m) a)
-    (sym (walk_text s m.labels stands known fallback a ge le) ∙ labels a)
-
--- so is that of one over the same statements
-pub map_walk_on : (m : MapText) (start next : StretchesModel) (d : LabelId) → HasSameStatements start next → StandsAt next
-    → All (λ r. r.label.0 < length m.labels) start.statements → ForSome start.default (λ id. id.0 < length m.labels)
-    → ((a : ℕ) → text_won m.labels start.default start.statements a ≡ Some (map_label (map_of m) a))
-    → (a : ℕ) → next.first ≤ a → a ≤ next.last → slice_get m.labels (unwrap_or next.label d).0 ≡ Some (map_label (map_of m) a)
-map_walk_on m start next d same stands known fallback labels =
-    let statements = same.statements in
-    let default = same.default in
-    let known' : All (λ r. r.label.0 < length m.labels) next.statements = rw statements at known in
-    let fallback' : ForSome next.default (λ id. id.0 < length m.labels) = rw default at fallback in
-    let labels' : (a : ℕ) → text_won m.labels next.default next.statements a ≡ Some (map_label (map_of m) a)
-    = λ a. rw (statements, default) at (labels a) in
-    map_walk_text m next d stands known' fallback' labels'
-
+-- walks over the same statements
 pub same_walks : (start now next : StretchesModel) → HasSameStatements start now → HasSameStatements now next → HasSameStatements start next
 same_walks start now next first second = record {
   version = first.version ∙ second.version;

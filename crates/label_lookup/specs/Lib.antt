@@ -1,4 +1,4 @@
 pub mod Labelling
 pub mod TrieLabels
-pub mod EntryOrder
-pub mod MapIndex
+pub mod StretchIndex
+pub mod Longest

@@ -1,9 +1,6 @@
-use Rattle.std.specs.Prelude.{◌≡◌, ℕ, ◌^◌, ◌<◌, List, Option, Some, All, length, option_and_then, slice_get}
+use Rattle.std.specs.Prelude.{ℕ, ◌<◌, List, Option, All, length, option_and_then, slice_get}
 use Rattle.std.specs.Option.{ForSome}
-use Rattle.prefix_keys.specs.Version.{width_of}
-use Rattle.pmap_text.specs.MapModel.{Label, map_label}
-use Rattle.pmap_text.specs.MapText.{map_of}
-use Rattle.pmap_text.specs.declared.map_text.MapText.{MapText}
+use Rattle.pmap_text.specs.MapModel.{Label}
 use Rattle.label_trie.specs.TrieModel.{TrieModel, label_in}
 
 -- A trie of label numbers with the table that has their texts.
@@ -18,8 +15,3 @@ AreNumbersKnown t table = All (λ leaf. ForSome leaf.label (λ id. id < length t
 -- the text of the label that the trie gives an address
 abbrev pub trie_label : TrieLabels → ℕ → Option Label
 trie_label l a = option_and_then (slice_get l.table) (label_in l.trie a)
-
--- the trie and the table give each address the label of the map: no user need read it
-pub record HasLabelsOf (m : MapText) (l : TrieLabels) : Type 0 where
-  pub version : l.trie.version ≡ m.version
-  pub labels : (a : ℕ) → a < 2 ^ width_of m.version → trie_label l a ≡ Some (map_label (map_of m) a)

@@ -10,30 +10,31 @@
 //! assert!(rt; label_row(&Scan::new(&map), addr) == Some(b"Inside".as_slice()));
 //! ```
 //!
-//! It stands on prefix_keys (addresses and their versions), pmap_text (prefix maps, prefix lists and label tables) and
-//! label_trie. The layer above may rely on `Labeller`'s law: the answer is the label that the labeller's `label` has at
-//! the address. For a `Scan`, for `MapLabels`, which find it in the map's trie, and for a `MapIndex`, which finds it among the
-//! stretches of a map of IPv4, it's the map's. For a `TrieLabeller`
-//! it's the text of the trie's label, which is the map's or the prefix list's where the trie was built from one. For a
-//! `ListIndex` it's that of the prefix list that it was built from. `AddressLabels` have the labels of another labeller
-//! at the addresses of its version, and none at other numbers. `label_row` is the label of the address of a row, which
-//! counts by its place among the labeller's addresses, by one definition for all labellers.
+//! It stands on prefix_keys (addresses and their versions), pmap_text (prefix maps, prefix lists, their stretches and label
+//! tables) and label_trie. The layer above may rely on `Labeller`'s law: the answer is the label that the labeller's
+//! `label` has at the address. For a `Scan` that is the map's label, and for a `ListScan` and a `ListIndex` the prefix
+//! list's. For a `TrieLabeller` it is the text of the trie's label, which is the map's or the prefix list's if the trie
+//! was built from one. A `StretchIndex` has the labelling of the map or the prefix list that it was built from.
+//! `AddressLabels` have the labels of another labeller at the addresses of its version, and none at other numbers.
+//! `label_row` is the label of the address of a row, which counts by its place among the labeller's addresses, by one
+//! definition for all labellers.
 #![tactic(auto)]
 
 mod address_labels;
+mod begins;
 mod labeller;
 mod list_index;
-mod map_index;
-mod map_labels;
+mod list_scan;
 mod row;
 mod scan;
+mod stretch_index;
 mod trie_labeller;
 
 pub use address_labels::AddressLabels;
 pub use labeller::Labeller;
 pub use list_index::ListIndex;
-pub use map_index::MapIndex;
-pub use map_labels::MapLabels;
+pub use list_scan::ListScan;
 pub use row::{label_row, label_row_under};
 pub use scan::Scan;
+pub use stretch_index::StretchIndex;
 pub use trie_labeller::TrieLabeller;

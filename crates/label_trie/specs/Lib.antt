@@ -7,4 +7,3 @@ pub mod Kind
 pub mod Nodes
 pub mod Layers
 pub mod Runs
-pub mod Way

@@ -29,7 +29,6 @@ mod laws;
 mod leaf;
 mod leaves;
 mod node;
-mod tops;
 mod trie;
 
 pub use cursor::{Cursor, Parts};

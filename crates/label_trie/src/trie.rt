@@ -8,7 +8,9 @@ ghost use Rattle.pmap_text.specs.MapText.{map_of};
 ghost use Rattle.label_trie.specs.Kind.{IsKindOf, IsOfTree};
 ghost use Rattle.label_trie.specs.Layers.{AddsTree};
 ghost use Rattle.label_trie.specs.Leaf.{model_of};
-ghost use Rattle.label_trie.specs.TrieModel.{IsCut, IsDecidedLeaf, IsSettledLeaf, IsUndivided, label_in};
+ghost use Rattle.label_trie.specs.Nodes.{IsTrie, tree_of};
+ghost use Rattle.label_trie.specs.Tree.{leaves_of};
+ghost use Rattle.label_trie.specs.TrieModel.{IsCut, IsDecidedLeaf, IsSettledLeaf, IsUndivided, label_among, label_in};
 
 use crate::cursor::{Cursor, Parts, cursor_at};
 use crate::growing::push_block;
@@ -16,7 +18,6 @@ use crate::kind::Kind;
 use crate::leaf::Leaf;
 use crate::leaves::Leaves;
 use crate::node::Node;
-use crate::tops::{label_of_narrow, label_of_wide, start_of, tops_of};
 use pmap_text::{LabelId, MapText, PrefixList, Stretches, last_address, statements_of_list};
 use prefix_keys::{Addr, Version, whole_space};
 use std::alloc::{AllocError, Global};
@@ -29,8 +30,6 @@ pub struct Trie {
     version: Version,
     // The node of the whole address space, and those of its halves' trees, the lower first; each tree alike.
     nodes: Vec<Node>,
-    // The nodes at which look-ups begin, by the first 16 bits of an address: none before `index`.
-    tops: Vec<u32>,
 }
 
 impl Model for Trie {
@@ -41,7 +40,6 @@ impl Model for Trie {
 
     ghost use Rattle.std.specs.Prelude.{◌*◌};
     ghost use Rattle.label_trie.specs.Nodes.{IsTrie, tree_of};
-    ghost use Rattle.label_trie.specs.Way.{AreTops};
     ghost use Rattle.label_trie.specs.Tree.{leaves_of, nodes_of};
 
     ghost view = { λ t. record {
@@ -50,7 +48,7 @@ impl Model for Trie {
       nodes = nodes_of (tree_of t.nodes.items) 0 0;
     } };
 
-    ghost invariant = { λ t. (IsTrie (width_of t.version) t.nodes.items) × AreTops (width_of t.version) t.nodes.items t.tops.items };
+    ghost invariant = { λ t. IsTrie (width_of t.version) t.nodes.items };
 }
 
 impl Trie {
@@ -69,7 +67,6 @@ impl Trie {
         Ok(Trie {
             version: map.version,
             nodes: grow(alloc, &mut stretches)?,
-            tops: Vec::new(alloc),
         })
     }
 
@@ -90,7 +87,6 @@ impl Trie {
         Ok(Trie {
             version: list.version,
             nodes: grow(alloc, &mut stretches)?,
-            tops: Vec::new(alloc),
         })
     }
 
@@ -99,21 +95,7 @@ impl Trie {
         requires { addr.version ≡ self.now.version }
         ensures { option_map (λ id. id.0) result ≡ label_in self.now addr.value }
     {
-        let nodes = self.nodes.as_slice();
-        let start = start_of(nodes, self.tops.as_slice(), addr);
-        match addr.version {
-            Version::V4 => label_of_narrow(nodes, addr.value as u32, start),
-            Version::V6 => label_of_wide(nodes, addr.value, start),
-        }
-    }
-
-    /// Lets look-ups begin behind the first 16 bits of an address, which pays where many addresses are looked up. The trie is
-    /// the same before and after. It takes 256 KiB.
-    pub fn index(&mut self, alloc: Global) -> Result<(), AllocError>
-        ensures { self.new ≡ self.old }
-    {
-        self.tops = tops_of(alloc, self.nodes.as_slice(), self.version)?;
-        Ok(())
+        label_from_root(self.nodes.as_slice(), addr)
     }
 
     /// How many nodes there are: the leaves, and the blocks that are divided, of which there is one less.
@@ -192,6 +174,30 @@ fn grow(alloc: Global, stretches: &mut Stretches) -> Result<Vec<Node>, AllocErro
     let last = last_address(stretches.version());
     push_block(&mut nodes, stretches, 0, 0, last)?;
     Ok(nodes)
+}
+
+// The number of the label at an address: that of the leaf to which its bits lead from the root.
+fn label_from_root(nodes: &[Node], addr: Addr) -> Option<LabelId>
+    requires { IsTrie (width_of addr.version) nodes.now }
+    ensures { let W = width_of addr.version in
+        option_map (λ id. id.0) result ≡ label_among W (leaves_of (tree_of nodes.now) 0 0) addr.value }
+{
+    let mut number = 0;
+    let mut host_bits = addr.version.width();
+    loop {
+        match nodes[number as usize] {
+            Node::Labelled(label) => return Some(label),
+            Node::Unlabelled => return None,
+            Node::Inner(high) => {
+                host_bits -= 1;
+                number = if (addr.value >> host_bits) % 2 == 0 {
+                    number + 1
+                } else {
+                    high
+                };
+            }
+        }
+    }
 }
 
 // Adds the leaves at and below the place, at the end.

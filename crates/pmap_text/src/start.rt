@@ -2,5 +2,5 @@
 #[derive(Clone, Copy)]
 pub struct Start {
     pub low: u128,
-    pub number: u32,
+    pub number: usize,
 }

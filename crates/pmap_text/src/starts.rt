@@ -1,4 +1,4 @@
-ghost use Rattle.std.specs.Prelude.{◌≡◌, ◌<◌, ◌≤◌, Some, IsTrue, IfOk, length, slice_get};
+ghost use Rattle.std.specs.Prelude.{◌≡◌, ◌<◌, Some, IsTrue, IfOk, length, slice_get};
 ghost use Rattle.std.specs.List.Sorted.{IsNonDecreasingBy};
 ghost use Rattle.pmap_text.specs.Starting.{AreStarts};
 
@@ -16,15 +16,13 @@ pub struct Starts<'a> {
 }
 
 impl<'a> Model for Starts<'a> {
-    ghost use Rattle.std.specs.Prelude.{List, ◌≤◌, length, option_map};
+    ghost use Rattle.std.specs.Prelude.{List, option_map};
     ghost use Rattle.pmap_text.specs.declared.start.Start.{Start};
     ghost use Rattle.pmap_text.specs.Starting.{starts_by};
 
     ghost Value = { List Start };
 
     ghost view = { λ s. starts_by s.statements.now (option_map (λ v. v.items) s.sorted) };
-
-    ghost invariant = { λ s. length s.statements.now ≤ 1000000 };
 }
 
 // Whether no statement begins before an earlier one.
@@ -41,7 +39,6 @@ fn are_rising(statements: &Statements) -> bool
 
 // Where the statements begin, sorted.
 fn sorted_starts(alloc: Global, statements: &Statements) -> Result<Vec<Start>, AllocError>
-    requires { length statements.now ≤ 1000000 }
     ensures { IfOk result (λ starts. AreStarts statements.now starts.items) }
 {
     let mut starts = Vec::with_capacity(alloc, statements.len())?;
@@ -49,7 +46,7 @@ fn sorted_starts(alloc: Global, statements: &Statements) -> Result<Vec<Start>, A
         let statement = statements.at(number);
         starts.push(Start {
             low: statement.span.low.value,
-            number: number as u32,
+            number,
         })?;
     }
     starts.sort_unstable_by_key(|start| start.low);
@@ -59,7 +56,6 @@ fn sorted_starts(alloc: Global, statements: &Statements) -> Result<Vec<Start>, A
 impl<'a> Starts<'a> {
     /// Where these statements begin.
     pub fn new(alloc: Global, statements: &'a Statements) -> Result<Starts<'a>, AllocError>
-        requires { length statements.now ≤ 1000000 }
         ensures { IfOk result (λ starts. AreStarts statements.now starts) }
     {
         if are_rising(statements) {
@@ -98,7 +94,7 @@ impl Starts<'_> {
                 let statement = self.statements.at(place);
                 Start {
                     low: statement.span.low.value,
-                    number: place as u32,
+                    number: place,
                 }
             }
         }

@@ -51,8 +51,7 @@ impl<'a> Stretches<'a> {
         default: Option<LabelId>,
         statements: &'a Statements,
     ) -> Result<Stretches<'a>, AllocError>
-        requires version { All (λ s. s.span.low.version ≡ version) statements.now }
-        requires few { length statements.now ≤ 1000000 }
+        requires { All (λ s. s.span.low.version ≡ version) statements.now }
         ensures version { IfOk result (λ s. s.version ≡ version) }
         ensures default { IfOk result (λ s. s.default ≡ default) }
         ensures statements { IfOk result (λ s. s.statements ≡ statements.now) }

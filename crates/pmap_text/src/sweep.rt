@@ -26,7 +26,7 @@ pub struct Sweep<'a> {
     pub starts: Starts<'a>,
     pub next: usize,
     /// The numbers of the statements that have been opened and not yet been found to end.
-    pub opened: BinaryHeap<u32>,
+    pub opened: BinaryHeap<usize>,
 }
 
 // Opens the statements that begin at the address or before it.
@@ -48,7 +48,7 @@ fn open_begun(sweep: &mut Sweep, statements: &Statements, first: u128) -> Result
 }
 
 // Drops statements that end before the address, up to the last one that goes on to it.
-fn top_at(opened: &mut BinaryHeap<u32>, statements: &Statements, first: u128) -> Option<u32>
+fn top_at(opened: &mut BinaryHeap<usize>, statements: &Statements, first: u128) -> Option<usize>
     requires ordered { IsHeap nat_cmp (heap_items opened.old) }
     requires known { All (λ j. j < length statements.now) (heap_items opened.old) }
     ensures closes { Closes statements.now first (heap_items opened.old) (heap_items opened.new) }
@@ -56,7 +56,7 @@ fn top_at(opened: &mut BinaryHeap<u32>, statements: &Statements, first: u128) ->
 {
     while let Some(top) = opened.peek() {
         let number = *top;
-        let statement = statements.at(number as usize);
+        let statement = statements.at(number);
         if first <= statement.span.high.value {
             return Some(number);
         }
@@ -66,7 +66,7 @@ fn top_at(opened: &mut BinaryHeap<u32>, statements: &Statements, first: u128) ->
 }
 
 // Where one of the statements to come begins that is seen over the top, the address before; else `high`.
-fn end_before(top: Option<u32>, starts: &Starts, next: usize, first: u128, high: u128) -> u128
+fn end_before(top: Option<usize>, starts: &Starts, next: usize, first: u128, high: u128) -> u128
     requires ordered { first ≤ high }
     requires behind { AreBehind first (drop next starts.now) }
     requires rising { IsNonDecreasingBy (λ start. start.low) starts.now }
@@ -85,7 +85,7 @@ fn end_before(top: Option<u32>, starts: &Starts, next: usize, first: u128, high:
 }
 
 // Whether the statement with the number comes later than the top.
-fn is_over(top: Option<u32>, number: u32) -> bool
+fn is_over(top: Option<usize>, number: usize) -> bool
     ensures { IsTrue result ↔ IsOver top number }
 {
     match top {
@@ -107,8 +107,7 @@ pub fn last_address(version: Version) -> u128
 impl<'a> Sweep<'a> {
     /// A sweep that stands at the first stretch.
     pub fn new(alloc: Global, layers: &Layers<'a>) -> Result<Sweep<'a>, AllocError>
-        requires version { All (λ s. s.span.low.version ≡ layers.now.version) layers.now.statements.now }
-        requires few { length layers.now.statements.now ≤ 1000000 }
+        requires { All (λ s. s.span.low.version ≡ layers.now.version) layers.now.statements.now }
         ensures first { IfOk result (λ sweep. sweep.first ≡ 0) }
         ensures sweeping { IfOk result
             (IsSweeping (width_of layers.now.version) layers.now.statements.now layers.now.default) }
@@ -152,7 +151,12 @@ impl Sweep<'_> {
     }
 
     // The label and the last address of the stretch that begins at the address.
-    fn stretch_at(&self, layers: &Layers, top: Option<u32>, first: u128) -> (Option<LabelId>, u128)
+    fn stretch_at(
+        &self,
+        layers: &Layers,
+        top: Option<usize>,
+        first: u128,
+    ) -> (Option<LabelId>, u128)
         requires version { All (λ s. s.span.low.version ≡ layers.now.version) layers.now.statements.now }
         requires within { first < 2 ^ width_of layers.now.version }
         requires starts { AreStarts layers.now.statements.now self.now.starts }
@@ -166,7 +170,7 @@ impl Sweep<'_> {
     {
         match top {
             Some(number) => {
-                let statement = layers.statements.at(number as usize);
+                let statement = layers.statements.at(number);
                 let high = statement.span.high.value;
                 let last = end_before(top, &self.starts, self.next, first, high);
                 (Some(statement.label), last)

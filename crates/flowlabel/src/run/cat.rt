@@ -1,9 +1,9 @@
 //! What `cat` prints.
-ghost use Rattle.std.specs.Prelude.{◌≡◌, ◌≤◌, IfOk, length};
+ghost use Rattle.std.specs.Prelude.{◌≡◌, IfOk};
 ghost use Rattle.pmap_text.specs.MapText.{map_of};
 ghost use Rattle.pmap_text.specs.PrefixList.{list_of};
 ghost use Rattle.label_lookup.specs.Labelling.{labelling_of_list, labelling_of_map};
-ghost use Rattle.flowlabel.specs.Loading.{HasFewLabels, labelling_of_either};
+ghost use Rattle.flowlabel.specs.Loading.{labelling_of_either};
 ghost use Rattle.flowlabel.specs.Output.{HasRunsText};
 
 use crate::run::loaded::LoadedLabels;
@@ -23,7 +23,6 @@ fn runs_of_map(alloc: Global, map: &MapText) -> Result<Vec<u8>, AllocError>
 
 // The text of the runs of a prefix list.
 fn runs_of_list(alloc: Global, list: &PrefixList) -> Result<Vec<u8>, AllocError>
-    requires { length list.now.entries ≤ 1000000 }
     ensures { IfOk result (λ out. HasRunsText (labelling_of_list (list_of list.now)) out.items) }
 {
     // For its law, as above.
@@ -35,7 +34,6 @@ fn runs_of_list(alloc: Global, list: &PrefixList) -> Result<Vec<u8>, AllocError>
 
 /// The text of the runs of the labels of a map or a list.
 pub fn runs_text(alloc: Global, labels: LoadedLabels<'_>) -> Result<Vec<u8>, AllocError>
-    requires { HasFewLabels labels }
     ensures { IfOk result (λ out. HasRunsText (labelling_of_either labels.entry) out.items) }
 {
     match labels {

@@ -1,5 +1,5 @@
-ghost use Rattle.std.specs.Prelude.{◌≡◌, IfSome, option_map};
-ghost use Rattle.flowlabel.specs.Loading.{HasFewEntries, HasFewLabels, labelling_loaded, labelling_of_either};
+ghost use Rattle.std.specs.Prelude.{◌≡◌, option_map};
+ghost use Rattle.flowlabel.specs.Loading.{labelling_loaded, labelling_of_either};
 
 use pmap_cert::Certificate;
 use pmap_text::{MapText, PrefixList};
@@ -22,9 +22,7 @@ pub enum LoadedLabels<'a> {
 impl Loaded {
     /// The labels of the map, or else of the list. No command reads both for its labels.
     pub fn labels(&self) -> Option<LoadedLabels<'_>>
-        requires { HasFewEntries self.now.list }
-        ensures labels { option_map labelling_of_either result ≡ labelling_loaded self.now }
-        ensures few { IfSome result HasFewLabels }
+        ensures { option_map labelling_of_either result ≡ labelling_loaded self.now }
     {
         if let Some(map) = &self.map {
             return Some(LoadedLabels::Map(map));

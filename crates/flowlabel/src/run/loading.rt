@@ -1,7 +1,7 @@
 //! From files to what they hold: each is read whole and decoded before the next.
-ghost use Rattle.std.specs.Prelude.{◌≡◌, ℕ, List, Some, false, IfErr, IfOk, IfSome, is_some};
+ghost use Rattle.std.specs.Prelude.{◌≡◌, ℕ, List, Some, false, IfErr, IfOk, is_some};
 ghost use Rattle.flowlabel.specs.BytesFault.{is_answer_of_calls, is_want_of_memory};
-ghost use Rattle.flowlabel.specs.Loading.{AreLoaded, ArePresent, HasFewEntries, Holds, IsFirstFault};
+ghost use Rattle.flowlabel.specs.Loading.{AreLoaded, ArePresent, Holds, IsFirstFault};
 ghost use Rattle.flowlabel.specs.Output.{FileTexts};
 ghost use Rattle.flowlabel.specs.Run.{AreNeeded, AreReadBefore, HasText, HaveTexts, IsFaultOfBytes, IsStop, any_failed, is_read_stop, name_of, source_failed};
 ghost use Rattle.flowlabel.specs.Turns.{FlowsTurn, IsFaultOfText, Turn, turn_of};
@@ -24,13 +24,9 @@ trait Decode {
     // The value is what the text is read as.
     ghost reads: { List ℕ → Self → Type 0 };
 
-    // What holds of each value that a text is read as.
-    ghost limits: { Self → Type 0 };
-
     // What the text is read as, or its first fault. Labels are hashed by these numbers.
     fn decode(alloc: Global, text: &[u8], hashing: KeyHashing) -> Result<Self, BytesFault>
         ensures ok { IfOk result (reads text.now) }
-        ensures limits { IfOk result limits }
         ensures turn { IfErr result (λ fault. turn_of fault ≡ turn) }
         ensures first { IfErr result (λ fault. is_answer_of_calls fault ≡ false) }
         ensures err { IfErr result (λ fault. is_want_of_memory fault ≡ false → IsFaultOfText fault text.now) };
@@ -44,8 +40,6 @@ impl Decode for MapText {
 
     ghost reads = { IsMapText };
 
-    ghost limits = { λ map. Unit {0} };
-
     fn decode(alloc: Global, text: &[u8], hashing: KeyHashing) -> Result<MapText, BytesFault> {
         match read_map_with_hashing(alloc, text, hashing) {
             Ok(map) => Ok(map),
@@ -55,15 +49,12 @@ impl Decode for MapText {
 }
 
 impl Decode for PrefixList {
-    ghost use Rattle.std.specs.Prelude.{◌≤◌, length};
     ghost use Rattle.flowlabel.specs.Loading.{IsListText};
     ghost use Rattle.flowlabel.specs.Turns.{ListTurn};
 
     ghost turn = { ListTurn };
 
     ghost reads = { IsListText };
-
-    ghost limits = { λ list. length list.entries ≤ 1000000 };
 
     fn decode(alloc: Global, text: &[u8], hashing: KeyHashing) -> Result<PrefixList, BytesFault> {
         match read_list_with_hashing(alloc, text, hashing) {
@@ -80,8 +71,6 @@ impl Decode for Certificate {
     ghost turn = { CertificateTurn };
 
     ghost reads = { IsCertificateText };
-
-    ghost limits = { λ certificate. Unit {0} };
 
     fn decode(alloc: Global, text: &[u8], hashing: KeyHashing) -> Result<Certificate, BytesFault> {
         match read_cert_with_hashing(alloc, text, hashing) {
@@ -122,7 +111,6 @@ fn load_one<'a, R: Input, T: Decode>(
     requires { source_failed R.failed source.old ≡ false }
     ensures there { IfOk result (λ value. is_some value ≡ is_some source.old) }
     ensures ok { IfOk result (λ value. (text : List ℕ) → HasText R.bytes_left source.old text → Holds T.reads text value) }
-    ensures limits { IfOk result (λ value. IfSome value T.limits) }
     ensures err { IfErr result (IsStop R.bytes_left R.failed T.turn source.old source.new) }
     ensures name { name_of source.new ≡ name_of source.old }
     ensures failed { source_failed R.failed source.new ≡ is_read_stop result }
@@ -148,7 +136,6 @@ pub fn load<'a, R: Input>(
     ensures present { (needs : Needs) → AreNeeded needs inputs.old → IfOk result (ArePresent needs) }
     ensures ok { IfOk result (λ loaded. (texts : FileTexts) → HaveTexts R.bytes_left inputs.old texts → AreLoaded loaded texts) }
     ensures read { IfOk result (λ loaded. AreReadBefore R.bytes_left FlowsTurn inputs.old) }
-    ensures few { IfOk result (λ loaded. HasFewEntries loaded.list) }
     ensures err { (needs : Needs) → AreNeeded needs inputs.old
         → IfErr result (IsFaultOfBytes R.bytes_left R.failed inputs.old inputs.new (IsFirstFault needs)) }
     ensures needed { (needs : Needs) → AreNeeded needs inputs.old → AreNeeded needs inputs.new }

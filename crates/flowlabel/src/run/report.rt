@@ -2,8 +2,8 @@
 ghost use Rattle.std.specs.Prelude.{◌≡◌, ◌≤◌, ◌<◌, ◌++◌, ◌∷◌, [], ℕ, List, OnOk, Option, Ok, Some, false, true, IfErr, IfOk, is_some, length, option_map};
 ghost use Rattle.ipfix_read.specs.Message.{MessageView};
 ghost use Rattle.ipfix_read.specs.Messages.{is_read_fault};
-ghost use Rattle.pmap_text.specs.MapText.{map_of};
-ghost use Rattle.label_lookup.specs.Labelling.{Labelling, labelling_by, labelling_lent, labelling_of_map};
+ghost use Rattle.label_lookup.specs.Labelling.{Labelling, labelling_by, labelling_lent};
+ghost use Rattle.label_lookup.specs.StretchIndex.{labelling_of_stretches};
 ghost use Rattle.flowlabel.specs.Loading.{IsFaultOfAnswer, labelling_of_either};
 ghost use Rattle.flowlabel.specs.Output.{ReportsOf};
 ghost use Rattle.flowlabel.specs.Run.{HasText, IsStop, any_failed, is_read_stop};
@@ -16,10 +16,7 @@ use crate::inputs::{Inputs, Source};
 use crate::run::loaded::LoadedLabels;
 use flow_io::Input;
 use ipfix_read::{Buffer, Message, Progress, ReadFault, ReadFaultKind};
-use label_lookup::{AddressLabels, Labeller, ListIndex, MapIndex, MapLabels, Scan};
-use label_trie::Trie;
-use pmap_text::MapText;
-use prefix_keys::Version;
+use label_lookup::{Labeller, Scan, StretchIndex};
 use std::alloc::{AllocError, Global};
 
 /// What may be printed of the messages of a File, which are taken one after the other.
@@ -139,30 +136,13 @@ fn report_by<'a, R: Input, P: Report, L: Labeller>(
     report_of_file(alloc, source, report, Some(labels))
 }
 
-// The report on a File under the labels of a map.
-fn report_by_map<'a, R: Input, P: Report>(
-    alloc: Global,
-    source: &mut Source<'a, R>,
-    report: &P,
-    map: &MapText,
-) -> Result<Vec<u8>, RunFault<'a>>
-    requires { R.failed source.old.reader ≡ false }
-    ensures ok { IfOk result (λ out. (bytes : List ℕ) → R.bytes_left source.old.reader ≡ Some bytes
-        → ReportsOf (P.text report.now) (Some (labelling_of_map (map_of map.now))) bytes (Ok out.items)) }
-    ensures err { IfErr result (IsStop R.bytes_left R.failed FlowsTurn (Some source.old) (Some source.new)) }
-    ensures failed { R.failed source.new.reader ≡ is_read_stop result }
+// The index of the labels of a map or a list.
+fn index_of<'a>(alloc: Global, labels: LoadedLabels<'a>) -> Result<StretchIndex<'a>, AllocError>
+    ensures { IfOk result (λ index. labelling_of_stretches index ≡ labelling_of_either labels.entry) }
 {
-    match map.version {
-        Version::V4 => {
-            let labels = MapIndex::build(alloc, map)?;
-            report_by(alloc, source, report, &AddressLabels::new(&labels))
-        }
-        Version::V6 => {
-            let mut trie = Trie::build(alloc, map)?;
-            trie.index(alloc)?;
-            let labels = MapLabels::new(map, &trie);
-            report_by(alloc, source, report, &AddressLabels::new(&labels))
-        }
+    match labels {
+        LoadedLabels::Map(map) => StretchIndex::of_map(alloc, map),
+        LoadedLabels::List(list) => StretchIndex::of_list(alloc, list),
     }
 }
 
@@ -179,13 +159,8 @@ fn report_labelled<'a, R: Input, P: Report>(
     ensures err { IfErr result (IsStop R.bytes_left R.failed FlowsTurn (Some source.old) (Some source.new)) }
     ensures failed { R.failed source.new.reader ≡ is_read_stop result }
 {
-    match labels {
-        LoadedLabels::Map(map) => report_by_map(alloc, source, report, map),
-        LoadedLabels::List(list) => {
-            let labels = ListIndex::build(alloc, list)?;
-            report_by(alloc, source, report, &AddressLabels::new(&labels))
-        }
-    }
+    let index = index_of(alloc, labels)?;
+    report_by(alloc, source, report, &index)
 }
 
 /// The report on the File that is there, under the labels of a map or a list, if there is one.

@@ -17,24 +17,24 @@ pub unreachable-requires : goal.unreachable-requires
 unreachable-requires g c =
     labels_are_there (source_of c.in-Label.labels) None c.args.loaded.now
     (subst (λ (command : Command). ArePresent (needs_of (request_of command)) c.args.loaded.now) c.in-Label.is c.requires.present)
-    (sym c.labels.ensures.labels ∙ ap (option_map labelling_of_either) c.in_default.is)
+    (sym c.labels.ensures ∙ ap (option_map labelling_of_either) c.in_default.is)
 
 pub unreachable-requires-in_default-labels : goal.unreachable-requires-in_default-labels
 unreachable-requires-in_default-labels g c =
     labels_are_there (source_of c.in-Cat.labels) None c.args.loaded.now
     (subst (λ (command : Command). ArePresent (needs_of (request_of command)) c.args.loaded.now) c.in-Cat.is c.requires.present)
-    (sym c.labels-in-Cat.ensures.labels ∙ ap (option_map labelling_of_either) c.in_default-labels.is)
+    (sym c.labels-in-Cat.ensures ∙ ap (option_map labelling_of_either) c.in_default-labels.is)
 
 pub returns-in_ok-label_line-in-Label-clause-ok : goal.returns-in_ok-label_line-in-Label-clause-ok
 returns-in_ok-label_line-in-Label-clause-ok g c = λ bytes told.
     subst (λ (command : Command). ComesOf (request_of command) c.args.loaded.now bytes (Ok c.in_ok-label_line-in-Label.field-0.items)) (sym c.in-Label.is)
-    (labelling_of_either c.in-Some.labels, sym c.labels.ensures.labels ∙ ap (option_map labelling_of_either) c.in-Some.is, ap Ok c.in_ok-label_line-in-Label.ensures)
+    (labelling_of_either c.in-Some.labels, sym c.labels.ensures ∙ ap (option_map labelling_of_either) c.in-Some.is, ap Ok c.in_ok-label_line-in-Label.ensures)
 
 pub returns-in_ok-runs_text-in-Cat-clause-ok : goal.returns-in_ok-runs_text-in-Cat-clause-ok
 returns-in_ok-runs_text-in-Cat-clause-ok g c = λ bytes told.
     subst (λ (command : Command). ComesOf (request_of command) c.args.loaded.now bytes (Ok c.in_ok-runs_text-in-Cat.field-0.items)) (sym c.in-Cat.is) (
       labelling_of_either c.in-Some-labels.labels,
-      sym c.labels-in-Cat.ensures.labels ∙ ap (option_map labelling_of_either) c.in-Some-labels.is,
+      sym c.labels-in-Cat.ensures ∙ ap (option_map labelling_of_either) c.in-Some-labels.is,
       (_, c.in_ok-runs_text-in-Cat.ensures, refl),
     )
 
@@ -60,7 +60,7 @@ returns-in-Rows-clause-ok g c =
     subst (λ (command : Command). IfOk c.report_under-in-Rows.result (λ out. (bytes : List ℕ) → HasText g.R.Input.bytes_left c.args.inputs.now.flows bytes
     → ComesOf (request_of command) c.args.loaded.now bytes (Ok out.items))) (sym c.in-Rows.is)
     (subst (λ (labels : Option Labelling). IfOk c.report_under-in-Rows.result (λ out. (bytes : List ℕ) → HasText g.R.Input.bytes_left c.args.inputs.now.flows bytes
-    → ReportsOf (report_of_rows (condition_in c.in-Rows.filter) c.in-Rows.columns) labels bytes (Ok out.items))) c.labels-in-Rows.ensures.labels
+    → ReportsOf (report_of_rows (condition_in c.in-Rows.filter) c.in-Rows.columns) labels bytes (Ok out.items))) c.labels-in-Rows.ensures
     c.report_under-in-Rows.ensures.ok)
 
 pub returns-in-Rows-clause-err : goal.returns-in-Rows-clause-err
@@ -68,7 +68,7 @@ returns-in-Rows-clause-err g c =
     subst (λ (command : Command). IfErr c.report_under-in-Rows.result (IsFaultOfAnswer g.R.Input.bytes_left g.R.Input.failed c.args.inputs.now c.report_under-in-Rows.new.inputs
     (ComesOf (request_of command) c.args.loaded.now))) (sym c.in-Rows.is)
     (subst (λ (labels : Option Labelling). IfErr c.report_under-in-Rows.result (IsFaultOfAnswer g.R.Input.bytes_left g.R.Input.failed c.args.inputs.now c.report_under-in-Rows.new.inputs
-    (ReportsOf (report_of_rows (condition_in c.in-Rows.filter) c.in-Rows.columns) labels))) c.labels-in-Rows.ensures.labels
+    (ReportsOf (report_of_rows (condition_in c.in-Rows.filter) c.in-Rows.columns) labels))) c.labels-in-Rows.ensures
     c.report_under-in-Rows.ensures.err)
 
 pub returns-in-Uniq-clause-ok : goal.returns-in-Uniq-clause-ok
@@ -76,7 +76,7 @@ returns-in-Uniq-clause-ok g c =
     subst (λ (command : Command). IfOk c.report_under-in-Uniq.result (λ out. (bytes : List ℕ) → HasText g.R.Input.bytes_left c.args.inputs.now.flows bytes
     → ComesOf (request_of command) c.args.loaded.now bytes (Ok out.items))) (sym c.in-Uniq.is)
     (subst (λ (labels : Option Labelling). IfOk c.report_under-in-Uniq.result (λ out. (bytes : List ℕ) → HasText g.R.Input.bytes_left c.args.inputs.now.flows bytes
-    → ReportsOf (report_of_groups c.in-Uniq.keys (condition_in c.in-Uniq.filter) c.in-Uniq.sorted c.in-Uniq.columns) labels bytes (Ok out.items))) c.labels-in-Uniq.ensures.labels
+    → ReportsOf (report_of_groups c.in-Uniq.keys (condition_in c.in-Uniq.filter) c.in-Uniq.sorted c.in-Uniq.columns) labels bytes (Ok out.items))) c.labels-in-Uniq.ensures
     c.report_under-in-Uniq.ensures.ok)
 
 pub returns-in-Uniq-clause-err : goal.returns-in-Uniq-clause-err
@@ -84,7 +84,7 @@ returns-in-Uniq-clause-err g c =
     subst (λ (command : Command). IfErr c.report_under-in-Uniq.result (IsFaultOfAnswer g.R.Input.bytes_left g.R.Input.failed c.args.inputs.now c.report_under-in-Uniq.new.inputs
     (ComesOf (request_of command) c.args.loaded.now))) (sym c.in-Uniq.is)
     (subst (λ (labels : Option Labelling). IfErr c.report_under-in-Uniq.result (IsFaultOfAnswer g.R.Input.bytes_left g.R.Input.failed c.args.inputs.now c.report_under-in-Uniq.new.inputs
-    (ReportsOf (report_of_groups c.in-Uniq.keys (condition_in c.in-Uniq.filter) c.in-Uniq.sorted c.in-Uniq.columns) labels))) c.labels-in-Uniq.ensures.labels
+    (ReportsOf (report_of_groups c.in-Uniq.keys (condition_in c.in-Uniq.filter) c.in-Uniq.sorted c.in-Uniq.columns) labels))) c.labels-in-Uniq.ensures
     c.report_under-in-Uniq.ensures.err)
 
 pub returns-in-Check-clause-ok : goal.returns-in-Check-clause-ok

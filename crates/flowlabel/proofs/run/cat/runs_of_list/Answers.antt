@@ -7,11 +7,8 @@ use Rattle.pmap_text.specs.Stretches.{text_won}
 use Rattle.label_lookup.proofs.Labellings.{same_at_addresses}
 use Rattle.flowlabel.proofs.run.cat.runs_of_list.Goals as goal
 
-pub new-requires-clause-version : goal.new-requires-clause-version
-new-requires-clause-version c = c.in_ok-statements.ensures.version
-
-pub new-requires-clause-few : goal.new-requires-clause-few
-new-requires-clause-few c = omega (arith, c.in_ok-statements.ensures.count, c.requires)
+pub new-requires : goal.new-requires
+new-requires c = c.in_ok-statements.ensures.version
 
 pub print_runs-requires-clause-known : goal.print_runs-requires-clause-known
 print_runs-requires-clause-known c = rw c.in_ok-stretches.ensures.statements c.in_ok-statements.ensures.known

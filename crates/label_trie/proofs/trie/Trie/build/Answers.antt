@@ -5,7 +5,6 @@ use Rattle.label_trie.specs.Nodes.{tree_of}
 use Rattle.label_trie.proofs.Built.{grown_trie, map_bounded, map_layers, trie_cut}
 use Rattle.label_trie.proofs.Lookup.{labels_fit}
 use Rattle.label_trie.proofs.NodeLeaves.{leaves_settled, leaves_undivided}
-use Rattle.label_trie.proofs.Way.{no_tops}
 use Rattle.label_trie.proofs.trie.Trie.build.Goals as goal
 
 pub invariant_of-result : goal.invariant_of-result
@@ -18,7 +17,7 @@ invariant_of-result c =
     let added = rw (version, statements, default) at c.in_ok-grow.ensures in
     let built = grown_trie text.version text.statements (Some text.default) c.in_ok-grow.field-0.items (map_of text) (map_layers text text.statements refl)
     added text.within_limit in
-    (built.trie, rw c.new.ensures.items (no_tops _ _))
+    built.trie
 
 pub returns : goal.returns
 returns c =

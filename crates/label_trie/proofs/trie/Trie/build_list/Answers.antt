@@ -5,18 +5,12 @@ use Rattle.label_trie.specs.Nodes.{tree_of}
 use Rattle.label_trie.proofs.Built.{grown_trie, trie_cut}
 use Rattle.label_trie.proofs.ListBuilt.{list_bounded, list_decided, list_labels, list_ready, list_seen}
 use Rattle.pmap_text.proofs.Painted.{painting}
-use Rattle.label_trie.proofs.Way.{no_tops}
 use Rattle.label_trie.proofs.trie.Trie.build_list.Goals as goal
 
-pub new-requires-clause-version : goal.new-requires-clause-version
-new-requires-clause-version c =
+pub new-requires : goal.new-requires
+new-requires c =
     let ready = list_ready c.args.list.now c.args.list.now.entries _ c.in_ok-statements.statements refl refl c.in_ok-statements.ensures.order in
     ready.layers.version
-
-pub new-requires-clause-few : goal.new-requires-clause-few
-new-requires-clause-few c =
-    let ready = list_ready c.args.list.now c.args.list.now.entries _ c.in_ok-statements.statements refl refl c.in_ok-statements.ensures.order in
-    omega (arith, ready.layers.count, c.requires)
 
 pub grow-requires-clause-few : goal.grow-requires-clause-few
 grow-requires-clause-few c =
@@ -37,7 +31,7 @@ invariant_of-result c =
     let default = walk.default in
     let added = rw (version, statements, default) at c.in_ok-grow.ensures in
     let built = grown_trie list.version ss None c.in_ok-grow.field-0.items m (ready.layers.layers []) added few in
-    (built.trie, rw c.new-2.ensures.items (no_tops _ _))
+    built.trie
 
 pub returns : goal.returns
 returns c =

@@ -5,18 +5,18 @@ use Rattle.label_trie.proofs.NodeLeaves.{length_leaves}
 use Rattle.label_trie.proofs.trie.Trie.node_count.Goals as goal
 
 pub overflow_cast-result : goal.overflow_cast-result
-overflow_cast-result c = omega (arith, c.self.invariant.0.all, c.self.invariant.0.few, size_leaves (tree_of c.self.inside.nodes.items))
+overflow_cast-result c = omega (arith, c.self.invariant.all, c.self.invariant.few, size_leaves (tree_of c.self.inside.nodes.items))
 
 pub returns-clause-leaves : goal.returns-clause-leaves
 returns-clause-leaves c =
     rw (← c.self.view_is, length_leaves (tree_of c.self.inside.nodes.items) 0 0)
-    (omega (arith, c.self.invariant.0.all, size_leaves (tree_of c.self.inside.nodes.items)))
+    (omega (arith, c.self.invariant.all, size_leaves (tree_of c.self.inside.nodes.items)))
 
 pub returns-clause-nodes : goal.returns-clause-nodes
 returns-clause-nodes c =
-    rw (← c.self.view_is, length_nodes (tree_of c.self.inside.nodes.items) 0 0) (omega (arith, c.self.invariant.0.all))
+    rw (← c.self.view_is, length_nodes (tree_of c.self.inside.nodes.items) 0 0) (omega (arith, c.self.invariant.all))
 
 pub returns-clause-tree : goal.returns-clause-tree
 returns-clause-tree c =
     rw (← c.self.view_is)
-    (record { tree = tree_of c.self.inside.nodes.items; leaves = refl; nodes = refl; room = c.self.invariant.0.room })
+    (record { tree = tree_of c.self.inside.nodes.items; leaves = refl; nodes = refl; room = c.self.invariant.room })

@@ -5,4 +5,4 @@ pub cursor_at-requires : goal.cursor_at-requires
 cursor_at-requires c =
     let block = c.whole_space.result in
     rw c.as_slice.ensures.value
-    (root_place c.self.inside.nodes.items block (rw c.whole_space.ensures.version c.self.invariant.0) c.whole_space.ensures.value c.whole_space.ensures.len)
+    (root_place c.self.inside.nodes.items block (rw c.whole_space.ensures.version c.self.invariant) c.whole_space.ensures.value c.whole_space.ensures.len)

@@ -11,12 +11,6 @@ at-statement-requires c =
     let same : starts_from 0 ss ≡ c.args.self.now = rw c.in-None.is at c.self.view_is in
     omega (arith, c.requires, length_from 0 ss, ap (λ (l : List Start). length l) same)
 
-pub overflow_cast-result : goal.overflow_cast-result
-overflow_cast-result c =
-    let ss = c.self.inside.statements.now in
-    let same : starts_from 0 ss ≡ c.args.self.now = rw c.in-None.is at c.self.view_is in
-    omega (arith, c.requires, c.self.invariant, length_from 0 ss, ap (λ (l : List Start). length l) same)
-
 pub returns-in-Some : goal.returns-in-Some
 returns-in-Some c =
     let starts : List Start = c.in-Some.sorted.items in

@@ -1,0 +1,28 @@
+use Rattle.std.proofs.Common.{◌∙◌, ◌<◌, List, None, Some, ap, length, subst, sym}
+use Rattle.std.proofs.lemmas.List.Elements.{All-contains}
+use Rattle.pmap_text.specs.ListModel.{ListModel, list_label}
+use Rattle.pmap_text.specs.declared.entry.Entry.{Entry}
+use Rattle.pmap_text.proofs.Orders.{known_text}
+use Rattle.label_lookup.specs.Longest.{IsLongest}
+use Rattle.label_lookup.proofs.Scanning.{longest_label, none_label}
+use Rattle.label_lookup.proofs.list_scan.ListScanLabeller.label_of.Goals as goal
+
+pub returns-in-Some : goal.returns-in-Some
+returns-in-Some c =
+    let l = c.self.inside.list.now in
+    let version = c.requires ∙ sym (ap (λ (t : ListModel). t.version) c.self.view_is) in
+    let longest : IsLongest l.entries c.args.addr (Some c.in-Some.entry) =
+    subst (λ (es : List Entry). IsLongest es c.args.addr (Some c.in-Some.entry)) c.as_slice.ensures.value c.in-Some.ensures in
+    let known = All-contains (λ (t : Entry). t.label.0 < length l.labels) l.entries c.in-Some.entry l.numbers_known longest.0 in
+    c.text.ensures.value
+    ∙ known_text l.labels c.in-Some.entry.label.0 known
+    ∙ sym (longest_label l c.args.addr version c.in-Some.entry longest)
+    ∙ ap (λ (t : ListModel). list_label t c.args.addr.value) c.self.view_is
+
+pub returns-in-None : goal.returns-in-None
+returns-in-None c =
+    let l = c.self.inside.list.now in
+    let version = c.requires ∙ sym (ap (λ (t : ListModel). t.version) c.self.view_is) in
+    sym (none_label l c.args.addr version
+    (subst (λ (es : List Entry). IsLongest es c.args.addr None) c.as_slice.ensures.value c.in-None.ensures))
+    ∙ ap (λ (t : ListModel). list_label t c.args.addr.value) c.self.view_is

@@ -1,0 +1,78 @@
+ghost use Rattle.std.specs.Prelude.{◌≡◌, ◌≤◌, ◌⊎◌, IfSome, Some};
+ghost use Rattle.pmap_text.specs.PrefixList.{list_of};
+ghost use Rattle.label_lookup.specs.Longest.{IsLongest};
+
+use crate::labeller::Labeller;
+use pmap_text::{Entry, PrefixList};
+use prefix_keys::{Addr, Version};
+use std::marker::Model;
+
+/// The labels of a prefix list, found among its entries: the longest that covers the address counts. Each look-up goes
+/// over all entries, which is quicker than a [`ListIndex`](crate::ListIndex) if one address is looked up.
+#[derive(Drop)]
+pub struct ListScan<'a> {
+    list: &'a PrefixList,
+}
+
+impl<'a> Model for ListScan<'a> {
+    ghost use Rattle.pmap_text.specs.ListModel.{ListModel};
+
+    ghost Value = { ListModel };
+
+    ghost use Rattle.pmap_text.specs.PrefixList.{list_of};
+
+    ghost view = { λ s. list_of s.list.now };
+}
+
+impl<'a> ListScan<'a> {
+    /// The labels of this list.
+    pub fn new(list: &'a PrefixList) -> ListScan<'a>
+        ensures { result ≡ list_of list.now }
+    {
+        ListScan { list }
+    }
+}
+
+impl<'a> Labeller for ListScan<'a> {
+    ghost use Rattle.pmap_text.specs.ListModel.{list_label};
+
+    ghost version_of = { λ l. l.version };
+
+    ghost label = { list_label };
+
+    fn version(&self) -> Version {
+        self.list.version
+    }
+
+    fn label_of(&self, addr: Addr) -> Option<&[u8]> {
+        match longest(self.list.entries.as_slice(), addr) {
+            Some(entry) => self.list.labels.text(entry.label),
+            None => None,
+        }
+    }
+}
+
+// The first of the longest entries that cover an address.
+fn longest(entries: &[Entry], addr: Addr) -> Option<Entry>
+    ensures { IsLongest entries.now addr result }
+{
+    let mut found: Option<Entry> = None;
+    for entry in entries {
+        if entry.block.covers(&addr) {
+            found = Some(longer(found, *entry));
+        }
+    }
+    found
+}
+
+// The longer of two entries, and the first of two of one length.
+fn longer(found: Option<Entry>, entry: Entry) -> Entry
+    ensures one { (result ≡ entry) ⊎ (found ≡ Some result) }
+    ensures more { entry.block.len ≤ result.block.len }
+    ensures found { IfSome found (λ e. e.block.len ≤ result.block.len) }
+{
+    match found {
+        Some(found) if entry.block.len <= found.block.len => found,
+        _ => entry,
+    }
+}
