@@ -1,41 +1,40 @@
--- The numbers of parts tell them.
-use Rattle.std.proofs.Common.{◌≡◌, ◌<◌, lit<, ℕ, suc, List, length, get_or, Some, None, refl, sym, ap, arith}
+-- The numbers of parts tell them, and so do their codes.
+use Rattle.std.proofs.Common.{◌≡◌, ◌==◌, List, [], ◌∷◌, get_or, Some, None, if◌then◌else◌, refl, sym, ap, ◌∙◌, ℕ}
+use Rattle.std.proofs.lemmas.Bool.Decides.{Decides-like, same_from_decides}
 use Rattle.std.proofs.lemmas.Slice.Eq.{bytes_eq-Decides, slice_eq-Decides}
 use Rattle.std.specs.Bool.{Decides}
 use Rattle.prefix_keys.specs.declared.version.Version.TheVariants.{V4, V6}
 use Rattle.flow_uniq.specs.Key.{Key, KeyPartModel, AddressPart, NumberPart, LabelPart, part_numbers, same_key, same_part}
+use Rattle.flow_uniq.specs.Parts.{AreSmall, key_code, same_code}
+use Rattle.flow_uniq.proofs.Cutting.{same_from_codes}
 
--- the number at a place of equal lists
-at : (k : ℕ) {xs ys : List ℕ} → xs ≡ ys → get_or xs k 0 ≡ get_or ys k 0
-at k e = ap (λ (l : List ℕ). get_or l k 0) e
+-- the part with these numbers
+abbrev part_with : List ℕ → KeyPartModel
+part_with [] = LabelPart None
+part_with (kind ∷ []) = LabelPart None
+part_with (kind ∷ first ∷ rest) =
+    if kind == 0 then AddressPart (if first == 4 then V4 else V6, get_or rest 0 0)
+    else if kind == 1 then NumberPart first
+    else LabelPart (Some rest)
 
--- a smaller number isn't a greater one
-below : (m n : ℕ) → m ≡ n → m < n → ⊥
-below m n e h = omega arith
-
--- parts are told by their numbers
-part_numbers-same : (p q : KeyPartModel) → part_numbers p ≡ part_numbers q → p ≡ q
-part_numbers-same (AddressPart (V4, a)) (AddressPart (V4, b)) e = let v : a ≡ b = at 2 e in ap (λ n. AddressPart (V4, n)) v
-part_numbers-same (AddressPart (V6, a)) (AddressPart (V6, b)) e = let v : a ≡ b = at 2 e in ap (λ n. AddressPart (V6, n)) v
-part_numbers-same (AddressPart (V4, a)) (AddressPart (V6, b)) e = absurd (below 4 6 (at 1 e) (lit< tt))
-part_numbers-same (AddressPart (V6, a)) (AddressPart (V4, b)) e = absurd (below 4 6 (sym (at 1 e)) (lit< tt))
-part_numbers-same (AddressPart a) (NumberPart n) e = absurd (below 0 1 (at 0 e) (lit< tt))
-part_numbers-same (AddressPart a) (LabelPart l) e = absurd (below 0 2 (at 0 e) (lit< tt))
-part_numbers-same (NumberPart m) (AddressPart a) e = absurd (below 0 1 (sym (at 0 e)) (lit< tt))
-part_numbers-same (NumberPart m) (NumberPart n) e = let v : m ≡ n = at 1 e in ap NumberPart v
-part_numbers-same (NumberPart m) (LabelPart l) e = absurd (below 1 2 (at 0 e) (lit< tt))
-part_numbers-same (LabelPart l) (AddressPart a) e = absurd (below 0 2 (sym (at 0 e)) (lit< tt))
-part_numbers-same (LabelPart l) (NumberPart n) e = absurd (below 1 2 (sym (at 0 e)) (lit< tt))
-part_numbers-same (LabelPart None) (LabelPart None) e = refl
-part_numbers-same (LabelPart None) (LabelPart (Some u)) e = let h : 1 ≡ suc (suc (length u)) = ap length e in absurd (omega arith)
-part_numbers-same (LabelPart (Some t)) (LabelPart None) e = let h : suc (suc (length t)) ≡ 1 = ap length e in absurd (omega arith)
-part_numbers-same (LabelPart (Some t)) (LabelPart (Some u)) e = let v : t ≡ u = cc in ap (λ (w : List ℕ). LabelPart (Some w)) v
+part_with-numbers : (p : KeyPartModel) → part_with (part_numbers p) ≡ p
+part_with-numbers (AddressPart (V4, value)) = refl
+part_with-numbers (AddressPart (V6, value)) = refl
+part_with-numbers (NumberPart number) = refl
+part_with-numbers (LabelPart None) = refl
+part_with-numbers (LabelPart (Some text)) = refl
 
 same_part-Decides : (p q : KeyPartModel) → Decides (same_part p q) (p ≡ q)
-same_part-Decides p q = (
-  λ e. part_numbers-same p q ((bytes_eq-Decides (part_numbers p) (part_numbers q)).0 e),
-  λ e. (bytes_eq-Decides (part_numbers p) (part_numbers q)).1 (ap part_numbers e),
-)
+same_part-Decides p q =
+    Decides-like (same_part p q) (λ e. sym (part_with-numbers p) ∙ ap part_with e ∙ part_with-numbers q) (λ e. ap part_numbers e)
+    (bytes_eq-Decides (part_numbers p) (part_numbers q))
 
-pub same_key-Decides : (a b : Key) → Decides (same_key a b) (a ≡ b)
+same_key-Decides : (a b : Key) → Decides (same_key a b) (a ≡ b)
 same_key-Decides a b = slice_eq-Decides same_part-Decides a b (same_key a b) refl
+
+-- small keys have equal codes where they are equal
+pub same_code-small : (a b : Key) → AreSmall a → AreSmall b → same_code a b ≡ same_key a b
+same_code-small a b small_a small_b =
+    same_from_decides (same_code a b) (same_key a b)
+    (Decides-like (same_code a b) (same_from_codes a b small_a small_b) (λ e. ap key_code e) (bytes_eq-Decides (key_code a) (key_code b)))
+    (same_key-Decides a b)

@@ -1,22 +1,18 @@
 -- What was written for a key is read as this key.
-use Rattle.std.proofs.Common.{◌≡◌, ℕ, zero, suc, ◌+◌, ◌*◌, ◌/◌, ◌%◌, ◌^◌, ◌<◌, ◌≤◌, Bool, false, if◌then◌else◌, List, [], ◌∷◌, ◌++◌, length, take, drop, nat_lt, get_or, map, Option, Some, None, Result, Ok, Err, refl, sym, ap, subst, ◌∙◌, arith}
-use Rattle.std.proofs.lemmas.List.{append-nil, append_assoc, drop_all, drop-append-le, length-append, map_push, take_all, take-append-le, take_more}
+use Rattle.std.proofs.Common.{◌≡◌, ℕ, zero, suc, ◌+◌, ◌*◌, ◌/◌, ◌%◌, ◌^◌, ◌<◌, ◌≤◌, Bool, true, false, if◌then◌else◌, List, [], ◌∷◌, ◌++◌, length, take, drop, nat_lt, get_or, map, replicate, Option, Some, None, Result, Ok, Err, is_err, true≢false, refl, sym, ap, subst, ◌∙◌, arith}
+use Rattle.std.proofs.lemmas.List.{append-nil, append_assoc, drop_all, drop-append-le, length-append, length-drop, map_push, take_all, take-append-le, take_more}
 use Rattle.std.proofs.lemmas.Bool.Decides.{nat_tests}
 use Rattle.std.proofs.lemmas.Grind.{flat_map-append}
 use Rattle.std.proofs.lemmas.Nat.{from_be_bytes-to_be_bytes_2, from_be_bytes-to_be_bytes_4, from_be_bytes-to_be_bytes_8}
-use Rattle.std.specs.Int.{Width, bytes_high_first, byte_len, w16, w32, w64, from_be_bytes, to_be_bytes}
+use Rattle.std.specs.Int.{w16, w32, w64, from_be_bytes, to_be_bytes}
 use Rattle.std.specs.Result.{OnOk}
 use Rattle.prefix_keys.specs.declared.version.Version.TheVariants.{V4, V6}
 use Rattle.pmap_text.specs.MapModel.{Label}
 use Rattle.flow_uniq.specs.declared.field.KeyField.{KeyField}
 use Rattle.flow_uniq.specs.Key.{Key, KeyPartModel, AddressPart, NumberPart, LabelPart}
-use Rattle.flow_uniq.specs.Parts.{AreSmall, IsSmall, IsSound, cut_number, cut_part, cut_text, cut_wide, key_code, part_code, parts_of}
+use Rattle.flow_uniq.specs.Parts.{AreSmall, IsCode, IsSmall, front_bytes, key_code, key_in, part_after, part_code, parts_in, text_front}
 
-length-bytes : (k n : ℕ) → length (bytes_high_first k n) ≡ k
-length-bytes zero n = refl
-length-bytes (suc k) n = ap suc (length-bytes k n)
-
-pub not_less : (a b : ℕ) → b ≤ a → nat_lt a b ≡ false
+not_less : (a b : ℕ) → b ≤ a → nat_lt a b ≡ false
 not_less a b h = grind (arith, nat_tests)
 
 -- a list in front of another is told by its length
@@ -26,23 +22,17 @@ take-front n xs r e = take-append-le n xs r (omega (arith, e)) ∙ take_all n xs
 drop-front : (n : ℕ) (xs r : List ℕ) → length xs ≡ n → drop n (xs ++ r) ≡ r
 drop-front n xs r e = drop-append-le n xs r (omega (arith, e)) ∙ ap (λ (l : List ℕ). l ++ r) (drop_all n xs (omega (arith, e)))
 
--- a number that was written is read
-cut_number-back : (w : Width) (n : ℕ) (r : List ℕ) → from_be_bytes w (to_be_bytes w n) ≡ n → cut_number w (to_be_bytes w n ++ r) ≡ (n, r)
-cut_number-back w n r back =
-    let long : length (to_be_bytes w n) ≡ byte_len w = length-bytes (byte_len w) n in
-    let enough : nat_lt (length (to_be_bytes w n ++ r)) (byte_len w) ≡ false
-    = not_less _ _ (omega (arith, long, length-append (to_be_bytes w n) r)) in
-    ap (λ (b : Bool). let R : ℕ × List ℕ = if b then (0, to_be_bytes w n ++ r)
-    else (from_be_bytes w (take (byte_len w) (to_be_bytes w n ++ r)), drop (byte_len w) (to_be_bytes w n ++ r)) in R) enough
-    ∙ (λ i. (from_be_bytes w (take-front (byte_len w) (to_be_bytes w n) r long i), drop-front (byte_len w) (to_be_bytes w n) r long i))
-    ∙ (λ i. (back i, r))
+-- bytes that were written are read
+front_bytes-back : (n : ℕ) (xs r : List ℕ) → length xs ≡ n → front_bytes n (xs ++ r) ≡ (xs, r)
+front_bytes-back n xs r e =
+    ap (λ (b : Bool). let R : List ℕ × List ℕ = if b then (replicate n 0, xs ++ r) else (take n (xs ++ r), drop n (xs ++ r)) in R)
+    (not_less (length (xs ++ r)) n (omega (arith, e, length-append xs r)))
+    ∙ (λ i. (take-front n xs r e i, drop-front n xs r e i))
 
--- a text that was written with its length is read
-cut_text-back : (t r : List ℕ) → cut_text (length t, t ++ r) ≡ (Some t, r)
-cut_text-back t r =
-    let enough : nat_lt (length (t ++ r)) (length t) ≡ false = not_less _ _ (omega (arith, length-append t r)) in
-    ap (λ (b : Bool). let R : Option Label × List ℕ = if b then (None, t ++ r)
-    else (Some (take (length t) (t ++ r)), drop (length t) (t ++ r)) in R) enough
+text_front-back : (t r : List ℕ) → text_front (length t) (t ++ r) ≡ (Some t, r)
+text_front-back t r =
+    ap (λ (b : Bool). let R : Option Label × List ℕ = if b then (None, t ++ r) else (Some (take (length t) (t ++ r)), drop (length t) (t ++ r)) in R)
+    (not_less (length (t ++ r)) (length t) (omega (arith, length-append t r)))
     ∙ (λ i. (Some (take-front (length t) t r refl i), drop-front (length t) t r refl i))
 
 whole : (n : ℕ) → n / 2 ^ 64 * 2 ^ 64 + n % 2 ^ 64 ≡ n
@@ -55,59 +45,116 @@ low_fits : (n : ℕ) → n % 2 ^ 64 < 2 ^ 64
 low_fits n = omega arith
 
 -- a part that was written is read, and what stands behind it is left
-cut_part-back : (p : KeyPartModel) (r : List ℕ) → IsSmall p → cut_part (part_code p ++ r) ≡ (p, r)
-cut_part-back (NumberPart n) r h =
-    ap (λ (c : ℕ × List ℕ). (NumberPart c.0, c.1)) (cut_number-back w16 n r (from_be_bytes-to_be_bytes_2 n h))
-cut_part-back (LabelPart None) r h = refl
-cut_part-back (LabelPart (Some t)) r h =
-    ap (λ (l : List ℕ). (LabelPart (cut_text (cut_number w64 l)).0, (cut_text (cut_number w64 l)).1))
-    (append_assoc (to_be_bytes w64 (length t)) t r)
-    ∙ ap (λ (c : ℕ × List ℕ). (LabelPart (cut_text c).0, (cut_text c).1))
-    (cut_number-back w64 (length t) (t ++ r) (from_be_bytes-to_be_bytes_8 (length t) h))
-    ∙ ap (λ (c : Option Label × List ℕ). (LabelPart c.0, c.1)) (cut_text-back t r)
-cut_part-back (AddressPart (V4, v)) r h =
-    ap (λ (c : ℕ × List ℕ). (AddressPart (V4, c.0), c.1)) (cut_number-back w32 v r (from_be_bytes-to_be_bytes_4 v h))
-cut_part-back (AddressPart (V6, v)) r h =
-    ap (λ (l : List ℕ). (AddressPart (V6, (cut_wide l).0), (cut_wide l).1))
-    (append_assoc (to_be_bytes w64 (v / 2 ^ 64)) (to_be_bytes w64 (v % 2 ^ 64)) r)
-    ∙ ap (λ (c : ℕ × List ℕ). (AddressPart (V6, c.0 * 2 ^ 64 + (cut_number w64 c.1).0), (cut_number w64 c.1).1))
-    (cut_number-back w64 (v / 2 ^ 64) (to_be_bytes w64 (v % 2 ^ 64) ++ r) (from_be_bytes-to_be_bytes_8 (v / 2 ^ 64) (high_fits v h)))
-    ∙ ap (λ (c : ℕ × List ℕ). (AddressPart (V6, v / 2 ^ 64 * 2 ^ 64 + c.0), c.1))
-    (cut_number-back w64 (v % 2 ^ 64) r (from_be_bytes-to_be_bytes_8 (v % 2 ^ 64) (low_fits v)))
-    ∙ ap (λ (n : ℕ). (AddressPart (V6, n), r)) (whole v)
+parts_in-back : (p : KeyPartModel) (most : ℕ) (r : List ℕ) → IsSmall p → parts_in (suc most) (part_code p ++ r) ≡ p ∷ parts_in most r
+parts_in-back (NumberPart n) most r h =
+    ap (λ (c : List ℕ × List ℕ). NumberPart (from_be_bytes w16 c.0) ∷ parts_in most c.1) (front_bytes-back 2 (to_be_bytes w16 n) r refl)
+    ∙ ap (λ (m : ℕ). NumberPart m ∷ parts_in most r) (from_be_bytes-to_be_bytes_2 n h)
+parts_in-back (LabelPart None) most r h = refl
+parts_in-back (LabelPart (Some t)) most r h =
+    ap (λ (l : List ℕ). parts_in (suc most) (2 ∷ l)) (append_assoc (to_be_bytes w64 (length t)) t r)
+    ∙ ap (λ (c : List ℕ × List ℕ). let f = text_front (from_be_bytes w64 c.0) c.1 in LabelPart f.0 ∷ parts_in most f.1)
+    (front_bytes-back 8 (to_be_bytes w64 (length t)) (t ++ r) refl)
+    ∙ ap (λ (n : ℕ). let f = text_front n (t ++ r) in LabelPart f.0 ∷ parts_in most f.1) (from_be_bytes-to_be_bytes_8 (length t) h)
+    ∙ ap (λ (f : Option Label × List ℕ). LabelPart f.0 ∷ parts_in most f.1) (text_front-back t r)
+parts_in-back (AddressPart (V4, v)) most r h =
+    ap (λ (c : List ℕ × List ℕ). AddressPart (V4, from_be_bytes w32 c.0) ∷ parts_in most c.1) (front_bytes-back 4 (to_be_bytes w32 v) r refl)
+    ∙ ap (λ (m : ℕ). AddressPart (V4, m) ∷ parts_in most r) (from_be_bytes-to_be_bytes_4 v h)
+parts_in-back (AddressPart (V6, v)) most r h =
+    let high : List ℕ = to_be_bytes w64 (v / 2 ^ 64) in
+    let low : List ℕ = to_be_bytes w64 (v % 2 ^ 64) in
+    ap (λ (l : List ℕ). parts_in (suc most) (6 ∷ l)) (append_assoc high low r)
+    ∙ ap (λ (c : List ℕ × List ℕ). let d = front_bytes 8 c.1 in AddressPart (V6, from_be_bytes w64 c.0 * 2 ^ 64 + from_be_bytes w64 d.0) ∷ parts_in most d.1)
+    (front_bytes-back 8 high (low ++ r) refl)
+    ∙ ap (λ (d : List ℕ × List ℕ). AddressPart (V6, from_be_bytes w64 high * 2 ^ 64 + from_be_bytes w64 d.0) ∷ parts_in most d.1) (front_bytes-back 8 low r refl)
+    ∙ (λ i. AddressPart (V6, from_be_bytes-to_be_bytes_8 (v / 2 ^ 64) (high_fits v h) i * 2 ^ 64 + from_be_bytes-to_be_bytes_8 (v % 2 ^ 64) (low_fits v) i) ∷ parts_in most r)
+    ∙ ap (λ (n : ℕ). AddressPart (V6, n) ∷ parts_in most r) (whole v)
+
+one_byte : (p : KeyPartModel) → 1 ≤ length (part_code p)
+one_byte (NumberPart n) = omega arith
+one_byte (LabelPart None) = omega arith
+one_byte (LabelPart (Some t)) = omega arith
+one_byte (AddressPart (V4, v)) = omega arith
+one_byte (AddressPart (V6, v)) = omega arith
+
+no_fewer_bytes : (k : Key) → length k ≤ length (key_code k)
+no_fewer_bytes [] = omega arith
+no_fewer_bytes (p ∷ k) = omega (arith, one_byte p, no_fewer_bytes k, length-append (part_code p) (key_code k))
+
+parts_in-code : (k : Key) (most : ℕ) → AreSmall k → length k ≤ most → parts_in most (key_code k) ≡ k
+parts_in-code [] zero h room = refl
+parts_in-code [] (suc most) h room = refl
+parts_in-code (p ∷ k) zero h room = absurd (omega arith)
+parts_in-code (p ∷ k) (suc most) h room =
+    parts_in-back p most (key_code k) h.0 ∙ ap (λ (l : Key). p ∷ l) (parts_in-code k most h.1 (omega arith))
 
 -- a key that was written is read
-pub parts_of-code : (k : Key) → AreSmall k → parts_of (length k) (key_code k) ≡ k
-parts_of-code [] h = refl
-parts_of-code (p ∷ k) h =
-    ap (λ (c : KeyPartModel × List ℕ). c.0 ∷ parts_of (length k) c.1) (cut_part-back p (key_code k) h.0)
-    ∙ ap (λ (l : Key). p ∷ l) (parts_of-code k h.1)
+pub key_in-code : (k : Key) → AreSmall k → key_in (key_code k) ≡ k
+key_in-code k h = parts_in-code k (length (key_code k)) h (no_fewer_bytes k)
 
-pub length-parts_of : (count : ℕ) (code : List ℕ) → length (parts_of count code) ≡ count
-length-parts_of zero code = refl
-length-parts_of (suc count) code = ap suc (length-parts_of count (cut_part code).1)
+-- equal codes are equal keys
+pub same_from_codes : (a b : Key) → AreSmall a → AreSmall b → key_code a ≡ key_code b → a ≡ b
+same_from_codes a b small_a small_b e = sym (key_in-code a small_a) ∙ ap key_in e ∙ key_in-code b small_b
 
--- one part more
-pub small-push : (k : Key) (p : KeyPartModel) → AreSmall k → IsSmall p → AreSmall (k ++ p ∷ [])
-small-push [] p h s = (s, tt)
-small-push (q ∷ k) p h s = (h.0, small-push k p h.1 s)
+-- the bytes that were written for a key, where there were none
+pub written : (k : Key) (before code : List ℕ) → before ≡ [] → code ≡ before ++ key_code k → AreSmall k → IsCode code × (key_in code ≡ k)
+written k before code b e h =
+    let is : code ≡ key_code k = e ∙ ap (λ (l : List ℕ). l ++ key_code k) b in
+    let back : key_in code ≡ k = ap key_in is ∙ key_in-code k h in
+    (record { small = subst AreSmall (sym back) h; same = is ∙ ap key_code (sym back) }, back)
 
--- the code of a key in bytes that were empty
-pub read_is : (count : ℕ) (k : Key) (before read : List ℕ) → read ≡ before ++ key_code k → before ≡ [] → AreSmall k → length k ≡ count
-    → parts_of count read ≡ k
-read_is count k before read e b h n =
-    ap (λ (l : List ℕ). parts_of count l) (e ∙ ap (λ (l : List ℕ). l ++ key_code k) b)
-    ∙ ap (λ (m : ℕ). parts_of m (key_code k)) (sym n) ∙ parts_of-code k h
-
-pub read_sound : (count : ℕ) (k : Key) (before read : List ℕ) → read ≡ before ++ key_code k → before ≡ [] → AreSmall k → length k ≡ count
-    → IsSound count read
-read_sound count k before read e b h n =
-    e ∙ ap (λ (l : List ℕ). l ++ key_code k) b ∙ ap key_code (sym (read_is count k before read e b h n))
-
--- what two promises of a call give together
+-- what two promises of a call give together, and what they give where it went well
 pub both_ok : {T E P Q R : Type 0} (r : Result T E) → (P → Q → R) → OnOk r P → OnOk r Q → OnOk r R
 both_ok (Ok x) f p q = f p q
 both_ok (Err e) f p q = tt
+
+pub when_ok : {T E P : Type 0} (r : Result T E) → is_err r ≡ false → OnOk r P → P
+when_ok (Ok x) h p = p
+when_ok (Err e) h p = absurd (true≢false h)
+
+-- what is read is no longer than the bytes
+front_shorter : (n : ℕ) (code : List ℕ) → length (front_bytes n code).1 ≤ length code
+front_shorter n code = by (nat_lt (length code) n)
+  where
+    by : (b : Bool) → (let R : List ℕ × List ℕ = if b then (replicate n 0, code) else (take n code, drop n code) in length R.1 ≤ length code)
+    by true = omega arith
+    by false = omega (arith, length-drop n code)
+
+text_shorter : (n : ℕ) (code : List ℕ) → length (text_front n code).1 ≤ length code
+text_shorter n code = by (nat_lt (length code) n)
+  where
+    by : (b : Bool) → (let R : Option Label × List ℕ = if b then (None, code) else (Some (take n code), drop n code) in length R.1 ≤ length code)
+    by true = omega arith
+    by false = omega (arith, length-drop n code)
+
+rest_shorter : (kind : ℕ) (code : List ℕ) → length (part_after kind code).1 ≤ length code
+rest_shorter kind code =
+    let front : List ℕ × List ℕ = front_bytes 8 code in
+    let text : length (text_front (from_be_bytes w64 front.0) front.1).1 ≤ length code
+    = omega (arith, text_shorter (from_be_bytes w64 front.0) front.1, front_shorter 8 code) in
+    let low : length (front_bytes 8 front.1).1 ≤ length code = omega (arith, front_shorter 8 front.1, front_shorter 8 code) in
+    grind (arith, front_shorter 2 code, front_shorter 4 code, text, low)
+
+-- with as many parts as there are bytes none is left out
+enough : (m n : ℕ) (code : List ℕ) → length code ≤ m → length code ≤ n → parts_in m code ≡ parts_in n code
+enough zero zero code p q = refl
+enough zero (suc n) [] p q = refl
+enough (suc m) zero [] p q = refl
+enough (suc m) (suc n) [] p q = refl
+enough zero (suc n) (b ∷ code) p q = absurd (omega arith)
+enough (suc m) zero (b ∷ code) p q = absurd (omega arith)
+enough (suc m) (suc n) (b ∷ code) p q =
+    let rest : length (part_after b code).1 ≤ length code = rest_shorter b code in
+    ap (λ (k : Key). (part_after b code).0 ∷ k) (enough m n (part_after b code).1 (omega arith) (omega arith))
+
+pub key_in-rest : (kind : ℕ) (code : List ℕ) → key_in (kind ∷ code) ≡ (part_after kind code).0 ∷ key_in (part_after kind code).1
+key_in-rest kind code =
+    ap (λ (k : Key). (part_after kind code).0 ∷ k)
+    (enough (length code) (length (part_after kind code).1) (part_after kind code).1 (rest_shorter kind code) (omega arith))
+
+-- one part more
+small-push : (k : Key) (p : KeyPartModel) → AreSmall k → IsSmall p → AreSmall (k ++ p ∷ [])
+small-push [] p h s = (s, tt)
+small-push (q ∷ k) p h s = (h.0, small-push k p h.1 s)
 
 -- one field more is appended
 module _ (f : KeyField → KeyPartModel) (fields : List KeyField) (i : ℕ) (d : KeyField) (p : KeyPartModel) (is : p ≡ f (get_or fields i d))

@@ -1,12 +1,13 @@
 -- How keys lie in memory.
-use Rattle.std.specs.Prelude.{◌≡◌, ℕ, zero, suc, ◌+◌, ◌*◌, ◌/◌, ◌%◌, ◌^◌, ◌<◌, ◌==◌, ◌++◌, List, [], ◌∷◌, Option, Some, None, length, take, drop, nat_lt, option_copied, if◌then◌else◌}
-use Rattle.std.specs.Int.{Width, byte_len, w16, w32, w64, from_be_bytes, to_be_bytes}
+use Rattle.std.specs.Prelude.{◌≡◌, ℕ, zero, suc, ◌+◌, ◌*◌, ◌/◌, ◌%◌, ◌^◌, ◌<◌, ◌==◌, ◌++◌, Bool, List, [], ◌∷◌, Option, Some, None, length, take, drop, nat_lt, option_copied, replicate, if◌then◌else◌}
+use Rattle.std.specs.Int.{w16, w32, w64, from_be_bytes, to_be_bytes}
 use Rattle.std.specs.List.{flat_map}
+use Rattle.std.specs.Str.{bytes_eq}
 use Rattle.prefix_keys.specs.Version.{width_of}
 use Rattle.prefix_keys.specs.declared.version.Version.TheVariants.{V4, V6}
 use Rattle.pmap_text.specs.MapModel.{Label}
-use Rattle.flow_uniq.specs.declared.part.KeyPart.{KeyPart}
-use Rattle.flow_uniq.specs.declared.part.KeyPart.TheVariants as part
+use Rattle.flow_uniq.specs.declared.codec.KeyPart.{KeyPart}
+use Rattle.flow_uniq.specs.declared.codec.KeyPart.TheVariants as part
 use Rattle.flow_uniq.specs.Key.{Key, KeyPartModel, AddressPart, NumberPart, LabelPart}
 
 -- a part of a key
@@ -26,6 +27,9 @@ part_code (AddressPart (V6, value)) = 6 ∷ to_be_bytes w64 (value / 2 ^ 64) ++ 
 abbrev pub key_code : Key → List ℕ
 key_code key = flat_map part_code key
 
+abbrev pub same_code : Key → Key → Bool
+same_code a b = bytes_eq (key_code a) (key_code b)
+
 -- the numbers of parts have room in these bytes
 abbrev pub IsSmall : KeyPartModel → Type 0
 IsSmall (NumberPart number) = number < 2 ^ 16
@@ -37,41 +41,37 @@ abbrev pub AreSmall : Key → Type 0
 AreSmall [] = Unit {0}
 AreSmall (p ∷ key) = IsSmall p × AreSmall key
 
--- the number at the front of bytes, and the bytes behind it; 0 where there are too few
-abbrev pub cut_number : Width → List ℕ → ℕ × List ℕ
-cut_number w code =
-    if nat_lt (length code) (byte_len w) then (0, code)
-    else (from_be_bytes w (take (byte_len w) code), drop (byte_len w) code)
+-- so many bytes at the front and those after them, or zeros if there are too few
+abbrev pub front_bytes : ℕ → List ℕ → List ℕ × List ℕ
+front_bytes count code = if nat_lt (length code) count then (replicate count 0, code) else (take count code, drop count code)
 
--- the value of an address of IPv6 at the front
-abbrev pub cut_wide : List ℕ → ℕ × List ℕ
-cut_wide code =
-    ((cut_number w64 code).0 * 2 ^ 64 + (cut_number w64 (cut_number w64 code).1).0, (cut_number w64 (cut_number w64 code).1).1)
+-- the text of so many bytes at the front and the bytes after it, or none if there are too few
+abbrev pub text_front : ℕ → List ℕ → Option Label × List ℕ
+text_front len code = if nat_lt (length code) len then (None, code) else (Some (take len code), drop len code)
 
--- the text of so many bytes at the front, or none where there are too few
-abbrev pub cut_text : ℕ × List ℕ → Option Label × List ℕ
-cut_text cut =
-    if nat_lt (length cut.1) cut.0 then (None, cut.1)
-    else (Some (take cut.0 cut.1), drop cut.0 cut.1)
-
--- the part at the front of bytes, and the bytes behind it
-abbrev pub cut_kind : ℕ → List ℕ → KeyPartModel × List ℕ
-cut_kind kind code =
-    if kind == 0 then (NumberPart (cut_number w16 code).0, (cut_number w16 code).1)
+-- the part of this kind, and the bytes after it
+abbrev pub part_after : ℕ → List ℕ → KeyPartModel × List ℕ
+part_after kind code =
+    let front = front_bytes 8 code in
+    let text = text_front (from_be_bytes w64 front.0) front.1 in
+    let low = front_bytes 8 front.1 in
+    if kind == 0 then (NumberPart (from_be_bytes w16 (front_bytes 2 code).0), (front_bytes 2 code).1)
     else if kind == 1 then (LabelPart None, code)
-    else if kind == 2 then (LabelPart (cut_text (cut_number w64 code)).0, (cut_text (cut_number w64 code)).1)
-    else if kind == 4 then (AddressPart (V4, (cut_number w32 code).0), (cut_number w32 code).1)
-    else (AddressPart (V6, (cut_wide code).0), (cut_wide code).1)
+    else if kind == 2 then (LabelPart text.0, text.1)
+    else if kind == 4 then (AddressPart (V4, from_be_bytes w32 (front_bytes 4 code).0), (front_bytes 4 code).1)
+    else (AddressPart (V6, from_be_bytes w64 front.0 * 2 ^ 64 + from_be_bytes w64 low.0), low.1)
 
-abbrev pub cut_part : List ℕ → KeyPartModel × List ℕ
-cut_part [] = (NumberPart 0, [])
-cut_part (kind ∷ code) = cut_kind kind code
+-- the parts in bytes, at most so many
+abbrev pub parts_in : ℕ → List ℕ → Key
+parts_in zero code = []
+parts_in (suc most) [] = []
+parts_in (suc most) (kind ∷ code) = (part_after kind code).0 ∷ parts_in most (part_after kind code).1
 
--- the key of so many parts that has these bytes
-abbrev pub parts_of : ℕ → List ℕ → Key
-parts_of zero code = []
-parts_of (suc count) code = (cut_part code).0 ∷ parts_of count (cut_part code).1
+-- the key in bytes
+abbrev pub key_in : List ℕ → Key
+key_in code = parts_in (length code) code
 
--- the bytes are those of a key of so many parts
-abbrev pub IsSound : ℕ → List ℕ → Type 0
-IsSound count code = code ≡ key_code (parts_of count code)
+-- the bytes are those of the key in them
+pub record IsCode (code : List ℕ) : Type 0 where
+  pub small : AreSmall (key_in code)
+  pub same : code ≡ key_code (key_in code)

@@ -1,4 +1,4 @@
-use crate::key::Key;
+use crate::codec::Key;
 use crate::totals::Totals;
 
 /// A group of rows with one key, and their totals.

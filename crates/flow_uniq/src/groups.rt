@@ -1,4 +1,4 @@
-ghost use Rattle.std.specs.Prelude.{All, ◌≡◌, ◌++◌, ℕ, ◌∷◌, [], ◌+◌, ◌-◌, ◌^◌, ◌<◌, List, IfOk, OnOk, OnErr, length, map, option_copied, option_map, slice_get, take};
+ghost use Rattle.std.specs.Prelude.{All, ◌≡◌, ◌++◌, ℕ, ◌∷◌, [], ◌+◌, ◌-◌, ◌^◌, ◌<◌, List, IfOk, OnOk, OnErr, length, map, option_map, slice_get, take};
 ghost use Rattle.std.specs.List.Sorted.{IsPermutation, IsSortedBy};
 ghost use Rattle.flow_rows.specs.Row.{row_view};
 ghost use Rattle.label_lookup.specs.Labelling.{label_where, labelling_lent};
@@ -7,17 +7,14 @@ ghost use Rattle.flow_uniq.specs.Key.{key_of};
 ghost use Rattle.flow_uniq.specs.Kept.{group_model};
 ghost use Rattle.flow_uniq.specs.Sorted.{is_before, sorted_groups};
 
-use crate::code::Code;
+use crate::codec::{Code, Key};
 use crate::field::KeyField;
 use crate::group::Group;
-use crate::key::Key;
 use crate::keys::Keys;
 use crate::order::compare_keys;
-use crate::placing::put;
-use crate::row_key::read_key;
 use crate::totals::Totals;
 use flow_rows::Row;
-use indexmap::IndexSet;
+use indexmap::IndexMap;
 use label_lookup::Labeller;
 use pmap_text::KeyHashing;
 use std::alloc::{AllocError, Global};
@@ -28,8 +25,7 @@ use std::marker::Model;
 pub struct Groups {
     alloc: Global,
     fields: Vec<KeyField>,
-    codes: IndexSet<Code, KeyHashing>,
-    totals: Vec<Totals>,
+    totals: IndexMap<Code, Totals, KeyHashing>,
     scratch: Code,
 }
 
@@ -41,16 +37,9 @@ impl Model for Groups {
 
     ghost use Rattle.flow_uniq.specs.Kept.{AreKept, kept_groups};
 
-    ghost view = { λ g. record { fields = g.fields.items; groups = kept_groups (length g.fields.items) g.codes.keys g.totals.items } };
+    ghost view = { λ g. record { fields = g.fields.items; groups = kept_groups g.totals.entries } };
 
-    ghost invariant = { λ g. AreKept (length g.fields.items) g.codes.keys g.totals.items };
-}
-
-// The totals at a place.
-fn totals_at(totals: &[Totals], place: usize) -> Option<&Totals>
-    ensures { option_copied result ≡ slice_get totals.now place }
-{
-    totals.get(place)
+    ghost invariant = { λ g. AreKept (length g.fields.items) g.totals.entries };
 }
 
 // The groups in the order of their first rows. Memory for all is asked for once: where it is refused, `collect` asks for less.
@@ -97,8 +86,7 @@ impl Groups {
         Ok(Groups {
             alloc,
             fields: Vec::from_slice(alloc, keys.fields())?,
-            codes: IndexSet::with_hasher(alloc, hashing),
-            totals: Vec::new(alloc),
+            totals: IndexMap::with_hasher(alloc, hashing),
             scratch: Code::new(alloc),
         })
     }
@@ -117,14 +105,15 @@ impl Groups {
         ensures count { OnOk result (record_count self.new.groups ≡ record_count self.old.groups + 1) }
         ensures err { OnErr result (self.new ≡ self.old) }
     {
-        read_key(&mut self.scratch, self.fields.as_slice(), row, labeller)?;
-        put(
-            self.alloc,
-            &mut self.codes,
-            &mut self.totals,
-            &self.scratch,
-            row,
-        )
+        self.scratch.write(self.fields.as_slice(), row, labeller)?;
+        match self.totals.get_mut(&self.scratch) {
+            Some(totals) => totals.add(row),
+            None => {
+                let code = self.scratch.copy(self.alloc)?;
+                self.totals.insert(code, Totals::of_row(row))?;
+            }
+        }
+        Ok(())
     }
 
     /// Adds rows one after the other, each as `add` does. Where memory is refused at one of them, those before it are added.
@@ -163,23 +152,18 @@ impl Groups {
     pub fn group_count(&self) -> usize
         ensures { result ≡ length self.now.groups }
     {
-        self.totals.as_slice().len()
+        self.totals.len()
     }
 
     /// The group at a place, from 0 in the order of the first rows.
     pub fn group(&self, place: usize) -> Option<Group<'_>>
         ensures { option_map group_model result ≡ slice_get self.now.groups place }
     {
-        match (
-            self.codes.get_index(place),
-            totals_at(self.totals.as_slice(), place),
-        ) {
-            (Some(code), Some(totals)) => Some(Group {
-                key: Key::of_code(self.fields.as_slice().len(), code.bytes()),
-                totals: *totals,
-            }),
-            _ => None,
-        }
+        let (code, totals) = self.totals.get_index(place)?;
+        Some(Group {
+            key: Key::of_code(code),
+            totals: *totals,
+        })
     }
 
     /// The groups in the order of their keys.

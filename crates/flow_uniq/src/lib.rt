@@ -13,33 +13,26 @@
 //!
 //! It stands on flow_rows, whose rows it takes, and on label_lookup, for the labels of their addresses. `Keys` are the
 //! fields by which rows are grouped, and `Groups` has a group for each key, with its totals; a `Key` is kept as bytes and
-//! lent as the list of its parts, which `split_first` cuts out one by one. The layer above may rely on this: a text is read
+//! borrowed as the list of its parts, which `split_first` reads one by one. The layer above may rely on this: a text is read
 //! exactly where its items name distinct fields; groups that are those of a list of rows with their keys are, after one
 //! more row, those of the list followed by it, and so after more rows one by one; a row for which memory is refused leaves
 //! them as they were; and sorted groups are the groups in the order of their keys. A row whose key is known takes no memory
 //! but for a scratch that is kept.
 #![tactic(auto)]
 
-mod code;
-mod cut;
+mod codec;
 mod fault;
 mod field;
 mod group;
 mod groups;
-mod key;
 mod keys;
 mod order;
-mod part;
-mod placing;
-mod row_key;
 mod totals;
-mod value;
 
+pub use codec::{Key, KeyPart, equal_codes_are_equal_keys};
 pub use fault::KeyFault;
 pub use field::KeyField;
 pub use group::Group;
 pub use groups::Groups;
-pub use key::Key;
 pub use keys::Keys;
-pub use part::KeyPart;
 pub use totals::Totals;

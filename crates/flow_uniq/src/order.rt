@@ -2,15 +2,13 @@
 ghost use Rattle.std.specs.Prelude.{◌≡◌, option_copied};
 ghost use Rattle.std.specs.Cmp.Lexicographic.{slice_cmp};
 ghost use Rattle.std.specs.Ordering.{nat_cmp};
-ghost use Rattle.flow_uniq.specs.Key.{AddressPart, label_numbers};
+ghost use Rattle.flow_uniq.specs.Key.{AddressPart, label_numbers, version_number};
 ghost use Rattle.flow_uniq.specs.Kept.{key_model};
 ghost use Rattle.flow_uniq.specs.Parts.{part_model};
 ghost use Rattle.flow_uniq.specs.Sorted.{key_order, part_order};
 
-use crate::key::Key;
-use crate::part::KeyPart;
-use crate::value::version_number;
-use prefix_keys::Addr;
+use crate::codec::{Key, KeyPart};
+use prefix_keys::{Addr, Version};
 use std::cmp::Ordering;
 
 // How two labels compare: none before any, and texts by their bytes.
@@ -22,6 +20,16 @@ fn compare_labels(a: Option<&[u8]>, b: Option<&[u8]>) -> Ordering
         (None, Some(_)) => Ordering::Less,
         (Some(_), None) => Ordering::Greater,
         (Some(a), Some(b)) => a.cmp(&b),
+    }
+}
+
+// The number by which a version is put in order.
+fn version_number(version: Version) -> u128
+    ensures { result ≡ version_number version }
+{
+    match version {
+        Version::V4 => 4,
+        Version::V6 => 6,
     }
 }
 

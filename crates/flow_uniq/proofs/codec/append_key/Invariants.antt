@@ -4,12 +4,12 @@ use Rattle.flow_rows.specs.Row.{row_view}
 use Rattle.label_lookup.specs.Labelling.{label_where, labelling_lent}
 use Rattle.flow_uniq.specs.Key.{key_of}
 use Rattle.flow_uniq.specs.Parts.{AreSmall, key_code}
-use Rattle.flow_uniq.proofs.row_key.append_key.Given as goal
+use Rattle.flow_uniq.proofs.codec.append_key.Given as goal
 
 abbrev pub invariant-loop-field : goal.invariant-loop-field
 invariant-loop-field g l = record {
-  code : l.out
-      ≡ l.initial.out
+  code : l.out.items
+      ≡ l.initial.out.items
       ++ key_code (key_of (label_where (labelling_lent g.L.Labeller.version_of g.L.Labeller.label l.labeller)) (take l.field-index l.fields) (row_view l.row));
   small : AreSmall (key_of (label_where (labelling_lent g.L.Labeller.version_of g.L.Labeller.label l.labeller)) (take l.field-index l.fields) (row_view l.row));
 }

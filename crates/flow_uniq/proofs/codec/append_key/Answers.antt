@@ -2,15 +2,15 @@ use Rattle.label_lookup.specs.Labelling.{label_where, labelling_lent}
 use Rattle.flow_rows.specs.Row.{row_view}
 use Rattle.flow_uniq.specs.Key.{key_part}
 use Rattle.flow_uniq.proofs.Cutting.{more_code, more_small}
-use Rattle.flow_uniq.proofs.row_key.append_key.Goals as goal
+use Rattle.flow_uniq.proofs.codec.append_key.Goals as goal
 
 pub loop-field-preserved : goal.loop-field-preserved
 loop-field-preserved g c = record {
   code =
       more_code (key_part (label_where (labelling_lent g.L.Labeller.version_of g.L.Labeller.label c.args.labeller)) (row_view c.args.row.now)) c.args.fields.now
-      c.loop-field.field-index _ _ c.value_of.ensures c.loop-field-test.true c.args.out.now c.loop-field.out c.append.new.self
-      c.loop-field.invariant.code c.in_ok-append.ensures.bytes;
+      c.loop-field.field-index _ _ c.part_of.ensures c.loop-field-test.true c.args.out.now.items c.loop-field.out.items c.append_part.new.out.items
+      c.loop-field.invariant.code c.in_ok-append_part.ensures.bytes;
   small =
       more_small (key_part (label_where (labelling_lent g.L.Labeller.version_of g.L.Labeller.label c.args.labeller)) (row_view c.args.row.now)) c.args.fields.now
-      c.loop-field.field-index _ _ c.value_of.ensures c.loop-field-test.true c.loop-field.invariant.small c.in_ok-append.ensures.small;
+      c.loop-field.field-index _ _ c.part_of.ensures c.loop-field-test.true c.loop-field.invariant.small c.in_ok-append_part.ensures.small;
 }

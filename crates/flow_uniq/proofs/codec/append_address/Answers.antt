@@ -1,5 +1,5 @@
 use Rattle.std.proofs.Common.{◌≡◌, ◌∙◌, ℕ, List, [], ◌∷◌, ◌++◌, ap, append_assoc}
-use Rattle.flow_uniq.proofs.code.append_address.Goals as goal
+use Rattle.flow_uniq.proofs.codec.append_address.Goals as goal
 
 pub returns-in_ok-extend_from_slice-in-V6-2 : goal.returns-in_ok-extend_from_slice-in-V6-2
 returns-in_ok-extend_from_slice-in-V6-2 c =

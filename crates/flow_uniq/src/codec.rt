@@ -1,0 +1,295 @@
+//! Keys as bytes: what is written for the key of a row is read as this key, part by part.
+ghost use Rattle.std.specs.Prelude.{◌≡◌, ◌++◌, ◌∷◌, ◌<◌, ◌^◌, ◌↔◌, [], IfNone, IfOk, IfSome, OnOk, Some, length, option_copied};
+ghost use Rattle.flow_rows.specs.Row.{row_view};
+ghost use Rattle.label_lookup.specs.Labelling.{label_where, labelling_lent};
+ghost use Rattle.flow_uniq.specs.Key.{AddressPart, Key as Parts, LabelPart, key_of, key_part};
+ghost use Rattle.flow_uniq.specs.Parts.{AreSmall, IsSmall, front_bytes, key_code, part_after, part_code, part_model, text_front};
+
+use crate::field::KeyField;
+use flow_rows::Row;
+use label_lookup::{Labeller, label_row_under};
+use prefix_keys::{Addr, Version};
+use smallvec::SmallVec;
+use std::alloc::{AllocError, Global};
+use std::hash::{Hash, Hasher};
+use std::marker::Model;
+
+/// A part of a key: what one field of a row is.
+#[derive(Clone, Copy, Debug)]
+pub enum KeyPart<'a> {
+    /// An address.
+    Address(Addr),
+    /// A port, a protocol or flags.
+    Number(u16),
+    /// The label of an address, or none.
+    Label(Option<&'a [u8]>),
+}
+
+/// The key of a group, borrowed: a list of parts in the order of the fields. Each is read from the bytes of the key when
+/// it is asked for.
+#[derive(Clone, Copy, Debug)]
+pub struct Key<'a> {
+    code: &'a [u8],
+}
+
+// The bytes of a key. Those of most keys are few, and are held in the value itself.
+type Bytes = SmallVec<u8, 24>;
+
+/// A key as bytes, which are hashed and compared in one piece.
+#[derive(Debug, Drop)]
+pub struct Code {
+    bytes: Bytes,
+}
+
+impl Model for Code {
+    ghost use Rattle.flow_uniq.specs.Key.{Key};
+
+    ghost Value = { Key };
+
+    ghost use Rattle.flow_uniq.specs.Parts.{IsCode, key_in};
+
+    ghost view = { λ c. key_in c.bytes.items };
+
+    ghost invariant = { λ c. IsCode c.bytes.items };
+}
+
+impl PartialEq for Code {
+    ghost use Rattle.std.specs.Cmp.Lexicographic.{nat_list_eq_equiv};
+    ghost use Rattle.std.specs.Cmp.{partial_equiv_from_equiv};
+    ghost use Rattle.std.proofs.lemmas.Cmp.{on_equiv};
+    ghost use Rattle.flow_uniq.specs.Parts.{key_code, same_code};
+
+    ghost eq = { same_code };
+
+    ghost laws = { partial_equiv_from_equiv (on_equiv key_code nat_list_eq_equiv) };
+
+    fn eq(&self, other: &Code) -> bool {
+        self.bytes.as_slice() == other.bytes.as_slice()
+    }
+}
+
+impl Eq for Code {
+    ghost use Rattle.std.specs.Cmp.Lexicographic.{nat_list_eq_equiv};
+    ghost use Rattle.std.proofs.lemmas.Cmp.{on_equiv};
+    ghost use Rattle.flow_uniq.specs.Parts.{key_code};
+
+    ghost laws = { on_equiv key_code nat_list_eq_equiv };
+}
+
+impl Hash for Code {
+    ghost use Rattle.std.specs.Prelude.{ℕ, List, ◌∷◌, []};
+    ghost use Rattle.std.proofs.Common.{ap};
+    ghost use Rattle.std.specs.Cmp.Lexicographic.{bytes_decides};
+    ghost use Rattle.flow_uniq.specs.Parts.{key_code};
+
+    ghost hash_input = { λ key. key_code key ∷ [] };
+
+    ghost respects_eq = { λ a b h. ap (λ (code : List ℕ). code ∷ []) ((bytes_decides (key_code a) (key_code b)).0 h) };
+
+    fn hash<H: Hasher>(&self, state: &mut H) {
+        state.write(self.bytes.as_slice());
+    }
+}
+
+// What this field of the row is.
+fn part_of<'a, L: Labeller>(field: KeyField, row: &Row, labeller: Option<&'a L>) -> KeyPart<'a>
+    ensures { let label = label_where (labelling_lent L.version_of L.label labeller.entry) in
+        part_model result ≡ key_part label (row_view row.now) field }
+{
+    match field {
+        KeyField::SourceAddress => KeyPart::Address(row.src),
+        KeyField::DestinationAddress => KeyPart::Address(row.dst),
+        KeyField::SourcePort => KeyPart::Number(row.sport),
+        KeyField::DestinationPort => KeyPart::Number(row.dport),
+        KeyField::Protocol => KeyPart::Number(u16::from(row.protocol)),
+        KeyField::Flags => KeyPart::Number(row.flags),
+        KeyField::SourceLabel => KeyPart::Label(label_row_under(labeller, row.src)),
+        KeyField::DestinationLabel => KeyPart::Label(label_row_under(labeller, row.dst)),
+    }
+}
+
+// Appends the bytes of an address.
+fn append_address(out: &mut Bytes, addr: Addr) -> Result<(), AllocError>
+    ensures { OnOk result (out.new.items ≡ out.old.items ++ part_code (AddressPart (addr.version, addr.value))) }
+{
+    match addr.version {
+        Version::V4 => {
+            out.push(4)?;
+            out.extend_from_slice(&(addr.value as u32).to_be_bytes())?;
+        }
+        Version::V6 => {
+            let high = (addr.value / 0x1_0000_0000_0000_0000) as u64;
+            let low = (addr.value % 0x1_0000_0000_0000_0000) as u64;
+            out.push(6)?;
+            out.extend_from_slice(&high.to_be_bytes())?;
+            out.extend_from_slice(&low.to_be_bytes())?;
+        }
+    }
+    Ok(())
+}
+
+// Appends the bytes of the text of a label.
+fn append_text(out: &mut Bytes, text: &[u8]) -> Result<(), AllocError>
+    ensures bytes { OnOk result (out.new.items ≡ out.old.items ++ part_code (LabelPart (Some text.now))) }
+    ensures small { OnOk result (length text.now < 2 ^ 64) }
+{
+    let len = text.len() as u64;
+    out.push(2)?;
+    out.extend_from_slice(&len.to_be_bytes())?;
+    out.extend_from_slice(text)?;
+    Ok(())
+}
+
+// Appends the bytes of a part.
+fn append_part(out: &mut Bytes, part: KeyPart<'_>) -> Result<(), AllocError>
+    ensures bytes { OnOk result (out.new.items ≡ out.old.items ++ part_code (part_model part.entry)) }
+    ensures small { OnOk result (IsSmall (part_model part.entry)) }
+{
+    match part {
+        KeyPart::Address(addr) => append_address(out, addr)?,
+        KeyPart::Number(number) => {
+            out.push(0)?;
+            out.extend_from_slice(&number.to_be_bytes())?;
+        }
+        KeyPart::Label(None) => out.push(1)?,
+        KeyPart::Label(Some(text)) => append_text(out, text)?,
+    }
+    Ok(())
+}
+
+// Appends the bytes of the key of a row.
+fn append_key<L: Labeller>(
+    out: &mut Bytes,
+    fields: &[KeyField],
+    row: &Row,
+    labeller: Option<&L>,
+) -> Result<(), AllocError>
+    ensures code { let label = label_where (labelling_lent L.version_of L.label labeller.entry) in
+        OnOk result (out.new.items ≡ out.old.items ++ key_code (key_of label fields.now (row_view row.now))) }
+    ensures small { let label = label_where (labelling_lent L.version_of L.label labeller.entry) in
+        OnOk result (AreSmall (key_of label fields.now (row_view row.now))) }
+{
+    for field in fields {
+        append_part(out, part_of(*field, row, labeller))?;
+    }
+    Ok(())
+}
+
+impl Code {
+    /// The key without parts.
+    pub fn new(alloc: Global) -> Code
+        ensures { result ≡ [] }
+    {
+        Code {
+            bytes: SmallVec::new(alloc),
+        }
+    }
+
+    /// Writes the key of a row over the one that was here. If an allocation fails, the key has no parts.
+    pub fn write<L: Labeller>(
+        &mut self,
+        fields: &[KeyField],
+        row: &Row,
+        labeller: Option<&L>,
+    ) -> Result<(), AllocError>
+        ensures key { let label = label_where (labelling_lent L.version_of L.label labeller.entry) in
+            OnOk result (self.new ≡ key_of label fields.now (row_view row.now)) }
+        ensures small { OnOk result (AreSmall self.new) }
+    {
+        self.bytes.clear();
+        let written = append_key(&mut self.bytes, fields, row, labeller);
+        if written.is_err() {
+            self.bytes.clear();
+        }
+        written
+    }
+
+    /// The same key in memory of its own.
+    pub fn copy(&self, alloc: Global) -> Result<Code, AllocError>
+        ensures { IfOk result (λ code. code ≡ self.now) }
+    {
+        Ok(Code {
+            bytes: SmallVec::from_slice(alloc, self.bytes.as_slice())?,
+        })
+    }
+}
+
+// The first bytes and those after them, or zeros if there are too few.
+fn front_bytes<const N: usize>(code: &[u8]) -> ([u8; N], &[u8])
+    ensures { (result.0, result.1.now) ≡ front_bytes N code.now }
+{
+    match code.split_first_chunk::<N>() {
+        Some((front, rest)) => (*front, rest),
+        None => ([0; N], code),
+    }
+}
+
+// The text of so many bytes at the front and the bytes after it, or none if there are too few.
+fn text_front(len: u64, code: &[u8]) -> (Option<&[u8]>, &[u8])
+    ensures { (option_copied result.0, result.1.now) ≡ text_front len code.now }
+{
+    match code.split_at_checked(len as usize) {
+        Some((text, rest)) => (Some(text), rest),
+        None => (None, code),
+    }
+}
+
+// The part of this kind, and the bytes after it.
+fn part_after(kind: u8, code: &[u8]) -> (KeyPart<'_>, &[u8])
+    ensures { (part_model result.0, result.1.now) ≡ part_after kind code.now }
+{
+    match kind {
+        0 => {
+            let (number, rest) = front_bytes(code);
+            (KeyPart::Number(u16::from_be_bytes(number)), rest)
+        }
+        1 => (KeyPart::Label(None), code),
+        2 => {
+            let (len, text_and_rest) = front_bytes(code);
+            let (label, rest) = text_front(u64::from_be_bytes(len), text_and_rest);
+            (KeyPart::Label(label), rest)
+        }
+        4 => {
+            let (bytes, rest) = front_bytes(code);
+            let version = Version::V4;
+            let value = u128::from(u32::from_be_bytes(bytes));
+            (KeyPart::Address(Addr { version, value }), rest)
+        }
+        _ => {
+            let (high, low_and_rest) = front_bytes(code);
+            let (low, rest) = front_bytes(low_and_rest);
+            let version = Version::V6;
+            let high = u128::from(u64::from_be_bytes(high)) * 0x1_0000_0000_0000_0000;
+            let value = high + u128::from(u64::from_be_bytes(low));
+            (KeyPart::Address(Addr { version, value }), rest)
+        }
+    }
+}
+
+impl<'a> Key<'a> {
+    ghost use Rattle.flow_uniq.specs.Kept.{key_model};
+
+    /// The key with this code.
+    pub(crate) fn of_code(code: &'a Code) -> Key<'a>
+        ensures { key_model result ≡ code.now }
+    {
+        Key {
+            code: code.bytes.as_slice(),
+        }
+    }
+
+    /// The first part and the key of those after it, or `None` if there is no part.
+    pub fn split_first(self) -> Option<(KeyPart<'a>, Key<'a>)>
+        ensures some { IfSome result (λ r. key_model self.entry ≡ part_model r.0 ∷ key_model r.1) }
+        ensures none { IfNone result (key_model self.entry ≡ []) }
+    {
+        let (kind, rest) = self.code.split_first()?;
+        let (part, code) = part_after(*kind, rest);
+        Some((part, Key { code }))
+    }
+}
+
+/// Keys whose parts fit in their bytes are equal if they have equal codes, and only then.
+pub fn equal_codes_are_equal_keys()
+    ensures { (a b : Parts) → AreSmall a → AreSmall b → (key_code a ≡ key_code b) ↔ (a ≡ b) }
+{}
