@@ -12,6 +12,8 @@ use Rattle.std.proofs.lemmas.Option.{none-some}
 use Rattle.std.specs.List.{IsDistinct, list_any}
 use Rattle.std.specs.Option.{IfSome}
 use Rattle.std.specs.Map.{keys_of, lookup, set_value, values_of}
+use Rattle.indexmap.proofs.CallerLemmas.{insert_entry-new}
+use Rattle.indexmap.specs.IndexMap.{IndexMap, IsUnique, get, insert_entry}
 use Rattle.flow_rows.specs.Row.{RowView}
 use Rattle.flow_uniq.specs.declared.totals.Totals.{Totals}
 use Rattle.flow_uniq.specs.Groups.{GroupModel, KeyedRow, groups_of_keyed, record_count}
@@ -93,18 +95,6 @@ module _ (k : Key) (row : RowView) (small : AreSmall k) where
   entered_as es o all is =
       ap (λ c. map (grown k row) (kept_groups es) ++ (if c then [] else fresh k row ∷ [])) (any_is es all ∙ ap is_some is)
 
-  module _ (es : Entries) (all : All AreSmall (keys_of es)) where
-    -- a row whose key has a group, and one whose key has none
-    pub entered-known : (t : Totals) → IsDistinct same_code (keys_of es) → lookup (same_code k) es ≡ Some t
-        → kept_groups (set_value (same_code k) es (with_row t row)) ≡ entered k row (kept_groups es)
-    entered-known t once found =
-        one_grown es t all once found ∙ sym (append-nil (map (grown k row) (kept_groups es))) ∙ sym (entered_as es (Some t) all found)
-
-    pub entered-new : lookup (same_code k) es ≡ None → kept_groups (es ++ (k, first_totals row) ∷ []) ≡ entered k row (kept_groups es)
-    entered-new none =
-        map_push (λ (e : Key × Totals). record { key = e.0; totals = e.1 }) es (k, first_totals row)
-        ∙ ap (λ (l : List GroupModel). l ++ fresh k row ∷ []) (sym (none_grown es all none)) ∙ sym (entered_as es None all none)
-
 one_bound : (most n p q : ℕ) → p ≤ most * n → q ≤ most → p + q ≤ most * (n + 1)
 one_bound most n p q h k = grind arith
 
@@ -113,56 +103,74 @@ bounded-grown t row h p o =
     (one_bound (2 ^ 64 - 1) t.records t.packets row.packets h.0 p, one_bound (2 ^ 64 - 1) t.records t.octets row.octets h.1 o)
 
 -- how many rows there are together
-pub record_count-kept : (es : Entries) → record_count (kept_groups es) ≡ sum_by (λ t. t.records) (values_of es)
+record_count-kept : (es : Entries) → record_count (kept_groups es) ≡ sum_by (λ t. t.records) (values_of es)
 record_count-kept [] = refl
 record_count-kept (e ∷ es) =
     sum_by-cons (λ (g : GroupModel). g.totals.records) (record { key = e.0; totals = e.1 }) (kept_groups es)
     ∙ ap (λ (n : ℕ). e.1.records + n) (record_count-kept es) ∙ sym (sum_by-cons (λ (t : Totals). t.records) e.1 (values_of es))
 
--- a row whose key has a group
-module _ (test : Key → Bool) (es : Entries) (t : Totals) (found : lookup test es ≡ Some t) where
-  pub few_records : record_count (kept_groups es) < 2 ^ 64 - 1 → t.records < 2 ^ 64 - 1
-  few_records few =
-      omega (arith, few, record_count-kept es, sum_by-set_value (λ (x : Totals). x.records) test es t (record { records = 0; packets = 0; octets = 0 }) found)
+-- no totals are of more rows than all are
+pub few_records : (test : Key → Bool) (es : Entries) (t : Totals) → lookup test es ≡ Some t → record_count (kept_groups es) < 2 ^ 64 - 1
+    → t.records < 2 ^ 64 - 1
+few_records test es t found few =
+    omega (arith, few, record_count-kept es, sum_by-set_value (λ (x : Totals). x.records) test es t (record { records = 0; packets = 0; octets = 0 }) found)
 
-  pub bounded-at : All IsBounded (values_of es) → IsBounded t
-  bounded-at all =
-      subst (λ (o : Option Totals). IfSome o IsBounded) found (All-lookup IsBounded test es (All-each IsBounded (λ e. e.1) es all))
+-- what a row with this key makes of the entries
+pub record AfterRow (n : ℕ) (k : Key) (row : RowView) (es new : Entries) : Type 0 where
+  pub kept : length k ≡ n → AreKept n new
+  pub groups : kept_groups new ≡ entered k row (kept_groups es)
+  pub count : record_count (kept_groups new) ≡ record_count (kept_groups es) + 1
 
-  module _ (row : RowView) where
-    pub record_count-known : record_count (kept_groups (set_value test es (with_row t row))) ≡ record_count (kept_groups es) + 1
-    record_count-known =
-        omega (arith, record_count-kept es, record_count-kept (set_value test es (with_row t row)),
-        sum_by-set_value (λ (x : Totals). x.records) test es t (with_row t row) found)
+module _ {S : Type 0} (m : IndexMap Key Totals S) (n : ℕ) (k : Key) (row : RowView) (kept : AreKept n m.entries) (small : AreSmall k)
+    (p : row.packets ≤ 2 ^ 64 - 1) (o : row.octets ≤ 2 ^ 64 - 1) where
+  -- where the key has a group
+  pub after_known : (new : Entries) (t w : Totals) → IsUnique same_code m → Some t ≡ get same_code m k → w ≡ with_row t row
+      → new ≡ set_value (same_code k) m.entries w → AfterRow n k row m.entries new
+  after_known new t w once found grew is =
+      let after : Entries = set_value (same_code k) m.entries (with_row t row) in
+      let keys : keys_of m.entries ≡ keys_of after = sym (keys-set_value (same_code k) m.entries (with_row t row)) in
+      let bounded : IsBounded t
+      = subst (λ (x : Option Totals). IfSome x IsBounded) (sym found)
+      (All-lookup IsBounded (same_code k) m.entries (All-each IsBounded (λ e. e.1) m.entries kept.bounded)) in
+      subst (AfterRow n k row m.entries) (sym (is ∙ ap (λ (x : Totals). set_value (same_code k) m.entries x) grew)) (record {
+        kept = λ _. record {
+          long = subst (All (λ (key : Key). length key ≡ n)) keys kept.long;
+          small = subst (All AreSmall) keys kept.small;
+          bounded = All-values-set_value (same_code k) IsBounded m.entries (with_row t row) kept.bounded (bounded-grown t row bounded p o);
+        };
+        groups = one_grown k row small m.entries t kept.small once (sym found) ∙ sym (append-nil (map (grown k row) (kept_groups m.entries)))
+            ∙ sym (entered_as k row small m.entries (Some t) kept.small (sym found));
+        count = omega (
+          arith,
+          record_count-kept m.entries,
+          record_count-kept after,
+          sum_by-set_value (λ (x : Totals). x.records) (same_code k) m.entries t (with_row t row) (sym found),
+        );
+      })
 
-    pub AreKept-known : (n : ℕ) → AreKept n es → row.packets ≤ 2 ^ 64 - 1 → row.octets ≤ 2 ^ 64 - 1 → AreKept n (set_value test es (with_row t row))
-    AreKept-known n kept p o =
-        let keys : keys_of es ≡ keys_of (set_value test es (with_row t row)) = sym (keys-set_value test es (with_row t row)) in
-        record {
-      long = subst (All (λ (k : Key). length k ≡ n)) keys kept.long;
-      small = subst (All AreSmall) keys kept.small;
-      bounded = All-values-set_value test IsBounded es (with_row t row) kept.bounded (bounded-grown t row (bounded-at kept.bounded) p o);
-    }
+  -- where it has none
+  pub after_new : (new : Entries) (old : IndexMap Key Totals S) (code : Key) (t : Totals) → None ≡ get same_code m k → old ≡ m → code ≡ k
+      → t ≡ first_totals row → new ≡ insert_entry same_code old.entries code t → AfterRow n k row m.entries new
+  after_new new old code t none same copied first is =
+      let after : Entries = m.entries ++ (k, first_totals row) ∷ [] in
+      let keys : keys_of m.entries ++ k ∷ [] ≡ keys_of after = sym (map_push (λ (e : Key × Totals). e.0) m.entries (k, first_totals row)) in
+      let values : values_of m.entries ++ first_totals row ∷ [] ≡ values_of after
+      = sym (map_push (λ (e : Key × Totals). e.1) m.entries (k, first_totals row)) in
+      let groups : kept_groups after ≡ kept_groups m.entries ++ fresh k row ∷ []
+      = map_push (λ (e : Key × Totals). record { key = e.0; totals = e.1 }) m.entries (k, first_totals row) in
+      subst (AfterRow n k row m.entries)
+      (sym (is ∙ (λ i. insert_entry same_code (same i).entries (copied i) (first i)) ∙ insert_entry-new same_code m k (first_totals row) (sym none))) (record {
+        kept = λ long. record {
+          long = subst (All (λ (key : Key). length key ≡ n)) keys (All-push (λ (key : Key). length key ≡ n) (keys_of m.entries) k kept.long long);
+          small = subst (All AreSmall) keys (All-push AreSmall (keys_of m.entries) k kept.small small);
+          bounded = subst (All IsBounded) values (All-push IsBounded (values_of m.entries) (first_totals row) kept.bounded (p, o));
+        };
+        groups = groups ∙ ap (λ (l : List GroupModel). l ++ fresh k row ∷ []) (sym (none_grown k row small m.entries kept.small (sym none)))
+            ∙ sym (entered_as k row small m.entries None kept.small (sym none));
+        count = ap record_count groups ∙ sum_by_push (λ (g : GroupModel). g.totals.records) (kept_groups m.entries) (fresh k row);
+      })
 
--- a row whose key has none
-module _ (es : Entries) (k : Key) (row : RowView) where
-  pub record_count-new : record_count (kept_groups (es ++ (k, first_totals row) ∷ [])) ≡ record_count (kept_groups es) + 1
-  record_count-new =
-      ap record_count (map_push (λ (e : Key × Totals). record { key = e.0; totals = e.1 }) es (k, first_totals row))
-      ∙ sum_by_push (λ (g : GroupModel). g.totals.records) (kept_groups es) (fresh k row)
-
-  pub AreKept-new : (n : ℕ) → AreKept n es → length k ≡ n → AreSmall k → row.packets ≤ 2 ^ 64 - 1 → row.octets ≤ 2 ^ 64 - 1
-      → AreKept n (es ++ (k, first_totals row) ∷ [])
-  AreKept-new n kept long small p o =
-      let keys : keys_of es ++ k ∷ [] ≡ keys_of (es ++ (k, first_totals row) ∷ []) = sym (map_push (λ (e : Key × Totals). e.0) es (k, first_totals row)) in
-      let values : values_of es ++ first_totals row ∷ [] ≡ values_of (es ++ (k, first_totals row) ∷ [])
-      = sym (map_push (λ (e : Key × Totals). e.1) es (k, first_totals row)) in
-      record {
-    long = subst (All (λ (key : Key). length key ≡ n)) keys (All-push (λ (key : Key). length key ≡ n) (keys_of es) k kept.long long);
-    small = subst (All AreSmall) keys (All-push AreSmall (keys_of es) k kept.small small);
-    bounded = subst (All IsBounded) values (All-push IsBounded (values_of es) (first_totals row) kept.bounded (p, o));
-  }
-
-pub then_groups : (rows : List KeyedRow) (s k : Key) (row : RowView) (kept old new : List GroupModel) → new ≡ entered s row kept → s ≡ k → kept ≡ old
-    → old ≡ groups_of_keyed rows → new ≡ groups_of_keyed (rows ++ (k, row) ∷ [])
-then_groups rows s k row kept old new h key view e = h ∙ (λ i. entered (key i) row ((view ∙ e) i)) ∙ sym (groups-push rows k row)
+pub then_groups : (rows : List KeyedRow) (k given : Key) (row : RowView) (kept old new : List GroupModel) → new ≡ entered k row kept → k ≡ given
+    → kept ≡ old → old ≡ groups_of_keyed rows → new ≡ groups_of_keyed (rows ++ (given, row) ∷ [])
+then_groups rows k given row kept old new h key view e =
+    h ∙ (λ i. entered (key i) row ((view ∙ e) i)) ∙ sym (groups-push rows given row)

@@ -1,4 +1,4 @@
-use Rattle.std.proofs.Common.{◌≡◌, ◌∙◌, ℕ, List, [], ◌∷◌, ◌++◌, ap, append_assoc}
+use Rattle.std.proofs.Common.{◌∙◌, ℕ, List, [], ◌∷◌, ◌++◌, ap, append_assoc}
 use Rattle.flow_uniq.proofs.codec.append_address.Goals as goal
 
 pub returns-in_ok-extend_from_slice-in-V6-2 : goal.returns-in_ok-extend_from_slice-in-V6-2
