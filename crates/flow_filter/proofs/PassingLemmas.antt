@@ -23,18 +23,6 @@ front_within a b h = omega (arith, length-take (length a) b, ap length h)
 pub front_stays : {X : Type 0} (a b c : List X) → take (length a) b ≡ a → take (length b) c ≡ b → take (length a) c ≡ a
 front_stays a b c h k = sym (take-take (length a) (length b) c (front_within a b h)) ∙ ap (take (length a)) k ∙ h
 
--- what passes of the first row of a record, and then of the second, is what passes of its rows
-pub both_pass : (p : RowView → Bool) (front middle all : List RowView) (first second : Option RowView) (r : Record)
-    → first ≡ first_row r → second ≡ second_row r
-    → middle ≡ front ++ filter p (option_to_list first) → all ≡ middle ++ filter p (option_to_list second)
-    → all ≡ front ++ filter p (rows_of_record r)
-both_pass p front middle all first second r is_first is_second one two =
-    two
-    ∙ ap (λ (rows : List RowView). rows ++ filter p (option_to_list second)) one
-    ∙ append_assoc front (filter p (option_to_list first)) (filter p (option_to_list second))
-    ∙ ap (λ (rows : List RowView). front ++ rows) (sym (filter-append p (option_to_list first) (option_to_list second)))
-    ∙ (λ i. front ++ filter p (option_to_list (is_first i) ++ option_to_list (is_second i)))
-
 -- what passes of one more record, with what passes of those behind it
 pub pass_one : (p : RowView → Bool) (rows : Record → List RowView) (before all whole : List RowView) (left more : List Record) (r : Record)
     → left ≡ r ∷ more → all ≡ before ++ filter p (rows r)

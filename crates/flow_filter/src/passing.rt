@@ -1,7 +1,6 @@
 //! The rows of a message that pass a filter.
-ghost use Rattle.std.specs.Prelude.{◌≡◌, ◌+◌, ◌≤◌, ◌++◌, OnErr, OnOk, length, map, option_map, take};
+ghost use Rattle.std.specs.Prelude.{◌≡◌, ◌+◌, ◌≤◌, ◌++◌, ◌∷◌, [], OnErr, OnOk, length, map, take};
 ghost use Rattle.std.specs.List.{flat_map};
-ghost use Rattle.std.specs.Option.{option_to_list};
 ghost use Rattle.flow_rows.specs.Content.{rows_of};
 ghost use Rattle.flow_rows.specs.Elements.{rows_of_record};
 ghost use Rattle.flow_rows.specs.Row.{row_view};
@@ -15,31 +14,29 @@ use ipfix_read::{Message, Record, RecordList, Set};
 use label_lookup::Labeller;
 use std::alloc::AllocError;
 
-// Adds the row that is there, if it passes.
+// Adds the row, if it passes.
 #[inline(always)]
 fn add_row<L: Labeller>(
     filter: &Filter<'_>,
-    row: &Option<Row>,
+    row: &Row,
     labeller: Option<&L>,
     rows: &mut Vec<Row>,
 ) -> Result<(), AllocError>
     ensures ok { let labelling = labelling_lent L.version_of L.label labeller.entry in
         OnOk result (map row_view rows.new.items
         ≡ map row_view rows.old.items
-        ++ passing (condition_in filter.now) labelling (option_to_list (option_map row_view row.now))) }
+        ++ passing (condition_in filter.now) labelling (row_view row.now ∷ [])) }
     ensures front { take (length rows.old.items) rows.new.items ≡ rows.old.items }
 {
-    if let Some(row) = row {
-        if filter.passes(row, labeller) {
-            rows.push(*row)?;
-        }
+    if filter.passes(row, labeller) {
+        rows.push(*row)?;
     }
     Ok(())
 }
 
 // Adds the rows of a record that pass, found by the plan of its fields, the second right behind the first.
 #[inline(always)]
-#[tactic(auto, using(crate::proofs::PassingLemmas::front_stays, crate::proofs::PassingLemmas::both_pass))]
+#[tactic(auto, using(crate::proofs::PassingLemmas::front_stays))]
 fn add_rows_of_record<L: Labeller>(
     filter: &Filter<'_>,
     plan: &Plan<'_>,
@@ -53,11 +50,18 @@ fn add_rows_of_record<L: Labeller>(
         ≡ map row_view rows.old.items ++ passing (condition_in filter.now) labelling (rows_of_record data_record.now)) }
     ensures front { take (length rows.old.items) rows.new.items ≡ rows.old.items }
 {
-    add_row(filter, &plan.row_of(data_record), labeller, rows)?;
-    add_row(filter, &plan.reverse_row_of(data_record), labeller, rows)
+    let Some(first) = plan.row_of(data_record) else {
+        return Ok(());
+    };
+    add_row(filter, &first, labeller, rows)?;
+    match plan.row_back_of(data_record, &first) {
+        Some(second) => add_row(filter, &second, labeller, rows),
+        None => Ok(()),
+    }
 }
 
-// Adds the rows of records that pass.
+// Adds the rows of records that pass. Out of line, so that a set without records doesn't pay for the plan's frame.
+#[inline(never)]
 #[tactic(auto, using(crate::proofs::PassingLemmas::front_stays))]
 fn add_rows_of_records<L: Labeller>(
     filter: &Filter<'_>,
@@ -95,7 +99,9 @@ fn add_rows_of_sets<L: Labeller>(
 {
     for set in sets {
         if let Set::Values(_, records) = set {
-            add_rows_of_records(filter, records, labeller, rows)?;
+            if records.len() > 0 {
+                add_rows_of_records(filter, records, labeller, rows)?;
+            }
         }
     }
     Ok(())

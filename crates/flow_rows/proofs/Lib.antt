@@ -1,5 +1,3 @@
-pub mod Alike
-pub mod Bytes
-pub mod Layouts
-pub mod Passes
-pub mod Tallies
+pub mod Usable
+pub mod Reading
+pub mod Rows

@@ -1,5 +1,5 @@
 -- The counts of messages.
-use Rattle.std.specs.Prelude.{ℕ, List, Bool, true, false, length, count_by}
+use Rattle.std.specs.Prelude.{ℕ, ◌+◌, List, Bool, true, false, length, count_by}
 use Rattle.ipfix_templates.specs.declared.kind.Kind.{Kind}
 use Rattle.ipfix_templates.specs.declared.kind.Kind.TheVariants.{Flow, Options}
 use Rattle.ipfix_templates.specs.declared.event.TemplateEvent.{TemplateEvent}
@@ -36,6 +36,11 @@ counts_view c = record {
   options_records = c.options_records;
   rows = c.rows;
 }
+
+-- all counts together
+abbrev pub total : Counts → ℕ
+total c =
+    c.templates + c.options_templates + c.withdrawals + c.data_sets + c.skipped_sets + c.records + c.options_records + c.rows
 
 -- the event defines a template of the kind
 abbrev pub defines : Kind → TemplateEvent → Bool

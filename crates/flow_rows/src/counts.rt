@@ -1,9 +1,7 @@
 ghost use Rattle.std.specs.Prelude.{◌+◌, ◌*◌, ◌≤◌};
 
-use crate::counting::{
-    data_sets, definitions, first_rows, records, second_rows, skipped_sets, withdrawals,
-};
-use ipfix_read::Message;
+use crate::counting::{definitions, of_kind, row_count, withdrawals};
+use ipfix_read::{Message, Set};
 use ipfix_templates::Kind;
 
 /// The counts of messages: what `info` shows of a File. Each is at most 65,535 for each message, and
@@ -33,9 +31,10 @@ pub struct Counts {
 }
 
 impl Counts {
-    ghost use Rattle.std.specs.Prelude.{◌≡◌, ◌++◌, ◌∷◌, [], ◌<◌, List};
-    ghost use Rattle.ipfix_read.specs.Message.{MessageView};
-    ghost use Rattle.flow_rows.specs.Counts.{counts_of, counts_view};
+    ghost use Rattle.std.specs.Prelude.{◌≡◌, ◌++◌, ◌∷◌, [], ◌<◌, ℕ, List};
+    ghost use Rattle.ipfix_read.specs.Message.{MessageView, set_size};
+    ghost use Rattle.ipfix_read.specs.declared.set.Set.{Set as SetView};
+    ghost use Rattle.flow_rows.specs.Counts.{counts_in, counts_of, counts_view, total};
 
     /// The counts of no message.
     pub fn new() -> Counts
@@ -60,16 +59,34 @@ impl Counts {
         ensures { (messages : List MessageView) → counts_view self.old ≡ counts_of messages
             → counts_view self.new ≡ counts_of (messages ++ message.now ∷ []) }
     {
-        let sets = message.sets().as_slice();
         self.messages += 1;
-        self.templates += definitions(sets, Kind::Flow);
-        self.options_templates += definitions(sets, Kind::Options);
-        self.withdrawals += withdrawals(sets);
-        self.data_sets += data_sets(sets);
-        self.skipped_sets += skipped_sets(sets);
-        self.records += records(sets, Kind::Flow);
-        self.options_records += records(sets, Kind::Options);
-        self.rows += first_rows(sets);
-        self.rows += second_rows(sets);
+        for set in message.sets().as_slice() {
+            self.add_set(set);
+        }
+    }
+
+    // Counts one more set.
+    fn add_set(&mut self, set: &Set<'_>)
+        requires few { self.old.messages ≤ 4294967295 }
+        requires room { total self.old + 9 * set_size set.now ≤ 589815 * self.old.messages }
+        ensures counts { (messages : ℕ) (sets : List SetView) → counts_view self.old ≡ counts_in messages sets
+            → counts_view self.new ≡ counts_in messages (sets ++ set.now ∷ []) }
+        ensures room { total self.new ≤ total self.old + 9 * set_size set.now }
+        ensures messages { self.new.messages ≡ self.old.messages }
+    {
+        match set {
+            Set::Templates(_, events) => {
+                self.templates += definitions(events.as_slice(), Kind::Flow);
+                self.options_templates += definitions(events.as_slice(), Kind::Options);
+                self.withdrawals += withdrawals(events.as_slice());
+            }
+            Set::Values(_, records) => {
+                self.data_sets += 1;
+                self.records += of_kind(records, Kind::Flow);
+                self.options_records += of_kind(records, Kind::Options);
+                self.rows += row_count(records);
+            }
+            Set::Skipped(_) => self.skipped_sets += 1,
+        }
     }
 }

@@ -1,48 +1,68 @@
-ghost use Rattle.std.specs.Prelude.{◌≡◌, [], is_some, option_map, Some};
-ghost use Rattle.flow_rows.specs.Elements.{elements_of, row_between, row_of_elements};
-ghost use Rattle.flow_rows.specs.Parts.{after_value};
+ghost use Rattle.std.specs.Prelude.{◌≡◌, ◌+◌, ◌<◌, ◌^◌, ◌&&◌, ◌||◌, ℕ, None, Some, if◌then◌else◌, is_some, nat_le, option_map};
+ghost use Rattle.ipfix_read.specs.Value.{whole_values};
+ghost use Rattle.flow_rows.specs.Element.{element};
+ghost use Rattle.flow_rows.specs.Elements.{octets_of, packets_of, row_back, row_between, row_of_elements};
+ghost use Rattle.flow_rows.specs.Places.{elements_at, given, kept, place_in, place_of, said_there};
 ghost use Rattle.flow_rows.specs.Row.{row_view};
 
-use crate::number::{keep_u8, keep_u16, keep_u32, keep_u64, keep_u128};
+use crate::place::{Place, u8_there, u16_there, u32_there, u64_there, u128_there};
 use crate::row::Row;
-use ipfix_read::FieldValue;
+use ipfix_read::read_value;
+use ipfix_templates::Field;
 use prefix_keys::{Addr, Version};
 
-/// What some values say of each information element of a row (RFC 7012): the number of the first usable one.
-#[derive(Clone, Copy)]
+/// Where each information element of a row (RFC 7012), or the same one of the reverse direction (RFC 5103), lies in a
+/// record: the value of the first usable field.
+#[derive(Clone, Copy, Debug)]
 pub struct Elements {
     /// 1, octetDeltaCount.
-    pub octets: Option<u64>,
+    pub octets: Option<Place>,
     /// 2, packetDeltaCount.
-    pub packets: Option<u64>,
+    pub packets: Option<Place>,
     /// 4, protocolIdentifier.
-    pub protocol: Option<u8>,
+    pub protocol: Option<Place>,
     /// 6, tcpControlBits.
-    pub flags: Option<u16>,
+    pub flags: Option<Place>,
     /// 7, sourceTransportPort.
-    pub sport: Option<u16>,
+    pub sport: Option<Place>,
     /// 8, sourceIPv4Address.
-    pub src_v4: Option<u32>,
+    pub src_v4: Option<Place>,
     /// 11, destinationTransportPort.
-    pub dport: Option<u16>,
+    pub dport: Option<Place>,
     /// 12, destinationIPv4Address.
-    pub dst_v4: Option<u32>,
+    pub dst_v4: Option<Place>,
     /// 27, sourceIPv6Address.
-    pub src_v6: Option<u128>,
+    pub src_v6: Option<Place>,
     /// 28, destinationIPv6Address.
-    pub dst_v6: Option<u128>,
+    pub dst_v6: Option<Place>,
     /// 85, octetTotalCount.
-    pub total_octets: Option<u64>,
+    pub total_octets: Option<Place>,
     /// 86, packetTotalCount.
-    pub total_packets: Option<u64>,
+    pub total_packets: Option<Place>,
     /// 152, flowStartMilliseconds.
-    pub start_ms: Option<u64>,
+    pub start_ms: Option<Place>,
     /// 153, flowEndMilliseconds.
-    pub end_ms: Option<u64>,
+    pub end_ms: Option<Place>,
 }
 
-/// The IPv4 address with this number.
-pub fn ipv4(number: u32) -> Addr
+// Keeps the place of a field that begins at this offset, if its length is within these and no place is known.
+#[inline(always)]
+fn keep(slot: &mut Option<Place>, field: Field, at: usize, least: u16, most: u16)
+    requires { at + 65535 < 2 ^ 64 }
+    ensures { slot.new
+        ≡ kept slot.old (if nat_le least field.length && nat_le field.length most then Some (place_of at field) else None) }
+{
+    let size = field.length();
+    if slot.is_none() && least <= size && size <= most {
+        *slot = Some(Place {
+            begin: at,
+            end: at + usize::from(size),
+        });
+    }
+}
+
+// The IPv4 address with this number.
+fn ipv4(number: u32) -> Addr
     ensures version { result.version ≡ Version.V4 }
     ensures value { result.value ≡ number }
 {
@@ -52,8 +72,8 @@ pub fn ipv4(number: u32) -> Addr
     }
 }
 
-/// The IPv6 address with this number.
-pub fn ipv6(number: u128) -> Addr
+// The IPv6 address with this number.
+fn ipv6(number: u128) -> Addr
     ensures version { result.version ≡ Version.V6 }
     ensures value { result.value ≡ number }
 {
@@ -64,10 +84,10 @@ pub fn ipv6(number: u128) -> Addr
 }
 
 impl Elements {
-    /// What no value says.
+    /// The places among no fields.
     #[inline]
     pub fn new() -> Elements
-        ensures { result ≡ elements_of [] }
+        ensures { result ≡ elements_at (λ number. None) }
     {
         Elements {
             octets: None,
@@ -87,74 +107,150 @@ impl Elements {
         }
     }
 
-    /// Adds what one more value says. What earlier ones said stays.
-    #[inline]
+    /// Keeps the place of one more field, which begins at this offset, if it is usable for an element of the direction with
+    /// this enterprise number. Places of earlier fields stay.
+    #[inline(always)]
     #[tactic(auto, unfolding(crate::specs::Element::fits))]
-    pub fn take(&mut self, value: &FieldValue<'_>)
-        ensures { self.new ≡ after_value self.old value.now }
+    pub fn keep(&mut self, direction: Option<u32>, field: Field, at: usize)
+        requires { at + 65535 < 2 ^ 64 }
+        ensures { self.new ≡ elements_at (λ number. kept (place_in self.old number) (given direction at field number)) }
     {
-        let field = value.field();
-        if field.enterprise().is_some() {
+        if field.enterprise() != direction {
             return;
         }
         match field.number() {
-            1 => keep_u64(&mut self.octets, value, 1),
-            2 => keep_u64(&mut self.packets, value, 1),
-            4 => keep_u8(&mut self.protocol, value),
-            6 => keep_u16(&mut self.flags, value),
-            7 => keep_u16(&mut self.sport, value),
-            8 => keep_u32(&mut self.src_v4, value),
-            11 => keep_u16(&mut self.dport, value),
-            12 => keep_u32(&mut self.dst_v4, value),
-            27 => keep_u128(&mut self.src_v6, value),
-            28 => keep_u128(&mut self.dst_v6, value),
-            85 => keep_u64(&mut self.total_octets, value, 1),
-            86 => keep_u64(&mut self.total_packets, value, 1),
-            152 => keep_u64(&mut self.start_ms, value, 8),
-            153 => keep_u64(&mut self.end_ms, value, 8),
+            1 => keep(&mut self.octets, field, at, 1, 8),
+            2 => keep(&mut self.packets, field, at, 1, 8),
+            4 => keep(&mut self.protocol, field, at, 1, 1),
+            6 => keep(&mut self.flags, field, at, 1, 2),
+            7 => keep(&mut self.sport, field, at, 1, 2),
+            8 => keep(&mut self.src_v4, field, at, 4, 4),
+            11 => keep(&mut self.dport, field, at, 1, 2),
+            12 => keep(&mut self.dst_v4, field, at, 4, 4),
+            27 => keep(&mut self.src_v6, field, at, 16, 16),
+            28 => keep(&mut self.dst_v6, field, at, 16, 16),
+            85 => keep(&mut self.total_octets, field, at, 1, 8),
+            86 => keep(&mut self.total_packets, field, at, 1, 8),
+            152 => keep(&mut self.start_ms, field, at, 8, 8),
+            153 => keep(&mut self.end_ms, field, at, 8, 8),
             _ => {}
         }
     }
 
+    /// Where the elements of a direction lie in a record with these bytes, each value read as long as it is there.
+    #[inline(never)]
+    pub fn of_record(direction: Option<u32>, fields: &[Field], bytes: &[u8]) -> Elements
+        ensures { (number : ℕ) → said_there result bytes.now number
+            ≡ element direction (whole_values fields.now bytes.now) number }
+    {
+        let mut elements = Elements::new();
+        let mut rest = bytes;
+        for field in fields {
+            elements.keep(direction, *field, bytes.len() - rest.len());
+            let Some((_value, after)) = read_value(*field, rest) else {
+                break;
+            };
+            rest = after;
+        }
+        elements
+    }
+
     /// Whether there are both addresses of a version.
     #[inline]
-    pub fn have_row(&self) -> bool
-        ensures { result ≡ is_some (row_of_elements self.now) }
+    pub fn have_addresses(&self) -> bool
+        ensures { result ≡ ((is_some self.now.src_v4 && is_some self.now.dst_v4) || (is_some self.now.src_v6 && is_some self.now.dst_v6)) }
     {
         (self.src_v4.is_some() && self.dst_v4.is_some())
             || (self.src_v6.is_some() && self.dst_v6.is_some())
     }
 
+    /// Whether packets are counted.
+    #[inline]
+    pub fn have_packets(&self) -> bool
+        ensures { result ≡ (is_some self.now.packets || is_some self.now.total_packets) }
+    {
+        self.packets.is_some() || self.total_packets.is_some()
+    }
+
+    /// The packets in a record with these bytes, 0 if they are not counted.
+    #[inline(always)]
+    pub fn packets(&self, bytes: &[u8]) -> u64
+        ensures { result ≡ packets_of (said_there self.now bytes.now) }
+    {
+        u64_there(self.packets, 1, bytes)
+            .or(u64_there(self.total_packets, 1, bytes))
+            .unwrap_or(0)
+    }
+
+    // The bytes of the packets, 0 if they are not counted.
+    #[inline(always)]
+    fn octets(&self, bytes: &[u8]) -> u64
+        ensures { result ≡ octets_of (said_there self.now bytes.now) }
+    {
+        u64_there(self.octets, 1, bytes)
+            .or(u64_there(self.total_octets, 1, bytes))
+            .unwrap_or(0)
+    }
+
     // The row between two addresses of this version.
-    fn row_between(&self, version: Version, src: Addr, dst: Addr) -> Row
+    #[inline(always)]
+    fn row_between(&self, version: Version, src: Addr, dst: Addr, bytes: &[u8]) -> Row
         requires src_version { src.version ≡ version }
         requires dst_version { dst.version ≡ version }
-        ensures { Some (row_view result) ≡ row_between version (Some src.value) (Some dst.value) self.now }
+        ensures { Some (row_view result) ≡ row_between version (Some src.value) (Some dst.value) (said_there self.now bytes.now) }
     {
         Row {
             version,
             src,
             dst,
-            sport: self.sport.unwrap_or(0),
-            dport: self.dport.unwrap_or(0),
-            protocol: self.protocol.unwrap_or(0),
-            flags: self.flags.unwrap_or(0),
-            packets: self.packets.or(self.total_packets).unwrap_or(0),
-            octets: self.octets.or(self.total_octets).unwrap_or(0),
-            start_ms: self.start_ms.unwrap_or(0),
-            end_ms: self.end_ms.unwrap_or(0),
+            sport: u16_there(self.sport, bytes).unwrap_or(0),
+            dport: u16_there(self.dport, bytes).unwrap_or(0),
+            protocol: u8_there(self.protocol, bytes).unwrap_or(0),
+            flags: u16_there(self.flags, bytes).unwrap_or(0),
+            packets: self.packets(bytes),
+            octets: self.octets(bytes),
+            start_ms: u64_there(self.start_ms, 8, bytes).unwrap_or(0),
+            end_ms: u64_there(self.end_ms, 8, bytes).unwrap_or(0),
         }
     }
 
-    /// The row, where there are both addresses of a version; those of IPv4 come first.
-    #[inline]
-    pub fn row(&self) -> Option<Row>
-        ensures { option_map row_view result ≡ row_of_elements self.now }
+    /// The row of a record with these bytes, if there are both addresses of a version; those of IPv4 come first.
+    #[inline(always)]
+    pub fn row(&self, bytes: &[u8]) -> Option<Row>
+        ensures { option_map row_view result ≡ row_of_elements (said_there self.now bytes.now) }
     {
-        if let (Some(src), Some(dst)) = (self.src_v4, self.dst_v4) {
-            return Some(self.row_between(Version::V4, ipv4(src), ipv4(dst)));
+        if let (Some(src), Some(dst)) = (
+            u32_there(self.src_v4, bytes),
+            u32_there(self.dst_v4, bytes),
+        ) {
+            return Some(self.row_between(Version::V4, ipv4(src), ipv4(dst), bytes));
         }
-        let (src, dst) = (self.src_v6?, self.dst_v6?);
-        Some(self.row_between(Version::V6, ipv6(src), ipv6(dst)))
+        let src = u128_there(self.src_v6, bytes)?;
+        let dst = u128_there(self.dst_v6, bytes)?;
+        Some(self.row_between(Version::V6, ipv6(src), ipv6(dst), bytes))
+    }
+
+    /// The row of the reverse direction of a row, in a record with these bytes, if any packet went that way.
+    #[inline(always)]
+    pub fn row_back(&self, row: &Row, bytes: &[u8]) -> Option<Row>
+        ensures { option_map row_view result ≡ row_back (said_there self.now bytes.now) (row_view row.now) }
+    {
+        let packets = self.packets(bytes);
+        if packets == 0 {
+            return None;
+        }
+        Some(Row {
+            version: row.version,
+            src: row.dst,
+            dst: row.src,
+            sport: row.dport,
+            dport: row.sport,
+            protocol: row.protocol,
+            flags: u16_there(self.flags, bytes).unwrap_or(0),
+            packets,
+            octets: self.octets(bytes),
+            start_ms: u64_there(self.start_ms, 8, bytes).unwrap_or(row.start_ms),
+            end_ms: u64_there(self.end_ms, 8, bytes).unwrap_or(row.end_ms),
+        })
     }
 }

@@ -27,16 +27,11 @@
 mod counting;
 mod counts;
 mod elements;
-mod layout;
 mod number;
 mod place;
-mod places;
 mod plan;
 mod record;
-mod reverse;
-mod reverse_places;
 mod row;
-mod telling;
 
 pub use counts::Counts;
 pub use plan::Plan;

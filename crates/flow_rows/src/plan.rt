@@ -1,79 +1,167 @@
-ghost use Rattle.std.specs.Prelude.{◌≡◌, map, option_map};
-ghost use Rattle.flow_rows.specs.Elements.{first_row, second_row};
+ghost use Rattle.std.specs.Prelude.{◌≡◌, ◌+◌, ◌<◌, ◌≤◌, ◌^◌, All, Some, length, map, option_map};
+ghost use Rattle.std.specs.List.{flat_map};
+ghost use Rattle.ipfix_read.specs.Value.{whole_values};
+ghost use Rattle.flow_rows.specs.Element.{back, element, forward};
+ghost use Rattle.flow_rows.specs.Elements.{first_row, packets_of, row_of_elements, rows_of_record, second_row};
 ghost use Rattle.flow_rows.specs.Row.{row_view};
 
-use crate::layout::Layout;
-use crate::record::{reverse_row_of, row_of};
+use crate::elements::Elements;
 use crate::row::Row;
-use ipfix_read::Record;
-use ipfix_templates::Fields;
+use ipfix_read::{Record, RecordList};
+use ipfix_templates::{Field, Fields, Kind};
 use std::marker::Model;
 
-/// How the rows of records with the same fields are found: where each information element of a row lies in all of
-/// them, looked for once. Contracts see it as the fields.
+// The enterprise number of the elements of the reverse direction (RFC 5103 section 6.1).
+const REVERSE: u32 = 29305;
+
+/// How the rows of records with the same fields are found: where each information element of both directions lies in all
+/// of them, looked for once. Contracts see it as the fields.
 #[derive(Debug, Drop)]
 pub struct Plan<'f> {
     fields: &'f Fields,
-    // None where a field is variable, so that values behind it lie elsewhere in each record.
-    layout: Option<Layout>,
+    // The elements of the record's own direction.
+    forward: Elements,
+    // The elements of the reverse direction.
+    back: Elements,
+    // Whether no field is variable. Otherwise the values of each record are read one by one, and the places only say which
+    // elements have a usable field.
+    is_fixed: bool,
 }
 
 impl<'f> Model for Plan<'f> {
     ghost use Rattle.std.specs.Prelude.{List};
     ghost use Rattle.ipfix_templates.specs.Field.{FieldView};
-    ghost use Rattle.flow_rows.specs.Places.{IsLaidOut};
+    ghost use Rattle.flow_rows.specs.Places.{IsPlanned};
 
     ghost Value = { List FieldView };
 
     ghost view = { λ p. p.fields.now };
 
-    ghost invariant = { λ p. IsLaidOut p.fields.now p.layout };
+    ghost invariant = { λ p. IsPlanned p.fields.now p.forward p.back p.is_fixed };
+}
+
+// The row of a record's own direction, from a search through its values. Out of line, so that its table of places is in no
+// caller's frame.
+#[inline(never)]
+fn row_of_values(fields: &[Field], bytes: &[u8]) -> Option<Row>
+    ensures { option_map row_view result ≡ row_of_elements (element forward (whole_values fields.now bytes.now)) }
+{
+    Elements::of_record(None, fields, bytes).row(bytes)
+}
+
+// How many packets went back, from a search through the record's values. Out of line like `row_of_values`.
+#[inline(never)]
+fn packets_back_of_values(fields: &[Field], bytes: &[u8]) -> u64
+    ensures { result ≡ packets_of (element back (whole_values fields.now bytes.now)) }
+{
+    Elements::of_record(Some(REVERSE), fields, bytes).packets(bytes)
 }
 
 impl<'f> Plan<'f> {
     /// The plan for records with these fields.
+    #[inline(always)]
     pub fn new(fields: &'f Fields) -> Plan<'f>
         ensures { result ≡ fields.now }
     {
-        if !fields.runs().is_empty() {
-            return Plan {
-                fields,
-                layout: None,
-            };
-        }
         // It bounds the number of fields that have bytes.
         let _most = fields.len();
+        let mut forward = Elements::new();
+        let mut back = Elements::new();
+        let mut at = 0usize;
+        for field in fields.filled() {
+            forward.keep(None, *field, at);
+            back.keep(Some(REVERSE), *field, at);
+            at += usize::from(field.length());
+        }
         Plan {
             fields,
-            layout: Some(Layout::new(fields.filled())),
+            forward,
+            back,
+            is_fixed: fields.runs().is_empty(),
         }
     }
 
-    /// The first row of a record with the plan's fields, as `row_of` finds it.
+    /// The first row of a record with the plan's fields, from the first usable field of each element (RFC 7012). A field is
+    /// usable if it has no enterprise number and the template's length fits its element. Returns `None` for an options
+    /// record, and if neither both IPv4 addresses nor both IPv6 addresses are there.
     #[inline(always)]
     pub fn row_of(&self, source: &Record<'_, '_>) -> Option<Row>
         requires { map (λ v. v.field) source.now.fields ≡ self.now }
         ensures { option_map row_view result ≡ first_row source.now }
     {
-        match &self.layout {
-            Some(layout) => layout.first_row(source.kind, source.fields.bytes()),
-            None => row_of(source),
-        }
-    }
-
-    /// The second row of a record with the plan's fields, as `reverse_row_of` finds it.
-    #[inline(always)]
-    pub fn reverse_row_of(&self, source: &Record<'_, '_>) -> Option<Row>
-        requires { map (λ v. v.field) source.now.fields ≡ self.now }
-        ensures { option_map row_view result ≡ second_row source.now }
-    {
-        let Some(layout) = &self.layout else {
-            return reverse_row_of(source);
-        };
-        let bytes = source.fields.bytes();
-        if !layout.back.tell_packets() {
+        if let Kind::Options = source.kind {
             return None;
         }
-        layout.second_row(source.kind, bytes)
+        let bytes = source.fields.bytes();
+        if self.is_fixed {
+            return self.forward.row(bytes);
+        }
+        row_of_values(self.fields.filled(), bytes)
+    }
+
+    /// The second row of a record with the plan's fields and this first row: that of the reverse direction (RFC 5103 section
+    /// 4), if the packets that went back are counted and not 0. Addresses and ports are those of the first row exchanged. A
+    /// field of the reverse direction is usable if its enterprise number is 29305 and the template's length fits its element;
+    /// a time without a field is that of the first row.
+    #[inline(always)]
+    pub fn row_back_of(&self, source: &Record<'_, '_>, first: &Row) -> Option<Row>
+        requires fields { map (λ v. v.field) source.now.fields ≡ self.now }
+        requires first { first_row source.now ≡ Some (row_view first.now) }
+        ensures { option_map row_view result ≡ second_row source.now }
+    {
+        if !self.back.have_packets() {
+            return None;
+        }
+        self.counted_row_back_of(source, first)
+    }
+
+    // Like `row_back_of`, if a field counts the packets that went back.
+    #[inline(never)]
+    fn counted_row_back_of(&self, source: &Record<'_, '_>, first: &Row) -> Option<Row>
+        requires fields { map (λ v. v.field) source.now.fields ≡ self.now }
+        requires first { first_row source.now ≡ Some (row_view first.now) }
+        ensures { option_map row_view result ≡ second_row source.now }
+    {
+        let bytes = source.fields.bytes();
+        if self.is_fixed {
+            return self.back.row_back(first, bytes);
+        }
+        Elements::of_record(Some(REVERSE), self.fields.filled(), bytes).row_back(first, bytes)
+    }
+
+    // How many packets went back in a record with the plan's fields.
+    #[inline(always)]
+    fn packets_back(&self, source: &Record<'_, '_>) -> u64
+        requires { map (λ v. v.field) source.now.fields ≡ self.now }
+        ensures { result ≡ packets_of (element back source.now.fields) }
+    {
+        let bytes = source.fields.bytes();
+        if self.is_fixed {
+            return self.back.packets(bytes);
+        }
+        packets_back_of_values(self.fields.filled(), bytes)
+    }
+
+    /// How many rows records with the plan's fields have. The fields say whether all of them have first rows; for second
+    /// rows each record is looked at, if a field counts packets that went back.
+    pub fn row_count(&self, records: &RecordList<'_>) -> u64
+        requires fields { All (λ r. map (λ v. v.field) r.fields ≡ self.now) records.now }
+        requires few { length records.now < 2 ^ 63 }
+        ensures value { result ≡ length (flat_map rows_of_record records.now) }
+        ensures bound { result ≤ length records.now + length records.now }
+    {
+        if !records.kind().is(Kind::Flow) || !self.forward.have_addresses() {
+            return 0;
+        }
+        let mut count = records.len() as u64;
+        if !self.back.have_packets() {
+            return count;
+        }
+        for source in records.iter() {
+            if self.packets_back(&source) != 0 {
+                count += 1;
+            }
+        }
+        count
     }
 }

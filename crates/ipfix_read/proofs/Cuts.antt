@@ -8,11 +8,11 @@ use Rattle.byteorder.specs.Endian.{big_number}
 use Rattle.ipfix_templates.specs.declared.field.Field.{Field}
 use Rattle.ipfix_templates.specs.Field.{has_bytes, is_variable}
 use Rattle.ipfix_templates.specs.Runs.{runs_behind, last_run_behind}
-use Rattle.ipfix_read.specs.Value.{FieldValueView, bytes_at, variable_at, value_at, values_at, whole_values, values_with_bytes}
+use Rattle.ipfix_read.specs.Value.{FieldValueView, bytes_at, variable_at, value_at, values_at, whole_values}
 use Rattle.ipfix_read.proofs.Choice.{chosen, gave, some_is}
 
 -- what was read stands at the front, and is read alike whatever follows it
-abbrev Front : {A : Type 0} → (List ℕ → Option (A × List ℕ)) → List ℕ → A × List ℕ → Type 0
+abbrev pub Front : {A : Type 0} → (List ℕ → Option (A × List ℕ)) → List ℕ → A × List ℕ → Type 0
 Front read bytes x = (front : List ℕ) × (bytes ≡ front ++ x.1) × ((more : List ℕ) → read (front ++ more) ≡ Some (x.0, more))
 
 at_front : (count : ℕ) (front more : List ℕ) → length front ≡ count → bytes_at count (front ++ more) ≡ Some (front, more)
@@ -50,7 +50,7 @@ variable_front (first ∷ bytes) x e =
       | inr p ↦ let f = long_front bytes x p.1 in (first ∷ f.0, ap (λ (ys : List ℕ). first ∷ ys) f.1, λ more. rw p.0 (f.2 more))
     ]
 
-value_front : (field : Field) (bytes : List ℕ) (x : List ℕ × List ℕ) → value_at field bytes ≡ Some x → Front (value_at field) bytes x
+pub value_front : (field : Field) (bytes : List ℕ) (x : List ℕ × List ℕ) → value_at field bytes ≡ Some x → Front (value_at field) bytes x
 unfolding value_at
 value_front field bytes x e =
     elim (eqb field.length 65535) as (λ b. cond b (variable_at bytes) (bytes_at field.length bytes) ≡ Some x → Front (λ bs. cond b (variable_at bs) (bytes_at field.length bs)) bytes x) [
@@ -77,7 +77,7 @@ whole_step : (field : Field) (fields : List Field) (bytes : List ℕ) (v : List 
 unfolding whole_values
 whole_step field fields bytes v e = rw e refl
 
-whole_is : (fields : List Field) (bytes : List ℕ) (x : List FieldValueView × List ℕ) → values_at fields bytes ≡ Some x → whole_values fields bytes ≡ x.0
+pub whole_is : (fields : List Field) (bytes : List ℕ) (x : List FieldValueView × List ℕ) → values_at fields bytes ≡ Some x → whole_values fields bytes ≡ x.0
 unfolding values_at whole_values
 whole_is [] bytes x e = ap (λ (y : List FieldValueView × List ℕ). y.0) (some_is ([], bytes) x e)
 whole_is (field ∷ fields) bytes x e =
@@ -221,6 +221,9 @@ one_more field fields bytes v after same e =
     whole_step field fields bytes (v.value, after) (sym e) ∙ ap (λ (f : Field). record { field = f; value = v.value } ∷ whole_values fields after) (sym same)
 
 -- ---- the values of fields that take bytes
+
+abbrev pub values_with_bytes : List FieldValueView → List FieldValueView
+values_with_bytes values = filter (λ v. has_bytes v.field) values
 
 nothing_is : (field : Field) (bytes : List ℕ) → field.length ≡ 0 → value_at field bytes ≡ Some ([], bytes)
 unfolding value_at

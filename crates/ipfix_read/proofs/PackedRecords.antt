@@ -1,5 +1,5 @@
 -- Records that are kept as their bytes, their fields and their number.
-use Rattle.std.proofs.Common.{◌≡◌, ◌≢◌, ℕ, zero, suc, ◌+◌, ◌*◌, ◌-◌, ◌<◌, ◌≤◌, ◌/◌, Bool, true, false, cond, All, List, [], ◌∷◌, ◌++◌, length, map, take, drop, Option, Some, None, Bor, refl, sym, ap, subst, is_some, ◌∙◌, append_assoc, length-append, length-drop, take-append-drop, drop-drop, arith}
+use Rattle.std.proofs.Common.{◌≡◌, ℕ, zero, suc, ◌+◌, ◌*◌, ◌-◌, ◌<◌, ◌≤◌, ◌/◌, Bool, true, false, cond, All, List, [], ◌∷◌, ◌++◌, length, map, take, drop, Option, Some, None, Bor, refl, sym, ap, subst, is_some, ◌∙◌, append_assoc, length-append, length-drop, drop-drop, arith}
 use Rattle.std.specs.Prelude.{option_and_then, option_map}
 use Rattle.std.proofs.Math.Nat.{add-mul, le-div_iff_mul-le, suc-mul}
 use Rattle.std.proofs.lemmas.Bool.{le-ltb}
@@ -13,9 +13,9 @@ use Rattle.ipfix_templates.specs.Runs.{runs_behind, last_run_behind}
 use Rattle.ipfix_templates.specs.Template.{TemplateView}
 use Rattle.ipfix_read.specs.declared.record.Record.{Record}
 use Rattle.ipfix_read.specs.Value.{FieldValueView, bytes_at, value_at, values_at}
-use Rattle.ipfix_read.specs.Record.{record_at, HasRoom, ReadsRecords, HasRecord}
+use Rattle.ipfix_read.specs.Record.{record_at, ReadsRecords, HasRecord}
 use Rattle.ipfix_read.specs.WholeRecords.{packed_records, whole_records}
-use Rattle.ipfix_read.proofs.Choice.{chosen, gave, mapped, some_is}
+use Rattle.ipfix_read.proofs.Choice.{gave, mapped, some_is}
 use Rattle.ipfix_read.proofs.Cuts.{behind_runs, left, values_front, runs_are}
 
 -- the fields of values are those that they were read by

@@ -1,9 +1,9 @@
 -- The values of a data record (RFC 7011 sections 3.4.3 and 7).
-use Rattle.std.specs.Prelude.{◌≡◌, ◌≢◌, ℕ, List, [], ◌∷◌, length, take, drop, filter, Option, Some, None, option_and_then, nat_lt, if◌then◌else◌}
+use Rattle.std.specs.Prelude.{◌≡◌, ◌≢◌, ℕ, List, [], ◌∷◌, length, take, drop, Option, Some, None, option_and_then, nat_lt, if◌then◌else◌}
 use Rattle.std.specs.Option.{option_map_or}
 use Rattle.byteorder.specs.Endian.{big_number}
 use Rattle.ipfix_templates.specs.declared.field.Field.{Field}
-use Rattle.ipfix_templates.specs.Field.{has_bytes, is_variable}
+use Rattle.ipfix_templates.specs.Field.{is_variable}
 
 -- a value with its field's specifier, without where they lie in memory
 pub record FieldValueView : Type 0 where
@@ -42,7 +42,3 @@ unfoldable pub whole_values : List Field → List ℕ → List FieldValueView
 whole_values [] bytes = []
 whole_values (field ∷ fields) bytes =
     option_map_or (λ v. record { field = field; value = v.0 } ∷ whole_values fields v.1) (value_at field bytes) []
-
--- those of the values whose fields take bytes
-abbrev pub values_with_bytes : List FieldValueView → List FieldValueView
-values_with_bytes values = filter (λ v. has_bytes v.field) values

@@ -49,4 +49,4 @@ pub use progress::Progress;
 pub use record::{Record, RecordList, Records};
 pub use set::{Set, SetList};
 pub use state::State;
-pub use value::{FieldValue, FieldValues, Values};
+pub use value::{FieldValue, FieldValues, Values, read_value};

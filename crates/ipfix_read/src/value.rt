@@ -1,6 +1,6 @@
 ghost use Rattle.std.specs.Prelude.{◌≡◌, [], Some, IfSome, length, map, option_map};
 ghost use Rattle.std.specs.Iterator.{YieldsFirst, item_count};
-ghost use Rattle.ipfix_read.specs.Value.{IsValueOf, bytes_at, variable_at, value_at, values_at, values_with_bytes};
+ghost use Rattle.ipfix_read.specs.Value.{IsValueOf, bytes_at, variable_at, value_at, values_at};
 
 use byteorder::{BigEndian, ByteOrder};
 use ipfix_templates::{Field, Fields};
@@ -70,6 +70,13 @@ impl<'f, 'a> FieldValues<'f, 'a> {
         self.specifiers.len()
     }
 
+    /// The fields of the values, in order.
+    pub fn specifiers(&self) -> &'f Fields
+        ensures { result.now ≡ map (λ v. v.field) self.now }
+    {
+        self.specifiers
+    }
+
     /// The bytes that the values stand in, one after the other.
     pub fn bytes(&self) -> &'a [u8]
         ensures { values_at (map (λ v. v.field) self.now) result.now ≡ Some (self.now, []) }
@@ -83,18 +90,6 @@ impl<'f, 'a> FieldValues<'f, 'a> {
     {
         Values {
             specifiers: self.specifiers.as_slice(),
-            bytes: self.bytes,
-        }
-    }
-
-    /// The values of the fields that take bytes, in order: those whose field has a length that is not 0, also a
-    /// variable one, of which the value may be empty. They are at most as many as the record has bytes, however many
-    /// fields its template has.
-    pub fn with_bytes(&self) -> Values<'f, 'a>
-        ensures { result ≡ values_with_bytes self.now }
-    {
-        Values {
-            specifiers: self.specifiers.filled(),
             bytes: self.bytes,
         }
     }
@@ -156,9 +151,9 @@ fn read_variable(bytes: &[u8]) -> Option<(&[u8], &[u8])>
     read_bytes(usize::from(BigEndian::read_u16(rest)), &rest[2..])
 }
 
-// The value of a field at the front, and the bytes after it.
+/// The value of a field at the front, and the bytes after it. Returns `None` if the bytes end before the value does.
 #[tactic(auto, unfolding(crate::specs::Value::value_at))]
-fn read_value<'a>(field: Field, bytes: &'a [u8]) -> Option<(FieldValue<'a>, &'a [u8])>
+pub fn read_value<'a>(field: Field, bytes: &'a [u8]) -> Option<(FieldValue<'a>, &'a [u8])>
     ensures field { IfSome result (λ x. x.0.field ≡ field) }
     ensures value { option_map (λ x. (x.0.value, x.1.now)) result ≡ value_at field bytes.now }
 {

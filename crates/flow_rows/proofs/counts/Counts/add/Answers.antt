@@ -1,58 +1,37 @@
-use Rattle.std.proofs.Common.{◌∙◌, ◌≤◌, is_some, cond, arith}
-use Rattle.std.specs.Prelude.{count_by}
-use Rattle.ipfix_templates.specs.declared.kind.Kind.TheVariants.{Flow, Options}
-use Rattle.flow_rows.specs.Counts.{counts_view, defines, is_data_set, is_of_kind, is_skipped, is_withdrawal}
-use Rattle.flow_rows.specs.Elements.{first_row, second_row}
-use Rattle.flow_rows.proofs.Tallies.{counted, events_fit, fits_message, records_fit, set_fits}
+use Rattle.std.proofs.Common.{◌≡◌, ◌∙◌, ◌+◌, [], ◌∷◌, ◌++◌, List, append_assoc, ap, arith, drop, length, length-append, sym, take}
+use Rattle.std.proofs.lemmas.Grind.{flat_map-append}
+use Rattle.std.proofs.lemmas.List.{append-nil, drop_more, take_all, take_more}
+use Rattle.std.proofs.lemmas.List.Sums.{sum_by-cons}
+use Rattle.ipfix_read.specs.declared.set.Set.{Set}
+use Rattle.ipfix_read.specs.Message.{MessageView, message_size, set_size}
+use Rattle.flow_rows.specs.Content.{sets_of}
+use Rattle.flow_rows.specs.Counts.{counts_in}
 use Rattle.flow_rows.proofs.counts.Counts.add.Goals as goal
 
-pub definitions-requires : goal.definitions-requires
-definitions-requires c =
-    fits_message _ (events_fit (defines Flow)) c.as_slice-sets.ensures c.sets.ensures.value c.sets.ensures.size
-
-pub definitions-requires-2 : goal.definitions-requires-2
-definitions-requires-2 c =
-    fits_message _ (events_fit (defines Options)) c.as_slice-sets.ensures c.sets.ensures.value c.sets.ensures.size
-
-pub withdrawals-requires : goal.withdrawals-requires
-withdrawals-requires c =
-    fits_message _ (events_fit is_withdrawal) c.as_slice-sets.ensures c.sets.ensures.value c.sets.ensures.size
-
-pub records-requires : goal.records-requires
-records-requires c =
-    fits_message _ (records_fit (is_of_kind Flow)) c.as_slice-sets.ensures c.sets.ensures.value c.sets.ensures.size
-
-pub records-requires-2 : goal.records-requires-2
-records-requires-2 c =
-    fits_message _ (records_fit (is_of_kind Options)) c.as_slice-sets.ensures c.sets.ensures.value c.sets.ensures.size
-
-pub first_rows-requires : goal.first_rows-requires
-first_rows-requires c =
-    fits_message _ (records_fit (λ r. is_some (first_row r))) c.as_slice-sets.ensures c.sets.ensures.value c.sets.ensures.size
-
-pub second_rows-requires : goal.second_rows-requires
-second_rows-requires c =
-    fits_message _ (records_fit (λ r. is_some (second_row r))) c.as_slice-sets.ensures c.sets.ensures.value c.sets.ensures.size
-
-pub invariant_of-self : goal.invariant_of-self
-invariant_of-self c =
-    let data_sets : count_by is_data_set c.as_slice-sets.result.now ≤ 65535 =
-    fits_message (λ set. cond (is_data_set set) 1 0) (set_fits is_data_set) c.as_slice-sets.ensures c.sets.ensures.value c.sets.ensures.size in
-    let skipped : count_by is_skipped c.as_slice-sets.result.now ≤ 65535 =
-    fits_message (λ set. cond (is_skipped set) 1 0) (set_fits is_skipped) c.as_slice-sets.ensures c.sets.ensures.value c.sets.ensures.size in
-    record { bounded = omega arith }
+pub loop-set-preserved : goal.loop-set-preserved
+loop-set-preserved c =
+    let sets = c.as_slice-set-items.result.now in
+    let k = c.loop-set.set-index in
+    let set = c.set-item.result in
+    let behind : drop k sets ≡ set ∷ drop (k + 1) sets =
+    drop_more sets k set c.loop-set-test.true ∙ ap (λ (s : Set). s ∷ drop (k + 1) sets) (sym c.set-item.is) in
+    let before : take k sets ++ set ∷ [] ≡ take (k + 1) sets =
+    ap (λ (s : Set). take k sets ++ s ∷ []) c.set-item.is ∙ sym (take_more sets k set c.loop-set-test.true) in
+    record {
+      counted = λ messages is.
+          c.add_set.ensures.counts (length messages + 1) (sets_of messages ++ take k sets) (c.loop-set.invariant.counted messages is)
+          ∙ ap (counts_in (length messages + 1))
+          (append_assoc (sets_of messages) (take k sets) (set ∷ []) ∙ ap (λ (more : List Set). sets_of messages ++ more) before);
+      few = omega arith;
+      room = omega (arith, ap message_size behind, sum_by-cons set_size set (drop (k + 1) sets));
+    }
 
 pub returns : goal.returns
-returns c = λ messages before.
-    rw (
-      c.definitions.ensures.value,
-      c.definitions-2.ensures.value,
-      c.withdrawals.ensures.value,
-      c.data_sets.ensures,
-      c.skipped_sets.ensures,
-      c.records.ensures.value,
-      c.records-2.ensures.value,
-      c.first_rows.ensures.value,
-      c.second_rows.ensures.value,
-    )
-    (counted (counts_view c.args.self.now) c.as_slice-sets.result.now messages c.args.message.now before (c.as_slice-sets.ensures ∙ c.sets.ensures.value))
+returns c = λ messages is.
+    let sets = c.as_slice-set-items.result.now in
+    let m = c.args.message.now in
+    let those : sets_of messages ++ take c.loop-set.set-index sets ≡ sets_of (messages ++ m ∷ []) =
+    ap (λ (more : List Set). sets_of messages ++ more)
+    (take_all c.loop-set.set-index sets c.loop-set-test.false ∙ c.as_slice-set-items.ensures ∙ c.sets.ensures.value ∙ sym (append-nil m.sets))
+    ∙ sym (flat_map-append (λ (message : MessageView). message.sets) messages (m ∷ [])) in
+    c.loop-set.invariant.counted messages is ∙ (λ i. counts_in (sym (length-append messages (m ∷ [])) i) (those i))

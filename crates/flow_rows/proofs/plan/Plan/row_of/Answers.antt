@@ -1,9 +1,25 @@
-use Rattle.std.proofs.Common.{◌∙◌, sym}
-use Rattle.flow_rows.proofs.Layouts.{first_said}
+use Rattle.std.proofs.Common.{◌≡◌, ◌∙◌, ℕ, ap, sym}
+use Rattle.std.specs.Prelude.{option_and_then}
+use Rattle.ipfix_read.specs.Value.{whole_values}
+use Rattle.flow_rows.specs.Element.{back, element, forward}
+use Rattle.flow_rows.specs.Elements.{packets_of, row_back, row_of_elements}
+use Rattle.flow_rows.specs.Places.{said_there}
+use Rattle.flow_rows.specs.Row.{row_view}
+use Rattle.flow_rows.proofs.Reading.{filled_said, fixed_said}
+use Rattle.flow_rows.proofs.Rows.{first_row_of-flow}
 use Rattle.flow_rows.proofs.plan.Plan.row_of.Goals as goal
 
-pub returns-in-Some : goal.returns-in-Some
-returns-in-Some c =
-    c.first_row.ensures
-    ∙ first_said c.self.inside.fields.now c.self.inside.layout c.in-Some.layout c.in-Some.is c.self.invariant c.bytes.result.now c.args.source.now.fields
-    (c.requires ∙ sym c.self.view_is) c.bytes.ensures c.args.source.now.kind
+pub returns-then-self : goal.returns-then-self
+returns-then-self c =
+    let p = c.self.inside in
+    let said = fixed_said forward p.fields.now c.bytes-bytes.result.now c.args.source.now.fields (c.requires ∙ sym c.self.view_is) c.bytes-bytes.ensures
+    p.forward c.self.invariant.forward_is (c.self.invariant.fixed c.if-self.true) in
+    c.row.ensures ∙ (λ i. row_of_elements (λ n. said n i))
+    ∙ sym (first_row_of-flow c.args.source.now.kind c.args.source.now.fields c.in_default.not-Options)
+
+pub returns : goal.returns
+returns c =
+    let said = filled_said forward c.self.inside.fields.now c.bytes-bytes.result.now c.args.source.now.fields (c.requires ∙ sym c.self.view_is) c.bytes-bytes.ensures
+    c.filled.result.now c.filled.ensures in
+    c.row_of_values.ensures ∙ (λ i. row_of_elements (λ n. said n i))
+    ∙ sym (first_row_of-flow c.args.source.now.kind c.args.source.now.fields c.in_default.not-Options)

@@ -1,4 +1,4 @@
-use Rattle.std.proofs.Common.{◌∙◌, sym, arith}
+use Rattle.std.proofs.Common.{sym, arith}
 use Rattle.ipfix_read.proofs.PackedRecords.{none_left}
 use Rattle.ipfix_read.proofs.record.RecordList.new.Goals as goal
 

@@ -1,0 +1,23 @@
+use Rattle.std.proofs.Common.{◌≡◌, ◌∙◌, ℕ, ap, sym}
+use Rattle.std.specs.Prelude.{option_and_then}
+use Rattle.ipfix_read.specs.Value.{whole_values}
+use Rattle.flow_rows.specs.Element.{back, element, forward}
+use Rattle.flow_rows.specs.Elements.{packets_of, row_back, row_of_elements}
+use Rattle.flow_rows.specs.Places.{said_there}
+use Rattle.flow_rows.specs.Row.{row_view}
+use Rattle.flow_rows.proofs.Reading.{filled_said, fixed_said}
+use Rattle.flow_rows.proofs.Rows.{first_row_of-flow}
+use Rattle.flow_rows.proofs.plan.Plan.packets_back.Goals as goal
+
+pub returns-then-self : goal.returns-then-self
+returns-then-self c =
+    let p = c.self.inside in
+    let said = fixed_said back p.fields.now c.bytes-bytes.result.now c.args.source.now.fields (c.requires ∙ sym c.self.view_is) c.bytes-bytes.ensures
+    p.back c.self.invariant.back_is (c.self.invariant.fixed c.if-self.true) in
+    c.packets.ensures ∙ (λ i. packets_of (λ n. said n i))
+
+pub returns : goal.returns
+returns c =
+    let said = filled_said back c.self.inside.fields.now c.bytes-bytes.result.now c.args.source.now.fields (c.requires ∙ sym c.self.view_is) c.bytes-bytes.ensures
+    c.filled.result.now c.filled.ensures in
+    c.packets_back_of_values.ensures ∙ (λ i. packets_of (λ n. said n i))
