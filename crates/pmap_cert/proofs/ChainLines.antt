@@ -31,18 +31,18 @@ digit-back d b true zero one known = sym (eqb-true d 49 one)
 digit-back d true false zero one known = sym (eqb-true d 48 zero)
 digit-back d false false zero one known = absurd (false≢true known)
 
-digits-back : (word : List ℕ) → list_all is_digit word ≡ true → bit_digits (map (λ d. d == 49) word) ≡ word
+pub digits-back : (word : List ℕ) → list_all is_digit word ≡ true → bit_digits (map (λ d. d == 49) word) ≡ word
 digits-back [] h = refl
 digits-back (d ∷ ds) h =
     let parts = and_parts (is_digit d) (list_all is_digit ds) h in
     ap₂ ◌∷◌ (digit-back d (d == 48) (d == 49) refl refl parts.0) (digits-back ds parts.1)
 
-bits-back : (bits : List Bool) → map (λ d. d == 49) (bit_digits bits) ≡ bits
+pub bits-back : (bits : List Bool) → map (λ d. d == 49) (bit_digits bits) ≡ bits
 bits-back [] = refl
 bits-back (true ∷ bits) = ap (◌∷◌ true) (bits-back bits)
 bits-back (false ∷ bits) = ap (◌∷◌ false) (bits-back bits)
 
-bits-digits : (bits : List Bool) → list_all is_digit (bit_digits bits) ≡ true
+pub bits-digits : (bits : List Bool) → list_all is_digit (bit_digits bits) ≡ true
 bits-digits [] = refl
 bits-digits (true ∷ bits) = bits-digits bits
 bits-digits (false ∷ bits) = bits-digits bits

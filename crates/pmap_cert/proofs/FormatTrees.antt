@@ -17,6 +17,7 @@ use Rattle.pmap_cert.specs.declared.fault.CertFault.{CertFault}
 use Rattle.pmap_cert.specs.declared.fault.CertFaultKind.TheVariants.{BadNode, TooDeep}
 use Rattle.pmap_cert.proofs.ChainLines.{SaysDue, due_words-chain, due_words-found, due_words-inner, due_words-leaf}
 use Rattle.pmap_cert.proofs.ChainWords.{Lacks-bits, left-room, room-left}
+use Rattle.pmap_cert.proofs.DueLines.{due-again}
 use Rattle.pmap_cert.proofs.FormatHeaders.{or_fault-parts}
 use Rattle.pmap_cert.proofs.Numbers.{Lacks-decimal, Lacks-decimals}
 use Rattle.pmap_cert.proofs.Pieces.{line-words, line_from-cons, words-line}
@@ -184,54 +185,11 @@ module _ (table : List Label) (ok : IsLabelTable table) (format most : ℕ) wher
               (ok_is (ChainNode (claim_at cost numbers) (bit ∷ bits) (text_at table side) last.0.0, last.0.1) x last.2)
   nodes_at-found (suc room) (suc down) left place x deep e = nodes_at-found room down left place x (omega (arith, deep)) e
 
-  -- lines of nodes
-  letter-lacks : (c b : ℕ) → (b == c) ≡ false → Lacks c (b ∷ [])
-  letter-lacks c b apart zero d h = apart
-  letter-lacks c b apart (suc k) d h = absurd (omega arith)
-
   abbrev at : ℕ → List (List ℕ) → Place
   at number pieces = record { number = number; pieces = pieces }
 
-  due-again : (place after : Place) (text : List ℕ) (words : List (List ℕ)) (line : DueLine) → 0 < length after.pieces → after.number ≡ place.number + 1 →
-      place.pieces ≡ text ∷ after.pieces → words_of text ≡ words → due_words format most (length table) words ≡ Some line → due place ≡ Ok (line, after)
-  due-again place after text words line some next pieces said is =
-      ap (λ (rest : List (List ℕ)). line_due_by format most (length table) place (line_from place.number rest)) pieces
-      ∙ ap (line_due_by format most (length table) place) (line_from-cons place.number text after.pieces some)
-      ∙ ap (λ (o : Option DueLine). or_fault (fault_at place BadNode) (record { number = place.number + 1; pieces = after.pieces }) o)
-      (ap (due_words format most (length table)) said ∙ is)
-      ∙ ap (λ (n : ℕ). Ok (line, record { number = n; pieces = after.pieces })) (sym next)
-
-  leaf-due : (x : Label) (number : ℕ) (rest : List (List ℕ)) → place_of table x < length table → 0 < length rest →
-      due (at number (leaf_line (place_of table x) ∷ rest)) ≡ Ok (PlainLine (LeafLine (place_of table x)), at (number + 1) rest)
-  leaf-due x number rest h some =
-      let few = ok.few in
-      due-again (at number (leaf_line (place_of table x) ∷ rest)) (at (number + 1) rest) (leaf_line (place_of table x))
-      (codes "l" ∷ decimal (place_of table x) ∷ []) (PlainLine (LeafLine (place_of table x))) some refl refl
-      (words-line (codes "l") (decimal (place_of table x) ∷ []) (letter-lacks 32 108 refl) (Lacks-decimal 32 (place_of table x) (omega arith) (omega arith), tt))
-      (due_words-leaf format most (length table) (place_of table x) h (omega arith))
-
-  inner-due : (cost : ℕ) (numbers : List ℕ) (number : ℕ) (rest : List (List ℕ)) → cost < 2 ^ 32 → IsRising (length table) 0 numbers → 0 < length rest →
-      due (at number (inner_line cost numbers ∷ rest)) ≡ Ok (PlainLine (InnerLine cost numbers), at (number + 1) rest)
-  inner-due cost numbers number rest h rising some =
-      let few = ok.few in
-      due-again (at number (inner_line cost numbers ∷ rest)) (at (number + 1) rest) (inner_line cost numbers)
-      (codes "n" ∷ decimal cost ∷ map decimal numbers) (PlainLine (InnerLine cost numbers)) some refl refl
-      (words-line (codes "n") (decimal cost ∷ map decimal numbers) (letter-lacks 32 110 refl)
-      (Lacks-decimal 32 cost (omega arith) (omega arith), Lacks-decimals 32 (length table) 0 numbers (omega arith) (omega arith) rising))
-      (due_words-inner format most (length table) cost numbers h rising (omega arith))
-
-  chain-due : (cost : ℕ) (bits : List Bool) (side : ℕ) (numbers : List ℕ) (number : ℕ) (rest : List (List ℕ)) → format ≡ 2 → cost < 2 ^ 32 →
-      0 < length bits → length bits ≤ most → side < length table → IsRising (length table) 0 numbers → 0 < length rest →
-      due (at number (chain_line cost bits side numbers ∷ rest)) ≡ Ok (ChainLine cost bits side numbers, at (number + 1) rest)
-  chain-due cost bits side numbers number rest two h bit few known rising some =
-      let limit = ok.few in
-      due-again (at number (chain_line cost bits side numbers ∷ rest)) (at (number + 1) rest) (chain_line cost bits side numbers)
-      (codes "c" ∷ decimal cost ∷ bit_digits bits ∷ decimal side ∷ map decimal numbers) (ChainLine cost bits side numbers) some refl refl
-      (words-line (codes "c") (decimal cost ∷ bit_digits bits ∷ decimal side ∷ map decimal numbers) (letter-lacks 32 99 refl) (
-        Lacks-decimal 32 cost (omega arith) (omega arith),
-        (Lacks-bits 32 bits refl refl, (Lacks-decimal 32 side (omega arith) (omega arith), Lacks-decimals 32 (length table) 0 numbers (omega arith) (omega arith) rising)),
-      ))
-      (due_words-chain format most (length table) cost bits side numbers two h bit few known rising (omega arith))
+  few : length table ≤ 2 ^ 32
+  few = let limit = ok.few in omega arith
 
   claim-is : (claim : Pair) → IsRising (length table) 0 (map (place_of table) claim.labels) → claim_at claim.cost (map (place_of table) claim.labels) ≡ claim
   claim-is claim rising = λ i. record { cost = claim.cost; labels = texts-places table 0 claim.labels rising i }
@@ -264,12 +222,12 @@ module _ (table : List Label) (ok : IsLabelTable table) (format most : ℕ) wher
   unfolding nodes_at
   nodes_at-again (LeafNode x) zero rest number most_room form kind some = (
     number + 1,
-    ap (λ (r : Result (DueLine × Place) CertFault). r >>= (λ line. due_node table zero (at number (leaf_line (place_of table x) ∷ rest)) (λ deeper after. Err (fault_at (at number (leaf_line (place_of table x) ∷ rest)) TooDeep)) line.0 line.1)) (leaf-due x number rest form some)
+    ap (λ (r : Result (DueLine × Place) CertFault). r >>= (λ line. due_node table zero (at number (leaf_line (place_of table x) ∷ rest)) (λ deeper after. Err (fault_at (at number (leaf_line (place_of table x) ∷ rest)) TooDeep)) line.0 line.1)) (due-again format most (length table) few (PlainLine (LeafLine (place_of table x))) number rest form some)
         ∙ ap (λ (t : Tree). Ok (t, at (number + 1) rest)) (leaf-is x form),
   )
   nodes_at-again (LeafNode x) (suc room) rest number most_room form kind some = (
     number + 1,
-    ap (λ (r : Result (DueLine × Place) CertFault). r >>= (λ line. due_node table (suc room) (at number (leaf_line (place_of table x) ∷ rest)) (nodes_at due table room) line.0 line.1)) (leaf-due x number rest form some)
+    ap (λ (r : Result (DueLine × Place) CertFault). r >>= (λ line. due_node table (suc room) (at number (leaf_line (place_of table x) ∷ rest)) (nodes_at due table room) line.0 line.1)) (due-again format most (length table) few (PlainLine (LeafLine (place_of table x))) number rest form some)
         ∙ ap (λ (t : Tree). Ok (t, at (number + 1) rest)) (leaf-is x form),
   )
   nodes_at-again (InnerNode claim lower upper) zero rest number most_room form kind some = absurd form
@@ -278,7 +236,7 @@ module _ (table : List Label) (ok : IsLabelTable table) (format most : ℕ) wher
       let low : List (List ℕ) = node_lines table lower in
       let up : List (List ℕ) = node_lines table upper in
       let behind : 0 < length (up ++ rest) = omega (arith, length-append up rest) in
-      let line = inner-due claim.cost numbers number (low ++ (up ++ rest)) form.0 form.1 (omega (arith, length-append low (up ++ rest))) in
+      let line = due-again format most (length table) few (PlainLine (InnerLine claim.cost numbers)) number (low ++ (up ++ rest)) (form.0, form.1) (omega (arith, length-append low (up ++ rest))) in
       let first = nodes_at-again lower room (up ++ rest) (number + 1) (omega arith) form.2 (lower-kind claim lower upper kind) behind in
       let second = nodes_at-again upper room rest first.0 (omega arith) form.3 (upper-kind claim lower upper kind) some in
       let here : Place = at number (inner_line claim.cost numbers ∷ (low ++ (up ++ rest))) in (
@@ -297,8 +255,8 @@ module _ (table : List Label) (ok : IsLabelTable table) (format most : ℕ) wher
       let numbers : List ℕ = map (place_of table) claim.labels in
       let below = left-room (HasNodeForm table end) bits room form.4 in
       let lines : List (List ℕ) = node_lines table end in
-      let line = chain-due claim.cost (bit ∷ bits) (place_of table side) numbers number (lines ++ rest) two form.0 (omega arith) (omega (arith, below.1)) form.2 form.1
-      (omega (arith, length-append lines rest)) in
+      let line = due-again format most (length table) few (ChainLine claim.cost (bit ∷ bits) (place_of table side) numbers) number (lines ++ rest)
+      (two, form.0, omega arith, omega (arith, below.1), form.2, form.1) (omega (arith, length-append lines rest)) in
       let last = nodes_at-again end below.0 rest (number + 1) (omega (arith, below.1)) below.2 (inr two) some in
       let here : Place = at number (chain_line claim.cost (bit ∷ bits) (place_of table side) numbers ∷ (lines ++ rest)) in
       let chain : Tree × Place → Result (Tree × Place) CertFault =

@@ -23,7 +23,8 @@ pub mod PackedLines
 pub mod NodeWalk
 pub mod ReadingSteps
 pub mod Written
-pub mod PlainLines
+pub mod LineTexts
+pub mod DueLines
 pub mod Equal
 pub mod MapLabels
 pub mod MapLimits

@@ -98,6 +98,9 @@ IsRising-push bound low (m ∷ ns) n rising below least small =
 own : IsNumeralModel (λ ds. list_all is_digit ds ≡ true) decimal_value
 own = numerals_by_fold _ (search rules) (λ n ds. fold (λ m b. m * 10 + (b - 48)) n ds) (search rules)
 
+pub decimal-digits : (n : ℕ) → n < 2 ^ 32 → list_all is_digit (decimal n) ≡ true
+decimal-digits n small = digits_decimal own n (omega (arith, small))
+
 -- a word is the decimal text of its value exactly where it is of digits without a leading zero
 or-side : (a b : Bool) → (a || not b) ≡ true → b ≡ true → a ≡ true
 or-side true b h e = refl
@@ -152,7 +155,7 @@ digits_few n small =
     let value : decimal_value text ≡ n = decimal_value-decimal n (omega (arith, small)) in
     let some : 0 < length text = decimal_nonempty n (omega (arith, small)) in
     let few : length text ≤ 10 = length-digits-le 10 (omega arith) 9 n (omega (arith, small)) (omega (arith, small)) in
-    let digits : list_all is_digit text ≡ true = digits_decimal own n (omega (arith, small)) in
+    let digits : list_all is_digit text ≡ true = decimal-digits n small in
     let tests = and_from _ _ (le-leb _ _ some) (and_from _ _ (le-leb _ _ few) (and_from _ _ digits (le-leb _ _ (omega (arith, value, small))))) in
     cond-true _ (Some (decimal_value text)) None tests ∙ ap (λ m. Some m) value
 

@@ -48,7 +48,7 @@ pub line_from-whole : (number : ℕ) (text : List ℕ) → position (λ b. b == 
 line_from-whole number text e = ap (line_from number) (split-whole (λ b. b == 10) text (found_nowhere (λ b. b == 10) text e))
 
 -- nothing is left of a text that is empty, and of no other
-is_ended-two : (pieces : List (List ℕ)) → 1 < length pieces → is_ended pieces ≡ false
+pub is_ended-two : (pieces : List (List ℕ)) → 1 < length pieces → is_ended pieces ≡ false
 is_ended-two [] h = absurd (omega arith)
 is_ended-two ([] ∷ []) h = absurd (omega arith)
 is_ended-two ((b ∷ bs) ∷ []) h = refl

@@ -18,4 +18,4 @@ pub mod Certificate
 pub mod Words
 pub mod ReadNodes
 pub mod Placing
-pub mod PlainLines
+pub mod LineTexts

@@ -1,12 +1,14 @@
-use Rattle.std.specs.Prelude.{ℕ, Bool, List, [], Option, Some, None, map, if◌then◌else◌}
+use Rattle.std.specs.Prelude.{ℕ, Bool, List, [], Option, Some, None, Result, Ok, Err, map, if◌then◌else◌}
 use Rattle.prefix_keys.specs.declared.version.Version.{Version}
 use Rattle.pmap_text.specs.declared.label.LabelId.{LabelId}
-use Rattle.pmap_cert.specs.CertificateReading.{InnerLine, LeafLine, words_of}
+use Rattle.pmap_cert.specs.CertificateReading.{InnerLine, LeafLine, Place, fault_at, is_ended, words_of}
 use Rattle.pmap_cert.specs.Format.{format_number}
 use Rattle.pmap_cert.specs.FormatReading.{ChainLine, DueLine, PlainLine}
 use Rattle.pmap_cert.specs.declared.certificate_reading.header.Header.{Header}
-use Rattle.pmap_cert.specs.declared.certificate_reading.node_line.NodeLine.{NodeLine}
-use Rattle.pmap_cert.specs.declared.certificate_reading.node_line.NodeLine.TheVariants.{Chain, Inner, Leaf}
+use Rattle.pmap_cert.specs.declared.fault.CertFault.{CertFault}
+use Rattle.pmap_cert.specs.declared.fault.CertFaultKind.TheVariants.{BadNode, NodesMissing}
+use Rattle.pmap_cert.specs.declared.node_line.NodeLine.{NodeLine}
+use Rattle.pmap_cert.specs.declared.node_line.NodeLine.TheVariants.{Chain, Inner, Leaf}
 
 -- What the code keeps of a line while it reads it.
 
@@ -25,10 +27,7 @@ line_model set bits (Leaf id) = PlainLine (LeafLine id.0)
 line_model set bits (Inner cost) = PlainLine (InnerLine cost (map (λ id. id.0) set))
 line_model set bits (Chain cost side) = ChainLine cost bits side.0 (map (λ id. id.0) set)
 
--- the numbers that were kept, where they are a set
-abbrev pub is_set : Bool → List LabelId → Option (List ℕ)
-is_set is set = if is then Some (map (λ id. id.0) set) else None
-
--- the bits that were kept, where they are a chain's
-abbrev pub are_bits : Bool → List Bool → Option (List Bool)
-are_bits are bits = if are then Some bits else None
+-- the line that was read, or the fault where no node's line comes next: the text has ended, or there is no such line
+abbrev pub due_or_missing : Place → Option (DueLine × Place) → Result (DueLine × Place) CertFault
+due_or_missing place (Some found) = Ok found
+due_or_missing place None = Err (fault_at place (if is_ended place.pieces then NodesMissing else BadNode))

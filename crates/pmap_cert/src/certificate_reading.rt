@@ -2,9 +2,8 @@
 ghost use Rattle.std.specs.Prelude.{◌≡◌, ◌≢◌, ◌-◌, ◌<◌, ◌≤◌, [], Ok, Err, false, length, IfErr, IfOk, IsTrue, OnOk, if◌then◌else◌};
 ghost use Rattle.pmap_text.specs.Label.{has_label, is_label as is_label_text};
 ghost use Rattle.pmap_cert.specs.Certificate.{ReturnsCertificate, certificate_of};
-ghost use Rattle.pmap_cert.specs.CertificateReading.{is_ended, label_at, labels_at};
 ghost use Rattle.pmap_cert.specs.Format.{IsNodeOf, format_number};
-ghost use Rattle.pmap_cert.specs.FormatReading.{format_reading, line_due_at};
+ghost use Rattle.pmap_cert.specs.FormatReading.{format_reading, is_ended, label_at, labels_at, line_due_at};
 ghost use Rattle.pmap_cert.specs.Node.{HasChainForm, tree_of};
 ghost use Rattle.pmap_cert.specs.ReadNodes.{IsReadNode, node_due_at};
 ghost use Rattle.pmap_cert.specs.Words.{line_model};
@@ -13,15 +12,14 @@ ghost use Rattle.pmap_cert.specs.declared.fault.CertFaultKind.TheVariants.{BadNo
 use crate::certificate::Certificate;
 use crate::fault::{CertFault, CertFaultKind};
 use crate::lines::Lines;
+use crate::node_line::{Frame, Kept, NodeLine};
 use crate::nodes::Nodes;
 use crate::root::Root;
 use header::read_header;
-use node_line::{Frame, Kept, NodeLine, node_line};
 use pmap_text::{KeyHashing, Labels, is_label};
 use std::alloc::Global;
 
 mod header;
-mod node_line;
 
 // Whether the table has the label already.
 fn is_known(labels: &Labels, text: &[u8]) -> bool
@@ -72,7 +70,7 @@ fn read_labels<'a>(
 }
 
 // The line of the node that is due, behind which the lines go on. The set of an inner node or a chain is kept, and the
-// bits of a chain. Lines that are plainly those of leaves and inner nodes are read in one pass.
+// bits of a chain.
 fn read_due(kept: &mut Kept, frame: &Frame, lines: &mut Lines) -> Result<NodeLine, CertFault>
     ensures ok { IfOk result (λ line. line_due_at (format_number frame.now.format) frame.now.width
         (length frame.now.labels.now) lines.old
@@ -81,35 +79,13 @@ fn read_due(kept: &mut Kept, frame: &Frame, lines: &mut Lines) -> Result<NodeLin
         frame.now.width (length frame.now.labels.now) lines.old ≡ Err fault) }
     ensures memory { IfErr result (λ fault. fault.kind ≡ NoMemory → fault.line ≡ 0) }
 {
-    let count = frame.labels.len() as u64;
-    if let Some((id, after)) = lines.next_leaf(count) {
-        *lines = after;
-        return Ok(NodeLine::Leaf(id));
+    match lines.next_node(kept, frame)? {
+        Some((line, after)) => {
+            *lines = after;
+            Ok(line)
+        }
+        None => Err(lines.fault(missing_kind(lines))),
     }
-    if let Some((cost, after)) = lines.next_inner(&mut kept.set, count)? {
-        *lines = after;
-        return Ok(NodeLine::Inner(cost));
-    }
-    read_words(kept, frame, lines)
-}
-
-// The same by the words of the line.
-fn read_words(kept: &mut Kept, frame: &Frame, lines: &mut Lines) -> Result<NodeLine, CertFault>
-    ensures ok { IfOk result (λ line. line_due_at (format_number frame.now.format) frame.now.width
-        (length frame.now.labels.now) lines.old
-        ≡ Ok (line_model kept.new.set.items kept.new.bits.items line, lines.new)) }
-    ensures err { IfErr result (λ fault. fault.kind ≢ NoMemory → line_due_at (format_number frame.now.format)
-        frame.now.width (length frame.now.labels.now) lines.old ≡ Err fault) }
-    ensures memory { IfErr result (λ fault. fault.kind ≡ NoMemory → fault.line ≡ 0) }
-{
-    let Some((line, after)) = lines.next() else {
-        return Err(lines.fault(missing_kind(lines)));
-    };
-    let Some(found) = node_line(kept, frame, line)? else {
-        return Err(lines.fault(CertFaultKind::BadNode));
-    };
-    *lines = after;
-    Ok(found)
 }
 
 // What is wrong where a node is due and no line comes.

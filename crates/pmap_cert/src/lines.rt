@@ -1,10 +1,11 @@
-ghost use Rattle.std.specs.Prelude.{◌≡◌, ◌^◌, ◌≤◌, ℕ, IfOk, IfSome, Ok, map, option_map};
-ghost use Rattle.pmap_cert.specs.CertificateReading.{InnerLine, LeafLine, fault_at, is_ended, next_line, start_of};
-ghost use Rattle.pmap_cert.specs.FormatReading.{PlainLine, line_due_at};
+ghost use Rattle.std.specs.Prelude.{◌≡◌, IfOk, length, option_map};
+ghost use Rattle.pmap_cert.specs.CertificateReading.{fault_at, is_ended, next_line, start_of};
+ghost use Rattle.pmap_cert.specs.Format.{format_number};
+ghost use Rattle.pmap_cert.specs.FormatReading.{line_due_at};
+ghost use Rattle.pmap_cert.specs.Words.{due_or_missing, line_model};
 
 use crate::fault::{CertFault, CertFaultKind};
-use crate::plain_line::{plain_inner, plain_leaf};
-use pmap_text::LabelId;
+use crate::node_line::{Frame, Kept, NodeLine, node_line};
 use prefix_keys::find_byte;
 use std::alloc::AllocError;
 use std::marker::Model;
@@ -55,39 +56,25 @@ impl<'a> Lines<'a> {
         }
     }
 
-    /// The leaf whose line comes next, in a certificate of so many labels, and what comes behind it, where the line is
-    /// plainly one of a leaf.
-    pub fn next_leaf(&self, count: u64) -> Option<(LabelId, Lines<'a>)>
-        requires { count ≤ 2 ^ 32 }
-        ensures { IfSome result (λ x. (format most : ℕ) → line_due_at format most count self.now
-            ≡ Ok (PlainLine (LeafLine x.0.0), x.1)) }
-    {
-        let (id, rest) = plain_leaf(self.rest, count)?;
-        let lines = Lines {
-            rest,
-            number: self.number + 1,
-        };
-        Some((id, lines))
-    }
-
-    /// The cost of the inner node whose line comes next, and what comes behind it, where the line is plainly one of an
-    /// inner node. Its set is kept.
-    pub fn next_inner(
+    /// Returns what the line of a node that comes next says, and what comes after it, or `None` if no such line comes
+    /// next. The set of an inner node or a chain is kept, and the bits of a chain.
+    pub fn next_node(
         &self,
-        set: &mut Vec<LabelId>,
-        count: u64,
-    ) -> Result<Option<(u32, Lines<'a>)>, AllocError>
-        requires { count ≤ 2 ^ 32 }
-        ensures { IfOk result (λ found. IfSome found (λ x. (format most : ℕ) → line_due_at format most count self.now
-            ≡ Ok (PlainLine (InnerLine x.0 (map (λ id. id.0) set.new.items)), x.1))) }
+        kept: &mut Kept,
+        frame: &Frame,
+    ) -> Result<Option<(NodeLine, Lines<'a>)>, AllocError>
+        ensures { IfOk result (λ found. due_or_missing self.now
+            (option_map (λ x. (line_model kept.new.set.items kept.new.bits.items x.0, x.1)) found)
+            ≡ line_due_at (format_number frame.now.format) frame.now.width (length frame.now.labels.now) self.now) }
     {
-        match plain_inner(set, self.rest, count)? {
-            Some((cost, rest)) => {
+        let count = frame.labels.len() as u64;
+        match node_line(kept, frame, self.rest, count)? {
+            Some((line, rest)) => {
                 let lines = Lines {
                     rest,
                     number: self.number + 1,
                 };
-                Ok(Some((cost, lines)))
+                Ok(Some((line, lines)))
             }
             None => Ok(None),
         }

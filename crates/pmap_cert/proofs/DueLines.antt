@@ -1,0 +1,153 @@
+-- The line of a node that a text begins with is the one that is due.
+use Rattle.std.proofs.Common.{◌≡◌, ℕ, zero, suc, ◌+◌, ◌^◌, ◌<◌, ◌≤◌, ◌==◌, ◌∙◌, Bool, true, false, List, [], ◌∷◌, ◌++◌, Option, None, Some, Result, Ok, Err, cond, length, map, refl, sym, ap, subst, arith, codes}
+use Rattle.std.specs.Fmt.{decimal}
+use Rattle.std.specs.List.{AllByRecursion, join_with_byte}
+use Rattle.std.specs.Option.{option_map}
+use Rattle.std.proofs.lemmas.Bool.{eq-eqb, ne_eqb}
+use Rattle.std.proofs.lemmas.List.{length-append}
+use Rattle.std.proofs.lemmas.List.Splits.{join_with_byte-slice_split, slice_split_at}
+use Rattle.std.proofs.lemmas.Option.{none-some}
+use Rattle.prefix_keys.proofs.Printed.{Lacks}
+use Rattle.pmap_cert.specs.CertificateReading.{InnerLine, LeafLine, Place, fault_at, is_ended, line_from, or_fault, pieces_of, words_of}
+use Rattle.pmap_cert.specs.CertificateText.{bit_digits, line_of}
+use Rattle.pmap_cert.specs.FormatReading.{ChainLine, DueLine, PlainLine, due_words, line_due_at, line_due_by}
+use Rattle.pmap_cert.specs.LineTexts.{BeginsWithLine, FitsLine, Reads}
+use Rattle.pmap_cert.specs.Node.{line_text}
+use Rattle.pmap_cert.specs.Words.{due_or_missing}
+use Rattle.pmap_cert.specs.declared.fault.CertFault.{CertFault}
+use Rattle.pmap_cert.specs.declared.fault.CertFaultKind.TheVariants.{BadNode, NodesMissing}
+use Rattle.pmap_cert.proofs.ChainLines.{SaysDue, due_words-chain, due_words-found, due_words-inner, due_words-leaf}
+use Rattle.pmap_cert.proofs.ChainWords.{Lacks-bits}
+use Rattle.pmap_cert.proofs.Headers.{Lacks-line}
+use Rattle.pmap_cert.proofs.Numbers.{Lacks-decimal, Lacks-decimals}
+use Rattle.pmap_cert.proofs.Pieces.{is_ended-two, line-words, line_from-cons, split_some, words-line}
+
+-- the words of a line
+abbrev line_words : DueLine → List (List ℕ)
+line_words (PlainLine (LeafLine number)) = codes "l" ∷ decimal number ∷ []
+line_words (PlainLine (InnerLine cost numbers)) = codes "n" ∷ decimal cost ∷ map decimal numbers
+line_words (ChainLine cost bits side numbers) = codes "c" ∷ decimal cost ∷ bit_digits bits ∷ decimal side ∷ map decimal numbers
+
+text-words : (line : DueLine) → line_text line ≡ line_of (line_words line)
+text-words (PlainLine (LeafLine number)) = refl
+text-words (PlainLine (InnerLine cost numbers)) = refl
+text-words (ChainLine cost bits side numbers) = refl
+
+module _ (format most count : ℕ) where
+  abbrev Fits : DueLine → Type 0
+  Fits = FitsLine format most count
+
+  fits : (line : DueLine) (words : List (List ℕ)) → SaysDue format most count line words → (words ≡ line_words line) × Fits line
+  fits (PlainLine (LeafLine number)) words says = (says.0, says.1)
+  fits (PlainLine (InnerLine cost numbers)) words says = (says.0, (says.1, says.2))
+  fits (ChainLine cost bits side numbers) words says = (says.0, (says.1, says.2, says.3, says.4, says.5, says.6))
+
+  module _ (few : count ≤ 2 ^ 32) where
+    -- no byte below the digits stands in a word
+    module _ (c : ℕ) (low : c < 48) where
+      other : (b : ℕ) → 48 ≤ b → (b == c) ≡ false
+      other b high = ne_eqb b c (λ e. omega (arith, e, low, high))
+
+      letter : (b : ℕ) → 48 ≤ b → Lacks c (b ∷ [])
+      letter b high zero d h = other b high
+      letter b high (suc k) d h = absurd (omega arith)
+
+      words-lack : (line : DueLine) → Fits line → AllByRecursion (Lacks c) (line_words line)
+      words-lack (PlainLine (LeafLine number)) h = (letter 108 (omega arith), (Lacks-decimal c number low (omega (arith, h, few)), tt))
+      words-lack (PlainLine (InnerLine cost numbers)) h = (
+        letter 110 (omega arith),
+        (Lacks-decimal c cost low (omega (arith, h.0)), Lacks-decimals c count 0 numbers low (omega (arith, few)) h.1),
+      )
+      words-lack (ChainLine cost bits side numbers) h = (
+        letter 99 (omega arith),
+        (
+          Lacks-decimal c cost low (omega (arith, h.1)),
+          (
+            Lacks-bits c bits (other 48 (omega arith)) (other 49 (omega arith)),
+            (Lacks-decimal c side low (omega (arith, h.4, few)), Lacks-decimals c count 0 numbers low (omega (arith, few)) h.5),
+          ),
+        ),
+      )
+
+    pub line-lacks : (line : DueLine) → Fits line → Lacks 10 (line_text line)
+    line-lacks line h =
+        subst (Lacks 10) (sym (text-words line)) (Lacks-line 10 (line_words line) refl (words-lack 10 (omega arith) line h))
+
+    line-said : (line : DueLine) → Fits line → due_words format most count (words_of (line_text line)) ≡ Some line
+    line-said (PlainLine (LeafLine number)) h =
+        let all = words-lack 32 (omega arith) (PlainLine (LeafLine number)) h in
+        ap (due_words format most count) (words-line (codes "l") (decimal number ∷ []) all.0 all.1)
+        ∙ due_words-leaf format most count number h (omega (arith, few))
+    line-said (PlainLine (InnerLine cost numbers)) h =
+        let all = words-lack 32 (omega arith) (PlainLine (InnerLine cost numbers)) h in
+        ap (due_words format most count) (words-line (codes "n") (decimal cost ∷ map decimal numbers) all.0 all.1)
+        ∙ due_words-inner format most count cost numbers h.0 h.1 (omega (arith, few))
+    line-said (ChainLine cost bits side numbers) h =
+        let all = words-lack 32 (omega arith) (ChainLine cost bits side numbers) h in
+        ap (due_words format most count) (words-line (codes "c") (decimal cost ∷ bit_digits bits ∷ decimal side ∷ map decimal numbers) all.0 all.1)
+        ∙ due_words-chain format most count cost bits side numbers h.0 h.1 h.2 h.3 h.4 h.5 (omega (arith, few))
+
+    abbrev at : ℕ → List (List ℕ) → Place
+    at number pieces = record { number = number; pieces = pieces }
+
+    -- a line that fits is read
+    pub due-again : (line : DueLine) (number : ℕ) (rest : List (List ℕ)) → Fits line → 0 < length rest
+        → line_due_at format most count (at number (line_text line ∷ rest)) ≡ Ok (line, at (number + 1) rest)
+    due-again line number rest h some =
+        ap (line_due_by format most count (at number (line_text line ∷ rest))) (line_from-cons number (line_text line) rest some)
+        ∙ ap (or_fault (fault_at (at number (line_text line ∷ rest)) BadNode) (at (number + 1) rest)) (line-said line h)
+
+    module _ (number : ℕ) (text : List ℕ) where
+      abbrev place : Place
+      place = at number (pieces_of text)
+
+      abbrev Begins : DueLine → List ℕ → Type 0
+      Begins = BeginsWithLine format most count text
+
+      there : (line : DueLine) (rest : List ℕ) → Begins line rest → line_due_at format most count place ≡ Ok (line, at (number + 1) (pieces_of rest))
+      there line rest begins =
+          let pieces : pieces_of text ≡ line_text line ∷ pieces_of rest =
+          ap pieces_of begins.whole ∙ slice_split_at (λ b. b == 10) (line_text line) 10 rest (line-lacks line begins.fits) (eq-eqb 10 10 refl) in
+          ap (λ (ps : List (List ℕ)). line_due_at format most count (at number ps)) pieces
+          ∙ due-again line number (pieces_of rest) begins.fits (split_some (λ b. b == 10) rest)
+
+      abbrev missing : CertFault
+      missing = fault_at place (cond (is_ended (pieces_of text)) NodesMissing BadNode)
+
+      nowhere : ((line : DueLine) (rest : List ℕ) → Begins line rest → ⊥) → line_due_at format most count place ≡ Err missing
+      nowhere never = by (pieces_of text) refl
+        where
+          by : (pieces : List (List ℕ)) → pieces_of text ≡ pieces → line_due_by format most count place (line_from number pieces) ≡ Err missing
+          by [] is = refl
+          by (line ∷ []) is = refl
+          by (line ∷ piece ∷ pieces) is = by_words (due_words format most count (words_of line)) refl
+            where
+              after : Place
+              after = at (number + 1) (piece ∷ pieces)
+
+              fault : fault_at place BadNode ≡ missing
+              fault =
+                  sym (ap (λ (b : Bool). fault_at place (cond b NodesMissing BadNode))
+                  (ap is_ended is ∙ is_ended-two (line ∷ piece ∷ pieces) (omega arith)))
+
+              by_words : (found : Option DueLine) → due_words format most count (words_of line) ≡ found
+                  → or_fault (fault_at place BadNode) after (due_words format most count (words_of line)) ≡ Err missing
+              by_words None e = ap (or_fault (fault_at place BadNode) after) e ∙ ap Err fault
+              by_words (Some due) e =
+                  let said = fits due (words_of line) (due_words-found format most count (words_of line) due e) in
+                  absurd (never due (join_with_byte 10 (piece ∷ pieces)) (record {
+                    whole =
+                        sym (join_with_byte-slice_split 10 text) ∙ ap (join_with_byte 10) is
+                        ∙ ap (λ (t : List ℕ). t ++ 10 ∷ join_with_byte 10 (piece ∷ pieces)) (line-words line (line_words due) said.0 ∙ sym (text-words due));
+                    fits = said.1;
+                  }))
+
+      -- what is read is the line that is due
+      pub due-read : (found : Option (DueLine × List ℕ)) → Reads Begins found
+          → due_or_missing place (option_map (λ x. (x.0, at (number + 1) (pieces_of x.1))) found) ≡ line_due_at format most count place
+      due-read None reads = sym (nowhere (λ line rest begins. none-some (line, rest) (reads.only line rest begins)))
+      due-read (Some x) reads = sym (there x.0 x.1 reads.right)
+
+      pub rest-shorter : (line : DueLine) (rest : List ℕ) → Begins line rest → length rest + 1 ≤ length text
+      rest-shorter line rest begins =
+          omega (arith, ap (λ (t : List ℕ). length t) begins.whole, length-append (line_text line) (10 ∷ rest))

@@ -1,0 +1,83 @@
+use Rattle.std.specs.Prelude.{◌≡◌, ℕ, ◌+◌, ◌^◌, ◌<◌, ◌≤◌, ◌==◌, ◌||◌, Bool, false, List, [], ◌∷◌, ◌++◌, Option, None, Some, IfSome, length, if◌then◌else◌}
+use Rattle.std.specs.Fmt.{decimal}
+use Rattle.std.specs.List.{flat_map}
+use Rattle.prefix_keys.specs.Text.{is_digit}
+use Rattle.pmap_cert.specs.CertificateForm.{IsRising}
+use Rattle.pmap_cert.specs.CertificateReading.{InnerLine, LeafLine}
+use Rattle.pmap_cert.specs.CertificateText.{bit_digits}
+use Rattle.pmap_cert.specs.FormatReading.{ChainLine, DueLine, PlainLine}
+use Rattle.pmap_cert.specs.Node.{line_text}
+
+-- What a text begins with, for the contracts of the code's own functions: no user need read them.
+
+-- The reading of what texts begin with gives what this text begins with and the rest, exactly if it begins with any.
+pub record Reads {A : Type 0} (Begins : A → List ℕ → Type 0) (found : Option (A × List ℕ)) : Type 0 where
+  pub right : IfSome found (λ x. Begins x.0 x.1)
+  pub only : (x : A) (rest : List ℕ) → Begins x rest → found ≡ Some (x, rest)
+
+-- what follows the byte that a text begins with
+abbrev pub after_byte : ℕ → List ℕ → Option (List ℕ)
+after_byte byte [] = None
+after_byte byte (b ∷ rest) = if b == byte then Some rest else None
+
+-- a text goes on with a byte that is none of these
+abbrev pub GoesOnWithout : (ℕ → Bool) → List ℕ → Type 0
+GoesOnWithout known [] = ⊥
+GoesOnWithout known (b ∷ rest) = known b ≡ false
+
+-- a digit of a chain's bits
+abbrev pub is_bit : ℕ → Bool
+is_bit d = (d == 48) || (d == 49)
+
+-- the text is a space, the decimal text of a number below the bound, and the rest, which begins with no digit
+pub record BeginsWithNumber (bound : ℕ) (text : List ℕ) (number : ℕ) (rest : List ℕ) : Type 0 where
+  pub whole : text ≡ 32 ∷ (decimal number ++ rest)
+  pub below : number < bound
+  pub ended : GoesOnWithout is_digit rest
+
+-- the text is a space, the digits of one to so many bits, and the rest, which begins with no such digit
+pub record BeginsWithBits (most : ℕ) (text : List ℕ) (bits : List Bool) (rest : List ℕ) : Type 0 where
+  pub whole : text ≡ 32 ∷ (bit_digits bits ++ rest)
+  pub some : 0 < length bits
+  pub few : length bits ≤ most
+  pub ended : GoesOnWithout is_bit rest
+
+-- the text is rising numbers below the bound and not below low, each after a space, and then a line feed and the rest
+pub record BeginsWithSet (bound low : ℕ) (text : List ℕ) (numbers rest : List ℕ) : Type 0 where
+  pub whole : text ≡ flat_map (λ n. 32 ∷ decimal n) numbers ++ 10 ∷ rest
+  pub rising : IsRising bound low numbers
+
+-- the text is what follows the letter of a leaf's line, and then the rest
+pub record BeginsWithLeaf (count : ℕ) (text : List ℕ) (number : ℕ) (rest : List ℕ) : Type 0 where
+  pub whole : text ≡ 32 ∷ (decimal number ++ 10 ∷ rest)
+  pub known : number < count
+
+-- one part, and then another
+pub record Then {A B : Type 0} (First : A → List ℕ → Type 0) (Second : List ℕ → B → List ℕ → Type 0) (both : A × B) (rest : List ℕ) : Type 0 where
+  pub middle : List ℕ
+  pub first : First both.0 middle
+  pub second : Second middle both.1 rest
+
+-- a number below the bound, and then the set to the end of the line
+abbrev pub BeginsWithClaim : ℕ → ℕ → List ℕ → ℕ × List ℕ → List ℕ → Type 0
+BeginsWithClaim bound count text = Then (BeginsWithNumber bound text) (BeginsWithSet count 0)
+
+-- the bits of a chain, and then its side label and its set
+abbrev pub BeginsWithWay : ℕ → ℕ → List ℕ → List Bool × (ℕ × List ℕ) → List ℕ → Type 0
+BeginsWithWay most count text = Then (BeginsWithBits most text) (BeginsWithClaim count count)
+
+-- the cost of a chain, and then its bits, its side label and its set
+abbrev pub BeginsWithChain : ℕ → ℕ → List ℕ → ℕ × (List Bool × (ℕ × List ℕ)) → List ℕ → Type 0
+BeginsWithChain most count text = Then (BeginsWithNumber (2 ^ 32) text) (BeginsWithWay most count)
+
+-- the line fits a certificate of this format and of so many labels for addresses of so many bits
+abbrev pub FitsLine : ℕ → ℕ → ℕ → DueLine → Type 0
+FitsLine format most count (PlainLine (LeafLine number)) = number < count
+FitsLine format most count (PlainLine (InnerLine cost numbers)) = (cost < 2 ^ 32) × IsRising count 0 numbers
+FitsLine format most count (ChainLine cost bits side numbers) =
+    (format ≡ 2) × (cost < 2 ^ 32) × (0 < length bits) × (length bits ≤ most) × (side < count) × IsRising count 0 numbers
+
+-- the text is such a line, and then the rest
+pub record BeginsWithLine (format most count : ℕ) (text : List ℕ) (line : DueLine) (rest : List ℕ) : Type 0 where
+  pub whole : text ≡ line_text line ++ 10 ∷ rest
+  pub fits : FitsLine format most count line

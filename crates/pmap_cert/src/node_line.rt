@@ -1,0 +1,224 @@
+//! The lines of nodes, each read in one pass over its bytes.
+ghost use Rattle.std.specs.Prelude.{◌≡◌, ◌≢◌, ◌^◌, ◌<◌, ◌≤◌, ◌⊎◌, ◌∷◌, IfOk, IsTrue, false, length, map, option_map, slice_index};
+ghost use Rattle.pmap_cert.specs.Format.{format_number};
+ghost use Rattle.pmap_cert.specs.LineTexts.{BeginsWithBits, BeginsWithChain, BeginsWithClaim, BeginsWithLeaf, BeginsWithLine, BeginsWithNumber, BeginsWithSet, Reads, after_byte as after_byte_of};
+ghost use Rattle.pmap_cert.specs.Words.{line_model};
+
+use crate::format::Format;
+use pmap_text::{LabelId, Labels};
+use std::alloc::AllocError;
+
+/// What the line of a node says: a leaf's label, the cost of an inner node, or the cost and the side label of a chain.
+#[derive(Clone, Copy)]
+pub enum NodeLine {
+    Leaf(LabelId),
+    Inner(u32),
+    Chain(u32, LabelId),
+}
+
+/// What lines must fit: the format, the bits of an address and the label table.
+#[derive(Clone, Copy)]
+pub struct Frame<'a> {
+    pub format: Format,
+    pub width: u32,
+    pub labels: &'a Labels,
+}
+
+/// The set and the bits of the line that was read last.
+#[derive(Drop)]
+pub struct Kept {
+    pub set: Vec<LabelId>,
+    pub bits: Vec<bool>,
+}
+
+// Returns what follows this byte, if the text begins with it.
+#[inline(always)]
+fn after_byte(text: &[u8], byte: u8) -> Option<&[u8]>
+    ensures { option_map (λ rest. rest.now) result ≡ after_byte_of byte text.now }
+{
+    match text {
+        [first, rest @ ..] if *first == byte => Some(rest),
+        _ => None,
+    }
+}
+
+// Whether so many digits at the start of a text are a number without leading zeros.
+fn are_plain(text: &[u8], count: usize) -> bool
+    requires { count ≤ length text.now }
+    ensures some { IsTrue result → 0 < count }
+    ensures first { IsTrue result → (count ≡ 1) ⊎ (slice_index text.now 0 ≢ 48) }
+    ensures none { result ≡ false → (count ≡ 0) ⊎ ((1 < count) × (slice_index text.now 0 ≡ 48)) }
+{
+    if count < 2 {
+        count == 1
+    } else {
+        text[0] != b'0'
+    }
+}
+
+// Reads the number below the bound that a text begins with, after a space.
+#[inline(always)]
+fn number_word(text: &[u8], bound: u64) -> Option<(u32, &[u8])>
+    requires { bound ≤ 2 ^ 32 }
+    ensures { Reads (BeginsWithNumber bound text.now) (option_map (λ x. (x.0, x.1.now)) result) }
+{
+    let digits = after_byte(text, b' ')?;
+    let mut number = 0u64;
+    for (at, byte) in digits.iter().enumerate() {
+        if number >= bound {
+            return None;
+        }
+        if !byte.is_ascii_digit() {
+            return if are_plain(digits, at) {
+                Some((number as u32, &digits[at..]))
+            } else {
+                None
+            };
+        }
+        number = number * 10 + u64::from(*byte - b'0');
+    }
+    None
+}
+
+// Reads the bits that a text begins with, after a space, and keeps them. There are at most so many.
+fn bits_word<'a>(
+    bits: &mut Vec<bool>,
+    text: &'a [u8],
+    most: u32,
+) -> Result<Option<&'a [u8]>, AllocError>
+    ensures { IfOk result (λ found. Reads (BeginsWithBits most text.entry.now)
+        (option_map (λ rest. (bits.new.items, rest.now)) found)) }
+{
+    bits.clear();
+    let Some(digits) = after_byte(text, b' ') else {
+        return Ok(None);
+    };
+    for (at, byte) in digits.iter().enumerate() {
+        if *byte != b'0' && *byte != b'1' {
+            return Ok(if at == 0 { None } else { Some(&digits[at..]) });
+        }
+        if at >= most as usize {
+            return Ok(None);
+        }
+        bits.push(*byte == b'1')?;
+    }
+    Ok(None)
+}
+
+// Reads the rising numbers, each after a space, to the end of the line, and keeps them.
+fn set_to_end<'a>(
+    set: &mut Vec<LabelId>,
+    text: &'a [u8],
+    count: u64,
+) -> Result<Option<&'a [u8]>, AllocError>
+    requires { count ≤ 2 ^ 32 }
+    ensures { IfOk result (λ found. Reads (BeginsWithSet count 0 text.entry.now)
+        (option_map (λ rest. (map (λ id. id.0) set.new.items, rest.now)) found)) }
+{
+    set.clear();
+    let mut rest = text;
+    let mut low = 0u64;
+    loop {
+        if let Some(after) = after_byte(rest, b'\n') {
+            return Ok(Some(after));
+        }
+        let Some((number, after)) = number_word(rest, count) else {
+            return Ok(None);
+        };
+        if u64::from(number) < low {
+            return Ok(None);
+        }
+        set.push(LabelId(number))?;
+        low = u64::from(number) + 1;
+        rest = after;
+    }
+}
+
+// Reads the label of a leaf whose line goes on so after its letter.
+#[inline(always)]
+fn leaf(text: &[u8], count: u64) -> Option<(LabelId, &[u8])>
+    requires { count ≤ 2 ^ 32 }
+    ensures { Reads (BeginsWithLeaf count text.now) (option_map (λ x. (x.0.0, x.1.now)) result) }
+{
+    let (number, rest) = number_word(text, count)?;
+    let rest = after_byte(rest, b'\n')?;
+    Some((LabelId(number), rest))
+}
+
+// Reads a number below the bound and the rising numbers to the end of the line, each after a space, and keeps these.
+fn claim<'a>(
+    set: &mut Vec<LabelId>,
+    text: &'a [u8],
+    bound: u64,
+    count: u64,
+) -> Result<Option<(u32, &'a [u8])>, AllocError>
+    requires bound { bound ≤ 2 ^ 32 }
+    requires count { count ≤ 2 ^ 32 }
+    ensures { IfOk result (λ found. Reads (BeginsWithClaim bound count text.entry.now)
+        (option_map (λ x. ((x.0, map (λ id. id.0) set.new.items), x.1.now)) found)) }
+{
+    let Some((number, rest)) = number_word(text, bound) else {
+        return Ok(None);
+    };
+    match set_to_end(set, rest, count)? {
+        Some(rest) => Ok(Some((number, rest))),
+        None => Ok(None),
+    }
+}
+
+// Reads the cost and the side label of a chain whose line goes on so after its letter, and keeps its bits and its set.
+fn chain<'a>(
+    kept: &mut Kept,
+    text: &'a [u8],
+    most: u32,
+    count: u64,
+) -> Result<Option<((u32, LabelId), &'a [u8])>, AllocError>
+    requires { count ≤ 2 ^ 32 }
+    ensures { IfOk result (λ found. Reads (BeginsWithChain most count text.entry.now)
+        (option_map (λ x. ((x.0.0, (kept.new.bits.items, (x.0.1.0, map (λ id. id.0) kept.new.set.items))), x.1.now))
+        found)) }
+{
+    let Some((cost, rest)) = number_word(text, 1 << 32) else {
+        return Ok(None);
+    };
+    let Some(rest) = bits_word(&mut kept.bits, rest, most)? else {
+        return Ok(None);
+    };
+    match claim(&mut kept.set, rest, count, count)? {
+        Some((side, rest)) => Ok(Some(((cost, LabelId(side)), rest))),
+        None => Ok(None),
+    }
+}
+
+/// Reads the line of a node that a text begins with. Returns what it says and what follows its line feed, or `None` if the
+/// text begins with no such line in a certificate of so many labels. The set of an inner node or a chain is kept, and the bits of a chain.
+pub fn node_line<'a>(
+    kept: &mut Kept,
+    frame: &Frame,
+    text: &'a [u8],
+    count: u64,
+) -> Result<Option<(NodeLine, &'a [u8])>, AllocError>
+    requires { count ≤ 2 ^ 32 }
+    ensures { IfOk result (λ found. Reads
+        (BeginsWithLine (format_number frame.now.format) frame.now.width count text.entry.now)
+        (option_map (λ x. (line_model kept.new.set.items kept.new.bits.items x.0, x.1.now)) found)) }
+{
+    if let Some(rest) = after_byte(text, b'l') {
+        match leaf(rest, count) {
+            Some((id, rest)) => Ok(Some((NodeLine::Leaf(id), rest))),
+            None => Ok(None),
+        }
+    } else if let Some(rest) = after_byte(text, b'n') {
+        match claim(&mut kept.set, rest, 1 << 32, count)? {
+            Some((cost, rest)) => Ok(Some((NodeLine::Inner(cost), rest))),
+            None => Ok(None),
+        }
+    } else if let (Format::Two, Some(rest)) = (frame.format, after_byte(text, b'c')) {
+        match chain(kept, rest, frame.width, count)? {
+            Some(((cost, side), rest)) => Ok(Some((NodeLine::Chain(cost, side), rest))),
+            None => Ok(None),
+        }
+    } else {
+        Ok(None)
+    }
+}
