@@ -1,10 +1,10 @@
 -- What is compacted keeps the form of a text.
-use Rattle.std.proofs.Common.{◌≡◌, ℕ, zero, suc, ◌<◌, Bool, true, false, cond, List, [], ◌∷◌, Some, inl, inr, arith, length, refl, subst}
+use Rattle.std.proofs.Common.{◌≡◌, ℕ, zero, suc, ◌<◌, Bool, true, false, cond, List, [], ◌∷◌, Some, inr, arith, length, refl, subst}
 use Rattle.std.proofs.lemmas.Bool.{leb-true}
 use Rattle.std.proofs.lemmas.Option.{none-some, same_Some}
 use Rattle.prefix_keys.specs.Version.{width_of}
 use Rattle.pmap_text.specs.MapModel.{Label}
-use Rattle.pmap_cert.specs.CertificateForm.{HasFormatText, HasNodeForm, HasRoomBelow, HasTextForm}
+use Rattle.pmap_cert.specs.CertificateForm.{HasFormatText, HasNodeForm, HasRoomBelow}
 use Rattle.pmap_cert.specs.CertificateModel.{CertificateModel, ChainNode, InnerNode, LeafNode, Tree}
 use Rattle.pmap_cert.specs.CertificateText.{place_of}
 use Rattle.pmap_cert.specs.Chain.{IsPlain}
@@ -75,6 +75,3 @@ compact-text c h =
       table = h.table;
       root = form-compacted c.table (line_count c.root) c.root (width_of c.version) plain h.root;
     }) (λ second. h)
-
-pub plain-text : (c : CertificateModel) → HasTextForm c → HasFormatText c
-plain-text c h = record { format = inl (h.format, h.plain); table = h.table; root = h.root }

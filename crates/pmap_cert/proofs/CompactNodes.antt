@@ -13,11 +13,10 @@ use Rattle.pmap_text.specs.MapModel.{Label}
 use Rattle.pmap_text.specs.MapText.{text_at}
 use Rattle.pmap_cert.specs.CertificateForm.{HasRoomBelow}
 use Rattle.pmap_cert.specs.CertificateModel.{CertificateModel, ChainNode, InnerNode, Pair, Tree}
-use Rattle.pmap_cert.specs.CertificateReading.{InnerLine, LeafLine}
 use Rattle.pmap_cert.specs.CertificateText.{place_of}
 use Rattle.pmap_cert.specs.Compacting.{compact, compacted, is_side, leaf_label, run_bits, run_compacted, run_end, side_of}
 use Rattle.pmap_cert.specs.Format.{format_number}
-use Rattle.pmap_cert.specs.FormatReading.{ChainLine, DueLine, PlainLine}
+use Rattle.pmap_cert.specs.FormatReading.{ChainLine, DueLine, InnerLine, LeafLine, PlainLine}
 use Rattle.pmap_cert.specs.Node.{Chain, HasChainForm, Inner, Leaf, Node, cost_of, label_of, lines_of, set_of, tree_of}
 use Rattle.pmap_cert.specs.Placing.{IsCompactNode, IsCompacted, IsShort, bits_down, end_down, is_leaf, side_below}
 use Rattle.pmap_cert.specs.declared.format.Format.{Format}

@@ -6,8 +6,7 @@ use Rattle.std.proofs.lemmas.Bool.{eqb-true}
 use Rattle.std.proofs.lemmas.Option.{none-some, same_Some}
 use Rattle.std.proofs.lemmas.List.{append-nil}
 use Rattle.std.proofs.lemmas.List.Elements.{All-append, All-cons, All-head, All-nil, All-tail}
-use Rattle.pmap_cert.specs.CertificateReading.{InnerLine, LeafLine}
-use Rattle.pmap_cert.specs.FormatReading.{ChainLine, DueLine, PlainLine}
+use Rattle.pmap_cert.specs.FormatReading.{ChainLine, DueLine, InnerLine, LeafLine, PlainLine}
 use Rattle.pmap_cert.specs.Node.{AreWhole, Inner, IsPlainNode, Chain, Leaf, Node, behind, first_node, joined, label_of, line_label, lines_of, nodes_of}
 use Rattle.pmap_cert.specs.Placing.{AreEndsBehind, AreEndsOf, ArePlain, EndsAt, IsPlainLine, IsRunEnd, IsStep, bits_down, end_down, is_leaf, node_from, side_below}
 use Rattle.pmap_cert.proofs.NodeWalk.{IsLineOf, line-here, root-of, whole-lines, whole-next, within}

@@ -1,5 +1,5 @@
 -- The line of a node that a text begins with is the one that is due.
-use Rattle.std.proofs.Common.{◌≡◌, ℕ, zero, suc, ◌+◌, ◌^◌, ◌<◌, ◌≤◌, ◌==◌, ◌∙◌, Bool, true, false, List, [], ◌∷◌, ◌++◌, Option, None, Some, Result, Ok, Err, cond, length, map, refl, sym, ap, subst, arith, codes}
+use Rattle.std.proofs.Common.{◌≡◌, ℕ, zero, suc, ◌+◌, ◌^◌, ◌<◌, ◌≤◌, ◌==◌, ◌∙◌, Bool, false, List, [], ◌∷◌, ◌++◌, Option, None, Some, Ok, Err, cond, length, map, refl, sym, ap, subst, arith, codes}
 use Rattle.std.specs.Fmt.{decimal}
 use Rattle.std.specs.List.{AllByRecursion, join_with_byte}
 use Rattle.std.specs.Option.{option_map}
@@ -8,9 +8,8 @@ use Rattle.std.proofs.lemmas.List.{length-append}
 use Rattle.std.proofs.lemmas.List.Splits.{join_with_byte-slice_split, slice_split_at}
 use Rattle.std.proofs.lemmas.Option.{none-some}
 use Rattle.prefix_keys.proofs.Printed.{Lacks}
-use Rattle.pmap_cert.specs.CertificateReading.{InnerLine, LeafLine, Place, fault_at, is_ended, line_from, or_fault, pieces_of, words_of}
 use Rattle.pmap_cert.specs.CertificateText.{bit_digits, line_of}
-use Rattle.pmap_cert.specs.FormatReading.{ChainLine, DueLine, PlainLine, due_words, line_due_at, line_due_by}
+use Rattle.pmap_cert.specs.FormatReading.{ChainLine, DueLine, InnerLine, LeafLine, Place, PlainLine, due_words, fault_at, is_ended, line_due_at, line_due_by, line_from, or_fault, pieces_of, words_of}
 use Rattle.pmap_cert.specs.LineTexts.{BeginsWithLine, FitsLine, Reads}
 use Rattle.pmap_cert.specs.Node.{line_text}
 use Rattle.pmap_cert.specs.Words.{due_or_missing}

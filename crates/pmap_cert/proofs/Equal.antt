@@ -85,8 +85,8 @@ certificates-equal : (c c' : CertificateModel) → HasTextForm c → HasTextForm
 certificates-equal c c' form form' same =
     let root' : HasNodeForm c.table c'.root (width_of c.version) =
     subst (λ (v : Version). HasNodeForm c.table c'.root (width_of v)) (sym same.version)
-    (subst (λ (t : List Label). HasNodeForm t c'.root (width_of c'.version)) (sym same.table) form'.root) in
-    let root = tree-equal c.table c.root c'.root (width_of c.version) form.root root' same.root in
+    (subst (λ (t : List Label). HasNodeForm t c'.root (width_of c'.version)) (sym same.table) form'.text.root) in
+    let root = tree-equal c.table c.root c'.root (width_of c.version) form.text.root root' same.root in
     λ i. record { format = same.format i; version = same.version i; table = same.table i; root = root i }
 
 pub certificate-equal : (m : MapModel) (l l' : ListModel) (c c' : CertificateModel) → IsMinimalPair m l c → IsMinimalPair m l' c'

@@ -1,5 +1,5 @@
 -- The header of a certificate of either format.
-use Rattle.std.proofs.Common.{◌≡◌, ℕ, ◌+◌, ◌<◌, ◌∙◌, ◌⊎◌, inl, inr, Bool, true, false, List, [], ◌∷◌, Option, Some, None, Ok, length, refl, sym, ap, subst, arith, cond, codes}
+use Rattle.std.proofs.Common.{◌≡◌, ℕ, ◌+◌, ◌<◌, ◌∙◌, ◌⊎◌, inl, inr, Bool, true, false, List, [], ◌∷◌, Option, Some, None, Ok, length, refl, sym, ap, subst, arith, cond, codes, ◌==◌}
 use Rattle.std.specs.Fmt.{decimal}
 use Rattle.std.specs.List.{AllByRecursion}
 use Rattle.std.specs.Str.{bytes_eq}
@@ -9,16 +9,22 @@ use Rattle.std.proofs.lemmas.Slice.Eq.{bytes_eq-Decides}
 use Rattle.prefix_keys.proofs.Printed.{Lacks}
 use Rattle.prefix_keys.specs.declared.version.Version.{Version}
 use Rattle.prefix_keys.specs.declared.version.Version.TheVariants.{V4, V6}
-use Rattle.pmap_cert.specs.CertificateReading.{Place, both, fault_at, line_from, named_version, number_below, or_fault, words_of}
 use Rattle.pmap_cert.specs.CertificateText.{format_header, format_word, version_word}
-use Rattle.pmap_cert.specs.FormatReading.{format_header_at, format_header_by, format_header_of, named_format}
+use Rattle.pmap_cert.specs.FormatReading.{Place, both, fault_at, format_header_at, format_header_by, format_header_of, line_from, named_format, named_version, number_below, or_fault, words_of}
 use Rattle.pmap_cert.specs.declared.fault.CertFault.{CertFault}
 use Rattle.pmap_cert.specs.declared.fault.CertFaultKind.TheVariants.{BadHeader}
 use Rattle.pmap_cert.proofs.Headers.{Lacks-line, Lacks-tested, named_version-found, named_version-word}
 use Rattle.pmap_cert.proofs.NodeLines.{both_some}
 use Rattle.pmap_cert.proofs.Numbers.{Lacks-decimal, number_below-decimal, number_below-found}
-use Rattle.pmap_cert.proofs.Pieces.{line-words, line_from-cons, words-line}
+use Rattle.pmap_cert.proofs.Pieces.{line-words, line_from-cons, words-line, split_some}
 use Rattle.pmap_cert.proofs.Tables.{ok_is}
+
+format_header_of-more : (a b c d : List ℕ) (words : List (List ℕ)) → 0 < length words → format_header_of (a ∷ b ∷ c ∷ d ∷ words) ≡ None
+format_header_of-more a b c d [] h = absurd (omega arith)
+format_header_of-more a b c d (next ∷ words) h = refl
+
+pub format_header_of-words_more : (a b c d : List ℕ) (text : List ℕ) → format_header_of (a ∷ b ∷ c ∷ d ∷ words_of text) ≡ None
+format_header_of-words_more a b c d text = format_header_of-more a b c d (words_of text) (split_some (λ b. b == 32) text)
 
 -- a format number is 1 or 2
 abbrev pub IsNumbered : ℕ → Type 0

@@ -1,26 +1,23 @@
 -- The nodes of a certificate of either format, read and written.
-use Rattle.std.proofs.Common.{◌≡◌, ℕ, zero, suc, ◌+◌, ◌^◌, ◌<◌, ◌≤◌, ◌∙◌, ◌==◌, ◌⊎◌, inl, inr, Bool, true, false, List, [], ◌∷◌, ◌++◌, Option, Some, Result, Ok, Err, cond, length, map, nat_le, refl, sym, ap, subst, arith, codes}
+use Rattle.std.proofs.Common.{◌≡◌, ℕ, zero, suc, ◌+◌, ◌^◌, ◌<◌, ◌≤◌, ◌∙◌, ◌⊎◌, inl, inr, Bool, true, false, List, [], ◌∷◌, ◌++◌, Result, Ok, Err, cond, length, map, nat_le, refl, sym, ap, subst, arith, codes}
 use Rattle.std.specs.Fmt.{decimal}
 use Rattle.std.proofs.lemmas.Bool.{cond-false, cond-true, le-leb, leb-true}
 use Rattle.std.proofs.lemmas.List.{append_assoc, length-append}
-use Rattle.prefix_keys.proofs.Printed.{Lacks}
 use Rattle.pmap_text.specs.Label.{IsLabelTable}
 use Rattle.pmap_text.specs.MapModel.{Label}
 use Rattle.pmap_text.specs.MapText.{text_at}
 use Rattle.pmap_cert.specs.CertificateForm.{HasNodeForm, IsRising}
 use Rattle.pmap_cert.specs.CertificateModel.{ChainNode, InnerNode, LeafNode, Pair, Tree}
-use Rattle.pmap_cert.specs.CertificateReading.{◌>>=◌, InnerLine, LeafLine, Place, fault_at, line_from, or_fault, words_of}
 use Rattle.pmap_cert.specs.CertificateText.{bit_digits, chain_line, inner_line, leaf_line, node_lines, place_of}
 use Rattle.pmap_cert.specs.Chain.{IsPlain}
-use Rattle.pmap_cert.specs.FormatReading.{ChainLine, DueLine, PlainLine, due_node, due_words, line_due_at, line_due_by, nodes_at}
+use Rattle.pmap_cert.specs.FormatReading.{◌>>=◌, ChainLine, DueLine, InnerLine, LeafLine, Place, PlainLine, due_node, due_words, fault_at, line_due_at, line_due_by, line_from, nodes_at, words_of}
 use Rattle.pmap_cert.specs.declared.fault.CertFault.{CertFault}
 use Rattle.pmap_cert.specs.declared.fault.CertFaultKind.TheVariants.{BadNode, TooDeep}
-use Rattle.pmap_cert.proofs.ChainLines.{SaysDue, due_words-chain, due_words-found, due_words-inner, due_words-leaf}
-use Rattle.pmap_cert.proofs.ChainWords.{Lacks-bits, left-room, room-left}
+use Rattle.pmap_cert.proofs.ChainLines.{SaysDue, due_words-found}
+use Rattle.pmap_cert.proofs.ChainWords.{left-room, room-left}
 use Rattle.pmap_cert.proofs.DueLines.{due-again}
 use Rattle.pmap_cert.proofs.FormatHeaders.{or_fault-parts}
-use Rattle.pmap_cert.proofs.Numbers.{Lacks-decimal, Lacks-decimals}
-use Rattle.pmap_cert.proofs.Pieces.{line-words, line_from-cons, words-line}
+use Rattle.pmap_cert.proofs.Pieces.{line-words}
 use Rattle.pmap_cert.proofs.Tables.{bind_ok, ok_is, place_of-text_at, places-texts, text_at-place_of, texts-places}
 
 -- the line of a node says it by its words

@@ -1,5 +1,5 @@
 -- A text of either format is read exactly where it is the text of a certificate.
-use Rattle.std.proofs.Common.{◌≡◌, ◌≢◌, ℕ, true, false, ◌+◌, ◌<◌, ◌≤◌, ◌∙◌, ◌⊎◌, ◌↔◌, inl, inr, List, [], ◌∷◌, ◌++◌, Result, Ok, Err, length, refl, sym, ap, subst, arith}
+use Rattle.std.proofs.Common.{◌≡◌, ◌≢◌, ℕ, true, false, ◌+◌, ◌<◌, ◌≤◌, ◌∙◌, ◌⊎◌, ◌↔◌, inl, inr, List, [], ◌∷◌, ◌++◌, Result, Ok, Err, length, refl, sym, ap, subst, arith, zero, suc, Bool, map, codes}
 use Rattle.std.specs.Result.{IfErr, IfOk}
 use Rattle.std.proofs.lemmas.Bool.{cond-false, cond-true}
 use Rattle.std.proofs.lemmas.List.{append_assoc, length-append}
@@ -8,23 +8,71 @@ use Rattle.prefix_keys.specs.declared.version.Version.{Version}
 use Rattle.pmap_text.specs.Label.{IsLabelTable}
 use Rattle.pmap_text.specs.MapModel.{Label}
 use Rattle.pmap_cert.specs.Certificate.{certificate_of}
-use Rattle.pmap_cert.specs.CertificateForm.{HasFormatText}
-use Rattle.pmap_cert.specs.CertificateModel.{CertificateModel, Tree}
-use Rattle.pmap_cert.specs.CertificateReading.{◌>>=◌, Place, certificate_reading, ended_by, fault_at, is_ended, labels_at, pieces_of, start_of}
-use Rattle.pmap_cert.specs.CertificateText.{certificate_lines, certificate_text, format_header, node_lines}
+use Rattle.pmap_cert.specs.CertificateForm.{HasFormatText, HasNodeForm}
+use Rattle.pmap_cert.specs.CertificateModel.{CertificateModel, Tree, ChainNode, InnerNode, LeafNode}
+use Rattle.pmap_cert.specs.CertificateText.{certificate_lines, certificate_text, format_header, node_lines, bit_digits, place_of}
 use Rattle.pmap_cert.specs.Chain.{IsOfFormat, IsPlain}
-use Rattle.pmap_cert.specs.FormatReading.{DueLine, format_header_at, format_reading, line_due_at, nodes_at}
+use Rattle.pmap_cert.specs.FormatReading.{◌>>=◌, DueLine, Place, ended_by, fault_at, format_header_at, format_reading, is_ended, labels_at, line_due_at, nodes_at, pieces_of, start_of}
 use Rattle.pmap_cert.specs.declared.certificate.Certificate.{Certificate}
 use Rattle.pmap_cert.specs.declared.fault.CertFault.{CertFault}
 use Rattle.pmap_cert.specs.declared.fault.CertFaultKind.{CertFaultKind}
 use Rattle.pmap_cert.specs.declared.fault.CertFaultKind.TheVariants.{BadHeader, BadLabelTable, BadNode, NoMemory, NodesLeft, NodesMissing, TooDeep}
-use Rattle.pmap_cert.proofs.CompactForms.{plain-text}
 use Rattle.pmap_cert.proofs.FormatHeaders.{IsNumbered, format_header-no_feed, format_header_at-again, format_header_at-found}
 use Rattle.pmap_cert.proofs.FormatTrees.{IsKind, nodes_at-again, nodes_at-found}
-use Rattle.pmap_cert.proofs.Headers.{table-lacks}
+use Rattle.pmap_cert.proofs.Headers.{table-lacks, Lacks-line, Lacks-tested}
 use Rattle.pmap_cert.proofs.Pieces.{pieces-lines, text_from_pieces}
 use Rattle.pmap_cert.proofs.Tables.{bind_ok, labels_at-again, labels_at-found, ok_is}
-use Rattle.pmap_cert.proofs.Whole.{ended_by-found, lacks-append, no_labels, nodes-lack, reading-found}
+use Rattle.std.specs.Fmt.{decimal}
+use Rattle.std.specs.List.{AllByRecursion}
+use Rattle.std.proofs.lemmas.Option.{none-some}
+use Rattle.prefix_keys.proofs.Printed.{Lacks}
+use Rattle.pmap_cert.proofs.ChainWords.{Lacks-bits, end-room}
+use Rattle.pmap_cert.proofs.Numbers.{Lacks-decimal, Lacks-decimals}
+
+pub no_labels : IsLabelTable []
+no_labels = record { few = omega arith; labels = λ i text e. absurd (none-some text e); places = λ i text e. absurd (none-some text e) }
+
+-- nothing is left
+ended-is : (pieces : List (List ℕ)) → is_ended pieces ≡ true → pieces ≡ [] ∷ []
+ended-is [] h = absurd cc
+ended-is ([] ∷ []) h = refl
+ended-is ([] ∷ next ∷ pieces) h = absurd cc
+ended-is ((b ∷ bs) ∷ pieces) h = absurd cc
+
+pub ended_by-found : (c : CertificateModel) (place : Place) (x : CertificateModel) → ended_by c place ≡ Ok x → (place.pieces ≡ [] ∷ []) × (c ≡ x)
+ended_by-found c place x e = by (is_ended place.pieces) refl
+  where
+    failed : ◌≡◌ {A = Result CertificateModel CertFault} (Err (fault_at place NodesLeft)) (Ok x) → ⊥
+    failed e = cc
+
+    by : (b : Bool) → is_ended place.pieces ≡ b → (place.pieces ≡ [] ∷ []) × (c ≡ x)
+    by true h = (ended-is place.pieces h, ok_is c x (sym (cond-true (is_ended place.pieces) (Ok c) (Err (fault_at place NodesLeft)) h) ∙ e))
+    by false h = absurd (failed (sym (cond-false (is_ended place.pieces) (Ok c) (Err (fault_at place NodesLeft)) h) ∙ e))
+
+-- no line of a certificate has a line feed inside
+pub lacks-append : (c : ℕ) (lines more : List (List ℕ)) → AllByRecursion (Lacks c) lines → AllByRecursion (Lacks c) more → AllByRecursion (Lacks c) (lines ++ more)
+lacks-append c [] more all rest = rest
+lacks-append c (line ∷ lines) more all rest = (all.0, lacks-append c lines more all.1 rest)
+
+pub nodes-lack : (table : List Label) (tree : Tree) (room : ℕ) → IsLabelTable table → HasNodeForm table tree room → AllByRecursion (Lacks 10) (node_lines table tree)
+nodes-lack table (LeafNode x) room ok form =
+    let few = ok.few in
+    let less : place_of table x < length table = form in
+    (Lacks-line 10 (codes "l" ∷ decimal (place_of table x) ∷ []) refl (Lacks-tested 10 (codes "l") refl, (Lacks-decimal 10 (place_of table x) (omega arith) (omega arith), tt)), tt)
+nodes-lack table (ChainNode claim bits side end) room ok form =
+    let few = ok.few in
+    let last = end-room (HasNodeForm table end) bits room form.4 in (
+      Lacks-line 10 (codes "c" ∷ decimal claim.cost ∷ bit_digits bits ∷ decimal (place_of table side) ∷ map decimal (map (place_of table) claim.labels)) refl
+          (Lacks-tested 10 (codes "c") refl, (Lacks-decimal 10 claim.cost (omega arith) (omega (arith, form.0)), (Lacks-bits 10 bits refl refl, (Lacks-decimal 10 (place_of table side) (omega arith) (omega (arith, form.2)), Lacks-decimals 10 (length table) 0 (map (place_of table) claim.labels) (omega arith) (omega arith) form.1)))),
+      nodes-lack table end last.0 ok last.1,
+    )
+nodes-lack table (InnerNode claim lower upper) zero ok form = absurd form
+nodes-lack table (InnerNode claim lower upper) (suc room) ok form =
+    let few = ok.few in (
+      Lacks-line 10 (codes "n" ∷ decimal claim.cost ∷ map decimal (map (place_of table) claim.labels)) refl
+          (Lacks-tested 10 (codes "n") refl, (Lacks-decimal 10 claim.cost (omega arith) (omega (arith, form.0)), Lacks-decimals 10 (length table) 0 (map (place_of table) claim.labels) (omega arith) (omega arith) form.1)),
+      lacks-append 10 (node_lines table lower) (node_lines table upper) (nodes-lack table lower room ok form.2) (nodes-lack table upper room ok form.3),
+    )
 
 -- the steps behind the header, the labels and the nodes
 abbrev Said : Type 0
@@ -144,10 +192,6 @@ format-apart text fault c failed form e = both_results (sym failed ∙ ap format
     both_results e = cc
 
 -- what is read as format 1 alone is read so
-pub format-first : (text : List ℕ) (c : CertificateModel) → certificate_reading text ≡ Ok c → format_reading text ≡ Ok c
-format-first text c e =
-    let found = reading-found text c e in ap format_reading found.1 ∙ format-again c (plain-text c found.0)
-
 -- so for what a call answers: what is read is the text of its certificate
 pub is_text : (text : List ℕ) (r : Result Certificate CertFault) → IfOk r (λ c. format_reading text ≡ Ok (certificate_of c)) → IfOk r (λ c. text ≡ certificate_text (certificate_of c))
 is_text text (Ok c) read = (format-found text (certificate_of c) read).1

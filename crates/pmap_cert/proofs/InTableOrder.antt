@@ -1,5 +1,5 @@
 -- The sets of a map's certificate listed in the order of the label table, which is the form of its text.
-use Rattle.std.proofs.Common.{◌≡◌, ℕ, zero, suc, ◌+◌, ◌*◌, ◌<◌, ◌≤◌, ◌∙◌, ◌&&◌, Bool, true, false, List, [], ◌∷◌, Some, arith, filter, length, map, refl, sym, bytes_eq, slice_get}
+use Rattle.std.proofs.Common.{inl, ◌≡◌, ℕ, zero, suc, ◌+◌, ◌*◌, ◌<◌, ◌≤◌, ◌∙◌, ◌&&◌, Bool, true, false, List, [], ◌∷◌, Some, arith, filter, length, map, refl, sym, bytes_eq, slice_get}
 use Rattle.std.proofs.lemmas.Bool.{ltb-true}
 use Rattle.prefix_keys.specs.Version.{width_of}
 use Rattle.pmap_text.proofs.LabelTexts.{any_place}
@@ -113,8 +113,19 @@ module _ (m : MapModel) (inside : HasItsLabels m) where
     pair-listed =
         let root = (minimal_pair m).1.root in
         let stands : StandsFor m root 0 0 = (minimal_pair m).2.root in
-        let pair = pair_of m (listed m.table root, stands-listed root 0 0 stands) in
-        (pair.0, pair.1, pair.2, record { format = refl; plain = plain-stands m (listed m.table root) 0 0 (stands-listed root 0 0 stands); table = ok; root = form-listed root (width_of m.version) 0 0 (omega arith) stands })
+        let pair = pair_of m (listed m.table root, stands-listed root 0 0 stands) in (
+          pair.0,
+          pair.1,
+          pair.2,
+          record {
+            first = refl;
+            text = record {
+              format = inl (refl, plain-stands m (listed m.table root) 0 0 (stands-listed root 0 0 stands));
+              table = ok;
+              root = form-listed root (width_of m.version) 0 0 (omega arith) stands;
+            };
+          },
+        )
 
 -- so the map of each text that is read has a minimal pair whose certificate has a text
 pub minimal-read : (text : List ℕ) (m : MapModel) → ReadsMap text m → (l : ListModel) × (c : CertificateModel) × IsMinimalPair m l c × HasTextForm c

@@ -14,11 +14,7 @@ pub mod Pieces
 pub mod Numbers
 pub mod NodeLines
 pub mod Tables
-pub mod Trees
-pub mod TreesAgain
 pub mod Headers
-pub mod Whole
-pub mod SetWords
 pub mod PackedLines
 pub mod NodeWalk
 pub mod ReadingSteps

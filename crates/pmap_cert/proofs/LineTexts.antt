@@ -14,13 +14,12 @@ use Rattle.std.proofs.lemmas.Slice.Eq.{bytes_eq-Decides}
 use Rattle.prefix_keys.specs.Text.{decimal_value, is_digit}
 use Rattle.pmap_cert.specs.CertificateForm.{IsRising}
 use Rattle.std.specs.Prelude.{IfSome}
-use Rattle.pmap_cert.specs.CertificateReading.{InnerLine, LeafLine}
 use Rattle.pmap_cert.specs.CertificateText.{bit_digits, chain_line, inner_line}
-use Rattle.pmap_cert.specs.FormatReading.{ChainLine, DueLine, PlainLine}
+use Rattle.pmap_cert.specs.FormatReading.{ChainLine, DueLine, InnerLine, LeafLine, PlainLine}
 use Rattle.pmap_cert.specs.LineTexts.{BeginsWithBits, BeginsWithChain, BeginsWithClaim, BeginsWithLeaf, BeginsWithLine, BeginsWithNumber, BeginsWithSet, GoesOnWithout, Reads, Then, after_byte, is_bit}
 use Rattle.pmap_cert.proofs.ChainLines.{bits-back, bits-digits, digits-back}
 use Rattle.pmap_cert.proofs.Written.{joined-numbers}
-use Rattle.pmap_cert.proofs.Numbers.{decimal-digits, decimal_value-decimal, is_decimal-word, IsRising-push}
+use Rattle.pmap_cert.proofs.Numbers.{decimal-digits, decimal_value-decimal, is_decimal-word}
 
 -- nothing is read
 pub reads_none : {A : Type 0} (Begins : A → List ℕ → Type 0) → ((x : A) (rest : List ℕ) → Begins x rest → ⊥) → Reads Begins None

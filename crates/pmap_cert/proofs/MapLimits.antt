@@ -22,7 +22,7 @@ use Rattle.pmap_text.specs.declared.fault.MapFault.{MapFault}
 use Rattle.pmap_text.specs.declared.fault.MapFaultKind.{MapFaultKind}
 use Rattle.pmap_text.specs.declared.fault.MapFaultKind.TheVariants.{BadLabel, LabelConflict, LowAboveHigh, ModeLate, ModeRepeated, TooMany}
 use Rattle.pmap_text.specs.declared.form.Form.TheVariants as form
-use Rattle.pmap_cert.proofs.Whole.{no_labels}
+use Rattle.pmap_cert.proofs.FormatWhole.{no_labels}
 
 -- what holds of the result of a step in every case of it
 if-ok : {X : Type 0} (P : X → Type 0) (b : Bool) (r s : Result X MapFaultKind) → (b ≡ true → IfOk r P) → (b ≡ false → IfOk s P)

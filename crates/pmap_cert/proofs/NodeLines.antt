@@ -7,7 +7,7 @@ use Rattle.std.proofs.lemmas.Bool.{cond-false, cond-true}
 use Rattle.std.proofs.lemmas.Option.{none-some}
 use Rattle.std.proofs.lemmas.Slice.Eq.{bytes_eq-Decides}
 use Rattle.pmap_cert.specs.CertificateForm.{IsRising}
-use Rattle.pmap_cert.specs.CertificateReading.{InnerLine, LeafLine, NodeLine, both, inner_by, leaf_by, node_words, number_below, rising_numbers}
+use Rattle.pmap_cert.specs.FormatReading.{InnerLine, LeafLine, NodeLine, both, inner_by, leaf_by, node_words, number_below, rising_numbers}
 use Rattle.pmap_cert.proofs.Numbers.{number_below-decimal, number_below-found, option_map_some, rising_numbers-decimals, rising_numbers-found}
 
 -- the words say this of a node, in a certificate of so many labels

@@ -1,8 +1,7 @@
 -- The nodes that lines are those of.
 use Rattle.std.proofs.Common.{◌≡◌, Bool, ℕ, zero, suc, ◌<◌, ◌≤◌, ◌∙◌, List, [], ◌∷◌, ◌++◌, length, drop, get_or, refl, sym, ap, subst, arith}
 use Rattle.std.proofs.lemmas.List.{append-nil, append_assoc}
-use Rattle.pmap_cert.specs.CertificateReading.{InnerLine, LeafLine}
-use Rattle.pmap_cert.specs.FormatReading.{ChainLine, DueLine, PlainLine}
+use Rattle.pmap_cert.specs.FormatReading.{ChainLine, DueLine, InnerLine, LeafLine, PlainLine}
 use Rattle.pmap_cert.specs.Node.{AreWhole, Chain, Inner, IsTree, Leaf, Node, bits_of, chained, cost_of, first_node, from_next_line, joined, label_of, line_bits, line_cost, line_label, line_set, line_side, lines_of, nodes_of, set_of, side_of}
 
 pub nodes-lines : (node : Node) (rest : List DueLine) → nodes_of (lines_of node ++ rest) ≡ node ∷ nodes_of rest

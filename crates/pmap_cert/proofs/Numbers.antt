@@ -13,7 +13,7 @@ use Rattle.prefix_keys.proofs.Digits.{All-digits, fold-digits, length-digits-le}
 use Rattle.prefix_keys.proofs.Printed.{Lacks}
 use Rattle.prefix_keys.specs.Text.{decimal_number, decimal_value, is_digit}
 use Rattle.pmap_cert.specs.CertificateForm.{IsRising}
-use Rattle.pmap_cert.specs.CertificateReading.{number_below, onto_numbers, rising_numbers}
+use Rattle.pmap_cert.specs.FormatReading.{number_below, onto_numbers, rising_numbers}
 
 -- a digit is no byte below the digits, and stands for its number
 digit-other : (c d : ℕ) → c < 48 → d < 10 → (digit_glyph false d == c) ≡ false

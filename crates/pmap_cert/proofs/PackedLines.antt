@@ -7,8 +7,7 @@ use Rattle.std.proofs.lemmas.Option.{none-some, same_Some}
 use Rattle.std.proofs.lemmas.List.{drop-append-le, get_or_append_left, get_or_push, take-append-le, append-nil}
 use Rattle.std.proofs.lemmas.List.Elements.{All-append, All-cons, All-head, All-nil, All-push, All-tail, All-weaker}
 use Rattle.pmap_text.specs.declared.label.LabelId.{LabelId}
-use Rattle.pmap_cert.specs.CertificateReading.{InnerLine, LeafLine}
-use Rattle.pmap_cert.specs.FormatReading.{ChainLine, DueLine, PlainLine}
+use Rattle.pmap_cert.specs.FormatReading.{ChainLine, DueLine, InnerLine, LeafLine, PlainLine}
 use Rattle.pmap_cert.specs.Node.{line_bits, line_cost, line_label, line_set, line_side}
 use Rattle.pmap_cert.specs.Packed.{AreEnds, ArePacked, HasBits, HasChain, Kept, chain_at, chain_in, chain_of, end_of, line_in, lines_in, no_chain, start_of}
 use Rattle.pmap_cert.specs.declared.nodes.Packed.{Packed}

@@ -8,7 +8,7 @@ use Rattle.std.proofs.lemmas.List.{append_assoc}
 use Rattle.std.proofs.lemmas.List.Splits.{join_with_byte-slice_split, length-slice_split, slice_split_at, slice_split_first, slice_split_none}
 use Rattle.prefix_keys.proofs.Pieces.{split-whole}
 use Rattle.prefix_keys.proofs.Printed.{Lacks}
-use Rattle.pmap_cert.specs.CertificateReading.{is_ended, line_from, pieces_of, words_of}
+use Rattle.pmap_cert.specs.FormatReading.{is_ended, line_from, pieces_of, words_of}
 use Rattle.pmap_cert.specs.CertificateText.{line_of, text_of_lines}
 use Rattle.pmap_cert.specs.Words.{words_behind}
 

@@ -5,9 +5,8 @@ use Rattle.std.proofs.lemmas.List.{append_assoc, length_push}
 use Rattle.pmap_text.specs.MapModel.{Label}
 use Rattle.pmap_text.specs.MapText.{text_at}
 use Rattle.pmap_cert.specs.CertificateModel.{ChainNode, InnerNode, LeafNode, Pair, Tree}
-use Rattle.pmap_cert.specs.CertificateReading.{◌>>=◌, InnerLine, LeafLine, Place, fault_at, label_at, labels_at}
 use Rattle.pmap_cert.specs.Format.{IsNodeOf, format_number}
-use Rattle.pmap_cert.specs.FormatReading.{ChainLine, DueLine, PlainLine, due_node, line_due_at, nodes_at}
+use Rattle.pmap_cert.specs.FormatReading.{◌>>=◌, ChainLine, DueLine, InnerLine, LeafLine, Place, PlainLine, due_node, fault_at, label_at, labels_at, line_due_at, nodes_at}
 use Rattle.pmap_cert.specs.Node.{Chain, HasChainForm, Inner, Leaf, Node, lines_of, tree_of}
 use Rattle.pmap_cert.specs.ReadNodes.{IsReadNode}
 use Rattle.pmap_cert.specs.declared.fault.CertFault.{CertFault}

@@ -12,7 +12,7 @@ use Rattle.pmap_text.specs.Label.{IsLabelTable, has_label, is_label}
 use Rattle.pmap_text.specs.MapModel.{Label}
 use Rattle.pmap_text.specs.MapText.{text_at}
 use Rattle.pmap_cert.specs.CertificateForm.{IsRising}
-use Rattle.pmap_cert.specs.CertificateReading.{◌>>=◌, Place, fault_at, label_at, label_by, labels_at, line_from}
+use Rattle.pmap_cert.specs.FormatReading.{◌>>=◌, Place, fault_at, label_at, label_by, labels_at, line_from}
 use Rattle.pmap_cert.specs.CertificateText.{place_of}
 use Rattle.pmap_cert.specs.declared.fault.CertFault.{CertFault}
 use Rattle.pmap_cert.specs.declared.fault.CertFaultKind.TheVariants.{BadLabelTable}

@@ -5,7 +5,7 @@ use Rattle.pmap_text.specs.Label.{IsLabelTable}
 use Rattle.pmap_text.specs.MapModel.{Label}
 use Rattle.pmap_cert.specs.CertificateModel.{CertificateModel, ChainNode, InnerNode, LeafNode, Tree}
 use Rattle.pmap_cert.specs.CertificateText.{place_of}
-use Rattle.pmap_cert.specs.Chain.{IsOfFormat, IsPlain}
+use Rattle.pmap_cert.specs.Chain.{IsOfFormat}
 
 -- The certificates that have a text: each label is in the table, sets are listed by rising numbers, costs are below
 -- 2 ^ 32, and no inner node is as deep as an address has bits, nor does a chain go deeper.
@@ -38,15 +38,13 @@ HasNodeForm table (ChainNode claim bits side end) room =
     (claim.cost < 2 ^ 32) × IsRising (length table) 0 (map (place_of table) claim.labels) × (place_of table side < length table)
     × (0 < length bits) × HasRoomBelow (HasNodeForm table end) bits room
 
--- the certificate has a text of format 1, which has no chains
-pub record HasTextForm (c : CertificateModel) : Type 0 where
-  pub format : c.format ≡ 1
-  pub plain : IsPlain c.root
-  pub table : IsLabelTable c.table
-  pub root : HasNodeForm c.table c.root (width_of c.version)
-
 -- the certificate has a text of its format
 pub record HasFormatText (c : CertificateModel) : Type 0 where
   pub format : IsOfFormat c
   pub table : IsLabelTable c.table
   pub root : HasNodeForm c.table c.root (width_of c.version)
+
+-- the certificate has a text of format 1
+pub record HasTextForm (c : CertificateModel) : Type 0 where
+  pub first : c.format ≡ 1
+  pub text : HasFormatText c

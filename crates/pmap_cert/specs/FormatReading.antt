@@ -1,17 +1,127 @@
-use Rattle.std.specs.Prelude.{ℕ, zero, suc, ◌^◌, ◌&&◌, ◌||◌, ◌==◌, Bool, List, [], ◌∷◌, Option, Some, None, Result, Ok, Err, codes, length, map, nat_le, option_map, if◌then◌else◌}
-use Rattle.std.specs.List.{list_all}
+use Rattle.std.specs.Prelude.{ℕ, zero, suc, ◌+◌, ◌^◌, ◌&&◌, ◌==◌, Bool, true, false, List, [], ◌∷◌, ◌++◌, Option, Some, None, Result, Ok, Err, codes, length, map, nat_le, nat_lt, not, option_map, if◌then◌else◌, ◌||◌}
+use Rattle.std.specs.List.{slice_split, list_all}
+use Rattle.std.specs.Fmt.{decimal}
 use Rattle.std.specs.Str.{bytes_eq}
+use Rattle.prefix_keys.specs.Text.{decimal_value}
 use Rattle.prefix_keys.specs.Version.{width_of}
 use Rattle.prefix_keys.specs.declared.version.Version.{Version}
+use Rattle.prefix_keys.specs.declared.version.Version.TheVariants.{V4, V6}
+use Rattle.pmap_text.specs.Label.{has_label, is_label}
 use Rattle.pmap_text.specs.MapModel.{Label}
 use Rattle.pmap_text.specs.MapText.{text_at}
-use Rattle.pmap_cert.specs.CertificateModel.{CertificateModel, ChainNode, InnerNode, LeafNode, Tree}
-use Rattle.pmap_cert.specs.CertificateReading.{◌>>=◌, InnerLine, LeafLine, NodeLine, Place, both, ended_by, fault_at, is_ended, labels_at, named_version, next_line, node_words, number_below, or_fault, rising_numbers, start_of, words_of}
+use Rattle.pmap_cert.specs.CertificateModel.{CertificateModel, InnerNode, LeafNode, Tree, ChainNode}
 use Rattle.pmap_cert.specs.declared.fault.CertFault.{CertFault}
-use Rattle.pmap_cert.specs.declared.fault.CertFaultKind.TheVariants.{BadHeader, BadNode, NodesMissing, TooDeep}
+use Rattle.pmap_cert.specs.declared.fault.CertFaultKind.{CertFaultKind}
+use Rattle.pmap_cert.specs.declared.fault.CertFaultKind.TheVariants.{BadHeader, BadLabelTable, BadNode, NodesLeft, NodesMissing, TooDeep}
 
--- The reading of a certificate's text of either format, and the first fault of a text that is none. It stands beside
--- the reading of format 1 alone, which is what the code reads, until that reads both.
+-- The reading of a certificate's text of either format, line by line, and the first fault of a text that is none.
+
+-- what is left of a text: how many lines were read, and the pieces of the rest between its line feeds, of which each but
+-- the last is a line
+pub record Place : Type 0 where
+  pub number : ℕ
+  pub pieces : List (List ℕ)
+
+abbrev pub pieces_of : List ℕ → List (List ℕ)
+pieces_of text = slice_split (λ b. b == 10) text
+
+abbrev pub start_of : List ℕ → Place
+start_of text = record { number = 0; pieces = pieces_of text }
+
+-- the next line and what comes behind its line feed
+abbrev pub line_from : ℕ → List (List ℕ) → Option (List ℕ × Place)
+line_from number (line ∷ piece ∷ pieces) = Some (line, record { number = number + 1; pieces = piece ∷ pieces })
+line_from number _ = None
+
+abbrev pub next_line : Place → Option (List ℕ × Place)
+next_line place = line_from place.number place.pieces
+
+-- nothing is left
+abbrev pub is_ended : List (List ℕ) → Bool
+is_ended ([] ∷ []) = true
+is_ended _ = false
+
+-- a fault of the line that comes next
+abbrev pub fault_at : Place → CertFaultKind → CertFault
+fault_at place kind = record { kind = kind; line = place.number + 1 }
+
+-- what a step gives is handed to the next, and the first fault is the answer
+infixl 10 ◌>>=◌
+abbrev pub ◌>>=◌ : {A B : Type 0} → Result A CertFault → (A → Result B CertFault) → Result B CertFault
+(Ok x) >>= f = f x
+(Err e) >>= f = Err e
+
+-- what the next line is, with what comes behind it, or the fault where it is nothing of the kind
+abbrev pub or_fault : {A : Type 0} → CertFault → Place → Option A → Result (A × Place) CertFault
+or_fault fault after (Some x) = Ok (x, after)
+or_fault fault after None = Err fault
+
+-- the number below the bound that the word is the decimal text of
+abbrev pub number_below : ℕ → List ℕ → Option ℕ
+number_below bound word =
+    if bytes_eq word (decimal (decimal_value word)) && nat_lt (decimal_value word) bound
+    then Some (decimal_value word)
+    else None
+
+-- the words of a line: the pieces between its spaces
+abbrev pub words_of : List ℕ → List (List ℕ)
+words_of line = slice_split (λ b. b == 32) line
+
+-- the version that a word names
+abbrev pub named_version : List ℕ → Option Version
+named_version word =
+    if bytes_eq word (codes "ipv4") then Some V4 else (if bytes_eq word (codes "ipv6") then Some V6 else None)
+
+abbrev pub both : {A B : Type 0} → Option A → Option B → Option (A × B)
+both (Some x) (Some y) = Some (x, y)
+both _ _ = None
+
+abbrev pub label_by : List Label → Place → Option (List ℕ × Place) → Result (Label × Place) CertFault
+label_by table place (Some (line, after)) =
+    if is_label line && not (has_label table line) then Ok (line, after) else Err (fault_at place BadLabelTable)
+label_by table place None = Err (fault_at place BadLabelTable)
+
+-- one more label, which the table hasn't got yet
+abbrev pub label_at : List Label → Place → Result (Label × Place) CertFault
+label_at table place = label_by table place (next_line place)
+
+-- the table with so many labels more
+abbrev pub labels_at : ℕ → List Label → Place → Result (List Label × Place) CertFault
+labels_at zero table place = Ok (table, place)
+labels_at (suc left) table place = label_at table place >>= (λ label. labels_at left (table ++ label.0 ∷ []) label.1)
+
+-- the numbers below the bound that words stand for, where they rise and the first is not below low
+abbrev pub onto_numbers : ℕ → Option ℕ → (ℕ → Option (List ℕ)) → Option (List ℕ)
+onto_numbers low (Some n) others = if nat_le low n then option_map (λ ns. n ∷ ns) (others (n + 1)) else None
+onto_numbers low None others = None
+
+abbrev pub rising_numbers : ℕ → ℕ → List (List ℕ) → Option (List ℕ)
+rising_numbers bound low [] = Some []
+rising_numbers bound low (word ∷ words) =
+    onto_numbers low (number_below bound word) (λ next. rising_numbers bound next words)
+
+-- a line of a leaf with its label's number, or of an inner node with its cost and its set's numbers
+pub data NodeLine : Type 0 where
+  LeafLine : (number : ℕ) → NodeLine
+  InnerLine : (cost : ℕ) (numbers : List ℕ) → NodeLine
+
+-- a leaf's words behind the first
+abbrev pub leaf_by : ℕ → List (List ℕ) → Option NodeLine
+leaf_by count (number ∷ []) = option_map LeafLine (number_below count number)
+leaf_by count _ = None
+
+-- an inner node's words behind the first
+abbrev pub inner_by : ℕ → List (List ℕ) → Option NodeLine
+inner_by count (cost ∷ numbers) =
+    option_map (λ claim. InnerLine claim.0 claim.1) (both (number_below (2 ^ 32) cost) (rising_numbers count 0 numbers))
+inner_by count [] = None
+
+-- the words of a node's line, in a certificate of so many labels
+abbrev pub node_words : ℕ → List (List ℕ) → Option NodeLine
+node_words count (word ∷ words) =
+    if bytes_eq word (codes "l") then leaf_by count words
+    else (if bytes_eq word (codes "n") then inner_by count words else None)
+node_words count [] = None
 
 -- the format that a word names
 abbrev pub named_format : List ℕ → Option ℕ
@@ -91,6 +201,10 @@ nodes_at due table zero down place =
 nodes_at due table (suc room) zero place =
     due place >>= (λ line. due_node table (suc room) place (nodes_at due table room) line.0 line.1)
 nodes_at due table (suc room) (suc down) place = nodes_at due table room down place
+
+-- behind the last node nothing is left
+abbrev pub ended_by : CertificateModel → Place → Result CertificateModel CertFault
+ended_by c place = if is_ended place.pieces then Ok c else Err (fault_at place NodesLeft)
 
 -- the certificate that a text of either format is read as, or the first fault of the text with its line
 unfoldable pub format_reading : List ℕ → Result CertificateModel CertFault

@@ -9,7 +9,6 @@ pub mod Compacting
 pub mod LastAddress
 pub mod CertificateText
 pub mod CertificateForm
-pub mod CertificateReading
 pub mod FormatReading
 pub mod Node
 pub mod Packed

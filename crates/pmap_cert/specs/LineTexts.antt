@@ -1,11 +1,10 @@
-use Rattle.std.specs.Prelude.{◌≡◌, ℕ, ◌+◌, ◌^◌, ◌<◌, ◌≤◌, ◌==◌, ◌||◌, Bool, false, List, [], ◌∷◌, ◌++◌, Option, None, Some, IfSome, length, if◌then◌else◌}
+use Rattle.std.specs.Prelude.{◌≡◌, ℕ, ◌^◌, ◌<◌, ◌≤◌, ◌==◌, ◌||◌, Bool, false, List, [], ◌∷◌, ◌++◌, Option, None, Some, IfSome, length, if◌then◌else◌}
 use Rattle.std.specs.Fmt.{decimal}
 use Rattle.std.specs.List.{flat_map}
 use Rattle.prefix_keys.specs.Text.{is_digit}
 use Rattle.pmap_cert.specs.CertificateForm.{IsRising}
-use Rattle.pmap_cert.specs.CertificateReading.{InnerLine, LeafLine}
 use Rattle.pmap_cert.specs.CertificateText.{bit_digits}
-use Rattle.pmap_cert.specs.FormatReading.{ChainLine, DueLine, PlainLine}
+use Rattle.pmap_cert.specs.FormatReading.{ChainLine, DueLine, InnerLine, LeafLine, PlainLine}
 use Rattle.pmap_cert.specs.Node.{line_text}
 
 -- What a text begins with, for the contracts of the code's own functions: no user need read them.

@@ -5,9 +5,8 @@ use Rattle.pmap_text.specs.MapModel.{Label}
 use Rattle.pmap_text.specs.MapText.{text_at}
 use Rattle.pmap_cert.specs.CertificateForm.{HasRoomBelow, IsRising, IsRising-prop}
 use Rattle.pmap_cert.specs.CertificateModel.{ChainNode, InnerNode, LeafNode, Tree}
-use Rattle.pmap_cert.specs.CertificateReading.{InnerLine, LeafLine}
 use Rattle.pmap_cert.specs.CertificateText.{chain_line, inner_line, leaf_line}
-use Rattle.pmap_cert.specs.FormatReading.{ChainLine, DueLine, PlainLine}
+use Rattle.pmap_cert.specs.FormatReading.{ChainLine, DueLine, InnerLine, LeafLine, PlainLine}
 
 -- Nodes with label numbers, as the code has them.
 

@@ -1,8 +1,7 @@
 use Rattle.std.specs.Prelude.{◌≡◌, ℕ, List, ◌++◌, Ok, Result, length}
 use Rattle.pmap_text.specs.MapModel.{Label}
-use Rattle.pmap_cert.specs.CertificateReading.{Place}
 use Rattle.pmap_cert.specs.Format.{IsNodeOf, format_number}
-use Rattle.pmap_cert.specs.FormatReading.{DueLine, line_due_at, nodes_at}
+use Rattle.pmap_cert.specs.FormatReading.{DueLine, Place, line_due_at, nodes_at}
 use Rattle.pmap_cert.specs.Node.{HasChainForm, Node, lines_of, tree_of}
 use Rattle.pmap_cert.specs.CertificateModel.{Tree}
 use Rattle.pmap_cert.specs.declared.fault.CertFault.{CertFault}

@@ -1,9 +1,8 @@
 use Rattle.std.specs.Prelude.{ℕ, Bool, List, [], Option, Some, None, Result, Ok, Err, map, if◌then◌else◌}
 use Rattle.prefix_keys.specs.declared.version.Version.{Version}
 use Rattle.pmap_text.specs.declared.label.LabelId.{LabelId}
-use Rattle.pmap_cert.specs.CertificateReading.{InnerLine, LeafLine, Place, fault_at, is_ended, words_of}
 use Rattle.pmap_cert.specs.Format.{format_number}
-use Rattle.pmap_cert.specs.FormatReading.{ChainLine, DueLine, PlainLine}
+use Rattle.pmap_cert.specs.FormatReading.{ChainLine, DueLine, InnerLine, LeafLine, Place, PlainLine, fault_at, is_ended, words_of}
 use Rattle.pmap_cert.specs.declared.certificate_reading.header.Header.{Header}
 use Rattle.pmap_cert.specs.declared.fault.CertFault.{CertFault}
 use Rattle.pmap_cert.specs.declared.fault.CertFaultKind.TheVariants.{BadNode, NodesMissing}

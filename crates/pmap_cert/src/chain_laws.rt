@@ -6,7 +6,6 @@ ghost use Rattle.pmap_text.specs.MapModel.{Label, MapModel};
 ghost use Rattle.pmap_cert.specs.Acceptance.{IsAccepted};
 ghost use Rattle.pmap_cert.specs.CertificateForm.{HasFormatText, HasTextForm};
 ghost use Rattle.pmap_cert.specs.CertificateModel.{CertificateModel, InnerNode, LeafNode, Pair, Tree, claim_of};
-ghost use Rattle.pmap_cert.specs.CertificateReading.{certificate_reading};
 ghost use Rattle.pmap_cert.specs.CertificateText.{certificate_lines, certificate_text};
 ghost use Rattle.pmap_cert.specs.Chain.{IsOfFormat, IsPlain, chain_pair, opened, opened_certificate, pair_by_bits};
 ghost use Rattle.pmap_cert.specs.Compacting.{HasNoRun, IsSameShape, IsWay, OpensTo, compact, compacted, line_count, run_bits, run_compacted, run_end, side_of};
@@ -81,7 +80,7 @@ pub fn compact_has_a_text()
 {}
 
 /// A text of either format is read as a certificate exactly where that has the form of its text, and this text. So each
-/// text is that of such a certificate or has a first fault, and never both. What is read as format 1 alone is read so.
+/// text is that of such a certificate or has a first fault, and never both.
 pub fn text_of_format_is_read_or_has_a_fault()
     ensures read { (text : List ℕ) (c : CertificateModel) →
         format_reading text ≡ Ok c ↔ (HasFormatText c × (text ≡ certificate_text c)) }
@@ -89,8 +88,6 @@ pub fn text_of_format_is_read_or_has_a_fault()
         ⊎ ((c : CertificateModel) × HasFormatText c × (text ≡ certificate_text c)) }
     ensures apart { (text : List ℕ) (fault : CertFault) (c : CertificateModel) →
         format_reading text ≡ Err fault → HasFormatText c → ¬ (text ≡ certificate_text c) }
-    ensures first { (text : List ℕ) (c : CertificateModel) → certificate_reading text ≡ Ok c →
-        format_reading text ≡ Ok c }
 {}
 
 /// The worked example of a chain: one of 32 bits, which opened is compacted to itself, and its lines.

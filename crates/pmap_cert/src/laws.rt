@@ -7,13 +7,10 @@ ghost use Rattle.pmap_text.specs.Reading.{ReadsMap};
 ghost use Rattle.pmap_cert.specs.Acceptance.{IsAccepted, IsLeast};
 ghost use Rattle.pmap_cert.specs.CertificateForm.{HasTextForm};
 ghost use Rattle.pmap_cert.specs.CertificateModel.{CertificateModel, Pair, claim_of, has};
-ghost use Rattle.pmap_cert.specs.CertificateReading.{certificate_reading};
-ghost use Rattle.pmap_cert.specs.CertificateText.{certificate_text};
 ghost use Rattle.pmap_cert.specs.ExactPair.{IsPairOf, IsSamePair, exact_pair};
 ghost use Rattle.pmap_cert.specs.FourQuarters.{four_quarters_certificate, four_quarters_list, four_quarters_map};
 ghost use Rattle.pmap_cert.specs.ListForm.{HasListForm};
 ghost use Rattle.pmap_cert.specs.MinimalPair.{HasItsLabels, IsMinimalPair, IsSameCertificate};
-ghost use Rattle.pmap_cert.specs.declared.fault.CertFault.{CertFault};
 
 /// Acceptance is enough: whoever made the certificate, a list that it is accepted for labels every address as the map
 /// does, and no list that does so has fewer entries, nor fewer than the root's cost and one.
@@ -60,23 +57,6 @@ pub fn minimal_pair_is_unique()
 pub fn minimal_certificate_is_one()
     ensures { (m : MapModel) (l l' : ListModel) (c c' : CertificateModel) →
         IsMinimalPair m l c → IsMinimalPair m l' c' → HasTextForm c → HasTextForm c' → c ≡ c' }
-{}
-
-/// The text of a certificate in the form of its text is read as that certificate. Each `Certificate` has this form
-/// (`Certificate::root`).
-pub fn certificate_is_read_back()
-    ensures { (c : CertificateModel) → HasTextForm c → certificate_reading (certificate_text c) ≡ Ok c }
-{}
-
-/// A text is read as a certificate exactly where that has the form of its text, and this text. So each text is that of
-/// such a certificate or has a first fault, and never both.
-pub fn certificate_text_is_read_or_has_a_fault()
-    ensures read { (text : List ℕ) (c : CertificateModel) →
-        certificate_reading text ≡ Ok c ↔ (HasTextForm c × (text ≡ certificate_text c)) }
-    ensures either { (text : List ℕ) → ((fault : CertFault) × (certificate_reading text ≡ Err fault))
-        ⊎ ((c : CertificateModel) × HasTextForm c × (text ≡ certificate_text c)) }
-    ensures apart { (text : List ℕ) (fault : CertFault) (c : CertificateModel) →
-        certificate_reading text ≡ Err fault → HasTextForm c → ¬ (text ≡ certificate_text c) }
 {}
 
 /// The label table of a map that a text is read as has the map's labels, so that the map has one minimal list.

@@ -1,7 +1,6 @@
 ghost use Rattle.std.specs.Prelude.{◌≡◌, IfOk, length, option_map};
-ghost use Rattle.pmap_cert.specs.CertificateReading.{fault_at, is_ended, next_line, start_of};
 ghost use Rattle.pmap_cert.specs.Format.{format_number};
-ghost use Rattle.pmap_cert.specs.FormatReading.{line_due_at};
+ghost use Rattle.pmap_cert.specs.FormatReading.{fault_at, is_ended, line_due_at, next_line, start_of};
 ghost use Rattle.pmap_cert.specs.Words.{due_or_missing, line_model};
 
 use crate::fault::{CertFault, CertFaultKind};
@@ -19,7 +18,7 @@ pub struct Lines<'a> {
 
 impl<'a> Model for Lines<'a> {
     ghost use Rattle.std.specs.Prelude.{◌+◌, ◌^◌, ◌≤◌, length};
-    ghost use Rattle.pmap_cert.specs.CertificateReading.{Place, pieces_of};
+    ghost use Rattle.pmap_cert.specs.FormatReading.{Place, pieces_of};
 
     ghost Value = { Place };
 

@@ -146,6 +146,7 @@ fn leaf(text: &[u8], count: u64) -> Option<(LabelId, &[u8])>
 }
 
 // Reads a number below the bound and the rising numbers to the end of the line, each after a space, and keeps these.
+#[inline(always)]
 fn claim<'a>(
     set: &mut Vec<LabelId>,
     text: &'a [u8],

@@ -1,6 +1,5 @@
 ghost use Rattle.std.specs.Prelude.{◌≡◌, ◌+◌, ◌^◌, ◌<◌, ◌≤◌, ◌++◌, ◌∷◌, [], IfOk, None, OnErr, OnOk, length, map, option_map, slice_index_or};
-ghost use Rattle.pmap_cert.specs.CertificateReading.{InnerLine, LeafLine};
-ghost use Rattle.pmap_cert.specs.FormatReading.{ChainLine, PlainLine};
+ghost use Rattle.pmap_cert.specs.FormatReading.{ChainLine, InnerLine, LeafLine, PlainLine};
 ghost use Rattle.pmap_cert.specs.Node.{line_bits, line_cost, line_label, line_set, line_side};
 ghost use Rattle.pmap_cert.specs.Packed.{HasChain, chain_of, end_of, start_of};
 

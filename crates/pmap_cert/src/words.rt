@@ -1,6 +1,6 @@
 //! The words of a line: its pieces between single spaces, and the numbers that they write.
 ghost use Rattle.std.specs.Prelude.{◌≡◌, ◌^◌, ◌<◌, ◌≤◌, ◌&&◌, ◌==◌, ◌∷◌, IfSome, length, not, option_map, slice_index};
-ghost use Rattle.pmap_cert.specs.CertificateReading.{number_below as number_below_of, words_of};
+ghost use Rattle.pmap_cert.specs.FormatReading.{number_below as number_below_of, words_of};
 ghost use Rattle.pmap_cert.specs.Words.{words_behind};
 
 use prefix_keys::{find_byte, read_decimal};

@@ -4,9 +4,8 @@ ghost use Rattle.std.specs.List.{flat_map};
 ghost use Rattle.std.specs.Fmt.{decimal};
 ghost use Rattle.pmap_cert.specs.Certificate.{certificate_of};
 ghost use Rattle.pmap_cert.specs.CertificateText.{bit_digits, certificate_text, chain_line, format_header, format_word, inner_line, leaf_line, text_of_lines, version_word};
-ghost use Rattle.pmap_cert.specs.CertificateReading.{LeafLine};
 ghost use Rattle.pmap_cert.specs.Format.{format_number};
-ghost use Rattle.pmap_cert.specs.FormatReading.{PlainLine};
+ghost use Rattle.pmap_cert.specs.FormatReading.{LeafLine, PlainLine};
 ghost use Rattle.pmap_cert.specs.Node.{line_text};
 
 use crate::certificate::Certificate;

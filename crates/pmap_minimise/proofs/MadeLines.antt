@@ -2,10 +2,9 @@
 use Rattle.std.proofs.Common.{◌≡◌, ℕ, ◌+◌, ◌-◌, ◌<◌, ◌≤◌, ◌∙◌, List, [], ◌∷◌, ◌++◌, length, map, get_or, refl, sym, ap, subst}
 use Rattle.std.proofs.lemmas.List.{append-nil, append_assoc, map-append}
 use Rattle.pmap_text.specs.declared.label.LabelId.{LabelId}
-use Rattle.pmap_cert.specs.CertificateReading.{InnerLine, LeafLine}
 use Rattle.pmap_cert.proofs.Written.{text_of_lines-append}
 use Rattle.pmap_cert.specs.CertificateText.{inner_line, leaf_line, text_of_lines}
-use Rattle.pmap_cert.specs.FormatReading.{DueLine, PlainLine}
+use Rattle.pmap_cert.specs.FormatReading.{DueLine, InnerLine, LeafLine, PlainLine}
 use Rattle.pmap_cert.specs.Node.{Chain, Inner, Leaf, Node, cost_of, line_text, lines_of, set_of}
 use Rattle.pmap_minimise.specs.MadeLines.{IsCertifying, IsWriting, lines_left}
 use Rattle.pmap_minimise.specs.Claiming.{AreClaimsOf}

@@ -1,5 +1,5 @@
 -- The map's label table has the map's labels, and a list and a certificate by numbers that are the map's minimal pair.
-use Rattle.std.proofs.Common.{◌≡◌, ℕ, ◌-◌, ◌<◌, ◌∙◌, List, [], ◌∷◌, ◌++◌, None, All, IsTrue, length, map, refl, sym, ap, subst, arith}
+use Rattle.std.proofs.Common.{◌≡◌, ℕ, ◌-◌, ◌<◌, ◌∙◌, inl, List, [], ◌∷◌, ◌++◌, None, All, IsTrue, length, map, refl, sym, ap, subst, arith}
 use Rattle.std.proofs.lemmas.List.Elements.{All-from_recursion, All-map, All-weaker}
 use Rattle.std.proofs.lemmas.List.Folds.{list_any_at}
 use Rattle.std.proofs.lemmas.Option.{none-some, unwrap_or-slice_get}
@@ -99,10 +99,12 @@ root_certificate m root = record { format = 1; version = m.version; table = m.la
 
 root-form : (m : MapText) (root : Node) → HasNumberForm (length m.labels) root (width_of m.version) → IsLabelTable m.labels → HasTextForm (root_certificate m root)
 root-form m root form ok = record {
-  format = refl;
-  plain = plain-tree_of m.labels root (number-plain (length m.labels) root (width_of m.version) form);
-  table = ok;
-  root = node_form m.labels ok root (width_of m.version) (number-form (length m.labels) root (width_of m.version) form);
+  first = refl;
+  text = record {
+    format = inl (refl, plain-tree_of m.labels root (number-plain (length m.labels) root (width_of m.version) form));
+    table = ok;
+    root = node_form m.labels ok root (width_of m.version) (number-form (length m.labels) root (width_of m.version) form);
+  };
 }
 
 -- the numbers of a root fit the map's label table

@@ -1,6 +1,5 @@
 use Rattle.std.specs.Prelude.{◌≡◌, ℕ, zero, suc, ◌+◌, ◌≤◌, ◌⊎◌, ◌==◌, Bool, List, [], ◌∷◌, ◌++◌, Option, Some, None, length, slice_get}
-use Rattle.pmap_cert.specs.CertificateReading.{LeafLine}
-use Rattle.pmap_cert.specs.FormatReading.{ChainLine, DueLine, PlainLine}
+use Rattle.pmap_cert.specs.FormatReading.{ChainLine, DueLine, LeafLine, PlainLine}
 use Rattle.pmap_cert.specs.Node.{Leaf, Node}
 use Rattle.pmap_cert.specs.Placing.{bits_down, end_down, side_below}
 use Rattle.pmap_minimise.specs.Pricing.{IsLoneAt, IsPricedAt}

@@ -1,8 +1,7 @@
 //! The header of a certificate.
 ghost use Rattle.std.specs.Prelude.{◌≡◌, ◌∷◌, [], Err, IfErr, IfOk, Ok, option_map};
-ghost use Rattle.pmap_cert.specs.CertificateReading.{named_version, words_of};
 ghost use Rattle.pmap_cert.specs.Format.{format_number};
-ghost use Rattle.pmap_cert.specs.FormatReading.{format_header_at, format_header_of, named_format};
+ghost use Rattle.pmap_cert.specs.FormatReading.{format_header_at, format_header_of, named_format, named_version, words_of};
 ghost use Rattle.pmap_cert.specs.Words.{header_model};
 
 use crate::fault::{CertFault, CertFaultKind};

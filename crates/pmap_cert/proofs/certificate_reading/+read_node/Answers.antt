@@ -1,8 +1,7 @@
 use Rattle.std.proofs.Common.{◌≡◌, ◌-◌, ◌++◌, ◌∷◌, [], ◌∙◌, ℕ, Bool, List, ap, arith, length, map, subst, sym}
 use Rattle.std.proofs.lemmas.Result.{err_from_is_err_and}
 use Rattle.pmap_text.specs.declared.label.LabelId.{LabelId}
-use Rattle.pmap_cert.specs.CertificateReading.{InnerLine}
-use Rattle.pmap_cert.specs.FormatReading.{ChainLine, PlainLine, nodes_at}
+use Rattle.pmap_cert.specs.FormatReading.{ChainLine, InnerLine, PlainLine, nodes_at}
 use Rattle.pmap_cert.specs.ReadNodes.{IsReadNode}
 use Rattle.pmap_cert.specs.Node.{tree_of}
 use Rattle.pmap_cert.proofs.ReadingSteps.{chain-bits, chain-deep, chain-in, due_in, end_then, node-deep, node-fault, node-lower_fault, node-upper_fault, read-chain, read-inner, read-leaf}

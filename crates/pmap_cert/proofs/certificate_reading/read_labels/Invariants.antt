@@ -1,5 +1,5 @@
 use Rattle.std.proofs.Common.{◌≡◌, ◌-◌, ◌≤◌, [], length}
-use Rattle.pmap_cert.specs.CertificateReading.{labels_at}
+use Rattle.pmap_cert.specs.FormatReading.{labels_at}
 use Rattle.pmap_cert.proofs.certificate_reading.read_labels.Given as goal
 
 -- the whole table is the labels so far and those of the lines that are left

@@ -1,4 +1,4 @@
-use Rattle.pmap_cert.proofs.FormatWhole.{format-apart, format-either, format-first, format-iff}
+use Rattle.pmap_cert.proofs.FormatWhole.{format-apart, format-either, format-iff}
 use Rattle.pmap_cert.proofs.chain_laws.text_of_format_is_read_or_has_a_fault.Goals as goal
 
 pub returns-clause-read : goal.returns-clause-read
@@ -9,6 +9,3 @@ returns-clause-either c = format-either
 
 pub returns-clause-apart : goal.returns-clause-apart
 returns-clause-apart c = format-apart
-
-pub returns-clause-first : goal.returns-clause-first
-returns-clause-first c = format-first

@@ -1,25 +1,23 @@
 use Rattle.std.proofs.Common.{ap}
+use Rattle.pmap_text.specs.Label.{IsLabelTable}
 use Rattle.prefix_keys.specs.Version.{width_of}
 use Rattle.pmap_cert.specs.Format.{format_number}
-use Rattle.pmap_cert.proofs.Plain.{of-kind, plain-kind, plain-tree_of}
+use Rattle.pmap_cert.proofs.Plain.{of-kind}
 use Rattle.pmap_cert.proofs.Written.{node_form}
+use Rattle.pmap_cert.specs.Certificate.{certificate_of}
+use Rattle.pmap_cert.specs.CertificateForm.{HasFormatText}
+use Rattle.pmap_cert.specs.declared.certificate.Certificate.{Certificate}
 use Rattle.pmap_cert.proofs.certificate.Certificate.root.Goals as goal
 
+text : (me : Certificate) → IsLabelTable me.labels → HasFormatText (certificate_of me)
+text me table = record {
+  format = of-kind me.labels me.format me.root me.version me.kind;
+  table = table;
+  root = node_form me.labels table me.root (width_of me.version) me.form;
+}
+
 pub returns-clause-form : goal.returns-clause-form
-returns-clause-form c =
-    let me = c.args.self.now in
-    let table = c.len-count.ensures.table in record {
-      format = of-kind me.labels me.format me.root me.version me.kind;
-      table = table;
-      root = node_form me.labels table me.root (width_of me.version) me.form;
-    }
+returns-clause-form c = text c.args.self.now c.len-count.ensures.table
 
 pub returns-clause-first : goal.returns-clause-first
-returns-clause-first c = λ one.
-    let me = c.args.self.now in
-    let table = c.len-count.ensures.table in record {
-      format = ap format_number one;
-      plain = plain-tree_of me.labels me.root (plain-kind me.format me.root one me.kind);
-      table = table;
-      root = node_form me.labels table me.root (width_of me.version) me.form;
-    }
+returns-clause-first c = λ one. record { first = ap format_number one; text = text c.args.self.now c.len-count.ensures.table }

@@ -1,5 +1,5 @@
 use Rattle.std.proofs.Common.{sym}
-use Rattle.pmap_cert.proofs.SetWords.{format_header_of-words_more}
+use Rattle.pmap_cert.proofs.FormatHeaders.{format_header_of-words_more}
 use Rattle.pmap_cert.proofs.certificate_reading.header.said.Goals as goal
 
 pub returns-in-Some : goal.returns-in-Some

@@ -1,6 +1,5 @@
 use Rattle.std.proofs.Common.{◌<◌, ◌∙◌, List, ap, length, subst, sym}
-use Rattle.pmap_cert.specs.CertificateReading.{LeafLine}
-use Rattle.pmap_cert.specs.FormatReading.{PlainLine}
+use Rattle.pmap_cert.specs.FormatReading.{LeafLine, PlainLine}
 use Rattle.pmap_cert.specs.Node.{Node, side_of, first_node}
 use Rattle.pmap_cert.proofs.NodeWalk.{line-here, within}
 use Rattle.pmap_cert.proofs.cursor.Cursor.side.Goals as goal

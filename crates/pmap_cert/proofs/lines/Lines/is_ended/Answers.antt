@@ -1,5 +1,5 @@
 use Rattle.std.proofs.Common.{◌∙◌, ap, sym}
-use Rattle.pmap_cert.specs.CertificateReading.{Place, is_ended}
+use Rattle.pmap_cert.specs.FormatReading.{Place, is_ended}
 use Rattle.pmap_cert.proofs.Pieces.{is_ended-pieces}
 use Rattle.pmap_cert.proofs.lines.Lines.is_ended.Goals as goal
 

@@ -1,7 +1,6 @@
 use Rattle.std.proofs.Common.{◌<◌, ◌∙◌, Bool, List, ap, length, arith, subst, sym}
 use Rattle.std.specs.List.{slice_range}
-use Rattle.pmap_cert.specs.CertificateReading.{LeafLine}
-use Rattle.pmap_cert.specs.FormatReading.{PlainLine}
+use Rattle.pmap_cert.specs.FormatReading.{LeafLine, PlainLine}
 use Rattle.pmap_cert.specs.Node.{line_bits}
 use Rattle.pmap_cert.specs.Packed.{HasChain, Kept, chain_of, start_of}
 use Rattle.pmap_cert.specs.declared.nodes.PackedChain.{PackedChain}

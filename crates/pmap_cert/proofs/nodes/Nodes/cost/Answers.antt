@@ -1,6 +1,5 @@
 use Rattle.std.proofs.Common.{◌<◌, ◌∙◌, List, ap, length, arith, subst, sym}
-use Rattle.pmap_cert.specs.CertificateReading.{LeafLine}
-use Rattle.pmap_cert.specs.FormatReading.{PlainLine}
+use Rattle.pmap_cert.specs.FormatReading.{LeafLine, PlainLine}
 use Rattle.pmap_cert.specs.Node.{line_cost}
 use Rattle.pmap_cert.specs.Packed.{HasChain, Kept, chain_of, start_of}
 use Rattle.pmap_cert.specs.declared.nodes.PackedChain.{PackedChain}

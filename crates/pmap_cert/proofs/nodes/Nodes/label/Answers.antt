@@ -1,6 +1,5 @@
 use Rattle.std.proofs.Common.{◌∙◌, ap, length, arith, sym}
-use Rattle.pmap_cert.specs.CertificateReading.{LeafLine}
-use Rattle.pmap_cert.specs.FormatReading.{PlainLine}
+use Rattle.pmap_cert.specs.FormatReading.{LeafLine, PlainLine}
 use Rattle.pmap_cert.specs.Node.{line_label}
 use Rattle.pmap_cert.specs.Packed.{Kept, start_of}
 use Rattle.pmap_cert.proofs.PackedLines.{label-none, line-leaf, lines-length, view-line}

@@ -1,6 +1,5 @@
 use Rattle.std.proofs.Common.{◌^◌, ◌<◌, ◌++◌, ◌∷◌, [], ◌∙◌, ap, arith, length, length-append, List, map, refl}
-use Rattle.pmap_cert.specs.CertificateReading.{InnerLine}
-use Rattle.pmap_cert.specs.FormatReading.{DueLine, PlainLine}
+use Rattle.pmap_cert.specs.FormatReading.{DueLine, InnerLine, PlainLine}
 use Rattle.pmap_cert.specs.Packed.{Kept}
 use Rattle.pmap_cert.proofs.PackedLines.{push-inner}
 use Rattle.pmap_cert.proofs.nodes.Nodes.push_inner.Goals as goal

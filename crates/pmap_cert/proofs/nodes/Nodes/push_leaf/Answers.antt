@@ -1,6 +1,5 @@
 use Rattle.std.proofs.Common.{◌++◌, ◌∷◌, [], ◌∙◌, ap, arith, List}
-use Rattle.pmap_cert.specs.CertificateReading.{LeafLine}
-use Rattle.pmap_cert.specs.FormatReading.{DueLine, PlainLine}
+use Rattle.pmap_cert.specs.FormatReading.{DueLine, LeafLine, PlainLine}
 use Rattle.pmap_cert.specs.Packed.{Kept}
 use Rattle.pmap_cert.proofs.PackedLines.{push-leaf}
 use Rattle.pmap_cert.proofs.nodes.Nodes.push_leaf.Goals as goal

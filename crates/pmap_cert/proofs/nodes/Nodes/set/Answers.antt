@@ -1,8 +1,7 @@
 use Rattle.std.proofs.Common.{◌<◌, ◌∙◌, ap, length, arith, sym, map, List}
 use Rattle.std.specs.List.{slice_range}
 use Rattle.pmap_text.specs.declared.label.LabelId.{LabelId}
-use Rattle.pmap_cert.specs.CertificateReading.{LeafLine}
-use Rattle.pmap_cert.specs.FormatReading.{PlainLine}
+use Rattle.pmap_cert.specs.FormatReading.{LeafLine, PlainLine}
 use Rattle.pmap_cert.specs.Node.{line_set}
 use Rattle.pmap_cert.specs.Packed.{Kept, start_of}
 use Rattle.pmap_cert.specs.declared.nodes.Packed.{Packed}
