@@ -4,6 +4,7 @@ pub mod DefinitionLemmas
 pub mod EndLemmas
 pub mod EquivalentLemmas
 pub mod ExistenceLemmas
+pub mod HeadlineLemmas
 pub mod LineLemmas
 pub mod LoadingLemmas
 pub mod MinimalLemmas

@@ -13,8 +13,8 @@ use Rattle.pmap_cert.specs.ListForm.{HasListForm, IsInOrder}
 use Rattle.pmap_cert.specs.MinimalPair.{HasItsLabels, IsMinimalPair}
 use Rattle.pmap_print.specs.List.{list_text}
 use Rattle.pmap_print.specs.Order.{in_order}
-use Rattle.pmap_print.specs.ReadBack.{CanBeReadAgain, IsListAgain, labels_of}
-use Rattle.flowlabel.specs.Headline.{ShrunkIsLeast}
+use Rattle.pmap_print.specs.ReadBack.{CanBeReadAgain, IsListAgain, IsWellFormed, labels_of}
+use Rattle.flowlabel.specs.Headline.{IsShortest, MinimalIsShortest, ShrunkIsLeast}
 use Rattle.flowlabel.specs.Output.{CheckAcceptsCompact, CheckAcceptsMinimal, FileTexts, FitsText, IsOutput, minimal_text}
 use Rattle.flowlabel.specs.Request.{check}
 
@@ -62,45 +62,61 @@ check_accepts_compact back first text keeps map list certificate texts m l c rea
     let form : HasFormatText c = first c has_form in
     by_certificate back map list certificate texts m l c (compact c) reads pair (text c form) (λ other. keeps m other c form.format) fits list_is certificate_is
 
-pub shrunk_is_least : CheckAcceptsMinimal → CheckAcceptsCompact → ((c : CertificateModel) → HasTextForm c → HasFormatText c) → CompactHasText → CompactIsAccepted
-    → ((text : List ℕ) (m : MapModel) → ReadsMap text m → (l : ListModel) × (c : CertificateModel) × IsMinimalPair m l c × HasTextForm c)
+pub minimal_is_shortest : ((c : CertificateModel) → HasTextForm c → HasFormatText c) → CompactHasText → CompactIsAccepted
     → ((m : MapModel) (l : ListModel) (c : CertificateModel) → IsMinimalPair m l c → IsAccepted m l c)
     → ((m : MapModel) (l : ListModel) (c : CertificateModel) → IsMinimalPair m l c → IsEquivalent l m)
     → ((m : MapModel) (l : ListModel) (c : CertificateModel) → IsMinimalPair m l c → IsLeast m l)
     → ((text : List ℕ) (m : MapModel) → ReadsMap text m → HasItsLabels m)
     → ((m : MapModel) (l : ListModel) (c : CertificateModel) → IsMinimalPair m l c → HasItsLabels m → HasListForm l)
-    → ((text : List ℕ) (m : MapModel) (l : ListModel) (c : CertificateModel) → ReadsMap text m → IsMinimalPair m l c
-    → length l.prefixes ≤ mapping_limit → length (labels_of l.prefixes) ≤ label_limit → CanBeReadAgain l)
+    → ((text : List ℕ) (m : MapModel) (l : ListModel) (c : CertificateModel) → ReadsMap text m → IsMinimalPair m l c → IsWellFormed l)
+    → MinimalIsShortest
+minimal_is_shortest first text keeps accepted equivalent least labels form well file m l c reads pair has_form =
+    let formed : HasFormatText c = first c has_form in
+    record {
+      equivalent = equivalent m l c pair;
+      least = least m l c pair;
+      name = pair.list_name;
+      form = well file m l c reads pair;
+      order = (form m l c pair (labels file m reads)).order;
+      has_text = has_form;
+      accepted = accepted m l c pair;
+      has_compact_text = text c formed;
+      compact_accepted = keeps m l c formed.format (accepted m l c pair);
+    }
+
+pub shrunk_is_least : CheckAcceptsMinimal → CheckAcceptsCompact
+    → ((text : List ℕ) (m : MapModel) → ReadsMap text m → (l : ListModel) × (c : CertificateModel) × IsMinimalPair m l c × HasTextForm c)
+    → MinimalIsShortest
     → ((l : ListModel) → CanBeReadAgain l → (again : ListModel) × ReadsList (list_text l) again × IsListAgain l again)
     → ((l : ListModel) (m : MapModel) → CanBeReadAgain l → IsEquivalent l m → (again : ListModel) × ReadsList (list_text l) again × IsEquivalent again m)
     → ((ps : List Prefix) → IsInOrder ps → in_order ps ≡ ps)
     → ShrunkIsLeast
-shrunk_is_least accepts accepts_compact first text keeps exists accepted equivalent least labels form can back alike kept file texts m reads =
+shrunk_is_least accepts accepts_compact exists shortest back alike kept file texts m reads =
     let (l, c, pair, has_form) = exists texts.map m reads in
-    let formed : HasFormatText c = first c has_form in (
+    let short : IsShortest m l c = shortest texts.map m l c reads pair has_form in (
       l,
       c,
       inr (m, reads, (l, c, pair, has_form, refl)),
       inr (m, reads, (l, c, pair, has_form, refl)),
       inr (m, reads, (l, c, pair, has_form, refl)),
-      equivalent m l c pair,
-      least m l c pair,
-      has_form,
-      accepted m l c pair,
-      text c formed,
-      keeps m l c formed.format (accepted m l c pair),
+      short,
       λ fits.
-          let readable : CanBeReadAgain l = can texts.map m l c reads pair fits.0 fits.1 in
+          let same : in_order l.prefixes ≡ l.prefixes = kept l.prefixes short.order in
+          let readable : CanBeReadAgain l = record {
+            form = short.form;
+            few_entries = fits.0;
+            few_labels = subst (λ (ps : List Prefix). length (labels_of ps) ≤ label_limit) (sym same) fits.1;
+          } in
           let (again, reads_list, is_again) = back l readable in
-          let (other, reads_other, is) = alike l m readable (equivalent m l c pair) in
-          let same : other ≡ again = cc in
+          let (other, reads_other, is) = alike l m readable short.equivalent in
+          let one : other ≡ again = cc in
           record {
             again = again;
             reads = reads_list;
             version = is_again.version;
             name = is_again.name;
-            prefixes = is_again.prefixes ∙ kept l.prefixes (form m l c pair (labels texts.map m reads)).order;
-            equivalent = subst (λ (k : ListModel). IsEquivalent k m) same is;
+            prefixes = is_again.prefixes ∙ same;
+            equivalent = subst (λ (k : ListModel). IsEquivalent k m) one is;
             checks = λ map list certificate. accepts map list certificate (record texts { list = list_text l; certificate = certificate_text c }) m l c reads pair has_form fits refl refl;
             checks_compact = λ map list certificate. accepts_compact map list certificate (record texts { list = list_text l; certificate = certificate_text (compact c) }) m l c reads pair has_form fits refl refl;
           },

@@ -224,12 +224,15 @@ SameUnderEquivalents = (request : Request) (file other : List ℕ) (texts others
     → TakesEither request → ReadsMap texts.map m → ReadsList others.list l → IsEquivalent l m → texts.flows ≡ others.flows
     → IsOutput (under (FromMap file) request) texts outcome ↔ IsOutput (under (FromList other) request) others outcome
 
--- Where `check` prints, it prints the number of the list's entries, the list labels every address as the map does, and no
--- list that does so has fewer entries, whoever made the three texts
+-- the text is the number of entries of the list, which labels every address as the map does, and no list that does so has fewer
+abbrev pub IsCheckedLeast : FileTexts → List ℕ → Type 0
+IsCheckedLeast texts out = (m : MapModel) × (l : ListModel) × ReadsMap texts.map m × ReadsList texts.list l
+    × IsEquivalent l m × IsLeast m l × (out ≡ minimal_text (length l.prefixes))
+
+-- so it is with each text that `check` prints, whoever made the three files
 abbrev pub CheckIsEnough : Type 0
 CheckIsEnough = (map list certificate : List ℕ) (texts : FileTexts) (out : List ℕ) → IsOutput (check map list certificate) texts (Ok out)
-    → (m : MapModel) × (l : ListModel) × ReadsMap texts.map m × ReadsList texts.list l
-    × IsEquivalent l m × IsLeast m l × (out ≡ minimal_text (length l.prefixes))
+    → IsCheckedLeast texts out
 
 -- the list is within the limits of a text: at most 1,000,000 entries, with at most 65,535 label texts
 abbrev pub FitsText : ListModel → Type 0

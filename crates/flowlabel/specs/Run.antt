@@ -4,6 +4,7 @@ use Rattle.std.specs.Io.KnownBytes.{Appends}
 use Rattle.flow_io.specs.declared.last_call.LastCall.{LastCall}
 use Rattle.flow_io.specs.declared.last_call.LastCall.TheVariants.{Flush}
 use Rattle.flow_io.specs.WriterStates.{IsUntouched, StopsWriting}
+use Rattle.flowlabel.specs.Headline.{IsHeadline}
 use Rattle.flowlabel.specs.Output.{FileTexts, IsOutput, Outcome}
 use Rattle.flowlabel.specs.Request.{Request, Text}
 use Rattle.flowlabel.specs.Turns.{CertificateTurn, FlowsTurn, IsFaultOfText, IsReadAt, ListTurn, MapTurn, Turn, input_at, turn_of}
@@ -74,6 +75,11 @@ module _ {R : Type 0} where
   PrintsThen left inputs request P =
       (texts : FileTexts) → HaveTexts left inputs texts → (out : List ℕ) × IsOutput request texts (Ok out) × P out
 
+  -- so it is with the headline for that text
+  abbrev pub HeadlineThen : (R → Option (List ℕ)) → Inputs R → Request → (List ℕ → Type 0) → Type 0
+  HeadlineThen left inputs request P =
+      (texts : FileTexts) → HaveTexts left inputs texts → (out : List ℕ) × IsHeadline request texts out × P out
+
   -- what a fault of reading and decoding one input says: the input, by its name before the call, has a reader that has failed, or
   -- a text with this fault
   abbrev pub IsStop : (R → Option (List ℕ)) → (R → Bool) → Turn → Option (Source R) → Option (Source R) → RunFault → Type 0
@@ -131,8 +137,11 @@ is_write_stop result = false
 -- What a run of a request does, where no reader and not the writer has failed before.
 module _ {R W : Type 0} (left : R → Option (List ℕ)) (failed : R → Bool) (taken : W → Option (List ℕ)) (last : W → LastCall) (stuck : W → Bool) where
   pub record IsRunOf (request : Request) (old new : Inputs R) (writer writer' : W) (result : Result (Unit {0}) RunFault) : Type 0 where
-    -- the writer took exactly the output of the bytes read, and was flushed after it
+    -- the writer took exactly the output of the bytes read
     pub ok : OnOk result (PrintsThen left old request (Appends (taken writer) (taken writer')))
+    -- so the headline holds for what was written: a shortest list, a list checked to be least, the same report under map and list
+    pub headline : OnOk result (HeadlineThen left old request (Appends (taken writer) (taken writer')))
+    -- and it was flushed after that
     pub flushed : OnOk result (last writer' ≡ Flush)
     -- a fault of the bytes is the output's, and nothing is written but a prefix of the output before a write fault
     pub err : IfErr result (IsFaultOfRun left failed taken last old new writer writer' request)

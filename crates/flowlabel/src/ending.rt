@@ -1,9 +1,8 @@
 //! How the program ends: the exit status, and what is told on which stream.
-ghost use Rattle.std.specs.Prelude.{◌≡◌, ◌⊎◌, false, true, is_ok, IfOk};
+ghost use Rattle.std.specs.Prelude.{◌≡◌, false, true, is_ok, IfErr, IfOk};
 ghost use Rattle.flowlabel.specs.Ending.{IsSilent, IsTold, stream_of, told_bytes, told_text};
 ghost use Rattle.flowlabel.specs.declared.ending.Stream.TheVariants as stream;
 ghost use Rattle.flowlabel.specs.Faults.{exit_status_of};
-ghost use Rattle.flowlabel.specs.Run.{is_write_stop};
 
 use crate::fault::{RunFault, exit_status, fault_line};
 use crate::usage::UsageFault;
@@ -90,28 +89,21 @@ pub fn ending_of<'a>(alloc: Global, outcome: &'a Result<(), RunFault<'_>>) -> En
     }
 }
 
-/// Tells the text on its stream, which is flushed, and gives the status. Where the stream fails, or there was no memory for
-/// the text, the status stands.
-pub fn end<O: Output, E: Output>(
-    alloc: Global,
-    outcome: &Result<(), RunFault<'_>>,
-    output: &mut O,
-    error: &mut E,
-) -> u8
-    requires output { O.failed output.old ≡ is_write_stop outcome.now }
+/// Writes the text of an ending to its stream, flushes the stream, and returns the exit status. If the stream fails, the status
+/// stays as it is.
+pub fn end<O: Output, E: Output>(ending: &Ending<'_>, output: &mut O, error: &mut E) -> u8
+    requires output { ending.now.stream ≡ stream.Output → O.failed output.old ≡ false }
     requires error { E.failed error.old ≡ false }
-    ensures status { result ≡ exit_status_of outcome.now }
+    ensures status { result ≡ ending.now.status }
 
-    // Nothing else is told, and nothing at all only where there was no memory for the line of a fault.
-    ensures told { IsTold O.bytes_taken O.last_call O.failed E.bytes_taken E.last_call E.failed (stream_of outcome.now)
-        (told_text outcome.now) output.old output.new error.old error.new
-        ⊎ ((stream_of outcome.now ≡ stream.Error)
-        × IsSilent O.bytes_taken O.last_call E.bytes_taken E.last_call output.old output.new error.old error.new) }
+    // Nothing else is written, and nothing at all exactly if there was no memory for the line of a fault.
+    ensures told { IfOk ending.now.text (λ told. IsTold O.bytes_taken O.last_call O.failed E.bytes_taken E.last_call E.failed
+        ending.now.stream (told_bytes told) output.old output.new error.old error.new) }
+    ensures silent { IfErr ending.now.text (λ refused. IsSilent O.bytes_taken O.last_call E.bytes_taken E.last_call
+        output.old output.new error.old error.new) }
 {
-    let ending = ending_of(alloc, outcome);
-    let stream = ending.stream;
     if let Ok(text) = &ending.text {
-        let _ = match stream {
+        let _ = match ending.stream {
             Stream::Output => write_whole(output, text.as_bytes()),
             Stream::Error => write_whole(error, text.as_bytes()),
         };

@@ -11,7 +11,7 @@
 //! contract of `run`: the bytes written are a stated function of the bytes read, a fault is the first one of those
 //! bytes, nothing is written on any fault but a write fault, and device faults come exactly from failed devices.
 //! `execute` joins them, and its contract says that the request run is the one that the words are, over the files that it
-//! names. `end` tells a fault or clap's help and gives the status. That the two streams are the system's, and that the status is
+//! names. `ending_of` has the text and the status of its outcome, and `end` writes the text. That the two streams are the system's, and that the status is
 //! handed on, is shown by running the program.
 #![tactic(auto)]
 
@@ -35,7 +35,7 @@ mod run;
 mod usage;
 mod words;
 
-use ending::end;
+use ending::{end, ending_of};
 use fault::RunFault;
 use flow_io::{Output, Watched};
 use opening::{Opener, open_all};
@@ -101,28 +101,25 @@ fn execute<'a, O: Opener, W: Output>(
 
 // Carries out the command line and gives the exit status.
 fn answer(rt: &HostRuntime) -> u8 {
+    let alloc = rt.alloc();
     let mut output = Watched::new(rt.stdout());
     let mut error = Watched::new(rt.stderr());
     let arguments = match arguments(rt) {
         Ok(arguments) => arguments,
         Err(fault) => {
             let outcome = Err(RunFault::Usage(fault));
-            return end(rt.alloc(), &outcome, &mut output, &mut error);
+            return end(&ending_of(alloc, &outcome), &mut output, &mut error);
         }
     };
-    match lent(rt.alloc(), arguments.as_slice()) {
+    let outcome = match lent(alloc, arguments.as_slice()) {
         Ok(words) => {
             let hashing = KeyHashing::drawn(rt);
-            let outcome = execute(rt.alloc(), words.as_slice(), rt, &mut output, hashing);
-            end(rt.alloc(), &outcome, &mut output, &mut error)
+            let outcome = execute(alloc, words.as_slice(), rt, &mut output, hashing);
+            return end(&ending_of(alloc, &outcome), &mut output, &mut error);
         }
-        Err(AllocError) => end(
-            rt.alloc(),
-            &Err(RunFault::NoMemory),
-            &mut output,
-            &mut error,
-        ),
-    }
+        Err(AllocError) => Err(RunFault::NoMemory),
+    };
+    end(&ending_of(alloc, &outcome), &mut output, &mut error)
 }
 
 fn main(rt: HostRuntime) -> ExitCode {

@@ -111,24 +111,24 @@ found-label W a ps (inr found) =
 
 module _ (l : ListModel) (can : CanBeReadAgain l) where
   distinct : IsDistinct starts_alike l.prefixes
-  distinct = alike-distinct (width_of l.version) l.prefixes can.distinct
+  distinct = alike-distinct (width_of l.version) l.prefixes can.form.distinct
 
   moved : IsPermutation l.prefixes (in_order l.prefixes)
   moved = in_order-moves l.prefixes
 
   each : All (IsPrintedEntry l.version) (in_order l.prefixes)
-  each = All-permutation (IsPrintedEntry l.version) l.prefixes (in_order l.prefixes) moved can.entries
+  each = All-permutation (IsPrintedEntry l.version) l.prefixes (in_order l.prefixes) moved can.form.entries
 
   -- what its lines say
   read : (kind : Form) → (es : List Entry)
       × (entries_from kind [] 0 (lines_of (list_text l)) ≡ Ok es)
       × HasRead kind l.version l.name (earlier_of es) (in_order l.prefixes)
   read kind =
-      let found = lines-read kind l.version l.name (in_order l.prefixes) can.name each
+      let found = lines-read kind l.version l.name (in_order l.prefixes) can.form.name each
       (IsDistinct-IsPermutation starts_alike alike-flips l.prefixes (in_order l.prefixes) moved distinct)
       (omega (arith, can.few_entries, length_permutation l.prefixes (in_order l.prefixes) moved)) can.few_labels in (
         found.0,
-        ap (entries_from kind [] 0) (lines-text (list_lines l) (lines-feed l.version l.name (in_order l.prefixes) can.name each)) ∙ found.1,
+        ap (entries_from kind [] 0) (lines-text (list_lines l) (lines-feed l.version l.name (in_order l.prefixes) can.form.name each)) ∙ found.1,
         found.2,
       )
 
@@ -147,7 +147,7 @@ module _ (l : ListModel) (can : CanBeReadAgain l) where
   -- the entries in order label as the list does
   pub order-label : (a : ℕ) → list_label l a ≡ label_below (width_of l.version) (in_order l.prefixes) (suc (width_of l.version)) a
   order-label a =
-      label-same_prefixes (width_of l.version) l.prefixes (in_order l.prefixes) a (once-distinct (width_of l.version) l.prefixes can.distinct)
+      label-same_prefixes (width_of l.version) l.prefixes (in_order l.prefixes) a (once-distinct (width_of l.version) l.prefixes can.form.distinct)
       (same_prefixes-permuted l.prefixes (in_order l.prefixes) moved)
 
   -- the last statement of the text that covers an address has the list's label
@@ -223,9 +223,11 @@ entry-printed l is k d below =
 pub list-printable : (l : PrefixList) → IsLabelTable l.labels → ForSome l.name (λ n. IsTrue (is_label n)) → length l.entries ≤ mapping_limit
     → length (labels_of (in_order (list_of l).prefixes)) ≤ label_limit → CanBeReadAgain (list_of l)
 list-printable l is name few few_labels = record {
-  entries = All-map (IsPrintedEntry l.version) (prefix_of l.labels) l.entries (entry-printed l is);
-  distinct = distinct-list_of l;
-  name = name;
+  form = record {
+    entries = All-map (IsPrintedEntry l.version) (prefix_of l.labels) l.entries (entry-printed l is);
+    distinct = distinct-list_of l;
+    name = name;
+  };
   few_entries = omega (arith, few, length-map l.entries (prefix_of l.labels));
   few_labels = few_labels;
 }

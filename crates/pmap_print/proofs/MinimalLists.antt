@@ -21,7 +21,7 @@ use Rattle.pmap_text.specs.LongestMatch.{HasDistinctPrefixes, is_same_prefix}
 use Rattle.pmap_text.specs.MapModel.{Label, MapModel}
 use Rattle.pmap_text.specs.Reading.{ReadsList, ReadsMap, label_limit, mapping_limit}
 use Rattle.pmap_print.specs.List.{list_text}
-use Rattle.pmap_print.specs.ReadBack.{CanBeReadAgain, IsPrintedEntry, labels_of}
+use Rattle.pmap_print.specs.ReadBack.{CanBeReadAgain, IsPrintedEntry, IsWellFormed, labels_of}
 use Rattle.pmap_print.proofs.Again.{list-again}
 use Rattle.pmap_print.proofs.MapTexts.{HasLabelForms, map-forms}
 use Rattle.pmap_print.proofs.Order.{before-start, in_order-kept}
@@ -88,13 +88,18 @@ module _ (text : List ℕ) (m : MapModel) (l : ListModel) (c : CertificateModel)
     label = label-known l.table _ table-texts (list-has_form.labels k d below);
   }
 
+  pub well-formed : IsWellFormed l
+  well-formed = record {
+    entries = printed;
+    distinct = order-distinct (width_of l.version) l.prefixes list-has_form.order
+        (recursion_from_All (HasBlock (width_of l.version)) l.prefixes list-has_form.blocks);
+    name = λ x e. forms.name x (sym pair.list_name ∙ e);
+  }
+
   module _ (few : length l.prefixes ≤ mapping_limit) (few_labels : length (labels_of l.prefixes) ≤ label_limit) where
     pub can-read_again : CanBeReadAgain l
     can-read_again = record {
-      entries = printed;
-      distinct = order-distinct (width_of l.version) l.prefixes list-has_form.order
-          (recursion_from_All (HasBlock (width_of l.version)) l.prefixes list-has_form.blocks);
-      name = λ x e. forms.name x (sym pair.list_name ∙ e);
+      form = well-formed;
       few_entries = few;
       few_labels = subst (λ (ps : List Prefix). length (labels_of ps) ≤ label_limit) (sym (in_order-kept l.prefixes list-has_form.order)) few_labels;
     }

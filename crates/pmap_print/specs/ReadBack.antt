@@ -21,12 +21,15 @@ pub record IsPrintedEntry (version : Version) (p : Prefix) : Type 0 where
 abbrev pub labels_of : List Prefix → List Label
 labels_of prefixes = fold with_label [] (map (λ p. p.label) prefixes)
 
--- Each entry can be printed, no two have one block, the name has the form of one, and there are no more entries and no more
--- label texts than a text may have.
-pub record CanBeReadAgain (l : ListModel) : Type 0 where
+-- each entry has a block and a label, no two have one block, and the name has the form of a label
+pub record IsWellFormed (l : ListModel) : Type 0 where
   pub entries : All (IsPrintedEntry l.version) l.prefixes
   pub distinct : HasDistinctPrefixes (width_of l.version) l.prefixes
   pub name : ForSome l.name (λ name. IsTrue (is_label name))
+
+-- the list is well formed, and has no more entries and no more label texts than a text may have
+pub record CanBeReadAgain (l : ListModel) : Type 0 where
+  pub form : IsWellFormed l
   pub few_entries : length l.prefixes ≤ mapping_limit
   pub few_labels : length (labels_of (in_order l.prefixes)) ≤ label_limit
 

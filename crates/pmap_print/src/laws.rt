@@ -18,7 +18,7 @@ ghost use Rattle.pmap_text.specs.Reading.{ReadsList, ReadsMap, label_limit, mapp
 ghost use Rattle.pmap_text.specs.declared.prefix_list.PrefixList.{PrefixList};
 ghost use Rattle.pmap_print.specs.List.{list_text};
 ghost use Rattle.pmap_print.specs.Order.{in_order, starts_alike};
-ghost use Rattle.pmap_print.specs.ReadBack.{CanBeReadAgain, IsListAgain, IsMapAgain, labels_of};
+ghost use Rattle.pmap_print.specs.ReadBack.{CanBeReadAgain, IsListAgain, IsMapAgain, IsWellFormed, labels_of};
 ghost use Rattle.pmap_print.specs.Runs.{IsRunsText};
 ghost use Rattle.pmap_print.specs.Table.{Text};
 
@@ -72,12 +72,14 @@ pub fn prefix_list_can_be_read_again()
         CanBeReadAgain (list_of l) }
 {}
 
-/// The list of a minimal pair of a map text can be printed and read again where it has at most 1,000,000 entries and
-/// they have at most 65,535 label texts: its blocks are distinct, and its labels and its name have the form of labels.
-/// The limits are no consequence of the map text, since a range can take several blocks, and a text of 65,535 labels
-/// may leave `UNKNOWN` unstated.
+/// The list of a minimal pair of a map text is well formed: its blocks are distinct, and its labels and its name have the
+/// form of labels. So it can be printed and read again if it has at most 1,000,000 entries with at most 65,535 label texts.
+/// The map text doesn't imply these limits: a range can take several blocks, and a text of 65,535 labels may leave
+/// `UNKNOWN` unstated.
 pub fn minimal_list_can_be_read_again()
-    ensures { (text : List ℕ) (m : MapModel) (l : ListModel) (c : CertificateModel) → ReadsMap text m →
+    ensures form { (text : List ℕ) (m : MapModel) (l : ListModel) (c : CertificateModel) → ReadsMap text m →
+        IsMinimalPair m l c → IsWellFormed l }
+    ensures again { (text : List ℕ) (m : MapModel) (l : ListModel) (c : CertificateModel) → ReadsMap text m →
         IsMinimalPair m l c → length l.prefixes ≤ mapping_limit → length (labels_of l.prefixes) ≤ label_limit →
         CanBeReadAgain l }
 {}

@@ -1,4 +1,4 @@
-ghost use Rattle.flowlabel.specs.Headline.{ShrunkIsLeast};
+ghost use Rattle.flowlabel.specs.Headline.{KeepsHeadline, MinimalIsShortest, ShrunkIsLeast};
 ghost use Rattle.flowlabel.specs.Output.{CheckAcceptsCompact, CheckAcceptsMinimal, CheckIsEnough, HasOutput, OneOutput, RecertIsAsGood, SameUnderEquivalents};
 
 use cert_check::no_fault_is_acceptance;
@@ -76,8 +76,31 @@ pub fn recert_is_as_good()
     compact_keeps_acceptance();
 }
 
+/// The list of a map text's minimal pair labels every address as the map does, and no list that does so has fewer entries. It is
+/// well formed, and the certificate is accepted for the map and the list, compacted or not.
+pub fn minimal_pair_is_shortest()
+    ensures { MinimalIsShortest }
+{
+    minimal_pair_is_accepted();
+    compact_has_a_text();
+    compact_keeps_acceptance();
+    map_text_has_its_labels();
+    minimal_list_is_in_order();
+    minimal_list_can_be_read_again();
+}
+
+/// The headline holds for each output that is a text.
+pub fn output_keeps_headline()
+    ensures { KeepsHeadline }
+{
+    minimal_pair_is_shortest();
+    check_is_enough();
+    recert_is_as_good();
+    same_under_equivalents();
+}
+
 /// What `shrink` prints for each map text is right and least: the list labels every address as the map does, no list that does so
-/// has fewer entries, and the certificate is accepted for the two, compacted or not. Where the list is within the limits of a text,
+/// has fewer entries, and the certificate is accepted for the two, compacted or not. If the list is within the limits of a text,
 /// what is printed is read again as the same list, and `check` over the map text, that list and the certificate, compacted or not,
 /// gives the number of its entries.
 pub fn shrunk_list_is_least()
@@ -85,12 +108,7 @@ pub fn shrunk_list_is_least()
 {
     check_accepts_minimal();
     map_text_has_a_minimal_pair();
-    minimal_pair_is_accepted();
-    compact_has_a_text();
-    compact_keeps_acceptance();
-    map_text_has_its_labels();
-    minimal_list_is_in_order();
-    minimal_list_can_be_read_again();
+    minimal_pair_is_shortest();
     printed_list_is_read_back();
     printed_list_is_equivalent();
     printed_order_is_one();

@@ -1,5 +1,8 @@
-use Rattle.pmap_print.proofs.MinimalLists.{can-read_again}
+use Rattle.pmap_print.proofs.MinimalLists.{can-read_again, well-formed}
 use Rattle.pmap_print.proofs.laws.minimal_list_can_be_read_again.Goals as goal
 
-pub returns : goal.returns
-returns c = can-read_again
+pub returns-clause-form : goal.returns-clause-form
+returns-clause-form c = well-formed
+
+pub returns-clause-again : goal.returns-clause-again
+returns-clause-again c = can-read_again
