@@ -2,7 +2,8 @@
 
 - mixed: so many flows in messages like those of an exporter, each with a set of IPv4 flows and one of IPv6 flows. Flows
   have ten fields, and nearly each has addresses of its own;
-- usual: the same in messages of 1,400 bytes, with fourteen fields, of some 240,000 hosts, few of which have most flows.
+- usual: the same in messages of 1,400 bytes, with fourteen fields, of some 240,000 hosts, few of which have most flows;
+- biflow: as usual, each with the packets, the octets and the flags of the reverse direction (RFC 5103), of which a third have none.
 
 - sources: as mixed, all flows of IPv6 and from random addresses.
 
@@ -30,6 +31,9 @@ EXPORT_TIME = 1_767_225_600
 COMMON = [(7, 2), (11, 2), (4, 1), (6, 1), (2, 8), (1, 8), (152, 8), (153, 8)]
 # Of usual exporters: besides, the class of service, both interfaces, and why the flow ended.
 USUAL = [*COMMON, (5, 1), (10, 4), (14, 4), (136, 1)]
+# The enterprise bit, and the number of the enterprise of the reverse direction.
+ENTERPRISE, REVERSE = 1 << 15, 29305
+BIFLOW = [*USUAL, (ENTERPRISE | 2, 8, REVERSE), (ENTERPRISE | 1, 8, REVERSE), (ENTERPRISE | 6, 1, REVERSE)]
 V4_ID, V6_ID = 256, 257
 # How many messages stand before the templates are sent again.
 RESENT = 1000
@@ -47,9 +51,10 @@ def data_set(number, body):
 
 
 def template_set(*templates):
-    """A set of templates, each an ID with the elements and lengths of its fields."""
+    """A set of templates, each an ID with the elements and lengths of its fields, and their enterprise if they have one."""
     return data_set(2, b"".join(
-        struct.pack(">HH", number, len(fields)) + b"".join(struct.pack(">HH", *field) for field in fields)
+        struct.pack(">HH", number, len(fields))
+        + b"".join(struct.pack(">HHI"[:1 + len(field)], *field) for field in fields)
         for number, fields in templates))
 
 
@@ -113,6 +118,14 @@ def usual_flow(hosts):
     return flow
 
 
+def both_ways(flow):
+    """A maker of these flows with the counts and the flags of their reverse direction behind them."""
+    def biflow(rng):
+        packets = rng.choice((0, 1, 12))
+        return flow(rng) + struct.pack(">QQB", packets, packets * (40 + rng.getrandbits(10)), rng.getrandbits(6))
+    return biflow
+
+
 def makers(kind, rng):
     """How many flows of IPv4 a message has and what makes one, the same of IPv6, and the fields behind addresses."""
     if kind == "mixed":
@@ -121,6 +134,8 @@ def makers(kind, rng):
         return 0, v4_flow, 17, flow_from(V6_SOURCES[kind]), COMMON
     v4_hosts = [struct.pack(">I", rng.randrange(1 << 24, 224 << 24)) for _ in range(V4_HOSTS)]
     v6_hosts = [v6_address(rng) for _ in range(V6_HOSTS)]
+    if kind == "biflow":
+        return 13, both_ways(usual_flow(v4_hosts)), 3, both_ways(usual_flow(v6_hosts)), BIFLOW
     return 17, usual_flow(v4_hosts), 4, usual_flow(v6_hosts), USUAL
 
 
@@ -162,7 +177,7 @@ def main():
     count = int(count)
     empty = [(210, 0)] * MANY
     match kind:
-        case "mixed" | "usual" | "sources" | "colliding" | "known":
+        case "mixed" | "usual" | "biflow" | "sources" | "colliding" | "known":
             messages = messages_of(kind, count)
         case "domains":
             with open(DOMAINS, encoding="ascii") as numbers:

@@ -1,8 +1,9 @@
-"""Times jobs beside plain Rust, and prints a table: job_times.py PROGRAM PLAIN FLOWS MAP..
+"""Times jobs beside plain Rust, and prints a table: job_times.py PROGRAM PLAIN FLOWS BIFLOWS MAP..
 
 Both run in turns on the same words, five times each; the time is that of the fastest run, and the memory the most
 that a run had at a time. What they write must be the same bytes. The maps are ORDER-LINES.txt, those of countries and
-of routes among them, and each is shrunk, certified and checked; FLOWS is reported on by itself and under the two.
+of routes among them, and each is shrunk, certified and checked; FLOWS is reported on by itself and under the two, and
+BIFLOWS, whose records have both directions, by itself.
 """
 
 import os
@@ -49,12 +50,19 @@ def jobs_of_flows(name, countries, routes):
     )
 
 
+def jobs_of_biflows(name):
+    """The jobs over a File of records of both directions, alike."""
+    return tuple((f"{' '.join(words)}, biflows", (*words, name), None)
+                 for words in (("info",), ("rows",), ("uniq", "--fields", "sip")))
+
+
 def main():
-    program, plain, flows, *maps = sys.argv[1:]
+    program, plain, flows, biflows, *maps = sys.argv[1:]
     yardstick = Yardstick(program, plain)
     by_order = {os.path.basename(name).split("-")[0]: name for name in maps}
     jobs = [job for name in maps for job in jobs_of_map(name)]
     jobs += jobs_of_flows(flows, by_order["countries"], by_order["routes"])
+    jobs += jobs_of_biflows(biflows)
     rows = [["job", "seconds", "MB", *yardstick.heads]]
     for job, words, kept in jobs:
         output = yardstick.output(words)

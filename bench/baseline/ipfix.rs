@@ -1,6 +1,6 @@
-//! Reading of an IPFIX File whose templates have no elements of enterprises, message by message.
+//! Reading of an IPFIX File, message by message.
 
-use crate::row::{fits, Place, Places, Row, ELEMENTS};
+use crate::row::{fits, Place, Places, Row, ELEMENTS, REVERSE};
 use crate::Fault;
 use std::collections::HashMap;
 use std::fs::File;
@@ -15,11 +15,16 @@ struct Template {
     is_v6: Option<bool>,
     /// The least length of a record.
     least: usize,
-    /// Where all fields have fixed lengths.
-    places: Option<Places>,
-    /// The number of each field among the elements, and its length.
-    fields: Vec<(Option<usize>, usize)>,
+    /// Whether a record may have a row of the reverse direction.
+    has_back: bool,
+    /// Where all fields have fixed lengths: of both directions.
+    places: Option<[Places; 2]>,
+    /// The direction of each field and its number among the elements, and its length.
+    fields: Vec<(Option<(usize, usize)>, usize)>,
 }
+
+/// A field specifier: the number of its enterprise, if it has one, that of its element, and its length.
+type Field = (Option<u32>, u16, usize);
 
 #[derive(Default)]
 pub struct Counts {
@@ -59,65 +64,85 @@ fn take_u16(rest: &mut &[u8]) -> Result<u16, Fault> {
 }
 
 impl Template {
-    fn new(is_options: bool, fields: &[(u16, usize)]) -> Template {
-        let mut template = Template { is_options, is_v6: None, least: 0, places: None, fields: Vec::new() };
-        let mut places = Places::default();
-        for (element, length) in fields {
+    fn new(is_options: bool, fields: &[Field]) -> Template {
+        let mut template =
+            Template { is_options, is_v6: None, least: 0, has_back: false, places: None, fields: Vec::new() };
+        let mut places = [Places::default(); 2];
+        for (enterprise, element, length) in fields {
             let usable = ELEMENTS.iter().position(|other| other == element && fits(*element, *length));
-            let number = usable.filter(|number| places[*number].length == 0);
-            if let Some(number) = number {
-                places[number] = Place { offset: template.least, length: *length };
+            let direction = match enterprise {
+                None => Some(0),
+                Some(number) => (*number == REVERSE).then_some(1),
+            };
+            let slot = direction.zip(usable).filter(|(direction, number)| places[*direction][*number].length == 0);
+            if let Some((direction, number)) = slot {
+                places[direction][number] = Place { offset: template.least, length: *length };
             }
-            template.fields.push((number, *length));
+            template.fields.push((slot, *length));
             template.least += if *length == VARIABLE { 1 } else { *length };
         }
-        template.places = fields.iter().all(|(_, length)| *length != VARIABLE).then_some(places);
-        let has = |number: usize| !is_options && places[number].length > 0;
+        template.places = fields.iter().all(|(.., length)| *length != VARIABLE).then_some(places);
+        let has = |number: usize| !is_options && places[0][number].length > 0;
         template.is_v6 = if has(0) && has(1) { Some(false) } else { (has(2) && has(3)).then_some(true) };
+        template.has_back = places[1][8].length > 0 || places[1][10].length > 0;
         template
     }
 
     /// Takes a record with fields of variable length from the front, and gives it with its places.
-    fn take_record<'a>(&self, rest: &mut &'a [u8]) -> Result<(&'a [u8], Places), Fault> {
+    fn take_record<'a>(&self, rest: &mut &'a [u8]) -> Result<(&'a [u8], [Places; 2]), Fault> {
         let record = *rest;
-        let mut places = Places::default();
-        for (number, length) in &self.fields {
+        let mut places = [Places::default(); 2];
+        for (slot, length) in &self.fields {
             let mut length = *length;
             if length == VARIABLE {
                 length = usize::from(take(rest, 1)?[0]);
                 if length == 255 {
                     length = usize::from(take_u16(rest)?);
                 }
-            } else if let Some(number) = number {
-                places[*number] = Place { offset: record.len() - rest.len(), length };
+            } else if let Some((direction, number)) = slot {
+                places[*direction][*number] = Place { offset: record.len() - rest.len(), length };
             }
             take(rest, length)?;
         }
         Ok((record, places))
     }
 
-    /// Calls back with each row of a data set where rows are wanted, and gives the number of its records.
+    /// Calls back with each row of a record, and gives how many there are.
     #[inline(always)]
-    fn records(&self, set: &[u8], wants_rows: bool, each: &mut impl FnMut(&Row)) -> Result<u64, Fault> {
+    fn rows(&self, record: &[u8], is_v6: bool, places: &[Places; 2], each: &mut impl FnMut(&Row)) -> u64 {
+        let row = Row::new(record, is_v6, &places[0]);
+        each(&row);
+        let back = if self.has_back { row.back(record, &places[1]) } else { None };
+        back.iter().for_each(each);
+        1 + u64::from(back.is_some())
+    }
+
+    /// Calls back with each row of a data set where rows are wanted, and gives the numbers of its records and rows.
+    #[inline(always)]
+    fn records(&self, set: &[u8], wants_rows: bool, each: &mut impl FnMut(&Row)) -> Result<(u64, u64), Fault> {
         if self.least == 0 {
-            return Ok(0);
+            return Ok((0, 0));
         }
-        let row_version = self.is_v6.filter(|_| wants_rows);
+        let row_version = self.is_v6.filter(|_| wants_rows || self.has_back);
+        let mut rows = 0;
         if let Some(places) = &self.places {
-            if let Some(is_v6) = row_version {
-                set.chunks_exact(self.least).for_each(|record| each(&Row::new(record, is_v6, places)));
-            }
-            return Ok((set.len() / self.least) as u64);
+            let count = (set.len() / self.least) as u64;
+            let Some(is_v6) = row_version else {
+                return Ok((count, if self.is_v6.is_some() { count } else { 0 }));
+            };
+            set.chunks_exact(self.least).for_each(|record| rows += self.rows(record, is_v6, places, each));
+            return Ok((count, rows));
         }
         let (mut rest, mut count) = (set, 0);
         while rest.len() >= self.least {
             let (record, places) = self.take_record(&mut rest)?;
-            if let Some(is_v6) = row_version {
-                each(&Row::new(record, is_v6, &places));
-            }
+            rows += match row_version {
+                Some(is_v6) => self.rows(record, is_v6, &places, each),
+                None => u64::from(self.is_v6.is_some()),
+            };
             count += 1;
         }
-        Ok(count)
+        Ok((count, rows))
     }
 }
 
@@ -154,10 +179,10 @@ impl Decoder {
                 self.counts.skipped_sets += 1;
                 continue;
             };
-            let count = template.records(set, wants_rows, each)?;
+            let (records, rows) = template.records(set, wants_rows, each)?;
             self.counts.data_sets += 1;
-            self.counts.records[usize::from(template.is_options)] += count;
-            self.counts.rows += if template.is_v6.is_some() { count } else { 0 };
+            self.counts.records[usize::from(template.is_options)] += records;
+            self.counts.rows += rows;
         }
         Ok(())
     }
@@ -176,10 +201,11 @@ impl Decoder {
             let mut fields = Vec::with_capacity(usize::from(count));
             for _ in 0..count {
                 let (element, length) = (take_u16(&mut rest)?, take_u16(&mut rest)?);
-                if element >= 1 << 15 {
-                    take(&mut rest, 4)?;
-                }
-                fields.push((element, usize::from(length)));
+                let enterprise = match element >> 15 {
+                    0 => None,
+                    _ => Some(u32::from_be_bytes(take(&mut rest, 4)?.try_into()?)),
+                };
+                fields.push((enterprise, element & 0x7fff, usize::from(length)));
             }
             self.counts.templates[usize::from(is_options)] += 1;
             self.templates.insert((domain, id), Template::new(is_options, &fields));

@@ -14,6 +14,9 @@ pub const ELEMENTS: [u16; 14] = [8, 12, 27, 28, 7, 11, 4, 6, 2, 1, 86, 85, 152, 
 /// The places of the elements in a record, in their order.
 pub type Places = [Place; ELEMENTS.len()];
 
+/// The enterprise number of the elements of the reverse direction.
+pub const REVERSE: u32 = 29305;
+
 /// Whether an element may have this length.
 pub fn fits(element: u16, length: usize) -> bool {
     match element {
@@ -87,6 +90,25 @@ impl Row {
             start: number(record, start),
             end: number(record, end),
         }
+    }
+
+    /// The row of the reverse direction, by the places of its elements, if a packet went back.
+    pub fn back(&self, record: &[u8], places: &Places) -> Option<Row> {
+        let [.., flags, packets, octets, all_packets, all_octets, start, end] = *places;
+        let or = |place: Place, other| if place.length > 0 { number(record, place) } else { other };
+        let packets = or(packets, number(record, all_packets));
+        (packets > 0).then(|| Row {
+            source: self.destination,
+            destination: self.source,
+            source_port: self.destination_port,
+            destination_port: self.source_port,
+            flags: number(record, flags) as u16,
+            packets,
+            octets: or(octets, number(record, all_octets)),
+            start: or(start, self.start),
+            end: or(end, self.end),
+            ..*self
+        })
     }
 
     /// Prints the cells with a bar behind each, and tells the length of each.
