@@ -19,7 +19,9 @@ pub mod Entering
 pub mod Orders
 pub mod StartLists
 pub mod Swept
+pub mod Ranges
 pub mod Seen
+pub mod Winners
 pub mod Stretched
 pub mod SeenBlocks
 pub mod Layered

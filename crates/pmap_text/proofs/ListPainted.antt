@@ -11,17 +11,12 @@ use Rattle.prefix_keys.specs.declared.version.Version.{Version}
 use Rattle.prefix_keys.proofs.Quotients.{whole}
 use Rattle.pmap_text.specs.ListEntries.{same_block}
 use Rattle.pmap_text.specs.ListModel.{Prefix, list_label}
-use Rattle.pmap_text.specs.MapModel.{Label, Mapping, label_or, last_such, map_label, spans}
-use Rattle.pmap_text.specs.MapText.{map_of, mapping_of, text_at}
+use Rattle.pmap_text.specs.MapModel.{Label, Mapping, last_such, spans}
+use Rattle.pmap_text.specs.MapText.{mapping_of, text_at}
 use Rattle.pmap_text.specs.Painting.{AreShortestFirst, HasStatement}
 use Rattle.pmap_text.specs.PrefixList.{list_of, prefix_of}
-use Rattle.pmap_text.specs.Stretches.{StretchesModel, mappings_of, text_or, text_won}
-use Rattle.std.specs.Prelude.{Result, Ok, Err, IfOk}
+use Rattle.pmap_text.specs.Stretches.{mappings_of, text_or, text_won}
 use Rattle.pmap_text.specs.declared.entry.Entry.{Entry}
-use Rattle.pmap_text.specs.declared.label.LabelId.{LabelId}
-use Rattle.std.specs.Option.{ForSome}
-use Rattle.std.proofs.lemmas.Option.{same_Some}
-use Rattle.pmap_text.specs.declared.map_text.MapText.{MapText}
 use Rattle.pmap_text.specs.declared.prefix_list.PrefixList.{PrefixList}
 use Rattle.pmap_text.specs.declared.statement.Statement.{Statement}
 use Rattle.pmap_text.proofs.Finds.{Contains-from_map, distinct_same}
@@ -148,15 +143,6 @@ list_wins l ss a first =
     is.text ∙ sym (label_seen W l.labels ps W a a (suc W) is.label (list_blocks l) (single W a) (λ bits most fits. omega (arith, fits))
     (seen_permuted W l.labels rs ps back W a is.label is.seen))
 
--- so it is with a map's statements and its default
-text_of : (fallback : Label) (o : Option Mapping) → text_or o (Some fallback) ≡ Some (label_or o fallback)
-text_of fallback None = refl
-text_of fallback (Some m) = refl
-
-pub map_wins : (m : MapText) (ss : List Statement) (a : ℕ) → ss ≡ m.statements
-    → text_won m.labels (Some m.default) ss a ≡ Some (map_label (map_of m) a)
-map_wins m ss a same = rw same (text_of (text_at m.labels m.default.0) (last_such (spans a) (mappings_of m.labels m.statements)))
-
 -- what is known of a list's statements
 pub record AreStatementsOf (l : PrefixList) (ss : List Statement) : Type 0 where
   pub version : All (λ s. s.span.low.version ≡ l.version) ss
@@ -176,21 +162,3 @@ statements_of l ss first =
       count = sym (zip_length sorted ss first.each) ∙ length_permutation l.entries sorted first.moved;
       labels = λ a. list_wins l ss a first;
     }
-
--- so it is with a walk over a map
-pub walk_labels : {E : Type 0} (m : MapText) (r : Result StretchesModel E) (ss : List Statement) → ss ≡ m.statements
-    → IfOk r (λ s. s.default ≡ Some m.default) → IfOk r (λ s. s.statements ≡ ss)
-    → IfOk r (λ s. (a : ℕ) → text_won m.labels s.default s.statements a ≡ Some (map_label (map_of m) a))
-walk_labels m (Ok s) ss same default statements = λ a. rw default (map_wins m s.statements a (statements ∙ same))
-walk_labels m (Err e) ss same default statements = tt
-
-pub walk_known : {E : Type 0} (m : MapText) (r : Result StretchesModel E) (ss : List Statement) → ss ≡ m.statements
-    → IfOk r (λ s. s.statements ≡ ss) → IfOk r (λ s. All (λ x. x.label.0 < length m.labels) s.statements)
-walk_known m (Ok s) ss same statements = rw (statements, same) m.numbers_known
-walk_known m (Err e) ss same statements = tt
-
-pub walk_default : {E : Type 0} (m : MapText) (r : Result StretchesModel E) → IfOk r (λ s. s.default ≡ Some m.default)
-    → IfOk r (λ s. ForSome s.default (λ id. id.0 < length m.labels))
-walk_default m (Ok s) default =
-    rw default (λ id is. subst (λ (i : LabelId). i.0 < length m.labels) (same_Some m.default id is) m.default_known)
-walk_default m (Err e) default = tt

@@ -1,12 +1,11 @@
 -- What is seen of statements at an address and at a block.
 use Rattle.std.proofs.Common.{◌≡◌, ℕ, zero, suc, ◌<◌, ◌≤◌, Bool, true, false, cond, List, [], ◌∷◌, Option, Some, None, Contains, slice_get, refl, sym, ap, ◌∙◌, subst, arith}
 use Rattle.std.specs.Option.{option_or}
-use Rattle.std.proofs.lemmas.Bool.{both_ways}
 use Rattle.std.proofs.lemmas.Option.{same_Some}
 use Rattle.pmap_text.specs.MapModel.{Mapping, last_such, spans}
 use Rattle.pmap_text.specs.MapText.{mapping_of}
 use Rattle.pmap_text.specs.declared.statement.Statement.{Statement}
-use Rattle.pmap_text.specs.Sweep.{seen_at}
+use Rattle.pmap_text.specs.Stretches.{mappings_of}
 use Rattle.pmap_text.proofs.Finds.{Contains-first, Contains-later}
 use Rattle.pmap_text.proofs.Orders.{both_le, le_both}
 
@@ -25,16 +24,11 @@ pub last_such-is : (p : Mapping → Bool) (ms : List Mapping) (m : Mapping) → 
 last_such-is p [] m e = absurd (let h : None ≡ Some m = e in cc)
 last_such-is p (x ∷ xs) m e = such-step p x xs m (last_such-is p xs m) (last_such p xs) refl (p x) refl e
 
--- it has one place, and none behind that place passes
-pub record IsLastAt (table : List (List ℕ)) (ss : List Statement) (a : ℕ) (m : Mapping) : Type 0 where
-  pub place : ℕ
-  pub statement : Statement
-  pub listed : slice_get ss place ≡ Some statement
-  pub is : mapping_of table statement ≡ m
-  pub covers : a ≤ statement.span.high.value
-  pub later : (i : ℕ) (r : Statement) → slice_get ss i ≡ Some r → place < i → r.span.low.value ≤ a → a ≤ r.span.high.value → ⊥
+-- what wins at an address, as a mapping to a text of a label table
+abbrev pub seen_at : List (List ℕ) → List Statement → ℕ → Option Mapping
+seen_at table ss a = last_such (spans a) (mappings_of table ss)
 
--- none is seen where none covers the address, and the other way round
+-- nothing is seen where nothing covers the address
 pub none_at : (table : List (List ℕ)) (ss : List Statement) (a : ℕ)
     → ((i : ℕ) (r : Statement) → slice_get ss i ≡ Some r → r.span.low.value ≤ a → a ≤ r.span.high.value → ⊥) → seen_at table ss a ≡ None
 none_at table [] a none = refl
@@ -48,64 +42,6 @@ none_at table (s ∷ ss) a none =
         let ends = both_le s.span.low.value a a s.span.high.value is in
         absurd (none 0 s refl ends.0 ends.1)
     step false is rest = rw rest
-
-last-step : (table : List (List ℕ)) (s : Statement) (ss : List Statement) (a : ℕ) (m : Mapping)
-    → (seen_at table ss a ≡ Some m → IsLastAt table ss a m)
-    → (seen_at table ss a ≡ None → (i : ℕ) (r : Statement) → slice_get ss i ≡ Some r → r.span.low.value ≤ a → a ≤ r.span.high.value → ⊥)
-    → (o : Option Mapping) → seen_at table ss a ≡ o → (b : Bool) → spans a (mapping_of table s) ≡ b
-    → option_or o (cond b (Some (mapping_of table s)) None) ≡ Some m → IsLastAt table (s ∷ ss) a m
-last-step table s ss a m rest none (Some r) is b test e =
-    let found = rest (is ∙ e) in
-    record {
-      place = suc found.place;
-      statement = found.statement;
-      listed = found.listed;
-      is = found.is;
-      covers = found.covers;
-      later = later found;
-    }
-  where
-    later : (found : IsLastAt table ss a m) (i : ℕ) (r : Statement) → slice_get (s ∷ ss) i ≡ Some r → suc found.place < i → r.span.low.value ≤ a → a ≤ r.span.high.value → ⊥
-    later found zero r listed behind low high = omega (arith, behind)
-    later found (suc i) r listed behind low high = found.later i r listed (omega (arith, behind)) low high
-last-step table s ss a m rest none None is true test e = record {
-  place = 0;
-  statement = s;
-  listed = refl;
-  is = same_Some (mapping_of table s) m e;
-  covers = (both_le s.span.low.value a a s.span.high.value test).1;
-  later = later;
-}
-  where
-    later : (i : ℕ) (r : Statement) → slice_get (s ∷ ss) i ≡ Some r → 0 < i → r.span.low.value ≤ a → a ≤ r.span.high.value → ⊥
-    later zero r listed behind low high = omega (arith, behind)
-    later (suc i) r listed behind low high = none is i r listed low high
-last-step table s ss a m rest none None is false test e = absurd (let h : None ≡ Some m = e in cc)
-
-none-step : (table : List (List ℕ)) (s : Statement) (ss : List Statement) (a : ℕ)
-    → (seen_at table ss a ≡ None → (i : ℕ) (r : Statement) → slice_get ss i ≡ Some r → r.span.low.value ≤ a → a ≤ r.span.high.value → ⊥)
-    → (o : Option Mapping) → seen_at table ss a ≡ o → (b : Bool) → spans a (mapping_of table s) ≡ b
-    → option_or o (cond b (Some (mapping_of table s)) None) ≡ None
-    → (i : ℕ) (r : Statement) → slice_get (s ∷ ss) i ≡ Some r → r.span.low.value ≤ a → a ≤ r.span.high.value → ⊥
-none-step table s ss a rest (Some x) is b test e i r listed low high = let h : Some x ≡ None = e in cc
-none-step table s ss a rest None is true test e i r listed low high = let h : Some (mapping_of table s) ≡ None = e in cc
-none-step table s ss a rest None is false test e zero r listed low high =
-    let same = same_Some s r listed in
-    let low' = ap (λ (x : Statement). x.span.low.value) same in
-    let high' = ap (λ (x : Statement). x.span.high.value) same in
-    both_ways (spans a (mapping_of table s)) test (le_both s.span.low.value a a s.span.high.value (omega (arith, low', low)) (omega (arith, high', high)))
-none-step table s ss a rest None is false test e (suc i) r listed low high = rest is i r listed low high
-
-pub none_covers : (table : List (List ℕ)) (ss : List Statement) (a : ℕ) → seen_at table ss a ≡ None → (i : ℕ) (r : Statement) → slice_get ss i ≡ Some r
-    → r.span.low.value ≤ a → a ≤ r.span.high.value → ⊥
-none_covers table [] a e i r listed low high = let h : None ≡ Some r = listed in cc
-none_covers table (s ∷ ss) a e i r listed low high =
-    none-step table s ss a (none_covers table ss a) (seen_at table ss a) refl (spans a (mapping_of table s)) refl e i r listed low high
-
-pub last_at : (table : List (List ℕ)) (ss : List Statement) (a : ℕ) (m : Mapping) → seen_at table ss a ≡ Some m → IsLastAt table ss a m
-last_at table [] a m e = absurd (let h : None ≡ Some m = e in cc)
-last_at table (s ∷ ss) a m e =
-    last-step table s ss a m (last_at table ss a m) (none_covers table ss a) (seen_at table ss a) refl (spans a (mapping_of table s)) refl e
 
 -- a statement that covers the address is seen where none behind it does
 pub seen_last : (table : List (List ℕ)) (ss : List Statement) (a j : ℕ) (s : Statement) → slice_get ss j ≡ Some s → s.span.low.value ≤ a

@@ -1,173 +1,143 @@
--- A stretch of addresses at which a sweep sees one statement.
-use Rattle.std.proofs.Common.{◌≡◌, ℕ, ◌+◌, ◌^◌, ◌<◌, ◌≤◌, ◌⊎◌, inl, inr, List, [], Some, None, All, Contains, drop, slice_get, Option, option_map, refl, sym, ap, ◌∙◌, subst, arith}
+-- How the stretches of statements come about, one after the other.
+use Rattle.std.proofs.Common.{◌≡◌, ◌≢◌, ◌∙◌, ℕ, ◌+◌, ◌-◌, ◌^◌, ◌<◌, ◌≤◌, inl, inr, List, [], ◌∷◌, Option, None, All, get_or, length, refl, sym, ap, subst, arith}
+use Rattle.std.specs.Option.{ForSome}
 use Rattle.std.proofs.lemmas.Bool.{cases_lt}
-use Rattle.std.proofs.lemmas.List.Elements.{All-contains, All-drop}
-use Rattle.std.proofs.lemmas.Option.{get_or_from_slice_get, same_Some, slice_get_within}
+use Rattle.std.proofs.lemmas.List.{get_or_default}
 use Rattle.prefix_keys.specs.Version.{width_of}
-use Rattle.prefix_keys.specs.declared.version.Version.{Version}
-use Rattle.pmap_text.specs.MapModel.{MapModel, Mapping}
-use Rattle.pmap_text.specs.MapText.{mapping_of}
-use Rattle.pmap_text.specs.declared.statement.Statement.{Statement}
-use Rattle.pmap_text.specs.Stretches.{HasStretch, label_seen, mappings_of}
-use Rattle.pmap_text.specs.Starting.{start_of, IsStart, AreStarts}
-use Rattle.pmap_text.specs.Sweep.{HasBegun, IsEdge, IsStill, IsSweeping, IsSwept, IsOver, IsFree, IsWalk, seen_at}
-use Rattle.pmap_text.specs.declared.layers.Layers.{Layers}
-use Rattle.pmap_text.specs.declared.sweep.Sweep.{Sweep}
-use Rattle.std.specs.BinaryHeap.{heap_items}
-use Rattle.std.specs.Prelude.{Result, Ok, Err, OnErr, OnOk}
+use Rattle.pmap_text.specs.MapModel.{Label}
+use Rattle.pmap_text.specs.Stretches.{AreLabelsBelow, AreStretches, HasEveryAddress, HasStretch, StretchesModel, count_begun, first_at, label_at, label_seen, last_at, text_held, text_won}
+use Rattle.pmap_text.specs.Sweep.{IsWinner, statement_won}
 use Rattle.pmap_text.specs.declared.label.LabelId.{LabelId}
-use Rattle.pmap_text.specs.declared.start.Start.{Start}
-use Rattle.pmap_text.proofs.Finds.{Contains-nil}
-use Rattle.pmap_text.proofs.Seen.{last_at, none_at, none_covers, seen_last}
+use Rattle.pmap_text.specs.declared.statement.Statement.{Statement}
+use Rattle.pmap_text.proofs.Ranges.{Adds, first_early, first_late, holder, label_early, label_late, last_early, last_end, last_late, length_added}
+use Rattle.pmap_text.proofs.Winners.{WinsOther, known_label, stretch_of, stretch_text}
 
--- a start still to come is that of a statement
-coming_start : (ss : List Statement) (starts : List Start) (next : ℕ) (e : Start) → AreStarts ss starts → Contains (drop next starts) e → IsStart ss e
-coming_start ss starts next e are has =
-    All-contains (IsStart ss) (drop next starts) e (All-drop (IsStart ss) next starts are.each) has
+-- the last of them
+abbrev pub last_first : StretchesModel → ℕ
+last_first s = first_at s (length s.firsts - 1)
 
--- the element at a place is in the list
-pub listed_in : (ss : List Statement) (j : ℕ) (s : Statement) → slice_get ss j ≡ Some s → Contains ss s
-listed_in ss j s listed =
-    (j, slice_get_within ss j s listed, get_or_from_slice_get ss j s s listed)
+-- The stretches before the last one are there, and the last one goes on to `last` at least: there the statement wins.
+pub record AreStretchesTo (ss : List Statement) (default : Option LabelId) (s : StretchesModel) (won : Option ℕ) (last : ℕ) : Type 0 where
+  pub every : HasEveryAddress s
+  pub settled : (i : ℕ) → i + 1 < length s.firsts → HasStretch (width_of s.version) ss default (first_at s i) (last_at s i) (label_at s i)
+  pub before : (a : ℕ) → a + 1 ≡ last_first s → WinsOther ss a won
+  pub from : last_first s ≤ last
+  pub wins : (a : ℕ) → last_first s ≤ a → a ≤ last → IsWinner ss a won
+  pub label : label_at s (length s.firsts - 1) ≡ label_seen default (statement_won ss won)
 
--- where the top covers the stretch, no statement behind it covers an address of it
-nobody : (ss : List Statement) (starts : List Start) (next : ℕ) (opened : List ℕ) (first high last j : ℕ) → IsSwept ss starts next opened first
-    → All (λ i. i ≤ j) opened → IsFree (Some j) (drop next starts) first high last
-    → (a : ℕ) → first ≤ a → a ≤ last → (i : ℕ) (r : Statement) → slice_get ss i ≡ Some r → j < i → r.span.low.value ≤ a → a ≤ r.span.high.value → ⊥
-nobody ss starts next opened first high last j swept most free a from to i r listed behind low covers =
-    elim (swept.pending i r a listed low covers from) [
-      | inl has ↦ let below = All-contains (λ i. i ≤ j) opened i most has in omega (arith, below, behind)
-      | inr coming ↦
-          All-contains (λ (start : Start). start.low ≤ last → IsOver (Some j) start.number → ⊥) (drop next starts) (start_of i r) free.hidden coming
-          (omega (arith, low, to)) behind
-    ]
+-- the same stretch
+same_stretch : (ss : List Statement) (default : Option LabelId) (W W' f f' l l' : ℕ) (o o' : Option LabelId) → W' ≡ W → f' ≡ f → l' ≡ l → o' ≡ o
+    → HasStretch W ss default f l o → HasStretch W' ss default f' l' o'
+same_stretch ss default W W' f f' l l' o o' width first last label has = rw (width, first, last, label) has
 
--- a stretch of statements, from what is seen under each label table
-stretch_of : (W : ℕ) (ss : List Statement) (default : Option LabelId) (first last : ℕ) (top : Option Statement) → first ≤ last → last < 2 ^ W
-    → ((s : Statement) → top ≡ Some s → Contains ss s)
-    → ((table : List (List ℕ)) (a : ℕ) → first ≤ a → a ≤ last → seen_at table ss a ≡ option_map (mapping_of table) top)
-    → IsEdge ss first
-    → ((table : List (List ℕ)) → last + 1 < 2 ^ W → seen_at table ss (last + 1) ≡ option_map (mapping_of table) top → ⊥)
-    → HasStretch W ss default first last (label_seen default top)
-stretch_of W ss default first last top ordered within listed seen edge beyond = record {
-  ordered = ordered;
-  within = within;
-  top = top;
-  listed = listed;
-  label_is = refl;
-  stretch = λ m w is. record {
-    ordered = ordered;
-    within = rw w within;
-    same = λ a from to. rw is (seen m.table a from to);
-    before = λ a at e. edge m.table a at ((rw is at e) ∙ sym (seen m.table first (omega arith) ordered));
-    behind = λ more e. beyond m.table (rw w at more) (rw is at e);
-  };
-}
+module _ (ss : List Statement) (default : Option LabelId) where
+  -- the first one begins at 0
+  pub stretches_from : (s : StretchesModel) (won : Option ℕ) (label : Option LabelId) (last : ℕ) → HasEveryAddress s → s.firsts ≡ 0 ∷ []
+      → s.labels ≡ label ∷ [] → label ≡ label_seen default (statement_won ss won) → ((a : ℕ) → 0 ≤ a → a ≤ last → IsWinner ss a won)
+      → AreStretchesTo ss default s won last
+  stretches_from s won label last every firsts labels label_is wins =
+      let one : length s.firsts ≡ 1 = ap (λ (l : List ℕ). length l) firsts in
+      let zero : last_first s ≡ 0 = ap (λ (n : ℕ). first_at s (n - 1)) one ∙ every.zero in
+      record {
+        every = every;
+        settled = λ i more. absurd (omega (arith, more, one));
+        before = λ a at. absurd (omega (arith, at, zero));
+        from = omega (arith, zero);
+        wins = λ a from to. wins a (omega arith) to;
+        label = ap (λ (n : ℕ). label_at s (n - 1)) one ∙ label_first s.labels labels ∙ label_is;
+      }
+    where
+      label_first : (l : List (Option LabelId)) → l ≡ label ∷ [] → get_or l 0 None ≡ label
+      label_first l is = rw is refl
 
-pub stretch_some : (W : ℕ) (ss : List Statement) (starts : List Start) (next : ℕ) (opened : List ℕ) (default : Option LabelId) (first last j : ℕ)
-    (s : Statement) → AreStarts ss starts → IsSwept ss starts next opened first → slice_get ss j ≡ Some s → Contains opened j
-    → All (λ i. i ≤ j) opened → IsFree (Some j) (drop next starts) first s.span.high.value last → s.span.high.value < 2 ^ W → IsEdge ss first
-    → HasStretch W ss default first last (Some s.label)
-stretch_some W ss starts next opened default first last j s are swept listed has most free fits edge =
-    let begun = All-contains (HasBegun ss first) opened j swept.begun has in
-    let same = same_Some begun.statement s (sym begun.listed ∙ listed) in
-    let low : s.span.low.value ≤ first = subst (λ (r : Statement). r.span.low.value ≤ first) same begun.low in
-    let none = nobody ss starts next opened first s.span.high.value last j swept most free in
-    stretch_of W ss default first last (Some s) free.from (omega (arith, free.to, fits))
-    (λ r is. subst (λ (x : Statement). Contains ss x) (same_Some s r is) (listed_in ss j s listed))
-    (λ table a from to. seen_last table ss a j s listed (omega (arith, low, from)) (omega (arith, to, free.to))
-    (λ i r at behind. none a from to i r at behind))
-    edge
-    (λ table more e.
-    let found = last_at table ss (last + 1) (mapping_of table s) e in
-    let t = found.statement in
-    let low' : t.span.low.value ≡ s.span.low.value = ap (λ (m : Mapping). m.low) found.is in
-    let high' : t.span.high.value ≡ s.span.high.value = ap (λ (m : Mapping). m.high) found.is in
-    beyond_end table found.place t found.listed low' high' (λ i r. found.later i r) found.covers)
-  where
-    low_first : s.span.low.value ≤ first
-    low_first =
-        let begun = All-contains (HasBegun ss first) opened j swept.begun has in
-        subst (λ (r : Statement). r.span.low.value ≤ first) (same_Some begun.statement s (sym begun.listed ∙ listed)) begun.low
-
-    beyond_end : (table : List (List ℕ)) (place : ℕ) (t : Statement) → slice_get ss place ≡ Some t → t.span.low.value ≡ s.span.low.value
-        → t.span.high.value ≡ s.span.high.value
-        → ((i : ℕ) (r : Statement) → slice_get ss i ≡ Some r → place < i → r.span.low.value ≤ last + 1 → last + 1 ≤ r.span.high.value → ⊥)
-        → last + 1 ≤ t.span.high.value → ⊥
-    beyond_end table place t at low' high' later covers =
-        elim free.reason [
-          | inl end ↦ omega (arith, high', covers, end)
-          | inr over ↦
-              let e = over.0 in
-              let start = coming_start ss starts next e are over.1 in
-              let r = start.statement in
-              let from : r.span.low.value ≡ last + 1 = start.low ∙ over.2 in
-              elim (cases_lt place e.number) [
-                | inl before ↦ later e.number r start.listed before (omega (arith, from)) (omega (arith, from, r.span.ordered))
-                | inr behind ↦ nobody ss starts next opened first s.span.high.value last j swept most free last free.from (omega arith) place t at
-                    (omega (arith, over.3, behind)) (omega (arith, low', low_first, free.from)) (omega (arith, covers))
-              ]
-        ]
-
-pub stretch_none : (W : ℕ) (ss : List Statement) (starts : List Start) (next : ℕ) (default : Option LabelId) (first high last : ℕ)
-    → AreStarts ss starts → IsSwept ss starts next [] first → IsFree None (drop next starts) first high last → high + 1 ≡ 2 ^ W → IsEdge ss first
-    → HasStretch W ss default first last default
-stretch_none W ss starts next default first high last are swept free end edge =
-    stretch_of W ss default first last None free.from (omega (arith, free.to, end))
-    (λ r is. absurd (let h : None ≡ Some r = is in cc))
-    (λ table a from to. none_at table ss a (λ i r listed low covers. elim (swept.pending i r a listed low covers from) [
-      | inl has ↦ Contains-nil i has
-      | inr coming ↦ All-contains (λ (start : Start). start.low ≤ last → IsOver None start.number → ⊥) (drop next starts) (start_of i r) free.hidden coming
-          (omega (arith, low, to)) tt
-    ]))
-    edge
-    (λ table more e. elim free.reason [
-      | inl same ↦ omega (arith, same, end, more)
-      | inr over ↦
-          let start = coming_start ss starts next over.0 are over.1 in
-          let r = start.statement in
-          let from : r.span.low.value ≡ last + 1 = start.low ∙ over.2 in
-          none_covers table ss (last + 1) e over.0.number r start.listed (omega (arith, from)) (omega (arith, from, r.span.ordered))
-    ])
-
--- a statement over addresses of a version ends at one of them
-pub fits_in : (version : Version) (s : Statement) → s.span.low.version ≡ version → s.span.high.value < 2 ^ width_of version
-fits_in version s is = let same = sym s.span.one_version ∙ is in rw same at s.span.high.in_range
-
--- where the first stretch begins, and where the next one does
-pub edge_first : (ss : List Statement) → IsEdge ss 0
-edge_first ss = λ table a at e. omega (arith, at)
-
-pub edge_behind : (v : Version) (ss : List Statement) (default : Option LabelId) (first last next : ℕ) (label : Option LabelId)
-    → HasStretch (width_of v) ss default first last label → next < 2 ^ width_of v → last < next → next ≤ last + 1 → IsEdge ss next
-edge_behind v ss default first last next label has more above near = λ table a at e.
-    let m : MapModel = record { version = v; name = None; fallback = []; mappings = mappings_of table ss; table = table } in
-    let stretch = has.stretch m refl refl in
-    let same : next ≡ last + 1 = omega (arith, above, near) in
-    let seen = stretch.same a (omega (arith, at, same, stretch.ordered)) (omega (arith, at, same)) in
-    stretch.behind (omega (arith, same, more)) (ap (λ (i : ℕ). seen_at table ss i) (sym same) ∙ sym e ∙ seen)
-
--- a walk that went on, or that memory was refused
-walk_on : (layers : Layers) (old new : Sweep) (next : ℕ) → IsWalk layers old → old.last < next → next ≤ old.last + 1
-    → IsSweeping (width_of layers.version) layers.statements.now layers.default new ⊎ IsStill layers.statements.now next old new → IsWalk layers new
-walk_on layers old new next walk above near (inl sweeping) = record { version = walk.version; sweeping = sweeping }
-walk_on layers old new next walk above near (inr still) =
-    let starts = still.starts in
-    let first_is = still.first_is in
-    let last_is = still.last_is in
-    let label_is = still.label_is in
-    let same : next ≡ new.last + 1 = omega (arith, above, near, last_is) in
-    record {
-      version = walk.version;
-      sweeping = record {
-        starts = rw starts walk.sweeping.starts;
-        swept = subst (λ (i : ℕ). IsSwept layers.statements.now new.starts new.next (heap_items new.opened) i) same still.swept;
-        stretch = rw (first_is, last_is, label_is) walk.sweeping.stretch;
-      };
+  module _ (s : StretchesModel) (won : Option ℕ) (last : ℕ) (are : AreStretchesTo ss default s won last) where
+    -- the same statement goes on to win
+    pub stretches_longer : (won' : Option ℕ) (last' : ℕ) → won' ≡ won → last + 1 ≤ last' → ((a : ℕ) → last + 1 ≤ a → a ≤ last' → IsWinner ss a won')
+        → AreStretchesTo ss default s won last'
+    stretches_longer won' last' same more wins = record {
+      every = are.every;
+      settled = are.settled;
+      before = are.before;
+      from = omega (arith, are.from, more);
+      wins = λ a from to. elim (cases_lt last a) [
+        | inl above ↦ subst (IsWinner ss a) same (wins a (omega (arith, above)) to)
+        | inr below ↦ are.wins a from below
+      ];
+      label = are.label;
     }
 
-pub walk_moved : {T E : Type 0} (layers : Layers) (old new : Sweep) (next : ℕ) (r : Result T E) → IsWalk layers old → old.last < next
-    → next ≤ old.last + 1 → OnOk r (IsSweeping (width_of layers.version) layers.statements.now layers.default new)
-    → OnErr r (IsStill layers.statements.now next old new) → IsWalk layers new
-walk_moved layers old new next (Ok x) walk above near ok err = walk_on layers old new next walk above near (inl ok)
-walk_moved layers old new next (Err e) walk above near ok err = walk_on layers old new next walk above near (inr err)
+    -- the last one, where another statement wins after it, or the addresses end
+    last_stretch : last < 2 ^ width_of s.version → (last + 1 < 2 ^ width_of s.version → WinsOther ss (last + 1) won)
+        → HasStretch (width_of s.version) ss default (last_first s) last (label_at s (length s.firsts - 1))
+    last_stretch fits after =
+        stretch_of (width_of s.version) ss default (last_first s) last won (label_at s (length s.firsts - 1)) are.from fits are.wins are.before after are.label
+
+    -- another statement wins, and begins a stretch
+    pub stretches_more : (s' : StretchesModel) (won' : Option ℕ) (label : Option LabelId) (last' : ℕ) → HasEveryAddress s'
+        → Adds s (last + 1) label s' → last + 1 < 2 ^ width_of s.version → won' ≢ won → last + 1 ≤ last'
+        → ((a : ℕ) → last + 1 ≤ a → a ≤ last' → IsWinner ss a won') → label ≡ label_seen default (statement_won ss won')
+        → AreStretchesTo ss default s' won' last'
+    stretches_more s' won' label last' every adds fits other more wins label_is = record {
+      every = every;
+      settled = λ i within. elim (cases_lt (i + 1) (length s.firsts)) [
+        | inl early ↦
+            let version = adds.version in
+            let first = first_early s (last + 1) label s' are.every adds i (omega (arith, early)) in
+            let end = last_early s (last + 1) label s' are.every adds i early in
+            let of = label_early s (last + 1) label s' are.every adds i (omega (arith, early)) in
+            same_stretch ss default _ _ _ _ _ _ _ _ (ap (λ v. width_of v) version) first end of (are.settled i early)
+        | inr late ↦
+            let here : i + 1 ≡ length s.firsts = omega (arith, late, within, longer) in
+            let place : i ≡ length s.firsts - 1 = omega (arith, here) in
+            let version = adds.version in
+            let first = first_early s (last + 1) label s' are.every adds i (omega (arith, here)) ∙ ap (first_at s) place in
+            let end : last_at s' i ≡ last = last_late s (last + 1) label s' are.every adds i here ∙ omega arith in
+            let of = label_early s (last + 1) label s' are.every adds i (omega (arith, here)) ∙ ap (label_at s) place in
+            same_stretch ss default _ _ _ _ _ _ _ _ (ap (λ v. width_of v) version) first end of (last_stretch (omega (arith, fits)) (λ _. record { other = won'; wins = wins (last + 1) (omega arith) more; is_other = other }))
+      ];
+      before = λ a at.
+          let here : a ≡ last = omega (arith, at, begins) in
+          record { other = won; wins = are.wins a (omega (arith, here, are.from)) (omega (arith, here)); is_other = λ same. other (sym same) };
+      from = omega (arith, begins, more);
+      wins = λ a from to. wins a (omega (arith, begins, from)) to;
+      label = label_late s (last + 1) label s' are.every adds (length s'.firsts - 1) (omega (arith, longer)) ∙ label_is;
+    }
+      where
+        longer : length s'.firsts ≡ length s.firsts + 1
+        longer = length_added s (last + 1) label s' are.every adds
+
+        begins : last_first s' ≡ last + 1
+        begins = first_late s (last + 1) label s' are.every adds (length s'.firsts - 1) (omega (arith, longer))
+
+    -- all are there
+    pub stretches_all : last + 1 ≡ 2 ^ width_of s.version → AreStretches ss default s
+    stretches_all end = record {
+      every = are.every;
+      each = λ i within. elim (cases_lt (i + 1) (length s.firsts)) [
+        | inl early ↦ are.settled i early
+        | inr late ↦
+            let place : i ≡ length s.firsts - 1 = omega (arith, late, within) in
+            let to : last_at s i ≡ last = last_end s i late ∙ omega (arith, end) in
+            let first : first_at s i ≡ last_first s = ap (first_at s) place in
+            let of : label_at s i ≡ label_at s (length s.firsts - 1) = ap (label_at s) place in
+            same_stretch ss default _ (width_of s.version) _ _ _ _ _ _ refl first to of (last_stretch (omega (arith, end)) (λ more. absurd (omega (arith, more, end))))
+      ];
+    }
+
+-- the text that the stretches have at an address is that which the statements have there
+pub held_text : (ss : List Statement) (default : Option LabelId) (table : List Label) (s : StretchesModel) → AreStretches ss default s
+    → AreLabelsBelow (length table) s → (a : ℕ) → a < 2 ^ width_of s.version → text_held table s a ≡ text_won table default ss a
+held_text ss default table s are known a fits =
+    let holds = holder s are.every a fits in
+    let i = count_begun s.firsts a - 1 in
+    sym (stretch_text s.version ss default table (first_at s i) (last_at s i) (label_at s i) (are.each i holds.index)
+    (known i None (omega (arith, holds.index, are.every.paired))) a holds.from holds.to)
+
+-- the labels are known where those of the statements and the default are
+pub stretches_known : (ss : List Statement) (default : Option LabelId) (count : ℕ) (s : StretchesModel) → AreStretches ss default s
+    → All (λ s. s.label.0 < count) ss → ForSome default (λ id. id.0 < count) → AreLabelsBelow count s
+stretches_known ss default count s are known fallback i d within =
+    let stretch = are.each i (omega (arith, within, are.every.paired)) in
+    let is = stretch.label_is in
+    let same : get_or s.labels i d ≡ label_at s i = get_or_default s.labels i d None within in
+    rw (same, is) (known_label count ss default stretch.top known fallback stretch.listed)

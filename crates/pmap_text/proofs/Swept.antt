@@ -1,18 +1,18 @@
 -- What the steps of a sweep keep.
-use Rattle.std.proofs.Common.{◌≡◌, ℕ, ◌+◌, ◌-◌, ◌<◌, ◌≤◌, inl, inr, true, false, List, ◌∷◌, Option, Some, None, IfSome, IsSome, All, Contains, drop, get_or, length, slice_get, sym, ap, ◌∙◌, subst, arith, length-drop}
+use Rattle.std.proofs.Common.{◌≡◌, ℕ, ◌+◌, ◌<◌, ◌≤◌, ◌⊎◌, inl, inr, false, List, [], ◌∷◌, Option, Some, None, All, Contains, drop, get_or, length, option_map, slice_get, unwrap_or, refl, sym, ap, ◌∙◌, subst, arith, length-drop}
 use Rattle.std.specs.BinaryHeap.{IsHeap, IsUpperBound}
 use Rattle.std.specs.List.Sorted.{IsNonDecreasingBy, IsPermutation}
 use Rattle.std.specs.Ordering.{is_lt, nat_cmp}
 use Rattle.std.proofs.lemmas.Bool.{both_ways, cases_lt, lt-ltb}
 use Rattle.std.proofs.lemmas.List.{drop_more, get_or-drop, get_or_read}
-use Rattle.std.proofs.lemmas.List.Elements.{All-cons, All-contains, All-from_recursion, All-weaker, Contains-get_or}
-use Rattle.std.proofs.lemmas.List.Sorted.{All-permutation, Contains-permutation, IsPermutation-sym}
-use Rattle.std.proofs.lemmas.Option.{get_or_from_slice_get, same_Some, slice_get_within}
+use Rattle.std.proofs.lemmas.List.Elements.{All-contains, All-from_recursion, All-head, All-tail, All-weaker}
+use Rattle.std.proofs.lemmas.List.Sorted.{Contains-permutation, IsPermutation-sym}
+use Rattle.std.proofs.lemmas.Option.{same_Some, slice_get_within}
 use Rattle.pmap_text.specs.declared.statement.Statement.{Statement}
 use Rattle.pmap_text.specs.Starting.{start_of, IsStart, AreStarts}
-use Rattle.pmap_text.specs.Sweep.{HasBegun, IsSwept, AreBehind, Closes, IsOver}
+use Rattle.pmap_text.specs.Sweep.{AreBehind, Closes, HasBegun, IsSwept, IsTop, IsWinner, Opens, high_won, statement_won}
 use Rattle.pmap_text.specs.declared.start.Start.{Start}
-use Rattle.pmap_text.proofs.Finds.{Contains-cases, Contains-first, Contains-later}
+use Rattle.pmap_text.proofs.Finds.{Contains-cases, Contains-first, Contains-later, Contains-nil}
 
 -- rising lists
 rising_drop : (starts : List Start) (n : ℕ) → IsNonDecreasingBy (λ start. start.low) starts → IsNonDecreasingBy (λ start. start.low) (drop n starts)
@@ -36,112 +36,6 @@ behind_coming ss starts next first e are within is behind =
     let here : get_or (drop next starts) 0 e ≡ get_or starts next e = get_or-drop next starts 0 e ∙ ap (λ (k : ℕ). get_or starts k e) (let z : next + 0 ≡ next = omega arith in z) in
     behind_first (drop next starts) first e (rising_drop starts next are.rising) (omega (arith, within, long)) (is ∙ sym here) behind
 
--- the next start is opened
-pub swept_push : (ss : List Statement) (starts : List Start) (next : ℕ) (opened opened' : List ℕ) (first : ℕ) (e : Start)
-    → AreStarts ss starts → IsSwept ss starts next opened first → next < length starts → e ≡ get_or starts next e → e.low ≤ first
-    → IsPermutation (e.number ∷ opened) opened' → (IsHeap nat_cmp opened → IsHeap nat_cmp opened')
-    → IsSwept ss starts (next + 1) opened' first
-swept_push ss starts next opened opened' first e are swept within is low moved keeps =
-    let start : IsStart ss e = subst (IsStart ss) (sym is) (are.each next e within) in
-    let all : drop next starts ≡ e ∷ drop (next + 1) starts = drop_more starts next e within ∙ ap (λ (x : Start). x ∷ drop (next + 1) starts) (sym is) in
-    record {
-      within = omega (arith, within);
-      ordered = keeps swept.ordered;
-      begun = All-permutation (HasBegun ss first) (e.number ∷ opened) opened' moved
-          (All-cons (HasBegun ss first) e.number opened (record { statement = start.statement; listed = start.listed; low = omega (arith, start.low, low) }) swept.begun);
-      pending = λ j s a listed from to after.
-          elim (swept.pending j s a listed from to after) [
-            | inl open' ↦ inl (Contains-permutation (e.number ∷ opened) opened' j moved (Contains-later e.number opened j open'))
-            | inr later ↦ elim (Contains-cases e (drop (next + 1) starts) (start_of j s) (subst (λ (xs : List Start). Contains xs (start_of j s)) all later)) [
-              | inl same ↦
-                  let number : e.number ≡ j = ap (λ (x : Start). x.number) same in
-                  inl (subst (Contains opened') number (Contains-permutation (e.number ∷ opened) opened' e.number moved (Contains-first e.number opened)))
-              | inr more ↦ inr more
-            ]
-          ];
-    }
-
-pub closes_top : (ss : List Statement) (first : ℕ) (old opened opened' : List ℕ) (top : ℕ) (t : Statement) → Closes ss first old opened
-    → slice_get ss top ≡ Some t → t.span.high.value < first → IsPermutation opened (top ∷ opened') → IsHeap nat_cmp opened'
-    → Closes ss first old opened'
-closes_top ss first old opened opened' top t before listed ends moved ordered = record {
-  ordered = ordered;
-  fewer = λ j has. before.fewer j (Contains-permutation (top ∷ opened') opened j (IsPermutation-sym opened (top ∷ opened') moved) (Contains-later top opened' j has));
-  closed = λ j s is to has.
-      elim (Contains-cases top opened' j (Contains-permutation opened (top ∷ opened') j moved (before.closed j s is to has))) [
-        | inl same ↦
-            let statement : t ≡ s = same_Some t s (sym listed ∙ ap (slice_get ss) same ∙ is) in
-            let high : t.span.high.value ≡ s.span.high.value = ap (λ (x : Statement). x.span.high.value) statement in
-            absurd (omega (arith, high, ends, to))
-        | inr more ↦ more
-      ];
-}
-
--- statements that end before the address are no longer needed
-pub swept_closed : (ss : List Statement) (starts : List Start) (next : ℕ) (opened opened' : List ℕ) (first : ℕ) → IsSwept ss starts next opened first
-    → Closes ss first opened opened' → IsSwept ss starts next opened' first
-swept_closed ss starts next opened opened' first swept closes = record {
-  within = swept.within;
-  ordered = closes.ordered;
-  begun = λ k d below. let j = get_or opened' k d in All-contains (HasBegun ss first) opened j swept.begun (closes.fewer j (Contains-get_or opened' k d below));
-  pending = λ j s a listed from to after.
-      elim (swept.pending j s a listed from to after) [
-        | inl has ↦ inl (closes.closed j s listed (omega (arith, to, after)) has)
-        | inr later ↦ inr later
-      ];
-}
-
--- what was known at an address is known behind it
-pub swept_later : (ss : List Statement) (starts : List Start) (next : ℕ) (opened : List ℕ) (first first' : ℕ) → first ≤ first'
-    → IsSwept ss starts next opened first → IsSwept ss starts next opened first'
-swept_later ss starts next opened first first' le swept = record {
-  within = swept.within;
-  ordered = swept.ordered;
-  begun = All-weaker (HasBegun ss first) (HasBegun ss first')
-      (λ j begun. record { statement = begun.statement; listed = begun.listed; low = omega (arith, begun.low, le) }) opened swept.begun;
-  pending = λ j s a listed from to after. swept.pending j s a listed from to (omega (arith, le, after));
-}
-
--- a start at a place is one of those from an earlier place on
-pub Contains_from : (starts : List Start) (next place : ℕ) (e : Start) → next ≤ place → slice_get starts place ≡ Some e → Contains (drop next starts) e
-Contains_from starts next place e le listed =
-    let within = slice_get_within starts place e listed in
-    let same : next + (place - next) ≡ place = omega (arith, le) in
-    let is : get_or (drop next starts) (place - next) e ≡ e =
-    get_or-drop next starts (place - next) e ∙ ap (λ (k : ℕ). get_or starts k e) same ∙ get_or_from_slice_get starts place e e listed in
-    (place - next, omega (arith, length-drop next starts, within, le), is)
-
--- so it lies behind what they lie behind
-pub behind_at : (starts : List Start) (next place first : ℕ) (e : Start) → next ≤ place → slice_get starts place ≡ Some e
-    → AreBehind first (drop next starts) → first < e.low
-behind_at starts next place first e le listed behind =
-    All-contains (λ start. first < start.low) (drop next starts) e behind (Contains_from starts next place e le listed)
-
--- where none of the starts from a place on is seen over the top, none is up to an address
-pub hidden_from : (top : Option ℕ) (starts : List Start) (next end last : ℕ) → length starts ≤ end
-    → ((k : ℕ) (d : Start) → next ≤ k → k < end → IsOver top (get_or starts k d).number → ⊥)
-    → All (λ start. start.low ≤ last → IsOver top start.number → ⊥) (drop next starts)
-hidden_from top starts next end last all hidden k d below =
-    let long = length-drop next starts in
-    rw (get_or-drop next starts k d) (λ low over. hidden (next + k) d (omega arith) (omega (arith, below, long, all)) over)
-
--- those that come before the one at a place aren't seen over the top, and those behind it begin too late
-pub free_before : (top : Option ℕ) (starts : List Start) (next i last : ℕ) (e : Start) → IsNonDecreasingBy (λ start. start.low) starts
-    → next ≤ i → slice_get starts i ≡ Some e → last < e.low
-    → ((k : ℕ) (d : Start) → next ≤ k → k < i → IsOver top (get_or starts k d).number → ⊥)
-    → All (λ start. start.low ≤ last → IsOver top start.number → ⊥) (drop next starts)
-free_before top starts next i last e up le listed late hidden k d below =
-    let long = length-drop next starts in
-    rw (get_or-drop next starts k d)
-    (elim (cases_lt (next + k) i) [
-      | inl less ↦ λ low over. hidden (next + k) d (omega arith) less over
-      | inr more ↦ λ low over.
-          let least = up i (next + k) d more (omega (arith, below, long)) in
-          let same : get_or starts i d ≡ e = get_or_from_slice_get starts i e d listed in
-          let from = rw same at least in
-          absurd (omega (arith, from, low, late))
-    ])
-
 -- the top of a heap is the greatest
 not_less : (x y : ℕ) → is_lt (nat_cmp x y) ≡ false → y ≤ x
 not_less x y e =
@@ -154,13 +48,234 @@ pub greatest : (x : ℕ) (xs : List ℕ) → IsUpperBound nat_cmp x xs → All (
 greatest x xs bound =
     All-weaker (λ y. is_lt (nat_cmp x y) ≡ false) (λ y. y ≤ x) (λ y e. not_less x y e) xs (All-from_recursion (λ y. is_lt (nat_cmp x y) ≡ false) xs bound)
 
--- so it is where the top is taken off
-pub closes_pop : (ss : List Statement) (first : ℕ) (old opened opened' : List ℕ) (top : ℕ) (t : Statement) (r : Option ℕ) → Closes ss first old opened
-    → slice_get ss top ≡ Some t → t.span.high.value < first → top ≡ get_or opened 0 top → 0 < length opened → IsSome r
-    → IfSome r (λ x. x ≡ get_or opened 0 x) → IfSome r (λ x. IsPermutation opened (x ∷ opened'))
-    → IfSome r (λ x. IsHeap nat_cmp opened → IsHeap nat_cmp opened' × IsUpperBound nat_cmp x opened) → Closes ss first old opened'
-closes_pop ss first old opened opened' top t None before listed ends is some given first_is moved heap = absurd (let h : false ≡ true = given in cc)
-closes_pop ss first old opened opened' top t (Some x) before listed ends is some given first_is moved heap =
-    let same : x ≡ top = get_or_read opened 0 x some first_is top ∙ sym is in
-    let moved' = rw same at moved in
-    closes_top ss first old opened opened' top t before listed ends moved' (heap before.ordered).0
+-- what is in a list with one number more
+module _ (x : ℕ) (xs ys : List ℕ) (moved : IsPermutation (x ∷ xs) ys) where
+  pub pushed_here : Contains ys x
+  pushed_here = Contains-permutation (x ∷ xs) ys x moved (Contains-first x xs)
+
+  pushed_later : (j : ℕ) → Contains xs j → Contains ys j
+  pushed_later j has = Contains-permutation (x ∷ xs) ys j moved (Contains-later x xs j has)
+
+  pushed_cases : (j : ℕ) → Contains ys j → (x ≡ j) ⊎ Contains xs j
+  pushed_cases j has = Contains-cases x xs j (Contains-permutation ys (x ∷ xs) j (IsPermutation-sym (x ∷ xs) ys moved) has)
+
+-- of the open statements those were dropped that end before the address
+pub record IsClosing (ss : List Statement) (first : ℕ) (old opened : List ℕ) : Type 0 where
+  pub ordered : IsHeap nat_cmp opened
+  pub fewer : (j : ℕ) → Contains opened j → Contains old j
+  pub closed : (j : ℕ) (s : Statement) → slice_get ss j ≡ Some s → first ≤ s.span.high.value → Contains old j → Contains opened j
+
+-- the last of them was taken out, which has this statement
+module _ (ss : List Statement) (first : ℕ) (old opened opened' : List ℕ) (top : ℕ) (t : Statement) (before : IsClosing ss first old opened)
+    (listed : slice_get ss top ≡ Some t) (moved : IsPermutation opened (top ∷ opened')) (ordered : IsHeap nat_cmp opened') where
+  back : IsPermutation (top ∷ opened') opened
+  back = IsPermutation-sym opened (top ∷ opened') moved
+
+  pub closes_top : first ≤ t.span.high.value → IsUpperBound nat_cmp top opened' → Closes ss first old (Some top) opened'
+  closes_top goes_on bound = record {
+    ordered = ordered;
+    top = λ j has. All-contains (λ i. i ≤ top) opened' j (greatest top opened' bound) has;
+    fewer = λ j active. before.fewer j (elim active [
+      | inl same ↦ subst (Contains opened) (same_Some top j same) (pushed_here top opened' opened back)
+      | inr has ↦ pushed_later top opened' opened back j has
+    ]);
+    goes_on = rw listed goes_on;
+    closed = λ j s is to has. elim (pushed_cases top opened' opened back j (before.closed j s is to has)) [
+      | inl same ↦ inl (ap (λ (i : ℕ). Some i) same)
+      | inr more ↦ inr more
+    ];
+  }
+
+  pub closing_more : t.span.high.value < first → IsClosing ss first old opened'
+  closing_more ends = record {
+    ordered = ordered;
+    fewer = λ j has. before.fewer j (pushed_later top opened' opened back j has);
+    closed = λ j s is to has. elim (pushed_cases top opened' opened back j (before.closed j s is to has)) [
+      | inl same ↦
+          let statement : t ≡ s = same_Some t s (sym listed ∙ ap (slice_get ss) same ∙ is) in
+          let high : t.span.high.value ≡ s.span.high.value = ap (λ (x : Statement). x.span.high.value) statement in
+          absurd (omega (arith, high, ends, to))
+      | inr more ↦ more
+    ];
+  }
+
+-- the first statement that is opened wins
+pub opens_first : (old : List ℕ) (number : ℕ) → IsTop None old → Opens None old number number old
+opens_first old number top = record {
+  ordered = λ heap. heap;
+  top = λ j has. absurd (top j has);
+  which = inl refl;
+  kept = λ j active. elim active [
+    | inl same ↦ inl (ap (λ (i : ℕ). Some i) (sym same))
+    | inr (inl same) ↦ absurd (let h : None ≡ Some j = same in cc)
+    | inr (inr has) ↦ inr has
+  ];
+  fewer = λ j active. elim active [
+    | inl same ↦ inl (sym (same_Some number j same))
+    | inr has ↦ inr (inr has)
+  ];
+}
+
+-- of two, the later one wins, and the other one is added
+module _ (old new : List ℕ) (won number : ℕ) (top : IsTop (Some won) old) where
+  pub opens_earlier : number < won → IsPermutation (number ∷ old) new → (IsHeap nat_cmp old → IsHeap nat_cmp new)
+      → Opens (Some won) old number won new
+  opens_earlier less moved heap = record {
+    ordered = heap;
+    top = λ j has. elim (pushed_cases number old new moved j has) [
+      | inl same ↦ omega (arith, same, less)
+      | inr before ↦ top j before
+    ];
+    which = inr refl;
+    kept = λ j active. elim active [
+      | inl same ↦ inr (subst (Contains new) (sym same) (pushed_here number old new moved))
+      | inr (inl same) ↦ inl same
+      | inr (inr has) ↦ inr (pushed_later number old new moved j has)
+    ];
+    fewer = λ j active. elim active [
+      | inl same ↦ inr (inl same)
+      | inr has ↦ elim (pushed_cases number old new moved j has) [ inl same ↦ inl (sym same) | inr before ↦ inr (inr before) ]
+    ];
+  }
+
+  pub opens_later : won ≤ number → IsPermutation (won ∷ old) new → (IsHeap nat_cmp old → IsHeap nat_cmp new)
+      → Opens (Some won) old number number new
+  opens_later less moved heap = record {
+    ordered = heap;
+    top = λ j has. elim (pushed_cases won old new moved j has) [
+      | inl same ↦ omega (arith, same, less)
+      | inr before ↦ let below : j ≤ won = top j before in omega (arith, below, less)
+    ];
+    which = inl refl;
+    kept = λ j active. elim active [
+      | inl same ↦ inl (ap (λ (i : ℕ). Some i) (sym same))
+      | inr (inl same) ↦ inr (subst (Contains new) (same_Some won j same) (pushed_here won old new moved))
+      | inr (inr has) ↦ inr (pushed_later won old new moved j has)
+    ];
+    fewer = λ j active. elim active [
+      | inl same ↦ inl (sym (same_Some number j same))
+      | inr has ↦ elim (pushed_cases won old new moved j has) [
+        | inl same ↦ inr (inl (ap (λ (i : ℕ). Some i) same))
+        | inr before ↦ inr (inr before)
+      ]
+    ];
+  }
+
+-- nothing is open at first
+pub swept_start : (ss : List Statement) (starts : List Start) (opened : List ℕ) → AreStarts ss starts → opened ≡ [] → IsHeap nat_cmp opened
+    → IsSwept ss starts 0 None opened 0
+swept_start ss starts opened are nothing heap = record {
+  within = omega arith;
+  ordered = heap;
+  top = λ j has. absurd (Contains-nil j (rw nothing at has));
+  begun = λ j active. elim active [
+    | inl same ↦ absurd (let h : None ≡ Some j = same in cc)
+    | inr has ↦ absurd (Contains-nil j (rw nothing at has))
+  ];
+  pending = λ j a covers from. inr (are.every j covers.statement covers.listed);
+  later = λ k d below. omega arith;
+}
+
+-- the last address of the winner
+pub high_is : (ss : List Statement) (end : ℕ) (won : Option ℕ) (j : ℕ) (s : Statement) → won ≡ Some j → slice_get ss j ≡ Some s
+    → high_won ss end won ≡ s.span.high.value
+high_is ss end won j s is listed = rw (is, listed) refl
+
+high_after : (o : Option ℕ) (first end : ℕ) → first ≤ end → first ≤ unwrap_or o first → first ≤ unwrap_or o end
+high_after None first end fits goes_on = fits
+high_after (Some high) first end fits goes_on = goes_on
+
+-- those that are open have numbers of statements
+pub open_known : (ss : List Statement) (first j : ℕ) → HasBegun ss first j → j < length ss
+open_known ss first j begun = slice_get_within ss j begun.statement begun.listed
+
+module _ (ss : List Statement) (starts : List Start) (next : ℕ) (won : Option ℕ) (opened : List ℕ) (first : ℕ)
+    (swept : IsSwept ss starts next won opened first) where
+  -- the winner has ended, and another one was found
+  pub swept_closed : (end : ℕ) (won' : Option ℕ) (opened' : List ℕ) → high_won ss end won < first → Closes ss first opened won' opened'
+      → IsSwept ss starts next won' opened' first
+  swept_closed end won' opened' ended closes = record {
+    within = swept.within;
+    ordered = closes.ordered;
+    top = closes.top;
+    begun = λ j active. swept.begun j (inr (closes.fewer j active));
+    pending = λ j a covers from. elim (swept.pending j a covers from) [
+      | inl (inl is) ↦ absurd (omega (arith, ended, high_is ss end won j covers.statement is covers.listed, covers.high, from))
+      | inl (inr has) ↦ inl (closes.closed j covers.statement covers.listed (omega (arith, from, covers.high)) has)
+      | inr coming ↦ inr coming
+    ];
+    later = swept.later;
+  }
+
+  pub goes_on_closed : (end : ℕ) (won' : Option ℕ) (opened' : List ℕ) → first ≤ end → Closes ss first opened won' opened'
+      → first ≤ high_won ss end won'
+  goes_on_closed end won' opened' fits closes =
+      high_after (option_map (λ s. s.span.high.value) (statement_won ss won')) first end fits closes.goes_on
+
+  -- the next start is opened
+  module _ (are : AreStarts ss starts) (e : Start) (latest : ℕ) (opened' : List ℕ) (within : next < length starts)
+      (is : e ≡ get_or starts next e) (low : e.low ≤ first) (opens : Opens won opened e.number latest opened') where
+    start : IsStart ss e
+    start = subst (IsStart ss) (sym is) (are.each next e within)
+
+    coming : drop next starts ≡ e ∷ drop (next + 1) starts
+    coming = drop_more starts next e within ∙ ap (λ (x : Start). x ∷ drop (next + 1) starts) (sym is)
+
+    pub swept_opened : IsSwept ss starts (next + 1) (Some latest) opened' first
+    swept_opened = record {
+      within = omega (arith, within);
+      ordered = opens.ordered swept.ordered;
+      top = opens.top;
+      begun = λ j active. elim (opens.fewer j active) [
+        | inl same ↦ subst (HasBegun ss first) (sym same)
+            (record { statement = start.statement; listed = start.listed; low = omega (arith, start.low, low) })
+        | inr before ↦ swept.begun j before
+      ];
+      pending = λ j a covers from. elim (swept.pending j a covers from) [
+        | inl active ↦ inl (opens.kept j (inr active))
+        | inr later ↦ elim (Contains-cases e (drop (next + 1) starts) (start_of j covers.statement)
+            (subst (λ (xs : List Start). Contains xs (start_of j covers.statement)) coming later)) [
+              | inl same ↦ inl (opens.kept j (inl (sym (ap (λ (x : Start). x.number) same))))
+              | inr more ↦ inr more
+            ]
+      ];
+      later = All-tail (λ start. first ≤ start.low) e (drop (next + 1) starts) (subst (All (λ start. first ≤ start.low)) coming swept.later);
+    }
+
+    pub goes_on_opened : (end : ℕ) → first ≤ high_won ss end won → first ≤ high_won ss end (Some latest)
+    goes_on_opened end goes_on = elim opens.which [
+      | inl same ↦
+          let begins : first ≤ e.low = All-head (λ start. first ≤ start.low) e (drop (next + 1) starts)
+          (subst (All (λ start. first ≤ start.low)) coming swept.later) in
+          let high = high_is ss end (Some latest) e.number start.statement (ap (λ (i : ℕ). Some i) same) start.listed in
+          omega (arith, high, begins, start.low, start.statement.span.ordered)
+      | inr same ↦ subst (λ (o : Option ℕ). first ≤ high_won ss end o) same goes_on
+    ]
+
+  -- up to an address before the next start, and up to its own end, the winner wins
+  module _ (end last : ℕ) (to : last ≤ high_won ss end won) (behind : AreBehind last (drop next starts)) where
+    pub wins : (a : ℕ) → first ≤ a → a ≤ last → IsWinner ss a won
+    wins a from below = record {
+      covers = λ j is.
+          let begun = swept.begun j (inl is) in
+          let high = high_is ss end won j begun.statement is begun.listed in
+          record { statement = begun.statement; listed = begun.listed; low = omega (arith, begun.low, from); high = omega (arith, high, to, below) };
+      most = λ j covers. elim (swept.pending j a covers from) [
+        | inl (inl is) ↦ rw is (omega arith)
+        | inl (inr has) ↦ swept.top j has
+        | inr coming ↦
+            let above = All-contains (λ (start : Start). last < start.low) (drop next starts) (start_of j covers.statement) behind coming in
+            absurd (omega (arith, above, covers.low, below))
+      ];
+    }
+
+    pub swept_later : first ≤ last → IsSwept ss starts next won opened (last + 1)
+    swept_later from = record {
+      within = swept.within;
+      ordered = swept.ordered;
+      top = swept.top;
+      begun = λ j active. let begun = swept.begun j active in
+          record { statement = begun.statement; listed = begun.listed; low = omega (arith, begun.low, from) };
+      pending = λ j a covers after. swept.pending j a covers (omega (arith, from, after));
+      later = All-weaker (λ start. last < start.low) (λ start. last + 1 ≤ start.low) (λ start less. omega (arith, less)) (drop next starts) behind;
+    }

@@ -17,5 +17,6 @@ pub mod Progress
 pub mod Stretches
 pub mod Starting
 pub mod Sweep
+pub mod Begins
 pub mod Painting
 pub mod Hashing

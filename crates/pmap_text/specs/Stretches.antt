@@ -1,4 +1,6 @@
-use Rattle.std.specs.Prelude.{◌≡◌, ◌≢◌, ℕ, ◌+◌, ◌<◌, ◌≤◌, ◌^◌, List, Option, Some, None, All, Contains, map, option_map}
+use Rattle.std.specs.Prelude.{◌≡◌, ◌≢◌, ℕ, ◌+◌, ◌-◌, ◌<◌, ◌≤◌, ◌^◌, List, Option, Some, None, All, Contains, length, map, nat_le, nat_lt, option_and_then, option_map, slice_get, slice_index, slice_index_or, if◌then◌else◌}
+use Rattle.std.specs.List.{prefix_len}
+use Rattle.std.specs.Option.{ForSome}
 use Rattle.prefix_keys.specs.Version.{width_of}
 use Rattle.prefix_keys.specs.declared.version.Version.{Version}
 use Rattle.pmap_text.specs.MapModel.{Label, Mapping, MapModel, last_such, spans}
@@ -55,22 +57,52 @@ pub record HasStretch (W : ℕ) (ss : List Statement) (default : Option LabelId)
   pub stretch : (m : MapModel) → width_of m.version ≡ W → m.mappings ≡ mappings_of m.table ss
       → IsStretch m first last (option_map (mapping_of m.table) top)
 
--- A walk over the stretches of statements as contracts see it: the statements, the label where none of them wins, and the
--- addresses and the label of the stretch where it stands.
+-- Stretches as contracts see them: of the addresses of a version, the first address of each, in rising order, and its label.
 pub record StretchesModel : Type 0 where
   pub version : Version
-  pub default : Option LabelId
-  pub statements : List Statement
-  pub first : ℕ
-  pub last : ℕ
-  pub label : Option LabelId
+  pub firsts : List ℕ
+  pub labels : List (Option LabelId)
 
--- it stands at a stretch of its statements
-abbrev pub StandsAt : StretchesModel → Type 0
-StandsAt s = HasStretch (width_of s.version) s.statements s.default s.first s.last s.label
+-- the first address of the stretch with an index, its last one, which is before the next stretch or the last of the version,
+-- and its label
+abbrev pub first_at : StretchesModel → ℕ → ℕ
+first_at s i = slice_index s.firsts i
 
--- both go over the same statements
-pub record HasSameStatements (s t : StretchesModel) : Type 0 where
-  pub version : s.version ≡ t.version
-  pub default : s.default ≡ t.default
-  pub statements : s.statements ≡ t.statements
+abbrev pub last_at : StretchesModel → ℕ → ℕ
+last_at s i = if nat_lt (i + 1) (length s.firsts) then first_at s (i + 1) - 1 else 2 ^ width_of s.version - 1
+
+abbrev pub label_at : StretchesModel → ℕ → Option LabelId
+label_at s i = slice_index_or s.labels i None
+
+-- the stretch with the index has the address
+pub record HoldsAddress (s : StretchesModel) (a i : ℕ) : Type 0 where
+  pub index : i < length s.firsts
+  pub from : first_at s i ≤ a
+  pub to : a ≤ last_at s i
+
+-- there is a stretch with a label for each first address; the first stretch begins at 0, and the others rise within the
+-- version's addresses
+pub record HasEveryAddress (s : StretchesModel) : Type 0 where
+  pub some : 0 < length s.firsts
+  pub paired : length s.labels ≡ length s.firsts
+  pub zero : first_at s 0 ≡ 0
+  pub rising : (i j : ℕ) → i < j → j < length s.firsts → first_at s i < first_at s j
+  pub within : (i : ℕ) → i < length s.firsts → first_at s i < 2 ^ width_of s.version
+
+-- they are the stretches of the statements, where the default is the label of the addresses that no statement covers
+pub record AreStretches (ss : List Statement) (default : Option LabelId) (s : StretchesModel) : Type 0 where
+  pub every : HasEveryAddress s
+  pub each : (i : ℕ) → i < length s.firsts
+      → HasStretch (width_of s.version) ss default (first_at s i) (last_at s i) (label_at s i)
+
+-- each label is the number of a text in a table of so many texts
+abbrev pub AreLabelsBelow : ℕ → StretchesModel → Type 0
+AreLabelsBelow count s = All (λ label. ForSome label (λ id. id.0 < count)) s.labels
+
+-- how many stretches begin at the address or before it
+abbrev pub count_begun : List ℕ → ℕ → ℕ
+count_begun firsts a = prefix_len (λ first. nat_le first a) firsts
+
+-- the label text, in the table, of the stretch that has the address: the last that begins at it or before it
+abbrev pub text_held : List Label → StretchesModel → ℕ → Option Label
+text_held table s a = option_and_then (λ id. slice_get table id.0) (label_at s (count_begun s.firsts a - 1))

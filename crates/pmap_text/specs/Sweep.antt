@@ -1,17 +1,33 @@
-use Rattle.std.specs.Prelude.{◌≡◌, ◌≢◌, ℕ, ◌+◌, ◌<◌, ◌≤◌, ◌⊎◌, List, [], Option, Some, None, All, Contains, drop, length, slice_get}
+use Rattle.std.specs.Prelude.{◌≡◌, ℕ, ◌+◌, ◌<◌, ◌≤◌, ◌⊎◌, List, Option, Some, All, Contains, IsSomeAnd, drop, length, option_and_then, option_map, slice_get, unwrap_or}
 use Rattle.std.specs.BinaryHeap.{IsHeap, heap_items}
+use Rattle.std.specs.Option.{ForSome}
 use Rattle.std.specs.Ordering.{nat_cmp}
-use Rattle.prefix_keys.specs.Version.{width_of}
 use Rattle.pmap_text.specs.declared.statement.Statement.{Statement}
-use Rattle.pmap_text.specs.MapModel.{Mapping, last_such, spans}
-use Rattle.pmap_text.specs.Stretches.{HasStretch, mappings_of}
-use Rattle.pmap_text.specs.declared.label.LabelId.{LabelId}
-use Rattle.pmap_text.specs.declared.layers.Layers.{Layers}
 use Rattle.pmap_text.specs.declared.start.Start.{Start}
 use Rattle.pmap_text.specs.declared.sweep.Sweep.{Sweep}
 use Rattle.pmap_text.specs.Starting.{AreStarts, start_of}
 
--- How a sweep from the first address to the last finds out which statement is seen.
+-- How a sweep from the first address to the last finds out which statement wins.
+
+-- the statement with the number, if there is a number
+abbrev pub statement_won : List Statement → Option ℕ → Option Statement
+statement_won ss won = option_and_then (slice_get ss) won
+
+-- its last address, or else the end
+abbrev pub high_won : List Statement → ℕ → Option ℕ → ℕ
+high_won ss end won = unwrap_or (option_map (λ s. s.span.high.value) (statement_won ss won)) end
+
+-- the statement with the number covers the address
+pub record Covers (ss : List Statement) (a j : ℕ) : Type 0 where
+  pub statement : Statement
+  pub listed : slice_get ss j ≡ Some statement
+  pub low : statement.span.low.value ≤ a
+  pub high : a ≤ statement.span.high.value
+
+-- the statement with the number wins at the address: it covers the address, and no later one does; without a number, none does
+pub record IsWinner (ss : List Statement) (a : ℕ) (won : Option ℕ) : Type 0 where
+  pub covers : ForSome won (Covers ss a)
+  pub most : (j : ℕ) → Covers ss a j → IsSomeAnd won (λ k. j ≤ k)
 
 -- the statement with this number begins at the address or before it
 pub record HasBegun (ss : List Statement) (a j : ℕ) : Type 0 where
@@ -19,65 +35,53 @@ pub record HasBegun (ss : List Statement) (a j : ℕ) : Type 0 where
   pub listed : slice_get ss j ≡ Some statement
   pub low : statement.span.low.value ≤ a
 
--- Each statement that covers an address at or behind `first` is open or still to come, and all that are open have begun.
-pub record IsSwept (ss : List Statement) (starts : List Start) (next : ℕ) (opened : List ℕ) (first : ℕ) : Type 0 where
+-- the number is that of the winner, or one of the others that are open
+abbrev pub IsOpen : Option ℕ → List ℕ → ℕ → Type 0
+IsOpen won opened j = (won ≡ Some j) ⊎ Contains opened j
+
+-- none of the others is later than the winner
+abbrev pub IsTop : Option ℕ → List ℕ → Type 0
+IsTop won opened = (j : ℕ) → Contains opened j → IsSomeAnd won (λ k. j ≤ k)
+
+-- Each statement that covers an address from `first` on is open or still to come. All that are open have begun, and those to
+-- come don't begin before `first`.
+pub record IsSwept (ss : List Statement) (starts : List Start) (next : ℕ) (won : Option ℕ) (opened : List ℕ) (first : ℕ) : Type 0 where
   pub within : next ≤ length starts
   pub ordered : IsHeap nat_cmp opened
-  pub begun : All (HasBegun ss first) opened
-  pub pending : (j : ℕ) (s : Statement) (a : ℕ) → slice_get ss j ≡ Some s → s.span.low.value ≤ a → a ≤ s.span.high.value → first ≤ a
-      → Contains opened j ⊎ Contains (drop next starts) (start_of j s)
+  pub top : IsTop won opened
+  pub begun : (j : ℕ) → IsOpen won opened j → HasBegun ss first j
+  pub pending : (j a : ℕ) (covers : Covers ss a j) → first ≤ a
+      → IsOpen won opened j ⊎ Contains (drop next starts) (start_of j covers.statement)
+  pub later : All (λ start. first ≤ start.low) (drop next starts)
 
--- those still to come begin behind the address
+-- those still to come begin after the address
 abbrev pub AreBehind : ℕ → List Start → Type 0
-AreBehind first coming = All (λ start. first < start.low) coming
+AreBehind a coming = All (λ start. a < start.low) coming
 
--- those that are no longer open end before `first`
-pub record Closes (ss : List Statement) (first : ℕ) (old new : List ℕ) : Type 0 where
+-- of the open ones the last that goes on to `first` was taken out, with those that are later
+pub record Closes (ss : List Statement) (first : ℕ) (old : List ℕ) (won : Option ℕ) (new : List ℕ) : Type 0 where
   pub ordered : IsHeap nat_cmp new
-  pub fewer : (j : ℕ) → Contains new j → Contains old j
-  pub closed : (j : ℕ) (s : Statement) → slice_get ss j ≡ Some s → first ≤ s.span.high.value → Contains old j → Contains new j
+  pub top : IsTop won new
+  pub fewer : (j : ℕ) → IsOpen won new j → Contains old j
+  pub goes_on : first ≤ high_won ss first won
+  pub closed : (j : ℕ) (s : Statement) → slice_get ss j ≡ Some s → first ≤ s.span.high.value → Contains old j → IsOpen won new j
 
--- the last statement that is open, and it goes on to `first`; or none is open
-abbrev pub IsTop : List Statement → ℕ → List ℕ → Option ℕ → Type 0
-IsTop ss first opened None = opened ≡ []
-IsTop ss first opened (Some j) = Contains opened j × All (λ i. i ≤ j) opened
-    × ((s : Statement) × (slice_get ss j ≡ Some s) × (first ≤ s.span.high.value))
+-- the statement with the number was opened
+pub record Opens (won : Option ℕ) (old : List ℕ) (number latest : ℕ) (new : List ℕ) : Type 0 where
+  pub ordered : IsHeap nat_cmp old → IsHeap nat_cmp new
+  pub top : IsTop (Some latest) new
+  pub which : (latest ≡ number) ⊎ (won ≡ Some latest)
+  pub kept : (j : ℕ) → (j ≡ number) ⊎ IsOpen won old j → IsOpen (Some latest) new j
+  pub fewer : (j : ℕ) → IsOpen (Some latest) new j → (j ≡ number) ⊎ IsOpen won old j
 
--- a later statement than that with the number, if there is one
-abbrev pub IsOver : Option ℕ → ℕ → Type 0
-IsOver None i = Unit {0}
-IsOver (Some j) i = j < i
-
--- From `first` to `last` none of those to come is seen over the top, and right behind `last`, if that is before `high`, one is.
-pub record IsFree (top : Option ℕ) (coming : List Start) (first high last : ℕ) : Type 0 where
-  pub from : first ≤ last
-  pub to : last ≤ high
-  pub hidden : All (λ start. start.low ≤ last → IsOver top start.number → ⊥) coming
-  pub reason : (last ≡ high) ⊎ ((start : Start) × Contains coming start × (start.low ≡ last + 1) × IsOver top start.number)
-
--- what wins at an address, as a mapping to a text of a label table
-abbrev pub seen_at : List (List ℕ) → List Statement → ℕ → Option Mapping
-seen_at table ss a = last_such (spans a) (mappings_of table ss)
-
--- right before the address another statement wins than there
-abbrev pub IsEdge : List Statement → ℕ → Type 0
-IsEdge ss first = (table : List (List ℕ)) (a : ℕ) → a + 1 ≡ first → seen_at table ss a ≢ seen_at table ss first
-
--- the sweep stands at a stretch of addresses, and knows which statements have a say behind it
-pub record IsSweeping (W : ℕ) (ss : List Statement) (default : Option LabelId) (s : Sweep) : Type 0 where
+-- a sweep knows which statements matter from the address on
+pub record IsReady (ss : List Statement) (first : ℕ) (s : Sweep) : Type 0 where
   pub starts : AreStarts ss s.starts
-  pub swept : IsSwept ss s.starts s.next (heap_items s.opened) (s.last + 1)
-  pub stretch : HasStretch W ss default s.first s.last s.label
+  pub swept : IsSwept ss s.starts s.next s.won (heap_items s.opened) first
 
--- nothing but statements that begin at the address was opened
-pub record IsStill (ss : List Statement) (first : ℕ) (old new : Sweep) : Type 0 where
-  pub starts : new.starts ≡ old.starts
-  pub swept : IsSwept ss new.starts new.next (heap_items new.opened) first
-  pub first_is : new.first ≡ old.first
-  pub last_is : new.last ≡ old.last
-  pub label_is : new.label ≡ old.label
-
--- the statements are of one version, and a sweep over them stands at a stretch
-pub record IsWalk (layers : Layers) (sweep : Sweep) : Type 0 where
-  pub version : All (λ s. s.span.low.version ≡ layers.version) layers.statements.now
-  pub sweeping : IsSweeping (width_of layers.version) layers.statements.now layers.default sweep
+-- from the address to the sweep's last one, which is at most `end`, its winner wins
+pub record IsSweeping (ss : List Statement) (end first : ℕ) (s : Sweep) : Type 0 where
+  pub ready : IsReady ss (s.last + 1) s
+  pub from : first ≤ s.last
+  pub to : s.last ≤ end
+  pub wins : (a : ℕ) → first ≤ a → a ≤ s.last → IsWinner ss a s.won

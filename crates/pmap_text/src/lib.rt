@@ -28,7 +28,6 @@ mod hashing;
 mod label;
 mod labels;
 mod laws;
-mod layers;
 mod leading;
 mod lines;
 mod map_text;

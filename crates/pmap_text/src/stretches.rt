@@ -1,12 +1,14 @@
-ghost use Rattle.std.specs.Prelude.{◌≡◌, ℕ, ◌+◌, ◌^◌, ◌<◌, ◌≤◌, ◌↔◌, Some, All, IfOk, IsTrue, OnErr, OnOk, length};
+ghost use Rattle.std.specs.Prelude.{◌≡◌, ℕ, ◌+◌, ◌-◌, ◌^◌, ◌<◌, ◌≤◌, ◌++◌, ◌∷◌, [], Some, All, IfOk, OnOk, length};
 ghost use Rattle.std.specs.Option.{ForSome};
 ghost use Rattle.prefix_keys.specs.Version.{width_of};
+ghost use Rattle.pmap_text.specs.Begins.{label_kept};
 ghost use Rattle.pmap_text.specs.MapModel.{map_label};
 ghost use Rattle.pmap_text.specs.MapText.{map_of};
-ghost use Rattle.pmap_text.specs.Stretches.{HasSameStatements, StandsAt, text_won};
+ghost use Rattle.pmap_text.specs.Stretches.{AreLabelsBelow, AreStretches, HasEveryAddress, HoldsAddress, first_at, label_at, label_seen, last_at, text_held, text_won};
+ghost use Rattle.pmap_text.specs.Sweep.{statement_won};
 
 use crate::label::LabelId;
-use crate::layers::Layers;
+use crate::labels::Labels;
 use crate::map_text::MapText;
 use crate::statements::Statements;
 use crate::sweep::{Sweep, last_address};
@@ -14,127 +16,246 @@ use prefix_keys::Version;
 use std::alloc::{AllocError, Global};
 use std::marker::Model;
 
-/// A walk over the stretches of statements, from the first address of a version to the last. A stretch is a maximal
-/// range of addresses at which one and the same statement wins, the last that covers them, or none does. It has the
-/// label of that statement, or the default.
-#[derive(Drop)]
-pub struct Stretches<'a> {
-    layers: Layers<'a>,
-    sweep: Sweep<'a>,
+// The number that is kept where there is no label.
+const NO_LABEL: LabelId = LabelId(u32::MAX);
+
+// The first IPv4 address of a stretch, and the number of its label.
+#[derive(Clone, Copy, Debug)]
+struct Begin {
+    first: u32,
+    label: LabelId,
 }
 
-impl<'a> Model for Stretches<'a> {
+// The first addresses of stretches, in rising order, and the numbers of their labels. A stretch takes 8 bytes under
+// IPv4 and 20 under IPv6.
+#[derive(Drop)]
+enum Begins {
+    Narrow(Vec<Begin>),
+    Wide(Vec<u128>, Vec<LabelId>),
+}
+
+/// The stretches of statements over the addresses of a version, in rising order. A stretch is a maximal range of
+/// addresses at which one and the same statement wins, the last that covers them, or none does. It has the label of
+/// that statement, or the default.
+#[derive(Drop)]
+pub struct Stretches {
+    begins: Begins,
+}
+
+impl Model for Stretches {
     ghost use Rattle.pmap_text.specs.Stretches.{StretchesModel};
 
     ghost Value = { StretchesModel };
 
-    ghost use Rattle.pmap_text.specs.Sweep.{IsWalk};
+    ghost use Rattle.pmap_text.specs.Begins.{stretches_of};
+    ghost use Rattle.pmap_text.specs.Stretches.{HasEveryAddress};
 
-    ghost view = { λ s. record {
-      version = s.layers.version;
-      default = s.layers.default;
-      statements = s.layers.statements.now;
-      first = s.sweep.first;
-      last = s.sweep.last;
-      label = s.sweep.label;
-    } };
+    ghost view = { λ s. stretches_of s.begins };
 
-    ghost invariant = { λ s. IsWalk s.layers s.sweep };
+    ghost invariant = { λ s. HasEveryAddress (stretches_of s.begins) };
 }
 
-impl<'a> Stretches<'a> {
-    /// A walk that stands at the first stretch of statements, where `default` is the label of the addresses that none
-    /// covers.
+// The number that is kept for a label.
+fn kept(label: Option<LabelId>) -> LabelId
+    requires { ForSome label (λ id. id.0 < 2 ^ 32 - 1) }
+    ensures { label_kept result ≡ label }
+{
+    label.unwrap_or(NO_LABEL)
+}
+
+// The label for which a number is kept.
+#[inline(always)]
+fn given(id: LabelId) -> Option<LabelId>
+    ensures { result ≡ label_kept id }
+{
+    if id.0 == NO_LABEL.0 { None } else { Some(id) }
+}
+
+// The label where a statement wins, or where none does.
+fn label_won(
+    statements: &Statements,
+    won: Option<usize>,
+    default: Option<LabelId>,
+) -> Option<LabelId>
+    requires { ForSome won (λ number. number < length statements.now) }
+    ensures { result ≡ label_seen default (statement_won statements.now won) }
+{
+    match won {
+        Some(number) => Some(statements.at(number).label),
+        None => default,
+    }
+}
+
+impl Stretches {
+    /// The stretches of statements, where `default` is the label of the addresses that no statement covers. The labels
+    /// are in the table.
     pub fn new(
         alloc: Global,
         version: Version,
         default: Option<LabelId>,
-        statements: &'a Statements,
-    ) -> Result<Stretches<'a>, AllocError>
-        requires { All (λ s. s.span.low.version ≡ version) statements.now }
+        labels: &Labels,
+        statements: &Statements,
+    ) -> Result<Stretches, AllocError>
+        requires known { All (λ s. s.label.0 < length labels.now) statements.now }
+        requires default { ForSome default (λ id. id.0 < length labels.now) }
         ensures version { IfOk result (λ s. s.version ≡ version) }
-        ensures default { IfOk result (λ s. s.default ≡ default) }
-        ensures statements { IfOk result (λ s. s.statements ≡ statements.now) }
-        ensures first { IfOk result (λ s. s.first ≡ 0) }
+        ensures stretches { IfOk result (AreStretches statements.now default) }
+        ensures known { IfOk result (AreLabelsBelow (length labels.now)) }
+        ensures labels { IfOk result (λ s. (a : ℕ) → a < 2 ^ width_of version →
+            text_held labels.now s a ≡ text_won labels.now default statements.now a) }
     {
-        let layers = Layers {
-            version,
-            default,
-            statements,
-        };
-        let sweep = Sweep::new(alloc, &layers)?;
-        Ok(Stretches { layers, sweep })
+        // For its law: the numbers of a table's labels are below the one that is kept for no label.
+        let _count = labels.len();
+        let end = last_address(version);
+        let mut sweep = Sweep::new(alloc, end, statements)?;
+        let mut won = sweep.won;
+        let mut stretches = Stretches::whole(alloc, version, label_won(statements, won, default))?;
+        while sweep.last < end {
+            let first = sweep.last + 1;
+            sweep.move_to(statements, end, first)?;
+            if sweep.won != won {
+                won = sweep.won;
+                stretches.push(first, label_won(statements, won, default))?;
+            }
+        }
+        Ok(stretches)
     }
 
-    /// A walk that stands at the first stretch of a map.
-    pub fn of_map(alloc: Global, map: &'a MapText) -> Result<Stretches<'a>, AllocError>
+    /// The stretches of a map.
+    pub fn of_map(alloc: Global, map: &MapText) -> Result<Stretches, AllocError>
         ensures version { IfOk result (λ s. s.version ≡ map.now.version) }
-        ensures default { IfOk result (λ s. s.default ≡ Some map.now.default) }
-        ensures statements { IfOk result (λ s. s.statements ≡ map.now.statements) }
-        ensures first { IfOk result (λ s. s.first ≡ 0) }
-        ensures known { IfOk result (λ s. All (λ r. r.label.0 < length map.now.labels) s.statements) }
-        ensures default_known { IfOk result (λ s. ForSome s.default (λ id. id.0 < length map.now.labels)) }
-        ensures labels { IfOk result (λ s. (a : ℕ) →
-            text_won map.now.labels s.default s.statements a ≡ Some (map_label (map_of map.now) a)) }
+        ensures stretches { IfOk result (AreStretches map.now.statements (Some map.now.default)) }
+        ensures known { IfOk result (AreLabelsBelow (length map.now.labels)) }
+        ensures labels { IfOk result (λ s. (a : ℕ) → a < 2 ^ width_of map.now.version →
+            text_held map.now.labels s a ≡ Some (map_label (map_of map.now) a)) }
     {
-        Stretches::new(alloc, map.version, Some(map.default), &map.statements)
+        let default = Some(map.default);
+        Stretches::new(alloc, map.version, default, &map.labels, &map.statements)
     }
-}
 
-impl Stretches<'_> {
+    // One stretch that has all addresses of the version.
+    fn whole(
+        alloc: Global,
+        version: Version,
+        label: Option<LabelId>,
+    ) -> Result<Stretches, AllocError>
+        requires { ForSome label (λ id. id.0 < 2 ^ 32 - 1) }
+        ensures version { IfOk result (λ s. s.version ≡ version) }
+        ensures firsts { IfOk result (λ s. s.firsts ≡ 0 ∷ []) }
+        ensures labels { IfOk result (λ s. s.labels ≡ label ∷ []) }
+        ensures every { IfOk result HasEveryAddress }
+    {
+        let label = kept(label);
+        let begins = match version {
+            Version::V4 => Begins::Narrow(vec![in alloc; Begin { first: 0, label }]?),
+            Version::V6 => Begins::Wide(vec![in alloc; 0]?, vec![in alloc; label]?),
+        };
+        Ok(Stretches { begins })
+    }
+
+    // Adds a stretch that begins at the address, where the last one ended until now.
+    fn push(&mut self, first: u128, label: Option<LabelId>) -> Result<(), AllocError>
+        requires above { first_at self.old (length self.old.firsts - 1) < first }
+        requires within { first < 2 ^ width_of self.old.version }
+        requires known { ForSome label (λ id. id.0 < 2 ^ 32 - 1) }
+        ensures version { OnOk result (self.new.version ≡ self.old.version) }
+        ensures firsts { OnOk result (self.new.firsts ≡ self.old.firsts ++ first ∷ []) }
+        ensures labels { OnOk result (self.new.labels ≡ self.old.labels ++ label ∷ []) }
+        ensures every { OnOk result (HasEveryAddress self.new) }
+    {
+        let label = kept(label);
+        match &mut self.begins {
+            Begins::Narrow(begins) => {
+                let first = first as u32;
+                begins.push(Begin { first, label })?;
+            }
+            Begins::Wide(firsts, labels) => {
+                labels.reserve(1)?;
+                firsts.push(first)?;
+                labels.push(label)?;
+            }
+        }
+        Ok(())
+    }
+
     /// The version of the addresses.
     pub fn version(&self) -> Version
         ensures { result ≡ self.now.version }
     {
-        self.layers.version
-    }
-
-    /// The first address of the stretch.
-    pub fn first(&self) -> u128
-        ensures value { result ≡ self.now.first }
-        ensures stretch { StandsAt self.now }
-    {
-        self.sweep.first
-    }
-
-    /// The last address of the stretch.
-    pub fn last(&self) -> u128
-        ensures value { result ≡ self.now.last }
-        ensures stretch { StandsAt self.now }
-    {
-        self.sweep.last
-    }
-
-    /// The label of the stretch.
-    pub fn label(&self) -> Option<LabelId>
-        ensures value { result ≡ self.now.label }
-        ensures stretch { StandsAt self.now }
-    {
-        self.sweep.label
-    }
-
-    /// Whether the stretch is the last one.
-    pub fn is_at_end(&self) -> bool
-        ensures { IsTrue result ↔ (self.now.last + 1 ≡ 2 ^ width_of self.now.version) }
-    {
-        self.sweep.last == last_address(self.layers.version)
-    }
-
-    /// Goes on to the stretch that has the address: this one or the next. Where memory is refused, it stands where it
-    /// stood.
-    pub fn reach(&mut self, address: u128) -> Result<(), AllocError>
-        requires within { address < 2 ^ width_of self.old.version }
-        requires begun { self.old.first ≤ address }
-        requires near { address ≤ self.old.last + 1 }
-        ensures same { HasSameStatements self.old self.new }
-        ensures begun { OnOk result (self.new.first ≤ address) }
-        ensures here { OnOk result (address ≤ self.new.last) }
-        ensures next { OnOk result (self.old.last < address → self.new.first ≡ address) }
-        ensures err { OnErr result (self.new ≡ self.old) }
-    {
-        if address <= self.sweep.last {
-            return Ok(());
+        match self.begins {
+            Begins::Narrow(_) => Version::V4,
+            Begins::Wide(_, _) => Version::V6,
         }
-        self.sweep.move_to(&self.layers, address)
+    }
+
+    /// How many stretches there are: one at least.
+    pub fn len(&self) -> usize
+        ensures value { result ≡ length self.now.firsts }
+        ensures every { HasEveryAddress self.now }
+    {
+        match &self.begins {
+            Begins::Narrow(begins) => begins.len(),
+            Begins::Wide(firsts, _) => firsts.len(),
+        }
+    }
+
+    /// The first address of the stretch with this index, which is below `len`.
+    #[inline(always)]
+    pub fn first(&self, index: usize) -> u128
+        requires { index < length self.now.firsts }
+        ensures { result ≡ first_at self.now index }
+    {
+        match &self.begins {
+            Begins::Narrow(begins) => u128::from(begins[index].first),
+            Begins::Wide(firsts, _) => firsts[index],
+        }
+    }
+
+    /// The last address of the stretch with this index.
+    #[inline(always)]
+    pub fn last(&self, index: usize) -> u128
+        requires { index < length self.now.firsts }
+        ensures { result ≡ last_at self.now index }
+    {
+        if index < self.len() - 1 {
+            self.first(index + 1) - 1
+        } else {
+            last_address(self.version())
+        }
+    }
+
+    /// The label of the stretch with this index.
+    #[inline(always)]
+    pub fn label(&self, index: usize) -> Option<LabelId>
+        requires { index < length self.now.firsts }
+        ensures { result ≡ label_at self.now index }
+    {
+        match &self.begins {
+            Begins::Narrow(begins) => given(begins[index].label),
+            Begins::Wide(_, labels) => given(labels[index]),
+        }
+    }
+
+    /// The index of the stretch that has the address. It is one of those from the index `from` to the index `to`.
+    pub fn find(&self, from: usize, to: usize, address: u128) -> usize
+        requires order { from ≤ to }
+        requires index { to < length self.now.firsts }
+        requires above { first_at self.now from ≤ address }
+        requires below { address ≤ last_at self.now to }
+        ensures holds { HoldsAddress self.now address result }
+        ensures from { from ≤ result }
+        ensures to { result ≤ to }
+    {
+        let mut low = from;
+        let mut high = to;
+        while low < high {
+            let middle = high - (high - low) / 2;
+            if self.first(middle) <= address {
+                low = middle;
+            } else {
+                high = middle - 1;
+            }
+        }
+        low
     }
 }

@@ -1,97 +1,72 @@
-ghost use Rattle.std.specs.Prelude.{◌≡◌, ◌+◌, ◌<◌, ◌≤◌, ◌^◌, ◌↔◌, All, IfOk, IsTrue, OnErr, OnOk, drop, length};
+ghost use Rattle.std.specs.Prelude.{◌≡◌, ◌+◌, ◌<◌, ◌≤◌, ◌^◌, All, IfOk, OnOk, drop, length};
 ghost use Rattle.std.specs.BinaryHeap.{IsHeap, heap_items};
-ghost use Rattle.std.specs.List.Sorted.{IsNonDecreasingBy};
+ghost use Rattle.std.specs.Option.{ForSome};
 ghost use Rattle.std.specs.Ordering.{nat_cmp};
 ghost use Rattle.prefix_keys.specs.Version.{width_of};
-ghost use Rattle.pmap_text.specs.Stretches.{HasStretch};
-ghost use Rattle.pmap_text.specs.Starting.{AreStarts};
-ghost use Rattle.pmap_text.specs.Sweep.{AreBehind, Closes, IsEdge, IsFree, IsOver, IsStill, IsSwept, IsSweeping, IsTop};
+ghost use Rattle.pmap_text.specs.Sweep.{AreBehind, Closes, IsReady, IsSweeping, IsTop, Opens, high_won};
 
-use crate::label::LabelId;
-use crate::layers::Layers;
 use crate::starts::Starts;
 use crate::statements::Statements;
 use prefix_keys::Version;
 use std::alloc::{AllocError, Global};
 use std::collections::BinaryHeap;
 
-/// A sweep over the addresses from the first to the last: the stretch of addresses from `first` to `last` at which one
-/// statement wins, or none, its label, and what is needed to find the next stretch.
+/// A sweep over the addresses from the first to the last: the number of the statement that wins at the addresses up to
+/// `last`, if one does, and what is needed to go on.
 #[derive(Drop)]
 pub struct Sweep<'a> {
-    pub first: u128,
+    pub won: Option<usize>,
     pub last: u128,
-    pub label: Option<LabelId>,
     /// Where the statements begin, in rising order, of which those before `next` have been opened.
     pub starts: Starts<'a>,
     pub next: usize,
-    /// The numbers of the statements that have been opened and not yet been found to end.
+    /// The numbers of the others that have been opened and not yet been found to end.
     pub opened: BinaryHeap<usize>,
 }
 
-// Opens the statements that begin at the address or before it.
-fn open_begun(sweep: &mut Sweep, statements: &Statements, first: u128) -> Result<(), AllocError>
-    requires starts { AreStarts statements.now sweep.old.starts }
-    requires swept { IsSwept statements.now sweep.old.starts sweep.old.next (heap_items sweep.old.opened) first }
-    ensures still { IsStill statements.now first sweep.old sweep.new }
-    ensures behind { OnOk result (AreBehind first (drop sweep.new.next sweep.new.starts)) }
+// The last address of the statement with the number, or else the end.
+fn high_won(statements: &Statements, won: Option<usize>, end: u128) -> u128
+    requires { ForSome won (λ number. number < length statements.now) }
+    ensures { result ≡ high_won statements.now end won }
 {
-    while sweep.next < sweep.starts.len() {
-        let start = sweep.starts.at(sweep.next);
-        if first < start.low {
-            return Ok(());
-        }
-        sweep.opened.push(start.number)?;
-        sweep.next += 1;
+    match won {
+        Some(number) => statements.at(number).span.high.value,
+        None => end,
     }
-    Ok(())
 }
 
-// Drops statements that end before the address, up to the last one that goes on to it.
-fn top_at(opened: &mut BinaryHeap<usize>, statements: &Statements, first: u128) -> Option<usize>
+// Takes out the last statement that goes on to the address, and drops those that are later.
+fn last_open(opened: &mut BinaryHeap<usize>, statements: &Statements, first: u128) -> Option<usize>
     requires ordered { IsHeap nat_cmp (heap_items opened.old) }
     requires known { All (λ j. j < length statements.now) (heap_items opened.old) }
-    ensures closes { Closes statements.now first (heap_items opened.old) (heap_items opened.new) }
-    ensures top { IsTop statements.now first (heap_items opened.new) result }
+    ensures { Closes statements.now first (heap_items opened.old) result (heap_items opened.new) }
 {
-    while let Some(top) = opened.peek() {
-        let number = *top;
-        let statement = statements.at(number);
-        if first <= statement.span.high.value {
+    while let Some(number) = opened.pop() {
+        if first <= statements.at(number).span.high.value {
             return Some(number);
         }
-        let _ = opened.pop();
     }
     None
 }
 
-// Where one of the statements to come begins that is seen over the top, the address before; else `high`.
-fn end_before(top: Option<usize>, starts: &Starts, next: usize, first: u128, high: u128) -> u128
-    requires ordered { first ≤ high }
-    requires behind { AreBehind first (drop next starts.now) }
-    requires rising { IsNonDecreasingBy (λ start. start.low) starts.now }
-    ensures { IsFree top (drop next starts.now) first high result }
+// Opens the statement with the number, and returns the later one of it and the winner. The other one is added.
+fn open_statement(
+    opened: &mut BinaryHeap<usize>,
+    won: Option<usize>,
+    number: usize,
+) -> Result<usize, AllocError>
+    requires { IsTop won (heap_items opened.old) }
+    ensures { IfOk result (λ latest. Opens won (heap_items opened.old) number latest (heap_items opened.new)) }
 {
-    for place in next..starts.len() {
-        let start = starts.at(place);
-        if high < start.low {
-            return high;
-        }
-        if is_over(top, start.number) {
-            return start.low - 1;
-        }
+    let Some(won) = won else {
+        return Ok(number);
+    };
+    if number < won {
+        opened.push(number)?;
+        return Ok(won);
     }
-    high
-}
-
-// Whether the statement with the number comes later than the top.
-fn is_over(top: Option<usize>, number: usize) -> bool
-    ensures { IsTrue result ↔ IsOver top number }
-{
-    match top {
-        Some(top) => top < number,
-        None => true,
-    }
+    opened.push(won)?;
+    Ok(number)
 }
 
 /// The highest address of a version.
@@ -105,81 +80,71 @@ pub fn last_address(version: Version) -> u128
 }
 
 impl<'a> Sweep<'a> {
-    /// A sweep that stands at the first stretch.
-    pub fn new(alloc: Global, layers: &Layers<'a>) -> Result<Sweep<'a>, AllocError>
-        requires { All (λ s. s.span.low.version ≡ layers.now.version) layers.now.statements.now }
-        ensures first { IfOk result (λ sweep. sweep.first ≡ 0) }
-        ensures sweeping { IfOk result
-            (IsSweeping (width_of layers.now.version) layers.now.statements.now layers.now.default) }
+    /// A sweep that stands at the address 0.
+    pub fn new(
+        alloc: Global,
+        end: u128,
+        statements: &'a Statements,
+    ) -> Result<Sweep<'a>, AllocError>
+        ensures { IfOk result (IsSweeping statements.now end 0) }
     {
         let mut sweep = Sweep {
-            first: 0,
+            won: None,
             last: 0,
-            label: None,
-            starts: Starts::new(alloc, layers.statements)?,
+            starts: Starts::new(alloc, statements)?,
             next: 0,
             opened: BinaryHeap::new(alloc),
         };
-        sweep.move_to(layers, 0)?;
+        sweep.move_to(statements, end, 0)?;
         Ok(sweep)
     }
 }
 
 impl Sweep<'_> {
-    /// Goes on to the stretch that begins at the address.
-    pub fn move_to(&mut self, layers: &Layers, first: u128) -> Result<(), AllocError>
-        requires version { All (λ s. s.span.low.version ≡ layers.now.version) layers.now.statements.now }
-        requires within { first < 2 ^ width_of layers.now.version }
-        requires starts { AreStarts layers.now.statements.now self.old.starts }
-        requires swept { IsSwept layers.now.statements.now self.old.starts self.old.next
-            (heap_items self.old.opened) first }
-        requires edge { IsEdge layers.now.statements.now first }
-        ensures first { OnOk result (self.new.first ≡ first) }
-        ensures sweeping { OnOk result
-            (IsSweeping (width_of layers.now.version) layers.now.statements.now layers.now.default self.new) }
-        ensures err { OnErr result (IsStill layers.now.statements.now first self.old self.new) }
+    /// Goes on to the address.
+    pub fn move_to(
+        &mut self,
+        statements: &Statements,
+        end: u128,
+        first: u128,
+    ) -> Result<(), AllocError>
+        requires within { first ≤ end }
+        requires ready { IsReady statements.now first self.old }
+        ensures { OnOk result (IsSweeping statements.now end first self.new) }
     {
-        // What ended is dropped before more is opened, which would lie on top of it.
-        let _ = top_at(&mut self.opened, layers.statements, first);
-        open_begun(self, layers.statements, first)?;
-        let top = top_at(&mut self.opened, layers.statements, first);
-        let (label, last) = self.stretch_at(layers, top, first);
-        self.first = first;
-        self.last = last;
-        self.label = label;
+        if high_won(statements, self.won, end) < first {
+            self.won = last_open(&mut self.opened, statements, first);
+        }
+        let before = open_begun(self, statements, first, end)?;
+        self.last = high_won(statements, self.won, end).min(before);
         Ok(())
     }
+}
 
-    // The label and the last address of the stretch that begins at the address.
-    fn stretch_at(
-        &self,
-        layers: &Layers,
-        top: Option<usize>,
-        first: u128,
-    ) -> (Option<LabelId>, u128)
-        requires version { All (λ s. s.span.low.version ≡ layers.now.version) layers.now.statements.now }
-        requires within { first < 2 ^ width_of layers.now.version }
-        requires starts { AreStarts layers.now.statements.now self.now.starts }
-        requires swept { IsSwept layers.now.statements.now self.now.starts self.now.next
-            (heap_items self.now.opened) first }
-        requires behind { AreBehind first (drop self.now.next self.now.starts) }
-        requires top { IsTop layers.now.statements.now first (heap_items self.now.opened) top }
-        requires edge { IsEdge layers.now.statements.now first }
-        ensures { HasStretch (width_of layers.now.version) layers.now.statements.now layers.now.default
-            first result.1 result.0 }
-    {
-        match top {
-            Some(number) => {
-                let statement = layers.statements.at(number);
-                let high = statement.span.high.value;
-                let last = end_before(top, &self.starts, self.next, first, high);
-                (Some(statement.label), last)
-            }
-            None => {
-                let high = last_address(layers.version);
-                let last = end_before(top, &self.starts, self.next, first, high);
-                (layers.default, last)
-            }
+// Opens the statements that begin at the address or before it, and returns the address before the next one begins, at
+// most `end`.
+fn open_begun(
+    sweep: &mut Sweep,
+    statements: &Statements,
+    first: u128,
+    end: u128,
+) -> Result<u128, AllocError>
+    requires within { first ≤ end }
+    requires ready { IsReady statements.now first sweep.old }
+    requires goes_on { first ≤ high_won statements.now end sweep.old.won }
+    ensures ready { OnOk result (IsReady statements.now first sweep.new) }
+    ensures goes_on { OnOk result (first ≤ high_won statements.now end sweep.new.won) }
+    ensures from { IfOk result (λ before. first ≤ before) }
+    ensures to { IfOk result (λ before. before ≤ end) }
+    ensures behind { IfOk result (λ before. AreBehind before (drop sweep.new.next sweep.new.starts)) }
+{
+    while sweep.next < sweep.starts.len() {
+        let start = sweep.starts.at(sweep.next);
+        if first < start.low {
+            return Ok(end.min(start.low - 1));
         }
+        sweep.won = Some(open_statement(&mut sweep.opened, sweep.won, start.number)?);
+        sweep.next += 1;
     }
+    Ok(end)
 }

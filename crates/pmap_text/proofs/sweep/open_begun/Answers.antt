@@ -1,34 +1,33 @@
 use Rattle.std.proofs.Common.{◌≡◌, ◌<◌, arith, get_or, length, sym}
 use Rattle.std.proofs.lemmas.Option.{get_or_from_slice_get}
 use Rattle.std.specs.BinaryHeap.{heap_items}
-use Rattle.pmap_text.specs.Starting.{AreStarts}
-use Rattle.pmap_text.proofs.Swept.{swept_push, behind_coming}
+use Rattle.pmap_text.proofs.Swept.{behind_coming, goes_on_opened, swept_opened}
 use Rattle.pmap_text.proofs.sweep.open_begun.Goals as goal
-
-pub loop-sweep-preserved : goal.loop-sweep-preserved
-loop-sweep-preserved c =
-    let sweep = c.loop-sweep.sweep in
-    let same = c.loop-sweep.invariant.starts in
-    let within : sweep.next < length sweep.starts = omega (arith, c.loop-sweep-test.true, c.len.ensures) in
-    let are : AreStarts c.args.statements.now sweep.starts = rw same c.requires.starts in
-    let start = c.at-start.result in
-    let is : start ≡ get_or sweep.starts sweep.next start = sym (get_or_from_slice_get sweep.starts sweep.next start start c.at-start.ensures) in
-    record {
-      starts = same;
-      swept = swept_push c.args.statements.now sweep.starts sweep.next (heap_items sweep.opened) (heap_items c.push.new.self) c.args.first
-          c.at-start.result are c.loop-sweep.invariant.swept within is
-          (omega (arith, c.if-first-start.false)) c.in_ok-push.ensures.permutation c.in_ok-push.ensures.heap_order;
-      first_is = c.loop-sweep.invariant.first_is;
-      last_is = c.loop-sweep.invariant.last_is;
-      label_is = c.loop-sweep.invariant.label_is;
-    }
 
 pub returns-then-first-start-clause-behind : goal.returns-then-first-start-clause-behind
 returns-then-first-start-clause-behind c =
     let sweep = c.loop-sweep.sweep in
-    let same = c.loop-sweep.invariant.starts in
     let within : sweep.next < length sweep.starts = omega (arith, c.loop-sweep-test.true, c.len.ensures) in
-    let are : AreStarts c.args.statements.now sweep.starts = rw same c.requires.starts in
     let start = c.at-start.result in
     let is : start ≡ get_or sweep.starts sweep.next start = sym (get_or_from_slice_get sweep.starts sweep.next start start c.at-start.ensures) in
-    behind_coming c.args.statements.now sweep.starts sweep.next c.args.first c.at-start.result are within is c.if-first-start.true
+    behind_coming c.args.statements.now sweep.starts sweep.next c.min.result start c.loop-sweep.invariant.ready.starts within is
+    (omega (arith, c.min.ensures, c.if-first-start.true))
+
+pub loop-sweep-preserved : goal.loop-sweep-preserved
+loop-sweep-preserved c =
+    let sweep = c.loop-sweep.sweep in
+    let ready = c.loop-sweep.invariant.ready in
+    let within : sweep.next < length sweep.starts = omega (arith, c.loop-sweep-test.true, c.len.ensures) in
+    let start = c.at-start.result in
+    let is : start ≡ get_or sweep.starts sweep.next start = sym (get_or_from_slice_get sweep.starts sweep.next start start c.at-start.ensures) in
+    let opened = heap_items c.open_statement.new.opened in
+    let latest = c.in_ok-open_statement.field-0 in
+    record {
+      ready = record {
+        starts = ready.starts;
+        swept = swept_opened c.args.statements.now sweep.starts sweep.next sweep.won (heap_items sweep.opened) c.args.first ready.swept ready.starts start
+            latest opened within is c.if-first-start.false c.in_ok-open_statement.ensures;
+      };
+      goes_on = goes_on_opened c.args.statements.now sweep.starts sweep.next sweep.won (heap_items sweep.opened) c.args.first ready.swept ready.starts start
+          latest opened within is c.if-first-start.false c.in_ok-open_statement.ensures c.args.end c.loop-sweep.invariant.goes_on;
+    }
