@@ -12,8 +12,9 @@ use Rattle.pmap_text.specs.MapText.{map_of, text_at}
 use Rattle.pmap_text.specs.declared.label.LabelId.{LabelId}
 use Rattle.pmap_text.specs.declared.map_text.MapText.{MapText}
 use Rattle.pmap_text.specs.declared.statement.Statement.{Statement}
-use Rattle.label_trie.specs.Layers.{AddsTree, IsMapOf, parted_sum}
-use Rattle.pmap_text.specs.Stretches.{mappings_of}
+use Rattle.label_trie.specs.Layers.{AddsTree, GrowsTree, IsBlock, IsMapOf, IsPart, parted_sum}
+use Rattle.pmap_text.specs.Stretches.{AreStretches, HasEveryAddress, StretchesModel, mappings_of}
+use Rattle.pmap_text.proofs.Ranges.{last_end}
 use Rattle.label_trie.specs.Nodes.{IsTrie, tree_of}
 use Rattle.label_trie.specs.Tree.{Fits, IsLabelled, leaf_count, leaves_of}
 use Rattle.label_trie.specs.TrieModel.{LeafModel, IsCut}
@@ -43,6 +44,36 @@ room_at_root v ss nodes none few =
     let all : width_of v - 0 ≡ width_of v = omega arith in
     let number : block_number (width_of v) 0 0 ≡ 0 = no_number (2 ^ (width_of v - 0)) in
     rw (none, number, all) (omega (arith, few_parted v ss few))
+
+-- the whole address space as a block, and as a part
+root_block : (W last : ℕ) → last + 1 ≡ 2 ^ W → IsBlock W 0 last 0 0
+root_block W last end =
+    let all : W - 0 ≡ W = omega arith in
+    record { first_is = omega arith; last_is = rw all (omega (arith, end)) }
+
+pub space_part : (s : StretchesModel) (last : ℕ) → HasEveryAddress s → last + 1 ≡ 2 ^ width_of s.version
+    → IsPart s (record { len = 0; first = 0; last = last; from = 0; to = length s.firsts - 1 })
+space_part s last every end =
+    let number : block_number (width_of s.version) 0 0 ≡ 0 = no_number (2 ^ (width_of s.version - 0)) in
+    let zero = every.zero in
+    record {
+      within = omega arith;
+      block = rw number (root_block (width_of s.version) last end);
+      from = record { index = every.some; from = omega (arith, zero); to = omega arith };
+      to = record {
+        index = omega (arith, every.some);
+        from = omega (arith, every.within (length s.firsts - 1) (omega (arith, every.some)), end);
+        to = omega (arith, last_end s (length s.firsts - 1) (omega arith), end);
+      };
+    }
+
+-- and its tree
+pub space_tree : (s : StretchesModel) (last : ℕ) (old new : List Node) → old ≡ []
+    → GrowsTree s (record { len = 0; first = 0; last = last; from = 0; to = length s.firsts - 1 }) old new
+    → (ss : List Statement) (default : Option LabelId) → AreStretches ss default s → AddsTree (width_of s.version) ss default 0 0 [] new
+space_tree s last old new none grows ss default are =
+    let number : block_number (width_of s.version) 0 0 ≡ 0 = no_number (2 ^ (width_of s.version - 0)) in
+    rw (number, none) at (grows ss default are)
 
 -- what is known of nodes that were grown
 pub record IsGrown (W : ℕ) (ss : List Statement) (default : Option LabelId) (nodes : List Node) : Type 0 where

@@ -7,10 +7,11 @@ use Rattle.prefix_keys.specs.Version.{width_of}
 use Rattle.prefix_keys.specs.declared.version.Version.{Version}
 use Rattle.pmap_text.specs.MapModel.{Label, Mapping, MapModel, last_such, meets, settled_by}
 use Rattle.pmap_text.specs.MapText.{mapping_of}
-use Rattle.pmap_text.specs.Stretches.{HasStretch, label_seen, mappings_of}
+use Rattle.pmap_text.specs.Stretches.{AreStretches, HasStretch, HoldsAddress, StretchesModel, first_at, label_at, label_seen, last_at, mappings_of}
 use Rattle.pmap_text.specs.declared.label.LabelId.{LabelId}
 use Rattle.pmap_text.specs.declared.statement.Statement.{Statement}
-use Rattle.label_trie.specs.Layers.{AddsTree, IsBlock, IsMapOf, parted_sum}
+use Rattle.label_trie.specs.Layers.{AddsTree, IsBlock, IsMapOf, IsPart, part_number, parted_sum}
+use Rattle.label_trie.specs.declared.growing.Part.{Part}
 use Rattle.label_trie.specs.Nodes.{encode, leaf_node}
 use Rattle.label_trie.specs.Tree.{Tree, Tip, Fork, Settles, size}
 use Rattle.label_trie.specs.declared.node.Node.{Node}
@@ -19,6 +20,7 @@ use Rattle.label_trie.proofs.Blocks.{halves_ends, has_halves}
 use Rattle.label_trie.proofs.Encoded.{length_encode, size_leaves}
 use Rattle.std.proofs.lemmas.Nat.{pow-add}
 use Rattle.label_trie.proofs.Parted.{next_multiple}
+use Rattle.pmap_text.proofs.Ranges.{held_apart}
 use Rattle.pmap_text.proofs.SeenBlocks.{IsWhole, ordered_of, stretch_split, stretch_whole}
 use Rattle.label_trie.proofs.Sums.{split_sum}
 
@@ -183,6 +185,11 @@ added_most W n q ss default old new added =
     let sum = length-append old (encode (length old) added.tree) in
     omega (arith, ap length added.nodes, sum, length_encode (length old) added.tree, size_leaves added.tree, added.few)
 
+pub added_least : (W n q : ℕ) (ss : List Statement) (default : Option LabelId) (old new : List Node) → AddsTree W ss default n q old new
+    → length old ≤ length new
+added_least W n q ss default old new added =
+    omega (arith, ap length added.nodes, length-append old (encode (length old) added.tree))
+
 -- the whole block from what its halves add
 pub split_added : (W n first last : ℕ) (ss : List Statement) (default : Option LabelId) (old start mid put new : List Node) (x : Node) (at number : ℕ)
     → IsSplit W n first last ss → start ≡ old ++ x ∷ [] → AddsTree W ss default (n + 1) (block_number W (n + 1) first) start mid
@@ -194,3 +201,26 @@ split_added W n first last ss default old start mid put new x at number split be
     let low' = rw (split.halves.low_number, next, begin) at low in
     let high' = rw (split.halves.high_number, next, put_is, at_is) at high in
     fork_added W n (block_number W n first) ss default old mid new x number split.below split.unsettled low' is high'
+
+-- a part that is in one stretch is a leaf
+module _ (s : StretchesModel) (p : Part) (part : IsPart s p) (ss : List Statement) (default : Option LabelId) (are : AreStretches ss default s) where
+  pub ordered_part : p.first ≤ p.last
+  ordered_part =
+      let block = part.block in
+      omega (arith, block.first_is, block.last_is, block_some (width_of s.version) p.len (part_number s p))
+
+  pub part_leaf : (old : List Node) → p.from ≡ p.to
+      → AddsTree (width_of s.version) ss default p.len (part_number s p) old (old ++ leaf_node (label_at s p.from) ∷ [])
+  part_leaf old same =
+      let block = part.block in
+      let last : last_at s p.from ≡ last_at s p.to = ap (last_at s) same in
+      leaf_added (width_of s.version) p.len (part_number s p) ss default old (first_at s p.from) (last_at s p.from) (label_at s p.from)
+      (are.each p.from part.from.index) part.within (block_some (width_of s.version) p.len (part_number s p))
+      (omega (arith, block.first_is, part.from.from)) (omega (arith, block.last_is, part.to.to, last))
+
+  -- any other is divided
+  pub part_split : (p.from ≡ p.to → ⊥) → IsSplit (width_of s.version) p.len p.first p.last ss
+  part_split other =
+      is_split s.version p.len p.first p.last (first_at s p.from) (last_at s p.from) ss default (label_at s p.from) (are.each p.from part.from.index)
+      part.within part.block part.from.from part.from.to
+      (held_apart s are.every p.first p.last p.from p.to part.from part.to ordered_part other)

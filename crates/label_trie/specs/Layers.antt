@@ -1,15 +1,16 @@
-use Rattle.std.specs.Prelude.{◌≡◌, ℕ, zero, suc, ◌+◌, ◌*◌, ◌-◌, ◌<◌, ◌≤◌, ◌&&◌, List, [], ◌∷◌, ◌++◌, Option, All, IsSome, length, nat_le, if◌then◌else◌}
+use Rattle.std.specs.Prelude.{◌≡◌, ℕ, zero, suc, ◌+◌, ◌*◌, ◌-◌, ◌^◌, ◌<◌, ◌≤◌, ◌&&◌, List, [], ◌∷◌, ◌++◌, Option, All, IsSome, length, nat_le, if◌then◌else◌}
 use Rattle.std.specs.Option.{ForSome}
-use Rattle.prefix_keys.specs.Block.{first_of, last_of}
+use Rattle.prefix_keys.specs.Block.{block_number, first_of, last_of}
 use Rattle.prefix_keys.specs.Version.{width_of}
 use Rattle.prefix_keys.specs.declared.span.Span.{Span}
 use Rattle.pmap_text.specs.MapModel.{MapModel}
 use Rattle.pmap_text.specs.MapText.{text_at}
-use Rattle.pmap_text.specs.Stretches.{mappings_of}
+use Rattle.pmap_text.specs.Stretches.{AreStretches, HoldsAddress, StretchesModel, mappings_of}
 use Rattle.pmap_text.specs.declared.label.LabelId.{LabelId}
 use Rattle.pmap_text.specs.declared.statement.Statement.{Statement}
 use Rattle.label_trie.specs.Nodes.{encode}
 use Rattle.label_trie.specs.Tree.{Tree, Fits, IsLabelled, leaf_count}
+use Rattle.label_trie.specs.declared.growing.Part.{Part}
 use Rattle.label_trie.specs.declared.node.Node.{Node}
 
 -- What the stretches of statements make of a block.
@@ -51,3 +52,33 @@ pub record AddsTree (W : ℕ) (ss : List Statement) (default : Option LabelId) (
   pub fits : (m : MapModel) → IsMapOf W ss default m → Fits m tree n q
   pub labelled : IsSome default → IsLabelled tree
   pub few : leaf_count tree ≤ 1 + parted_sum W (W - n) n q ss
+
+-- the number of a part's block among those with as many bits
+abbrev pub part_number : StretchesModel → Part → ℕ
+part_number s p = block_number (width_of s.version) p.len p.first
+
+-- the part is a block of the stretches' addresses, with the stretches of its first and its last address
+pub record IsPart (s : StretchesModel) (p : Part) : Type 0 where
+  pub within : p.len ≤ width_of s.version
+  pub block : IsBlock (width_of s.version) p.first p.last p.len (part_number s p)
+  pub from : HoldsAddress s p.first p.from
+  pub to : HoldsAddress s p.last p.to
+
+-- with so many nodes already, the number of each node of the part fits into 32 bits
+pub record HasRoomFor (s : StretchesModel) (p : Part) (count : ℕ) : Type 0 where
+  pub statements : List Statement
+  pub default : Option LabelId
+  pub are : AreStretches statements default s
+  pub room : count + (1 + 2 * parted_sum (width_of s.version) (width_of s.version - p.len) p.len (part_number s p) statements) ≤ 2 ^ 32
+
+-- the new nodes are the old ones and those of the part, under all statements that have these stretches
+abbrev pub GrowsTree : StretchesModel → Part → List Node → List Node → Type 0
+GrowsTree s p old new = (ss : List Statement) (default : Option LabelId) → AreStretches ss default s →
+    AddsTree (width_of s.version) ss default p.len (part_number s p) old new
+
+-- these are the stretches of at most 1000000 statements
+pub record HasFewStatements (s : StretchesModel) : Type 0 where
+  pub statements : List Statement
+  pub default : Option LabelId
+  pub are : AreStretches statements default s
+  pub few : length statements ≤ 1000000

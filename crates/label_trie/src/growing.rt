@@ -1,78 +1,58 @@
 //! The nodes of a block, from the stretches of statements.
-ghost use Rattle.std.specs.Prelude.{◌≡◌, ◌+◌, ◌-◌, ◌*◌, ◌^◌, ◌<◌, ◌≤◌, OnOk, length, slice_set};
-ghost use Rattle.prefix_keys.specs.Block.{block_number};
-ghost use Rattle.prefix_keys.specs.Version.{width_of};
-ghost use Rattle.pmap_text.specs.Stretches.{HasSameStatements, StandsAt};
-ghost use Rattle.label_trie.specs.Layers.{AddsTree, IsBlock, parted_sum};
+ghost use Rattle.std.specs.Prelude.{◌≡◌, ◌<◌, OnOk, length, slice_set};
+ghost use Rattle.label_trie.specs.Layers.{GrowsTree, HasRoomFor, IsPart};
 
 use crate::node::{Node, leaf_of};
 use pmap_text::Stretches;
 use std::alloc::AllocError;
 
-/// Adds the nodes of the block of `len` bits that has the addresses from `first` to `last`. The walk goes on from the
-/// stretch that has the first address to that which has the last.
-#[cycle(block)]
-#[inline(always)]
-pub fn push_block(
-    nodes: &mut Vec<Node>,
-    stretches: &mut Stretches,
-    len: u32,
-    first: u128,
-    last: u128,
-) -> Result<(), AllocError>
-    requires within { len ≤ width_of stretches.old.version }
-    requires block { let W = width_of stretches.old.version in IsBlock W first last len (block_number W len first) }
-    requires begun { stretches.old.first ≤ first }
-    requires here { first ≤ stretches.old.last }
-    requires room { let W = width_of stretches.old.version in length nodes.old.items
-        + (1 + 2 * parted_sum W (W - len) len (block_number W len first) stretches.old.statements) ≤ 2 ^ 32 }
-    ensures nodes { let W = width_of stretches.old.version in OnOk result
-        (AddsTree W stretches.old.statements stretches.old.default len
-        (block_number W len first) nodes.old.items nodes.new.items) }
-    ensures same { OnOk result (HasSameStatements stretches.old stretches.new) }
-    ensures begun { OnOk result (stretches.new.first ≤ last) }
-    ensures here { OnOk result (last ≤ stretches.new.last) }
-{
-    if last <= stretches.last() {
-        nodes.push(leaf_of(stretches.label()))?;
-        return Ok(());
-    }
-    push_halves(nodes, stretches, len, first, last)
+/// A block of `len` bits that has the addresses from `first` to `last`, and the indices of the stretches that have these
+/// two addresses.
+#[derive(Clone, Copy)]
+pub struct Part {
+    pub len: u32,
+    pub first: u128,
+    pub last: u128,
+    pub from: usize,
+    pub to: usize,
 }
 
-// The same of a block that goes on behind the stretch. It calls itself for halves that do so too: the leaves,
-// which are half of all nodes, take no call.
-#[cycle(block)]
-fn push_halves(
+/// Adds the nodes of the block.
+pub fn push_block(
     nodes: &mut Vec<Node>,
-    stretches: &mut Stretches,
-    len: u32,
-    first: u128,
-    last: u128,
+    stretches: &Stretches,
+    part: Part,
 ) -> Result<(), AllocError>
-    requires within { len ≤ width_of stretches.old.version }
-    requires block { let W = width_of stretches.old.version in IsBlock W first last len (block_number W len first) }
-    requires stretch { StandsAt stretches.old }
-    requires begun { stretches.old.first ≤ first }
-    requires here { first ≤ stretches.old.last }
-    requires beyond { stretches.old.last < last }
-    requires room { let W = width_of stretches.old.version in length nodes.old.items
-        + (1 + 2 * parted_sum W (W - len) len (block_number W len first) stretches.old.statements) ≤ 2 ^ 32 }
-    ensures nodes { let W = width_of stretches.old.version in OnOk result
-        (AddsTree W stretches.old.statements stretches.old.default len
-        (block_number W len first) nodes.old.items nodes.new.items) }
-    ensures same { OnOk result (HasSameStatements stretches.old stretches.new) }
-    ensures begun { OnOk result (stretches.new.first ≤ last) }
-    ensures here { OnOk result (last ≤ stretches.new.last) }
+    requires part { IsPart stretches.now part }
+    requires room { HasRoomFor stretches.now part (length nodes.old.items) }
+    ensures { OnOk result (GrowsTree stretches.now part nodes.old.items nodes.new.items) }
 {
+    if part.from == part.to {
+        nodes.push(leaf_of(stretches.label(part.from)))?;
+        return Ok(());
+    }
     let at = nodes.len();
-    let middle = first + (last - first) / 2;
+    let len = part.len + 1;
+    let middle = part.first + (part.last - part.first) / 2;
+    let low_to = stretches.find(part.from, part.to, middle);
+    let high_from = stretches.find(low_to, part.to, middle + 1);
     nodes.push(Node::Inner(0))?;
-    push_block(nodes, stretches, len + 1, first, middle)?;
+    let low = Part {
+        len,
+        last: middle,
+        to: low_to,
+        ..part
+    };
+    push_block(nodes, stretches, low)?;
     let high = nodes.len() as u32;
     set_high(nodes, at, high);
-    stretches.reach(middle + 1)?;
-    push_block(nodes, stretches, len + 1, middle + 1, last)
+    let high = Part {
+        len,
+        first: middle + 1,
+        from: high_from,
+        ..part
+    };
+    push_block(nodes, stretches, high)
 }
 
 // Makes a node that of two halves, of which the higher one has this number.

@@ -1,4 +1,4 @@
-ghost use Rattle.std.specs.Prelude.{◌≡◌, ℕ, ◌+◌, ◌*◌, ◌^◌, ◌<◌, ◌≤◌, ◌++◌, [], Some, All, IfOk, OnOk, length, map, option_map, option_and_then, slice_get};
+ghost use Rattle.std.specs.Prelude.{◌≡◌, ℕ, ◌+◌, ◌*◌, ◌^◌, ◌<◌, ◌≤◌, ◌++◌, [], List, Option, Some, All, IfOk, OnOk, length, map, option_map, option_and_then, slice_get};
 ghost use Rattle.std.specs.Option.{ForSome};
 ghost use Rattle.prefix_keys.specs.Version.{width_of};
 ghost use Rattle.pmap_text.specs.ListModel.{list_label};
@@ -6,14 +6,17 @@ ghost use Rattle.pmap_text.specs.PrefixList.{list_of};
 ghost use Rattle.pmap_text.specs.MapModel.{map_label};
 ghost use Rattle.pmap_text.specs.MapText.{map_of};
 ghost use Rattle.label_trie.specs.Kind.{IsKindOf, IsOfTree};
-ghost use Rattle.label_trie.specs.Layers.{AddsTree};
+ghost use Rattle.pmap_text.specs.Stretches.{AreStretches};
+ghost use Rattle.pmap_text.specs.declared.label.LabelId.{LabelId as LabelNumber};
+ghost use Rattle.pmap_text.specs.declared.statement.Statement.{Statement};
+ghost use Rattle.label_trie.specs.Layers.{AddsTree, HasFewStatements};
 ghost use Rattle.label_trie.specs.Leaf.{model_of};
 ghost use Rattle.label_trie.specs.Nodes.{IsTrie, tree_of};
 ghost use Rattle.label_trie.specs.Tree.{leaves_of};
 ghost use Rattle.label_trie.specs.TrieModel.{IsCut, IsDecidedLeaf, IsSettledLeaf, IsUndivided, label_among, label_in};
 
 use crate::cursor::{Cursor, Parts, cursor_at};
-use crate::growing::push_block;
+use crate::growing::{Part, push_block};
 use crate::kind::Kind;
 use crate::leaf::Leaf;
 use crate::leaves::Leaves;
@@ -63,10 +66,10 @@ impl Trie {
         ensures bounded { IfOk result (λ t. 2 * length t.leaves
             ≤ 2 + 4 * width_of map.now.version * length map.now.statements) }
     {
-        let mut stretches = Stretches::of_map(alloc, map)?;
+        let stretches = Stretches::of_map(alloc, map)?;
         Ok(Trie {
             version: map.version,
-            nodes: grow(alloc, &mut stretches)?,
+            nodes: grow(alloc, &stretches)?,
         })
     }
 
@@ -83,10 +86,10 @@ impl Trie {
             ≤ 2 + 2 * width_of list.now.version * length list.now.entries) }
     {
         let statements = statements_of_list(alloc, list)?;
-        let mut stretches = Stretches::new(alloc, list.version, None, &statements)?;
+        let stretches = Stretches::new(alloc, list.version, None, &list.labels, &statements)?;
         Ok(Trie {
             version: list.version,
-            nodes: grow(alloc, &mut stretches)?,
+            nodes: grow(alloc, &stretches)?,
         })
     }
 
@@ -163,16 +166,21 @@ impl Trie {
     }
 }
 
-// The nodes of the trie of some statements, from a walk that stands at their first stretch.
-fn grow(alloc: Global, stretches: &mut Stretches) -> Result<Vec<Node>, AllocError>
-    requires few { length stretches.old.statements ≤ 1000000 }
-    requires first { stretches.old.first ≡ 0 }
-    ensures { IfOk result (λ nodes. AddsTree (width_of stretches.old.version) stretches.old.statements
-        stretches.old.default 0 0 [] nodes.items) }
+// The nodes of the trie of some statements, from their stretches.
+fn grow(alloc: Global, stretches: &Stretches) -> Result<Vec<Node>, AllocError>
+    requires { HasFewStatements stretches.now }
+    ensures { IfOk result (λ nodes. (ss : List Statement) (default : Option LabelNumber) →
+        AreStretches ss default stretches.now → AddsTree (width_of stretches.now.version) ss default 0 0 [] nodes.items) }
 {
     let mut nodes = Vec::new(alloc);
-    let last = last_address(stretches.version());
-    push_block(&mut nodes, stretches, 0, 0, last)?;
+    let space = Part {
+        len: 0,
+        first: 0,
+        last: last_address(stretches.version()),
+        from: 0,
+        to: stretches.len() - 1,
+    };
+    push_block(&mut nodes, stretches, space)?;
     Ok(nodes)
 }
 

@@ -1,7 +1,22 @@
-use Rattle.label_trie.proofs.Built.{room_at_root}
+use Rattle.label_trie.proofs.Built.{room_at_root, space_part, space_tree}
 use Rattle.label_trie.proofs.trie.grow.Goals as goal
 
+pub push_block-requires-clause-part : goal.push_block-requires-clause-part
+push_block-requires-clause-part c =
+    let version = c.version.ensures in
+    let count = c.len.ensures.value in
+    let end = rw version at c.last_address.ensures in
+    rw count (space_part c.args.stretches.now c.last_address.result c.len.ensures.every end)
+
 pub push_block-requires-clause-room : goal.push_block-requires-clause-room
-push_block-requires-clause-room c =
-    let s = c.args.stretches.now in
-    room_at_root s.version s.statements c.new-nodes.result.items c.new-nodes.ensures.items c.requires.few
+push_block-requires-clause-room c = record {
+  statements = c.requires.statements;
+  default = c.requires.default;
+  are = c.requires.are;
+  room = room_at_root c.args.stretches.now.version c.requires.statements c.new-nodes.result.items c.new-nodes.ensures.items c.requires.few;
+}
+
+pub returns : goal.returns
+returns c =
+    space_tree c.args.stretches.now c.last_address.result c.new-nodes.result.items c.push_block.new.nodes.items c.new-nodes.ensures.items
+    c.in_ok-push_block.ensures

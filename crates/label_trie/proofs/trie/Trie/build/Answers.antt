@@ -7,14 +7,19 @@ use Rattle.label_trie.proofs.Lookup.{labels_fit}
 use Rattle.label_trie.proofs.NodeLeaves.{leaves_settled, leaves_undivided}
 use Rattle.label_trie.proofs.trie.Trie.build.Goals as goal
 
+pub grow-requires : goal.grow-requires
+grow-requires c = record {
+  statements = c.args.map.now.statements;
+  default = Some c.args.map.now.default;
+  are = c.in_ok-stretches.ensures.stretches;
+  few = c.args.map.now.within_limit;
+}
+
 pub invariant_of-result : goal.invariant_of-result
 invariant_of-result c =
     let text = c.args.map.now in
-    let walk = c.in_ok-stretches.ensures in
-    let version = walk.version in
-    let statements = walk.statements in
-    let default = walk.default in
-    let added = rw (version, statements, default) at c.in_ok-grow.ensures in
+    let version = c.in_ok-stretches.ensures.version in
+    let added = rw version at (c.in_ok-grow.ensures text.statements (Some text.default) c.in_ok-stretches.ensures.stretches) in
     let built = grown_trie text.version text.statements (Some text.default) c.in_ok-grow.field-0.items (map_of text) (map_layers text text.statements refl)
     added text.within_limit in
     built.trie
@@ -24,11 +29,8 @@ returns c =
     let text = c.args.map.now in
     let ss = text.statements in
     let nodes = c.in_ok-grow.field-0.items in
-    let walk = c.in_ok-stretches.ensures in
-    let version = walk.version in
-    let statements = walk.statements in
-    let default = walk.default in
-    let added = rw (version, statements, default) at c.in_ok-grow.ensures in
+    let version = c.in_ok-stretches.ensures.version in
+    let added = rw version at (c.in_ok-grow.ensures text.statements (Some text.default) c.in_ok-stretches.ensures.stretches) in
     let layers = map_layers text ss refl in
     let grown = grown_trie text.version ss (Some text.default) nodes (map_of text) layers added text.within_limit in
     let tree = tree_of nodes in

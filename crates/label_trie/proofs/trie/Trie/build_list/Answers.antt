@@ -7,16 +7,13 @@ use Rattle.label_trie.proofs.ListBuilt.{list_bounded, list_decided, list_labels,
 use Rattle.pmap_text.proofs.Painted.{painting}
 use Rattle.label_trie.proofs.trie.Trie.build_list.Goals as goal
 
-pub new-requires : goal.new-requires
-new-requires c =
-    let ready = list_ready c.args.list.now c.args.list.now.entries _ c.in_ok-statements.statements refl refl c.in_ok-statements.ensures.order in
-    ready.layers.version
-
-pub grow-requires-clause-few : goal.grow-requires-clause-few
-grow-requires-clause-few c =
-    let ready = list_ready c.args.list.now c.args.list.now.entries _ c.in_ok-statements.statements refl refl c.in_ok-statements.ensures.order in
-    let statements = c.in_ok-stretches.ensures.statements in
-    rw statements (omega (arith, ready.layers.count, c.requires))
+pub grow-requires : goal.grow-requires
+grow-requires c = record {
+  statements = c.in_ok-statements.statements;
+  default = None;
+  are = c.in_ok-stretches.ensures.stretches;
+  few = omega (arith, c.in_ok-statements.ensures.count, c.requires);
+}
 
 pub invariant_of-result : goal.invariant_of-result
 invariant_of-result c =
@@ -25,11 +22,8 @@ invariant_of-result c =
     let ready = list_ready list list.entries _ ss refl refl c.in_ok-statements.ensures.order in
     let few : length ss ≤ 1000000 = omega (arith, ready.layers.count, c.requires) in
     let m = painting list.version list.labels (map (prefix_of list.labels) ready.sorted) [] in
-    let walk = c.in_ok-stretches.ensures in
-    let version = walk.version in
-    let statements = walk.statements in
-    let default = walk.default in
-    let added = rw (version, statements, default) at c.in_ok-grow.ensures in
+    let version = c.in_ok-stretches.ensures.version in
+    let added = rw version at (c.in_ok-grow.ensures ss None c.in_ok-stretches.ensures.stretches) in
     let built = grown_trie list.version ss None c.in_ok-grow.field-0.items m (ready.layers.layers []) added few in
     built.trie
 
@@ -41,11 +35,8 @@ returns c =
     let ready = list_ready list list.entries _ ss refl refl c.in_ok-statements.ensures.order in
     let few : length ss ≤ 1000000 = omega (arith, ready.layers.count, c.requires) in
     let m = painting list.version list.labels (map (prefix_of list.labels) ready.sorted) [] in
-    let walk = c.in_ok-stretches.ensures in
-    let version = walk.version in
-    let statements = walk.statements in
-    let default = walk.default in
-    let added = rw (version, statements, default) at c.in_ok-grow.ensures in
+    let version = c.in_ok-stretches.ensures.version in
+    let added = rw version at (c.in_ok-grow.ensures ss None c.in_ok-stretches.ensures.stretches) in
     let grown = grown_trie list.version ss None nodes m (ready.layers.layers []) added few in
     let tree = tree_of nodes in
     let seen = list_seen list ready.sorted tree ready.moved ready.up
