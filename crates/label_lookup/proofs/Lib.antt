@@ -1,7 +1,4 @@
 pub mod Scanned
 pub mod Labellings
-pub mod Begun
-pub mod Stretched
-pub mod WalkLabels
-pub mod Gathered
+pub mod Tops
 pub mod Scanning

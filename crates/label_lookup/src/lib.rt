@@ -21,7 +21,6 @@
 #![tactic(auto)]
 
 mod address_labels;
-mod begins;
 mod labeller;
 mod list_index;
 mod list_scan;

@@ -7,7 +7,7 @@ use Rattle.prefix_keys.specs.Version.{width_of}
 use Rattle.prefix_keys.specs.declared.version.Version.{Version}
 use Rattle.pmap_text.specs.MapModel.{Label, Mapping, MapModel, last_such, meets, settled_by}
 use Rattle.pmap_text.specs.MapText.{mapping_of}
-use Rattle.pmap_text.specs.Stretches.{AreStretches, HasStretch, HoldsAddress, StretchesModel, first_at, label_at, label_seen, last_at, mappings_of}
+use Rattle.pmap_text.specs.Stretches.{AreStretches, HasStretch, StretchesModel, first_at, label_at, label_seen, last_at, mappings_of}
 use Rattle.pmap_text.specs.declared.label.LabelId.{LabelId}
 use Rattle.pmap_text.specs.declared.statement.Statement.{Statement}
 use Rattle.label_trie.specs.Layers.{AddsTree, IsBlock, IsMapOf, IsPart, part_number, parted_sum}

@@ -1,0 +1,13 @@
+use Rattle.std.proofs.Common.{◌∙◌}
+use Rattle.pmap_text.specs.ListModel.{list_label}
+use Rattle.pmap_text.specs.PrefixList.{list_of}
+use Rattle.pmap_text.specs.Stretches.{text_held}
+use Rattle.label_lookup.proofs.Labellings.{alike}
+use Rattle.label_lookup.proofs.stretch_index.StretchIndex.of_list.Goals as goal
+
+pub returns : goal.returns
+returns c =
+    let list = c.args.list.now in
+    let version = c.in_ok-stretches.ensures.version in
+    rw version (alike list.version (text_held list.labels c.in_ok-stretches.stretches) (list_label (list_of list))
+    (λ a below. c.in_ok-stretches.ensures.labels a below ∙ c.in_ok-statements.ensures.labels a))

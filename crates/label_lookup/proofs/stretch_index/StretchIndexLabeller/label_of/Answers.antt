@@ -1,0 +1,56 @@
+use Rattle.std.proofs.Common.{◌≡◌, ◌∙◌, ℕ, ◌^◌, ◌<◌, ap, option_and_then, slice_get, sym}
+use Rattle.prefix_keys.specs.Version.{width_of}
+use Rattle.prefix_keys.specs.declared.version.Version.{Version}
+use Rattle.pmap_text.specs.Stretches.{text_held}
+use Rattle.label_lookup.specs.Labelling.{at_addresses}
+use Rattle.label_lookup.specs.StretchIndex.{StretchModel}
+use Rattle.label_lookup.proofs.Tops.{label_found, read_begins, read_below, read_ends, read_order}
+use Rattle.label_lookup.proofs.stretch_index.StretchIndexLabeller.label_of.Goals as goal
+
+-- the address is of the version of the stretches
+same_version : (m inside : StretchModel) (v : Version) → inside ≡ m → v ≡ m.stretches.version → v ≡ inside.stretches.version
+same_version m inside v view same = same ∙ sym (ap (λ (x : StretchModel). x.stretches.version) view)
+
+fits_version : (v w : Version) (a : ℕ) → v ≡ w → a < 2 ^ width_of v → a < 2 ^ width_of w
+fits_version v w a same fits = rw (← same) fits
+
+pub find-index-requires-clause-order : goal.find-index-requires-clause-order
+find-index-requires-clause-order c =
+    let same = same_version c.args.self.now _ c.args.addr.version c.self.view_is c.requires in
+    read_order c.self.inside.stretches c.len-count.ensures.every c.self.inside.tops.items c.self.invariant c.args.addr.value
+    (fits_version _ _ _ same c.args.addr.in_range) c.width.result _ _ (c.width.ensures ∙ ap width_of same) c.index-from.ensures c.index-to.ensures
+
+pub find-index-requires-clause-index : goal.find-index-requires-clause-index
+find-index-requires-clause-index c =
+    let same = same_version c.args.self.now _ c.args.addr.version c.self.view_is c.requires in
+    read_below c.self.inside.stretches c.len-count.ensures.every c.self.inside.tops.items c.self.invariant c.args.addr.value
+    (fits_version _ _ _ same c.args.addr.in_range) c.width.result _ _ (c.width.ensures ∙ ap width_of same) c.index-from.ensures c.index-to.ensures
+
+pub find-index-requires-clause-above : goal.find-index-requires-clause-above
+find-index-requires-clause-above c =
+    let same = same_version c.args.self.now _ c.args.addr.version c.self.view_is c.requires in
+    read_begins c.self.inside.stretches c.len-count.ensures.every c.self.inside.tops.items c.self.invariant c.args.addr.value
+    (fits_version _ _ _ same c.args.addr.in_range) c.width.result _ _ (c.width.ensures ∙ ap width_of same) c.index-from.ensures c.index-to.ensures
+
+pub find-index-requires-clause-below : goal.find-index-requires-clause-below
+find-index-requires-clause-below c =
+    let same = same_version c.args.self.now _ c.args.addr.version c.self.view_is c.requires in
+    read_ends c.self.inside.stretches c.len-count.ensures.every c.self.inside.tops.items c.self.invariant c.args.addr.value
+    (fits_version _ _ _ same c.args.addr.in_range) c.width.result _ _ (c.width.ensures ∙ ap width_of same) c.index-from.ensures c.index-to.ensures
+
+pub returns-in-Some : goal.returns-in-Some
+returns-in-Some c =
+    let m : StretchModel = record { table = c.self.inside.labels.now; stretches = c.self.inside.stretches } in
+    let same = same_version c.args.self.now m c.args.addr.version c.self.view_is c.requires in
+    c.text.ensures.value
+    ∙ ap (option_and_then (λ id. slice_get m.table id.0)) (sym c.in-Some.is ∙ c.label.ensures)
+    ∙ label_found m c.len-count.ensures.every c.args.addr.value c.find-index.result c.find-index.ensures.holds (fits_version _ _ _ same c.args.addr.in_range)
+    ∙ ap (λ (x : StretchModel). at_addresses x.stretches.version (text_held x.table x.stretches) c.args.addr.value) c.self.view_is
+
+pub returns-in-None : goal.returns-in-None
+returns-in-None c =
+    let m : StretchModel = record { table = c.self.inside.labels.now; stretches = c.self.inside.stretches } in
+    let same = same_version c.args.self.now m c.args.addr.version c.self.view_is c.requires in
+    ap (option_and_then (λ id. slice_get m.table id.0)) (sym c.in-None.is ∙ c.label.ensures)
+    ∙ label_found m c.len-count.ensures.every c.args.addr.value c.find-index.result c.find-index.ensures.holds (fits_version _ _ _ same c.args.addr.in_range)
+    ∙ ap (λ (x : StretchModel). at_addresses x.stretches.version (text_held x.table x.stretches) c.args.addr.value) c.self.view_is
