@@ -1,5 +1,5 @@
--- Stretches of a walk, neighbours of one label joined, are the runs of the labels that the statements give.
-use Rattle.std.proofs.Common.{◌≡◌, ◌≢◌, ℕ, ◌+◌, ◌^◌, ◌<◌, ◌≤◌, ◌==◌, ◌⊎◌, inl, inr, true, false, List, [], ◌∷◌, ◌++◌, Option, Some, None, All, refl, sym, ◌∙◌, ap, subst, arith, length, option_and_then, option_map, slice_get, append_assoc}
+-- Stretches, neighbours of one label joined, are the runs of their labels.
+use Rattle.std.proofs.Common.{◌≡◌, ◌≢◌, ℕ, ◌+◌, ◌^◌, ◌<◌, ◌≤◌, ◌==◌, ◌⊎◌, inl, inr, true, false, List, [], ◌∷◌, ◌++◌, Option, Some, None, refl, sym, ◌∙◌, ap, subst, arith, length, option_and_then, option_map, slice_get, append_assoc}
 use Rattle.std.proofs.lemmas.List.{append-nil}
 use Rattle.std.specs.List.{flat_map}
 use Rattle.std.specs.Option.{ForSome}
@@ -7,19 +7,20 @@ use Rattle.std.proofs.lemmas.Bool.{both_ways, cases_lt, eq-eqb}
 use Rattle.std.proofs.lemmas.Grind.{flat_map-append}
 use Rattle.std.proofs.lemmas.List.Folds.{flat_map-map}
 use Rattle.std.proofs.lemmas.Bool.{eqb-true}
+use Rattle.std.proofs.lemmas.Nat.{pow_pos}
 use Rattle.std.proofs.lemmas.Option.{none-some, same_Some}
 use Rattle.prefix_keys.specs.Version.{width_of}
 use Rattle.prefix_keys.specs.declared.version.Version.{Version}
 use Rattle.pmap_text.specs.Label.{IsLabelTable}
 use Rattle.pmap_text.specs.MapModel.{Label}
 use Rattle.pmap_text.specs.MapText.{text_at}
-use Rattle.pmap_text.specs.Stretches.{HasSameStatements, StandsAt, StretchesModel, text_won}
+use Rattle.pmap_text.specs.Stretches.{AreLabelsBelow, HasEveryAddress, StretchesModel, first_at, label_at, last_at, text_held}
 use Rattle.pmap_text.specs.declared.label.LabelId.{LabelId}
 use Rattle.pmap_text.proofs.Orders.{known_text}
-use Rattle.label_lookup.proofs.WalkLabels.{known_label, same_walks, walk_text}
+use Rattle.pmap_text.proofs.Ranges.{last_end, next_first, ordered_at, text_at_index}
 use Rattle.label_trie.specs.Runs.{AreRuns, HasOneLabel}
 use Rattle.pmap_print.specs.Runs.{IsRunsText, run_fields, run_text, run_titles}
-use Rattle.pmap_print.specs.Stretches.{IsPrinted, IsPrintedTo, Numbered, is_same_number, run_of, stretch_view, walk_view}
+use Rattle.pmap_print.specs.Stretches.{IsPrinted, IsPrintedTo, Numbered, is_same_number, run_of, stretch_view, view_at}
 use Rattle.pmap_print.specs.declared.runs.Stretch.{Stretch}
 use Rattle.pmap_print.specs.Table.{Text, line_text}
 
@@ -64,19 +65,6 @@ one-joined f table s t one more follows same =
 number_of_known : (n : ℕ) (label : Option LabelId) → ForSome label (λ id. id.0 < n) → ForSome (option_map (λ id. id.0) label) (λ i. i < n)
 number_of_known n None known = λ i e. absurd (none-some i e)
 number_of_known n (Some id) known = λ i e. subst (λ (j : ℕ). j < n) (same_Some id.0 i e) (known id refl)
-
-pub walk_known : (s : StretchesModel) (table : List Label) → StandsAt s → All (λ r. r.label.0 < length table) s.statements
-    → ForSome s.default (λ id. id.0 < length table) → ForSome (walk_view s).label (λ i. i < length table)
-walk_known s table stands known fallback =
-    let is = stands.label_is in
-    number_of_known (length table) s.label (rw is (known_label table s.statements s.default stands.top known fallback stands.listed))
-
-pub walk_label : (s : StretchesModel) (table : List Label) → StandsAt s → All (λ r. r.label.0 < length table) s.statements
-    → ForSome s.default (λ id. id.0 < length table) → HasOneLabel (text_won table s.default s.statements) (run_of table (walk_view s))
-walk_label s table stands known fallback = record {
-  some = stands.ordered;
-  each = λ a ge le. walk_text s table stands known fallback a ge le;
-}
 
 -- the first stretch
 pub printed_first : (f : ℕ → Option Label) (table : List Label) (v : Version) (end : ℕ) (out : Text) (s : Numbered) → s.low ≡ 0
@@ -126,97 +114,89 @@ printed_last f table v before out new s is text one end title =
           ∙ ap (λ (x : Text). line_text run_titles ++ x) (sym (flat_map-map line_text (run_fields v) runs));
     }
 
--- what is known where a walk over the same statements stands
-record IsKnown (table : List Label) (start next : StretchesModel) : Type 0 where
-  known : ForSome (walk_view next).label (λ i. i < length table)
-  one : HasOneLabel (text_won table start.default start.statements) (run_of table (walk_view next))
+-- the text of a label, by its number
+text_by_number : (table : List Label) (label : Option LabelId)
+    → option_and_then (λ id. slice_get table id.0) label ≡ option_and_then (slice_get table) (option_map (λ id. id.0) label)
+text_by_number table None = refl
+text_by_number table (Some id) = refl
 
-walk_facts : (table : List Label) (start next : StretchesModel) → HasSameStatements start next → StandsAt next
-    → All (λ r. r.label.0 < length table) start.statements → ForSome start.default (λ id. id.0 < length table) → IsKnown table start next
-walk_facts table start next same stands known fallback =
-    let statements = same.statements in
-    let default = same.default in
-    let known' : All (λ r. r.label.0 < length table) next.statements = rw statements at known in
-    let fallback' : ForSome next.default (λ id. id.0 < length table) = rw default at fallback in
-    record {
-      known = walk_known next table stands known' fallback';
-      one = rw (statements, default) (walk_label next table stands known' fallback');
-    }
+module _ (table : List Label) (s : StretchesModel) (every : HasEveryAddress s) (known : AreLabelsBelow (length table) s) where
+  view_known : (i : ℕ) → i < length s.firsts → ForSome (view_at s i).label (λ j. j < length table)
+  view_known i within = number_of_known (length table) (label_at s i) (known i None (omega (arith, within, every.paired)))
 
-pub run_begins : (table : List Label) (start : StretchesModel) (out : Text) (s : Stretch) → StandsAt start → stretch_view s ≡ walk_view start
-    → s.low.version ≡ start.version → s.high.version ≡ start.version → start.first ≡ 0
-    → All (λ r. r.label.0 < length table) start.statements → ForSome start.default (λ id. id.0 < length table)
-    → IsPrintedTo table start start out out s
-run_begins table start out s stands view low high first known fallback =
-    let facts = walk_facts table start start (record { version = refl; default = refl; statements = refl }) stands known fallback in
-    record {
-      same = record { version = refl; default = refl; statements = refl };
-      stands = stands;
-      low_version = low;
-      high_version = high;
-      last = ap (λ (n : Numbered). n.high) view;
-      known = subst (λ (n : Numbered). ForSome n.label (λ i. i < length table)) (sym view) facts.known;
-      one = subst (λ (n : Numbered). HasOneLabel (text_won table start.default start.statements) (run_of table n)) (sym view) facts.one;
-      printed = printed_first (text_won table start.default start.statements) table start.version (2 ^ width_of start.version) out (stretch_view s)
-          (ap (λ (n : Numbered). n.low) view ∙ first);
-    }
+  view_one : (i : ℕ) → i < length s.firsts → HasOneLabel (text_held table s) (run_of table (view_at s i))
+  view_one i within = record {
+    some = ordered_at s every i within;
+    each = λ a ge le. text_at_index s every table a i (record { index = within; from = ge; to = le }) ∙ text_by_number table (label_at s i);
+  }
 
--- the walk goes on to a stretch of the same label
-pub run_goes_on : (table : List Label) (start now next : StretchesModel) (before out : Text) (s t : Stretch) → IsPrintedTo table start now before out s
-    → HasSameStatements now next → StandsAt next → next.first ≡ now.last + 1 → stretch_view t ≡ walk_view next → t.high.version ≡ next.version
-    → All (λ r. r.label.0 < length table) start.statements → ForSome start.default (λ id. id.0 < length table)
-    → is_same_number (stretch_view s).label (stretch_view t).label ≡ true → IsPrintedTo table start next before out (record s { high = t.high })
-run_goes_on table start now next before out s t is more stands first view high known fallback e =
-    let f = text_won table start.default start.statements in
-    let same = same_walks start now next is.same more in
-    let facts = walk_facts table start next same stands known fallback in
-    let last = is.last in
-    let low : t.low.value ≡ s.high.value + 1 = ap (λ (n : Numbered). n.low) view ∙ first ∙ ap (λ (k : ℕ). k + 1) (sym last) in
-    record {
-      same = same;
-      stands = stands;
+  -- what is known of a stretch that has the same addresses and the same label
+  module _ (i : ℕ) (within : i < length s.firsts) (run : Stretch) (view : stretch_view run ≡ view_at s i) where
+    run_known : ForSome (stretch_view run).label (λ j. j < length table)
+    run_known = subst (λ (n : Numbered). ForSome n.label (λ j. j < length table)) (sym view) (view_known i within)
+
+    run_one : HasOneLabel (text_held table s) (run_of table (stretch_view run))
+    run_one = subst (λ (n : Numbered). HasOneLabel (text_held table s) (run_of table n)) (sym view) (view_one i within)
+
+    high : run.high.value ≡ last_at s i
+    high = ap (λ (n : Numbered). n.high) view
+
+    run_next : i + 1 < length s.firsts → first_at s (i + 1) ≡ run.high.value + 1
+    run_next more = omega (arith, next_first s every i more, high)
+
+    run_end : length s.firsts ≤ i + 1 → run.high.value + 1 ≡ 2 ^ width_of s.version
+    run_end end = omega (arith, last_end s i end, high, pow_pos (width_of s.version))
+
+  pub run_begins : (out : Text) (run : Stretch) → stretch_view run ≡ view_at s 0 → run.low.version ≡ s.version → run.high.version ≡ s.version
+      → IsPrintedTo table s 1 out out run
+  run_begins out run view low high_version = record {
+    low_version = low;
+    high_version = high_version;
+    next = run_next 0 every.some run view;
+    end = run_end 0 every.some run view;
+    known = run_known 0 every.some run view;
+    one = run_one 0 every.some run view;
+    printed = printed_first (text_held table s) table s.version (2 ^ width_of s.version) out (stretch_view run)
+        (ap (λ (n : Numbered). n.low) view ∙ every.zero);
+  }
+
+  module _ (i : ℕ) (within : i < length s.firsts) (before out : Text) (run next : Stretch) (is : IsPrintedTo table s i before out run)
+      (view : stretch_view next ≡ view_at s i) (high_version : next.high.version ≡ s.version) where
+    low : next.low.value ≡ run.high.value + 1
+    low = ap (λ (n : Numbered). n.low) view ∙ is.next within
+
+    -- the next stretch has the same label
+    pub run_goes_on : is_same_number (stretch_view run).label (stretch_view next).label ≡ true → IsPrintedTo table s (i + 1) before out (record run { high = next.high })
+    run_goes_on e = record {
       low_version = is.low_version;
-      high_version = high ∙ sym same.version;
-      last = ap (λ (n : Numbered). n.high) view;
+      high_version = high_version;
+      next = run_next i within next view;
+      end = run_end i within next view;
       known = is.known;
-      one = one-joined f table (stretch_view s) (stretch_view t) is.one (subst (λ (n : Numbered). HasOneLabel f (run_of table n)) (sym view) facts.one) low (same-number (stretch_view s).label (stretch_view t).label e);
-      printed = printed_joined f table start.version (2 ^ width_of start.version) t.high.value before out (stretch_view s) is.printed;
+      one = one-joined (text_held table s) table (stretch_view run) (stretch_view next) is.one (run_one i within next view) low
+          (same-number (stretch_view run).label (stretch_view next).label e);
+      printed = printed_joined (text_held table s) table s.version (2 ^ width_of s.version) next.high.value before out (stretch_view run) is.printed;
     }
 
--- or to one of another label, where the run so far is printed
-pub run_ends : (table : List Label) → IsLabelTable table → (start now next : StretchesModel) (before out new : Text) (s t : Stretch)
-    → IsPrintedTo table start now before out s
-    → HasSameStatements now next → StandsAt next → next.first ≡ now.last + 1 → stretch_view t ≡ walk_view next → t.low.version ≡ next.version
-    → t.high.version ≡ next.version → All (λ r. r.label.0 < length table) start.statements → ForSome start.default (λ id. id.0 < length table)
-    → is_same_number (stretch_view s).label (stretch_view t).label ≡ false → new ≡ out ++ run_text s.low.version (run_of table (stretch_view s))
-    → IsPrintedTo table start next before new t
-run_ends table distinct start now next before out new s t is more stands first view low_is high_is known fallback e text =
-    let f = text_won table start.default start.statements in
-    let same = same_walks start now next is.same more in
-    let facts = walk_facts table start next same stands known fallback in
-    let last = is.last in
-    let known' : ForSome (stretch_view t).label (λ i. i < length table) = subst (λ (n : Numbered). ForSome n.label (λ i. i < length table)) (sym view) facts.known in
-    let low : t.low.value ≡ s.high.value + 1 = ap (λ (n : Numbered). n.low) view ∙ first ∙ ap (λ (k : ℕ). k + 1) (sym last) in
-    let text' = text ∙ ap (λ (v : Version). out ++ run_text v (run_of table (stretch_view s))) is.low_version in
-    record {
-      same = same;
-      stands = stands;
-      low_version = low_is ∙ sym same.version;
-      high_version = high_is ∙ sym same.version;
-      last = ap (λ (n : Numbered). n.high) view;
-      known = known';
-      one = subst (λ (n : Numbered). HasOneLabel f (run_of table n)) (sym view) facts.one;
-      printed = printed_more f table start.version (2 ^ width_of start.version) before out new (stretch_view s) (stretch_view t) is.printed text' is.one low
-          (other-label table distinct (stretch_view s).label (stretch_view t).label is.known known' e);
+    -- or another label, and the run so far is printed
+    pub run_ends : (new : Text) → IsLabelTable table → next.low.version ≡ s.version → is_same_number (stretch_view run).label (stretch_view next).label ≡ false
+        → new ≡ out ++ run_text run.low.version (run_of table (stretch_view run)) → IsPrintedTo table s (i + 1) before new next
+    run_ends new distinct low_version e text = record {
+      low_version = low_version;
+      high_version = high_version;
+      next = run_next i within next view;
+      end = run_end i within next view;
+      known = run_known i within next view;
+      one = run_one i within next view;
+      printed = printed_more (text_held table s) table s.version (2 ^ width_of s.version) before out new (stretch_view run) (stretch_view next) is.printed
+          (text ∙ ap (λ (v : Version). out ++ run_text v (run_of table (stretch_view run))) is.low_version) is.one low
+          (other-label table distinct (stretch_view run).label (stretch_view next).label is.known (run_known i within next view) e);
     }
 
--- the last run is printed
-pub runs_end : (table : List Label) (start now : StretchesModel) (before out new : Text) (s : Stretch) → IsPrintedTo table start now before out s
-    → now.last + 1 ≡ 2 ^ width_of now.version → before ≡ line_text run_titles → new ≡ out ++ run_text s.low.version (run_of table (stretch_view s))
-    → IsRunsText start.version (text_won table start.default start.statements) new
-runs_end table start now before out new s is end title text =
-    let version = is.same.version in
-    let last = is.last in
-    let text' = text ∙ ap (λ (v : Version). out ++ run_text v (run_of table (stretch_view s))) is.low_version in
-    printed_last (text_won table start.default start.statements) table start.version before out new (stretch_view s) is.printed text' is.one
-    (rw (last, version) end) title
+  -- the last run is printed
+  pub runs_end : (count : ℕ) (before out new : Text) (run : Stretch) → IsPrintedTo table s count before out run → length s.firsts ≤ count
+      → before ≡ line_text run_titles → new ≡ out ++ run_text run.low.version (run_of table (stretch_view run))
+      → IsRunsText s.version (text_held table s) new
+  runs_end count before out new run is end title text =
+      printed_last (text_held table s) table s.version before out new (stretch_view run) is.printed
+      (text ∙ ap (λ (v : Version). out ++ run_text v (run_of table (stretch_view run))) is.low_version) is.one (is.end end) title

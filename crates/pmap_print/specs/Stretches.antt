@@ -1,11 +1,11 @@
 -- How the runs of stretches come about, one stretch after the other.
-use Rattle.std.specs.Prelude.{◌≡◌, ℕ, ◌^◌, ◌<◌, ◌==◌, Bool, true, false, List, ◌∷◌, ◌++◌, Option, Some, None, option_and_then, length, option_map, slice_get}
+use Rattle.std.specs.Prelude.{◌≡◌, ℕ, ◌+◌, ◌^◌, ◌<◌, ◌≤◌, ◌==◌, Bool, true, false, List, ◌∷◌, ◌++◌, Option, Some, None, option_and_then, length, option_map, slice_get}
 use Rattle.std.specs.List.{flat_map}
 use Rattle.std.specs.Option.{ForSome}
 use Rattle.prefix_keys.specs.Version.{width_of}
 use Rattle.prefix_keys.specs.declared.version.Version.{Version}
 use Rattle.pmap_text.specs.MapModel.{Label}
-use Rattle.pmap_text.specs.Stretches.{HasSameStatements, StandsAt, StretchesModel, text_won}
+use Rattle.pmap_text.specs.Stretches.{StretchesModel, first_at, label_at, last_at, text_held}
 use Rattle.label_trie.specs.Runs.{AreRuns, HasOneLabel, Run}
 use Rattle.pmap_print.specs.Runs.{run_text}
 use Rattle.pmap_print.specs.Table.{Text}
@@ -17,12 +17,12 @@ pub record Numbered : Type 0 where
   pub high : ℕ
   pub label : Option ℕ
 
--- a stretch, and that at which a walk stands, as that
+-- a stretch, and that with an index, as that
 abbrev pub stretch_view : Stretch → Numbered
 stretch_view s = record { low = s.low.value; high = s.high.value; label = option_map (λ id. id.0) s.label }
 
-abbrev pub walk_view : StretchesModel → Numbered
-walk_view s = record { low = s.first; high = s.last; label = option_map (λ id. id.0) s.label }
+abbrev pub view_at : StretchesModel → ℕ → Numbered
+view_at s i = record { low = first_at s i; high = last_at s i; label = option_map (λ id. id.0) (label_at s i) }
 
 -- both have this number, or neither has one
 abbrev pub is_same_number : Option ℕ → Option ℕ → Bool
@@ -43,15 +43,12 @@ pub record IsPrinted (label_of : ℕ → Option Label) (table : List Label) (ver
   pub goes_on : (high : ℕ) (rest : List Run) → AreRuns label_of s.low end (run_of table (record s { high = high }) ∷ rest)
       → AreRuns label_of 0 end (runs ++ run_of table (record s { high = high }) ∷ rest)
 
--- The runs of a walk from `start` on are printed as far as the stretch, which has the address where the walk stands now, and
--- that last.
-pub record IsPrintedTo (table : List Label) (start now : StretchesModel) (before out : Text) (s : Stretch) : Type 0 where
-  pub same : HasSameStatements start now
-  pub stands : StandsAt now
-  pub low_version : s.low.version ≡ start.version
-  pub high_version : s.high.version ≡ start.version
-  pub last : s.high.value ≡ now.last
-  pub known : ForSome (stretch_view s).label (λ i. i < length table)
-  pub one : HasOneLabel (text_won table start.default start.statements) (run_of table (stretch_view s))
-  pub printed : IsPrinted (text_won table start.default start.statements) table start.version (2 ^ width_of start.version)
-      before out (stretch_view s)
+-- The runs of so many stretches are printed, but for the last run, which goes on to where the next stretch begins.
+pub record IsPrintedTo (table : List Label) (s : StretchesModel) (count : ℕ) (before out : Text) (run : Stretch) : Type 0 where
+  pub low_version : run.low.version ≡ s.version
+  pub high_version : run.high.version ≡ s.version
+  pub next : count < length s.firsts → first_at s count ≡ run.high.value + 1
+  pub end : length s.firsts ≤ count → run.high.value + 1 ≡ 2 ^ width_of s.version
+  pub known : ForSome (stretch_view run).label (λ i. i < length table)
+  pub one : HasOneLabel (text_held table s) (run_of table (stretch_view run))
+  pub printed : IsPrinted (text_held table s) table s.version (2 ^ width_of s.version) before out (stretch_view run)

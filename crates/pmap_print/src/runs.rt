@@ -1,10 +1,7 @@
-ghost use Rattle.std.specs.Prelude.{◌≡◌, ◌+◌, ◌^◌, ◌<◌, ◌++◌, [], ◌∷◌, All, IfOk, OnOk, length, option_map};
-ghost use Rattle.std.specs.Option.{ForSome};
-ghost use Rattle.prefix_keys.specs.Version.{width_of};
-ghost use Rattle.pmap_text.specs.Stretches.{StandsAt, text_won};
-ghost use Rattle.label_trie.specs.Runs.{HasOneLabel};
+ghost use Rattle.std.specs.Prelude.{◌≡◌, ◌<◌, ◌++◌, IfOk, OnOk, length, option_map};
+ghost use Rattle.pmap_text.specs.Stretches.{AreLabelsBelow, HasEveryAddress, text_held};
 ghost use Rattle.pmap_print.specs.Runs.{IsRunsText, run_text, run_titles};
-ghost use Rattle.pmap_print.specs.Stretches.{IsPrinted, is_same_number, run_of, stretch_view, walk_view};
+ghost use Rattle.pmap_print.specs.Stretches.{is_same_number, run_of, stretch_view, view_at};
 ghost use Rattle.pmap_print.specs.Table.{line_text};
 
 use pmap_text::{LabelId, Labels, Stretches};
@@ -19,26 +16,27 @@ struct Stretch {
     label: Option<LabelId>,
 }
 
-// The stretch at which a walk stands.
-fn here(stretches: &Stretches) -> Stretch
+// The stretch with the index.
+fn stretch_at(stretches: &Stretches, index: usize) -> Stretch
+    requires { index < length stretches.now.firsts }
     ensures low { result.low.version ≡ stretches.now.version }
     ensures high { result.high.version ≡ stretches.now.version }
-    ensures view { stretch_view result ≡ walk_view stretches.now }
-    ensures stretch { StandsAt stretches.now }
+    ensures view { stretch_view result ≡ view_at stretches.now index }
+    ensures every { HasEveryAddress stretches.now }
 {
+    // For its law: the stretches have the addresses of the version.
+    let _count = stretches.len();
     let version = stretches.version();
-    let low = stretches.first();
-    let high = stretches.last();
     Stretch {
         low: Addr {
             version,
-            value: low,
+            value: stretches.first(index),
         },
         high: Addr {
             version,
-            value: high,
+            value: stretches.last(index),
         },
-        label: stretches.label(),
+        label: stretches.label(index),
     }
 }
 
@@ -71,26 +69,18 @@ fn print_stretch(out: &mut Vec<u8>, stretch: &Stretch, labels: &Labels) -> Resul
     Ok(())
 }
 
-// Appends the lines of the runs of a walk that stands at its first stretch, behind the title.
-fn push_runs(
-    out: &mut Vec<u8>,
-    stretches: &mut Stretches,
-    labels: &Labels,
-) -> Result<(), AllocError>
+// Appends the lines of the runs of the stretches, after the titles.
+fn push_runs(out: &mut Vec<u8>, stretches: &Stretches, labels: &Labels) -> Result<(), AllocError>
     requires title { out.old.items ≡ line_text run_titles }
-    requires first { stretches.old.first ≡ 0 }
-    requires known { All (λ s. s.label.0 < length labels.now) stretches.old.statements }
-    requires default { ForSome stretches.old.default (λ id. id.0 < length labels.now) }
-    ensures { OnOk result (IsRunsText stretches.old.version
-        (text_won labels.now stretches.old.default stretches.old.statements) out.new.items) }
+    requires known { AreLabelsBelow (length labels.now) stretches.now }
+    ensures { OnOk result (IsRunsText stretches.now.version (text_held labels.now stretches.now) out.new.items) }
 {
     // For its law: no two texts of the table are equal.
     let _count = labels.len();
-    let mut stretch = here(stretches);
-    while !stretches.is_at_end() {
-        let next = stretches.last() + 1;
-        stretches.reach(next)?;
-        let next = here(stretches);
+    let count = stretches.len();
+    let mut stretch = stretch_at(stretches, 0);
+    for index in 1..count {
+        let next = stretch_at(stretches, index);
         if is_same(stretch.label, next.label) {
             stretch.high = next.high;
         } else {
@@ -101,18 +91,15 @@ fn push_runs(
     print_stretch(out, &stretch, labels)
 }
 
-/// The text of the runs of a walk over stretches, which stands at the first one: a title, and a line for each maximal
-/// range of consecutive addresses that have one label or have none, with its first and its last address and the label.
+/// The text of the runs of stretches: the titles, and a line for each maximal range of consecutive addresses that have
+/// one label or have none, with its first and its last address and the label.
 pub fn print_runs(
     alloc: Global,
-    stretches: &mut Stretches,
+    stretches: &Stretches,
     labels: &Labels,
 ) -> Result<Vec<u8>, AllocError>
-    requires first { stretches.old.first ≡ 0 }
-    requires known { All (λ s. s.label.0 < length labels.now) stretches.old.statements }
-    requires default { ForSome stretches.old.default (λ id. id.0 < length labels.now) }
-    ensures { IfOk result (λ out. IsRunsText stretches.old.version
-        (text_won labels.now stretches.old.default stretches.old.statements) out.items) }
+    requires { AreLabelsBelow (length labels.now) stretches.now }
+    ensures { IfOk result (λ out. IsRunsText stretches.now.version (text_held labels.now stretches.now) out.items) }
 {
     let mut out = Vec::new(alloc);
     out.extend_from_slice(b"low|high|label\n")?;
