@@ -17,8 +17,8 @@ fn runs_of_map(alloc: Global, map: &MapText) -> Result<Vec<u8>, AllocError>
 {
     // For its law: labellings that agree on each address have one text of their runs.
     labelling_has_one_runs_text();
-    let mut stretches = Stretches::of_map(alloc, map)?;
-    print_runs(alloc, &mut stretches, &map.labels)
+    let stretches = Stretches::of_map(alloc, map)?;
+    print_runs(alloc, &stretches, &map.labels)
 }
 
 // The text of the runs of a prefix list.
@@ -28,8 +28,8 @@ fn runs_of_list(alloc: Global, list: &PrefixList) -> Result<Vec<u8>, AllocError>
     // For its law, as above.
     labelling_has_one_runs_text();
     let statements = statements_of_list(alloc, list)?;
-    let mut stretches = Stretches::new(alloc, list.version, None, &statements)?;
-    print_runs(alloc, &mut stretches, &list.labels)
+    let stretches = Stretches::new(alloc, list.version, None, &list.labels, &statements)?;
+    print_runs(alloc, &stretches, &list.labels)
 }
 
 /// The text of the runs of the labels of a map or a list.
