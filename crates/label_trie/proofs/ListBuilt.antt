@@ -1,7 +1,7 @@
 -- The trie of a prefix list's statements.
 use Rattle.std.proofs.Common.{◌≡◌, ℕ, suc, ◌+◌, ◌*◌, ◌^◌, ◌<◌, ◌≤◌, List, None, option_and_then, map, length, refl, sym, ap, ◌∙◌, arith, All, slice_get}
 use Rattle.std.specs.List.{AllZip}
-use Rattle.std.specs.List.Sorted.{IsNonDecreasingBy, IsPermutation}
+use Rattle.std.specs.List.Sorted.{IsPermutation}
 use Rattle.std.proofs.lemmas.List.Elements.{All-weaker}
 use Rattle.std.proofs.lemmas.List.Sorted.{All-permutation, IsPermutation-map, IsPermutation-sym, length_permutation}
 use Rattle.std.proofs.lemmas.Option.{none-some}
@@ -13,7 +13,7 @@ use Rattle.pmap_text.specs.PrefixList.{list_of, prefix_of}
 use Rattle.pmap_text.specs.declared.entry.Entry.{Entry}
 use Rattle.pmap_text.specs.declared.prefix_list.PrefixList.{PrefixList}
 use Rattle.pmap_text.specs.declared.statement.Statement.{Statement}
-use Rattle.pmap_text.specs.Painting.{AreShortestFirst, HasStatement}
+use Rattle.pmap_text.specs.ListStatements.{AreShortestFirst, HasStatement, LongerLater}
 use Rattle.label_trie.specs.Layers.{IsMapOf, parted_count, parted_sum}
 use Rattle.label_trie.specs.Nodes.{tree_of}
 use Rattle.label_trie.specs.Tree.{Tree, Fits, HasRoom, leaves_of}
@@ -59,7 +59,7 @@ list_layers l sorted ss moved each =
 
 -- what is seen at each leaf
 pub list_seen : (l : PrefixList) (sorted : List Entry) (root : Tree) → IsPermutation l.entries sorted
-    → IsNonDecreasingBy (λ e. e.block.len) sorted
+    → LongerLater sorted
     → ((fallback : Label) → Fits (painting l.version l.labels (map (prefix_of l.labels) sorted) fallback) root 0 0)
     → All (IsSeenLeaf (width_of l.version) l.labels (map (prefix_of l.labels) l.entries)) (leaves_of root 0 0)
 list_seen l sorted root moved up f =
@@ -67,9 +67,10 @@ list_seen l sorted root moved up f =
     let ps = map (prefix_of l.labels) l.entries in
     let rs = map (prefix_of l.labels) sorted in
     let back = IsPermutation-map (prefix_of l.labels) sorted l.entries (IsPermutation-sym l.entries sorted moved) in
+    let versions = All-permutation (λ (e : Entry). e.block.version ≡ l.version) l.entries sorted moved l.one_version in
     All-weaker (IsSeenLeaf W l.labels rs) (IsSeenLeaf W l.labels ps)
     (λ leaf g. seen_permuted W l.labels rs ps back leaf.bits leaf.number leaf.label g)
-    (leaves_of root 0 0) (leaves_seen l.version l.labels rs root 0 0 (rising (prefix_of l.labels) sorted up) f)
+    (leaves_of root 0 0) (leaves_seen l.version l.labels rs root 0 0 (rising l.version l.labels sorted versions up) f)
 
 -- so each leaf is decided by the list, and each address has its label
 pub list_decided : (l : PrefixList) (root : Tree)
@@ -102,7 +103,7 @@ list_bounded l sorted ss nodes layers grown =
 pub record IsReady (l : PrefixList) (ss : List Statement) : Type 0 where
   pub sorted : List Entry
   pub moved : IsPermutation l.entries sorted
-  pub up : IsNonDecreasingBy (λ e. e.block.len) sorted
+  pub up : LongerLater sorted
   pub layers : AreListLayers l sorted ss
 
 pub list_ready : (l : PrefixList) (entries : List Entry) (items ss : List Statement) → entries ≡ l.entries → ss ≡ items
@@ -112,6 +113,6 @@ list_ready l entries items ss same given first =
     record {
       sorted = first.sorted;
       moved = moved;
-      up = first.rising;
+      up = first.later;
       layers = rw given (list_layers l first.sorted items moved first.each);
     }

@@ -14,7 +14,7 @@ use Rattle.label_trie.specs.TrieModel.{LeafModel, IsDecidedLeaf}
 use Rattle.label_trie.specs.Tree.{Tree, Tip, Fork, leaves_of, Settles, Fits}
 
 -- the label that settles a block of each such painting is seen there
-seen : (version : Version) (table : List Label) (ps : List Prefix) (label : Option LabelId) (n q : ℕ) → IsRising ps
+seen : (version : Version) (table : List Label) (ps : List Prefix) (label : Option LabelId) (n q : ℕ) → IsRising (width_of version) ps
     → ((fallback : Label) → Settles (painting version table ps fallback) label n q)
     → IsSeen (width_of version) table ps n q (option_map (λ id. id.0) label)
 seen version table ps None n q up f = unmet (width_of version) n q ps (f [])
@@ -27,7 +27,7 @@ seen version table ps (Some id) n q up f =
 abbrev pub IsSeenLeaf : ℕ → List Label → List Prefix → LeafModel → Type 0
 IsSeenLeaf W table ps leaf = IsSeen W table ps leaf.bits leaf.number leaf.label
 
-pub leaves_seen : (version : Version) (table : List Label) (ps : List Prefix) (node : Tree) (n q : ℕ) → IsRising ps
+pub leaves_seen : (version : Version) (table : List Label) (ps : List Prefix) (node : Tree) (n q : ℕ) → IsRising (width_of version) ps
     → ((fallback : Label) → Fits (painting version table ps fallback) node n q)
     → All (IsSeenLeaf (width_of version) table ps) (leaves_of node n q)
 leaves_seen version table ps (Tip label) n q up f =

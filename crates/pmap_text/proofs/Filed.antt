@@ -1,20 +1,20 @@
 -- Lemmas on lists without repetition, and on how the blocks of entries are told apart.
 use Rattle.std.proofs.Common.{◌≡◌, ℕ, ◌+◌, ◌<◌, Bool, true, false, cond, ◌&&◌, ◌||◌, ◌==◌, List, [], ◌∷◌, ◌++◌, get_or, length, map, refl, sym, subst, ap, ap₂, ◌∙◌, arith}
-use Rattle.std.proofs.lemmas.Bool.{eqb-true, ltb-true}
+use Rattle.std.proofs.lemmas.Bool.{and_parts, eqb-true, false_from_ne_true, ltb-true}
 use Rattle.std.proofs.lemmas.Cmp.{and_equiv, eq_by_cmp_equiv, nat_cmp_total, nat_eq_equiv, on_equiv, on_total, then_total}
 use Rattle.std.proofs.lemmas.List.Folds.{list_any-append}
 use Rattle.std.proofs.lemmas.List.{get_or-map, length-map}
-use Rattle.std.proofs.lemmas.List.Sorted.{IsPermutation-refl, IsPermutation-sym}
-use Rattle.std.proofs.lemmas.Map.Keys.{IsDistinct-IsPermutation, IsDistinct-from_sorted, IsDistinct-push, sorted_from_all_adjacent}
+use Rattle.std.proofs.lemmas.List.Sorted.{IsNonDecreasingBy-from_all_adjacent, IsPermutation-refl, IsPermutation-sym}
+use Rattle.std.proofs.lemmas.Map.Keys.{IsDistinct-IsPermutation, IsDistinct-from_apart, IsDistinct-from_sorted, IsDistinct-push, sorted_from_all_adjacent}
 use Rattle.std.specs.Cmp.{IsEquivalence, IsTotalOrder}
-use Rattle.std.specs.List.{list_any, AllByRecursion, IsDistinct}
+use Rattle.std.specs.List.{list_any, AllAdjacentBelow, AllByRecursion, IsDistinct}
 use Rattle.std.specs.List.Sorted.{IsPermutation}
 use Rattle.std.specs.Ordering.{eq_by_cmp, is_eq, nat_cmp, ordering_then}
 use Rattle.std.specs.Prelude.{nat_lt}
 use Rattle.std.specs.declared.cmp.Ordering.{Ordering}
 use Rattle.std.specs.declared.cmp.Ordering.TheVariants.{Equal, Greater, Less}
 use Rattle.pmap_text.specs.Filed.{AreFiled, AreRising, HasOncePlaced, key_cmp, same_place}
-use Rattle.pmap_text.specs.ListEntries.{HasDistinctBlocks}
+use Rattle.pmap_text.specs.ListEntries.{HasDistinctBlocks, rank_of, same_block}
 use Rattle.pmap_text.specs.ListModel.{Prefix}
 use Rattle.pmap_text.specs.Reading.{has_prefix}
 use Rattle.pmap_text.specs.declared.entry.Entry.{Entry}
@@ -140,6 +140,20 @@ distinct-rising entries keys sorted e moved rising =
     subst (λ same. IsDistinct same entries)
     (λ i d r. (is_eq-pair d.block.value d.block.len (r.block.value, r.block.len)
     ∙ ap₂ ◌&&◌ (nat_eq_equiv.symm r.block.value d.block.value) (nat_eq_equiv.symm r.block.len d.block.len)) i) apart
+
+-- entries that rise have distinct blocks
+rank_apart : (d e : Entry) → rank_of d < rank_of e → same_block d e ≡ false
+rank_apart d e less =
+    false_from_ne_true (same_block d e)
+    (λ h. let parts = and_parts (d.block.value == e.block.value) (d.block.len == e.block.len) h in
+    omega (arith, less, eqb-true d.block.value e.block.value parts.0, eqb-true d.block.len e.block.len parts.1))
+
+pub distinct_rising : (es : List Entry) → AllAdjacentBelow (λ d e. rank_of d < rank_of e) es (length es) → HasDistinctBlocks es
+distinct_rising es adjacent =
+    let up = IsNonDecreasingBy-from_all_adjacent rank_of es (λ k d within. omega (arith, adjacent k d within)) in
+    IsDistinct-from_apart same_block es
+    (λ i j d under within. rank_apart (get_or es i d) (get_or es j d)
+    (omega (arith, adjacent i d (omega (arith, under, within)), up (i + 1) j d (omega (arith, under)) within)))
 
 -- entries whose starts and lengths rise as they stand
 rising_from : (entries : List Entry) (d : Entry) →

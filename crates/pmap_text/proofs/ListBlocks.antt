@@ -1,17 +1,20 @@
 -- The blocks of a prefix list's entries have no host bits and are distinct, so no two of its prefixes have one block.
-use Rattle.std.proofs.Common.{◌≡◌, ℕ, ◌-◌, ◌*◌, ◌%◌, ◌^◌, ◌≤◌, ◌==◌, List, false, true, get_or, arith, sym, ap, ◌∙◌}
-use Rattle.std.proofs.lemmas.Bool.{and_from, and_parts, both_ways, eq-eqb, eqb-true, false_from_ne_true}
+use Rattle.std.proofs.Common.{◌≡◌, ℕ, ◌-◌, ◌*◌, ◌%◌, ◌^◌, ◌≤◌, ◌==◌, inl, inr, List, false, true, get_or, arith, sym, ap, ◌∙◌, subst}
+use Rattle.std.specs.List.Sorted.{IsNonDecreasingBy}
+use Rattle.std.proofs.lemmas.Bool.{and_from, and_parts, both_ways, cases_lt, eq-eqb, eqb-true, false_from_ne_true}
 use Rattle.std.proofs.lemmas.Map.Keys.{IsDistinct-from_apart, apart_from_distinct}
 use Rattle.std.proofs.lemmas.Nat.{pow_pos}
 use Rattle.prefix_keys.specs.Block.{block_number}
 use Rattle.prefix_keys.specs.Version.{width_of}
 use Rattle.prefix_keys.specs.declared.version.Version.{Version}
 use Rattle.prefix_keys.proofs.Quotients.{whole}
-use Rattle.pmap_text.specs.ListEntries.{same_block}
+use Rattle.pmap_text.specs.ListEntries.{rank_of, same_block}
+use Rattle.pmap_text.specs.ListStatements.{LongerLater}
 use Rattle.pmap_text.specs.LongestMatch.{HasDistinctPrefixes, is_same_prefix}
 use Rattle.pmap_text.specs.PrefixList.{list_of, prefix_of}
 use Rattle.pmap_text.specs.declared.entry.Entry.{Entry}
 use Rattle.pmap_text.specs.declared.prefix_list.PrefixList.{PrefixList}
+use Rattle.pmap_text.proofs.Blocks.{address-first, block_number-shorter}
 use Rattle.pmap_text.proofs.Filed.{distinct_to_map}
 
 -- a block begins at its number
@@ -24,6 +27,22 @@ block_start v e same =
 
 pub block_short : (v : Version) (e : Entry) → e.block.version ≡ v → e.block.len ≤ width_of v
 block_short v e same = rw (← same) e.block.len_in_range
+
+-- of two blocks in order that have a common address the second is no shorter
+pub longer_later : (es : List Entry) → IsNonDecreasingBy rank_of es → LongerLater es
+longer_later es rising i j d le below a version first second =
+    let e = get_or es i d in
+    let f = get_or es j d in
+    let W = width_of e.block.version in
+    elim (cases_lt f.block.len e.block.len) [
+      | inl shorter ↦
+          let there = subst (λ (v : Version). block_number (width_of v) f.block.len a ≡ block_number (width_of v) f.block.len f.block.value) (sym version) second in
+          let number = block_number-shorter W f.block.len e.block.len e.block.value a (omega (arith, shorter)) e.block.len_in_range (sym first) ∙ there in
+          let start = block_start e.block.version f (sym version) in
+          let begins = address-first W f.block.len (block_number W f.block.len f.block.value) e.block.value number in
+          absurd (omega (arith, start, begins, rising i j d le below, shorter))
+      | inr short ↦ short
+    ]
 
 same_start : (W n a b : ℕ) → block_number W n a ≡ block_number W n b → block_number W n a * 2 ^ (W - n) ≡ a →
     block_number W n b * 2 ^ (W - n) ≡ b → a ≡ b

@@ -1,10 +1,8 @@
 -- A prefix list's entries as statements that lie over one another, the short ones first.
-use Rattle.std.proofs.Common.{◌≡◌, ℕ, suc, ◌-◌, ◌*◌, ◌%◌, ◌^◌, ◌<◌, ◌≤◌, ◌==◌, List, [], ◌∷◌, Option, Some, None, option_and_then, map, length, refl, sym, ap, ◌∙◌, subst, arith, All, Contains, slice_get}
+use Rattle.std.proofs.Common.{◌≡◌, ℕ, suc, ◌-◌, ◌<◌, ◌≤◌, List, [], ◌∷◌, Option, Some, None, option_and_then, map, length, refl, sym, ap, ◌∙◌, subst, arith, All, Contains, slice_get}
 use Rattle.std.specs.List.{AllZip}
-use Rattle.std.proofs.lemmas.Bool.{and_from, eq-eqb}
 use Rattle.std.proofs.lemmas.List.Elements.{All-contains, All-cons, All-head, All-map, All-nil, All-tail, All-weaker}
 use Rattle.std.proofs.lemmas.List.Sorted.{All-permutation, IsPermutation-map, IsPermutation-sym, length_permutation}
-use Rattle.std.proofs.lemmas.Nat.{pow_pos}
 use Rattle.prefix_keys.specs.Block.{block_number}
 use Rattle.prefix_keys.specs.Version.{width_of}
 use Rattle.prefix_keys.specs.declared.version.Version.{Version}
@@ -13,13 +11,14 @@ use Rattle.pmap_text.specs.ListEntries.{same_block}
 use Rattle.pmap_text.specs.ListModel.{Prefix, list_label}
 use Rattle.pmap_text.specs.MapModel.{Label, Mapping, last_such, spans}
 use Rattle.pmap_text.specs.MapText.{mapping_of, text_at}
-use Rattle.pmap_text.specs.Painting.{AreShortestFirst, HasStatement}
+use Rattle.pmap_text.specs.ListStatements.{AreShortestFirst, HasStatement}
 use Rattle.pmap_text.specs.PrefixList.{list_of, prefix_of}
 use Rattle.pmap_text.specs.Stretches.{mappings_of, text_or, text_won}
 use Rattle.pmap_text.specs.declared.entry.Entry.{Entry}
 use Rattle.pmap_text.specs.declared.prefix_list.PrefixList.{PrefixList}
 use Rattle.pmap_text.specs.declared.statement.Statement.{Statement}
 use Rattle.pmap_text.proofs.Finds.{Contains-from_map, distinct_same}
+use Rattle.pmap_text.proofs.ListBlocks.{block_short, same_block-from}
 use Rattle.pmap_text.proofs.Longest.{AreBlocks, label_seen}
 use Rattle.pmap_text.proofs.Orders.{known_text}
 use Rattle.pmap_text.proofs.Painted.{IsRising, IsSeen, painted, rising, seen_by, seen_permuted, unmet}
@@ -57,30 +56,15 @@ zip_mappings v table (e ∷ es) (s ∷ ss) all same =
     rw (here, rest)
 
 -- the entries' blocks are distinct and have no host bits, so entries of one block are one
-block_start : (v : Version) (e : Entry) → e.block.version ≡ v
-    → block_number (width_of v) e.block.len e.block.value * 2 ^ (width_of v - e.block.len) ≡ e.block.value
-block_start v e same =
-    let W = width_of v in
-    let free : e.block.value % 2 ^ (W - e.block.len) ≡ 0 = rw (← same) e.block.no_host_bit in
-    whole e.block.value (2 ^ (W - e.block.len)) (pow_pos (W - e.block.len)) free
-
-block_short : (v : Version) (e : Entry) → e.block.version ≡ v → e.block.len ≤ width_of v
-block_short v e same = rw (← same) e.block.len_in_range
-
-same_start : (W n a b : ℕ) → block_number W n a ≡ block_number W n b → block_number W n a * 2 ^ (W - n) ≡ a
-    → block_number W n b * 2 ^ (W - n) ≡ b → a ≡ b
-same_start W n a b same left right = sym left ∙ ap (λ (k : ℕ). k * 2 ^ (W - n)) same ∙ right
-
 same_entry : (l : PrefixList) (d e : Entry) → Contains l.entries d → Contains l.entries e → d.block.len ≡ e.block.len
     → block_number (width_of l.version) d.block.len d.block.value ≡ block_number (width_of l.version) e.block.len e.block.value → d ≡ e
 same_entry l d e has has' bits number =
-    let W = width_of l.version in
-    let left = block_start l.version d (All-contains (λ e. e.block.version ≡ l.version) l.entries d l.one_version has) in
-    let right = block_start l.version e (All-contains (λ e. e.block.version ≡ l.version) l.entries e l.one_version has') in
-    let start : d.block.value ≡ e.block.value = same_start W e.block.len d.block.value e.block.value (rw bits at number) (rw bits at left) right in
-    distinct_same same_block l.entries d e l.blocks_distinct has has'
-    (and_from (d.block.value == e.block.value) (d.block.len == e.block.len) (eq-eqb d.block.value e.block.value start) (eq-eqb d.block.len e.block.len bits))
-    (and_from (e.block.value == d.block.value) (e.block.len == d.block.len) (eq-eqb e.block.value d.block.value (sym start)) (eq-eqb e.block.len d.block.len (sym bits)))
+    let v = l.version in
+    let ours = All-contains (λ e. e.block.version ≡ v) l.entries in
+    let left = ours d l.one_version has in
+    let right = ours e l.one_version has' in
+    distinct_same same_block l.entries d e l.blocks_distinct has has' (same_block-from v d e left right bits number)
+    (same_block-from v e d right left (sym bits) (sym number))
 
 pub list_blocks : (l : PrefixList) → AreBlocks (width_of l.version) (map (prefix_of l.labels) l.entries)
 list_blocks l =
@@ -103,7 +87,7 @@ record IsWon (W a : ℕ) (table : List Label) (ps : List Prefix) (o : Option Map
   seen : IsSeen W table ps W a label
   text : text_or o None ≡ option_and_then (slice_get table) label
 
-won : (W a : ℕ) (table : List Label) (ps : List Prefix) (ss : List Statement) → IsRising ps → All (λ s. s.label.0 < length table) ss
+won : (W a : ℕ) (table : List Label) (ps : List Prefix) (ss : List Statement) → IsRising W ps → All (λ s. s.label.0 < length table) ss
     → (o : Option Mapping) → last_such (spans a) (mappings_of table ss) ≡ o → IsWhole W W a (map (painted W) ps) o → IsWon W a table ps o
 won W a table ps ss up known None last whole = record { label = None; seen = unmet W W a ps whole.is; text = refl }
 won W a table ps ss up known (Some m) last whole =
@@ -122,28 +106,7 @@ won W a table ps ss up known (Some m) last whole =
 single : (W a : ℕ) → a ≡ block_number W W a
 single W a = let none : W - W ≡ 0 = omega arith in rw none (omega arith)
 
--- the statement that wins at an address is that of the longest entry that covers it
-pub list_wins : (l : PrefixList) (ss : List Statement) (a : ℕ) → AreShortestFirst l.entries ss → text_won l.labels None ss a ≡ list_label (list_of l) a
-list_wins l ss a first =
-    let W = width_of l.version in
-    let sorted = first.sorted in
-    let ps = map (prefix_of l.labels) l.entries in
-    let rs = map (prefix_of l.labels) sorted in
-    let versions = All-permutation (λ (e : Entry). e.block.version ≡ l.version) l.entries sorted first.moved l.one_version in
-    let numbers = All-permutation (λ (e : Entry). e.label.0 < length l.labels) l.entries sorted first.moved l.numbers_known in
-    let known = zip_all (λ e. e.label.0 < length l.labels) (λ s. s.label.0 < length l.labels)
-    (λ e s is below. let same = ap (λ (id : _). id.0) is.label in omega (arith, same, below)) sorted ss first.each numbers in
-    let mappings : map (painted W) rs ≡ mappings_of l.labels ss = zip_mappings l.version l.labels sorted ss first.each versions in
-    let ordered = λ (m : Mapping) (has : Contains (map (painted W) rs) m).
-    ordered_of l.labels ss m (subst (λ (ms : List Mapping). Contains ms m) mappings has) in
-    let here = subst (λ (ms : List Mapping). IsWhole W W a (map (painted W) rs) (last_such (spans a) ms)) mappings
-    (address_whole W a (map (painted W) rs) ordered) in
-    let is = won W a l.labels rs ss (rising (prefix_of l.labels) sorted first.rising) known (last_such (spans a) (mappings_of l.labels ss)) refl here in
-    let back = IsPermutation-map (prefix_of l.labels) sorted l.entries (IsPermutation-sym l.entries sorted first.moved) in
-    is.text ∙ sym (label_seen W l.labels ps W a a (suc W) is.label (list_blocks l) (single W a) (λ bits most fits. omega (arith, fits))
-    (seen_permuted W l.labels rs ps back W a is.label is.seen))
-
--- what is known of a list's statements
+-- what is known of a list's statements: the one that wins at an address is that of the longest entry that covers it
 pub record AreStatementsOf (l : PrefixList) (ss : List Statement) : Type 0 where
   pub version : All (λ s. s.span.low.version ≡ l.version) ss
   pub known : All (λ s. s.label.0 < length l.labels) ss
@@ -151,14 +114,35 @@ pub record AreStatementsOf (l : PrefixList) (ss : List Statement) : Type 0 where
   pub labels : (a : ℕ) → text_won l.labels None ss a ≡ list_label (list_of l) a
 
 pub statements_of : (l : PrefixList) (ss : List Statement) → AreShortestFirst l.entries ss → AreStatementsOf l ss
-statements_of l ss first =
-    let sorted = first.sorted in
-    let versions = All-permutation (λ (e : Entry). e.block.version ≡ l.version) l.entries sorted first.moved l.one_version in
-    let numbers = All-permutation (λ (e : Entry). e.label.0 < length l.labels) l.entries sorted first.moved l.numbers_known in
-    record {
-      version = zip_all (λ e. e.block.version ≡ l.version) (λ s. s.span.low.version ≡ l.version) (λ e s is same. is.version ∙ same) sorted ss first.each versions;
-      known = zip_all (λ e. e.label.0 < length l.labels) (λ s. s.label.0 < length l.labels)
-          (λ e s is below. let same = ap (λ (id : _). id.0) is.label in omega (arith, same, below)) sorted ss first.each numbers;
-      count = sym (zip_length sorted ss first.each) ∙ length_permutation l.entries sorted first.moved;
-      labels = λ a. list_wins l ss a first;
-    }
+statements_of l ss first = record {
+  version = zip_all (λ e. e.block.version ≡ l.version) (λ s. s.span.low.version ≡ l.version) (λ e s is same. is.version ∙ same) sorted ss first.each versions;
+  known = known;
+  count = sym (zip_length sorted ss first.each) ∙ length_permutation l.entries sorted first.moved;
+  labels = labels;
+}
+  where
+    sorted : List Entry
+    sorted = first.sorted
+
+    versions : All (λ e. e.block.version ≡ l.version) sorted
+    versions = All-permutation (λ (e : Entry). e.block.version ≡ l.version) l.entries sorted first.moved l.one_version
+
+    known : All (λ s. s.label.0 < length l.labels) ss
+    known =
+        zip_all (λ e. e.label.0 < length l.labels) (λ s. s.label.0 < length l.labels)
+        (λ e s is below. let same = ap (λ (id : _). id.0) is.label in omega (arith, same, below)) sorted ss first.each
+        (All-permutation (λ (e : Entry). e.label.0 < length l.labels) l.entries sorted first.moved l.numbers_known)
+
+    labels : (a : ℕ) → text_won l.labels None ss a ≡ list_label (list_of l) a
+    labels a =
+        let W = width_of l.version in
+        let rs = map (prefix_of l.labels) sorted in
+        let mappings : map (painted W) rs ≡ mappings_of l.labels ss = zip_mappings l.version l.labels sorted ss first.each versions in
+        let ordered = λ (m : Mapping) (has : Contains (map (painted W) rs) m).
+        ordered_of l.labels ss m (subst (λ (ms : List Mapping). Contains ms m) mappings has) in
+        let here = subst (λ (ms : List Mapping). IsWhole W W a (map (painted W) rs) (last_such (spans a) ms)) mappings
+        (address_whole W a (map (painted W) rs) ordered) in
+        let is = won W a l.labels rs ss (rising l.version l.labels sorted versions first.later) known (last_such (spans a) (mappings_of l.labels ss)) refl here in
+        let back = IsPermutation-map (prefix_of l.labels) sorted l.entries (IsPermutation-sym l.entries sorted first.moved) in
+        is.text ∙ sym (label_seen W l.labels (map (prefix_of l.labels) l.entries) W a a (suc W) is.label (list_blocks l) (single W a)
+        (λ bits most fits. omega (arith, fits)) (seen_permuted W l.labels rs (map (prefix_of l.labels) l.entries) back W a is.label is.seen))

@@ -26,7 +26,7 @@ pub record IsWhole (W n q : ℕ) (ms : List Mapping) (o : Option Mapping) : Type
   pub covers : (m : Mapping) → o ≡ Some m → spans_all W n q m ≡ true
 
 -- a mapping that meets the block covers an address of it
-met_address : (W n q : ℕ) (m : Mapping) → m.low ≤ m.high → first_of W n q ≤ last_of W n q → meets W n q m ≡ true
+pub met_address : (W n q : ℕ) (m : Mapping) → m.low ≤ m.high → first_of W n q ≤ last_of W n q → meets W n q m ≡ true
     → (a : ℕ) × (first_of W n q ≤ a) × (a ≤ last_of W n q) × (spans a m ≡ true)
 met_address W n q m ordered some met =
     let ends = both_le m.low (last_of W n q) (first_of W n q) m.high met in

@@ -11,12 +11,12 @@ pub mod Lines
 pub mod Reading
 pub mod Packed
 pub mod Leading
-pub mod Steps
 pub mod Filed
+pub mod Steps
 pub mod Progress
 pub mod Stretches
 pub mod Starting
 pub mod Sweep
 pub mod Begins
-pub mod Painting
+pub mod ListStatements
 pub mod Hashing

@@ -1,4 +1,4 @@
-use Rattle.std.specs.Prelude.{ℕ, ◌&&◌, ◌==◌, Bool, List}
+use Rattle.std.specs.Prelude.{ℕ, ◌+◌, ◌*◌, ◌&&◌, ◌==◌, Bool, List}
 use Rattle.std.specs.List.{list_any, IsDistinct}
 use Rattle.pmap_text.specs.declared.entry.Entry.{Entry}
 
@@ -15,3 +15,8 @@ same_block d e = d.block.value == e.block.value && d.block.len == e.block.len
 -- no entry has the block of an earlier one
 abbrev pub HasDistinctBlocks : List Entry → Type 0
 HasDistinctBlocks entries = IsDistinct same_block entries
+
+-- A number by which entries rise in the order of their blocks: by first address, of one address the shorter block first.
+-- Lengths are below 256.
+abbrev pub rank_of : Entry → ℕ
+rank_of e = e.block.value * 256 + e.block.len

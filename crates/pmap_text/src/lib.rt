@@ -30,10 +30,11 @@ mod labels;
 mod laws;
 mod leading;
 mod lines;
+mod list_statements;
 mod map_text;
 mod name;
+mod order;
 mod packed;
-mod painting;
 mod placing;
 mod prefix_list;
 mod reading;
@@ -58,9 +59,9 @@ pub use laws::{
     block_is_settled_in_one_stretch, longest_match_counts, order_of_entries_is_free,
     settled_block_has_its_label,
 };
+pub use list_statements::statements_of_list;
 pub use map_text::MapText;
 pub use name::Name;
-pub use painting::statements_of_list;
 pub use prefix_list::PrefixList;
 pub use reading::{LABEL_LIMIT, MAPPING_LIMIT};
 pub use statement::Statement;

@@ -1,18 +1,20 @@
-//! The entries of a prefix list as statements that lie over one another.
+//! The entries of a prefix list as statements.
 ghost use Rattle.std.specs.Prelude.{◌≡◌, ◌<◌, ℕ, None, All, IfOk, length};
+ghost use Rattle.std.specs.List.{AllZip};
 ghost use Rattle.pmap_text.specs.ListModel.{list_label};
-ghost use Rattle.pmap_text.specs.Painting.{AreShortestFirst};
+ghost use Rattle.pmap_text.specs.ListStatements.{AreShortestFirst, HasStatement};
 ghost use Rattle.pmap_text.specs.PrefixList.{list_of};
 ghost use Rattle.pmap_text.specs.Stretches.{text_won};
 
 use crate::entry::Entry;
+use crate::order::{are_in_order, in_order};
 use crate::prefix_list::PrefixList;
 use crate::statement::Statement;
 use crate::statements::Statements;
 use std::alloc::{AllocError, Global};
 
-/// The entries of a list as statements, those of shorter blocks before those of longer ones: the statement that wins at
-/// an address is then that of the longest entry that covers it.
+/// The entries of a list as statements, by first address, of one address the shorter block first: the statement that
+/// wins at an address is then that of the longest entry that covers it.
 pub fn statements_of_list(alloc: Global, list: &PrefixList) -> Result<Statements, AllocError>
     ensures order { IfOk result (λ ss. AreShortestFirst list.now.entries ss) }
     ensures version { IfOk result (λ ss. All (λ s. s.span.low.version ≡ list.now.version) ss) }
@@ -24,14 +26,23 @@ pub fn statements_of_list(alloc: Global, list: &PrefixList) -> Result<Statements
     shortest_first(alloc, list.entries.as_slice())
 }
 
-// The entries as statements, in an order in which those of shorter blocks come before those of longer ones.
+// The entries as statements, in an order in which of nested blocks the longer comes later.
 fn shortest_first(alloc: Global, entries: &[Entry]) -> Result<Statements, AllocError>
     ensures { IfOk result (λ statements. AreShortestFirst entries.now statements) }
 {
-    let mut sorted = Vec::from_slice(alloc, entries)?;
-    sorted.sort_by_key(|entry| entry.block.len)?;
+    if are_in_order(entries) {
+        return statements_of(alloc, entries);
+    }
+    let sorted = in_order(alloc, entries)?;
+    statements_of(alloc, sorted.as_slice())
+}
+
+// The entries as statements, in their own order.
+fn statements_of(alloc: Global, entries: &[Entry]) -> Result<Statements, AllocError>
+    ensures { IfOk result (λ statements. AllZip HasStatement entries.now statements) }
+{
     let mut statements = Statements::new(alloc);
-    for entry in sorted.as_slice() {
+    for entry in entries {
         statements.push(Statement {
             span: entry.block.span(),
             label: entry.label,

@@ -1,6 +1,6 @@
 use Rattle.std.proofs.lemmas.Result.{IfOk-weaker}
 use Rattle.pmap_text.proofs.ListPainted.{statements_of}
-use Rattle.pmap_text.proofs.painting.statements_of_list.Goals as goal
+use Rattle.pmap_text.proofs.list_statements.statements_of_list.Goals as goal
 
 pub returns-clause-order : goal.returns-clause-order
 returns-clause-order c = IfOk-weaker c.shortest_first.result _ _ (λ ss first. rw c.as_slice.ensures.value at first) c.shortest_first.ensures

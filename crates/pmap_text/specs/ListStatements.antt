@@ -1,7 +1,8 @@
-use Rattle.std.specs.Prelude.{◌≡◌, ℕ, List}
+use Rattle.std.specs.Prelude.{◌≡◌, ◌<◌, ◌≤◌, ℕ, List, length, slice_index_or}
 use Rattle.std.specs.List.{AllZip}
-use Rattle.std.specs.List.Sorted.{IsNonDecreasingBy, IsPermutation}
+use Rattle.std.specs.List.Sorted.{IsPermutation}
 use Rattle.prefix_keys.specs.Block.{block_number, first_of, last_of}
+use Rattle.prefix_keys.specs.Covers.{IsInBlock}
 use Rattle.prefix_keys.specs.Version.{width_of}
 use Rattle.prefix_keys.specs.declared.block.Block.{Block}
 use Rattle.pmap_text.specs.declared.entry.Entry.{Entry}
@@ -20,9 +21,18 @@ pub record HasStatement (e : Entry) (s : Statement) : Type 0 where
   pub high : s.span.high.value ≡ last_of (width_of e.block.version) e.block.len (number_of_block e.block)
   pub label : s.label ≡ e.label
 
--- the statements are those of the entries, in an order in which none has a shorter block than an earlier one
+-- of two blocks with a common address, so that one lies in the other, the second is no shorter
+abbrev pub IsNoShorter : Block → Block → Type 0
+IsNoShorter b c = (a : ℕ) → b.version ≡ c.version → IsInBlock b a → IsInBlock c a → b.len ≤ c.len
+
+-- of nested blocks the longer comes later
+abbrev pub LongerLater : List Entry → Type 0
+LongerLater es =
+    (i j : ℕ) (d : Entry) → i ≤ j → j < length es → IsNoShorter (slice_index_or es i d).block (slice_index_or es j d).block
+
+-- the statements are those of the entries, in an order in which of nested blocks the longer comes later
 pub record AreShortestFirst (entries : List Entry) (ss : List Statement) : Type 0 where
   pub sorted : List Entry
   pub moved : IsPermutation entries sorted
-  pub rising : IsNonDecreasingBy (λ e. e.block.len) sorted
+  pub later : LongerLater sorted
   pub each : AllZip HasStatement sorted ss
