@@ -1,21 +1,24 @@
 -- Lemmas on lists without repetition, and on how the blocks of entries are told apart.
-use Rattle.std.proofs.Common.{◌≡◌, ℕ, ◌+◌, ◌<◌, Bool, true, false, cond, ◌&&◌, ◌||◌, ◌==◌, List, [], ◌∷◌, ◌++◌, get_or, length, map, refl, sym, subst, ap, ap₂, ◌∙◌, arith}
+use Rattle.std.proofs.Common.{◌≡◌, ℕ, ◌+◌, ◌<◌, Bool, true, false, cond, ◌&&◌, ◌||◌, ◌==◌, List, [], ◌∷◌, ◌++◌, Some, get_or, length, map, option_map, refl, slice_get, sym, subst, take, ap, ap₂, ◌∙◌, arith}
 use Rattle.std.proofs.lemmas.Bool.{and_parts, eqb-true, false_from_ne_true, ltb-true}
-use Rattle.std.proofs.lemmas.Cmp.{and_equiv, eq_by_cmp_equiv, nat_cmp_total, nat_eq_equiv, on_equiv, on_total, then_total}
+use Rattle.std.proofs.lemmas.Cmp.{and_equiv, nat_eq_equiv, on_equiv}
 use Rattle.std.proofs.lemmas.List.Folds.{list_any-append}
-use Rattle.std.proofs.lemmas.List.{get_or-map, length-map}
-use Rattle.std.proofs.lemmas.List.Sorted.{IsNonDecreasingBy-from_all_adjacent, IsPermutation-refl, IsPermutation-sym}
-use Rattle.std.proofs.lemmas.Map.Keys.{IsDistinct-IsPermutation, IsDistinct-from_apart, IsDistinct-from_sorted, IsDistinct-push, sorted_from_all_adjacent}
-use Rattle.std.specs.Cmp.{IsEquivalence, IsTotalOrder}
+use Rattle.std.proofs.lemmas.List.{map-append, take-map, take_more}
+use Rattle.std.proofs.lemmas.List.Sorted.{IsNonDecreasingBy-from_all_adjacent, IsPermutation-sym}
+use Rattle.std.proofs.lemmas.Map.Keys.{IsDistinct-IsPermutation, IsDistinct-from_apart, IsDistinct-push}
+use Rattle.std.proofs.lemmas.Option.{slice_get-get_or, slice_get-map}
+use Rattle.std.specs.Cmp.{IsEquivalence}
 use Rattle.std.specs.List.{list_any, AllAdjacentBelow, AllByRecursion, IsDistinct}
 use Rattle.std.specs.List.Sorted.{IsPermutation}
-use Rattle.std.specs.Ordering.{eq_by_cmp, is_eq, nat_cmp, ordering_then}
+use Rattle.std.specs.Ordering.{is_eq, nat_cmp, ordering_then}
 use Rattle.std.specs.Prelude.{nat_lt}
 use Rattle.std.specs.declared.cmp.Ordering.{Ordering}
 use Rattle.std.specs.declared.cmp.Ordering.TheVariants.{Equal, Greater, Less}
-use Rattle.pmap_text.specs.Filed.{AreFiled, AreRising, HasOncePlaced, key_cmp, same_place}
+use Rattle.pmap_text.specs.Filed.{AreFiled, HasDistinctKeys, IsFirstRepeat, has_key, key_cmp, same_key}
 use Rattle.pmap_text.specs.ListEntries.{HasDistinctBlocks, rank_of, same_block}
 use Rattle.pmap_text.specs.ListModel.{Prefix}
+use Rattle.pmap_text.specs.MapModel.{Label}
+use Rattle.pmap_text.specs.PrefixList.{prefix_of}
 use Rattle.pmap_text.specs.Reading.{has_prefix}
 use Rattle.pmap_text.specs.declared.entry.Entry.{Entry}
 
@@ -71,8 +74,8 @@ cond-or true false = refl
 cond-or false true = refl
 cond-or false false = refl
 
-same_place-equiv : IsEquivalence same_place
-same_place-equiv = and_equiv (on_equiv (λ p. p.start) nat_eq_equiv) (on_equiv (λ p. p.bits) nat_eq_equiv)
+same_key-equiv : IsEquivalence same_key
+same_key-equiv = and_equiv (on_equiv (λ p. p.start) nat_eq_equiv) (on_equiv (λ p. p.bits) nat_eq_equiv)
 
 pub AreFiled-push : (prefixes : List Prefix) (p : Prefix) (keys more : List (ℕ × ℕ)) → AreFiled prefixes keys →
     has_prefix prefixes p.start p.bits ≡ false →
@@ -87,7 +90,7 @@ AreFiled-push prefixes p keys more ok new added = record {
       (is_found start bits keys ∙ ok.blocks start bits)
       ∙ cond-or (p.start == start && p.bits == bits) (has_prefix prefixes start bits)
       ∙ sym (list_any-append (λ r. r.start == start && r.bits == bits) prefixes (p ∷ []));
-  distinct = IsDistinct-push same_place-equiv prefixes p ok.distinct
+  distinct = IsDistinct-push same_key-equiv prefixes p ok.distinct
       (ap (λ t. list_any t prefixes)
       (λ i r. nat_eq_equiv.symm p.start r.start i && nat_eq_equiv.symm p.bits r.bits i) ∙ new);
 }
@@ -110,36 +113,15 @@ all_last : {X : Type 0} (P : X → Type 0) (xs : List X) (y : X) → AllByRecurs
 all_last P [] y h = h.0
 all_last P (x ∷ xs) y h = all_last P xs y h.1
 
-pub once-front : (ps : List Prefix) (p : Prefix) → HasOncePlaced (ps ++ p ∷ []) → HasOncePlaced ps
+pub once-front : (ps : List Prefix) (p : Prefix) → HasDistinctKeys (ps ++ p ∷ []) → HasDistinctKeys ps
 unfolding IsDistinct
 once-front [] p h = tt
-once-front (q ∷ qs) p h = (all_front (λ r. same_place q r ≡ false) qs p h.0, once-front qs p h.1)
+once-front (q ∷ qs) p h = (all_front (λ r. same_key q r ≡ false) qs p h.0, once-front qs p h.1)
 
-pub once-last : (ps : List Prefix) (p : Prefix) → HasOncePlaced (ps ++ p ∷ []) → has_prefix ps p.start p.bits ≡ false
+pub once-last : (ps : List Prefix) (p : Prefix) → HasDistinctKeys (ps ++ p ∷ []) → has_prefix ps p.start p.bits ≡ false
 unfolding IsDistinct
 once-last [] p h = refl
-once-last (q ∷ qs) p h = ap₂ ◌||◌ (all_last (λ r. same_place q r ≡ false) qs p h.0) (once-last qs p h.1)
-
--- entries whose starts and lengths rise when they are sorted have distinct blocks
-key_cmp-total : IsTotalOrder key_cmp
-key_cmp-total = then_total (on_total (λ t. t.0) nat_cmp_total) (on_total (λ t. t.1) nat_cmp_total)
-
-pub rising-adjacent : (keys : List (ℕ × ℕ)) →
-    ((k : ℕ) → k + 1 < length keys → key_cmp (get_or keys k (0, 0)) (get_or keys (k + 1) (0, 0)) ≡ Less) → AreRising keys
-rising-adjacent keys adjacent = sorted_from_all_adjacent key_cmp-total keys (0, 0) adjacent
-
-abbrev pub block_key : Entry → ℕ × ℕ
-block_key e = (e.block.value, e.block.len)
-
-pub distinct-rising : (entries : List Entry) (keys sorted : List (ℕ × ℕ)) → keys ≡ map (λ e. (e.block.value, e.block.len)) entries →
-    IsPermutation keys sorted → AreRising sorted → HasDistinctBlocks entries
-distinct-rising entries keys sorted e moved rising =
-    let once = IsDistinct-from_sorted key_cmp sorted rising in
-    let back = IsDistinct-IsPermutation (eq_by_cmp key_cmp) (eq_by_cmp_equiv key_cmp-total).symm sorted keys (IsPermutation-sym keys sorted moved) once in
-    let apart = distinct_from_map block_key (eq_by_cmp key_cmp) entries (subst (IsDistinct (eq_by_cmp key_cmp)) e back) in
-    subst (λ same. IsDistinct same entries)
-    (λ i d r. (is_eq-pair d.block.value d.block.len (r.block.value, r.block.len)
-    ∙ ap₂ ◌&&◌ (nat_eq_equiv.symm r.block.value d.block.value) (nat_eq_equiv.symm r.block.len d.block.len)) i) apart
+once-last (q ∷ qs) p h = ap₂ ◌||◌ (all_last (λ r. same_key q r ≡ false) qs p h.0) (once-last qs p h.1)
 
 -- entries that rise have distinct blocks
 rank_apart : (d e : Entry) → rank_of d < rank_of e → same_block d e ≡ false
@@ -155,24 +137,42 @@ distinct_rising es adjacent =
     (λ i j d under within. rank_apart (get_or es i d) (get_or es j d)
     (omega (arith, adjacent i d (omega (arith, under, within)), up (i + 1) j d (omega (arith, under)) within)))
 
--- entries whose starts and lengths rise as they stand
-rising_from : (entries : List Entry) (d : Entry) →
-    ((k : ℕ) (d : Entry) → k + 1 < length entries → key_cmp (block_key (get_or entries k d)) (block_key (get_or entries (k + 1) d)) ≡ Less)
-    → AreRising (map block_key entries)
-rising_from entries d adjacent =
-    rising-adjacent (map block_key entries)
-    (λ k within.
-    let below : k + 1 < length entries = omega (arith, within, length-map entries block_key) in
-    rw (get_or-map block_key entries k d (0, 0) (omega (arith, below)), get_or-map block_key entries (k + 1) d (0, 0) below) (adjacent k d below))
+-- so they have where they rise in another order
+flips : (d e : Entry) → same_block d e ≡ same_block e d
+flips d e = ap₂ ◌&&◌ (nat_eq_equiv.symm d.block.value e.block.value) (nat_eq_equiv.symm d.block.len e.block.len)
 
-none_distinct : HasDistinctBlocks []
-unfolding IsDistinct
-none_distinct = tt
+pub distinct_sorted : (es sorted : List Entry) → IsPermutation es sorted → HasDistinctBlocks sorted → HasDistinctBlocks es
+distinct_sorted es sorted moved = IsDistinct-IsPermutation same_block flips sorted es (IsPermutation-sym es sorted moved)
 
-pub rising-entries : (entries : List Entry) →
-    ((k : ℕ) (d : Entry) → k + 1 < length entries → key_cmp (block_key (get_or entries k d)) (block_key (get_or entries (k + 1) d)) ≡ Less)
-    → HasDistinctBlocks entries
-rising-entries [] adjacent = none_distinct
-rising-entries (e ∷ es) adjacent =
-    let keys = map block_key (e ∷ es) in
-    distinct-rising (e ∷ es) keys keys refl (IsPermutation-refl keys) (rising_from (e ∷ es) e adjacent)
+-- so their prefixes have
+pub distinct_keys : (table : List Label) (es : List Entry) → HasDistinctBlocks es → HasDistinctKeys (map (prefix_of table) es)
+distinct_keys table es = distinct_to_map (prefix_of table) same_key es
+
+-- one more key
+pub filed_more : (table : List Label) (es : List Entry) (i : ℕ) (e : Entry) (keys more : List (ℕ × ℕ)) → i < length es → e ≡ get_or es i e
+    → AreFiled (map (prefix_of table) (take i es)) keys → has_key keys (e.block.value, e.block.len) ≡ false
+    → ((q : ℕ × ℕ) → has_key more q ≡ cond (is_eq (key_cmp (e.block.value, e.block.len) q)) true (has_key keys q))
+    → AreFiled (map (prefix_of table) (take (i + 1) es)) more
+filed_more table es i e keys more within is ok new added =
+    let f = prefix_of table in
+    let grown : map f (take (i + 1) es) ≡ map f (take i es) ++ f e ∷ [] =
+    ap (map f) (take_more es i e within ∙ ap (λ (d : Entry). take i es ++ d ∷ []) (sym is)) ∙ map-append f (take i es) (e ∷ []) in
+    subst (λ (ps : List Prefix). AreFiled ps more) (sym grown)
+    (AreFiled-push (map f (take i es)) (f e) keys more ok
+    (sym (is_filed (map f (take i es)) keys ok (e.block.value, e.block.len)) ∙ new) added)
+
+-- a known key is a repeat
+pub filed_repeat : (table : List Label) (es : List Entry) (i : ℕ) (e : Entry) (keys : List (ℕ × ℕ)) → i < length es → e ≡ get_or es i e
+    → AreFiled (map (prefix_of table) (take i es)) keys → has_key keys (e.block.value, e.block.len) ≡ true
+    → IsFirstRepeat (map (prefix_of table) es) (Some i)
+filed_repeat table es i e keys within is ok known =
+    let f = prefix_of table in
+    let same : take i (map f es) ≡ map f (take i es) = take-map f i es in
+    let at : slice_get (map f es) i ≡ Some (f e) =
+    slice_get-map f es i ∙ ap (option_map f) (slice_get-get_or es i e within ∙ ap Some (sym is)) in (
+      f e,
+      at,
+      subst HasDistinctKeys (sym same) ok.distinct,
+      subst (λ (ps : List Prefix). has_prefix ps e.block.value e.block.len ≡ true) (sym same)
+          (sym (is_filed (map f (take i es)) keys ok (e.block.value, e.block.len)) ∙ known),
+    )

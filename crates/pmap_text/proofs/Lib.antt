@@ -1,4 +1,3 @@
-pub mod Carried
 pub mod LineEntries
 pub mod LeadingWords
 pub mod LeadingSpans

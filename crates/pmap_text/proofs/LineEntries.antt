@@ -9,7 +9,7 @@ use Rattle.pmap_text.specs.Declarations.{with_declared}
 use Rattle.pmap_text.specs.Label.{with_label}
 use Rattle.pmap_text.specs.ListModel.{Prefix}
 use Rattle.pmap_text.specs.Reading.{Decides, Declares, Defaults, Earlier, Entry, Lists, Maps, Names, Nothing, decides_in, declared_in, default_in, earlier_of, entries_from, first_in, has_prefix, last_in, line_entry, mapping_in, name_in, prefix_in, text_in, version_in}
-use Rattle.pmap_text.specs.Steps.{Adds, Takes, added, refusal_of}
+use Rattle.pmap_text.specs.Steps.{Takes, added, refusal_of}
 use Rattle.pmap_text.specs.declared.fault.MapFaultKind.TheVariants.{DuplicateBlock, NoMemory}
 use Rattle.pmap_text.specs.declared.fault.MapFaultKind.{MapFaultKind}
 use Rattle.pmap_text.specs.declared.form.Form.{Form}
@@ -108,6 +108,11 @@ earlier_of-push es entry =
       prefixes = prefixes-push es entry i;
       table = table-push es entry i;
     }
+
+-- the line was read, and the lines so far have it at their end
+abbrev pub Adds : Earlier → Earlier → Result Entry MapFaultKind → Type 0
+Adds old new (Ok entry) = new ≡ added old entry
+Adds old new (Err kind) = ⊥
 
 -- where a line was read, the rest of the lines are read behind it
 pub entries_from-line : (form : Form) (entries : List Entry) (number : ℕ) (line : List ℕ) (lines : List (List ℕ)) (new : Earlier) → Adds (earlier_of entries) new (line_entry form (earlier_of entries) line)

@@ -11,7 +11,7 @@ use Rattle.pmap_text.specs.MapModel.{Label, MapModel}
 use Rattle.pmap_text.specs.MapText.{mapping_of, text_at}
 use Rattle.pmap_text.specs.PrefixList.{prefix_of}
 use Rattle.pmap_text.specs.Progress.{IsProgress, progress_of}
-use Rattle.pmap_text.specs.Reading.{has_prefix, map_from, unknown}
+use Rattle.pmap_text.specs.Reading.{label_limit, has_prefix, map_from, unknown}
 use Rattle.pmap_text.specs.declared.entry.Entry.{Entry}
 use Rattle.pmap_text.specs.declared.label.LabelId.{LabelId}
 use Rattle.pmap_text.specs.declared.statement.Statement.{Statement}
@@ -48,7 +48,7 @@ mappings-with_label table x (s ∷ ss) h =
     let es = mappings-with_label table x ss (All-tail (λ (s : Statement). s.label.0 < length table) s ss h) in
     λ i. record { low = s.span.low.value; high = s.span.high.value; label = e i } ∷ es i
 
-prefixes-with_label : (table : List Label) (x : Label) (entries : List Entry) → All (λ e. e.label.0 < length table) entries → map (prefix_of (with_label table x)) entries ≡ map (prefix_of table) entries
+pub prefixes-with_label : (table : List Label) (x : Label) (entries : List Entry) → All (λ e. e.label.0 < length table) entries → map (prefix_of (with_label table x)) entries ≡ map (prefix_of table) entries
 prefixes-with_label table x [] h = refl
 prefixes-with_label table x (d ∷ ds) h =
     let e = text_at-with_label table x d.label.0 (All-head (λ (d : Entry). d.label.0 < length table) d ds h) in
@@ -58,6 +58,22 @@ prefixes-with_label table x (d ∷ ds) h =
 fallback-with_label : (table : List Label) (x : Label) (f : Option LabelId) → ForSome f (λ id. id.0 < length table) → option_map (λ (id : LabelId). text_at (with_label table x) id.0) f ≡ option_map (λ (id : LabelId). text_at table id.0) f
 fallback-with_label table x None h = refl
 fallback-with_label table x (Some id) h = ap Some (text_at-with_label table x id.0 (h id refl))
+
+-- what is kept goes on to hold with one more label text
+pub IsProgress-with_label : (version : Option Version) (default : Option LabelId) (ss : List Statement) (es : List Entry) (table : List Label) (x : Label)
+    → IsProgress version default ss es table → length (with_label table x) ≤ label_limit → IsProgress version default ss es (with_label table x)
+IsProgress-with_label version default ss es table x ok few =
+    let more = length-with_label table x in
+    record {
+      spans = ok.spans;
+      blocks = ok.blocks;
+      numbers = λ k d within. omega (arith, ok.numbers k d within, more);
+      entry_numbers = λ k d within. omega (arith, ok.entry_numbers k d within, more);
+      fallback = λ id is. omega (arith, ok.fallback id is, more);
+      mappings = ok.mappings;
+      prefixes = ok.prefixes;
+      labels = few;
+    }
 
 module _ (mode : Bool) (version : Option Version) (name : Option Label) (declared : List (ℕ × Label)) (default : Option LabelId) (ss : List Statement) (es : List Entry) (table : List Label) where
   -- the lines so far with one more label text

@@ -2,7 +2,7 @@ use Rattle.std.specs.Prelude.{ℕ, ◌&&◌, ◌||◌, ◌==◌, Bool, not, List
 use Rattle.std.specs.List.{list_any}
 use Rattle.prefix_keys.specs.Block.{block_number, first_of}
 use Rattle.pmap_text.specs.ListModel.{Prefix, lies_inside}
-use Rattle.pmap_text.specs.MapModel.{Mapping, meets, spans_all}
+use Rattle.pmap_text.specs.MapModel.{meets, spans_all}
 use Rattle.pmap_text.specs.MapText.{mapping_of}
 use Rattle.pmap_text.specs.PrefixList.{prefix_of}
 use Rattle.pmap_text.specs.declared.entry.Entry.{Entry}
@@ -15,11 +15,6 @@ abbrev pub from_last : {X : Type 0} → (X → Bool) → List X → List X
 from_last p [] = []
 from_last p (x ∷ xs) = if list_any p xs then from_last p xs else x ∷ xs
 
--- the mappings that meet the block of n bits with the number q, from the last that covers it whole (all of them where none
--- does), in the order given
-abbrev pub carried_mappings : ℕ → ℕ → ℕ → List Mapping → List Mapping
-carried_mappings W n q ms = from_last (spans_all W n q) (filter (meets W n q) ms)
-
 -- a statement meets the block, or covers it whole, whatever its label
 abbrev pub statement_meets : ℕ → ℕ → ℕ → Statement → Bool
 statement_meets W n q s = meets W n q (mapping_of [] s)
@@ -27,7 +22,8 @@ statement_meets W n q s = meets W n q (mapping_of [] s)
 abbrev pub statement_spans : ℕ → ℕ → ℕ → Statement → Bool
 statement_spans W n q s = spans_all W n q (mapping_of [] s)
 
--- the same of statements
+-- the statements that meet the block of n bits with the number q, from the last that covers it whole (all of them where none
+-- does), in the order given
 abbrev pub carried : ℕ → ℕ → ℕ → List Statement → List Statement
 carried W n q ss = from_last (statement_spans W n q) (filter (statement_meets W n q) ss)
 
@@ -35,18 +31,10 @@ carried W n q ss = from_last (statement_spans W n q) (filter (statement_meets W 
 abbrev pub covers_block : ℕ → ℕ → ℕ → Prefix → Bool
 covers_block W n q p = nat_le p.bits n && block_number W p.bits p.start == block_number W p.bits (first_of W n q)
 
--- it does, and no longer entry does
-abbrev pub is_longest : ℕ → ℕ → ℕ → List Prefix → Prefix → Bool
-is_longest W n q ps p = covers_block W n q p && not (list_any (λ r. covers_block W n q r && nat_lt p.bits r.bits) ps)
-
--- the longest entry that covers the block, if there is one, and those strictly inside it, in the order given
-abbrev pub carried_prefixes : ℕ → ℕ → ℕ → List Prefix → List Prefix
-carried_prefixes W n q ps = filter (λ p. is_longest W n q ps p || lies_inside W n q p) ps
-
--- the same of entries
 abbrev pub entry_covers : ℕ → ℕ → ℕ → Entry → Bool
 entry_covers W n q e = covers_block W n q (prefix_of [] e)
 
+-- the longest entry that covers the block, if there is one, and those strictly inside it, in the order given
 abbrev pub carried_entries : ℕ → ℕ → ℕ → List Entry → List Entry
 carried_entries W n q es =
     filter (λ e. (entry_covers W n q e && not (list_any (λ r. entry_covers W n q r && nat_lt e.block.len r.block.len) es))

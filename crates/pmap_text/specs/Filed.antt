@@ -1,6 +1,5 @@
-use Rattle.std.specs.Prelude.{◌≡◌, ℕ, ◌&&◌, ◌==◌, Bool, List}
+use Rattle.std.specs.Prelude.{◌≡◌, ℕ, ◌&&◌, ◌==◌, Bool, true, List, Option, Some, None, slice_get, take}
 use Rattle.std.specs.List.{list_any, IsDistinct}
-use Rattle.std.specs.List.Sorted.{IsStrictlySortedBy}
 use Rattle.std.specs.Ordering.{is_eq, nat_cmp, ordering_then}
 use Rattle.std.specs.declared.cmp.Ordering.{Ordering}
 use Rattle.pmap_text.specs.ListModel.{Prefix}
@@ -9,12 +8,12 @@ use Rattle.pmap_text.specs.Reading.{has_prefix}
 -- How the code finds the block of an earlier entry: no user need read it.
 
 -- two entries have blocks with one start and one length
-abbrev pub same_place : Prefix → Prefix → Bool
-same_place p r = p.start == r.start && p.bits == r.bits
+abbrev pub same_key : Prefix → Prefix → Bool
+same_key p r = p.start == r.start && p.bits == r.bits
 
 -- no entry has the block of an earlier one
-abbrev pub HasOncePlaced : List Prefix → Type 0
-HasOncePlaced prefixes = IsDistinct same_place prefixes
+abbrev pub HasDistinctKeys : List Prefix → Type 0
+HasDistinctKeys prefixes = IsDistinct same_key prefixes
 
 -- starts and lengths in order
 abbrev pub key_cmp : ℕ × ℕ → ℕ × ℕ → Ordering
@@ -24,10 +23,13 @@ key_cmp x y = ordering_then (nat_cmp x.0 y.0) (nat_cmp x.1 y.1)
 abbrev pub has_key : List (ℕ × ℕ) → ℕ × ℕ → Bool
 has_key keys k = list_any (λ q. is_eq (key_cmp k q)) keys
 
-abbrev pub AreRising : List (ℕ × ℕ) → Type 0
-AreRising keys = IsStrictlySortedBy key_cmp keys
-
 -- the keys are the starts and lengths of the entries' blocks, no two of which are equal
 pub record AreFiled (prefixes : List Prefix) (keys : List (ℕ × ℕ)) : Type 0 where
   pub blocks : (start bits : ℕ) → list_any (λ k. k.0 == start && k.1 == bits) keys ≡ has_prefix prefixes start bits
-  pub distinct : HasOncePlaced prefixes
+  pub distinct : HasDistinctKeys prefixes
+
+-- no entry has the block of an earlier one, or the one at this index is the first that has
+abbrev pub IsFirstRepeat : List Prefix → Option ℕ → Type 0
+IsFirstRepeat ps None = HasDistinctKeys ps
+IsFirstRepeat ps (Some i) =
+    (p : Prefix) × (slice_get ps i ≡ Some p) × HasDistinctKeys (take i ps) × (has_prefix (take i ps) p.start p.bits ≡ true)

@@ -1,12 +1,15 @@
-use Rattle.std.specs.Prelude.{◌≡◌, ◌&&◌, Bool, true, false, length, nat_lt, [], ◌∷◌, ◌++◌, Some, Result, Ok, Err}
+use Rattle.std.specs.Prelude.{◌≡◌, ◌≢◌, ℕ, ◌&&◌, Bool, true, false, length, nat_lt, slice_get, List, [], ◌∷◌, ◌++◌, Some, Result, Ok, Err, IfErr, OnErr, OnOk}
 use Rattle.std.specs.Option.{option_or}
 use Rattle.pmap_text.specs.Declarations.{with_declared}
+use Rattle.pmap_text.specs.Filed.{HasDistinctKeys, IsFirstRepeat}
 use Rattle.pmap_text.specs.Label.{with_label}
 use Rattle.pmap_text.specs.ListModel.{Prefix}
 use Rattle.pmap_text.specs.MapModel.{Label}
-use Rattle.pmap_text.specs.Reading.{Decides, Declares, Defaults, Earlier, Entry, Lists, Maps, Names, Nothing, has_prefix, has_room, mapping_limit}
+use Rattle.pmap_text.specs.Reading.{Decides, Declares, Defaults, Earlier, Entry, Lists, Maps, Names, Nothing, earlier_of, entries_from, has_prefix, has_room, mapping_limit}
+use Rattle.pmap_text.specs.declared.fault.MapFault.{MapFault}
 use Rattle.pmap_text.specs.declared.fault.MapFaultKind.{MapFaultKind}
 use Rattle.pmap_text.specs.declared.fault.MapFaultKind.TheVariants.{DuplicateBlock, NoMemory}
+use Rattle.pmap_text.specs.declared.form.Form.{Form}
 
 -- Steps of the code, for the contracts of its own functions: no user need read them.
 
@@ -29,11 +32,6 @@ added earlier (Lists version prefix) = record earlier {
   table = with_label earlier.table prefix.label;
 }
 
--- the line was read, and the lines so far have it at their end
-abbrev pub Adds : Earlier → Earlier → Result Entry MapFaultKind → Type 0
-Adds old new (Ok entry) = new ≡ added old entry
-Adds old new (Err kind) = ⊥
-
 -- an entry of the line has a block that no earlier one has
 abbrev pub IsNewIn : Earlier → Entry → Type 0
 IsNewIn earlier (Lists version prefix) = has_prefix earlier.prefixes prefix.start prefix.bits ≡ false
@@ -49,7 +47,7 @@ abbrev pub RepeatsAs : Earlier → Earlier → MapFaultKind → Type 0
 RepeatsAs old new DuplicateBlock = Repeats old new
 RepeatsAs old new _ = ⊥
 
--- the same, but that no entry's block was looked for among the earlier ones
+-- the line was read, and the lines so far have it at their end; or it has an entry for the block of an earlier one
 abbrev pub Takes : Earlier → Earlier → Result Entry MapFaultKind → Type 0
 Takes old new (Ok entry) = (new ≡ added old entry) × IsNewIn old entry
 Takes old new (Err kind) = RepeatsAs old new kind
@@ -59,6 +57,26 @@ abbrev pub refusal_of : Result Entry MapFaultKind → MapFaultKind
 refusal_of (Ok entry) = NoMemory
 refusal_of (Err kind) = kind
 
+-- what a call returns that reads a line which says this: the line is taken, or its fault, or out of memory, and no entry is added
+pub record Reads (old new : Earlier) (line : Result Entry MapFaultKind) (result : Result (Unit {0}) MapFaultKind) : Type 0 where
+  pub ok : OnOk result (Takes old new line)
+  pub err : IfErr result (λ kind. kind ≡ refusal_of line)
+  pub kept : OnErr result (new.prefixes ≡ old.prefixes)
+
 -- there is room for one more entry with this label text
 abbrev pub has_prefix_room : Earlier → Label → Bool
 has_prefix_room earlier text = nat_lt (length earlier.prefixes) mapping_limit && has_room earlier.table text
+
+-- the first of some entries that has the block of an earlier one is the first fault of the text, at the line noted for it
+abbrev pub NotesRepeats : Form → List (List ℕ) → List Prefix → List ℕ → Type 0
+NotesRepeats form text ps noted =
+    (i line : ℕ) → slice_get noted i ≡ Some line → IsFirstRepeat ps (Some i)
+    → entries_from form [] 0 text ≡ Err (record { kind = DuplicateBlock; line = line })
+
+-- the lines of a text were read up to a fault, but for entries of one block
+pub record HasRead (form : Form) (text : List (List ℕ)) (reading : Earlier) (noted : List ℕ) (result : Result (Unit {0}) MapFault) : Type 0 where
+  pub repeats : NotesRepeats form text reading.prefixes noted
+  pub ok : OnOk result (HasDistinctKeys reading.prefixes
+      → (entries : List Entry) × (entries_from form [] 0 text ≡ Ok entries) × (reading ≡ earlier_of entries))
+  pub err : IfErr result (λ fault. HasDistinctKeys reading.prefixes → fault.kind ≢ NoMemory → entries_from form [] 0 text ≡ Err fault)
+  pub memory : IfErr result (λ fault. fault.kind ≡ NoMemory → fault.line ≡ 0)

@@ -18,7 +18,6 @@
 //! contracts cite, the label that a map gives an address and settled blocks among them, are in `specs`.
 #![tactic(auto)]
 
-mod checked;
 mod declarations;
 mod entries;
 mod entry;

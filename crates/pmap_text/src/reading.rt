@@ -1,7 +1,7 @@
 ghost use Rattle.std.specs.Prelude.{◌≡◌, ◌<◌, ◌≤◌, ◌++◌, ◌∷◌, [], Some, true, false, ◌⊎◌, length, option_map, slice_get, IsTrue, IfOk, IfErr, IfSome, OnOk, OnErr};
 ghost use Rattle.std.specs.Option.{option_or};
 ghost use Rattle.pmap_text.specs.Declarations.{conflicts as conflicts_of, meant_text, with_declared};
-ghost use Rattle.pmap_text.specs.Filed.{HasOncePlaced};
+ghost use Rattle.pmap_text.specs.Filed.{HasDistinctKeys, IsFirstRepeat};
 ghost use Rattle.pmap_text.specs.Label.{has_label, is_label as is_label_text, number_of, with_label};
 ghost use Rattle.pmap_text.specs.MapText.{map_of, text_at};
 ghost use Rattle.pmap_text.specs.PrefixList.{list_of};
@@ -20,7 +20,7 @@ use crate::map_text::MapText;
 use crate::name::Name;
 use crate::prefix_list::PrefixList;
 use crate::recent::Recent;
-use crate::repeats::{has_block, have_distinct_blocks};
+use crate::repeats::{first_repeat, has_block};
 use crate::statement::Statement;
 use crate::statements::Statements;
 use prefix_keys::{Block, Span, Version};
@@ -170,21 +170,11 @@ impl Reading {
         has_block(&self.entries, block)
     }
 
-    /// The start and the length of the block of the entry at a place, if there is one.
-    pub fn key_at(&self, place: usize) -> Option<(u128, u32)>
-        ensures { result ≡ option_map (λ p. (p.start, p.bits)) (slice_get self.now.prefixes place) }
+    /// The index of the first entry whose block an earlier one has.
+    pub fn first_repeat(&self) -> Result<Option<usize>, AllocError>
+        ensures { IfOk result (IsFirstRepeat self.now.prefixes) }
     {
-        match self.entries.get(place) {
-            Some(entry) => Some((entry.block.value, entry.block.len)),
-            None => None,
-        }
-    }
-
-    /// Whether the entries are seen to have distinct blocks. It sorts their starts and lengths, in memory of their own.
-    pub fn has_distinct_blocks(&self) -> Result<bool, AllocError>
-        ensures { IfOk result (λ distinct. IsTrue distinct → HasOncePlaced self.now.prefixes) }
-    {
-        have_distinct_blocks(self.alloc, &self.entries)
+        first_repeat(self.alloc, &self.entries)
     }
 
     /// The version of the text at a line whose first address is of the version `own`, which decides where nothing did.
@@ -206,6 +196,7 @@ impl Reading {
         requires { IsTrue (is_label_text name.now) }
         ensures ok { OnOk result (self.new ≡ record self.old { name = Some name.now }) }
         ensures err { IfErr result (λ kind. kind ≡ NoMemory) }
+        ensures kept { OnErr result (self.new.prefixes ≡ self.old.prefixes) }
     {
         let Ok(name) = Name::new(self.alloc, name) else {
             return Err(MapFaultKind::NoMemory);
@@ -271,6 +262,7 @@ impl Reading {
             }) }
         ensures err { IfErr result (λ kind. ((kind ≡ NoMemory) × (has_room self.old.table text.now ≡ true))
             ⊎ ((kind ≡ TooMany) × (has_room self.old.table text.now ≡ false))) }
+        ensures kept { OnErr result (self.new.prefixes ≡ self.old.prefixes) }
     {
         number_for(&mut self.labels, &mut self.recent, text)?;
         let Ok(()) = self.declared.add(number, text) else {
@@ -302,6 +294,7 @@ impl Reading {
           } ∷ [];
         }) }
         ensures err { IfErr result (λ kind. kind ≡ NoMemory) }
+        ensures kept { OnErr result (self.new.prefixes ≡ self.old.prefixes) }
     {
         self.version = Some(span.low.version);
         let Ok(()) = self.statements.push(Statement { span, label }) else {
@@ -360,7 +353,7 @@ impl Reading {
 
     /// The list of the lines so far, whose entries have distinct blocks.
     pub fn into_list(self) -> PrefixList
-        requires { HasOncePlaced self.prefixes }
+        requires { HasDistinctKeys self.prefixes }
         ensures list { list_of result ≡ list_from self }
         ensures limit { length result.entries ≤ MAPPING_LIMIT }
     {

@@ -1,11 +1,16 @@
 //! Blocks that entries share.
-ghost use Rattle.std.specs.Prelude.{◌≡◌, ◌<◌, IsTrue, IfOk, length, map};
-ghost use Rattle.pmap_text.specs.Filed.{AreRising};
-ghost use Rattle.pmap_text.specs.ListEntries.{HasDistinctBlocks, has_entry};
+ghost use Rattle.std.specs.Prelude.{◌≡◌, ℕ, IfOk, IsTrue, List, map, not, true, if◌then◌else◌};
+ghost use Rattle.std.specs.Ordering.{is_eq};
+ghost use Rattle.pmap_text.specs.Filed.{IsFirstRepeat, has_key, key_cmp};
+ghost use Rattle.pmap_text.specs.ListEntries.{has_entry};
+ghost use Rattle.pmap_text.specs.MapModel.{Label};
+ghost use Rattle.pmap_text.specs.PrefixList.{prefix_of};
 
 use crate::entry::Entry;
+use crate::order::{are_in_order, in_order};
 use prefix_keys::Block;
 use std::alloc::{AllocError, Global};
+use std::collections::BTreeSet;
 
 /// Whether an entry has the start and the length of this block.
 pub fn has_block(entries: &[Entry], block: &Block) -> bool
@@ -14,58 +19,46 @@ pub fn has_block(entries: &[Entry], block: &Block) -> bool
     entries.iter().any(|entry| entry.block.value == block.value && entry.block.len == block.len)
 }
 
-// Whether each key is above the one before it.
-fn are_rising(keys: &[(u128, u32)]) -> bool
-    ensures { IsTrue result → AreRising keys.now }
+// Adds a start and a length. Returns whether they are new.
+fn add_key(keys: &mut BTreeSet<(u128, u32)>, key: (u128, u32)) -> Result<bool, AllocError>
+    ensures new { IfOk result (λ new. has_key keys.old.keys key ≡ not new) }
+    ensures ok { IfOk result (λ new. IsTrue new → (q : ℕ × ℕ) →
+        has_key keys.new.keys q ≡ (if is_eq (key_cmp key q) then true else has_key keys.old.keys q)) }
 {
-    for i in 1..keys.len() {
-        if !keys[i - 1].cmp(&keys[i]).is_lt() {
-            return false;
-        }
+    match keys.insert(key) {
+        Ok(new) => Ok(new),
+        Err(_) => Err(AllocError),
     }
-    true
 }
 
-// The start and the length of each entry's block. Memory for all is asked for once: where it is refused, `collect` asks
-// for less.
-fn keys_of(alloc: Global, entries: &[Entry]) -> Result<Vec<(u128, u32)>, AllocError>
-    ensures { IfOk result (λ keys. keys.items ≡ map (λ e. (e.block.value, e.block.len)) entries.now) }
+// The index of the first entry whose block an earlier one has. Each block is looked for.
+fn find_repeat(alloc: Global, entries: &[Entry]) -> Result<Option<usize>, AllocError>
+    ensures { IfOk result (λ first. (table : List Label) → IsFirstRepeat (map (prefix_of table) entries.now) first) }
 {
-    let mut keys = Vec::with_capacity(alloc, entries.len())?;
+    let mut keys = BTreeSet::new(alloc);
+    let mut count = 0;
     for entry in entries {
-        keys.push(key_of(entry))?;
-    }
-    Ok(keys)
-}
-
-// The start and the length of an entry's block.
-fn key_of(entry: &Entry) -> (u128, u32)
-    ensures { result ≡ (entry.now.block.value, entry.now.block.len) }
-{
-    (entry.block.value, entry.block.len)
-}
-
-// Whether each entry's block comes behind the one before it, by start and length.
-fn come_in_order(entries: &[Entry]) -> bool
-    ensures { IsTrue result → HasDistinctBlocks entries.now }
-{
-    for i in 1..entries.len() {
-        if !key_of(&entries[i - 1]).cmp(&key_of(&entries[i])).is_lt() {
-            return false;
+        let new = add_key(&mut keys, (entry.block.value, entry.block.len))?;
+        if !new {
+            return Ok(Some(count));
         }
+        count += 1;
     }
-    true
+    Ok(None)
 }
 
-/// Whether the entries are seen to have distinct blocks: as they stand, or by sorting the starts and lengths. Unlike in
-/// a hash table, no choice of blocks makes that slow.
-pub fn have_distinct_blocks(alloc: Global, entries: &[Entry]) -> Result<bool, AllocError>
-    ensures { IfOk result (λ distinct. IsTrue distinct → HasDistinctBlocks entries.now) }
+/// The index of the first entry whose block an earlier one has. Unlike with a hash table, no choice of blocks makes that
+/// slow.
+pub fn first_repeat(alloc: Global, entries: &[Entry]) -> Result<Option<usize>, AllocError>
+    ensures { IfOk result (λ first. (table : List Label) → IsFirstRepeat (map (prefix_of table) entries.now) first) }
 {
-    if come_in_order(entries) {
-        return Ok(true);
+    if are_in_order(entries) {
+        return Ok(None);
     }
-    let mut keys = keys_of(alloc, entries)?;
-    keys.sort()?;
-    Ok(are_rising(keys.as_slice()))
+    // Sorting is faster than looking for each block, and few lists have a repeat.
+    let sorted = in_order(alloc, entries)?;
+    if are_in_order(sorted.as_slice()) {
+        return Ok(None);
+    }
+    find_repeat(alloc, entries)
 }

@@ -1,13 +1,11 @@
 //! Map texts and list texts, which are read line by line.
-ghost use Rattle.std.specs.Prelude.{◌≡◌, ◌≢◌, ◌≤◌, [], List, Ok, Err, length, IfOk, IfErr, IfSome};
-ghost use Rattle.std.specs.Result.{IsErr};
-ghost use Rattle.pmap_text.specs.Filed.{HasOncePlaced};
+ghost use Rattle.std.specs.Prelude.{◌≡◌, ◌≢◌, ◌++◌, ◌∷◌, [], List, Some, Ok, Err, IfOk, IfErr, IsTrue, false, if◌then◌else◌, length, nat_lt, slice_get};
+ghost use Rattle.pmap_text.specs.Filed.{HasDistinctKeys};
 ghost use Rattle.pmap_text.specs.Lines.{lines_of};
 ghost use Rattle.pmap_text.specs.Reading.{Entry, ReturnsList, ReturnsMap, earlier_of, entries_from};
-ghost use Rattle.pmap_text.specs.declared.form.Form.TheVariants as form;
-ghost use Rattle.pmap_text.specs.declared.fault.MapFaultKind.TheVariants.{NoMemory};
+ghost use Rattle.pmap_text.specs.Steps.{HasRead};
+ghost use Rattle.pmap_text.specs.declared.fault.MapFaultKind.TheVariants.{DuplicateBlock, NoMemory};
 
-use crate::checked::{Keys, read_checked};
 use crate::fault::{MapFault, MapFaultKind};
 use crate::form::Form;
 use crate::hashing::KeyHashing;
@@ -31,6 +29,69 @@ fn fault_at(kind: MapFaultKind, number: u64) -> MapFault
     MapFault { kind, line }
 }
 
+// Notes the line of an entry if fewer lines are noted than there are entries. Returns false if an allocation fails.
+fn note(noted: &mut Vec<u64>, count: usize, number: u64) -> bool
+    ensures stored { IsTrue result → noted.new.items
+        ≡ (if nat_lt (length noted.old.items) count then noted.old.items ++ number ∷ [] else noted.old.items) }
+    ensures same { result ≡ false → noted.new.items ≡ noted.old.items }
+{
+    if noted.len() < count {
+        noted.push(number).is_ok()
+    } else {
+        true
+    }
+}
+
+// Reads the lines of a text of this form up to a fault, and notes the line of each entry. An entry may have the block of
+// an earlier one.
+fn read_on(
+    reading: &mut Reading,
+    noted: &mut Vec<u64>,
+    form: Form,
+    text: &[u8],
+) -> Result<(), MapFault>
+    requires nothing { reading.old ≡ earlier_of [] }
+    requires none { noted.old.items ≡ [] }
+    ensures { HasRead form (lines_of text.now) reading.new noted.new.items result }
+{
+    let mut rest = text;
+    let mut number = 0;
+    while !rest.is_empty() {
+        let (content, after) = split_content(rest);
+        number += 1;
+        if let Err(kind) = reading.read_content(form, content) {
+            return Err(fault_at(kind, number));
+        }
+        let stored = note(noted, reading.entry_count(), number);
+        if !stored {
+            return Err(MapFault {
+                kind: MapFaultKind::NoMemory,
+                line: 0,
+            });
+        }
+        rest = after;
+    }
+    Ok(())
+}
+
+// The fault of the line of an entry whose block an earlier one has. A line that isn't noted found no memory.
+fn repeat_at(noted: &[u64], index: usize) -> MapFault
+    ensures found { result.kind ≢ NoMemory → (slice_get noted.now index ≡ Some result.line)
+        × (result ≡ record { kind = DuplicateBlock; line = result.line }) }
+    ensures memory { result.kind ≡ NoMemory → result.line ≡ 0 }
+{
+    match noted.get(index) {
+        Some(line) => MapFault {
+            kind: MapFaultKind::DuplicateBlock,
+            line: *line,
+        },
+        None => MapFault {
+            kind: MapFaultKind::NoMemory,
+            line: 0,
+        },
+    }
+}
+
 // Reads the lines of a text of this form, up to its first fault.
 fn read_lines(
     alloc: Global,
@@ -40,59 +101,21 @@ fn read_lines(
 ) -> Result<Reading, MapFault>
     ensures ok { IfOk result (λ lines. (entries : List Entry) × (entries_from form [] 0 (lines_of text.now)
         ≡ Ok entries) × (lines ≡ earlier_of entries)) }
-    ensures distinct { IfOk result (λ lines. HasOncePlaced lines.prefixes) }
+    ensures distinct { IfOk result (λ lines. HasDistinctKeys lines.prefixes) }
     ensures err { IfErr result (λ fault. fault.kind ≢ NoMemory → entries_from form [] 0 (lines_of text.now)
         ≡ Err fault) }
     ensures memory { IfErr result (λ fault. fault.kind ≡ NoMemory → fault.line ≡ 0) }
 {
     let mut reading = Reading::new(alloc, hashing);
-    let mut keys = Keys::new(alloc);
-    let mut rest = text;
-    let mut number = 0;
-    while !rest.is_empty() {
-        let (content, after) = split_content(rest);
-        number += 1;
-        if let Err(kind) = read_checked(&mut reading, &mut keys, form, content) {
-            return Err(fault_at(kind, number));
-        }
-        rest = after;
-    }
-    Ok(reading)
-}
-
-// Reads the lines of a list text, and doesn't look for the block of an entry among those before. What was read counts
-// where all blocks are distinct. A fault says nothing of the text, but where it is want of memory.
-fn read_unchecked(alloc: Global, text: &[u8], hashing: KeyHashing) -> Result<Reading, MapFaultKind>
-    ensures { IfOk result (λ lines. HasOncePlaced lines.prefixes →
-        (entries : List Entry) × (entries_from form.List [] 0 (lines_of text.now) ≡ Ok entries)
-        × (lines ≡ earlier_of entries)) }
-{
-    let mut reading = Reading::new(alloc, hashing);
-    let mut rest = text;
-    while !rest.is_empty() {
-        let (content, after) = split_content(rest);
-        reading.read_content(Form::List, content)?;
-        rest = after;
-    }
-    Ok(reading)
-}
-
-// What such a reading settles: the lines, where all blocks are distinct, or want of memory, its own or that of the test.
-// `None` says nothing.
-fn settled(unchecked: Result<Reading, MapFaultKind>) -> Result<Option<Reading>, MapFault>
-    ensures found { IfOk result (λ found. IfSome found (λ lines. (unchecked ≡ Ok lines) × HasOncePlaced lines.prefixes)) }
-    ensures fault { IfErr result (λ fault. fault ≡ record { kind = NoMemory; line = 0 }) }
-    ensures memory { unchecked ≡ Err NoMemory → IsErr result }
-{
-    let want = fault_at(MapFaultKind::NoMemory, 0);
-    match unchecked {
-        Ok(reading) => match reading.has_distinct_blocks() {
-            Ok(true) => Ok(Some(reading)),
-            Ok(false) => Ok(None),
-            Err(_) => Err(want),
+    let mut noted = Vec::new(alloc);
+    let end = read_on(&mut reading, &mut noted, form, text);
+    match reading.first_repeat() {
+        Ok(None) => match end {
+            Ok(()) => Ok(reading),
+            Err(fault) => Err(fault),
         },
-        Err(MapFaultKind::NoMemory) => Err(want),
-        Err(_) => Ok(None),
+        Ok(Some(index)) => Err(repeat_at(noted.as_slice(), index)),
+        Err(_) => Err(fault_at(MapFaultKind::NoMemory, 0)),
     }
 }
 
@@ -173,10 +196,6 @@ pub fn read_list_with_hashing(
 ) -> Result<PrefixList, MapFault>
     ensures { ReturnsList text.now result }
 {
-    // Sorting all blocks once is faster than looking for each, and tells of most lists that they have no fault.
-    if let Some(reading) = settled(read_unchecked(alloc, text, hashing))? {
-        return Ok(reading.into_list());
-    }
     let reading = read_lines(alloc, Form::List, text, hashing)?;
     Ok(reading.into_list())
 }

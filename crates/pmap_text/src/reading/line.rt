@@ -7,7 +7,7 @@ ghost use Rattle.pmap_text.specs.Declarations.{label_number as number_of_label, 
 ghost use Rattle.pmap_text.specs.Label.{is_label as is_label_text};
 ghost use Rattle.pmap_text.specs.Lines.{first_word};
 ghost use Rattle.pmap_text.specs.Reading.{Lists, address_line, block_line, content_line, decided, declared_line, default_line, label_line, label_of, mode_line, mode_version, name_line, one_or_two, other_fault, placed_line, prefix_line, range_line, single_line, span_line, statement_line, version_at as version_at_of};
-ghost use Rattle.pmap_text.specs.Steps.{Takes, added, has_prefix_room, refusal_of};
+ghost use Rattle.pmap_text.specs.Steps.{Reads, added, has_prefix_room};
 ghost use Rattle.pmap_text.specs.declared.fault.MapFaultKind.TheVariants.{NoMemory, TooMany};
 ghost use Rattle.pmap_text.specs.declared.form.Form.TheVariants.{Map};
 
@@ -82,8 +82,7 @@ fn named_version(word: &[u8]) -> Option<Version>
 impl Reading {
     // `map-name NAME`, from behind the first word.
     fn read_name(&mut self, rest: &[u8]) -> Result<(), MapFaultKind>
-        ensures ok { OnOk result (Takes self.old self.new (name_line rest.now)) }
-        ensures err { IfErr result (λ kind. kind ≡ refusal_of (name_line rest.now)) }
+        ensures { Reads self.old self.new (name_line rest.now) result }
     {
         let name = label_text(rest)?;
         self.set_name(name)
@@ -91,8 +90,7 @@ impl Reading {
 
     // `mode WORD`, from behind the first word.
     fn read_mode(&mut self, rest: &[u8]) -> Result<(), MapFaultKind>
-        ensures ok { OnOk result (Takes self.old self.new (mode_line self.old rest.now)) }
-        ensures err { IfErr result (λ kind. kind ≡ refusal_of (mode_line self.old rest.now)) }
+        ensures { Reads self.old self.new (mode_line self.old rest.now) result }
     {
         let Some(version) = named_version(rest) else {
             return Err(MapFaultKind::BadMode);
@@ -109,8 +107,7 @@ impl Reading {
 
     // A text for this number, from behind the number.
     fn read_declared(&mut self, number: u32, rest: &[u8]) -> Result<(), MapFaultKind>
-        ensures ok { OnOk result (Takes self.old self.new (declared_line self.old (Some number) rest.now)) }
-        ensures err { IfErr result (λ kind. kind ≡ refusal_of (declared_line self.old (Some number) rest.now)) }
+        ensures { Reads self.old self.new (declared_line self.old (Some number) rest.now) result }
     {
         let text = label_text(rest)?;
         if are_digits(text) {
@@ -124,8 +121,7 @@ impl Reading {
 
     // `label NUMBER TEXT`, from behind the first word.
     fn read_label(&mut self, rest: &[u8]) -> Result<(), MapFaultKind>
-        ensures ok { OnOk result (Takes self.old self.new (label_line self.old rest.now)) }
-        ensures err { IfErr result (λ kind. kind ≡ refusal_of (label_line self.old rest.now)) }
+        ensures { Reads self.old self.new (label_line self.old rest.now) result }
     {
         let (word, rest) = split_word(rest);
         match label_number(word) {
@@ -136,8 +132,7 @@ impl Reading {
 
     // `default LABEL`, from behind the first word.
     fn read_default(&mut self, form: Form, rest: &[u8]) -> Result<(), MapFaultKind>
-        ensures ok { OnOk result (Takes self.old self.new (default_line form self.old rest.now)) }
-        ensures err { IfErr result (λ kind. kind ≡ refusal_of (default_line form self.old rest.now)) }
+        ensures { Reads self.old self.new (default_line form self.old rest.now) result }
     {
         if form == Form::List {
             return Err(MapFaultKind::NotAList);
@@ -152,10 +147,8 @@ impl Reading {
     #[inline(always)]
     fn read_span(&mut self, span: Span, rest: &[u8]) -> Result<(), MapFaultKind>
         requires { version_at_of self.old span.low.version ≡ span.low.version }
-        ensures ok { OnOk result (Takes self.old self.new
-            (span_line self.old span.low.version span.low.value span.high.value rest.now)) }
-        ensures err { IfErr result (λ kind. kind
-            ≡ refusal_of (span_line self.old span.low.version span.low.value span.high.value rest.now)) }
+        ensures { Reads self.old self.new
+            (span_line self.old span.low.version span.low.value span.high.value rest.now) result }
     {
         match self.recent_label(rest) {
             Some(label) if self.mapping_count() < MAPPING_LIMIT => self.add_statement(span, label),
@@ -166,10 +159,8 @@ impl Reading {
     // The same, where the label may be any.
     fn read_labelled(&mut self, span: Span, rest: &[u8]) -> Result<(), MapFaultKind>
         requires { version_at_of self.old span.low.version ≡ span.low.version }
-        ensures ok { OnOk result (Takes self.old self.new
-            (span_line self.old span.low.version span.low.value span.high.value rest.now)) }
-        ensures err { IfErr result (λ kind. kind
-            ≡ refusal_of (span_line self.old span.low.version span.low.value span.high.value rest.now)) }
+        ensures { Reads self.old self.new
+            (span_line self.old span.low.version span.low.value span.high.value rest.now) result }
     {
         let text = label_text(rest)?;
         if self.mapping_count() >= MAPPING_LIMIT {
@@ -184,8 +175,7 @@ impl Reading {
     fn read_narrow(&mut self, low: u32, high: u32, rest: &[u8]) -> Result<(), MapFaultKind>
         requires version { self.old.version ≡ Some V4 }
         requires ordered { low ≤ high }
-        ensures ok { OnOk result (Takes self.old self.new (span_line self.old V4 low high rest.now)) }
-        ensures err { IfErr result (λ kind. kind ≡ refusal_of (span_line self.old V4 low high rest.now)) }
+        ensures { Reads self.old self.new (span_line self.old V4 low high rest.now) result }
     {
         let low = Addr {
             version: Version::V4,
@@ -221,10 +211,7 @@ impl Reading {
     // already is found where the line has another fault, and else behind the last line.
     fn read_prefix(&mut self, block: Block, rest: &[u8]) -> Result<(), MapFaultKind>
         requires { version_at_of self.old block.version ≡ block.version }
-        ensures ok { OnOk result (Takes self.old self.new
-            (prefix_line self.old block.version block.value block.len rest.now)) }
-        ensures err { IfErr result (λ kind. kind
-            ≡ refusal_of (prefix_line self.old block.version block.value block.len rest.now)) }
+        ensures { Reads self.old self.new (prefix_line self.old block.version block.value block.len rest.now) result }
     {
         let text = label_text(rest)?;
         match self.take_prefix(block, text) {
@@ -237,10 +224,8 @@ impl Reading {
     // A block in the text's version and then a label, from behind the block.
     fn read_placed(&mut self, form: Form, block: Block, rest: &[u8]) -> Result<(), MapFaultKind>
         requires { version_at_of self.old block.version ≡ block.version }
-        ensures ok { OnOk result (Takes self.old self.new
-            (placed_line form self.old block.version block.value block.len rest.now)) }
-        ensures err { IfErr result (λ kind. kind
-            ≡ refusal_of (placed_line form self.old block.version block.value block.len rest.now)) }
+        ensures { Reads self.old self.new
+            (placed_line form self.old block.version block.value block.len rest.now) result }
     {
         match form {
             Form::Map => self.read_span(block.span(), rest),
@@ -255,10 +240,8 @@ impl Reading {
         block: Block,
         rest: &[u8],
     ) -> Result<(), MapFaultKind>
-        ensures ok { OnOk result (Takes self.old self.new
-            (block_line form self.old (Ok (block.version, block.value, block.len)) rest.now)) }
-        ensures err { IfErr result (λ kind. kind
-            ≡ refusal_of (block_line form self.old (Ok (block.version, block.value, block.len)) rest.now)) }
+        ensures { Reads self.old self.new
+            (block_line form self.old (Ok (block.version, block.value, block.len)) rest.now) result }
     {
         let block = block_in(self.version_at(block.version), block)?;
         self.read_placed(form, block, rest)
@@ -266,10 +249,7 @@ impl Reading {
 
     // `BLOCK LABEL`, from the block on.
     fn read_block_line(&mut self, form: Form, word: &[u8], rest: &[u8]) -> Result<(), MapFaultKind>
-        ensures ok { OnOk result (Takes self.old self.new
-            (block_line form self.old (block_of_text word.now) rest.now)) }
-        ensures err { IfErr result (λ kind. kind
-            ≡ refusal_of (block_line form self.old (block_of_text word.now) rest.now)) }
+        ensures { Reads self.old self.new (block_line form self.old (block_of_text word.now) rest.now) result }
     {
         match read_block(word) {
             Ok(block) => self.read_behind_block(form, block, rest),
@@ -286,11 +266,8 @@ impl Reading {
         second: Addr,
         rest: &[u8],
     ) -> Result<(), MapFaultKind>
-        ensures ok { OnOk result (Takes self.old self.new
-            (range_line form self.old (first.version, first.value) (second.version, second.value) rest.now)) }
-        ensures err { IfErr result (λ kind. kind
-            ≡ refusal_of (range_line form self.old (first.version, first.value)
-            (second.version, second.value) rest.now)) }
+        ensures { Reads self.old self.new
+            (range_line form self.old (first.version, first.value) (second.version, second.value) rest.now) result }
     {
         if form == Form::List {
             return Err(MapFaultKind::NotAList);
@@ -306,10 +283,7 @@ impl Reading {
 
     // `ADDRESS LABEL`, from behind the address.
     fn read_single(&mut self, form: Form, addr: Addr, rest: &[u8]) -> Result<(), MapFaultKind>
-        ensures ok { OnOk result (Takes self.old self.new
-            (single_line form self.old (addr.version, addr.value) rest.now)) }
-        ensures err { IfErr result (λ kind. kind
-            ≡ refusal_of (single_line form self.old (addr.version, addr.value) rest.now)) }
+        ensures { Reads self.old self.new (single_line form self.old (addr.version, addr.value) rest.now) result }
     {
         let version = self.version_at(addr.version);
         let addr = addr_in(version, addr)?;
@@ -323,11 +297,8 @@ impl Reading {
         first: Addr,
         rest: &[u8],
     ) -> Result<(), MapFaultKind>
-        ensures ok { OnOk result (Takes self.old self.new
-            (one_or_two form self.old (first.version, first.value) (address_of (first_word rest.now)) rest.now)) }
-        ensures err { IfErr result (λ kind. kind
-            ≡ refusal_of (one_or_two form self.old (first.version, first.value)
-            (address_of (first_word rest.now)) rest.now)) }
+        ensures { Reads self.old self.new
+            (one_or_two form self.old (first.version, first.value) (address_of (first_word rest.now)) rest.now) result }
     {
         let (word, behind) = split_word(rest);
         match read_addr(word) {
@@ -343,11 +314,8 @@ impl Reading {
         first: Addr,
         rest: &[u8],
     ) -> Result<(), MapFaultKind>
-        ensures ok { OnOk result (Takes self.old self.new
-            (one_or_two form self.old (first.version, first.value) (address_of (first_word rest.now)) rest.now)) }
-        ensures err { IfErr result (λ kind. kind
-            ≡ refusal_of (one_or_two form self.old (first.version, first.value)
-            (address_of (first_word rest.now)) rest.now)) }
+        ensures { Reads self.old self.new
+            (one_or_two form self.old (first.version, first.value) (address_of (first_word rest.now)) rest.now) result }
     {
         match leading_word(rest) {
             Some((Word::Address(second), behind)) => self.read_range(form, first, second, behind),
@@ -357,10 +325,7 @@ impl Reading {
 
     // A line whose first word is no keyword and has no `/`.
     fn read_other(&mut self, form: Form, word: &[u8], rest: &[u8]) -> Result<(), MapFaultKind>
-        ensures ok { OnOk result (Takes self.old self.new
-            (address_line form self.old word.now (address_of word.now) rest.now)) }
-        ensures err { IfErr result (λ kind. kind
-            ≡ refusal_of (address_line form self.old word.now (address_of word.now) rest.now)) }
+        ensures { Reads self.old self.new (address_line form self.old word.now (address_of word.now) rest.now) result }
     {
         match read_addr(word) {
             Some(addr) => self.read_address_line(form, addr, rest),
@@ -370,8 +335,7 @@ impl Reading {
 
     // A line with a word, by its first word and what stands behind it.
     fn read_statement(&mut self, form: Form, word: &[u8], rest: &[u8]) -> Result<(), MapFaultKind>
-        ensures ok { OnOk result (Takes self.old self.new (statement_line form self.old word.now rest.now)) }
-        ensures err { IfErr result (λ kind. kind ≡ refusal_of (statement_line form self.old word.now rest.now)) }
+        ensures { Reads self.old self.new (statement_line form self.old word.now rest.now) result }
     {
         if word == b"map-name".as_slice() {
             self.read_name(rest)
@@ -390,8 +354,7 @@ impl Reading {
 
     // A line's content, by its words.
     fn read_words(&mut self, form: Form, content: &[u8]) -> Result<(), MapFaultKind>
-        ensures ok { OnOk result (Takes self.old self.new (content_line form self.old content.now)) }
-        ensures err { IfErr result (λ kind. kind ≡ refusal_of (content_line form self.old content.now)) }
+        ensures { Reads self.old self.new (content_line form self.old content.now) result }
     {
         if content.is_empty() {
             return Ok(());
@@ -402,8 +365,7 @@ impl Reading {
 
     // A line that begins with an address or a block of either version, or with anything else.
     fn read_line(&mut self, form: Form, content: &[u8]) -> Result<(), MapFaultKind>
-        ensures ok { OnOk result (Takes self.old self.new (content_line form self.old content.now)) }
-        ensures err { IfErr result (λ kind. kind ≡ refusal_of (content_line form self.old content.now)) }
+        ensures { Reads self.old self.new (content_line form self.old content.now) result }
     {
         match leading_word(content) {
             Some((Word::Block(block), rest)) => self.read_behind_block(form, block, rest),
@@ -423,8 +385,7 @@ impl Reading {
     /// Reads the content of one more line. An entry for a block that has one already is added too. After a fault
     /// nothing is known of the lines so far.
     pub fn read_content(&mut self, form: Form, content: &[u8]) -> Result<(), MapFaultKind>
-        ensures ok { OnOk result (Takes self.old self.new (content_line form self.old content.now)) }
-        ensures err { IfErr result (λ kind. kind ≡ refusal_of (content_line form self.old content.now)) }
+        ensures { Reads self.old self.new (content_line form self.old content.now) result }
     {
         if self.is_narrow(form) {
             if let Some((low, high, rest)) = leading_span(content) {

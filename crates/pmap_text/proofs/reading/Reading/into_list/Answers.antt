@@ -1,5 +1,5 @@
 use Rattle.std.proofs.Common.{◌≡◌, ℕ, ◌<◌, List, get_or, length, sym, subst, ◌∙◌}
-use Rattle.pmap_text.specs.Filed.{HasOncePlaced, same_place}
+use Rattle.pmap_text.specs.Filed.{HasDistinctKeys, same_key}
 use Rattle.pmap_text.specs.ListEntries.{HasDistinctBlocks}
 use Rattle.pmap_text.specs.PrefixList.{prefix_of}
 use Rattle.pmap_text.specs.Reading.{Earlier}
@@ -10,8 +10,8 @@ use Rattle.pmap_text.proofs.reading.Reading.into_list.Goals as goal
 
 pub from_distinct-entries-requires : goal.from_distinct-entries-requires
 from_distinct-entries-requires c =
-    distinct_from_map (prefix_of c.self.inside.labels) same_place c.self.inside.entries.items
-    (subst (λ (e : Earlier). HasOncePlaced e.prefixes) (sym c.self.view_is) c.requires)
+    distinct_from_map (prefix_of c.self.inside.labels) same_key c.self.inside.entries.items
+    (subst (λ (e : Earlier). HasDistinctKeys e.prefixes) (sym c.self.view_is) c.requires)
 
 pub invariant_of-result-clause-one_version : goal.invariant_of-result-clause-one_version
 invariant_of-result-clause-one_version c =
@@ -27,5 +27,5 @@ invariant_of-result-clause-numbers_known c =
 
 pub invariant_of-result-clause-blocks_distinct : goal.invariant_of-result-clause-blocks_distinct
 invariant_of-result-clause-blocks_distinct c = subst HasDistinctBlocks (sym c.from_distinct-entries.ensures)
-    (distinct_from_map (prefix_of c.self.inside.labels) same_place c.self.inside.entries.items
-    (subst (λ (e : Earlier). HasOncePlaced e.prefixes) (sym c.self.view_is) c.requires))
+    (distinct_from_map (prefix_of c.self.inside.labels) same_key c.self.inside.entries.items
+    (subst (λ (e : Earlier). HasDistinctKeys e.prefixes) (sym c.self.view_is) c.requires))

@@ -6,30 +6,16 @@ use Rattle.pmap_text.specs.declared.leading.Word.TheVariants.{Address, Block as 
 use Rattle.pmap_text.proofs.LeadingWords.{content-address, content-block}
 use Rattle.pmap_text.proofs.reading.Reading.read_line.Goals as goal
 
-pub returns-in-Some-Block-default-clause-ok : goal.returns-in-Some-Block-default-clause-ok
-returns-in-Some-Block-default-clause-ok c =
+pub returns-in-Some-Block-default : goal.returns-in-Some-Block-default
+returns-in-Some-Block-default c =
     let arm = c.in-Some-Block-default in
     let word : IsWord (first_word c.args.content.now) (block_word arm.block) =
     subst (λ (w : Word). IsWord (first_word c.args.content.now) w) arm.field-0-0-is arm.ensures.word in
-    rw (content-block c.args.form c.args.self.now c.args.content.now arm.rest.now arm.block word arm.ensures.rest) c.read_behind_block.ensures.ok
+    rw (content-block c.args.form c.args.self.now c.args.content.now arm.rest.now arm.block word arm.ensures.rest) c.read_behind_block.ensures
 
-pub returns-in-Some-Block-default-clause-err : goal.returns-in-Some-Block-default-clause-err
-returns-in-Some-Block-default-clause-err c =
-    let arm = c.in-Some-Block-default in
-    let word : IsWord (first_word c.args.content.now) (block_word arm.block) =
-    subst (λ (w : Word). IsWord (first_word c.args.content.now) w) arm.field-0-0-is arm.ensures.word in
-    rw (content-block c.args.form c.args.self.now c.args.content.now arm.rest.now arm.block word arm.ensures.rest) c.read_behind_block.ensures.err
-
-pub returns-in-Some-Address-default-clause-ok : goal.returns-in-Some-Address-default-clause-ok
-returns-in-Some-Address-default-clause-ok c =
+pub returns-in-Some-Address-default : goal.returns-in-Some-Address-default
+returns-in-Some-Address-default c =
     let arm = c.in-Some-Address-default in
     let word : IsWord (first_word c.args.content.now) (Address arm.first) =
     subst (λ (w : Word). IsWord (first_word c.args.content.now) w) arm.field-0-0-is arm.ensures.word in
-    rw (content-address c.args.form c.args.self.now c.args.content.now arm.rest.now arm.first word arm.ensures.rest) c.read_behind_address.ensures.ok
-
-pub returns-in-Some-Address-default-clause-err : goal.returns-in-Some-Address-default-clause-err
-returns-in-Some-Address-default-clause-err c =
-    let arm = c.in-Some-Address-default in
-    let word : IsWord (first_word c.args.content.now) (Address arm.first) =
-    subst (λ (w : Word). IsWord (first_word c.args.content.now) w) arm.field-0-0-is arm.ensures.word in
-    rw (content-address c.args.form c.args.self.now c.args.content.now arm.rest.now arm.first word arm.ensures.rest) c.read_behind_address.ensures.err
+    rw (content-address c.args.form c.args.self.now c.args.content.now arm.rest.now arm.first word arm.ensures.rest) c.read_behind_address.ensures

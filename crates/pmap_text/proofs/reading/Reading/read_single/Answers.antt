@@ -1,16 +1,15 @@
 use Rattle.std.proofs.Common.{◌≡◌, ℕ, Result, sym, ap, subst, ◌∙◌}
-use Rattle.std.specs.Result.{IfErr}
 use Rattle.prefix_keys.specs.Block.{block_number, first_of}
 use Rattle.prefix_keys.specs.Version.{width_of}
 use Rattle.prefix_keys.specs.declared.version.Version.{Version}
 use Rattle.pmap_text.specs.Reading.{Entry, number_in, placed_line, single_line, ◌>>=◌}
 use Rattle.pmap_text.specs.declared.fault.MapFaultKind.{MapFaultKind}
-use Rattle.pmap_text.specs.Steps.{refusal_of}
+use Rattle.pmap_text.specs.Steps.{Reads}
 use Rattle.pmap_text.proofs.MovedBlocks.{first_of-full}
 use Rattle.pmap_text.proofs.reading.Reading.read_single.Goals as goal
 
-pub returns-clause-err : goal.returns-clause-err
-returns-clause-err c =
+pub returns : goal.returns
+returns c =
     let own = c.args.addr in
     let lines = c.args.self.now in
     let version = c.version_at-version.result in
@@ -26,4 +25,4 @@ returns-clause-err c =
     λ i. placed ((c.block_of.ensures.version ∙ to.version) i) (begins i) (len i) in
     let same : placed block.version block.value block.len ≡ single_line c.args.form lines (own.version, own.value) c.args.rest.now =
     moved ∙ ap (λ (r : Result ℕ MapFaultKind). r >>= (λ start. placed version start (width_of version))) (sym to.ok) ∙ ap read c.version_at-version.ensures in
-    subst (λ (r : Result Entry MapFaultKind). IfErr c.read_placed.result (λ kind. kind ≡ refusal_of r)) same c.read_placed.ensures.err
+    subst (λ (r : Result Entry MapFaultKind). Reads lines c.read_placed.new.self r c.read_placed.result) same c.read_placed.ensures

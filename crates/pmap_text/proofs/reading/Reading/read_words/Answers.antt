@@ -10,12 +10,7 @@ content_line-words : (form : Form) (earlier : Earlier) (content : List ℕ) → 
 content_line-words form earlier [] ne = absurd (ne refl)
 content_line-words form earlier (b ∷ bs) ne = refl
 
-pub returns-clause-ok : goal.returns-clause-ok
-returns-clause-ok c =
+pub returns : goal.returns
+returns c =
     let words = content_line-words c.args.form c.args.self.now c.args.content.now (eqb-false _ 0 (sym c.if-is_empty.ensures)) in
-    rw (words, ← c.split_word.ensures.word, ← c.split_word.ensures.rest) c.read_statement.ensures.ok
-
-pub returns-clause-err : goal.returns-clause-err
-returns-clause-err c =
-    let words = content_line-words c.args.form c.args.self.now c.args.content.now (eqb-false _ 0 (sym c.if-is_empty.ensures)) in
-    rw (words, ← c.split_word.ensures.word, ← c.split_word.ensures.rest) c.read_statement.ensures.err
+    rw (words, ← c.split_word.ensures.word, ← c.split_word.ensures.rest) c.read_statement.ensures

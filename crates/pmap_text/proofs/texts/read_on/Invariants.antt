@@ -1,0 +1,14 @@
+use Rattle.std.proofs.Common.{◌+◌, ◌≤◌, length}
+use Rattle.pmap_text.specs.Lines.{lines_of}
+use Rattle.pmap_text.proofs.Entering.{HasReadTo}
+use Rattle.pmap_text.proofs.texts.read_on.Given as goal
+
+-- what is known of the lines so far
+abbrev pub invariant-loop-rest : goal.invariant-loop-rest
+invariant-loop-rest l = record {
+  fits : l.number + length l.rest ≤ length l.text;
+  so_far : HasReadTo l.form (lines_of l.text) l.reading l.noted.items l.number (lines_of l.rest);
+}
+
+abbrev pub decreases-loop-rest : goal.decreases-loop-rest
+decreases-loop-rest l = length l.rest
