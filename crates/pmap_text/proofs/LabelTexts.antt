@@ -121,14 +121,6 @@ module _ (table : List Label) (x : Label) where
       by true h = rw (with_label-known h) e
       by false h = rw (with_label-new h) (slice_get-append table (x ∷ []) i y e)
 
-  -- and its number
-  pub number_of-with_label : (y : Label) (i : ℕ) → number_of table y ≡ Some i → number_of (with_label table x) y ≡ Some i
-  number_of-with_label y i e = by (has_label table x) refl
-    where
-      by : (b : Bool) → has_label table x ≡ b → number_of (with_label table x) y ≡ Some i
-      by true h = rw (with_label-known h) e
-      by false h = rw (with_label-new h) (position-push (bytes_eq y) table x i e)
-
   -- the text has the first place that it had, or the last
   pub number_of-added : number_of (with_label table x) x ≡ Some (position_or_len (bytes_eq x) table)
   number_of-added = by (has_label table x) refl

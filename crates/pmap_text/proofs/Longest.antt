@@ -6,11 +6,11 @@ use Rattle.std.proofs.lemmas.Bool.{and_from, and_parts, both_ways, cases_eq, cas
 use Rattle.std.proofs.lemmas.Option.{none-some, same_Some}
 use Rattle.std.proofs.lemmas.List.Elements.{All-contains, All-weaker}
 use Rattle.prefix_keys.specs.Block.{block_number, first_of, last_of}
-use Rattle.prefix_keys.proofs.Quotients.{quotient_is}
 use Rattle.pmap_text.specs.ListModel.{Prefix, covers, label_at, label_below, lies_inside}
 use Rattle.pmap_text.specs.MapModel.{Label, meets, spans_all}
 use Rattle.pmap_text.proofs.Finds.{filter_none, find_alike, find_none}
-use Rattle.pmap_text.proofs.Orders.{block_from, block_to, both_le, known_text, le_both}
+use Rattle.pmap_text.proofs.Blocks.{address-between, address-first, address-last}
+use Rattle.pmap_text.proofs.Orders.{both_le, known_text, le_both}
 use Rattle.pmap_text.proofs.Painted.{painted, IsTop, IsSeen}
 
 -- prefixes of blocks, of which those of one block have one label
@@ -25,8 +25,8 @@ meets_at : (W n q a : ℕ) (p : Prefix) → q ≡ block_number W n a → block_n
 meets_at W n q a p inside same =
     le_both (first_of W p.bits (block_number W p.bits p.start)) (last_of W n q) (first_of W n q)
     (last_of W p.bits (block_number W p.bits p.start))
-    (omega (arith, block_from W p.bits (block_number W p.bits p.start) a same, block_to W n q a inside))
-    (omega (arith, block_from W n q a inside, block_to W p.bits (block_number W p.bits p.start) a same))
+    (omega (arith, address-first W p.bits (block_number W p.bits p.start) a (sym same), address-last W n q a (sym inside)))
+    (omega (arith, address-first W n q a (sym inside), address-last W p.bits (block_number W p.bits p.start) a (sym same)))
 
 -- so one that covers the address does, and one inside the block
 covers_parts : (W k a : ℕ) (p : Prefix) → covers W k a p ≡ true
@@ -50,11 +50,9 @@ top_number : (W n q a : ℕ) (p : Prefix) → spans_all W n q (painted W p) ≡ 
     → block_number W p.bits a ≡ block_number W p.bits p.start
 top_number W n q a p h inside =
     let s = block_number W p.bits p.start in
-    let positive = pow_pos (W - p.bits) in
     let orders = both_le (first_of W p.bits s) (first_of W n q) (last_of W n q) (last_of W p.bits s) h in
-    let low : s * 2 ^ (W - p.bits) ≤ a = omega (arith, orders.0, block_from W n q a inside) in
-    let high : a ≤ (s + 1) * 2 ^ (W - p.bits) - 1 = omega (arith, orders.1, block_to W n q a inside) in
-    quotient_is a (2 ^ (W - p.bits)) s positive low (omega (arith, low, high, positive))
+    address-between W p.bits s a (omega (arith, orders.0, address-first W n q a (sym inside)))
+    (omega (arith, orders.1, address-last W n q a (sym inside)))
 
 top_covers : (W n q a : ℕ) (p : Prefix) → spans_all W n q (painted W p) ≡ true → q ≡ block_number W n a
     → covers W p.bits a p ≡ true

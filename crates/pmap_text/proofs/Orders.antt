@@ -1,9 +1,8 @@
 -- What meets a block and what covers it.
-use Rattle.std.proofs.Common.{◌≡◌, ◌∙◌, ℕ, ◌-◌, ◌^◌, ◌<◌, ◌≤◌, ◌⊎◌, inl, inr, true, false, nat_le, ◌&&◌, List, Option, Some, length, sym, ap, arith, slice_get, unwrap_or, []}
-use Rattle.std.proofs.lemmas.Nat.{pow_pos, div-add-mod', mod_below}
+use Rattle.std.proofs.Common.{◌≡◌, ◌∙◌, ℕ, ◌<◌, ◌≤◌, ◌⊎◌, inl, inr, true, false, nat_le, ◌&&◌, List, Option, Some, length, sym, ap, arith, slice_get, unwrap_or, []}
 use Rattle.std.proofs.lemmas.Option.{slice_get-get_or}
 use Rattle.std.proofs.lemmas.Bool.{leb-true, le-leb, lt-leb, and_parts, and_from, and_left, and_right}
-use Rattle.prefix_keys.specs.Block.{block_number, first_of, last_of}
+use Rattle.prefix_keys.specs.Block.{first_of, last_of}
 use Rattle.pmap_text.specs.MapModel.{Label, Mapping, meets, spans, spans_all}
 use Rattle.pmap_text.specs.MapText.{text_at}
 
@@ -28,17 +27,6 @@ pub spans_within : (W n q a : ℕ) → first_of W n q ≤ a → a ≤ last_of W 
 spans_within W n q a from to s h =
     let orders = both_le s.low (first_of W n q) (last_of W n q) s.high h in
     le_both s.low a a s.high (omega (arith, orders.0)) (omega (arith, orders.1))
-
--- an address of a block is between its ends
-pub block_from : (W n q a : ℕ) → q ≡ block_number W n a → first_of W n q ≤ a
-block_from W n q a inside =
-    let whole = div-add-mod' a (2 ^ (W - n)) in rw inside (omega (arith, whole))
-
-pub block_to : (W n q a : ℕ) → q ≡ block_number W n a → a ≤ last_of W n q
-block_to W n q a inside =
-    let whole = div-add-mod' a (2 ^ (W - n)) in
-    let small = mod_below a (2 ^ (W - n)) (pow_pos (W - n)) in
-    rw inside (omega (arith, whole, small))
 
 -- the text with a number of the table
 pub known_text : (table : List Label) (number : ℕ) → number < length table → slice_get table number ≡ Some (text_at table number)

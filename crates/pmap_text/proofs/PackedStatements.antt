@@ -33,17 +33,6 @@ span-same s t low high =
 pub statement-same : (s t : Statement) → s.span.low ≡ t.span.low → s.span.high ≡ t.span.high → s.label ≡ t.label → s ≡ t
 statement-same s t low high label = λ i. record { span = span-same s.span t.span low high i; label = label i }
 
--- the mapping at a place of those that are packed
-pub packed-left : (ns : List Narrow) (ws : List Wide) (i : ℕ) (n : Narrow) (s : Statement) → n ≡ get_or ns i n → i < length ns
-    → s ≡ narrow_statement n → slice_get (map narrow_statement ns ++ map wide_statement ws) i ≡ Some s
-packed-left ns ws i n s is within same =
-    let narrow : List Statement = map narrow_statement ns in
-    let wide : List Statement = map wide_statement ws in
-    let long : i < length narrow = omega (arith, length-map ns narrow_statement) in
-    let at : get_or (narrow ++ wide) i s ≡ narrow_statement n =
-    get_or_append_left narrow wide s i long ∙ get_or-map narrow_statement ns i n s within ∙ ap narrow_statement (sym is) in
-    slice_get-get_or (narrow ++ wide) i s (omega (arith, length-append narrow wide)) ∙ ap (λ (x : Statement). Some x) (at ∙ sym same)
-
 pub packed-right : (ns : List Narrow) (ws : List Wide) (i k : ℕ) (w : Wide) (s : Statement) → k + length ns ≡ i → w ≡ get_or ws k w
     → k < length ws → s ≡ wide_statement w → slice_get (map narrow_statement ns ++ map wide_statement ws) i ≡ Some s
 packed-right ns ws i k w s behind is within same =

@@ -40,12 +40,6 @@ text_groups-more dotted text piece behind front back h =
     ∙ groups_of-more dotted (before_first is_colon text) (slice_split is_colon (after_first is_colon text))
     (omega (arith, length-slice_split is_colon (after_first is_colon text))))
 
-pub shorter-behind : (text : List ℕ) → length (before_first is_colon text) ≢ length text →
-    length (after_first is_colon text) < length text
-shorter-behind text h =
-    let some = some_colon text h in
-    omega (arith, length-drop (position_or_len is_colon text + 1) text)
-
 -- a group behind groups, and groups behind it
 pub more-next : (c n g c' n' : ℕ) (x : Option (List ℕ)) → Some (c', n') ≡ more_groups c n (Some (g ∷ [])) →
     more_groups c n (onto_groups (Some g) x) ≡ more_groups c' n' x

@@ -21,9 +21,6 @@ meet d q low high some ordered l h =
       | inr over ↦ (low, quotient_is low d q some over (omega arith), (omega arith, ordered))
     ]
 
-pub meet-low : (d q low high : ℕ) → 0 < d → Meet d q low high → low ≤ (q + 1) * d - 1
-meet-low d q low high some m = let b = below_end m.0 d q some m.1 in let l = m.2.0 in omega arith
-
 pub meet-high : (d q low high : ℕ) → 0 < d → Meet d q low high → q * d ≤ high
 meet-high d q low high some m = let b = above_first m.0 d q some m.1 in let h = m.2.1 in omega arith
 
@@ -36,9 +33,6 @@ within d q low high some l h a e =
     let over = above_first a d q some e in
     let under = below_end a d q some e in
     (omega arith, omega arith)
-
-pub within-low : (d q low high : ℕ) → 0 < d → Within d q low high → low ≤ q * d
-within-low d q low high some w = (w (q * d) (quotient_is (q * d) d q some (omega arith) (omega arith))).0
 
 pub within-high : (d q low high : ℕ) → 0 < d → Within d q low high → (q + 1) * d - 1 ≤ high
 within-high d q low high some w =
@@ -60,12 +54,6 @@ span_meets-high span block m =
     let k : ℕ = width_of block.version - block.len in
     meet-high (2 ^ k) (block.value / 2 ^ k) span.low.value span.high.value (pow_pos k) m.1
 
-pub span_meets-low : (span : Span) (block : Block) → SpanMeetsBlock span block →
-    span.low.value ≤ last_of (width_of block.version) block.len (block_number (width_of block.version) block.len block.value)
-span_meets-low span block m =
-    let k : ℕ = width_of block.version - block.len in
-    meet-low (2 ^ k) (block.value / 2 ^ k) span.low.value span.high.value (pow_pos k) m.1
-
 pub span_covers_block : (span : Span) (block : Block) → span.low.version ≡ block.version →
     span.low.value ≤ first_of (width_of block.version) block.len (block_number (width_of block.version) block.len block.value) →
     last_of (width_of block.version) block.len (block_number (width_of block.version) block.len block.value) ≤ span.high.value →
@@ -73,12 +61,6 @@ pub span_covers_block : (span : Span) (block : Block) → span.low.version ≡ b
 span_covers_block span block same l h =
     let k : ℕ = width_of block.version - block.len in
     (same, within (2 ^ k) (block.value / 2 ^ k) span.low.value span.high.value (pow_pos k) l h)
-
-pub span_covers_block-low : (span : Span) (block : Block) → SpanCoversBlock span block →
-    span.low.value ≤ first_of (width_of block.version) block.len (block_number (width_of block.version) block.len block.value)
-span_covers_block-low span block w =
-    let k : ℕ = width_of block.version - block.len in
-    within-low (2 ^ k) (block.value / 2 ^ k) span.low.value span.high.value (pow_pos k) w.1
 
 pub span_covers_block-high : (span : Span) (block : Block) → SpanCoversBlock span block →
     last_of (width_of block.version) block.len (block_number (width_of block.version) block.len block.value) ≤ span.high.value

@@ -68,23 +68,12 @@ counted-number groups c n h = grind (arith, nat_tests)
 pub too_many : (groups : List ℕ) → None ≡ more_groups 0 0 (Some groups) → 8 < length groups
 too_many groups h = grind (arith, nat_tests)
 
--- eight groups, where there are any
-pub whole-none : (x : Option (List ℕ)) → None ≡ more_groups 0 0 x → whole_address x ≡ None
-whole-none None h = refl
-whole-none (Some groups) h = let many = too_many groups h in grind (arith, nat_tests)
-
 pub whole-some : (x : Option (List ℕ)) (c n : ℕ) → Some (c, n) ≡ more_groups 0 0 x → whole_address x ≡ if c == 8 then Some n else None
 whole-some None c n h = cc
 whole-some (Some groups) c n h =
     let count = counted-count groups c n h in
     let number = counted-number groups c n h in
     cc
-
--- groups round a gap
-pub gap-no_front : (x y : Option (List ℕ)) → None ≡ more_groups 0 0 x → gap_address x y ≡ None
-gap-no_front None y h = refl
-gap-no_front (Some front) None h = refl
-gap-no_front (Some front) (Some back) h = let many = too_many front h in grind (arith, nat_tests)
 
 pub gap-no_back : (x y : Option (List ℕ)) → None ≡ more_groups 0 0 y → gap_address x y ≡ None
 gap-no_back None y h = refl

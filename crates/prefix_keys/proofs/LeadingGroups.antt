@@ -33,16 +33,6 @@ group-some (b ∷ text) g reads = omega arith
 group-lacks : (c : ℕ) → is_hex_digit c ≡ false → (text : List ℕ) (g : ℕ) → hex_group text ≡ Some g → Lacks c text
 group-lacks c other text g reads = none-passes is_hex_digit (λ b. b == c) (apart is_hex_digit c other) text (group-digits text g reads)
 
--- one to four digits at the front are a group
-pub group-front : (text : List ℕ) (at n : ℕ) → n ≡ hex_value (take at text) → list_all is_hex_digit (take at text) ≡ true
-    → 0 < at → at ≤ 4 → at ≤ length text → hex_group (take at text) ≡ Some n
-group-front text at n value digits some few within =
-    let front : List ℕ = take at text in
-    let count : length front ≡ at = length-take-le at text within in
-    let one : nat_le 1 (length front) ≡ true = le-leb _ _ (omega arith) in
-    let four : nat_le (length front) 4 ≡ true = le-leb _ _ (omega arith) in
-    cond-true _ (Some (hex_value front)) None (and_from _ _ one (and_from _ _ four digits)) ∙ ap (λ m. Some m) (sym value)
-
 -- a group alone, and one before a colon
 pub groups-last : (dotted : Bool) (f : List ℕ) (g : ℕ) → hex_group f ≡ Some g → text_groups dotted f ≡ Some (g ∷ [])
 groups-last dotted f g reads =

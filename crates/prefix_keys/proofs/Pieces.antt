@@ -46,10 +46,6 @@ pub split-pointed : (text : List ℕ) → position_or_len is_point text < length
     slice_split is_point text ≡ front text ∷ slice_split is_point (back text)
 split-pointed text h = slice_split_first is_point text 0 h
 
--- one of the four is no byte
-pub four_bytes-first : (b c d : Option ℕ) → four_bytes None b c d ≡ None
-four_bytes-first b c d = refl
-
 pub four_bytes-second : (a c d : Option ℕ) → four_bytes a None c d ≡ None
 four_bytes-second a c d = elim a as (λ a. four_bytes a None c d ≡ None) [ None ↦ refl | Some x ↦ refl ]
 

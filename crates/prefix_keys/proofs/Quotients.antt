@@ -33,9 +33,6 @@ cleared-mod a d some =
     let e : a - a % d ≡ a / d * d + 0 = omega arith in
     ap (λ n. n % d) e ∙ mod-mul-add (a / d) d 0 some
 
-pub cleared-div : (a d : ℕ) → 0 < d → (a - a % d) / d ≡ a / d
-cleared-div a d some = quotient_is (a - a % d) d (a / d) some (omega arith) (omega arith)
-
 -- `&` with one below a power of two
 pub and_low : (a mask k : ℕ) → mask + 1 ≡ 2 ^ k → bit_and a mask ≡ a % 2 ^ k
 and_low a mask k e =

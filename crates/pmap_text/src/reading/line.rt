@@ -14,10 +14,10 @@ ghost use Rattle.pmap_text.specs.declared.form.Form.TheVariants.{Map};
 use crate::declarations::label_number;
 use crate::fault::MapFaultKind;
 use crate::form::Form;
+use crate::in_version::{addr_in, block_in};
 use crate::label::is_label;
 use crate::leading::{Word, leading_span, leading_word};
 use crate::lines::split_word;
-use crate::placing::{addr_in, block_in};
 use crate::reading::{MAPPING_LIMIT, Reading};
 use prefix_keys::{
     Addr, Block, BlockFault, Span, Version, are_digits, block_of, read_addr, read_block,

@@ -3,7 +3,7 @@ use Rattle.prefix_keys.specs.Block.{block_number, first_of}
 use Rattle.prefix_keys.specs.Version.{width_of}
 use Rattle.pmap_text.specs.Reading.{number_in}
 use Rattle.pmap_text.proofs.MovedBlocks.{first_of-placed}
-use Rattle.pmap_text.proofs.placing.block_in.Goals as goal
+use Rattle.pmap_text.proofs.in_version.block_in.Goals as goal
 
 pub returns-clause-ok : goal.returns-clause-ok
 returns-clause-ok c =
