@@ -141,17 +141,6 @@ ends-inner lines k first second halves low up =
       behind = up.behind ∙ ap behind halves.behind_up ∙ sym (ap behind halves.nodes);
     }
 
--- one more end before the others
-pub ends-from : (lines : List DueLine) (ends ends' : List ℕ) (k : ℕ) → AreEndsBehind lines ends k → EndsAt lines k (slice_index ends' k)
-    → ((j : ℕ) → k < j → slice_index ends' j ≡ slice_index ends j) → (j : ℕ) → k ≤ j → j < length lines → EndsAt lines j (slice_index ends' j)
-ends-from lines ends ends' k are own same j less inside = by (k == j) refl
-  where
-    by : (b : Bool) → (k == j) ≡ b → EndsAt lines j (slice_index ends' j)
-    by true e = subst (λ (n : ℕ). EndsAt lines n (slice_index ends' n)) (eqb-true k j e) own
-    by false e =
-        let more : k < j = grind (arith, e) in
-        subst (EndsAt lines j) (sym (same j more)) (are.each j more inside)
-
 -- the steps of a run
 module _ (lines : List DueLine) (side k : ℕ) where
   pub end-leaf : (number : ℕ) → label_of (node_from lines k) ≡ Some number → IsRunEnd lines side k

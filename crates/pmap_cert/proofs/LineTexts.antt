@@ -98,17 +98,6 @@ module _ (known : ℕ → Bool) where
       let parts = and_parts (known b) (list_all known (take at text)) all in
       and_from (known b) (list_all known (take (suc at) text)) parts.0 (front-more text at (omega arith) parts.1 one)
 
-  -- not all bytes pass
-  pub front-open : (text ds rest : List ℕ) → text ≡ ds ++ rest → GoesOnWithout known rest → list_all known text ≡ true → ⊥
-  front-open text ds [] whole ended all = ended
-  front-open text ds (b ∷ rest) whole ended all =
-      let most = front-most text ds (b ∷ rest) (length text) whole ended (omega arith) (subst (λ (t : List ℕ). list_all known t ≡ true) (sym (take-whole text)) all) in
-      omega (arith, most, ap (λ (t : List ℕ). length t) whole, length-append ds (b ∷ rest))
-    where
-      take-whole : (t : List ℕ) → take (length t) t ≡ t
-      take-whole [] = refl
-      take-whole (x ∷ xs) = ap (◌∷◌ x) (take-whole xs)
-
 -- more digits are no smaller a number
 abbrev step : ℕ → ℕ → ℕ
 step n b = n * 10 + (b - 48)
@@ -209,13 +198,6 @@ module _ (bound : ℕ) (few : bound ≤ 2 ^ 32) (text digits : List ℕ) (space 
                     (sym (ap (λ (t : List ℕ). get_or t 0 0) (begins m rest number) ∙ get_or_append_left (decimal m) rest 0 0 some) ∙ first)
               ]
 
-  pub number-open : list_all is_digit digits ≡ true → Reads Number None
-  number-open all = reads_none Number (λ m rest number. front-open is_digit digits (decimal m) rest (begins m rest number) number.ended all)
-
-pub number-none : (bound : ℕ) (text : List ℕ) → after_byte 32 text ≡ None → Reads (BeginsWithNumber bound text) None
-number-none bound text none =
-    reads_none (BeginsWithNumber bound text) (λ m rest number. not-there 32 text (decimal m ++ rest) none number.whole)
-
 -- Bits after a space, of which so many were read.
 module _ (most : ℕ) (text digits : List ℕ) (space : text ≡ 32 ∷ digits) where
   abbrev Bits : List Bool → List ℕ → Type 0
@@ -269,9 +251,6 @@ module _ (most : ℕ) (text digits : List ℕ) (space : text ≡ 32 ∷ digits) 
               let same : bits ≡ bs = are ∙ ap (map (λ d. d == 49)) these.1 ∙ bits-back bs in
               λ i. Some (same i, these.2 i)
 
-  pub bits-open : list_all is_bit digits ≡ true → Reads Bits None
-  bits-open all = reads_none Bits (λ bits rest begin. front-open is_bit digits (bit_digits bits) rest (bits-begin bits rest begin) begin.ended all)
-
 pub bits-none : (most : ℕ) (text : List ℕ) → after_byte 32 text ≡ None → Reads (BeginsWithBits most text) None
 bits-none most text none =
     reads_none (BeginsWithBits most text) (λ bits rest begin. not-there 32 text (bit_digits bits ++ rest) none begin.whole)
@@ -297,9 +276,6 @@ pub record IsReadTo (bound low : ℕ) (text ns rest : List ℕ) : Type 0 where
   pub into : (tail r : List ℕ) → BeginsWithSet bound low rest tail r → BeginsWithSet bound 0 text (ns ++ tail) r
   pub only :
       (all r : List ℕ) → BeginsWithSet bound 0 text all r → (tail : List ℕ) × (all ≡ ns ++ tail) × BeginsWithSet bound low rest tail r
-
-pub set-begun : (bound : ℕ) (text : List ℕ) → IsReadTo bound 0 text [] text
-set-begun bound text = record { into = λ tail r set. set; only = λ all r set. (all, refl, set) }
 
 module _ (bound low : ℕ) (text ns rest : List ℕ) (so_far : IsReadTo bound low text ns rest) where
   abbrev Set : List ℕ → List ℕ → Type 0
@@ -386,9 +362,6 @@ module _ {A B : Type 0} (First : A → List ℕ → Type 0) (Second : List ℕ �
   abbrev Both : A × B → List ℕ → Type 0
   Both = Then First Second
 
-  pub then-none : Reads First None → Reads Both None
-  then-none first = reads_none Both (λ both r whole. none-some (both.0, whole.middle) (first.only both.0 whole.middle whole.first))
-
   module _ (a : A) (rest : List ℕ) (first : Reads First (Some (a, rest))) where
     second-is : (both : A × B) (r : List ℕ) → Both both r → (a ≡ both.0) × Second rest both.1 r
     second-is both r whole =
@@ -406,32 +379,6 @@ module _ {A B : Type 0} (First : A → List ℕ → Type 0) (Second : List ℕ �
           let same = read_same b both.1 r s (second.only both.1 s found.1) in
           λ i. Some ((found.0 i, same.0 i), same.1 i);
     }
-
--- a leaf's line after its letter
-module _ (count : ℕ) (text : List ℕ) where
-  abbrev Leaf : ℕ → List ℕ → Type 0
-  Leaf = BeginsWithLeaf count text
-
-  leaf-number : (n : ℕ) (r : List ℕ) → Leaf n r → BeginsWithNumber count text n (10 ∷ r)
-  leaf-number n r leaf = record { whole = leaf.whole; below = leaf.known; ended = refl }
-
-  pub leaf-none : Reads (BeginsWithNumber count text) None → Reads Leaf None
-  leaf-none number = reads_none Leaf (λ n r leaf. none-some (n, 10 ∷ r) (number.only n (10 ∷ r) (leaf-number n r leaf)))
-
-  module _ (n : ℕ) (rest : List ℕ) (number : Reads (BeginsWithNumber count text) (Some (n, rest))) where
-    pub leaf-left : after_byte 10 rest ≡ None → Reads Leaf None
-    leaf-left none = reads_none Leaf (λ m r leaf.
-        let same = read_same n m rest (10 ∷ r) (number.only m (10 ∷ r) (leaf-number m r leaf)) in not-there 10 rest r none same.1)
-
-    pub leaf-read : (r : List ℕ) → after_byte 10 rest ≡ Some r → Reads Leaf (Some (n, r))
-    leaf-read r feed =
-        let behind = after_byte-found 10 rest r feed in record {
-          right = record { whole = number.right.whole ∙ ap (λ (t : List ℕ). 32 ∷ (decimal n ++ t)) behind; known = number.right.below };
-          only = λ m s leaf.
-              let same = read_same n m rest (10 ∷ s) (number.only m (10 ∷ s) (leaf-number m s leaf)) in
-              let last : r ≡ s = behind-byte 10 10 r s (sym behind ∙ same.1) in
-              λ i. Some (same.0 i, last i);
-        }
 
 -- Lines by their first letters.
 inner-text : (cost : ℕ) (numbers r : List ℕ) → inner_line cost numbers ++ 10 ∷ r ≡ 110 ∷ 32 ∷ (decimal cost ++ (words numbers ++ 10 ∷ r))
@@ -458,25 +405,6 @@ module _ (format most count : ℕ) (text : List ℕ) where
 
   follows : (letter : ℕ) (xs ys : List ℕ) → after_byte letter text ≡ Some xs → text ≡ letter ∷ ys → xs ≡ ys
   follows letter xs ys found is = behind-byte letter letter xs ys (sym (after_byte-found letter text xs found) ∙ is)
-
-  module _ (rest : List ℕ) (letter : after_byte 108 text ≡ Some rest) (found : Option (ℕ × List ℕ)) (leaf : Reads (BeginsWithLeaf count rest) found) where
-    abbrev as_leaf : ℕ × List ℕ → DueLine × List ℕ
-    as_leaf x = (PlainLine (LeafLine x.0), x.1)
-
-    pub line-leaf : Reads Line (option_map as_leaf found)
-    line-leaf = record { right = right found leaf.right; only = only }
-      where
-        right : (o : Option (ℕ × List ℕ)) → IfSome o (λ x. BeginsWithLeaf count rest x.0 x.1) → IfSome (option_map as_leaf o) (λ x. Line x.0 x.1)
-        right None h = tt
-        right (Some x) h = record { whole = after_byte-found 108 text rest letter ∙ ap (◌∷◌ 108) h.whole; fits = h.known }
-
-        only : (line : DueLine) (r : List ℕ) → Line line r → option_map as_leaf found ≡ Some (line, r)
-        only (PlainLine (LeafLine n)) r h =
-            ap (option_map as_leaf) (leaf.only n r (record { whole = follows 108 rest (32 ∷ (decimal n ++ 10 ∷ r)) letter h.whole; known = h.fits }))
-        only (PlainLine (InnerLine cost numbers)) r h =
-            absurd (apart 108 110 rest _ letter (h.whole ∙ inner-text cost numbers r) (λ e. omega (arith, e)))
-        only (ChainLine cost bits side numbers) r h =
-            absurd (apart 108 99 rest _ letter (h.whole ∙ chain-text cost bits side numbers r) (λ e. omega (arith, e)))
 
   module _ (no_leaf : after_byte 108 text ≡ None) where
     module _ (rest : List ℕ) (letter : after_byte 110 text ≡ Some rest) (found : Option ((ℕ × List ℕ) × List ℕ))

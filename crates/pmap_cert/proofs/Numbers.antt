@@ -88,12 +88,6 @@ Lacks-decimals c bound low [] less small rising = tt
 Lacks-decimals c bound low (n ∷ ns) less small rising =
     (Lacks-decimal c n less (omega (arith, rising.1)), Lacks-decimals c bound (n + 1) ns less small rising.2)
 
--- one more number above all others
-pub IsRising-push : (bound low : ℕ) (ns : List ℕ) (n : ℕ) → IsRising bound low ns → All (λ m. m < n) ns → low ≤ n → n < bound → IsRising bound low (ns ++ n ∷ [])
-IsRising-push bound low [] n rising below least small = (least, small, tt)
-IsRising-push bound low (m ∷ ns) n rising below least small =
-    (rising.0, rising.1, IsRising-push bound (m + 1) ns n rising.2 (λ k d h. below (suc k) d (omega arith)) (omega (arith, below 0 0 (omega arith))) small)
-
 -- digits and their value
 own : IsNumeralModel (λ ds. list_all is_digit ds ≡ true) decimal_value
 own = numerals_by_fold _ (search rules) (λ n ds. fold (λ m b. m * 10 + (b - 48)) n ds) (search rules)

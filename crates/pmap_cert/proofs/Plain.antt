@@ -44,6 +44,3 @@ pub of-kind : (table : List Label) (format : Format) (node : Node) (version : Ve
     → IsOfFormat (record { format = format_number format; version = version; table = table; root = tree_of table node })
 of-kind table One node version plain = inl (refl, plain-tree_of table node plain)
 of-kind table Two node version kind = inr refl
-
-pub plain-kind : (format : Format) (node : Node) → format ≡ One → IsNodeOf format node → IsPlainNode node
-plain-kind format node is = subst (λ (f : Format). IsNodeOf f node) is

@@ -33,12 +33,6 @@ module _ (count : ℕ) (table : List Label) (place : Place) (total : Result (Lis
       ∙ ap (λ (r : Result (Label × Place) CertFault). r >>= (λ label. labels_at (count - (length table + 1)) (table ++ label.0 ∷ []) label.1)) e
       ∙ ap (λ (n : ℕ). labels_at (count - n) (table ++ label ∷ []) after) (sym (length_push table label))
 
-  pub labels_at-end : count ≤ length table → total ≡ Ok (table, place)
-  labels_at-end h = so_far ∙ ap (λ (n : ℕ). labels_at n table place) none
-    where
-      none : count - length table ≡ 0
-      none = omega arith
-
 -- nodes
 
 abbrev Read : Type 0

@@ -89,18 +89,6 @@ pushed-label out o o1 o2 table i x e e1 e2 there =
     e2 ∙ ap (λ t. t ++ 10 ∷ []) (e1 ∙ ap (λ t. t ++ x) e) ∙ append_assoc (out ++ text_of_lines lines) x (10 ∷ [])
     ∙ append_assoc out (text_of_lines lines) (x ++ 10 ∷ []) ∙ ap (λ t. out ++ t) (sym last)
 
--- one more line of the nodes
-pub pushed-line : (out o o1 : List ℕ) (lines : List DueLine) (i : ℕ) (z : DueLine) → o ≡ out ++ text_of_lines (map line_text (take i lines)) → i < length lines
-    → o1 ≡ o ++ (line_text (get_or lines i z) ++ 10 ∷ []) → o1 ≡ out ++ text_of_lines (map line_text (take (i + 1) lines))
-pushed-line out o o1 lines i z e inside e1 =
-    let text : List ℕ = line_text (get_or lines i z) in
-    let before : List (List ℕ) = map line_text (take i lines) in
-    let last : text_of_lines (map line_text (take (i + 1) lines)) ≡ text_of_lines before ++ (text ++ 10 ∷ []) =
-    ap (λ (ls : List DueLine). text_of_lines (map line_text ls)) (take_more lines i z inside)
-    ∙ ap text_of_lines (map-append line_text (take i lines) (get_or lines i z ∷ []))
-    ∙ text_of_lines-append before (text ∷ []) ∙ ap (λ t. text_of_lines before ++ t) (append-nil (text ++ 10 ∷ [])) in
-    e1 ∙ ap (λ t. t ++ (text ++ 10 ∷ [])) e ∙ append_assoc out (text_of_lines before) (text ++ 10 ∷ []) ∙ ap (λ t. out ++ t) (sym last)
-
 -- the header, the labels and the nodes are the text
 pub whole_text : (format : ℕ) (version : Version) (table : List Label) (root : Node) (room : ℕ) (nodes : List DueLine) (o1 o2 : List ℕ) → IsLabelTable table → HasChainForm (length table) root room
     → nodes ≡ lines_of root → o1 ≡ text_of_lines (format_header format version (length table) ∷ table) → o2 ≡ o1 ++ text_of_lines (map line_text nodes)

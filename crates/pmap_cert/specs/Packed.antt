@@ -1,75 +1,81 @@
-use Rattle.std.specs.Prelude.{◌≡◌, ℕ, zero, suc, ◌-◌, ◌^◌, ◌<◌, ◌≤◌, Bool, List, [], ◌∷◌, None, Option, Some, length, map, nat_lt, if◌then◌else◌, slice_index_or, All}
+use Rattle.std.specs.Prelude.{◌≡◌, ℕ, zero, suc, ◌+◌, ◌*◌, ◌^◌, ◌<◌, ◌≤◌, Bool, List, [], ◌∷◌, ◌++◌, length, map, slice_index_or}
 use Rattle.std.specs.List.{slice_range}
 use Rattle.pmap_text.specs.declared.label.LabelId.{LabelId}
 use Rattle.pmap_cert.specs.FormatReading.{ChainLine, DueLine, InnerLine, LeafLine, PlainLine}
 use Rattle.pmap_cert.specs.declared.nodes.Packed.{Packed}
+use Rattle.pmap_cert.specs.declared.nodes.Packed.TheVariants.{Chain, Inner, Leaf}
 use Rattle.pmap_cert.specs.declared.nodes.PackedChain.{PackedChain}
+use Rattle.pmap_cert.specs.declared.pool.SetId.{SetId}
 
 -- How the code keeps the lines of nodes: no user need read it.
 
--- where the sets of the lines up to this one end
-abbrev pub end_of : Packed → ℕ
-end_of p =
-    if nat_lt p.mark (2 ^ 30) then p.mark
-    else (if nat_lt p.mark (2 ^ 31) then p.mark - 2 ^ 30 else p.mark - 2 ^ 31)
+-- the number with these lower and upper 32 bits
+abbrev pub joined_halves : ℕ → ℕ → ℕ
+joined_halves low high = high * 2 ^ 32 + low
 
--- the labels of all sets, the chains, and the bits of these
-pub record Kept : Type 0 where
-  pub ids : List LabelId
+-- how many labels the larger set at a place has, and these
+abbrev pub count_at : List LabelId → ℕ → ℕ
+count_at pool place = (slice_index_or pool place (record { 0 = 0 })).0
+
+abbrev pub larger_at : List LabelId → ℕ → List ℕ
+larger_at pool place = map (λ id. id.0) (slice_range pool (place + 1) (place + 1 + count_at pool place))
+
+abbrev pub set_by : List LabelId → ℕ → ℕ → List ℕ
+set_by pool low zero = low ∷ []
+set_by pool low (suc high) = larger_at pool (joined_halves low high)
+
+-- the labels of a set
+abbrev pub set_in : List LabelId → SetId → List ℕ
+set_in pool id = set_by pool id.low.0 id.high
+
+abbrev pub HasSetBy : List LabelId → ℕ → ℕ → Type 0
+HasSetBy pool low zero = Unit {0}
+HasSetBy pool low (suc high) = joined_halves low high + 1 + count_at pool (joined_halves low high) ≤ length pool
+
+-- the pool has all of the set
+abbrev pub HasSet : List LabelId → SetId → Type 0
+HasSet pool id = HasSetBy pool id.low.0 id.high
+
+-- more came after the old ones
+abbrev pub IsGrown : {A : Type 0} → List A → List A → Type 0
+IsGrown {A} old new = (more : List A) × (new ≡ old ++ more)
+
+-- the pool has the set with these labels
+pub record IsHeld (pool : List LabelId) (id : SetId) (numbers : List ℕ) : Type 0 where
+  pub whole : HasSet pool id
+  pub set : set_in pool id ≡ numbers
+
+-- the pool of sets, the chains, and the bits of these
+pub record Store : Type 0 where
+  pub labels : List LabelId
   pub chains : List PackedChain
   pub bits : List Bool
 
--- no chain
+-- no chain, and the chain with a number
 abbrev pub no_chain : PackedChain
-no_chain = record { cost = 0; side = record { 0 = 0 }; start = 0; end = 0 }
+no_chain = record { cost = 0; side = record { 0 = 0 }; set = record { low = record { 0 = 0 }; high = 0 }; start = 0; end = 0 }
 
 abbrev pub chain_at : List PackedChain → ℕ → PackedChain
 chain_at chains number = slice_index_or chains number no_chain
 
--- the chain of a line, if it is one's
-abbrev pub chain_of : List PackedChain → Packed → Option PackedChain
-chain_of chains p =
-    if nat_lt p.mark (2 ^ 30) then None
-    else (if nat_lt p.mark (2 ^ 31) then Some (chain_at chains p.value.0) else None)
+abbrev pub chain_in : Store → PackedChain → DueLine
+chain_in s c = ChainLine c.cost (slice_range s.bits c.start c.end) c.side.0 (set_in s.labels c.set)
 
--- the line of a chain with this set
-abbrev pub chain_in : List Bool → PackedChain → List ℕ → DueLine
-chain_in bits c numbers = ChainLine c.cost (slice_range bits c.start c.end) c.side.0 numbers
+-- the line that the code keeps so
+abbrev pub line_in : Store → Packed → DueLine
+line_in s (Leaf id) = PlainLine (LeafLine id.0)
+line_in s (Inner cost set) = PlainLine (InnerLine cost (set_in s.labels set))
+line_in s (Chain low high) = chain_in s (chain_at s.chains (joined_halves low high))
 
--- the line, where the sets of those before it end at `from`
-abbrev pub line_in : Kept → ℕ → Packed → DueLine
-line_in k from p =
-    if nat_lt p.mark (2 ^ 30) then PlainLine (LeafLine p.value.0)
-    else (if nat_lt p.mark (2 ^ 31)
-    then chain_in k.bits (chain_at k.chains p.value.0) (map (λ id. id.0) (slice_range k.ids from (end_of p)))
-    else PlainLine (InnerLine p.value.0 (map (λ id. id.0) (slice_range k.ids from (end_of p)))))
+-- the chain's set and its bits are there
+pub record HasParts (s : Store) (c : PackedChain) : Type 0 where
+  pub set : HasSet s.labels c.set
+  pub rising : c.start ≤ c.end
+  pub within : c.end ≤ length s.bits
 
-abbrev pub lines_in : ℕ → Kept → List Packed → List DueLine
-lines_in from k [] = []
-lines_in from k (p ∷ ps) = line_in k from p ∷ lines_in (end_of p) k ps
-
--- the ends don't fall, and the last is the end of the labels
-abbrev pub AreEnds : ℕ → ℕ → List Packed → Type 0
-AreEnds from count [] = from ≡ count
-AreEnds from count (p ∷ ps) = (from ≤ end_of p) × AreEnds (end_of p) count ps
-
--- where the sets before the line with a number end
-abbrev pub start_of : ℕ → List Packed → ℕ → ℕ
-start_of from ps zero = from
-start_of from [] (suc number) = from
-start_of from (p ∷ ps) (suc number) = start_of (end_of p) ps number
-
--- a line of a chain has the number of one
-abbrev pub HasChain : List PackedChain → Packed → Type 0
-HasChain chains p = 2 ^ 30 ≤ p.mark → p.mark < 2 ^ 31 → p.value.0 < length chains
-
--- a chain's bits are among those of all
-abbrev pub HasBits : List Bool → PackedChain → Type 0
-HasBits bits c = (c.start ≤ c.end) × (c.end ≤ length bits)
-
--- the labels are those of the lines' sets, one behind the other, and the chains have their bits
-pub record ArePacked (k : Kept) (ps : List Packed) : Type 0 where
-  pub ends : AreEnds 0 (length k.ids) ps
-  pub few : length k.ids < 2 ^ 30
-  pub chains : All (HasChain k.chains) ps
-  pub bits : All (HasBits k.bits) k.chains
+-- what the line refers to is there
+abbrev pub IsPacked : Store → Packed → Type 0
+IsPacked s (Leaf id) = Unit {0}
+IsPacked s (Inner cost set) = HasSet s.labels set
+IsPacked s (Chain low high) =
+    (joined_halves low high < length s.chains) × HasParts s (chain_at s.chains (joined_halves low high))

@@ -1,5 +1,5 @@
 //! Chains in the place of runs of inner nodes that each have a leaf of one label in one half.
-ghost use Rattle.std.specs.Prelude.{◌≡◌, ◌^◌, ◌<◌, IfOk, MatchOption, None, OnOk, length, option_map};
+ghost use Rattle.std.specs.Prelude.{◌≡◌, ◌<◌, IfOk, MatchOption, None, OnOk, length, option_map};
 ghost use Rattle.pmap_cert.specs.Certificate.{certificate_of};
 ghost use Rattle.pmap_cert.specs.Compacting.{compact};
 ghost use Rattle.pmap_cert.specs.Node.{IsPlainNode, label_of};
@@ -13,31 +13,27 @@ use pmap_text::LabelId;
 use std::alloc::{AllocError, Global};
 
 // Where the lines of the node whose line has this number and of those below it end, by the ends of those behind it.
-fn end_at(nodes: &Nodes, ends: &[u32], number: usize) -> u32
+fn end_at(nodes: &Nodes, ends: &[usize], number: usize) -> usize
     requires plain { ArePlain nodes.now }
     requires behind { AreEndsBehind nodes.now ends.now number }
     requires within { number < length nodes.now }
-    requires few { length nodes.now < 2 ^ 32 }
     ensures { EndsAt nodes.now number result }
 {
     let next = number + 1;
     if nodes.label(number).is_some() {
-        next as u32
+        next
     } else {
-        ends[ends[next] as usize]
+        ends[ends[next]]
     }
 }
 
 // Where the lines of each node and of those below it end.
-fn ends_of(alloc: Global, nodes: &Nodes) -> Result<Vec<u32>, AllocError>
+fn ends_of(alloc: Global, nodes: &Nodes) -> Result<Vec<usize>, AllocError>
     requires { ArePlain nodes.now }
     ensures { IfOk result (λ ends. AreEndsOf nodes.now ends.items) }
 {
     let count = nodes.len();
-    if count > u32::MAX as usize {
-        return Err(AllocError);
-    }
-    let mut ends = vec![in alloc; 0u32; count]?;
+    let mut ends = vec![in alloc; 0usize; count]?;
     let mut number = count;
     while number > 0 {
         number -= 1;
@@ -60,7 +56,7 @@ fn is_leaf(nodes: &Nodes, number: usize, label: LabelId) -> bool
 
 // The step of a run of the side label from the node whose line has this number: the bit and the line of the half that is
 // chosen, none where the run ends.
-fn step(nodes: &Nodes, ends: &[u32], number: usize, side: LabelId) -> Option<(bool, usize)>
+fn step(nodes: &Nodes, ends: &[usize], number: usize, side: LabelId) -> Option<(bool, usize)>
     requires plain { ArePlain nodes.now }
     requires ends { AreEndsOf nodes.now ends.now }
     requires within { number < length nodes.now }
@@ -70,7 +66,7 @@ fn step(nodes: &Nodes, ends: &[u32], number: usize, side: LabelId) -> Option<(bo
         return None;
     }
     let lower = number + 1;
-    let upper = ends[lower] as usize;
+    let upper = ends[lower];
     if is_leaf(nodes, lower, side) {
         Some((true, upper))
     } else if is_leaf(nodes, upper, side) {
@@ -84,7 +80,7 @@ fn step(nodes: &Nodes, ends: &[u32], number: usize, side: LabelId) -> Option<(bo
 fn go_down(
     bits: &mut Vec<bool>,
     nodes: &Nodes,
-    ends: &[u32],
+    ends: &[usize],
     first: usize,
     side: LabelId,
 ) -> Result<usize, AllocError>
@@ -103,7 +99,7 @@ fn go_down(
 }
 
 // The side label of the run of the inner node whose line has this number.
-fn side_of(nodes: &Nodes, ends: &[u32], number: usize) -> Option<LabelId>
+fn side_of(nodes: &Nodes, ends: &[usize], number: usize) -> Option<LabelId>
     requires plain { ArePlain nodes.now }
     requires ends { AreEndsOf nodes.now ends.now }
     requires within { number < length nodes.now }
@@ -112,7 +108,7 @@ fn side_of(nodes: &Nodes, ends: &[u32], number: usize) -> Option<LabelId>
 {
     match nodes.label(number + 1) {
         Some(id) => Some(id),
-        None => nodes.label(ends[number + 1] as usize),
+        None => nodes.label(ends[number + 1]),
     }
 }
 
@@ -121,7 +117,7 @@ fn side_of(nodes: &Nodes, ends: &[u32], number: usize) -> Option<LabelId>
 fn run_of(
     bits: &mut Vec<bool>,
     nodes: &Nodes,
-    ends: &[u32],
+    ends: &[usize],
     number: usize,
 ) -> Result<Option<(LabelId, usize)>, AllocError>
     requires plain { ArePlain nodes.now }
@@ -146,7 +142,7 @@ fn compact_node(
     out: &mut Nodes,
     bits: &mut Vec<bool>,
     nodes: &Nodes,
-    ends: &[u32],
+    ends: &[usize],
     number: usize,
 ) -> Result<(), AllocError>
     requires plain { ArePlain nodes.now }
@@ -168,7 +164,7 @@ fn compact_node(
             None => {
                 out.push_inner(nodes.cost(number), nodes.set(number))?;
                 compact_node(out, bits, nodes, ends, number + 1)?;
-                compact_node(out, bits, nodes, ends, ends[number + 1] as usize)?;
+                compact_node(out, bits, nodes, ends, ends[number + 1])?;
                 Ok(())
             }
         },

@@ -33,6 +33,7 @@ mod laws;
 mod lines;
 mod node_line;
 mod nodes;
+mod pool;
 mod root;
 mod words;
 mod writing;

@@ -1,6 +1,5 @@
-use Rattle.std.proofs.Common.{ℕ, List, Some, get_or, inl, inr, subst, sym, arith}
+use Rattle.std.proofs.Common.{ℕ, List, get_or, inl, inr, sym, arith}
 use Rattle.std.proofs.lemmas.List.{take_rest}
-use Rattle.pmap_cert.specs.LineTexts.{BeginsWithBits, Reads}
 use Rattle.pmap_cert.proofs.LineTexts.{a_bit, after_byte-found, bits-many, bits-nothing, bits-read, no_bit}
 use Rattle.pmap_cert.proofs.node_line.bits_word.Goals as goal
 use Rattle.pmap_cert.proofs.node_line.bits_word.Goals.{else-at-eq0, else-byte-ne48-via-else-byte-ne48, else-byte-ne48-via-then-byte-ne48+else-byte-ne49, then-at-eq0}

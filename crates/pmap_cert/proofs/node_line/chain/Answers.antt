@@ -1,7 +1,7 @@
 use Rattle.std.proofs.Common.{◌^◌, ℕ, List, map}
 use Rattle.pmap_text.specs.declared.label.LabelId.{LabelId}
 use Rattle.pmap_cert.specs.LineTexts.{BeginsWithBits, BeginsWithClaim, BeginsWithNumber, BeginsWithWay}
-use Rattle.pmap_cert.proofs.LineTexts.{then-left, then-none, then-read}
+use Rattle.pmap_cert.proofs.LineTexts.{then-left, then-read}
 use Rattle.pmap_cert.proofs.node_line.chain.Goals as goal
 
 pub returns-in-Some-3 : goal.returns-in-Some-3

@@ -1,7 +1,7 @@
-use Rattle.std.proofs.Common.{ℕ, Some, None, ap, map, sym}
+use Rattle.std.proofs.Common.{Some, None, ap, map, sym}
 use Rattle.pmap_text.specs.declared.label.LabelId.{LabelId}
 use Rattle.pmap_cert.specs.Format.{format_number}
-use Rattle.pmap_cert.proofs.LineTexts.{line-chain, line-inner, line-leaf, line-none}
+use Rattle.pmap_cert.proofs.LineTexts.{line-chain, line-inner}
 use Rattle.pmap_cert.proofs.node_line.node_line.Goals as goal
 
 pub returns-in-Some-2 : goal.returns-in-Some-2

@@ -1,11 +1,8 @@
 use Rattle.std.proofs.Common.{◌∙◌, ℕ, List, Option, Some, drop, subst, sym, arith}
 use Rattle.std.proofs.lemmas.List.{take_rest}
 use Rattle.pmap_cert.specs.LineTexts.{BeginsWithNumber, Reads}
-use Rattle.pmap_cert.proofs.LineTexts.{after_byte-found, number-large, number-none, number-open, number-plain, number-zero}
+use Rattle.pmap_cert.proofs.LineTexts.{after_byte-found, number-large, number-plain, number-zero}
 use Rattle.pmap_cert.proofs.node_line.number_word.Goals as goal
-
-pub returns-in_err-digits : goal.returns-in_err-digits
-returns-in_err-digits c = rw c.from_residual.ensures (number-none c.args.bound c.args.text.now (sym c.in_err-digits.ensures))
 
 pub returns-then-number-bound : goal.returns-then-number-bound
 returns-then-number-bound c =

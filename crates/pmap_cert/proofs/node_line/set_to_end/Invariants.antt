@@ -1,4 +1,4 @@
-use Rattle.std.proofs.Common.{◌≤◌, ◌^◌, length, map}
+use Rattle.std.proofs.Common.{length, map}
 use Rattle.pmap_cert.proofs.LineTexts.{IsReadTo}
 use Rattle.pmap_cert.proofs.node_line.set_to_end.Given as goal
 

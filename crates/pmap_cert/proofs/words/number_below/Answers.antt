@@ -1,5 +1,5 @@
 use Rattle.std.proofs.Common.{◌∙◌, ◌&&◌, Some, None, ap, arith, cond, ltb, not, sym}
-use Rattle.std.proofs.lemmas.Bool.{le-ltb, lt-ltb}
+use Rattle.std.proofs.lemmas.Bool.{lt-ltb}
 use Rattle.pmap_cert.proofs.Numbers.{number_below-none, number_below-read}
 use Rattle.pmap_cert.proofs.words.number_below.Goals as goal
 
@@ -19,10 +19,3 @@ returns-then-from-bound c =
     ∙ ap (λ b. cond (not b && ltb c.in_ok-number.number c.args.bound) (Some c.in_ok-number.number) None)
     (sym c.has_leading_zero.ensures ∙ c.if-has_leading_zero.false)
     ∙ ap (λ b. cond b (Some c.in_ok-number.number) None) (lt-ltb _ _ (omega (arith, c.from.ensures, c.if-from-bound.true))))
-
-pub returns-else-from-bound : goal.returns-else-from-bound
-returns-else-from-bound c =
-    sym (number_below-read c.args.bound c.in_ok-number.number c.args.word.now (sym c.in_ok-number.ensures.value)
-    ∙ ap (λ b. cond (not b && ltb c.in_ok-number.number c.args.bound) (Some c.in_ok-number.number) None)
-    (sym c.has_leading_zero.ensures ∙ c.if-has_leading_zero.false)
-    ∙ ap (λ b. cond b (Some c.in_ok-number.number) None) (le-ltb _ _ (omega (arith, c.from.ensures, c.if-from-bound.false))))

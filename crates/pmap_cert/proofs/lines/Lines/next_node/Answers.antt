@@ -1,7 +1,7 @@
-use Rattle.std.proofs.Common.{◌∙◌, ◌≤◌, ◌^◌, None, Some, ap, arith, length}
+use Rattle.std.proofs.Common.{◌≤◌, ◌^◌, None, Some, arith}
 use Rattle.pmap_cert.specs.Format.{format_number}
 use Rattle.pmap_cert.specs.Words.{line_model}
-use Rattle.pmap_cert.proofs.DueLines.{due-read, rest-shorter}
+use Rattle.pmap_cert.proofs.DueLines.{due-read}
 use Rattle.pmap_cert.proofs.lines.Lines.next_node.Goals as goal
 
 pub returns-in-Some : goal.returns-in-Some

@@ -1,35 +1,37 @@
-use Rattle.std.proofs.Common.{◌^◌, ◌<◌, ◌++◌, ◌∷◌, [], ◌∙◌, ap, arith, length, length-append, List, map, refl}
-use Rattle.pmap_cert.specs.FormatReading.{DueLine, InnerLine, PlainLine}
-use Rattle.pmap_cert.specs.Packed.{Kept}
-use Rattle.pmap_cert.proofs.PackedLines.{push-inner}
+use Rattle.std.proofs.Common.{refl}
+use Rattle.std.proofs.lemmas.Result.{err_from_is_err_and}
+use Rattle.pmap_cert.specs.FormatReading.{InnerLine, PlainLine}
+use Rattle.pmap_cert.specs.Packed.{Store}
+use Rattle.pmap_cert.specs.declared.nodes.Packed.TheVariants.{Inner}
+use Rattle.pmap_cert.proofs.PackedLines.{line-pushed, more-kept, more-of, same-grown}
 use Rattle.pmap_cert.proofs.nodes.Nodes.push_inner.Goals as goal
+
+pub returns-in_err-set-clause-err : goal.returns-in_err-set-clause-err
+returns-in_err-set-clause-err c =
+    let s : Store = record { labels = c.self.inside.sets.labels.items; chains = c.self.inside.chains.items; bits = c.self.inside.bits.items } in
+    let kept = more-kept s _ c.self.inside.lines.items c.args.self.now (more-of s c.hold.new.self.labels.items s.chains s.bits c.hold.ensures.grown (same-grown s.chains s.chains refl) (same-grown s.bits s.bits refl)) c.self.invariant c.self.view_is c.self.inside.lines.items refl in
+    let p = err_from_is_err_and c.from_residual.result c.from_residual.ensures.1 in
+    rw (p.1) kept.are
+
+pub returns-in_err-push-clause-err : goal.returns-in_err-push-clause-err
+returns-in_err-push-clause-err c =
+    let s : Store = record { labels = c.self.inside.sets.labels.items; chains = c.self.inside.chains.items; bits = c.self.inside.bits.items } in
+    let kept = more-kept s _ c.self.inside.lines.items c.args.self.now (more-of s c.hold.new.self.labels.items s.chains s.bits c.hold.ensures.grown (same-grown s.chains s.chains refl) (same-grown s.bits s.bits refl)) c.self.invariant c.self.view_is c.push.new.self.items c.in_err-push.ensures.items in
+    let p = err_from_is_err_and c.from_residual-in_err-push.result c.from_residual-in_err-push.ensures.1 in
+    rw (p.1) kept.are
 
 pub invariant_of-self-2 : goal.invariant_of-self-2
 invariant_of-self-2 c =
-    let k : Kept = record { ids = c.self.inside.sets.items; chains = c.self.inside.chains.items; bits = c.self.inside.bits.items } in
-    let ps = c.self.inside.lines.items in
-    let few = c.self.invariant.few in
-    let free = c.if-set-len.false in
-    let more = ap length c.in_ok-extend_from_slice.ensures.items in
-    let sum = length-append c.self.inside.sets.items c.args.set.now in
-    let k' : Kept = record { ids = c.extend_from_slice.new.self.items; chains = c.self.inside.chains.items; bits = c.self.inside.bits.items } in
-    let small : length k'.ids < 2 ^ 30 = omega (arith, c.len.ensures, free, more, sum) in
-    let pushed = push-inner k k' c.args.set.now ps c.reserve.new.self.items c.push_reserved.new.self.items _ c.self.invariant
-    c.in_ok-extend_from_slice.ensures.items refl refl small (omega (arith, c.len-2.ensures))
-    c.in_ok-reserve.ensures.items c.push_reserved.ensures.items in
+    let s : Store = record { labels = c.self.inside.sets.labels.items; chains = c.self.inside.chains.items; bits = c.self.inside.bits.items } in
+    let held = c.in_ok-set.ensures.ok in
+    let pushed = line-pushed s _ c.self.inside.lines.items c.args.self.now (more-of s c.hold.new.self.labels.items s.chains s.bits c.hold.ensures.grown (same-grown s.chains s.chains refl) (same-grown s.bits s.bits refl)) c.self.invariant c.self.view_is
+    c.push.new.self.items (Inner c.args.cost c.in_ok-set.set) _ held.whole (λ i. PlainLine (InnerLine c.args.cost (held.set i))) c.in_ok-push.ensures.items in
     pushed.packed
 
 pub returns-clause-ok : goal.returns-clause-ok
 returns-clause-ok c =
-    let k : Kept = record { ids = c.self.inside.sets.items; chains = c.self.inside.chains.items; bits = c.self.inside.bits.items } in
-    let ps = c.self.inside.lines.items in
-    let few = c.self.invariant.few in
-    let free = c.if-set-len.false in
-    let more = ap length c.in_ok-extend_from_slice.ensures.items in
-    let sum = length-append c.self.inside.sets.items c.args.set.now in
-    let k' : Kept = record { ids = c.extend_from_slice.new.self.items; chains = c.self.inside.chains.items; bits = c.self.inside.bits.items } in
-    let small : length k'.ids < 2 ^ 30 = omega (arith, c.len.ensures, free, more, sum) in
-    let pushed = push-inner k k' c.args.set.now ps c.reserve.new.self.items c.push_reserved.new.self.items _ c.self.invariant
-    c.in_ok-extend_from_slice.ensures.items refl refl small (omega (arith, c.len-2.ensures))
-    c.in_ok-reserve.ensures.items c.push_reserved.ensures.items in
-    pushed.lines ∙ ap (λ (ls : List DueLine). ls ++ PlainLine (InnerLine c.args.cost (map (λ id. id.0) c.args.set.now)) ∷ []) c.self.view_is
+    let s : Store = record { labels = c.self.inside.sets.labels.items; chains = c.self.inside.chains.items; bits = c.self.inside.bits.items } in
+    let held = c.in_ok-set.ensures.ok in
+    let pushed = line-pushed s _ c.self.inside.lines.items c.args.self.now (more-of s c.hold.new.self.labels.items s.chains s.bits c.hold.ensures.grown (same-grown s.chains s.chains refl) (same-grown s.bits s.bits refl)) c.self.invariant c.self.view_is
+    c.push.new.self.items (Inner c.args.cost c.in_ok-set.set) _ held.whole (λ i. PlainLine (InnerLine c.args.cost (held.set i))) c.in_ok-push.ensures.items in
+    pushed.are
