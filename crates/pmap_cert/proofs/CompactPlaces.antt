@@ -1,14 +1,12 @@
 -- Where nodes without chains stand among their lines.
 use Rattle.std.proofs.Common.{◌≡◌, ℕ, zero, suc, ◌+◌, ◌<◌, ◌≤◌, ◌∙◌, ◌==◌, Bool, true, false, List, [], ◌∷◌, ◌++◌, All, Option, Some, None, cond, drop, get_or, length, option_map, refl, sym, ap, subst, arith, slice_index}
-use Rattle.std.specs.Option.{is_some, option_or}
 use Rattle.pmap_text.specs.declared.label.LabelId.{LabelId}
-use Rattle.std.proofs.lemmas.Bool.{eqb-true}
 use Rattle.std.proofs.lemmas.Option.{none-some, same_Some}
 use Rattle.std.proofs.lemmas.List.{append-nil}
 use Rattle.std.proofs.lemmas.List.Elements.{All-append, All-cons, All-head, All-nil, All-tail}
 use Rattle.pmap_cert.specs.FormatReading.{ChainLine, DueLine, InnerLine, LeafLine, PlainLine}
 use Rattle.pmap_cert.specs.Node.{AreWhole, Inner, IsPlainNode, Chain, Leaf, Node, behind, first_node, joined, label_of, line_label, lines_of, nodes_of}
-use Rattle.pmap_cert.specs.Placing.{AreEndsBehind, AreEndsOf, ArePlain, EndsAt, IsPlainLine, IsRunEnd, IsStep, bits_down, end_down, is_leaf, node_from, side_below}
+use Rattle.pmap_cert.specs.Placing.{AreEndsFrom, ArePlain, EndsAt, HasHalves, HasPlace, IsPlainLine, IsRunEnd, IsStep, bits_down, end_down, is_leaf, node_from}
 use Rattle.pmap_cert.proofs.NodeWalk.{IsLineOf, line-here, root-of, whole-lines, whole-next, within}
 
 -- the lines of a node without chains are of none
@@ -75,148 +73,89 @@ leaf-only (Leaf n) number e = ap Leaf (same_Some n number e)
 leaf-only (Inner cost set lower upper) number e = absurd (none-some number e)
 leaf-only (Chain cost set bits side end) number e = absurd (none-some number e)
 
--- an inner node with its halves
-pub record HasHalves (lines : List DueLine) (k e : ℕ) : Type 0 where
-  pub cost : ℕ
-  pub set : List ℕ
-  pub rest : List Node
-  pub lower : Node
-  pub upper : Node
-  pub is : node_from lines k ≡ Inner cost set lower upper
-  pub low : node_from lines (suc k) ≡ lower
-  pub up : node_from lines e ≡ upper
-  pub low_inside : suc k < length lines
-  pub up_inside : e < length lines
-  pub nodes : nodes_of (drop k lines) ≡ Inner cost set lower upper ∷ rest
-  pub behind_up : nodes_of (drop e lines) ≡ upper ∷ rest
-
 none-of-leaf : (number : ℕ) → ◌≡◌ {A = Option ℕ} (Some number) None → ⊥
 none-of-leaf number e = none-some number (sym e)
 
-pub halves-at : (lines : List DueLine) (k e : ℕ) → ArePlain lines → k < length lines → label_of (node_from lines k) ≡ None → EndsAt lines (suc k) e → HasHalves lines k e
-halves-at lines k e are inside none ends = by (here lines k are inside)
+pub ends-later : (lines : List DueLine) (all : List ℕ) (k n : ℕ) → AreEndsFrom lines all k → k ≤ n → AreEndsFrom lines all n
+ends-later lines all k n ends le = record { count = ends.count; each = λ j later inside. ends.each j (omega arith) inside }
+
+-- the halves of an inner node
+pub halves-of : (lines : List DueLine) (all : List ℕ) (k : ℕ) → HasPlace lines all k → label_of (node_from lines k) ≡ None
+    → HasHalves lines all k (k + 1) (slice_index all (k + 1))
+halves-of lines all k place none = by (here lines k place.plain place.within)
   where
-    by : Here lines k → HasHalves lines k e
+    one : suc k ≡ k + 1
+    one = omega arith
+
+    by : Here lines k → HasHalves lines all k (k + 1) (slice_index all (k + 1))
     by (leaf-here number rest is next) = absurd (none-of-leaf number (sym (ap label_of (node-is lines k (Leaf number) rest is)) ∙ none))
-    by (inner-here cost set lower upper rest is next) =
+    by (inner-here cost set lower upper rest is next_suc) =
+        let e : ℕ = slice_index all (k + 1) in
+        let next : nodes_of (drop (k + 1) lines) ≡ lower ∷ upper ∷ rest = ap (λ (n : ℕ). nodes_of (drop n lines)) (sym one) ∙ next_suc in
+        let inside = inside-is lines (k + 1) lower (upper ∷ rest) next in
+        let ends = place.ends.each (k + 1) (omega arith) inside in
         let after : nodes_of (drop e lines) ≡ upper ∷ rest = ends.behind ∙ ap behind next in
+        let more = ends.after in
         record {
           cost = cost;
           set = set;
-          rest = rest;
-          lower = lower;
-          upper = upper;
-          is = node-is lines k (Inner cost set lower upper) rest is;
-          low = node-is lines (suc k) lower (upper ∷ rest) next;
-          up = node-is lines e upper rest after;
-          low_inside = inside-is lines (suc k) lower (upper ∷ rest) next;
-          up_inside = inside-is lines e upper rest after;
-          nodes = is;
-          behind_up = after;
+          node =
+              node-is lines k (Inner cost set lower upper) rest is
+              ∙ (λ i. Inner cost set (sym (node-is lines (k + 1) lower (upper ∷ rest) next) i) (sym (node-is lines e upper rest after) i));
+          low = record { plain = place.plain; within = inside; ends = ends-later lines all (k + 1) (k + 1 + 1) place.ends (omega arith) };
+          up = record { plain = place.plain; within = inside-is lines e upper rest after; ends = ends-later lines all (k + 1) (e + 1) place.ends (omega arith) };
+          low_after = omega arith;
+          up_after = omega arith;
+          rest = ap behind is ∙ sym (ap behind after);
         }
 
-pub inner-low_inside : (lines : List DueLine) (k : ℕ) → ArePlain lines → k < length lines → label_of (node_from lines k) ≡ None → suc k < length lines
-inner-low_inside lines k are inside none = by (here lines k are inside)
+-- the end of a leaf
+pub ends-leaf : (lines : List DueLine) (all : List ℕ) (k number : ℕ) → HasPlace lines all k → node_from lines k ≡ Leaf number → EndsAt lines k (k + 1)
+ends-leaf lines all k number place leaf = by (here lines k place.plain place.within)
   where
-    by : Here lines k → suc k < length lines
-    by (leaf-here number rest is next) = absurd (none-of-leaf number (sym (ap label_of (node-is lines k (Leaf number) rest is)) ∙ none))
-    by (inner-here cost set lower upper rest is next) = inside-is lines (suc k) lower (upper ∷ rest) next
+    within : suc k ≤ length lines
+    within = let inside = place.within in omega arith
 
--- the ends of nodes
-pub ends-leaf : (lines : List DueLine) (k : ℕ) (number : ℕ) → ArePlain lines → k < length lines → label_of (node_from lines k) ≡ Some number → EndsAt lines k (suc k)
-ends-leaf lines k number are inside label = by (here lines k are inside)
-  where
-    by : Here lines k → EndsAt lines k (suc k)
-    by (leaf-here n rest is next) = record { after = omega arith; within = omega arith; behind = next ∙ sym (ap behind is) }
+    by : Here lines k → EndsAt lines k (k + 1)
+    by (leaf-here n rest is next) =
+        subst (EndsAt lines k) (omega arith) (record { after = omega arith; within = within; behind = next ∙ sym (ap behind is) })
     by (inner-here cost set lower upper rest is next) =
-        absurd (none-some number (sym (ap label_of (node-is lines k (Inner cost set lower upper) rest is)) ∙ label))
+        absurd (none-some number (sym (ap label_of (node-is lines k (Inner cost set lower upper) rest is)) ∙ ap label_of leaf))
 
-pub ends-inner : (lines : List DueLine) (k first second : ℕ) → HasHalves lines k first → EndsAt lines (suc k) first → EndsAt lines first second → EndsAt lines k second
-ends-inner lines k first second halves low up =
-    let one = low.after in
+-- the end of an inner node
+pub ends-halves : (lines : List DueLine) (all : List ℕ) (k lower upper e : ℕ) → HasHalves lines all k lower upper → EndsAt lines upper e → EndsAt lines k e
+ends-halves lines all k lower upper e halves up =
+    let one = halves.up_after in
     let two = up.after in
-    record {
-      after = omega arith;
-      within = up.within;
-      behind = up.behind ∙ ap behind halves.behind_up ∙ sym (ap behind halves.nodes);
-    }
+    record { after = omega arith; within = up.within; behind = up.behind ∙ sym halves.rest }
 
 -- the steps of a run
-module _ (lines : List DueLine) (side k : ℕ) where
-  pub end-leaf : (number : ℕ) → label_of (node_from lines k) ≡ Some number → IsRunEnd lines side k
-  end-leaf number label =
-      let is = leaf-only (node_from lines k) number label in
-      record { bits = ap (bits_down side) is; end = ap (end_down side) is ∙ sym is }
+module _ (lines : List DueLine) (all : List ℕ) (side k : ℕ) where
+  pub end-leaf : (number : ℕ) → node_from lines k ≡ Leaf number → IsRunEnd lines side k
+  end-leaf number is = record { bits = ap (bits_down side) is; end = ap (end_down side) is ∙ sym is }
 
-  module _ (e : ℕ) (h : HasHalves lines k e) where
-    bits-here : (b c : Bool) → is_leaf side h.lower ≡ b → is_leaf side h.upper ≡ c
-        → bits_down side (node_from lines k) ≡ cond b (true ∷ bits_down side h.upper) (cond c (false ∷ bits_down side h.lower) [])
+  module _ (l u : ℕ) (h : HasHalves lines all k l u) where
+    bits-here : (b c : Bool) → is_leaf side (node_from lines l) ≡ b → is_leaf side (node_from lines u) ≡ c
+        → bits_down side (node_from lines k) ≡ cond b (true ∷ bits_down side (node_from lines u)) (cond c (false ∷ bits_down side (node_from lines l)) [])
     bits-here b c first second =
-        ap (bits_down side) h.is ∙ (λ i. cond (first i) (true ∷ bits_down side h.upper) (cond (second i) (false ∷ bits_down side h.lower) []))
+        ap (bits_down side) h.node
+        ∙ (λ i. cond (first i) (true ∷ bits_down side (node_from lines u)) (cond (second i) (false ∷ bits_down side (node_from lines l)) []))
 
-    end-here : (b c : Bool) → is_leaf side h.lower ≡ b → is_leaf side h.upper ≡ c
-        → end_down side (node_from lines k) ≡ cond b (end_down side h.upper) (cond c (end_down side h.lower) (Inner h.cost h.set h.lower h.upper))
+    end-here : (b c : Bool) → is_leaf side (node_from lines l) ≡ b → is_leaf side (node_from lines u) ≡ c
+        → end_down side (node_from lines k) ≡ cond b (end_down side (node_from lines u)) (cond c (end_down side (node_from lines l)) (node_from lines k))
     end-here b c first second =
-        ap (end_down side) h.is ∙ (λ i. cond (first i) (end_down side h.upper) (cond (second i) (end_down side h.lower) (Inner h.cost h.set h.lower h.upper)))
+        ap (end_down side) h.node
+        ∙ (λ i. cond (first i) (end_down side (node_from lines u)) (cond (second i) (end_down side (node_from lines l)) (sym h.node i)))
 
-    pub step-upper : k < e → is_leaf side (node_from lines (suc k)) ≡ true → IsStep lines side k true e
-    step-upper after label =
-        let first = sym (ap (is_leaf side) h.low) ∙ label in
-        record {
-          bits = bits-here true (is_leaf side h.upper) first refl ∙ ap (λ (n : Node). true ∷ bits_down side n) (sym h.up);
-          end = end-here true (is_leaf side h.upper) first refl ∙ ap (end_down side) (sym h.up);
-          after = after;
-          within = h.up_inside;
-        }
+    pub step-upper : is_leaf side (node_from lines l) ≡ true → IsStep lines all side k true u
+    step-upper first = record { bits = bits-here true _ first refl; end = end-here true _ first refl; after = h.up_after; place = h.up }
 
-    pub step-lower : is_leaf side (node_from lines (suc k)) ≡ false → is_leaf side (node_from lines e) ≡ true → IsStep lines side k false (suc k)
-    step-lower other label =
-        let first = sym (ap (is_leaf side) h.low) ∙ other in
-        let second = sym (ap (is_leaf side) h.up) ∙ label in
-        record {
-          bits = bits-here false true first second ∙ ap (λ (n : Node). false ∷ bits_down side n) (sym h.low);
-          end = end-here false true first second ∙ ap (end_down side) (sym h.low);
-          after = omega arith;
-          within = h.low_inside;
-        }
+    pub step-lower : is_leaf side (node_from lines l) ≡ false → is_leaf side (node_from lines u) ≡ true → IsStep lines all side k false l
+    step-lower first second =
+        record { bits = bits-here false true first second; end = end-here false true first second; after = h.low_after; place = h.low }
 
-    pub step-none : is_leaf side (node_from lines (suc k)) ≡ false → is_leaf side (node_from lines e) ≡ false → IsRunEnd lines side k
-    step-none other others =
-        let first = sym (ap (is_leaf side) h.low) ∙ other in
-        let second = sym (ap (is_leaf side) h.up) ∙ others in
-        record {
-          bits = bits-here false false first second;
-          end = end-here false false first second ∙ sym h.is;
-        }
-
-    pub sides-here : side_below (node_from lines k) ≡ option_or (label_of (node_from lines (suc k))) (label_of (node_from lines e))
-    sides-here = ap side_below h.is ∙ (λ i. option_or (label_of (sym h.low i)) (label_of (sym h.up i)))
-
--- a label that is there, or not
-pub some_label : (o : Option LabelId) → is_some o ≡ true → (number : ℕ) × (option_map (λ id. id.0) o ≡ Some number)
-some_label None e = absurd cc
-some_label (Some id) e = (id.0, refl)
-
-pub no_label : (o : Option LabelId) → is_some o ≡ false → option_map (λ id. id.0) o ≡ None
-no_label None e = refl
-no_label (Some id) e = absurd cc
-
--- the ends of all nodes, at the halves of an inner node
-pub halves-of : (lines : List DueLine) (ends : List ℕ) (k : ℕ) → ArePlain lines → AreEndsOf lines ends → k < length lines → label_of (node_from lines k) ≡ None
-    → HasHalves lines k (slice_index ends (k + 1))
-halves-of lines ends k are all inside none =
-    let one : suc k ≡ k + 1 = omega arith in
-    let low_inside = inner-low_inside lines k are inside none in
-    halves-at lines k (slice_index ends (k + 1)) are inside none
-    (subst (λ (n : ℕ). EndsAt lines (suc k) (slice_index ends n)) one (all.each (suc k) low_inside))
-
-pub ends-after : (lines : List DueLine) (ends : List ℕ) (k : ℕ) → ArePlain lines → AreEndsOf lines ends → k < length lines → label_of (node_from lines k) ≡ None
-    → k + 1 < slice_index ends (k + 1)
-ends-after lines ends k are all inside none =
-    let one : suc k ≡ k + 1 = omega arith in
-    let low_inside = inner-low_inside lines k are inside none in
-    let low = subst (λ (n : ℕ). EndsAt lines n (slice_index ends n)) one (all.each (suc k) low_inside) in
-    low.after
+    pub step-none : is_leaf side (node_from lines l) ≡ false → is_leaf side (node_from lines u) ≡ false → IsRunEnd lines side k
+    step-none first second = record { bits = bits-here false false first second; end = end-here false false first second }
 
 -- what a line says at a place
 pub label-at : (lines : List DueLine) (k : ℕ) (o : Option LabelId) → ArePlain lines → k < length lines

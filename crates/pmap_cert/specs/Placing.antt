@@ -4,6 +4,8 @@ use Rattle.pmap_text.specs.Label.{IsLabelTable}
 use Rattle.pmap_text.specs.MapModel.{Label}
 use Rattle.pmap_cert.specs.Compacting.{compacted}
 use Rattle.pmap_cert.specs.FormatReading.{ChainLine, DueLine, PlainLine}
+use Rattle.pmap_cert.specs.declared.compacting.Below.{Below}
+use Rattle.pmap_cert.specs.declared.compacting.Below.TheVariants.{Halves, Nothing}
 use Rattle.pmap_cert.specs.Node.{AreWhole, Chain, HasChainForm, Inner, Leaf, Node, behind, first_node, label_of, lines_of, nodes_of, tree_of}
 
 -- What the code keeps while it compacts: no user need read it.
@@ -28,15 +30,32 @@ pub record EndsAt (lines : List DueLine) (number end : ℕ) : Type 0 where
   pub within : end ≤ length lines
   pub behind : nodes_of (drop end lines) ≡ behind (nodes_of (drop number lines))
 
--- the ends of all nodes
-pub record AreEndsOf (lines : List DueLine) (ends : List ℕ) : Type 0 where
+-- the ends of the nodes from this line on
+pub record AreEndsFrom (lines : List DueLine) (ends : List ℕ) (number : ℕ) : Type 0 where
   pub count : length ends ≡ length lines
-  pub each : (k : ℕ) → k < length lines → EndsAt lines k (slice_index ends k)
+  pub each : (k : ℕ) → number ≤ k → k < length lines → EndsAt lines k (slice_index ends k)
 
--- the ends of the nodes behind this one
-pub record AreEndsBehind (lines : List DueLine) (ends : List ℕ) (number : ℕ) : Type 0 where
-  pub count : length ends ≡ length lines
-  pub each : (k : ℕ) → number < k → k < length lines → EndsAt lines k (slice_index ends k)
+-- The line with this number is one of nodes without chains, and the ends of the nodes after it are known.
+pub record HasPlace (lines : List DueLine) (all : List ℕ) (number : ℕ) : Type 0 where
+  pub plain : ArePlain lines
+  pub within : number < length lines
+  pub ends : AreEndsFrom lines all (number + 1)
+
+-- the node is an inner node whose halves have these lines
+pub record HasHalves (lines : List DueLine) (all : List ℕ) (number lower upper : ℕ) : Type 0 where
+  pub cost : ℕ
+  pub set : List ℕ
+  pub node : node_from lines number ≡ Inner cost set (node_from lines lower) (node_from lines upper)
+  pub low : HasPlace lines all lower
+  pub up : HasPlace lines all upper
+  pub low_after : number < lower
+  pub up_after : number < upper
+  pub rest : behind (nodes_of (drop number lines)) ≡ behind (nodes_of (drop upper lines))
+
+-- this is below the node
+abbrev pub IsBelow : List DueLine → List ℕ → ℕ → Below → Type 0
+IsBelow lines all number (Nothing id) = node_from lines number ≡ Leaf id.0
+IsBelow lines all number (Halves lower upper) = HasHalves lines all number lower upper
 
 -- the node is a leaf with this label
 abbrev pub is_leaf : ℕ → Node → Bool
@@ -60,11 +79,11 @@ end_down side (Leaf number) = Leaf number
 end_down side (Chain cost set bits x end) = Chain cost set bits x end
 
 -- the step of such a run from the node whose line has this number to the half that is chosen
-pub record IsStep (lines : List DueLine) (side number : ℕ) (bit : Bool) (chosen : ℕ) : Type 0 where
+pub record IsStep (lines : List DueLine) (all : List ℕ) (side number : ℕ) (bit : Bool) (chosen : ℕ) : Type 0 where
   pub bits : bits_down side (node_from lines number) ≡ bit ∷ bits_down side (node_from lines chosen)
   pub end : end_down side (node_from lines number) ≡ end_down side (node_from lines chosen)
   pub after : number < chosen
-  pub within : chosen < length lines
+  pub place : HasPlace lines all chosen
 
 -- the run ends at the node whose line has this number
 pub record IsRunEnd (lines : List DueLine) (side number : ℕ) : Type 0 where
@@ -72,10 +91,10 @@ pub record IsRunEnd (lines : List DueLine) (side number : ℕ) : Type 0 where
   pub end : end_down side (node_from lines number) ≡ node_from lines number
 
 -- such a run has these bits and this end
-pub record IsRun (lines : List DueLine) (side number : ℕ) (bits : List Bool) (end : ℕ) : Type 0 where
+pub record IsRun (lines : List DueLine) (all : List ℕ) (side number : ℕ) (bits : List Bool) (end : ℕ) : Type 0 where
   pub bits_are : bits ≡ bits_down side (node_from lines number)
   pub node : node_from lines end ≡ end_down side (node_from lines number)
-  pub within : end < length lines
+  pub place : HasPlace lines all end
   pub after : number + length bits ≤ end
 
 -- the side label of an inner node's run
@@ -89,9 +108,9 @@ abbrev pub IsShort : Node → Type 0
 IsShort node = (side : ℕ) → side_below node ≡ Some side → length (bits_down side node) < 2
 
 -- the run has two bits or more, with these bits and this end
-pub record IsLong (lines : List DueLine) (number side : ℕ) (bits : List Bool) (end : ℕ) : Type 0 where
+pub record IsLong (lines : List DueLine) (all : List ℕ) (number side : ℕ) (bits : List Bool) (end : ℕ) : Type 0 where
   pub sides : side_below (node_from lines number) ≡ Some side
-  pub run : IsRun lines side number bits end
+  pub run : IsRun lines all side number bits end
   pub long : 2 ≤ length bits
 
 -- The second node is the first one compacted: over each label table that has the labels, and in the same room.

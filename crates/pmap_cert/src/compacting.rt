@@ -1,9 +1,10 @@
 //! Chains in the place of runs of inner nodes that each have a leaf of one label in one half.
-ghost use Rattle.std.specs.Prelude.{◌≡◌, ◌<◌, IfOk, MatchOption, None, OnOk, length, option_map};
+ghost use Rattle.std.specs.Prelude.{◌≡◌, ◌<◌, IfOk, MatchOption, OnOk, length, option_map};
+ghost use Rattle.std.specs.Option.{option_or};
 ghost use Rattle.pmap_cert.specs.Certificate.{certificate_of};
 ghost use Rattle.pmap_cert.specs.Compacting.{compact};
 ghost use Rattle.pmap_cert.specs.Node.{IsPlainNode, label_of};
-ghost use Rattle.pmap_cert.specs.Placing.{AreEndsBehind, AreEndsOf, ArePlain, EndsAt, IsCompactNode, IsCompacted, IsLong, IsRun, IsRunEnd, IsShort, IsStep, is_leaf, node_from, side_below};
+ghost use Rattle.pmap_cert.specs.Placing.{AreEndsFrom, ArePlain, EndsAt, HasHalves, HasPlace, IsBelow, IsCompactNode, IsCompacted, IsLong, IsRun, IsRunEnd, IsShort, IsStep, is_leaf, node_from};
 
 use crate::certificate::Certificate;
 use crate::format::Format;
@@ -12,25 +13,39 @@ use crate::root::Root;
 use pmap_text::LabelId;
 use std::alloc::{AllocError, Global};
 
-// Where the lines of the node whose line has this number and of those below it end, by the ends of those behind it.
+// What is below a node: nothing if it is a leaf, which has this label, otherwise its halves, whose lines have these
+// numbers.
+enum Below {
+    Nothing(LabelId),
+    Halves(usize, usize),
+}
+
+// What is below the node whose line has this number.
+fn look_below(nodes: &Nodes, ends: &[usize], number: usize) -> Below
+    requires { HasPlace nodes.now ends.now number }
+    ensures { IsBelow nodes.now ends.now number result }
+{
+    match nodes.label(number) {
+        Some(id) => Below::Nothing(id),
+        None => Below::Halves(number + 1, ends[number + 1]),
+    }
+}
+
+// Where the lines of the node whose line has this number and of those below it end, by the ends of those after it.
 fn end_at(nodes: &Nodes, ends: &[usize], number: usize) -> usize
-    requires plain { ArePlain nodes.now }
-    requires behind { AreEndsBehind nodes.now ends.now number }
-    requires within { number < length nodes.now }
+    requires { HasPlace nodes.now ends.now number }
     ensures { EndsAt nodes.now number result }
 {
-    let next = number + 1;
-    if nodes.label(number).is_some() {
-        next
-    } else {
-        ends[ends[next]]
+    match look_below(nodes, ends, number) {
+        Below::Nothing(_) => number + 1,
+        Below::Halves(_, upper) => ends[upper],
     }
 }
 
 // Where the lines of each node and of those below it end.
 fn ends_of(alloc: Global, nodes: &Nodes) -> Result<Vec<usize>, AllocError>
     requires { ArePlain nodes.now }
-    ensures { IfOk result (λ ends. AreEndsOf nodes.now ends.items) }
+    ensures { IfOk result (λ ends. AreEndsFrom nodes.now ends.items 0) }
 {
     let count = nodes.len();
     let mut ends = vec![in alloc; 0usize; count]?;
@@ -54,25 +69,24 @@ fn is_leaf(nodes: &Nodes, number: usize, label: LabelId) -> bool
     }
 }
 
-// The step of a run of the side label from the node whose line has this number: the bit and the line of the half that is
-// chosen, none where the run ends.
+// The step of a run of the side label from the node whose line has this number: the bit and the line of the half that
+// is chosen, none where the run ends.
 fn step(nodes: &Nodes, ends: &[usize], number: usize, side: LabelId) -> Option<(bool, usize)>
-    requires plain { ArePlain nodes.now }
-    requires ends { AreEndsOf nodes.now ends.now }
-    requires within { number < length nodes.now }
-    ensures { MatchOption result (IsRunEnd nodes.now side.0 number) (λ x. IsStep nodes.now side.0 number x.0 x.1) }
+    requires { HasPlace nodes.now ends.now number }
+    ensures { MatchOption result (IsRunEnd nodes.now side.0 number)
+        (λ x. IsStep nodes.now ends.now side.0 number x.0 x.1) }
 {
-    if nodes.label(number).is_some() {
-        return None;
-    }
-    let lower = number + 1;
-    let upper = ends[lower];
-    if is_leaf(nodes, lower, side) {
-        Some((true, upper))
-    } else if is_leaf(nodes, upper, side) {
-        Some((false, lower))
-    } else {
-        None
+    match look_below(nodes, ends, number) {
+        Below::Nothing(_) => None,
+        Below::Halves(lower, upper) => {
+            if is_leaf(nodes, lower, side) {
+                Some((true, upper))
+            } else if is_leaf(nodes, upper, side) {
+                Some((false, lower))
+            } else {
+                None
+            }
+        }
     }
 }
 
@@ -84,10 +98,8 @@ fn go_down(
     first: usize,
     side: LabelId,
 ) -> Result<usize, AllocError>
-    requires plain { ArePlain nodes.now }
-    requires ends { AreEndsOf nodes.now ends.now }
-    requires within { first < length nodes.now }
-    ensures { IfOk result (λ end. IsRun nodes.now side.0 first bits.new.items end) }
+    requires { HasPlace nodes.now ends.now first }
+    ensures { IfOk result (λ end. IsRun nodes.now ends.now side.0 first bits.new.items end) }
 {
     bits.clear();
     let mut number = first;
@@ -98,36 +110,35 @@ fn go_down(
     Ok(number)
 }
 
-// The side label of the run of the inner node whose line has this number.
-fn side_of(nodes: &Nodes, ends: &[usize], number: usize) -> Option<LabelId>
+// The side label of the run of an inner node whose halves have these lines.
+fn side_of(nodes: &Nodes, lower: usize, upper: usize) -> Option<LabelId>
     requires plain { ArePlain nodes.now }
-    requires ends { AreEndsOf nodes.now ends.now }
-    requires within { number < length nodes.now }
-    requires inner { label_of (node_from nodes.now number) ≡ None }
-    ensures { option_map (λ id. id.0) result ≡ side_below (node_from nodes.now number) }
+    requires lower { lower < length nodes.now }
+    requires upper { upper < length nodes.now }
+    ensures { option_map (λ id. id.0) result
+        ≡ option_or (label_of (node_from nodes.now lower)) (label_of (node_from nodes.now upper)) }
 {
-    match nodes.label(number + 1) {
+    match nodes.label(lower) {
         Some(id) => Some(id),
-        None => nodes.label(ends[number + 1]),
+        None => nodes.label(upper),
     }
 }
 
 // The side label and the line of the end of the run from the inner node whose line has this number, where that has two
-// bits or more, which are kept.
+// bits or more, which are kept. The node's halves have these lines.
 fn run_of(
     bits: &mut Vec<bool>,
     nodes: &Nodes,
     ends: &[usize],
     number: usize,
+    halves: (usize, usize),
 ) -> Result<Option<(LabelId, usize)>, AllocError>
-    requires plain { ArePlain nodes.now }
-    requires ends { AreEndsOf nodes.now ends.now }
-    requires within { number < length nodes.now }
-    requires inner { label_of (node_from nodes.now number) ≡ None }
+    requires place { HasPlace nodes.now ends.now number }
+    requires halves { HasHalves nodes.now ends.now number halves.0 halves.1 }
     ensures { IfOk result (λ found. MatchOption found (IsShort (node_from nodes.now number))
-        (λ x. IsLong nodes.now number x.0.0 bits.new.items x.1)) }
+        (λ x. IsLong nodes.now ends.now number x.0.0 bits.new.items x.1)) }
 {
-    let Some(side) = side_of(nodes, ends, number) else {
+    let Some(side) = side_of(nodes, halves.0, halves.1) else {
         return Ok(None);
     };
     let end = go_down(bits, nodes, ends, number, side)?;
@@ -145,17 +156,15 @@ fn compact_node(
     ends: &[usize],
     number: usize,
 ) -> Result<(), AllocError>
-    requires plain { ArePlain nodes.now }
-    requires ends { AreEndsOf nodes.now ends.now }
-    requires within { number < length nodes.now }
+    requires { HasPlace nodes.now ends.now number }
     ensures { OnOk result (IsCompacted (node_from nodes.now number) out.old out.new) }
 {
-    match nodes.label(number) {
-        Some(id) => {
+    match look_below(nodes, ends, number) {
+        Below::Nothing(id) => {
             out.push_leaf(id)?;
             Ok(())
         }
-        None => match run_of(bits, nodes, ends, number)? {
+        Below::Halves(lower, upper) => match run_of(bits, nodes, ends, number, (lower, upper))? {
             Some((side, end)) => {
                 out.push_chain(nodes.cost(number), bits.as_slice(), side, nodes.set(number))?;
                 compact_node(out, bits, nodes, ends, end)?;
@@ -163,8 +172,8 @@ fn compact_node(
             }
             None => {
                 out.push_inner(nodes.cost(number), nodes.set(number))?;
-                compact_node(out, bits, nodes, ends, number + 1)?;
-                compact_node(out, bits, nodes, ends, ends[number + 1])?;
+                compact_node(out, bits, nodes, ends, lower)?;
+                compact_node(out, bits, nodes, ends, upper)?;
                 Ok(())
             }
         },

@@ -1,5 +1,5 @@
-use Rattle.std.proofs.Common.{◌≡◌, ◌+◌, ◌-◌, ◌<◌, ◌≤◌, ◌++◌, length}
-use Rattle.pmap_cert.specs.Placing.{bits_down, end_down, node_from}
+use Rattle.std.proofs.Common.{◌≡◌, ◌+◌, ◌-◌, ◌≤◌, ◌++◌, length}
+use Rattle.pmap_cert.specs.Placing.{HasPlace, bits_down, end_down, node_from}
 use Rattle.pmap_cert.proofs.compacting.go_down.Given as goal
 
 -- the run from the first line is the bits so far and the run from this line
@@ -7,7 +7,7 @@ abbrev pub invariant-loop-bit : goal.invariant-loop-bit
 invariant-loop-bit l = record {
   run : bits_down l.side.0 (node_from l.nodes l.first) ≡ l.bits.items ++ bits_down l.side.0 (node_from l.nodes l.number);
   end : end_down l.side.0 (node_from l.nodes l.first) ≡ end_down l.side.0 (node_from l.nodes l.number);
-  within : l.number < length l.nodes;
+  place : HasPlace l.nodes l.ends l.number;
   after : l.first + length l.bits.items ≤ l.number;
 }
 
