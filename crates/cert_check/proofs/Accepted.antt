@@ -19,7 +19,6 @@ use Rattle.pmap_cert.specs.ExactPair.{exact_pair}
 use Rattle.pmap_cert.proofs.ChainWords.{other-room}
 use Rattle.pmap_cert.proofs.Sets.{bytes_eq-same}
 use Rattle.cert_check.specs.Checking.{bits_fault, claim_fault, fault_at, first_fault, is_decided, is_label_of, leaf_fault, node_count, node_fault, whole_fault}
-use Rattle.cert_check.specs.Sources.{HasRoom}
 use Rattle.cert_check.specs.Versions.{is_same_version}
 use Rattle.cert_check.specs.declared.fault.CheckFault.{CheckFault}
 use Rattle.cert_check.specs.declared.fault.CheckFaultKind.TheVariants.{BoundNotMet, CostTooHigh, LeafNotUniform, ListDiffers, SetTooSmall, VersionDiffers}
@@ -144,6 +143,13 @@ claim-none p e h =
     absurd (both_ways (list_all (has p.labels) e.labels) (not-true _ parts.1) (has-all p.labels e.labels (h.labels (eqb-true p.cost e.cost parts.0))))) in
     ap (λ b. cond b (Some CostTooHigh) (cond ((p.cost == e.cost) && not (list_all (has p.labels) e.labels)) (Some SetTooSmall) None)) high
     ∙ ap (λ b. cond b (Some SetTooSmall) None) lacks
+
+-- there are at most so many inner nodes one inside the other, each bit of a chain counting as one
+abbrev pub HasRoom : Tree → ℕ → Type 0
+HasRoom (LeafNode x) room = Unit {0}
+HasRoom (InnerNode claim lower upper) zero = ⊥
+HasRoom (InnerNode claim lower upper) (suc room) = HasRoom lower room × HasRoom upper room
+HasRoom (ChainNode claim bits side end) room = (0 < length bits) × HasRoomBelow (HasRoom end) bits room
 
 -- the form of a certificate leaves room for its nodes
 pub room-from_form : (table : List Label) (t : Tree) (room : ℕ) → HasNodeForm table t room → HasRoom t room

@@ -1,24 +1,22 @@
 -- What is carried down to a block, as the code finds it.
-use Rattle.std.proofs.Common.{◌≡◌, ℕ, ◌+◌, ◌-◌, ◌*◌, ◌^◌, ◌<◌, ◌≤◌, Bool, true, false, cond, not, ◌&&◌, ◌||◌, ◌==◌, List, [], ◌∷◌, ◌++◌, filter, get_or, length, nat_le, nat_lt, refl, sym, ap, ◌∙◌, arith}
+use Rattle.std.proofs.Common.{◌≡◌, ℕ, ◌+◌, ◌-◌, ◌*◌, ◌^◌, ◌<◌, ◌≤◌, Bool, true, false, cond, not, ◌&&◌, ◌||◌, List, [], ◌∷◌, ◌++◌, filter, get_or, length, nat_le, nat_lt, refl, sym, ap, ◌∙◌, arith}
 use Rattle.std.proofs.Common.{take}
-use Rattle.std.proofs.lemmas.List.{append-nil, append_assoc, take_more}
+use Rattle.std.proofs.lemmas.List.{append-nil, take_more}
 use Rattle.std.specs.List.{list_any}
-use Rattle.std.proofs.lemmas.Bool.{and_from, and_parts, both_ways, eq-eqb, eqb-true, false_from_ne_true, false≢true, le-leb, leb-true}
+use Rattle.std.proofs.lemmas.Bool.{and_from, and_parts, false_from_ne_true, false≢true, le-leb, leb-true}
 use Rattle.std.proofs.lemmas.Bool.Decides.{nat_tests}
 use Rattle.std.proofs.lemmas.List.Elements.{filter-append, filter_agree}
 use Rattle.std.proofs.lemmas.Nat.{pow_pos}
-use Rattle.prefix_keys.specs.Block.{block_number, first_of, last_of}
+use Rattle.prefix_keys.specs.Block.{first_of, last_of}
 use Rattle.prefix_keys.specs.Version.{width_of}
 use Rattle.prefix_keys.specs.declared.block.Block.{Block}
-use Rattle.prefix_keys.specs.declared.span.Span.{Span}
 use Rattle.pmap_text.specs.Carried.{entry_covers, from_last, statement_meets, statement_spans}
 use Rattle.pmap_text.specs.ListModel.{lies_inside}
 use Rattle.pmap_text.specs.PrefixList.{prefix_of}
 use Rattle.pmap_text.specs.declared.entry.Entry.{Entry}
 use Rattle.pmap_text.specs.declared.statement.Statement.{Statement}
-use Rattle.pmap_text.proofs.Blocks.{address-between, address-first, address-last}
 use Rattle.cert_check.specs.Carrying.{carried_to, entries_carried_to, number_of}
-use Rattle.cert_check.specs.Sources.{begins_in, covers_whole, greatest, is_inside, meets_block, meets_span, spans_block, spans_span}
+use Rattle.cert_check.specs.Sources.{covers_whole, greatest, is_inside, meets_block, spans_block}
 use Rattle.cert_check.specs.Versions.{is_same_version}
 use Rattle.cert_check.proofs.Lists.{any-kept, filter_twice, from_last-filter}
 
@@ -178,72 +176,25 @@ carried-push b ss s = by (meets_block b s) (spans_block b s) refl refl
     by false true meets spans = absurd (false≢true (sym meets ∙ spans-meets_block b s spans))
     by false false meets spans = misses spans ∙ ap (λ c. carried_to b ss ++ cond c (s ∷ []) []) meets ∙ append-nil (carried_to b ss)
 
--- the span of a block
-pub record IsSpanOf (b : Block) (w : Span) : Type 0 where
-  pub version : w.low.version ≡ b.version
-  pub first : w.low.value ≡ first_of (width_of b.version) b.len (number_of b)
-  pub last : w.high.value ≡ last_of (width_of b.version) b.len (number_of b)
-
-and-grouped : (a b c : Bool) → ((a && b) && c) ≡ (a && (b && c))
-and-grouped true b c = refl
-and-grouped false b c = refl
-
-span-meets : (b : Block) (w : Span) → IsSpanOf b w → (s : Statement) → meets_span w s ≡ meets_block b s
-span-meets b w h s =
-    (λ i. (is_same_version s.span.low.version (h.version i) && nat_le s.span.low.value (h.last i)) && nat_le (h.first i) s.span.high.value)
-    ∙ and-grouped (is_same_version s.span.low.version b.version) (nat_le s.span.low.value (last_of (width_of b.version) b.len (number_of b)))
-    (nat_le (first_of (width_of b.version) b.len (number_of b)) s.span.high.value)
-
-span-spans : (b : Block) (w : Span) → IsSpanOf b w → (s : Statement) → spans_span w s ≡ spans_block b s
-span-spans b w h s =
-    (λ i. (is_same_version s.span.low.version (h.version i) && nat_le s.span.low.value (h.first i)) && nat_le (h.last i) s.span.high.value)
-    ∙ and-grouped (is_same_version s.span.low.version b.version) (nat_le s.span.low.value (first_of (width_of b.version) b.len (number_of b)))
-    (nat_le (last_of (width_of b.version) b.len (number_of b)) s.span.high.value)
-
-between-block : (W n q a : ℕ) → (nat_le (first_of W n q) a && nat_le a (last_of W n q)) ≡ (block_number W n a == q)
-between-block W n q a = by (block_number W n a == q) refl
-  where
-    by : (b : Bool) → (block_number W n a == q) ≡ b → (nat_le (first_of W n q) a && nat_le a (last_of W n q)) ≡ b
-    by true e =
-        and_from (nat_le (first_of W n q) a) (nat_le a (last_of W n q)) (le-leb _ _ (address-first W n q a (eqb-true (block_number W n a) q e)))
-        (le-leb _ _ (address-last W n q a (eqb-true (block_number W n a) q e)))
-    by false e = false_from_ne_true (nat_le (first_of W n q) a && nat_le a (last_of W n q))
-        (λ t. let parts = and_parts (nat_le (first_of W n q) a) (nat_le a (last_of W n q)) t in
-        both_ways (block_number W n a == q) e
-        (eq-eqb (block_number W n a) q (address-between W n q a (leb-true (first_of W n q) a parts.0) (leb-true a (last_of W n q) parts.1))))
-
-and-turned : (l v f g : Bool) → (l && ((v && f) && g)) ≡ (v && (l && (f && g)))
-and-turned true true f g = refl
-and-turned true false f g = refl
-and-turned false true f g = refl
-and-turned false false f g = refl
-
-pub span-inside : (b : Block) (w : Span) → IsSpanOf b w → (e : Entry) → (nat_lt b.len e.block.len && begins_in w e) ≡ is_inside b e
-span-inside b w h e =
-    let W = width_of b.version in
-    let v = is_same_version e.block.version b.version in
-    (λ i. nat_lt b.len e.block.len && ((is_same_version e.block.version (h.version i) && nat_le (h.first i) e.block.value) && nat_le e.block.value (h.last i)))
-    ∙ and-turned (nat_lt b.len e.block.len) v (nat_le (first_of W b.len (number_of b)) e.block.value) (nat_le e.block.value (last_of W b.len (number_of b)))
-    ∙ ap (λ t. v && (nat_lt b.len e.block.len && t)) (between-block W b.len (number_of b) e.block.value)
-
-pub carried-more : (b : Block) (w : Span) → IsSpanOf b w → (ss : List Statement) (i : ℕ) (s : Statement) (old new : List Statement) → i < length ss → s ≡ get_or ss i s
-    → old ≡ carried_to b (take i ss) → new ≡ cond (meets_span w s) (cond (spans_span w s) [] old ++ s ∷ []) old → new ≡ carried_to b (take (i + 1) ss)
-carried-more b w span ss i s old new less is so_far added =
-    added ∙ (λ j. cond (span-meets b w span s j) (cond (span-spans b w span s j) [] (so_far j) ++ s ∷ []) (so_far j))
+pub carried-more : (b : Block) (ss : List Statement) (i : ℕ) (s : Statement) (old new : List Statement) → i < length ss → s ≡ get_or ss i s
+    → old ≡ carried_to b (take i ss) → new ≡ cond (meets_block b s) (cond (spans_block b s) [] old ++ s ∷ []) old → new ≡ carried_to b (take (i + 1) ss)
+carried-more b ss i s old new less is so_far added =
+    added ∙ (λ j. cond (meets_block b s) (cond (spans_block b s) [] (so_far j) ++ s ∷ []) (so_far j))
     ∙ sym (carried-push b (take i ss) s) ∙ ap (carried_to b) (sym more)
   where
     more : take (i + 1) ss ≡ take i ss ++ s ∷ []
     more = take_more ss i s less ∙ ap (λ (d : Statement). take i ss ++ d ∷ []) (sym is)
 
 -- those that pass, with one more entry
-pub say-more : (test : Entry → Bool) (es : List Entry) (i : ℕ) (e : Entry) (front old new : List Entry) → i < length es → e ≡ get_or es i e
-    → old ≡ front ++ filter test (take i es) → new ≡ cond (test e) (old ++ e ∷ []) old → new ≡ front ++ filter test (take (i + 1) es)
-say-more test es i e front old new less is so_far added =
-    added ∙ by (test e) ∙ ap (λ (xs : List Entry). front ++ xs) (sym (filter-append test (take i es) (e ∷ [])) ∙ ap (filter test) (sym more))
+pub say-more : (test : Entry → Bool) (es : List Entry) (i : ℕ) (e : Entry) (old new : List Entry) → i < length es → e ≡ get_or es i e
+    → old ≡ filter test (take i es) → new ≡ cond (test e) (old ++ e ∷ []) old → new ≡ filter test (take (i + 1) es)
+say-more test es i e old new less is so_far added =
+    added ∙ (λ j. cond (test e) (so_far j ++ e ∷ []) (so_far j)) ∙ by (test e)
+    ∙ sym (filter-append test (take i es) (e ∷ [])) ∙ ap (filter test) (sym more)
   where
     more : take (i + 1) es ≡ take i es ++ e ∷ []
     more = take_more es i e less ∙ ap (λ (d : Entry). take i es ++ d ∷ []) (sym is)
 
-    by : (b : Bool) → cond b (old ++ e ∷ []) old ≡ front ++ (filter test (take i es) ++ cond b (e ∷ []) [])
-    by true = ap (λ (xs : List Entry). xs ++ e ∷ []) so_far ∙ append_assoc front (filter test (take i es)) (e ∷ [])
-    by false = so_far ∙ ap (λ (xs : List Entry). front ++ xs) (sym (append-nil (filter test (take i es))))
+    by : (b : Bool) → cond b (filter test (take i es) ++ e ∷ []) (filter test (take i es)) ≡ filter test (take i es) ++ cond b (e ∷ []) []
+    by true = refl
+    by false = sym (append-nil (filter test (take i es)))

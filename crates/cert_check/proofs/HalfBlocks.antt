@@ -1,23 +1,28 @@
--- The halves of a block.
-use Rattle.std.proofs.Common.{◌≡◌, ◌∙◌, ℕ, suc, ◌+◌, ◌-◌, ◌*◌, ◌/◌, ◌^◌, ◌<◌, sym, ap, arith, pow_pos}
+-- Blocks, their halves and the blocks in them.
+use Rattle.std.proofs.Common.{◌≡◌, ◌∙◌, ℕ, suc, ◌+◌, ◌-◌, ◌*◌, ◌/◌, ◌^◌, ◌<◌, ◌≤◌, sym, ap, subst, arith, pow_pos}
 use Rattle.prefix_keys.specs.Block.{block_number, first_of, last_of}
 use Rattle.prefix_keys.specs.Version.{width_of}
 use Rattle.prefix_keys.specs.declared.block.Block.{Block}
+use Rattle.prefix_keys.proofs.Quotients.{whole}
 use Rattle.pmap_text.proofs.Blocks.{block_number-half, pow-half}
 use Rattle.cert_check.specs.Carrying.{number_of}
-use Rattle.cert_check.specs.Walking.{last_in}
-use Rattle.cert_check.proofs.Decided.{block-first}
+use Rattle.cert_check.specs.Halves.{AreHalves, IsHalf}
+use Rattle.cert_check.specs.Parts.{last_in}
+use Rattle.cert_check.proofs.Carries.{first-last}
 
--- a half of a block, with its number
-pub record IsHalf (b half : Block) (q : ℕ) : Type 0 where
-  pub version : half.version ≡ b.version
-  pub len : half.len ≡ b.len + 1
-  pub number : block_number (width_of b.version) (b.len + 1) half.value ≡ q
+-- a block begins at its number, and has its first address
+pub block-first : (b : Block) → first_of (width_of b.version) b.len (number_of b) ≡ b.value
+block-first b = whole b.value (2 ^ (width_of b.version - b.len)) (pow_pos (width_of b.version - b.len)) b.no_host_bit
 
-pub record AreHalves (b low high : Block) : Type 0 where
-  pub lower : IsHalf b low (2 * number_of b)
-  pub upper : IsHalf b high (2 * number_of b + 1)
-  pub begins : low.value ≡ b.value
+pub block-last : (b : Block) → b.value ≤ last_in b
+block-last b = subst (λ k. k ≤ last_in b) (block-first b) (first-last (width_of b.version) b.len (number_of b))
+
+-- a block lies strictly inside another
+pub record IsWithin (b inner : Block) : Type 0 where
+  pub version : inner.version ≡ b.version
+  pub longer : b.len < inner.len
+  pub first : b.value ≤ inner.value
+  pub last : last_in inner ≤ last_in b
 
 pub half-number : (b half : Block) (q : ℕ) → IsHalf b half q → number_of half ≡ q
 half-number b half q h = (λ i. block_number (width_of (h.version i)) (h.len i) half.value) ∙ h.number
@@ -73,3 +78,25 @@ module _ (b low high : Block) (are : AreHalves b low high) where
       let number : block_number W (suc b.len) high.value ≡ 2 * number_of b + 1 =
       ap (λ (n : ℕ). block_number W n high.value) (sym next) ∙ are.upper.number in
       half ∙ ap (λ (k : ℕ). k / 2) number ∙ omega arith
+
+  pub low-within : IsWithin b low
+  low-within =
+      let last = behind-low in
+      let high_last = ends-high in
+      let some = block-last high in
+      record {
+        version = are.lower.version;
+        longer = omega (arith, are.lower.len);
+        first = omega (arith, are.begins);
+        last = omega (arith, last, high_last, some);
+      }
+
+  pub high-within : IsWithin b high
+  high-within =
+      let first = high-above in
+      record {
+        version = are.upper.version;
+        longer = omega (arith, are.upper.len);
+        first = omega (arith, first);
+        last = subst (λ (a : ℕ). a ≤ last_in b) (sym ends-high) (omega arith);
+      }

@@ -1,7 +1,8 @@
 -- Tests and filters of lists.
 use Rattle.std.proofs.Common.{◌≡◌, ℕ, Bool, true, false, cond, ◌&&◌, ◌||◌, List, [], ◌∷◌, filter, refl, sym, ap, ◌∙◌, arith}
-use Rattle.std.proofs.Common.{◌-◌, drop, length, length-drop, take}
+use Rattle.std.proofs.Common.{◌-◌, None, Some, drop, length, length-drop, slice_get, take}
 use Rattle.std.proofs.lemmas.List.{take_all}
+use Rattle.std.proofs.lemmas.Option.{none-some, same_Some}
 use Rattle.std.specs.List.{list_any}
 use Rattle.std.proofs.lemmas.Bool.{false≢true}
 use Rattle.pmap_text.specs.Carried.{from_last}
@@ -79,3 +80,16 @@ from_last-filter {X} p c d same (x ∷ xs) = step (p x) (list_any d xs) refl (fr
 -- what is left of a slice from a place on
 pub slice-from : {X : Type 0} (xs : List X) (i : ℕ) → take (length xs - i) (drop i xs) ≡ drop i xs
 slice-from xs i = take_all (length xs - i) (drop i xs) (omega (arith, length-drop i xs))
+
+-- the first of a list, if there is one
+pub first-is : {X : Type 0} (xs : List X) (x : X) → Some x ≡ slice_get xs 0 → xs ≡ x ∷ drop 1 xs
+first-is [] x e = absurd (none-some x (sym e))
+first-is (y ∷ ys) x e = ap (λ z. z ∷ ys) (sym (same_Some x y e))
+
+pub first-none : {X : Type 0} (xs : List X) → None ≡ slice_get xs 0 → xs ≡ []
+first-none [] e = λ i. []
+first-none (y ∷ ys) e = absurd (none-some y e)
+
+pub length-nil : {X : Type 0} (xs : List X) → length xs ≡ 0 → xs ≡ []
+length-nil [] e = refl
+length-nil (x ∷ xs) e = absurd (omega (arith, e))

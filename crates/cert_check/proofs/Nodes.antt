@@ -1,22 +1,28 @@
--- The fault of a node by those of its halves.
-use Rattle.std.proofs.Common.{◌≡◌, ℕ, zero, suc, ◌+◌, ◌-◌, ◌*◌, ◌^◌, ◌<◌, List, [], ◌∷◌, length, Option, Some, None, min, option_map, refl, sym, ap, ◌∙◌, subst, arith}
+-- The nodes of a certificate at a line, and their first faults by those of the nodes below.
+use Rattle.std.proofs.Common.{◌≡◌, ◌∙◌, ℕ, zero, suc, ◌+◌, ◌-◌, ◌*◌, ◌^◌, ◌<◌, ◌≤◌, ◌==◌, ◌&&◌, Bool, true, false, cond, not, nat_lt, List, [], ◌∷◌, length, Option, Some, None, Result, Ok, Err, min, option_map, refl, sym, ap, subst, arith}
+use Rattle.std.specs.List.{list_all}
 use Rattle.std.specs.Option.{option_or}
 use Rattle.std.proofs.lemmas.Bool.Decides.{nat_tests}
+use Rattle.std.proofs.lemmas.Option.{none-some, same_Some}
+use Rattle.pmap_text.specs.ListModel.{Prefix}
+use Rattle.pmap_text.specs.MapModel.{Label, MapModel, settled_label}
+use Rattle.pmap_text.specs.MapText.{text_at}
 use Rattle.prefix_keys.specs.Version.{width_of}
 use Rattle.prefix_keys.specs.declared.block.Block.{Block}
-use Rattle.pmap_text.specs.MapModel.{Label, MapModel}
-use Rattle.pmap_cert.specs.CertificateForm.{IsRising}
-use Rattle.pmap_cert.specs.CertificateModel.{claim_of}
+use Rattle.pmap_cert.specs.CertificateForm.{HasRoomBelow, IsRising}
+use Rattle.pmap_cert.specs.CertificateModel.{ChainNode, InnerNode, LeafNode, Pair, Tree, claim_of, has}
+use Rattle.pmap_cert.specs.Chain.{chain_pair, chosen_half, side_half}
 use Rattle.pmap_cert.specs.ExactPair.{exact_pair}
-use Rattle.pmap_text.specs.ListModel.{Prefix}
-use Rattle.pmap_cert.specs.Node.{Chain, HasChainForm, Inner, Leaf, Node, behind, first_node, from_next_line, label_of, set_of, side_of, tree_of}
-use Rattle.std.proofs.lemmas.Option.{none-some}
-use Rattle.std.specs.Option.{unwrap_or}
+use Rattle.pmap_cert.specs.Node.{Chain, HasChainForm, Inner, Leaf, Node, behind, bits_of, first_node, from_next_line, label_of, set_of, side_of, tree_of}
 use Rattle.cert_check.specs.Carrying.{number_of}
-use Rattle.cert_check.specs.Checking.{claim_fault, fault_at, node_count, node_fault, told}
+use Rattle.cert_check.specs.Halves.{IsHalf}
+use Rattle.cert_check.specs.Checking.{bits_fault, claim_fault, fault_at, is_decided, is_label_of, leaf_fault, node_count, node_fault, told}
+use Rattle.cert_check.specs.Descent.{IsAnswer, answer_of}
+use Rattle.cert_check.specs.declared.checking.NodeLine.{NodeLine}
 use Rattle.cert_check.specs.declared.fault.CheckFault.{CheckFault}
 use Rattle.cert_check.specs.declared.fault.CheckFaultKind.{CheckFaultKind}
-use Rattle.cert_check.proofs.HalfBlocks.{AreHalves, IsHalf, half-number}
+use Rattle.cert_check.specs.declared.fault.CheckFaultKind.TheVariants.{CostTooHigh, LeafNotUniform, ListDiffers, NoMemory, SetTooSmall}
+use Rattle.cert_check.proofs.HalfBlocks.{half-number}
 
 -- the number of a node that comes later
 pub told-next : (k number : ℕ) → told k ≡ number → (next : ℕ) → next ≡ min (number + 1) (2 ^ 64 - 1) → told (k + 1) ≡ next
@@ -26,11 +32,48 @@ told-next k number is next e = grind (arith, nat_tests)
 pub or-first : {X : Type 0} (a b : Option X) (x : X) → a ≡ Some x → option_or a b ≡ Some x
 or-first a b x e = ap (λ o. option_or o b) e
 
-pub or-second : {X : Type 0} (a b : Option X) (x : X) → a ≡ None → b ≡ Some x → option_or a b ≡ Some x
-or-second a b x e f = ap (λ o. option_or o b) e ∙ f
+pub or-second : {X : Type 0} (a b c : Option X) → a ≡ None → b ≡ c → option_or a b ≡ c
+or-second a b c e f = ap (λ o. option_or o b) e ∙ f
 
-pub or-neither : {X : Type 0} (a b : Option X) → a ≡ None → b ≡ None → option_or a b ≡ None
-or-neither a b e f = ap (λ o. option_or o b) e ∙ f
+-- the answer where nothing is wrong with the nodes below
+pub own-answer : (fault : ℕ → Option CheckFault) (number count : ℕ) (after : List Node) (o : Option CheckFaultKind) (next : NodeLine) → next.node ≡ after
+    → ((k : ℕ) → told k ≡ number → (fault k ≡ option_map (fault_at k) o) × (next.number ≡ told (k + count)))
+    → IsAnswer fault number count after (answer_of o number next)
+own-answer fault number count after None next is holds = (is, holds)
+own-answer fault number count after (Some kind) next is holds = λ k told_is. (holds k told_is).0 ∙ (λ i. Some (record { kind = kind; node = told_is i }))
+
+-- the answer to a check of a node that comes next, by the number before
+pub later-answer : (fault below : ℕ → Option CheckFault) (number next count : ℕ) (after : List Node) (r : Result NodeLine CheckFault)
+    → ((k : ℕ) → told k ≡ number → told (k + 1) ≡ next) → ((k : ℕ) → fault k ≡ below (k + 1))
+    → IsAnswer below next count after r → IsAnswer fault number (1 + count) after r
+later-answer fault below number next count after (Ok line) follows is h = (
+  h.0,
+  λ k told_is. let there = h.1 (k + 1) (follows k told_is) in
+      let more : (k + 1) + count ≡ k + (1 + count) = omega arith in (is k ∙ there.0, there.1 ∙ ap told more),
+)
+later-answer fault below number next count after (Err found) follows is h = λ k told_is. is k ∙ h (k + 1) (follows k told_is)
+
+-- what holds of a half by its length and number
+pub half-is : {X : Type 0} (b half : Block) (q : ℕ) → IsHalf b half q → (f : ℕ → ℕ → X) → f half.len (number_of half) ≡ f (suc b.len) q
+half-is b half q h f =
+    let len : half.len ≡ suc b.len = omega (arith, h.len) in
+    λ i. f (len i) (half-number b half q h i)
+
+-- the room of a half
+pub half-room : (b half : Block) (q less : ℕ) → IsHalf b half q → width_of b.version - b.len ≡ suc less → less ≡ width_of half.version - half.len
+half-room b half q less h room =
+    let width : width_of half.version ≡ width_of b.version = ap width_of h.version in
+    omega (arith, width, h.len, room)
+
+-- the first fault along bits by that along all but the first
+pub way-step : (m : MapModel) (ps : List Prefix) (x : Label) (k : ℕ) (end : ℕ → ℕ → Option CheckFault) (b chosen beside : Block) (bit : Bool) (bits rest : List Bool)
+    → bits ≡ bit ∷ rest → IsHalf b chosen (chosen_half bit (number_of b)) → IsHalf b beside (side_half bit (number_of b))
+    → bits_fault m ps x k end bits b.len (number_of b)
+    ≡ option_or (bits_fault m ps x k end rest chosen.len (number_of chosen)) (option_map (fault_at k) (leaf_fault m ps beside.len (number_of beside) x))
+way-step m ps x k end b chosen beside bit bits rest is on off =
+    ap (λ (xs : List Bool). bits_fault m ps x k end xs b.len (number_of b)) is
+    ∙ (λ i. option_or (sym (half-is b chosen (chosen_half bit (number_of b)) on (bits_fault m ps x k end rest)) i)
+    (option_map (fault_at k) (sym (half-is b beside (side_half bit (number_of b)) off (λ n q. leaf_fault m ps n q x)) i)))
 
 -- the set of a node rises
 pub rising-of : (node : Node) (count room : ℕ) → HasChainForm count node room → IsRising count 0 (set_of node)
@@ -39,209 +82,171 @@ rising-of (Inner cost set left right) count zero h = absurd h
 rising-of (Inner cost set left right) count (suc room) h = h.1
 rising-of (Chain cost set bits side end) count room h = h.1
 
--- an inner node with the nodes of its halves
-abbrev pub IsInner : Node → Node → Node → Type 0
-IsInner (Leaf id) left right = ⊥
-IsInner (Inner cost set l r) left right = (l ≡ left) × (r ≡ right)
-IsInner (Chain cost set bits side end) left right = ⊥
+-- what the first of the nodes at a line claims, how many nodes it has, and its first fault
+abbrev pub pair_of : List Label → List Node → Pair
+pair_of labels nodes = claim_of (tree_of labels (first_node nodes))
 
--- its fault by those of its nodes and its own
-pub inner-fault : (labels : List Label) (m : MapModel) (ps : List Prefix) (node left right : Node) → IsInner node left right → (k n q : ℕ)
-    → node_fault m ps (tree_of labels node) k n q
-    ≡ option_or (node_fault m ps (tree_of labels left) (k + 1) (suc n) (2 * q))
-    (option_or (node_fault m ps (tree_of labels right) (k + 1 + node_count (tree_of labels left)) (suc n) (2 * q + 1))
-    (option_map (fault_at k) (claim_fault (claim_of (tree_of labels node)) (exact_pair (claim_of (tree_of labels left)) (claim_of (tree_of labels right))))))
-inner-fault labels m ps (Leaf id) left right h k n q = absurd h
-inner-fault labels m ps (Chain cost set bits side end) left right h k n q = absurd h
-inner-fault labels m ps (Inner cost set l r) left right h k n q =
-    λ i. option_or (node_fault m ps (tree_of labels (h.0 i)) (k + 1) (suc n) (2 * q))
-    (option_or (node_fault m ps (tree_of labels (h.1 i)) (k + 1 + node_count (tree_of labels (h.0 i))) (suc n) (2 * q + 1))
-    (option_map (fault_at k) (claim_fault (claim_of (tree_of labels (Inner cost set l r))) (exact_pair (claim_of (tree_of labels (h.0 i))) (claim_of (tree_of labels (h.1 i)))))))
+abbrev pub count_of : List Label → List Node → ℕ
+count_of labels nodes = node_count (tree_of labels (first_node nodes))
 
-pub inner-count : (labels : List Label) (node left right : Node) → IsInner node left right
-    → node_count (tree_of labels node) ≡ 1 + node_count (tree_of labels left) + node_count (tree_of labels right)
-inner-count labels (Leaf id) left right h = absurd h
-inner-count labels (Chain cost set bits side end) left right h = absurd h
-inner-count labels (Inner cost set l r) left right h = λ i. 1 + node_count (tree_of labels (h.0 i)) + node_count (tree_of labels (h.1 i))
+abbrev pub fault_of : List Label → MapModel → List Prefix → List Node → ℕ → ℕ → ℕ → Option CheckFault
+fault_of labels m ps nodes k n q = node_fault m ps (tree_of labels (first_node nodes)) k n q
 
-pub inner-form : (count room : ℕ) (node left right : Node) → IsInner node left right → HasChainForm count node room
-    → (less : ℕ) × (room ≡ suc less) × HasChainForm count left less × HasChainForm count right less
-inner-form count room (Leaf id) left right h form = absurd h
-inner-form count room (Chain cost set bits side end) left right h form = absurd h
-inner-form count zero (Inner cost set l r) left right h form = absurd form
-inner-form count (suc room) (Inner cost set l r) left right h form =
-    (room, refl, subst (λ (x : Node). HasChainForm count x room) h.0 form.2, subst (λ (x : Node). HasChainForm count x room) h.1 form.3)
+-- a leaf at a line, and the next line
+pub record IsLeafAt (labels : List Label) (nodes next : List Node) (id : ℕ) : Type 0 where
+  pub known : id < length labels
+  pub next_is : next ≡ behind nodes
+  pub count : count_of labels nodes ≡ 1
+  pub fault : (m : MapModel) (ps : List Prefix) (k n q : ℕ) → fault_of labels m ps nodes k n q ≡ option_map (fault_at k) (leaf_fault m ps n q (text_at labels id))
 
--- a fault of the lower node, of the upper, of its own, and none
-pub inner-low : (labels : List Label) (m : MapModel) (ps : List Prefix) (node left right : Node) → IsInner node left right → (k n q : ℕ) (f : CheckFault)
-    → node_fault m ps (tree_of labels left) (k + 1) (suc n) (2 * q) ≡ Some f → node_fault m ps (tree_of labels node) k n q ≡ Some f
-inner-low labels m ps node left right h k n q f e =
-    let own = option_map (fault_at k) (claim_fault (claim_of (tree_of labels node)) (exact_pair (claim_of (tree_of labels left)) (claim_of (tree_of labels right)))) in
-    let high = node_fault m ps (tree_of labels right) (k + 1 + node_count (tree_of labels left)) (suc n) (2 * q + 1) in
-    inner-fault labels m ps node left right h k n q ∙ or-first (node_fault m ps (tree_of labels left) (k + 1) (suc n) (2 * q)) (option_or high own) f e
+pub leaf-at : (labels : List Label) (nodes next : List Node) (id room : ℕ) → 0 < length nodes → HasChainForm (length labels) (first_node nodes) room
+    → Some id ≡ label_of (first_node nodes) → next ≡ from_next_line nodes → IsLeafAt labels nodes next id
+leaf-at labels [] next id room some form is next_is = absurd (omega (arith, some))
+leaf-at labels (Inner cost set lower upper ∷ nodes) next id room some form is next_is = absurd (none-some id (sym is))
+leaf-at labels (Chain cost set bits side end ∷ nodes) next id room some form is next_is = absurd (none-some id (sym is))
+leaf-at labels (Leaf number ∷ nodes) next id room some form is next_is =
+    subst (IsLeafAt labels (Leaf number ∷ nodes) next) (sym (same_Some id number is))
+    (record { known = form; next_is = next_is; count = refl; fault = λ m ps k n q. refl })
 
-pub inner-high : (labels : List Label) (m : MapModel) (ps : List Prefix) (node left right : Node) → IsInner node left right → (k n q : ℕ) (f : CheckFault)
-    → node_fault m ps (tree_of labels left) (k + 1) (suc n) (2 * q) ≡ None
-    → node_fault m ps (tree_of labels right) (k + 1 + node_count (tree_of labels left)) (suc n) (2 * q + 1) ≡ Some f → node_fault m ps (tree_of labels node) k n q ≡ Some f
-inner-high labels m ps node left right h k n q f e e' =
-    let own = option_map (fault_at k) (claim_fault (claim_of (tree_of labels node)) (exact_pair (claim_of (tree_of labels left)) (claim_of (tree_of labels right)))) in
-    let high = node_fault m ps (tree_of labels right) (k + 1 + node_count (tree_of labels left)) (suc n) (2 * q + 1) in
-    inner-fault labels m ps node left right h k n q
-    ∙ or-second (node_fault m ps (tree_of labels left) (k + 1) (suc n) (2 * q)) (option_or high own) f e (or-first high own f e')
+-- an inner node at a line, and the lines of its halves
+pub record IsInnerAt (labels : List Label) (nodes lower upper : List Node) (room : ℕ) : Type 0 where
+  pub lower_here : 0 < length lower
+  pub upper_here : 0 < length upper
+  pub lower_form : HasChainForm (length labels) (first_node lower) room
+  pub upper_form : HasChainForm (length labels) (first_node upper) room
+  pub next_is : behind upper ≡ behind nodes
+  pub count : count_of labels nodes ≡ 1 + count_of labels lower + count_of labels upper
+  pub fault : (m : MapModel) (ps : List Prefix) (k n q : ℕ) → fault_of labels m ps nodes k n q
+      ≡ option_or (fault_of labels m ps lower (k + 1) (suc n) (2 * q))
+      (option_or (fault_of labels m ps upper (k + 1 + count_of labels lower) (suc n) (2 * q + 1))
+      (option_map (fault_at k) (claim_fault (pair_of labels nodes) (exact_pair (pair_of labels lower) (pair_of labels upper)))))
 
-pub inner-own : (labels : List Label) (m : MapModel) (ps : List Prefix) (node left right : Node) → IsInner node left right → (k n q : ℕ) (o : Option CheckFaultKind)
-    → node_fault m ps (tree_of labels left) (k + 1) (suc n) (2 * q) ≡ None
-    → node_fault m ps (tree_of labels right) (k + 1 + node_count (tree_of labels left)) (suc n) (2 * q + 1) ≡ None
-    → claim_fault (claim_of (tree_of labels node)) (exact_pair (claim_of (tree_of labels left)) (claim_of (tree_of labels right))) ≡ o
-    → node_fault m ps (tree_of labels node) k n q ≡ option_map (fault_at k) o
-inner-own labels m ps node left right h k n q o e e' e'' =
-    inner-fault labels m ps node left right h k n q
-    ∙ (λ i. option_or (e i) (option_or (e' i) (option_map (fault_at k) (e'' i))))
+pub inner-at : (labels : List Label) (nodes lower upper : List Node) (room : ℕ) → 0 < length nodes → HasChainForm (length labels) (first_node nodes) room
+    → label_of (first_node nodes) ≡ None → side_of (first_node nodes) ≡ None → lower ≡ from_next_line nodes → upper ≡ behind lower
+    → (less : ℕ) × (room ≡ suc less) × IsInnerAt labels nodes lower upper less
+inner-at labels [] lower upper room some form none plain next_is after_is = absurd (omega (arith, some))
+inner-at labels (Leaf number ∷ nodes) lower upper room some form none plain next_is after_is = absurd (none-some number (sym none))
+inner-at labels (Chain cost set bits side end ∷ nodes) lower upper room some form none plain next_is after_is = absurd (none-some side (sym plain))
+inner-at labels (Inner cost set left right ∷ nodes) lower upper zero some form none plain next_is after_is = absurd form
+inner-at labels (Inner cost set left right ∷ nodes) lower upper (suc room) some form none plain next_is after_is = (
+  room,
+  refl,
+  subst (λ (ns : List Node). IsInnerAt labels (Inner cost set left right ∷ nodes) lower ns room) (sym (after_is ∙ ap behind next_is))
+      (subst (λ (ns : List Node). IsInnerAt labels (Inner cost set left right ∷ nodes) ns (right ∷ nodes) room) (sym next_is)
+      (record {
+        lower_here = omega arith;
+        upper_here = omega arith;
+        lower_form = form.2;
+        upper_form = form.3;
+        next_is = refl;
+        count = refl;
+        fault = λ m ps k n q. refl;
+      })),
+)
 
--- a fault with the node's number as it is told
-pub at-number : (k number : ℕ) (kind : CheckFaultKind) → told k ≡ number → option_map (fault_at k) (Some kind) ≡ Some (record { kind = kind; node = number })
-at-number k number kind is = λ i. Some (record { kind = kind; node = is i })
+-- a chain at a line, and the line of its end
+pub record IsChainAt (labels : List Label) (nodes next : List Node) (side room : ℕ) : Type 0 where
+  pub here : 0 < length next
+  pub rising : IsRising (length labels) 0 (set_of (first_node nodes))
+  pub known : side < length labels
+  pub some : 0 < length (bits_of (first_node nodes))
+  pub form : HasRoomBelow (HasChainForm (length labels) (first_node next)) (bits_of (first_node nodes)) room
+  pub next_is : behind next ≡ behind nodes
+  pub count : count_of labels nodes ≡ 1 + count_of labels next
+  pub fault : (m : MapModel) (ps : List Prefix) (k n q : ℕ) → fault_of labels m ps nodes k n q
+      ≡ option_or (bits_fault m ps (text_at labels side) k (fault_of labels m ps next (k + 1)) (bits_of (first_node nodes)) n q)
+      (option_map (fault_at k) (claim_fault (pair_of labels nodes) (chain_pair (length (bits_of (first_node nodes))) (text_at labels side) (pair_of labels next))))
 
--- a place of an inner node, and those of its halves: the lower half's is that of the next line, and behind its nodes comes the
--- upper half
-pub record HasHalves (nodes : List Node) : Type 0 where
-  pub left : Node
-  pub right : Node
-  pub inner : IsInner (first_node nodes) left right
-  pub below : from_next_line nodes ≡ left ∷ right ∷ behind nodes
+pub chain-at : (labels : List Label) (nodes next : List Node) (side room : ℕ) → HasChainForm (length labels) (first_node nodes) room
+    → side_of (first_node nodes) ≡ Some side → next ≡ from_next_line nodes → IsChainAt labels nodes next side room
+chain-at labels [] next side room form is next_is = absurd (none-some side is)
+chain-at labels (Leaf number ∷ nodes) next side room form is next_is = absurd (none-some side is)
+chain-at labels (Inner cost set lower upper ∷ nodes) next side room form is next_is = absurd (none-some side is)
+chain-at labels (Chain cost set bits s end ∷ nodes) next side room form is next_is =
+    subst (λ (x : ℕ). IsChainAt labels (Chain cost set bits s end ∷ nodes) next x room) (same_Some s side is)
+    (subst (λ (ns : List Node). IsChainAt labels (Chain cost set bits s end ∷ nodes) ns s room) (sym next_is)
+    (record {
+      here = omega arith;
+      rising = form.1;
+      known = form.2;
+      some = form.3;
+      form = form.4;
+      next_is = refl;
+      count = refl;
+      fault = λ m ps k n q. refl;
+    }))
 
-pub half-nodes : (nodes : List Node) → 0 < length nodes → label_of (first_node nodes) ≡ None → side_of (first_node nodes) ≡ None → HasHalves nodes
-half-nodes [] some none plain = absurd (omega arith)
-half-nodes (Leaf number ∷ nodes) some none plain = absurd (none-some number (sym none))
-half-nodes (Chain cost set bits side end ∷ nodes) some none plain = absurd (none-some side (sym plain))
-half-nodes (Inner cost set left right ∷ nodes) some none plain = record { left = left; right = right; inner = (refl, refl); below = refl }
+-- the room at a chain's end
+pub end-rising : (count : ℕ) (node : Node) (bits : List Bool) (room : ℕ) → HasRoomBelow (HasChainForm count node) bits room → IsRising count 0 (set_of node)
+end-rising count node [] room h = rising-of node count room h
+end-rising count node (bit ∷ bits) zero h = absurd h
+end-rising count node (bit ∷ bits) (suc room) h = end-rising count node bits room h
 
--- a place of a leaf
-pub leaf-node : (node : Node) (n : ℕ) → label_of node ≡ Some n → node ≡ Leaf n
-leaf-node (Leaf number) n is = ap Leaf (ap (λ (o : Option ℕ). unwrap_or o 0) is)
-leaf-node (Inner cost set left right) n is = absurd (none-some n is)
-leaf-node (Chain cost set bits side end) n is = absurd (none-some n is)
+pub end-room : (Fits : ℕ → Type 0) (bits : List Bool) (room left : ℕ) → room ≡ left + length bits → HasRoomBelow Fits bits room → Fits left
+end-room Fits [] room left is h = let same : room ≡ left = omega (arith, is) in subst Fits same h
+end-room Fits (bit ∷ bits) zero left is h = absurd h
+end-room Fits (bit ∷ bits) (suc room) left is h = end-room Fits bits room left (omega (arith, is)) h
 
-pub leaf-next : (nodes : List Node) (n : ℕ) → label_of (first_node nodes) ≡ Some n → from_next_line nodes ≡ behind nodes
-leaf-next [] n is = refl
-leaf-next (Leaf number ∷ nodes) n is = refl
-leaf-next (Inner cost set left right ∷ nodes) n is = absurd (none-some n is)
-leaf-next (Chain cost set bits side end ∷ nodes) n is = absurd (none-some n is)
+pub room-long : (Fits : ℕ → Type 0) (bits : List Bool) (room : ℕ) → HasRoomBelow Fits bits room → length bits ≤ room
+room-long Fits [] room h = omega arith
+room-long Fits (bit ∷ bits) zero h = absurd h
+room-long Fits (bit ∷ bits) (suc room) h = let rest = room-long Fits bits room h in omega (arith, rest)
 
--- What is known at the place of an inner node, whose block has these halves: `next` is the place of its next line.
-pub record IsSplit (count : ℕ) (nodes next : List Node) (b low high : Block) : Type 0 where
-  pub left : Node
-  pub right : Node
-  pub inner : IsInner (first_node nodes) left right
-  pub below : next ≡ left ∷ right ∷ behind nodes
-  pub less : ℕ
-  pub room : width_of b.version - b.len ≡ suc less
-  pub low_form : HasChainForm count left less
-  pub high_form : HasChainForm count right less
-  pub halves : AreHalves b low high
+pub room-rest : (Fits : ℕ → Type 0) (bits : List Bool) (bit : Bool) (rest : List Bool) (room : ℕ) → bits ≡ bit ∷ rest → HasRoomBelow Fits bits room
+    → (less : ℕ) × (room ≡ suc less) × HasRoomBelow Fits rest less
+room-rest Fits bits bit rest room is h = by room (subst (λ (xs : List Bool). HasRoomBelow Fits xs room) is h)
+  where
+    by : (room : ℕ) → HasRoomBelow Fits (bit ∷ rest) room → (less : ℕ) × (room ≡ suc less) × HasRoomBelow Fits rest less
+    by zero h = absurd h
+    by (suc less) h = (less, refl, h)
 
-pub split : (count : ℕ) (nodes next : List Node) (b low high : Block) → 0 < length nodes → label_of (first_node nodes) ≡ None → side_of (first_node nodes) ≡ None → next ≡ from_next_line nodes
-    → HasChainForm count (first_node nodes) (width_of b.version - b.len) → AreHalves b low high → IsSplit count nodes next b low high
-split count nodes next b low high some none plain is form halves =
-    let has = half-nodes nodes some none plain in
-    let parts = inner-form count (width_of b.version - b.len) (first_node nodes) has.left has.right has.inner form in
-    record {
-      left = has.left;
-      right = has.right;
-      inner = has.inner;
-      below = is ∙ has.below;
-      less = parts.0;
-      room = parts.1;
-      low_form = parts.2;
-      high_form = parts.3;
-      halves = halves;
-    }
+-- no fault of a node says that memory ran out
+abbrev IsNodeFault : Option CheckFault → Type 0
+IsNodeFault o = (f : CheckFault) → o ≡ Some f → f.kind ≡ NoMemory → ⊥
 
--- the form of a node of a half
-half-form : (count less : ℕ) (b half : Block) (q : ℕ) (node' node : Node) → IsHalf b half q → node' ≡ node → width_of b.version - b.len ≡ suc less
-    → HasChainForm count node less → HasChainForm count node' (width_of half.version - half.len)
-half-form count less b half q node' node h same room form =
-    let width : width_of half.version ≡ width_of b.version = ap width_of h.version in
-    let e : less ≡ width_of half.version - half.len = omega (arith, width, h.len, room) in
-    subst (HasChainForm count node') e (subst (λ (x : Node). HasChainForm count x less) (sym same) form)
+or-node : (a b : Option CheckFault) → IsNodeFault a → IsNodeFault b → IsNodeFault (option_or a b)
+or-node None b first second = second
+or-node (Some f) b first second = first
 
--- its fault
-half-fault : (labels : List Label) (m : MapModel) (ps : List Prefix) (b half : Block) (q k : ℕ) (node' node : Node) (f : Option CheckFault) → IsHalf b half q
-    → node' ≡ node → node_fault m ps (tree_of labels node') k half.len (number_of half) ≡ f → node_fault m ps (tree_of labels node) k (suc b.len) q ≡ f
-half-fault labels m ps b half q k node' node f h same e =
-    let len : half.len ≡ suc b.len = omega (arith, h.len) in
-    sym (λ i. node_fault m ps (tree_of labels (same i)) k (len i) (half-number b half q h i)) ∙ e
+at-node : (k : ℕ) (o : Option CheckFaultKind) → (o ≡ Some NoMemory → ⊥) → IsNodeFault (option_map (fault_at k) o)
+at-node k None not f is kind = none-some f is
+at-node k (Some kind) not f is none = not (ap Some (ap (λ (g : CheckFault). g.kind) (same_Some (fault_at k kind) f is) ∙ none))
 
-module _ (labels : List Label) (m : MapModel) (ps : List Prefix) (nodes next after : List Node) (b low high : Block)
-    (is : IsSplit (length labels) nodes next b low high) (behind_is : after ≡ behind next) where
-  pub low-here : 0 < length next
-  low-here = subst (λ (ns : List Node). 0 < length ns) (sym is.below) (omega arith)
+leaf-kinds : (a b : Bool) → ◌≡◌ {A = Option CheckFaultKind} (cond a (cond b None (Some ListDiffers)) (Some LeafNotUniform)) (Some NoMemory) → ⊥
+leaf-kinds true true e = absurd (none-some NoMemory e)
+leaf-kinds true false e = let bad : ListDiffers ≡ NoMemory = same_Some ListDiffers NoMemory e in cc
+leaf-kinds false b e = let bad : LeafNotUniform ≡ NoMemory = same_Some LeafNotUniform NoMemory e in cc
 
-  low-node : first_node next ≡ is.left
-  low-node = ap first_node is.below
+claim-kinds : (a b : Bool) → ◌≡◌ {A = Option CheckFaultKind} (cond a (Some CostTooHigh) (cond b (Some SetTooSmall) None)) (Some NoMemory) → ⊥
+claim-kinds true b e = let bad : CostTooHigh ≡ NoMemory = same_Some CostTooHigh NoMemory e in cc
+claim-kinds false true e = let bad : SetTooSmall ≡ NoMemory = same_Some SetTooSmall NoMemory e in cc
+claim-kinds false false e = absurd (none-some NoMemory e)
 
-  after-is : after ≡ is.right ∷ behind nodes
-  after-is = behind_is ∙ ap behind is.below
+module _ (m : MapModel) (ps : List Prefix) where
+  leaf-node : (k n q : ℕ) (x : Label) → IsNodeFault (option_map (fault_at k) (leaf_fault m ps n q x))
+  leaf-node k n q x = at-node k (leaf_fault m ps n q x) (leaf-kinds (is_label_of (settled_label m n q) x) (is_decided (width_of m.version) ps n q x))
 
-  pub high-here : 0 < length after
-  high-here = subst (λ (ns : List Node). 0 < length ns) (sym after-is) (omega arith)
+  claim-node : (k : ℕ) (claim exact : Pair) → IsNodeFault (option_map (fault_at k) (claim_fault claim exact))
+  claim-node k claim exact =
+      at-node k (claim_fault claim exact)
+      (claim-kinds (nat_lt exact.cost claim.cost) ((claim.cost == exact.cost) && not (list_all (has claim.labels) exact.labels)))
 
-  high-node : first_node after ≡ is.right
-  high-node = ap first_node after-is
+  bits-node : (x : Label) (k : ℕ) (end : ℕ → ℕ → Option CheckFault) → ((n q : ℕ) → IsNodeFault (end n q)) → (bits : List Bool) (n q : ℕ)
+      → IsNodeFault (bits_fault m ps x k end bits n q)
+  bits-node x k end ends [] n q = ends n q
+  bits-node x k end ends (bit ∷ bits) n q =
+      or-node (bits_fault m ps x k end bits (suc n) (chosen_half bit q)) (option_map (fault_at k) (leaf_fault m ps (suc n) (side_half bit q) x))
+      (bits-node x k end ends bits (suc n) (chosen_half bit q)) (leaf-node k (suc n) (side_half bit q) x)
 
-  pub all-behind : behind after ≡ behind nodes
-  all-behind = ap behind after-is
-
-  pub low-form : HasChainForm (length labels) (first_node next) (width_of low.version - low.len)
-  low-form = half-form (length labels) is.less b low (2 * number_of b) (first_node next) is.left is.halves.lower low-node is.room is.low_form
-
-  pub high-form : HasChainForm (length labels) (first_node after) (width_of high.version - high.len)
-  high-form = half-form (length labels) is.less b high (2 * number_of b + 1) (first_node after) is.right is.halves.upper high-node is.room is.high_form
-
-  -- a fault of the lower node, of the upper, and of the node itself
-  pub low-fault : (k : ℕ) (f : CheckFault) → node_fault m ps (tree_of labels (first_node next)) (k + 1) low.len (number_of low) ≡ Some f
-      → node_fault m ps (tree_of labels (first_node nodes)) k b.len (number_of b) ≡ Some f
-  low-fault k f e =
-      inner-low labels m ps (first_node nodes) is.left is.right is.inner k b.len (number_of b) f
-      (half-fault labels m ps b low (2 * number_of b) (k + 1) (first_node next) is.left (Some f) is.halves.lower low-node e)
-
-  -- the number behind the lower node
-  abbrev pub second : ℕ → ℕ
-  second k = k + 1 + node_count (tree_of labels (first_node next))
-
-  second-is : (k : ℕ) → second k ≡ k + 1 + node_count (tree_of labels is.left)
-  second-is k = ap (λ (x : Node). k + 1 + node_count (tree_of labels x)) low-node
-
-  low-none : (k : ℕ) → node_fault m ps (tree_of labels (first_node next)) (k + 1) low.len (number_of low) ≡ None
-      → node_fault m ps (tree_of labels is.left) (k + 1) (suc b.len) (2 * number_of b) ≡ None
-  low-none k e = half-fault labels m ps b low (2 * number_of b) (k + 1) (first_node next) is.left None is.halves.lower low-node e
-
-  high-is : (k : ℕ) (f : Option CheckFault) → node_fault m ps (tree_of labels (first_node after)) (second k) high.len (number_of high) ≡ f
-      → node_fault m ps (tree_of labels is.right) (k + 1 + node_count (tree_of labels is.left)) (suc b.len) (2 * number_of b + 1) ≡ f
-  high-is k f e =
-      ap (λ (j : ℕ). node_fault m ps (tree_of labels is.right) j (suc b.len) (2 * number_of b + 1)) (sym (second-is k))
-      ∙ half-fault labels m ps b high (2 * number_of b + 1) (second k) (first_node after) is.right f is.halves.upper high-node e
-
-  pub high-fault : (k : ℕ) (f : CheckFault) → node_fault m ps (tree_of labels (first_node next)) (k + 1) low.len (number_of low) ≡ None
-      → node_fault m ps (tree_of labels (first_node after)) (second k) high.len (number_of high) ≡ Some f
-      → node_fault m ps (tree_of labels (first_node nodes)) k b.len (number_of b) ≡ Some f
-  high-fault k f none e =
-      inner-high labels m ps (first_node nodes) is.left is.right is.inner k b.len (number_of b) f (low-none k none) (high-is k (Some f) e)
-
-  pub own-fault : (k : ℕ) (o : Option CheckFaultKind) → node_fault m ps (tree_of labels (first_node next)) (k + 1) low.len (number_of low) ≡ None
-      → node_fault m ps (tree_of labels (first_node after)) (second k) high.len (number_of high) ≡ None
-      → o ≡ claim_fault (claim_of (tree_of labels (first_node nodes)))
-      (exact_pair (claim_of (tree_of labels (first_node next))) (claim_of (tree_of labels (first_node after))))
-      → node_fault m ps (tree_of labels (first_node nodes)) k b.len (number_of b) ≡ option_map (fault_at k) o
-  own-fault k o none none' claim =
-      inner-own labels m ps (first_node nodes) is.left is.right is.inner k b.len (number_of b) o (low-none k none) (high-is k None none')
-      (sym (claim
-      ∙ (λ i. claim_fault (claim_of (tree_of labels (first_node nodes)))
-      (exact_pair (claim_of (tree_of labels (low-node i))) (claim_of (tree_of labels (high-node i)))))))
-
-  -- how many nodes there are
-  pub count-all : (k : ℕ) → second k + node_count (tree_of labels (first_node after)) ≡ k + node_count (tree_of labels (first_node nodes))
-  count-all k =
-      let last : node_count (tree_of labels (first_node after)) ≡ node_count (tree_of labels is.right) =
-      ap (λ (x : Node). node_count (tree_of labels x)) high-node in
-      omega (arith, last, second-is k, inner-count labels (first_node nodes) is.left is.right is.inner)
+  pub tree-node : (t : Tree) (k n q : ℕ) → IsNodeFault (node_fault m ps t k n q)
+  tree-node (LeafNode x) k n q = leaf-node k n q x
+  tree-node (InnerNode claim lower upper) k n q =
+      let own = option_map (fault_at k) (claim_fault claim (exact_pair (claim_of lower) (claim_of upper))) in
+      let high = node_fault m ps upper (k + 1 + node_count lower) (suc n) (2 * q + 1) in
+      or-node (node_fault m ps lower (k + 1) (suc n) (2 * q)) (option_or high own) (tree-node lower (k + 1) (suc n) (2 * q))
+      (or-node high own (tree-node upper (k + 1 + node_count lower) (suc n) (2 * q + 1)) (claim-node k claim (exact_pair (claim_of lower) (claim_of upper))))
+  tree-node (ChainNode claim bits side end) k n q =
+      or-node (bits_fault m ps side k (node_fault m ps end (k + 1)) bits n q)
+      (option_map (fault_at k) (claim_fault claim (chain_pair (length bits) side (claim_of end))))
+      (bits-node side k (node_fault m ps end (k + 1)) (λ n' q'. tree-node end (k + 1) n' q') bits n q)
+      (claim-node k claim (chain_pair (length bits) side (claim_of end)))

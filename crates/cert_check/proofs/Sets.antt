@@ -20,6 +20,7 @@ use Rattle.pmap_cert.specs.Chain.{chain_labels, chain_pair}
 use Rattle.pmap_cert.specs.ExactPair.{exact_pair, exact_pair_by}
 use Rattle.pmap_cert.proofs.Tables.{place_of-text_at}
 use Rattle.cert_check.specs.Checking.{claim_fault}
+use Rattle.cert_check.proofs.Lists.{length-nil}
 use Rattle.cert_check.specs.Sources.{has_number}
 use Rattle.cert_check.specs.declared.fault.CheckFaultKind.{CheckFaultKind}
 use Rattle.cert_check.specs.declared.fault.CheckFaultKind.TheVariants.{CostTooHigh, SetTooSmall}
@@ -257,10 +258,6 @@ claim-numbers table (Chain cost set bits side end) = refl
 pub all-numbers : (set ids : List LabelId) (ns ms : List ℕ) → numbers set ≡ ns → numbers ids ≡ ms → list_all (λ i. has_number (numbers set) i.0) ids ≡ list_all (has_number ns) ms
 all-numbers set ids ns ms e e' =
     sym (list_all-map (has_number (numbers set)) (λ (j : LabelId). j.0) ids) ∙ (λ i. list_all (has_number (e i)) (e' i))
-
-length-nil : {X : Type 0} (xs : List X) → length xs ≡ 0 → xs ≡ []
-length-nil [] e = refl
-length-nil (x ∷ xs) e = absurd (omega (arith, e))
 
 module _ (table : List Label) (ok : IsLabelTable table) (claim left right : Node) (set lower upper both : List LabelId) (cost below : ℕ) (full : Bool)
     (h : IsRising (length table) 0 (set_of claim)) (h' : IsRising (length table) 0 (set_of left)) (h'' : IsRising (length table) 0 (set_of right))

@@ -2,6 +2,8 @@ pub mod Versions
 pub mod Carrying
 pub mod Checking
 pub mod Sources
+pub mod Halves
 pub mod Kept
-pub mod Walking
+pub mod Parts
 pub mod Ways
+pub mod Descent

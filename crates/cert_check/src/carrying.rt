@@ -1,11 +1,10 @@
 //! What of a map and of a list has a say in a block.
 ghost use Rattle.std.specs.Prelude.{◌≡◌, ◌&&◌, ◌||◌, ◌++◌, ◌∷◌, [], nat_le, nat_lt, IfOk, OnOk, if◌then◌else◌};
 ghost use Rattle.cert_check.specs.Carrying.{carried_to, entries_carried_to};
-ghost use Rattle.cert_check.specs.Sources.{begins_in as begins_in_of, covers_whole as covers_whole_of, greatest, meets_span as meets_span_of, named, spans_span as spans_span_of};
+ghost use Rattle.cert_check.specs.Sources.{covers_whole as covers_whole_of, greatest, is_inside as is_inside_of, meets_block as meets_block_of, spans_block as spans_block_of};
 
-use crate::references::{copies, references};
 use pmap_text::{Entry, Statement};
-use prefix_keys::{Block, Span};
+use prefix_keys::Block;
 use std::alloc::{AllocError, Global};
 
 // Whether the entry's block covers the block.
@@ -15,39 +14,46 @@ fn covers_whole(entry: &Entry, block: &Block) -> bool
     entry.block.len <= block.len && entry.block.covers(&block.low())
 }
 
-// Whether the statement's span has an address of the other.
-fn meets_span(statement: &Statement, within: &Span) -> bool
-    ensures { result ≡ meets_span_of within.now statement.now }
+// Whether the entry's block lies strictly inside the block.
+fn is_inside(entry: &Entry, block: &Block) -> bool
+    ensures { result ≡ is_inside_of block.now entry.now }
 {
-    statement.span.low.version == within.low.version
-        && statement.span.low.value <= within.high.value
-        && within.low.value <= statement.span.high.value
+    block.len < entry.block.len && block.covers(&entry.block.low())
 }
 
-// Whether it has each address of the other.
-fn spans_span(statement: &Statement, within: &Span) -> bool
-    ensures { result ≡ spans_span_of within.now statement.now }
+// Whether the statement has an address of the block.
+fn meets_block(statement: &Statement, block: &Block) -> bool
+    ensures { result ≡ meets_block_of block.now statement.now }
 {
-    statement.span.low.version == within.low.version
-        && statement.span.low.value <= within.low.value
-        && within.high.value <= statement.span.high.value
+    let (own, within) = (statement.span, block.span());
+    own.low.version == block.version
+        && (own.low.value <= within.high.value && within.low.value <= own.high.value)
 }
 
-// Adds the statement where it meets the span of a block. Where it covers it whole, the others give way to it.
-fn add_statement<'a>(
-    kept: &mut Vec<&'a Statement>,
-    statement: &'a Statement,
-    within: &Span,
+// Whether it has each address of the block.
+fn spans_block(statement: &Statement, block: &Block) -> bool
+    ensures { result ≡ spans_block_of block.now statement.now }
+{
+    let (own, within) = (statement.span, block.span());
+    own.low.version == block.version
+        && (own.low.value <= within.low.value && within.high.value <= own.high.value)
+}
+
+// Adds the statement if it meets the block. If it covers all of it, the others give way to it.
+fn add_statement(
+    kept: &mut Vec<Statement>,
+    statement: &Statement,
+    block: &Block,
 ) -> Result<(), AllocError>
-    ensures { OnOk result (named kept.new.items ≡ (if meets_span_of within.now statement.now
-        then (if spans_span_of within.now statement.now then [] else named kept.old.items) ++ statement.now ∷ []
-        else named kept.old.items)) }
+    ensures { OnOk result (kept.new.items ≡ (if meets_block_of block.now statement.now
+        then (if spans_block_of block.now statement.now then [] else kept.old.items) ++ statement.now ∷ []
+        else kept.old.items)) }
 {
-    if meets_span(statement, within) {
-        if spans_span(statement, within) {
+    if meets_block(statement, block) {
+        if spans_block(statement, block) {
             kept.truncate(0);
         }
-        kept.push(statement)?;
+        kept.push(*statement)?;
     }
     Ok(())
 }
@@ -62,11 +68,10 @@ pub fn carried(
     ensures { IfOk result (λ kept. kept.items ≡ carried_to block.now statements.now) }
 {
     let mut kept = Vec::new(alloc);
-    let within = block.span();
     for statement in statements {
-        add_statement(&mut kept, statement, &within)?;
+        add_statement(&mut kept, statement, block)?;
     }
-    copies(alloc, kept.as_slice())
+    Ok(kept)
 }
 
 // The greater of a length and that of the entry, where this covers the block.
@@ -82,68 +87,22 @@ fn longer(longest: u32, entry: &Entry, block: &Block) -> u32
 }
 
 // The greatest length of an entry that covers the block, 0 where none does.
-fn longest_covering(entries: &[&Entry], block: &Block) -> u32
-    ensures { result ≡ greatest (covers_whole_of block.now) (named entries.now) }
+fn longest_covering(entries: &[Entry], block: &Block) -> u32
+    ensures { result ≡ greatest (covers_whole_of block.now) entries.now }
 {
     let mut longest = 0;
     for entry in entries {
-        longest = longer(longest, *entry, block);
+        longest = longer(longest, entry, block);
     }
     longest
 }
 
-// Whether the entry's block begins at an address of the span.
-fn begins_in(entry: &Entry, within: &Span) -> bool
-    ensures { result ≡ begins_in_of within.now entry.now }
-{
-    entry.block.version == within.low.version
-        && within.low.value <= entry.block.value
-        && entry.block.value <= within.high.value
-}
-
-// Whether the entry lies inside the block, which has the span, or covers it and is no shorter than `longest`.
-fn has_say(entry: &Entry, block: &Block, within: &Span, longest: u32) -> bool
+// Whether the entry lies inside the block, or covers it and is no shorter than `longest`.
+fn has_say(entry: &Entry, block: &Block, longest: u32) -> bool
     ensures { result ≡ (covers_whole_of block.now entry.now && nat_le longest entry.now.block.len
-        || nat_lt block.now.len entry.now.block.len && begins_in_of within.now entry.now) }
+        || is_inside_of block.now entry.now) }
 {
-    (longest <= entry.block.len && covers_whole(entry, block))
-        || (block.len < entry.block.len && begins_in(entry, within))
-}
-
-// Adds the entry where it has a say.
-fn add_entry<'a>(
-    kept: &mut Vec<&'a Entry>,
-    entry: &'a Entry,
-    block: &Block,
-    within: &Span,
-    longest: u32,
-) -> Result<(), AllocError>
-    ensures { OnOk result (named kept.new.items ≡ (if covers_whole_of block.now entry.now
-        && nat_le longest entry.now.block.len
-        || nat_lt block.now.len entry.now.block.len && begins_in_of within.now entry.now
-        then named kept.old.items ++ entry.now ∷ [] else named kept.old.items)) }
-{
-    if has_say(entry, block, within, longest) {
-        kept.push(entry)?;
-    }
-    Ok(())
-}
-
-// Adds to those kept the entries that `carried_entries` gives.
-fn add_carried_entries<'a>(
-    kept: &mut Vec<&'a Entry>,
-    entries: &[&'a Entry],
-    block: &Block,
-) -> Result<(), AllocError>
-    ensures { OnOk result (named kept.new.items ≡ named kept.old.items
-        ++ entries_carried_to block.now (named entries.now)) }
-{
-    let longest = longest_covering(entries, block);
-    let within = block.span();
-    for entry in entries {
-        add_entry(kept, *entry, block, &within, longest)?;
-    }
-    Ok(())
+    (longest <= entry.block.len && covers_whole(entry, block)) || is_inside(entry, block)
 }
 
 /// The longest entry that covers the block, if there is one, and those strictly inside it, in the order given. Of equal
@@ -156,8 +115,12 @@ pub fn carried_entries(
 ) -> Result<Vec<Entry>, AllocError>
     ensures { IfOk result (λ kept. kept.items ≡ entries_carried_to block.now entries.now) }
 {
-    let all = references(alloc, entries)?;
+    let longest = longest_covering(entries, block);
     let mut kept = Vec::new(alloc);
-    add_carried_entries(&mut kept, all.as_slice(), block)?;
-    copies(alloc, kept.as_slice())
+    for entry in entries {
+        if has_say(entry, block, longest) {
+            kept.push(*entry)?;
+        }
+    }
+    Ok(kept)
 }

@@ -1,49 +1,55 @@
 //! The check of a certificate: its nodes, and the whole.
-ghost use Rattle.std.specs.Prelude.{◌≡◌, ◌≢◌, ℕ, ◌+◌, ◌-◌, ◌<◌, Some, None, length, IfErr, IfOk, OnOk};
-ghost use Rattle.prefix_keys.specs.Version.{width_of};
+ghost use Rattle.std.specs.Prelude.{◌≡◌, ◌≢◌, ℕ, ◌+◌, ◌<◌, Some, None, length, IfErr, IfOk};
 ghost use Rattle.pmap_text.specs.ListModel.{IsEquivalent};
-ghost use Rattle.pmap_text.specs.MapText.{map_of, text_at};
+ghost use Rattle.pmap_text.specs.MapText.{map_of};
 ghost use Rattle.pmap_text.specs.PrefixList.{list_of};
 ghost use Rattle.pmap_cert.specs.Acceptance.{IsAccepted, IsLeast};
 ghost use Rattle.pmap_cert.specs.Certificate.{certificate_of};
-ghost use Rattle.pmap_cert.specs.CertificateForm.{HasRoomBelow};
-ghost use Rattle.pmap_cert.specs.Node.{HasChainForm, behind, first_node, from_next_line, side_of, tree_of};
-ghost use Rattle.cert_check.specs.Carrying.{number_of};
-ghost use Rattle.cert_check.specs.Checking.{bits_fault, first_fault, node_count, node_fault, told};
+ghost use Rattle.pmap_cert.specs.Node.{first_node, from_next_line, label_of, side_of};
+ghost use Rattle.cert_check.specs.Checking.{first_fault, node_fault, told};
+ghost use Rattle.cert_check.specs.Descent.{IsAtEnd, IsAtNode, IsNodeAnswer, IsOutcome, IsWayAnswer, answer_of};
 ghost use Rattle.cert_check.specs.Kept.{AreSources};
-ghost use Rattle.cert_check.specs.Walking.{AreComing, HasComeTo, HasPassed, IsHandedDown};
-ghost use Rattle.cert_check.specs.Ways.{IsClear, IsFreeWay, IsWay};
+ghost use Rattle.cert_check.specs.Parts.{AreInOrder};
 ghost use Rattle.cert_check.specs.declared.fault.CheckFaultKind.TheVariants.{NoMemory};
 
 use crate::claims::{chain_fault, claim_fault};
-use crate::descent::way_end;
 use crate::entry_order::{are_in_order, in_order};
 use crate::fault::{CheckFault, CheckFaultKind};
 use crate::labels::numbers_in;
 use crate::laws::no_fault_is_acceptance;
+use crate::part::Part;
 use crate::sources::Sources;
-use crate::walk::Walk;
 use pmap_cert::{Certificate, Cursor, acceptance_is_enough};
 use pmap_text::{Entry, LabelId, MapText, PrefixList, Stretches};
-use prefix_keys::{Block, whole_space};
-use std::alloc::{AllocError, Global};
+use prefix_keys::whole_space;
+use std::alloc::Global;
 
-// A node of the certificate with its number and the block that it stands for.
+/// A line of the certificate's nodes, or the end of them, with its number.
 #[derive(Drop)]
-struct Place<'a> {
-    node: Cursor<'a>,
-    block: Block,
-    number: u64,
+pub struct NodeLine<'a> {
+    pub node: Cursor<'a>,
+    pub number: u64,
 }
 
-// The node that comes next and its number, where nothing is wrong with the node with this number.
+// The line after a node's own.
+fn next_line<'a>(line: &NodeLine<'a>) -> NodeLine<'a>
+    requires { 0 < length line.now.node }
+    ensures node { result.node ≡ from_next_line line.now.node }
+    ensures number { (k : ℕ) → told k ≡ line.now.number → told (k + 1) ≡ result.number }
+{
+    NodeLine {
+        node: line.node.next(),
+        number: line.number.saturating_add(1),
+    }
+}
+
+// The line that comes next, if nothing is wrong with the node with this number.
 fn unless_fault<'a>(
     fault: Option<CheckFaultKind>,
     number: u64,
-    next: (Cursor<'a>, u64),
-) -> Result<(Cursor<'a>, u64), CheckFault>
-    ensures ok { IfOk result (λ found. (fault ≡ None) × (found ≡ next.entry)) }
-    ensures err { IfErr result (λ found. (fault ≡ Some found.kind) × (found.node ≡ number)) }
+    next: NodeLine<'a>,
+) -> Result<NodeLine<'a>, CheckFault>
+    ensures { result ≡ answer_of fault number next.entry }
 {
     match fault {
         Some(kind) => Err(CheckFault { kind, node: number }),
@@ -51,332 +57,127 @@ fn unless_fault<'a>(
     }
 }
 
-// Checks the node and those below it, where the walk has come to its block and `above` is the label of the longest entry
-// over a longer block. The answer is the node that comes next, and its number.
+// Checks the node at a line, which stands for the part's block, and those below it.
 #[cycle(nodes)]
 fn check_node<'a>(
     sources: &Sources,
-    walk: &mut Walk,
-    place: &Place<'a>,
-    above: Option<LabelId>,
-) -> Result<(Cursor<'a>, u64), CheckFault>
-    requires sources { AreSources sources.now }
-    requires version { place.now.block.version ≡ sources.now.map.now.version }
-    requires here { 0 < length place.now.node }
-    requires form { HasChainForm (length sources.now.certificate.now.labels) (first_node place.now.node)
-        (width_of place.now.block.version - place.now.block.len) }
-    requires come { HasComeTo sources.now.map.now sources.now.list.now place.now.block walk.old }
-    requires above { IsHandedDown sources.now.list.now place.now.block.len place.now.block.value above }
-    ensures passed { OnOk result (HasPassed sources.now.map.now sources.now.list.now place.now.block walk.new) }
-    ensures behind { IfOk result (λ next. next.0 ≡ behind place.now.node) }
-    ensures ok { IfOk result (λ next. (k : ℕ) → told k ≡ place.now.number →
-        (next.1 ≡ told (k + node_count (tree_of sources.now.certificate.now.labels (first_node place.now.node))))
-        × (node_fault (map_of sources.now.map.now) (list_of sources.now.list.now).prefixes
-        (tree_of sources.now.certificate.now.labels (first_node place.now.node)) k place.now.block.len
-        (number_of place.now.block) ≡ None)) }
-    ensures err { IfErr result (λ fault. fault.kind ≢ NoMemory → (k : ℕ) → told k ≡ place.now.number →
-        node_fault (map_of sources.now.map.now) (list_of sources.now.list.now).prefixes
-        (tree_of sources.now.certificate.now.labels (first_node place.now.node)) k place.now.block.len
-        (number_of place.now.block) ≡ Some fault) }
-    ensures memory { IfErr result (λ fault. fault.kind ≡ NoMemory → fault.node ≡ 0) }
+    line: &NodeLine<'a>,
+    part: &Part,
+) -> Result<NodeLine<'a>, CheckFault>
+    requires node { IsAtNode sources.now line.now part.now }
+    ensures { IsNodeAnswer sources.now line.now part.now result }
 {
-    match place.node.side() {
-        Some(side) => check_chain(sources, walk, place, above, side),
-        None => check_plain(sources, walk, place, above),
+    if let Some(id) = line.node.label() {
+        let fault = part.leaf_fault(sources, id);
+        return unless_fault(fault, line.number, next_line(line));
+    }
+    match line.node.side() {
+        Some(side) => check_chain(sources, line, part, side),
+        None => check_inner(sources, line, part),
     }
 }
 
-// The same of a leaf or an inner node.
+// Checks an inner node: the nodes of its halves, and then what it claims.
 #[cycle(nodes)]
-fn check_plain<'a>(
+fn check_inner<'a>(
     sources: &Sources,
-    walk: &mut Walk,
-    place: &Place<'a>,
-    above: Option<LabelId>,
-) -> Result<(Cursor<'a>, u64), CheckFault>
-    requires sources { AreSources sources.now }
-    requires version { place.now.block.version ≡ sources.now.map.now.version }
-    requires here { 0 < length place.now.node }
-    requires form { HasChainForm (length sources.now.certificate.now.labels) (first_node place.now.node)
-        (width_of place.now.block.version - place.now.block.len) }
-    requires come { HasComeTo sources.now.map.now sources.now.list.now place.now.block walk.old }
-    requires above { IsHandedDown sources.now.list.now place.now.block.len place.now.block.value above }
-    requires plain { side_of (first_node place.now.node) ≡ None }
-    ensures passed { OnOk result (HasPassed sources.now.map.now sources.now.list.now place.now.block walk.new) }
-    ensures behind { IfOk result (λ next. next.0 ≡ behind place.now.node) }
-    ensures ok { IfOk result (λ next. (k : ℕ) → told k ≡ place.now.number →
-        (next.1 ≡ told (k + node_count (tree_of sources.now.certificate.now.labels (first_node place.now.node))))
-        × (node_fault (map_of sources.now.map.now) (list_of sources.now.list.now).prefixes
-        (tree_of sources.now.certificate.now.labels (first_node place.now.node)) k place.now.block.len
-        (number_of place.now.block) ≡ None)) }
-    ensures err { IfErr result (λ fault. fault.kind ≢ NoMemory → (k : ℕ) → told k ≡ place.now.number →
-        node_fault (map_of sources.now.map.now) (list_of sources.now.list.now).prefixes
-        (tree_of sources.now.certificate.now.labels (first_node place.now.node)) k place.now.block.len
-        (number_of place.now.block) ≡ Some fault) }
-    ensures memory { IfErr result (λ fault. fault.kind ≡ NoMemory → fault.node ≡ 0) }
+    line: &NodeLine<'a>,
+    part: &Part,
+) -> Result<NodeLine<'a>, CheckFault>
+    requires node { IsAtNode sources.now line.now part.now }
+    requires inner { (label_of (first_node line.now.node) ≡ None) × (side_of (first_node line.now.node) ≡ None) }
+    ensures { IsNodeAnswer sources.now line.now part.now result }
 {
-    let next = place.node.next();
-    let number = place.number.saturating_add(1);
-    let covering = walk.covering(sources.list, &place.block, above);
-    match place.node.label() {
-        Some(id) => match walk.leaf_fault(sources, &place.block, covering, id)? {
-            Some(kind) => Err(CheckFault {
-                kind,
-                node: place.number,
-            }),
-            None => Ok((next, number)),
-        },
-        None => {
-            let Some((low, high)) = place.block.halves() else {
-                unreachable!()
-            };
-            let low_place = Place {
-                node: next,
-                block: low,
-                number,
-            };
-            let (next, number) = check_node(sources, walk, &low_place, covering)?;
-            let high_place = Place {
-                node: next,
-                block: high,
-                number,
-            };
-            let (next, number) = check_node(sources, walk, &high_place, covering)?;
-            let labels = &sources.certificate.labels;
-            match claim_fault(labels, &place.node, &low_place.node, &high_place.node) {
-                Some(kind) => Err(CheckFault {
-                    kind,
-                    node: place.number,
-                }),
-                None => Ok((next, number)),
-            }
-        }
-    }
+    let (low, high) = part.halves(sources);
+    let lower = next_line(line);
+    let upper = check_node(sources, &lower, &low)?;
+    let next = check_node(sources, &upper, &high)?;
+    let labels = &sources.certificate.labels;
+    let fault = claim_fault(labels, &line.node, &lower.node, &upper.node);
+    unless_fault(fault, line.number, next)
 }
 
-// The same of a chain with this side label: what is below it, and then what it claims.
+// Checks a chain with this side label: what is below it, and then what it claims.
 #[cycle(nodes)]
 fn check_chain<'a>(
     sources: &Sources,
-    walk: &mut Walk,
-    place: &Place<'a>,
-    above: Option<LabelId>,
+    line: &NodeLine<'a>,
+    part: &Part,
     side: LabelId,
-) -> Result<(Cursor<'a>, u64), CheckFault>
-    requires sources { AreSources sources.now }
-    requires version { place.now.block.version ≡ sources.now.map.now.version }
-    requires here { 0 < length place.now.node }
-    requires form { HasChainForm (length sources.now.certificate.now.labels) (first_node place.now.node)
-        (width_of place.now.block.version - place.now.block.len) }
-    requires come { HasComeTo sources.now.map.now sources.now.list.now place.now.block walk.old }
-    requires above { IsHandedDown sources.now.list.now place.now.block.len place.now.block.value above }
-    requires chain { side_of (first_node place.now.node) ≡ Some side.0 }
-    ensures passed { OnOk result (HasPassed sources.now.map.now sources.now.list.now place.now.block walk.new) }
-    ensures behind { IfOk result (λ next. next.0 ≡ behind place.now.node) }
-    ensures ok { IfOk result (λ next. (k : ℕ) → told k ≡ place.now.number →
-        (next.1 ≡ told (k + node_count (tree_of sources.now.certificate.now.labels (first_node place.now.node))))
-        × (node_fault (map_of sources.now.map.now) (list_of sources.now.list.now).prefixes
-        (tree_of sources.now.certificate.now.labels (first_node place.now.node)) k place.now.block.len
-        (number_of place.now.block) ≡ None)) }
-    ensures err { IfErr result (λ fault. fault.kind ≢ NoMemory → (k : ℕ) → told k ≡ place.now.number →
-        node_fault (map_of sources.now.map.now) (list_of sources.now.list.now).prefixes
-        (tree_of sources.now.certificate.now.labels (first_node place.now.node)) k place.now.block.len
-        (number_of place.now.block) ≡ Some fault) }
-    ensures memory { IfErr result (λ fault. fault.kind ≡ NoMemory → fault.node ≡ 0) }
+) -> Result<NodeLine<'a>, CheckFault>
+    requires node { IsAtNode sources.now line.now part.now }
+    requires chain { side_of (first_node line.now.node) ≡ Some side.0 }
+    ensures { IsNodeAnswer sources.now line.now part.now result }
 {
-    let bits = place.node.bits();
-    let next = check_below(sources, walk, place, side, bits, above)?;
-    let end = place.node.next();
-    let fault = chain_fault(&sources.certificate.labels, &place.node, &end, side);
-    unless_fault(fault, place.number, next)
+    let bits = line.node.bits();
+    let end = next_line(line);
+    let next = check_below(sources, line.number, &end, side, bits, part)?;
+    let labels = &sources.certificate.labels;
+    let fault = chain_fault(labels, &line.node, &end.node, side);
+    unless_fault(fault, line.number, next)
 }
 
-// Checks what is below a chain: from the end of its way on where one look clears all that comes before that, else block
-// by block.
+// Checks what is below a chain: the node at its end, and the blocks beside its way, at one look if that clears them.
 #[cycle(nodes)]
 fn check_below<'a>(
     sources: &Sources,
-    walk: &mut Walk,
-    chain: &Place<'a>,
+    number: u64,
+    end: &NodeLine<'a>,
     side: LabelId,
     bits: &[bool],
-    above: Option<LabelId>,
-) -> Result<(Cursor<'a>, u64), CheckFault>
-    requires sources { AreSources sources.now }
-    requires version { chain.now.block.version ≡ sources.now.map.now.version }
-    requires here { 0 < length chain.now.node }
-    requires end { 0 < length (from_next_line chain.now.node) }
+    part: &Part,
+) -> Result<NodeLine<'a>, CheckFault>
+    requires end { IsAtEnd sources.now end.now number side.0 bits.now part.now }
     requires some { 0 < length bits.now }
-    requires form { HasRoomBelow (HasChainForm (length sources.now.certificate.now.labels)
-        (first_node (from_next_line chain.now.node))) bits.now (width_of chain.now.block.version - chain.now.block.len) }
-    requires known { side.0 < length sources.now.certificate.now.labels }
-    requires come { HasComeTo sources.now.map.now sources.now.list.now chain.now.block walk.old }
-    requires above { IsHandedDown sources.now.list.now chain.now.block.len chain.now.block.value above }
-    ensures passed { OnOk result (HasPassed sources.now.map.now sources.now.list.now chain.now.block walk.new) }
-    ensures behind { IfOk result (λ next. next.0 ≡ behind (from_next_line chain.now.node)) }
-    ensures ok { IfOk result (λ next. (k : ℕ) → told k ≡ chain.now.number →
-        (next.1 ≡ told (k + 1 + node_count (tree_of sources.now.certificate.now.labels
-        (first_node (from_next_line chain.now.node)))))
-        × (bits_fault (map_of sources.now.map.now) (list_of sources.now.list.now).prefixes
-        (text_at sources.now.certificate.now.labels side.0) k
-        (node_fault (map_of sources.now.map.now) (list_of sources.now.list.now).prefixes
-        (tree_of sources.now.certificate.now.labels (first_node (from_next_line chain.now.node))) (k + 1))
-        bits.now chain.now.block.len (number_of chain.now.block) ≡ None)) }
-    ensures err { IfErr result (λ fault. fault.kind ≢ NoMemory → (k : ℕ) → told k ≡ chain.now.number →
-        bits_fault (map_of sources.now.map.now) (list_of sources.now.list.now).prefixes
-        (text_at sources.now.certificate.now.labels side.0) k
-        (node_fault (map_of sources.now.map.now) (list_of sources.now.list.now).prefixes
-        (tree_of sources.now.certificate.now.labels (first_node (from_next_line chain.now.node))) (k + 1))
-        bits.now chain.now.block.len (number_of chain.now.block) ≡ Some fault) }
-    ensures memory { IfErr result (λ fault. fault.kind ≡ NoMemory → fault.node ≡ 0) }
+    ensures { IsWayAnswer sources.now end.now number side.0 bits.now part.now result }
 {
-    let end = way_end(&chain.block, bits);
-    if walk.is_clear_to(sources, &chain.block, &end, above, side)? {
-        check_end(sources, walk, chain, side, bits, &end, above)
-    } else {
-        check_way(sources, walk, chain, side, bits, &chain.block, above)
+    match part.clear_end(sources, bits, side) {
+        Some(below) => check_node(sources, end, &below),
+        None => check_way(sources, number, end, side, bits, part),
     }
 }
 
-// The same where the walk has come to the end of the way, and nothing is wrong with what comes before that.
-#[cycle(nodes)]
-fn check_end<'a>(
-    sources: &Sources,
-    walk: &mut Walk,
-    chain: &Place<'a>,
-    side: LabelId,
-    bits: &[bool],
-    end: &Block,
-    above: Option<LabelId>,
-) -> Result<(Cursor<'a>, u64), CheckFault>
-    requires sources { AreSources sources.now }
-    requires version { chain.now.block.version ≡ sources.now.map.now.version }
-    requires here { 0 < length chain.now.node }
-    requires end { 0 < length (from_next_line chain.now.node) }
-    requires some { 0 < length bits.now }
-    requires form { HasRoomBelow (HasChainForm (length sources.now.certificate.now.labels)
-        (first_node (from_next_line chain.now.node))) bits.now (width_of chain.now.block.version - chain.now.block.len) }
-    requires known { side.0 < length sources.now.certificate.now.labels }
-    requires way { IsWay chain.now.block end.now bits.now }
-    requires free { IsFreeWay sources.now.list.now.entries chain.now.block end.now }
-    requires clear { IsClear (map_of sources.now.map.now) (list_of sources.now.list.now).prefixes
-        (width_of sources.now.list.now.version) chain.now.block.len chain.now.block.value end.now.value
-        (text_at sources.now.certificate.now.labels side.0) }
-    requires come { HasComeTo sources.now.map.now sources.now.list.now end.now walk.old }
-    requires above { IsHandedDown sources.now.list.now chain.now.block.len chain.now.block.value above }
-    ensures passed { OnOk result (HasPassed sources.now.map.now sources.now.list.now chain.now.block walk.new) }
-    ensures behind { IfOk result (λ next. next.0 ≡ behind (from_next_line chain.now.node)) }
-    ensures ok { IfOk result (λ next. (k : ℕ) → told k ≡ chain.now.number →
-        (next.1 ≡ told (k + 1 + node_count (tree_of sources.now.certificate.now.labels
-        (first_node (from_next_line chain.now.node)))))
-        × (bits_fault (map_of sources.now.map.now) (list_of sources.now.list.now).prefixes
-        (text_at sources.now.certificate.now.labels side.0) k
-        (node_fault (map_of sources.now.map.now) (list_of sources.now.list.now).prefixes
-        (tree_of sources.now.certificate.now.labels (first_node (from_next_line chain.now.node))) (k + 1))
-        bits.now chain.now.block.len (number_of chain.now.block) ≡ None)) }
-    ensures err { IfErr result (λ fault. fault.kind ≢ NoMemory → (k : ℕ) → told k ≡ chain.now.number →
-        bits_fault (map_of sources.now.map.now) (list_of sources.now.list.now).prefixes
-        (text_at sources.now.certificate.now.labels side.0) k
-        (node_fault (map_of sources.now.map.now) (list_of sources.now.list.now).prefixes
-        (tree_of sources.now.certificate.now.labels (first_node (from_next_line chain.now.node))) (k + 1))
-        bits.now chain.now.block.len (number_of chain.now.block) ≡ Some fault) }
-    ensures memory { IfErr result (λ fault. fault.kind ≡ NoMemory → fault.node ≡ 0) }
-{
-    let place = Place {
-        node: chain.node.next(),
-        block: *end,
-        number: chain.number.saturating_add(1),
-    };
-    let next = check_node(sources, walk, &place, above)?;
-    let fault = walk.fault_behind(sources, &chain.block, end, bits, above, side)?;
-    unless_fault(fault, chain.number, next)
-}
-
-// Checks what is below a chain, from a block of its way on with the bits that are left: the end with all below it, and then
-// the blocks beside the way from the deepest up. The walk goes from address to address and comes to a block in a lower half
-// before the way goes on, so what is wrong with that is told behind the rest.
+// Checks the rest of a chain's way from the part's block on: the node at its end, and then the blocks beside the way from the
+// deepest up.
 #[cycle(nodes)]
 fn check_way<'a>(
     sources: &Sources,
-    walk: &mut Walk,
-    chain: &Place<'a>,
+    number: u64,
+    end: &NodeLine<'a>,
     side: LabelId,
     bits: &[bool],
-    block: &Block,
-    above: Option<LabelId>,
-) -> Result<(Cursor<'a>, u64), CheckFault>
-    requires sources { AreSources sources.now }
-    requires version { block.now.version ≡ sources.now.map.now.version }
-    requires here { 0 < length chain.now.node }
-    requires end { 0 < length (from_next_line chain.now.node) }
-    requires form { HasRoomBelow (HasChainForm (length sources.now.certificate.now.labels)
-        (first_node (from_next_line chain.now.node))) bits.now (width_of block.now.version - block.now.len) }
-    requires known { side.0 < length sources.now.certificate.now.labels }
-    requires come { HasComeTo sources.now.map.now sources.now.list.now block.now walk.old }
-    requires above { IsHandedDown sources.now.list.now block.now.len block.now.value above }
-    ensures passed { OnOk result (HasPassed sources.now.map.now sources.now.list.now block.now walk.new) }
-    ensures behind { IfOk result (λ next. next.0 ≡ behind (from_next_line chain.now.node)) }
-    ensures ok { IfOk result (λ next. (k : ℕ) → told k ≡ chain.now.number →
-        (next.1 ≡ told (k + 1 + node_count (tree_of sources.now.certificate.now.labels
-        (first_node (from_next_line chain.now.node)))))
-        × (bits_fault (map_of sources.now.map.now) (list_of sources.now.list.now).prefixes
-        (text_at sources.now.certificate.now.labels side.0) k
-        (node_fault (map_of sources.now.map.now) (list_of sources.now.list.now).prefixes
-        (tree_of sources.now.certificate.now.labels (first_node (from_next_line chain.now.node))) (k + 1))
-        bits.now block.now.len (number_of block.now) ≡ None)) }
-    ensures err { IfErr result (λ fault. fault.kind ≢ NoMemory → (k : ℕ) → told k ≡ chain.now.number →
-        bits_fault (map_of sources.now.map.now) (list_of sources.now.list.now).prefixes
-        (text_at sources.now.certificate.now.labels side.0) k
-        (node_fault (map_of sources.now.map.now) (list_of sources.now.list.now).prefixes
-        (tree_of sources.now.certificate.now.labels (first_node (from_next_line chain.now.node))) (k + 1))
-        bits.now block.now.len (number_of block.now) ≡ Some fault) }
-    ensures memory { IfErr result (λ fault. fault.kind ≡ NoMemory → fault.node ≡ 0) }
+    part: &Part,
+) -> Result<NodeLine<'a>, CheckFault>
+    requires end { IsAtEnd sources.now end.now number side.0 bits.now part.now }
+    ensures { IsWayAnswer sources.now end.now number side.0 bits.now part.now result }
 {
     let Some(bit) = bits.first() else {
-        let place = Place {
-            node: chain.node.next(),
-            block: *block,
-            number: chain.number.saturating_add(1),
-        };
-        return check_node(sources, walk, &place, above);
+        return check_node(sources, end, part);
     };
-    let rest = &bits[1..];
-    let covering = walk.covering(sources.list, block, above);
-    let Some((low, high)) = block.halves() else {
-        unreachable!()
-    };
-    if *bit {
-        let fault = walk.side_fault(sources, &low, covering, side)?;
-        let next = check_way(sources, walk, chain, side, rest, &high, covering)?;
-        unless_fault(fault, chain.number, next)
-    } else {
-        let next = check_way(sources, walk, chain, side, rest, &low, covering)?;
-        let fault = walk.side_fault(sources, &high, covering, side)?;
-        unless_fault(fault, chain.number, next)
-    }
+    let (chosen, beside) = part.step(sources, *bit);
+    let next = check_way(sources, number, end, side, &bits[1..], &chosen)?;
+    unless_fault(beside.leaf_fault(sources, side), number, next)
 }
 
-// Checks the nodes, by a walk over these entries, which are those of the list in the order in which they come.
-fn check_nodes_by(alloc: Global, sources: &Sources, entries: &[Entry]) -> Result<(), CheckFault>
+// Checks the nodes by these entries, which are those of the list in order.
+fn check_nodes_by(sources: &Sources, entries: &[Entry]) -> Result<(), CheckFault>
     requires sources { AreSources sources.now }
-    requires entries { AreComing sources.now.list.now.entries 0 entries.now }
-    ensures ok { IfOk result (λ _. node_fault (map_of sources.now.map.now) (list_of sources.now.list.now).prefixes
-        (certificate_of sources.now.certificate.now).root 1 0 0 ≡ None) }
-    ensures err { IfErr result (λ fault. fault.kind ≢ NoMemory →
-        node_fault (map_of sources.now.map.now) (list_of sources.now.list.now).prefixes
-        (certificate_of sources.now.certificate.now).root 1 0 0 ≡ Some fault) }
-    ensures memory { IfErr result (λ fault. fault.kind ≡ NoMemory → fault.node ≡ 0) }
+    requires entries { AreInOrder sources.now.list.now.entries entries.now }
+    ensures { IsOutcome (node_fault (map_of sources.now.map.now) (list_of sources.now.list.now).prefixes
+        (certificate_of sources.now.certificate.now).root 1 0 0) result }
 {
-    let mut walk = Walk {
-        stretches: Stretches::of_map(alloc, sources.map)?,
-        coming: entries,
-    };
-    let place = Place {
+    let root = NodeLine {
         node: sources.certificate.root(),
-        block: whole_space(sources.map.version),
         number: 1,
     };
-    check_node(sources, &mut walk, &place, None)?;
+    let space = Part {
+        block: whole_space(sources.map.version),
+        from: 0,
+        to: sources.stretches.len() - 1,
+        entries,
+        above: None,
+    };
+    check_node(sources, &root, &space)?;
     Ok(())
 }
 
@@ -389,26 +190,23 @@ fn check_nodes(
 ) -> Result<(), CheckFault>
     requires list { list.now.version ≡ map.now.version }
     requires certificate { certificate.now.version ≡ map.now.version }
-    ensures ok { IfOk result (λ _. node_fault (map_of map.now) (list_of list.now).prefixes
-        (certificate_of certificate.now).root 1 0 0 ≡ None) }
-    ensures err { IfErr result (λ fault. fault.kind ≢ NoMemory →
-        node_fault (map_of map.now) (list_of list.now).prefixes (certificate_of certificate.now).root 1 0 0
-        ≡ Some fault) }
-    ensures memory { IfErr result (λ fault. fault.kind ≡ NoMemory → fault.node ≡ 0) }
+    ensures { IsOutcome (node_fault (map_of map.now) (list_of list.now).prefixes
+        (certificate_of certificate.now).root 1 0 0) result }
 {
     let sources = Sources {
         map,
         list,
         certificate,
+        stretches: Stretches::of_map(alloc, map)?,
         map_numbers: numbers_in(alloc, &map.labels, &certificate.labels)?,
         list_numbers: numbers_in(alloc, &list.labels, &certificate.labels)?,
     };
     let entries = list.entries.as_slice();
     if are_in_order(entries) {
-        return check_nodes_by(alloc, &sources, entries);
+        return check_nodes_by(&sources, entries);
     }
     let sorted = in_order(alloc, entries)?;
-    check_nodes_by(alloc, &sources, sorted.as_slice())
+    check_nodes_by(&sources, sorted.as_slice())
 }
 
 // A fault that no node has.

@@ -1,43 +1,44 @@
-//! The order in which a list's entries come at a certificate's nodes: by rising first addresses, of one address the
-//! shorter block first.
+//! The order in which a list's entries are kept while a certificate is checked: by rising first addresses, of one address
+//! the shorter block first.
 ghost use Rattle.std.specs.Prelude.{◌≡◌, IfOk, IsTrue};
 ghost use Rattle.std.specs.List.Sorted.{IsNonDecreasingBy, IsPermutation};
 ghost use Rattle.std.specs.Ordering.{nat_cmp};
-ghost use Rattle.cert_check.specs.Walking.{place_of};
+ghost use Rattle.cert_check.specs.Parts.{rank_of};
 
 use pmap_text::Entry;
+use prefix_keys::Block;
 use std::alloc::{AllocError, Global};
 use std::cmp::Ordering;
 
-// Which of two entries comes first.
-fn by_place(entry: &Entry, other: &Entry) -> Ordering
-    ensures { result ≡ nat_cmp (place_of entry.now) (place_of other.now) }
+/// Which of two blocks comes first.
+pub fn by_rank(block: &Block, other: &Block) -> Ordering
+    ensures { result ≡ nat_cmp (rank_of block.now) (rank_of other.now) }
 {
-    if entry.block.value == other.block.value {
-        entry.block.len.cmp(&other.block.len)
+    if block.value == other.value {
+        block.len.cmp(&other.len)
     } else {
-        entry.block.value.cmp(&other.block.value)
+        block.value.cmp(&other.value)
     }
 }
 
 /// Whether no entry comes before an earlier one.
 pub fn are_in_order(entries: &[Entry]) -> bool
-    ensures { IsTrue result → IsNonDecreasingBy place_of entries.now }
+    ensures { IsTrue result → IsNonDecreasingBy (λ e. rank_of e.block) entries.now }
 {
     for i in 1..entries.len() {
-        if by_place(&entries[i - 1], &entries[i]).is_gt() {
+        if by_rank(&entries[i - 1].block, &entries[i].block).is_gt() {
             return false;
         }
     }
     true
 }
 
-/// The entries in the order in which they come.
+/// The entries in order.
 pub fn in_order(alloc: Global, entries: &[Entry]) -> Result<Vec<Entry>, AllocError>
     ensures same { IfOk result (λ sorted. IsPermutation entries.now sorted.items) }
-    ensures rising { IfOk result (λ sorted. IsNonDecreasingBy place_of sorted.items) }
+    ensures rising { IfOk result (λ sorted. IsNonDecreasingBy (λ e. rank_of e.block) sorted.items) }
 {
     let mut sorted = Vec::from_slice(alloc, entries)?;
-    sorted.sort_unstable_by(|entry, other| by_place(entry, other));
+    sorted.sort_unstable_by(|entry, other| by_rank(&entry.block, &other.block));
     Ok(sorted)
 }

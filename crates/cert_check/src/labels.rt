@@ -1,8 +1,10 @@
 //! The labels of the map and of the list by the numbers of the certificate's table.
 ghost use Rattle.std.specs.Prelude.{◌≡◌, ◌<◌, length, List, IfOk};
-ghost use Rattle.std.specs.Str.{bytes_eq};
+ghost use Rattle.std.specs.Option.{ForSome};
 ghost use Rattle.pmap_text.specs.MapModel.{Label};
 ghost use Rattle.pmap_text.specs.MapText.{text_at};
+ghost use Rattle.cert_check.specs.Checking.{is_label_of};
+ghost use Rattle.cert_check.specs.Parts.{text_of};
 ghost use Rattle.cert_check.specs.Sources.{AreNumbers};
 
 use pmap_text::{LabelId, Labels};
@@ -28,14 +30,16 @@ pub fn numbers_in(
     Ok(numbers)
 }
 
-/// Whether the label with a number of its own table is that with the number `id` of the other.
-pub fn is_same_label(numbers: &[Option<LabelId>], own: LabelId, id: LabelId) -> bool
-    requires { own.0 < length numbers.now }
+/// Whether a label of the one table is that with the number `id` of the other.
+pub fn is_label(numbers: &[Option<LabelId>], own: Option<LabelId>, id: LabelId) -> bool
+    requires { ForSome own (λ label. label.0 < length numbers.now) }
     ensures { (from to : List Label) → AreNumbers numbers.now from to → id.0 < length to →
-        result ≡ bytes_eq (text_at from own.0) (text_at to id.0) }
+        result ≡ is_label_of (text_of from own) (text_at to id.0) }
 {
-    let known = numbers[own.0 as usize];
-    match known {
+    let Some(label) = own else {
+        return false;
+    };
+    match numbers[label.0 as usize] {
         Some(number) => number.0 == id.0,
         None => false,
     }

@@ -22,14 +22,12 @@
 mod carrying;
 mod checking;
 mod claims;
-mod descent;
 mod entry_order;
 mod fault;
 mod labels;
 mod laws;
-mod references;
+mod part;
 mod sources;
-mod walk;
 
 pub use carrying::{carried, carried_entries};
 pub use checking::check;

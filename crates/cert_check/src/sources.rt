@@ -1,42 +1,48 @@
 ghost use Rattle.std.specs.Prelude.{◌≡◌, ◌<◌, length};
-ghost use Rattle.std.specs.Str.{bytes_eq};
+ghost use Rattle.std.specs.Option.{ForSome};
 ghost use Rattle.pmap_text.specs.MapText.{text_at};
+ghost use Rattle.cert_check.specs.Checking.{is_label_of};
 ghost use Rattle.cert_check.specs.Kept.{AreSources};
+ghost use Rattle.cert_check.specs.Parts.{text_of};
+ghost use Rattle.pmap_text.specs.Stretches.{label_at};
 
-use crate::labels::is_same_label;
+use crate::labels::is_label;
 use pmap_cert::Certificate;
-use pmap_text::{LabelId, MapText, PrefixList};
+use pmap_text::{LabelId, MapText, PrefixList, Stretches};
 
-/// What is checked: a map, a list and a certificate of one version. The labels of the map and of the list are known by
-/// their numbers in the certificate's table, so that labels are compared by their texts once and by numbers from then
-/// on.
+/// What is checked: a map, a list and a certificate of one version, and the map's stretches. The labels of the map and of
+/// the list are known by their numbers in the certificate's table, so that labels are compared by their texts once and by
+/// numbers from then on.
 #[derive(Drop)]
 pub struct Sources<'a> {
     pub map: &'a MapText,
     pub list: &'a PrefixList,
     pub certificate: &'a Certificate,
+    pub stretches: Stretches,
     pub map_numbers: Vec<Option<LabelId>>,
     pub list_numbers: Vec<Option<LabelId>>,
 }
 
-/// Whether the map's label with its number `own` is the certificate's with the number `id`.
-pub fn is_map_label(sources: &Sources, own: LabelId, id: LabelId) -> bool
-    requires sources { AreSources sources.now }
-    requires own { own.0 < length sources.now.map.now.labels }
-    requires known { id.0 < length sources.now.certificate.now.labels }
-    ensures { result ≡ bytes_eq (text_at sources.now.map.now.labels own.0)
-        (text_at sources.now.certificate.now.labels id.0) }
-{
-    is_same_label(sources.map_numbers.as_slice(), own, id)
-}
+impl Sources<'_> {
+    /// Whether the stretch with the index has the certificate's label with the number `id`.
+    pub fn is_of_map(&self, index: usize, id: LabelId) -> bool
+        requires sources { AreSources self.now }
+        requires index { index < length self.now.stretches.firsts }
+        requires known { id.0 < length self.now.certificate.now.labels }
+        ensures { result ≡ is_label_of (text_of self.now.map.now.labels (label_at self.now.stretches index))
+            (text_at self.now.certificate.now.labels id.0) }
+    {
+        is_label(self.map_numbers.as_slice(), self.stretches.label(index), id)
+    }
 
-/// Whether the list's label with its number `own` is the certificate's with the number `id`.
-pub fn is_list_label(sources: &Sources, own: LabelId, id: LabelId) -> bool
-    requires sources { AreSources sources.now }
-    requires own { own.0 < length sources.now.list.now.labels }
-    requires known { id.0 < length sources.now.certificate.now.labels }
-    ensures { result ≡ bytes_eq (text_at sources.now.list.now.labels own.0)
-        (text_at sources.now.certificate.now.labels id.0) }
-{
-    is_same_label(sources.list_numbers.as_slice(), own, id)
+    /// Whether a label of the list, if there is one, is the certificate's with the number `id`.
+    pub fn is_of_list(&self, own: Option<LabelId>, id: LabelId) -> bool
+        requires sources { AreSources self.now }
+        requires own { ForSome own (λ label. label.0 < length self.now.list.now.labels) }
+        requires known { id.0 < length self.now.certificate.now.labels }
+        ensures { result ≡ is_label_of (text_of self.now.list.now.labels own)
+            (text_at self.now.certificate.now.labels id.0) }
+    {
+        is_label(self.list_numbers.as_slice(), own, id)
+    }
 }

@@ -3,21 +3,18 @@ use Rattle.prefix_keys.specs.Version.{width_of}
 use Rattle.cert_check.proofs.checking.+nodes.Given as goal
 
 -- each half of a block has more bits than the block, and so has the end of a way; at one block a way without bits comes before the node
--- at its end, a node before what it is: a leaf, an inner node, or a chain, and a chain before what is below it
+-- at its end, a node before what it is: an inner node or a chain, and a chain before what is below it
 abbrev pub decreases-check_node : goal.decreases-check_node
-decreases-check_node l = 8 * (width_of l.place.now.block.version - l.place.now.block.len) + 5
+decreases-check_node l = 8 * (width_of l.part.now.block.version - l.part.now.block.len) + 5
 
-abbrev pub decreases-check_plain : goal.decreases-check_plain
-decreases-check_plain l = 8 * (width_of l.place.now.block.version - l.place.now.block.len) + 4
+abbrev pub decreases-check_inner : goal.decreases-check_inner
+decreases-check_inner l = 8 * (width_of l.part.now.block.version - l.part.now.block.len) + 4
 
 abbrev pub decreases-check_chain : goal.decreases-check_chain
-decreases-check_chain l = 8 * (width_of l.place.now.block.version - l.place.now.block.len) + 4
+decreases-check_chain l = 8 * (width_of l.part.now.block.version - l.part.now.block.len) + 4
 
 abbrev pub decreases-check_below : goal.decreases-check_below
-decreases-check_below l = 8 * (width_of l.chain.now.block.version - l.chain.now.block.len) + 3
-
-abbrev pub decreases-check_end : goal.decreases-check_end
-decreases-check_end l = 8 * (width_of l.chain.now.block.version - l.chain.now.block.len) + 2
+decreases-check_below l = 8 * (width_of l.part.now.block.version - l.part.now.block.len) + 3
 
 abbrev pub decreases-check_way : goal.decreases-check_way
-decreases-check_way l = 8 * (width_of l.block.now.version - l.block.now.len) + (7 - 7 * length l.bits.now)
+decreases-check_way l = 8 * (width_of l.part.now.block.version - l.part.now.block.len) + (7 - 7 * length l.bits.now)

@@ -2,18 +2,28 @@ use Rattle.std.proofs.Common.{◌∙◌, ap, refl}
 use Rattle.std.proofs.lemmas.Result.{err_from_is_err_and}
 use Rattle.pmap_text.specs.MapText.{map_of}
 use Rattle.pmap_text.specs.PrefixList.{list_of}
-use Rattle.pmap_cert.specs.Node.{first_node}
-use Rattle.cert_check.proofs.Walked.{whole-nodes}
+use Rattle.pmap_cert.specs.Node.{first_node, tree_of}
+use Rattle.cert_check.proofs.Nodes.{tree-node}
+use Rattle.cert_check.proofs.Whole.{root-at, whole-fault}
 use Rattle.cert_check.proofs.checking.check_nodes_by.Goals as goal
 
-pub returns-in_err-check_node-clause-err : goal.returns-in_err-check_node-clause-err
-returns-in_err-check_node-clause-err c =
-    let model = map_of c.args.sources.now.map.now in
-    let ps = (list_of c.args.sources.now.list.now).prefixes in
-    let labels = c.args.sources.now.certificate.now.labels in
-    let whole = c.whole_space.result in
-    let p = err_from_is_err_and c.from_residual-in_err-check_node.result c.from_residual-in_err-check_node.ensures.1 in
-    rw (p.1, p.2)
-    (λ some.
-    whole-nodes model ps labels whole c.whole_space.ensures.value c.whole_space.ensures.len (first_node c.root.result) c.args.sources.now.certificate.now.root 1
-    (ap first_node c.root.ensures.value) ∙ c.in_err-check_node.ensures.err some 1 refl)
+pub check_node-requires : goal.check_node-requires
+check_node-requires c =
+    record {
+      node = root-at c.args.sources.now c.requires.sources c.whole_space.result c.whole_space.ensures.version c.whole_space.ensures.value c.whole_space.ensures.len
+          c.root.result c.root.ensures.value c.root.ensures.numbers c.len.result c.len.ensures.value c.args.entries c.requires.entries;
+    }
+
+pub returns-in_err-check_node : goal.returns-in_err-check_node
+returns-in_err-check_node c =
+    let s = c.args.sources.now in
+    let m = map_of s.map.now in
+    let ps = (list_of s.list.now).prefixes in
+    let labels = s.certificate.now.labels in
+    let found = c.in_err-check_node.field-0.0 in
+    let is =
+    whole-fault m ps labels c.whole_space.result c.whole_space.ensures.value c.whole_space.ensures.len (first_node c.root.result) s.certificate.now.root 1
+    (ap first_node c.root.ensures.value) ∙ c.in_err-check_node.ensures 1 refl in
+    let e = err_from_is_err_and c.from_residual.result c.from_residual.ensures.1 in
+    rw (e.1, e.2)
+    (λ other. is, λ none. absurd (tree-node m ps (tree_of labels s.certificate.now.root) 1 0 0 found is none))

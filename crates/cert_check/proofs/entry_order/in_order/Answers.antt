@@ -1,7 +1,7 @@
 use Rattle.std.proofs.Common.{rules}
 use Rattle.std.proofs.lemmas.List.Sorted.{IsNonDecreasingBy-from_sort_by}
-use Rattle.cert_check.specs.Walking.{place_of}
+use Rattle.cert_check.specs.Parts.{rank_of}
 use Rattle.cert_check.proofs.entry_order.in_order.Goals as goal
 
 pub returns-clause-rising : goal.returns-clause-rising
-returns-clause-rising c = IsNonDecreasingBy-from_sort_by place_of _ c.sort_unstable_by.ensures.sorted (λ a r q k. search rules)
+returns-clause-rising c = IsNonDecreasingBy-from_sort_by (λ e. rank_of e.block) _ c.sort_unstable_by.ensures.sorted (λ a r q k. search rules)

@@ -1,0 +1,178 @@
+-- What a list says of a block, by the entries inside it and the label that is handed down to it.
+use Rattle.std.proofs.Common.{◌≡◌, ◌∙◌, ℕ, suc, ◌-◌, ◌*◌, ◌^◌, ◌<◌, ◌≤◌, ◌==◌, ◌&&◌, ◌||◌, Bool, true, false, cond, not, List, [], ◌∷◌, Option, Some, None, Contains, find, length, map, nat_lt, option_map, refl, sym, ap, ap₂, subst, arith}
+use Rattle.std.specs.List.{list_any}
+use Rattle.std.specs.Option.{option_or}
+use Rattle.std.proofs.lemmas.Bool.{and_from, and_parts, eq-eqb, eqb-true, false_from_ne_true, false≢true, lt-ltb, ltb-true}
+use Rattle.std.proofs.lemmas.List.{get_or-map, length-map}
+use Rattle.std.proofs.lemmas.List.Elements.{All-contains}
+use Rattle.std.proofs.lemmas.List.Folds.{list_any_at}
+use Rattle.std.proofs.lemmas.Option.{same_Some}
+use Rattle.prefix_keys.specs.Block.{block_number, first_of}
+use Rattle.prefix_keys.specs.Version.{width_of}
+use Rattle.prefix_keys.specs.declared.block.Block.{Block}
+use Rattle.pmap_text.specs.ListModel.{Prefix, covers, label_at, label_below, lies_inside}
+use Rattle.pmap_text.specs.MapModel.{Label}
+use Rattle.pmap_text.specs.MapText.{text_at}
+use Rattle.pmap_text.specs.PrefixList.{list_of, prefix_of}
+use Rattle.pmap_text.specs.declared.entry.Entry.{Entry}
+use Rattle.pmap_text.specs.declared.label.LabelId.{LabelId}
+use Rattle.pmap_text.specs.declared.prefix_list.PrefixList.{PrefixList}
+use Rattle.pmap_text.proofs.Finds.{Contains-first, Contains-later, Contains-nil, find_alike}
+use Rattle.pmap_text.proofs.ListBlocks.{block_start}
+use Rattle.pmap_text.proofs.ListPainted.{list_blocks}
+use Rattle.pmap_cert.proofs.Longest.{label_below-same}
+use Rattle.cert_check.specs.Carrying.{number_of}
+use Rattle.cert_check.specs.Checking.{is_decided, is_label_of}
+use Rattle.cert_check.specs.Parts.{AreWithin, IsHandedDown, IsListPart, LiesIn, text_of}
+use Rattle.cert_check.proofs.HalfBlocks.{block-first}
+use Rattle.cert_check.proofs.Within.{IsOwn, first-other, strict, strict-rest}
+
+-- lists whose elements are made of others
+Contains-mapped : {X Y : Type 0} (f : X → Y) (xs : List X) (x : X) → Contains xs x → Contains (map f xs) (f x)
+Contains-mapped f xs x has =
+    (has.0, subst (λ n. has.0 < n) (sym (length-map xs f)) has.1, get_or-map f xs has.0 x (f x) has.1 ∙ ap f has.2)
+
+any-listed : {X : Type 0} (p : X → Bool) (xs : List X) (x : X) → Contains xs x → p x ≡ true → list_any p xs ≡ true
+any-listed p xs x has passes = list_any_at p xs has.0 x has.1 (ap p has.2 ∙ passes)
+
+pub none-listed : {X Y : Type 0} (f : X → Y) (p : Y → Bool) (xs : List X) → ((x : X) → Contains xs x → p (f x) ≡ false) → list_any p (map f xs) ≡ false
+none-listed f p [] fails = refl
+none-listed f p (x ∷ xs) fails =
+    ap (λ b. b || list_any p (map f xs)) (fails x (Contains-first x xs)) ∙ none-listed f p xs (λ y has. fails y (Contains-later x xs y has))
+
+pub never-found : {X Y : Type 0} (f : X → Y) (p : Y → Bool) (xs : List X) → ((x : X) → Contains xs x → p (f x) ≡ false) → find p (map f xs) ≡ None
+never-found f p [] fails = refl
+never-found f p (x ∷ xs) fails =
+    ap (λ b. cond b (Some (f x)) (find p (map f xs))) (fails x (Contains-first x xs))
+    ∙ never-found f p xs (λ y has. fails y (Contains-later x xs y has))
+
+module _ (l : PrefixList) (b : Block) (version : b.version ≡ l.version) where
+  pub entry-version : (e : Entry) → Contains l.entries e → e.block.version ≡ b.version
+  entry-version e has = All-contains (λ (d : Entry). d.block.version ≡ l.version) l.entries e l.one_version has ∙ sym version
+
+  -- an entry lies strictly inside the block, or none does
+  pub some-inside : (e : Entry) → Contains l.entries e → LiesIn b (suc b.len) e
+      → list_any (lies_inside (width_of b.version) b.len (number_of b)) (list_of l).prefixes ≡ true
+  some-inside e has lies =
+      let W = width_of b.version in
+      any-listed (lies_inside W b.len (number_of b)) (list_of l).prefixes (prefix_of l.labels e) (Contains-mapped (prefix_of l.labels) l.entries e has)
+      (and_from (nat_lt b.len e.block.len) (block_number W b.len e.block.value == number_of b)
+      (lt-ltb b.len e.block.len (omega (arith, lies.long))) (eq-eqb (block_number W b.len e.block.value) (number_of b) lies.number))
+
+  pub none-inside : AreWithin l.entries b (suc b.len) [] → list_any (lies_inside (width_of b.version) b.len (number_of b)) (list_of l).prefixes ≡ false
+  none-inside are =
+      let W = width_of b.version in
+      none-listed (prefix_of l.labels) (lies_inside W b.len (number_of b)) l.entries
+      (λ e has. false_from_ne_true (lies_inside W b.len (number_of b) (prefix_of l.labels e))
+      (λ h. let parts = and_parts (nat_lt b.len e.block.len) (block_number W b.len e.block.value == number_of b) h in
+      let deep = ltb-true b.len e.block.len parts.0 in
+      absurd (Contains-nil e (are.every e has (record { long = omega (arith, deep); number = eqb-true (block_number W b.len e.block.value) (number_of b) parts.1 })))))
+
+  -- the entry of this very block
+  own-label : (e : Entry) → Contains l.entries e → IsOwn b e
+      → label_at (width_of l.version) (list_of l).prefixes b.len b.value ≡ Some (text_at l.labels e.label.0)
+  own-label e has own =
+      let W = width_of l.version in
+      let listed = Contains-mapped (prefix_of l.labels) l.entries e has in
+      find_alike (λ (p : Prefix). p.label) (covers W b.len b.value) (list_of l).prefixes (prefix_of l.labels e) listed
+      (and_from (e.block.len == b.len) (block_number W b.len e.block.value == block_number W b.len b.value) (eq-eqb e.block.len b.len own.1)
+      (eq-eqb (block_number W b.len e.block.value) (block_number W b.len b.value) (ap (block_number W b.len) own.0)))
+      (λ p among h.
+      let parts = and_parts (p.bits == b.len) (block_number W b.len p.start == block_number W b.len b.value) h in
+      let bits = eqb-true p.bits b.len parts.0 in
+      let number = eqb-true (block_number W b.len p.start) (block_number W b.len b.value) parts.1 in
+      (list_blocks l).alike p (prefix_of l.labels e) among listed (bits ∙ sym own.1)
+      (ap (λ (i : ℕ). block_number W i p.start) bits ∙ number ∙ (λ i. block_number W (sym own.1 i) (sym own.0 i))))
+
+  handed-own : (e : Entry) → Contains l.entries e → IsOwn b e → IsHandedDown l (suc b.len) b.value (Some e.label)
+  handed-own e has own = record {
+    known = λ id is.
+        subst (λ (i : LabelId). i.0 < length l.labels) (same_Some e.label id is)
+        (All-contains (λ (d : Entry). d.label.0 < length l.labels) l.entries e l.numbers_known has);
+    text = sym (ap (λ (o : Option Label). option_or o (label_below (width_of l.version) (list_of l).prefixes b.len b.value)) (own-label e has own));
+  }
+
+  -- where there is none
+  no-label : ((e : Entry) → Contains l.entries e → IsOwn b e → ⊥)
+      → label_at (width_of l.version) (list_of l).prefixes b.len b.value ≡ None
+  no-label none =
+      let W = width_of l.version in
+      let first : block_number W b.len b.value * 2 ^ (W - b.len) ≡ b.value = rw (← version) (block-first b) in
+      ap (option_map (λ (p : Prefix). p.label))
+      (never-found (prefix_of l.labels) (covers W b.len b.value) l.entries
+      (λ e has. false_from_ne_true (covers W b.len b.value (prefix_of l.labels e))
+      (λ h. let parts = and_parts (e.block.len == b.len) (block_number W b.len e.block.value == block_number W b.len b.value) h in
+      let len = eqb-true e.block.len b.len parts.0 in
+      let number = eqb-true (block_number W b.len e.block.value) (block_number W b.len b.value) parts.1 in
+      let begins = block_start l.version e (entry-version e has ∙ version) in
+      let value : e.block.value ≡ b.value =
+      sym begins ∙ (λ i. block_number W (len i) e.block.value * 2 ^ (W - len i)) ∙ ap (λ (q : ℕ). q * 2 ^ (W - b.len)) number ∙ first in
+      absurd (none e has (value, len)))))
+
+  handed-above : (above : Option LabelId) → ((e : Entry) → Contains l.entries e → IsOwn b e → ⊥)
+      → IsHandedDown l b.len b.value above → IsHandedDown l (suc b.len) b.value above
+  handed-above above none h = record {
+    known = h.known;
+    text = h.text
+        ∙ sym (ap (λ (o : Option Label). option_or o (label_below (width_of l.version) (list_of l).prefixes b.len b.value)) (no-label none));
+  }
+
+  -- the part inside, where the first entry is the block's own, and where none is
+  pub part-own : (c : Entry) (rest : List Entry) (above : Option LabelId) → IsOwn b c → IsListPart l b b.len (c ∷ rest) above
+      → IsListPart l b (suc b.len) rest (Some c.label)
+  part-own c rest above own h = record {
+    version = version;
+    within = strict-rest l.entries b entry-version c rest h.within own;
+    above = handed-own c (h.within.inside c (Contains-first c rest)).0 own;
+  }
+
+  part-other : (within : List Entry) (above : Option LabelId) → ((e : Entry) → Contains within e → IsOwn b e → ⊥) → IsListPart l b b.len within above
+      → IsListPart l b (suc b.len) within above
+  part-other within above none h = record {
+    version = version;
+    within = strict l.entries b entry-version within h.within none;
+    above = handed-above above
+        (λ e has own. none e (h.within.every e has (record { long = omega (arith, own.1); number = ap (block_number (width_of b.version) b.len) own.0 })) own)
+        h.above;
+  }
+
+  pub part-none : (above : Option LabelId) → IsListPart l b b.len [] above → IsListPart l b (suc b.len) [] above
+  part-none above h = part-other [] above (λ e has own. Contains-nil e has) h
+
+  pub part-first : (c : Entry) (rest : List Entry) (above : Option LabelId) → (IsOwn b c → ⊥) → IsListPart l b b.len (c ∷ rest) above
+      → IsListPart l b (suc b.len) (c ∷ rest) above
+  part-first c rest above other h =
+      part-other (c ∷ rest) above (first-other l.entries b entry-version c rest h.within other) h
+
+  -- a block of one bit more inside
+  pub handed-half : (half : Block) (label : Option LabelId) → half.len ≡ suc b.len
+      → block_number (width_of b.version) b.len half.value ≡ number_of b → IsHandedDown l (suc b.len) b.value label
+      → IsHandedDown l half.len half.value label
+  handed-half half label len number h =
+      let W = width_of l.version in
+      let fits : b.len ≤ W = rw (← version) b.len_in_range in
+      let same : block_number W b.len b.value ≡ block_number W b.len half.value = rw (← version) (sym number) in
+      record {
+        known = h.known;
+        text = h.text ∙ label_below-same W (list_of l).prefixes b.len b.value half.value fits same
+            ∙ ap (λ (k : ℕ). label_below W (list_of l).prefixes k half.value) (sym len);
+      }
+
+  -- so the list decides the block by what is handed down, where no entry lies inside
+  pub decided-by : (x : Label) (label : Option LabelId) → IsListPart l b (suc b.len) [] label
+      → is_label_of (text_of l.labels label) x ≡ is_decided (width_of b.version) (list_of l).prefixes b.len (number_of b) x
+  decided-by x label h =
+      let W = width_of b.version in
+      let below : label_below W (list_of l).prefixes (suc b.len) (first_of W b.len (number_of b)) ≡ text_of l.labels label =
+      ap (label_below W (list_of l).prefixes (suc b.len)) (block-first b)
+      ∙ ap (λ (v : _). label_below (width_of v) (list_of l).prefixes (suc b.len) b.value) version ∙ sym h.above.text in
+      sym (ap₂ (λ (i : Bool) (o : Option Label). not i && is_label_of o x) (none-inside h.within) below)
+
+  pub decided-some : (x : Label) (es : List Entry) (label : Option LabelId) → (length es == 0) ≡ false → IsListPart l b (suc b.len) es label
+      → false ≡ is_decided (width_of b.version) (list_of l).prefixes b.len (number_of b) x
+  decided-some x [] label some h = absurd (false≢true (sym some))
+  decided-some x (c ∷ rest) label some h =
+      let W = width_of b.version in
+      let inside = h.within.inside c (Contains-first c rest) in
+      sym (ap (λ (i : Bool). not i && is_label_of (label_below W (list_of l).prefixes (suc b.len) (first_of W b.len (number_of b))) x)
+      (some-inside c inside.0 inside.1))

@@ -1,0 +1,155 @@
+-- Whether a map settles a block, by its stretches.
+use Rattle.std.proofs.Common.{◌≡◌, ◌∙◌, ℕ, zero, suc, ◌+◌, ◌-◌, ◌^◌, ◌<◌, ◌≤◌, inl, inr, true, cond, Option, Some, None, List, get_or, length, nat_le, option_map, refl, sym, ap, subst, arith}
+use Rattle.std.proofs.lemmas.Bool.{cases_eq, cases_lt, le-leb, lt-leb, lt-ltb}
+use Rattle.std.proofs.lemmas.List.Elements.{All-map}
+use Rattle.prefix_keys.specs.Block.{first_of, last_of}
+use Rattle.prefix_keys.specs.Version.{width_of}
+use Rattle.pmap_text.specs.MapModel.{Label, label_or, settled_label}
+use Rattle.pmap_text.specs.MapText.{map_of, mapping_of, text_at}
+use Rattle.pmap_text.specs.Stretches.{HaveAddresses, label_seen}
+use Rattle.pmap_text.specs.Stretches.{HasEveryAddress, HoldsAddress, StretchesModel, first_at, label_at, last_at}
+use Rattle.pmap_text.specs.declared.label.LabelId.{LabelId}
+use Rattle.pmap_text.specs.declared.map_text.MapText.{MapText}
+use Rattle.pmap_text.specs.declared.statement.Statement.{Statement}
+use Rattle.pmap_text.proofs.SeenBlocks.{settled_stretch}
+use Rattle.cert_check.specs.Carrying.{number_of}
+use Rattle.cert_check.specs.Checking.{is_label_of}
+use Rattle.cert_check.specs.Kept.{AreSources}
+use Rattle.cert_check.specs.Parts.{IsPart, IsSettledBetween, last_in, text_of}
+use Rattle.cert_check.specs.declared.part.Part.{Part}
+use Rattle.cert_check.specs.declared.sources.Sources.{Sources}
+use Rattle.cert_check.proofs.Carries.{first-last}
+use Rattle.cert_check.proofs.HalfBlocks.{block-first, block-last}
+
+have-addresses : (m : MapText) → HaveAddresses (map_of m).mappings
+have-addresses m =
+    All-map (λ s. s.low ≤ s.high) (mapping_of m.labels) m.statements (λ i d below. (get_or m.statements i d).span.ordered)
+
+-- the text of the label that is seen
+label-text : (table : List Label) (default : LabelId) (top : Option Statement)
+    → Some (label_or (option_map (mapping_of table) top) (text_at table default.0)) ≡ text_of table (label_seen (Some default) top)
+label-text table default None = refl
+label-text table default (Some s) = refl
+
+module _ (s : StretchesModel) (every : HasEveryAddress s) where
+  -- a stretch ends before the next begins
+  pub last-next : (i : ℕ) → suc i < length s.firsts → last_at s i + 1 ≡ first_at s (i + 1)
+  last-next i more =
+      let less = every.rising i (i + 1) (omega arith) (omega (arith, more)) in
+      let last : last_at s i ≡ first_at s (i + 1) - 1 =
+      ap (λ b. cond b (first_at s (i + 1) - 1) (2 ^ width_of s.version - 1)) (lt-ltb (i + 1) (length s.firsts) (omega (arith, more))) in
+      omega (arith, last, less)
+
+  -- of two addresses the greater is in no earlier stretch
+  pub held-order : (a b i j : ℕ) → HoldsAddress s a i → HoldsAddress s b j → a ≤ b → i ≤ j
+  held-order a b i j at at' le =
+      elim (cases_lt j i) [
+        | inl less ↦
+            let last = last-next j (omega (arith, less, at.index)) in
+            let begins : first_at s (j + 1) ≤ first_at s i =
+            elim (cases_eq (j + 1) i) [
+              | inl same ↦ subst (λ (k : ℕ). first_at s (j + 1) ≤ first_at s k) same (omega arith)
+              | inr ne ↦ let r = every.rising (j + 1) i (omega (arith, less, ne)) at.index in omega (arith, r)
+            ] in
+            absurd (omega (arith, last, begins, at.from, at'.to, le))
+        | inr le' ↦ le'
+      ]
+
+  pub held-same : (a i j : ℕ) → HoldsAddress s a i → HoldsAddress s a j → i ≡ j
+  held-same a i j at at' =
+      let up = held-order a a i j at at' (omega arith) in
+      let down = held-order a a j i at' at (omega arith) in
+      omega (arith, up, down)
+
+  -- the address before one, where the stretch that has that begins with it or doesn't
+  pub held-before : (a i : ℕ) → 0 < a → HoldsAddress s a i → first_at s i ≡ a → (0 < i) × HoldsAddress s (a - 1) (i - 1)
+  held-before a i some at begins = by i some at begins
+    where
+      by : (i : ℕ) → 0 < a → HoldsAddress s a i → first_at s i ≡ a → (0 < i) × HoldsAddress s (a - 1) (i - 1)
+      by zero some at begins = absurd (omega (arith, some, begins, every.zero))
+      by (suc i) some at begins =
+          let less = every.rising i (suc i) (omega arith) at.index in
+          let last = last-next i at.index in
+          let next : i + 1 ≡ suc i = omega arith in
+          let last' : last_at s i + 1 ≡ first_at s (suc i) = last ∙ ap (first_at s) next in
+          let same : i ≡ suc i - 1 = omega arith in (
+            omega arith,
+            subst (HoldsAddress s (a - 1)) same (record { index = omega (arith, at.index); from = omega (arith, less, begins); to = omega (arith, last', begins) }),
+          )
+
+  pub held-still : (a i : ℕ) → HoldsAddress s a i → (first_at s i ≡ a → ⊥) → HoldsAddress s (a - 1) i
+  held-still a i at ne = record {
+    index = at.index;
+    from = elim (cases_eq (first_at s i) a) [ inl same ↦ absurd (ne same) | inr other ↦ omega (arith, at.from, other) ];
+    to = omega (arith, at.to);
+  }
+
+module _ (s : Sources) (are : AreSources s) where
+  -- a block that begins in a stretch is settled if it ends there
+  settled-at : (i j r : ℕ) → i < length s.stretches.firsts → first_at s.stretches i ≤ first_of (width_of s.map.now.version) j r
+      → first_of (width_of s.map.now.version) j r ≤ last_at s.stretches i → last_of (width_of s.map.now.version) j r < 2 ^ width_of s.map.now.version
+      → settled_label (map_of s.map.now) j r
+      ≡ cond (nat_le (last_of (width_of s.map.now.version) j r) (last_at s.stretches i)) (text_of s.map.now.labels (label_at s.stretches i)) None
+  settled-at i j r below from here fits =
+      let m = s.map.now in
+      let held = are.stretches.each i below in
+      let top = option_map (mapping_of m.labels) held.top in
+      let stretch = held.stretch (map_of m) (ap width_of (sym are.version)) refl in
+      settled_stretch (map_of m) j r (first_at s.stretches i) (last_at s.stretches i) top (have-addresses m) stretch from here fits
+      ∙ ap (λ (o : Option Label). cond (nat_le (last_of (width_of m.version) j r) (last_at s.stretches i)) o None)
+      (label-text m.labels m.default held.top ∙ ap (text_of m.labels) (sym held.label_is))
+
+  stretch-fits : (i : ℕ) → i < length s.stretches.firsts → last_at s.stretches i < 2 ^ width_of s.map.now.version
+  stretch-fits i below = subst (λ v. last_at s.stretches i < 2 ^ width_of v) are.version (are.stretches.each i below).within
+
+  -- all blocks of a stretch have its label
+  pub settled-between : (i first stop : ℕ) (x : Label) → i < length s.stretches.firsts → first_at s.stretches i ≤ first → stop ≤ last_at s.stretches i + 1
+      → is_label_of (text_of s.map.now.labels (label_at s.stretches i)) x ≡ true → IsSettledBetween (map_of s.map.now) first stop x
+  settled-between i first stop x below from to is j r begins ends =
+      let W = width_of s.map.now.version in
+      let some = first-last W j r in
+      let fits = stretch-fits i below in
+      ap (λ (o : Option Label). is_label_of o x)
+      (settled-at i j r below (omega (arith, from, begins)) (omega (arith, to, ends, some)) (omega (arith, to, ends, fits))
+      ∙ ap (λ b. cond b (text_of s.map.now.labels (label_at s.stretches i)) None) (le-leb _ _ (omega (arith, to, ends)))) ∙ is
+
+  -- a part's block
+  module _ (p : Part) (is : IsPart s p) where
+    version : p.block.version ≡ s.map.now.version
+    version = is.list.version ∙ are.list_version
+
+    pub part-order : p.from ≤ p.to
+    part-order = held-order s.stretches are.stretches.every p.block.value (last_in p.block) p.from p.to is.from is.to (block-last p.block)
+
+    settled-block : settled_label (map_of s.map.now) p.block.len (number_of p.block)
+        ≡ cond (nat_le (last_in p.block) (last_at s.stretches p.from)) (text_of s.map.now.labels (label_at s.stretches p.from)) None
+    settled-block =
+        let m = s.map.now in
+        let b = p.block in
+        let same : width_of b.version ≡ width_of m.version = ap width_of version in
+        let first : first_of (width_of m.version) b.len (number_of b) ≡ b.value =
+        ap (λ (W : ℕ). first_of W b.len (number_of b)) (sym same) ∙ block-first b in
+        let last : last_of (width_of m.version) b.len (number_of b) ≡ last_in b = ap (λ (W : ℕ). last_of W b.len (number_of b)) (sym same) in
+        let fits = stretch-fits p.to is.to.index in
+        settled-at p.from b.len (number_of b) is.from.index (omega (arith, first, is.from.from)) (omega (arith, first, is.from.to)) (omega (arith, last, is.to.to, fits))
+        ∙ ap (λ (k : ℕ). cond (nat_le k (last_at s.stretches p.from)) (text_of m.labels (label_at s.stretches p.from)) None) last
+
+    pub settled-one : p.from ≡ p.to → settled_label (map_of s.map.now) p.block.len (number_of p.block) ≡ text_of s.map.now.labels (label_at s.stretches p.from)
+    settled-one same =
+        settled-block
+        ∙ ap (λ b. cond b (text_of s.map.now.labels (label_at s.stretches p.from)) None)
+        (le-leb (last_in p.block) (last_at s.stretches p.from)
+        (subst (λ (i : ℕ). last_in p.block ≤ last_at s.stretches i) (sym same) is.to.to))
+
+    pub settled-more : (p.from ≡ p.to → ⊥) → settled_label (map_of s.map.now) p.block.len (number_of p.block) ≡ None
+    settled-more ne =
+        settled-block
+        ∙ ap (λ b. cond b (text_of s.map.now.labels (label_at s.stretches p.from)) None)
+        (lt-leb (last_in p.block) (last_at s.stretches p.from)
+        (elim (cases_lt (last_at s.stretches p.from) (last_in p.block)) [
+          | inl less ↦ less
+          | inr le ↦
+              let some = block-last p.block in
+              absurd (ne (held-same s.stretches are.stretches.every (last_in p.block) p.from p.to
+              (record { index = is.from.index; from = omega (arith, is.from.from, some); to = le }) is.to))
+        ]))

@@ -1,0 +1,296 @@
+-- The entries of a list in a block and in blocks inside it.
+use Rattle.std.proofs.Common.{◌≡◌, ◌∙◌, inl, inr, ℕ, zero, suc, ◌+◌, ◌==◌, ◌*◌, ◌/◌, ◌%◌, ◌^◌, ◌-◌, ◌<◌, ◌≤◌, List, [], ◌∷◌, Contains, drop, get_or, get_or-drop, get_or-take, is_lt, length, length-drop, length-take, min, nat_cmp, slice_get, Some, false, true, take, ap, subst, sym, arith, mul-div_cancel, mul_assoc, pow_pos}
+use Rattle.std.specs.List.Sorted.{IsNonDecreasingBy, IsPermutation}
+use Rattle.std.proofs.lemmas.Bool.{and_from, both_ways, cases_eq, cases_lt, eq-eqb}
+use Rattle.std.proofs.lemmas.Bool.Decides.{nat_tests}
+use Rattle.std.proofs.lemmas.Option.{get_or_from_slice_get}
+use Rattle.std.proofs.lemmas.List.Elements.{All-from_recursion}
+use Rattle.std.proofs.lemmas.Map.Keys.{IsDistinct-IsPermutation, IsDistinct-head, IsDistinct-tail}
+use Rattle.std.proofs.lemmas.List.Sorted.{Contains-permutation, IsPermutation-sym}
+use Rattle.std.proofs.lemmas.Nat.{pow-add}
+use Rattle.prefix_keys.proofs.Quotients.{whole}
+use Rattle.prefix_keys.specs.Block.{block_number, first_of}
+use Rattle.prefix_keys.specs.Version.{width_of}
+use Rattle.prefix_keys.specs.declared.block.Block.{Block}
+use Rattle.prefix_keys.specs.declared.version.Version.{Version}
+use Rattle.prefix_keys.specs.declared.version.Version.TheVariants.{V4, V6}
+use Rattle.pmap_text.specs.ListEntries.{HasDistinctBlocks, same_block}
+use Rattle.pmap_text.specs.declared.entry.Entry.{Entry}
+use Rattle.pmap_text.proofs.Blocks.{address-between, address-first, address-last}
+use Rattle.pmap_text.proofs.Finds.{Contains-cases, Contains-first, Contains-later}
+use Rattle.cert_check.specs.Carrying.{number_of}
+use Rattle.cert_check.specs.Parts.{AreInOrder, AreRising, AreWithin, LiesIn, last_in, rank_of}
+use Rattle.cert_check.proofs.HalfBlocks.{IsWithin, block-first}
+
+-- no address has more than 128 bits
+short : (v : Version) (len : ℕ) → len ≤ width_of v → len ≤ 128
+short V4 len le = omega (arith, le)
+short V6 len le = le
+
+pub short-block : (b : Block) → b.len ≤ 128
+short-block b = short b.version b.len b.len_in_range
+
+-- the first comes before all later ones
+rank-later : (c : Entry) (rest : List Entry) → AreRising (c ∷ rest) → (e : Entry) → Contains rest e → rank_of c.block < rank_of e.block
+rank-later c rest rising e has = subst (λ (x : Entry). rank_of c.block < rank_of x.block) has.2 (rising 0 (suc has.0) e (omega arith) (omega (arith, has.1)))
+
+pub rank-first : (c : Entry) (rest : List Entry) → AreRising (c ∷ rest) → (e : Entry) → Contains (c ∷ rest) e → rank_of c.block ≤ rank_of e.block
+rank-first c rest rising e has =
+    elim (Contains-cases c rest e has) [
+      | inl same ↦ let r = ap (λ (x : Entry). rank_of x.block) same in omega (arith, r)
+      | inr later ↦ let r = rank-later c rest rising e later in omega (arith, r)
+    ]
+
+-- and the last after all earlier ones
+pub rank-last : (es : List Entry) (c : Entry) → Some c ≡ slice_get es (length es - 1) → AreRising es → (e : Entry) → Contains es e → e.block.value ≤ c.block.value
+rank-last es c is rising e has =
+    let few = short-block e.block in
+    let few' = short-block c.block in
+    let last : get_or es (length es - 1) e ≡ c = get_or_from_slice_get es (length es - 1) c e (sym is) in
+    elim (cases_eq has.0 (length es - 1)) [
+      | inl same ↦
+          let here : e ≡ c = sym has.2 ∙ ap (λ (i : ℕ). get_or es i e) same ∙ last in
+          let value = ap (λ (x : Entry). x.block.value) here in
+          omega (arith, value)
+      | inr other ↦
+          let less = rising has.0 (length es - 1) e (omega (arith, other, has.1)) (omega (arith, has.1)) in
+          let less' : rank_of e.block < rank_of c.block =
+          subst (λ (x : Entry). rank_of e.block < rank_of x.block) last (subst (λ (x : Entry). rank_of x.block < rank_of (get_or es (length es - 1) e).block) has.2 less) in
+          omega (arith, less', few, few')
+    ]
+
+-- first addresses don't fall
+pub rising-values : (es : List Entry) → AreRising es → IsNonDecreasingBy (λ e. e.block.value) es
+rising-values es rising i j d le below =
+    elim (cases_eq i j) [
+      | inl same ↦ subst (λ (k : ℕ). (get_or es i d).block.value ≤ (get_or es k d).block.value) same (omega arith)
+      | inr other ↦
+          let few = short-block (get_or es i d).block in
+          let few' = short-block (get_or es j d).block in
+          let less = rising i j d (omega (arith, le, other)) below in
+          omega (arith, less, few, few')
+    ]
+
+pub not-before : (a b : ℕ) → is_lt (nat_cmp a b) ≡ false → b ≤ a
+not-before a b h = grind (arith, nat_tests)
+
+-- the addresses of an entry that lies in a block
+module _ (b : Block) (n : ℕ) (e : Entry) where
+  pub lies-from : LiesIn b n e → b.value ≤ e.block.value
+  lies-from lies =
+      let first = block-first b in
+      let from = address-first (width_of b.version) b.len (number_of b) e.block.value lies.number in
+      omega (arith, first, from)
+
+  pub lies-to : LiesIn b n e → e.block.value ≤ last_in b
+  lies-to lies = address-last (width_of b.version) b.len (number_of b) e.block.value lies.number
+
+  pub lies-between : n ≤ e.block.len → b.value ≤ e.block.value → e.block.value ≤ last_in b → LiesIn b n e
+  lies-between long from to = record {
+    long = long;
+    number = let first = block-first b in address-between (width_of b.version) b.len (number_of b) e.block.value (omega (arith, first, from)) to;
+  }
+
+-- it is the block's own
+abbrev pub IsOwn : Block → Entry → Type 0
+IsOwn b e = (e.block.value ≡ b.value) × (e.block.len ≡ b.len)
+
+module _ (es : List Entry) (b : Block) (same : (e : Entry) → Contains es e → e.block.version ≡ b.version) where
+  own-value : (e : Entry) → Contains es e → LiesIn b b.len e → e.block.len ≡ b.len → IsOwn b e
+  own-value e has lies len =
+      let v = same e has in (
+        sym (block-first e.block)
+            ∙ (λ i. first_of (width_of (v i)) (len i) (block_number (width_of (v i)) (len i) e.block.value))
+            ∙ ap (first_of (width_of b.version) b.len) lies.number ∙ block-first b,
+        len,
+      )
+
+  -- those strictly inside are the same where none is the block's own
+  pub strict : (within : List Entry) → AreWithin es b b.len within → ((e : Entry) → Contains within e → IsOwn b e → ⊥) → AreWithin es b (suc b.len) within
+  strict within are none = record {
+    rising = are.rising;
+    inside = λ e has.
+        let lies = are.inside e has in (
+          lies.0,
+          record {
+            long = elim (cases_eq e.block.len b.len) [
+              | inl len ↦ absurd (none e has (own-value e lies.0 lies.1 len))
+              | inr ne ↦ omega (arith, lies.1.long, ne)
+            ];
+            number = lies.1.number;
+          },
+        );
+    every = λ e has lies. are.every e has (record { long = omega (arith, lies.long); number = lies.number });
+  }
+
+  -- so it is where the first is not
+  pub first-other : (c : Entry) (rest : List Entry) → AreWithin es b b.len (c ∷ rest) → (IsOwn b c → ⊥) → (e : Entry) → Contains (c ∷ rest) e → IsOwn b e → ⊥
+  first-other c rest are other e has own =
+      let lies = (are.inside c (Contains-first c rest)).1 in
+      let from = lies-from b b.len c lies in
+      let few = short-block c.block in
+      let few' = short-block b in
+      let le = rank-first c rest are.rising e has in
+      other (omega (arith, from, few, few', le, own.0, own.1, lies.long), omega (arith, from, few, few', le, own.0, own.1, lies.long))
+
+  -- and they are the others where it is
+  pub strict-rest : (c : Entry) (rest : List Entry) → AreWithin es b b.len (c ∷ rest) → IsOwn b c → AreWithin es b (suc b.len) rest
+  strict-rest c rest are own = record {
+    rising = λ i j d less below. are.rising (suc i) (suc j) d (omega (arith, less)) (omega (arith, below));
+    inside = λ e has.
+        let lies = are.inside e (Contains-later c rest e has) in (
+          lies.0,
+          record {
+            long = elim (cases_eq e.block.len b.len) [
+              | inl len ↦
+                  let other = own-value e lies.0 lies.1 len in
+                  let less = rank-later c rest are.rising e has in
+                  absurd (omega (arith, less, own.0, own.1, other.0, other.1))
+              | inr ne ↦ omega (arith, lies.1.long, ne)
+            ];
+            number = lies.1.number;
+          },
+        );
+    every = λ e has lies. elim (Contains-cases c rest e (are.every e has (record { long = omega (arith, lies.long); number = lies.number }))) [
+      | inl is ↦ let len = ap (λ (x : Entry). x.block.len) is in absurd (omega (arith, len, own.1, lies.long))
+      | inr later ↦ later
+    ];
+  }
+
+  -- the entries in a block inside it
+  pub narrow : (inner : Block) → IsWithin b inner → (within ys : List Entry) → AreRising ys
+      → ((e : Entry) → Contains ys e → Contains within e × LiesIn inner inner.len e)
+      → ((e : Entry) → Contains within e → LiesIn inner inner.len e → Contains ys e)
+      → AreWithin es b (suc b.len) within → AreWithin es inner inner.len ys
+  narrow inner w within ys rising inside every are = record {
+    rising = rising;
+    inside = λ e has. let both = inside e has in ((are.inside e both.0).0, both.1);
+    every = λ e has lies.
+        let from = lies-from inner inner.len e lies in
+        let to = lies-to inner inner.len e lies in
+        every e
+        (are.every e has
+        (lies-between b (suc b.len) e (omega (arith, w.longer, lies.long)) (omega (arith, w.first, from)) (omega (arith, w.last, to)))) lies;
+  }
+
+-- entries in order, parted by their first addresses
+module _ (within : List Entry) (k mid : ℕ) (rising : AreRising within)
+    (before : (i : ℕ) (d : Entry) → i < k → (get_or within i d).block.value < mid)
+    (after : (i : ℕ) (d : Entry) → k ≤ i → i < length within → mid ≤ (get_or within i d).block.value) where
+  pub front-rising : AreRising (take k within)
+  front-rising i j d less below =
+      let most : j < min k (length within) = subst (λ (n : ℕ). j < n) (length-take k within) below in
+      rw (get_or-take k within i d (omega (arith, less, most)), get_or-take k within j d (omega (arith, most)))
+      (rising i j d less (omega (arith, most)))
+
+  pub front-from : (e : Entry) → Contains (take k within) e → Contains within e × (e.block.value < mid)
+  front-from e has =
+      let most : has.0 < min k (length within) = subst (λ (n : ℕ). has.0 < n) (length-take k within) has.1 in
+      let is : get_or within has.0 e ≡ e = sym (get_or-take k within has.0 e (omega (arith, most))) ∙ has.2 in
+      ((has.0, omega (arith, most), is), subst (λ (x : Entry). x.block.value < mid) is (before has.0 e (omega (arith, most))))
+
+  pub front-to : (e : Entry) → Contains within e → e.block.value < mid → Contains (take k within) e
+  front-to e has less =
+      elim (cases_lt has.0 k) [
+        | inl early ↦
+            let most : has.0 < length (take k within) = subst (λ (n : ℕ). has.0 < n) (sym (length-take k within)) (omega (arith, early, has.1)) in
+            (has.0, most, get_or-take k within has.0 e early ∙ has.2)
+        | inr late ↦
+            let from = subst (λ (x : Entry). mid ≤ x.block.value) has.2 (after has.0 e late has.1) in
+            absurd (omega (arith, from, less))
+      ]
+
+  pub back-rising : AreRising (drop k within)
+  back-rising i j d less below =
+      let most : j < length within - k = subst (λ (n : ℕ). j < n) (length-drop k within) below in
+      rw (get_or-drop k within i d, get_or-drop k within j d) (rising (k + i) (k + j) d (omega (arith, less)) (omega (arith, most)))
+
+  pub back-from : (e : Entry) → Contains (drop k within) e → Contains within e × (mid ≤ e.block.value)
+  back-from e has =
+      let most : has.0 < length within - k = subst (λ (n : ℕ). has.0 < n) (length-drop k within) has.1 in
+      let is : get_or within (k + has.0) e ≡ e = sym (get_or-drop k within has.0 e) ∙ has.2 in
+      ((k + has.0, omega (arith, most), is), subst (λ (x : Entry). mid ≤ x.block.value) is (after (k + has.0) e (omega arith) (omega (arith, most))))
+
+  pub back-to : (e : Entry) → Contains within e → mid ≤ e.block.value → Contains (drop k within) e
+  back-to e has le =
+      elim (cases_lt has.0 k) [
+        | inl early ↦
+            let from = subst (λ (x : Entry). x.block.value < mid) has.2 (before has.0 e early) in
+            absurd (omega (arith, from, le))
+        | inr late ↦
+            let most : has.0 - k < length (drop k within) = subst (λ (n : ℕ). has.0 - k < n) (sym (length-drop k within)) (omega (arith, late, has.1)) in
+            let at : k + (has.0 - k) ≡ has.0 = omega (arith, late) in
+            (has.0 - k, most, get_or-drop k within (has.0 - k) e ∙ ap (λ (i : ℕ). get_or within i e) at ∙ has.2)
+      ]
+
+-- where a block begins, each longer block that has its first address begins
+pub begins-longer : (W k n a : ℕ) → k ≤ n → n ≤ W → a % 2 ^ (W - k) ≡ 0 → first_of W n (block_number W n a) ≡ a
+begins-longer W k n a le fits free =
+    let d : ℕ = 2 ^ (W - n) in
+    let m : ℕ = 2 ^ (n - k) in
+    let x : ℕ = a / 2 ^ (W - k) in
+    let bits : W - k ≡ (n - k) + (W - n) = omega (arith, le, fits) in
+    let size : 2 ^ (W - k) ≡ m * d = ap (λ (i : ℕ). 2 ^ i) bits ∙ pow-add 2 (n - k) (W - n) in
+    let all : (x * m) * d ≡ a = mul_assoc x m d ∙ ap (λ (i : ℕ). x * i) (sym size) ∙ whole a (2 ^ (W - k)) (pow_pos (W - k)) free in
+    subst (λ (i : ℕ). first_of W n (block_number W n i) ≡ i) all (ap (λ (i : ℕ). i * d) (mul-div_cancel (x * m) (pow_pos (W - n))))
+
+-- an entry that comes no earlier than the block and begins in it lies in it
+pub lies-after : (b : Block) (e : Entry) → e.block.version ≡ b.version → rank_of b ≤ rank_of e.block → e.block.value ≤ last_in b → LiesIn b b.len e
+lies-after b e same from to =
+    let W = width_of b.version in
+    let few = short-block e.block in
+    let few' = short-block b in
+    let first = block-first b in
+    let number = address-between W b.len (number_of b) e.block.value (omega (arith, first, from, few)) to in
+    record {
+      long = elim (cases_lt e.block.len b.len) [
+        | inl shorter ↦
+            let free : e.block.value % 2 ^ (W - e.block.len) ≡ 0 = rw (← same) e.block.no_host_bit in
+            let begins = begins-longer W e.block.len b.len e.block.value (omega (arith, shorter)) b.len_in_range free in
+            let value : e.block.value ≡ b.value = sym begins ∙ ap (first_of W b.len) number ∙ first in
+            absurd (omega (arith, from, value, shorter))
+        | inr long ↦ long
+      ];
+      number = number;
+    }
+
+-- all entries of a list in order, whose blocks are distinct
+rank-block : (d e : Entry) → rank_of d.block ≡ rank_of e.block → same_block d e ≡ true
+rank-block d e same =
+    let a = short-block d.block in
+    let b = short-block e.block in
+    and_from (d.block.value == e.block.value) (d.block.len == e.block.len)
+    (eq-eqb d.block.value e.block.value (omega (arith, a, b, same))) (eq-eqb d.block.len e.block.len (omega (arith, a, b, same)))
+
+distinct-at : (es : List Entry) → HasDistinctBlocks es → (i j : ℕ) (d : Entry) → i < j → j < length es → same_block (get_or es i d) (get_or es j d) ≡ false
+distinct-at [] distinct i j d less below = absurd (omega (arith, below))
+distinct-at (e ∷ es) distinct zero zero d less below = absurd (omega (arith, less))
+distinct-at (e ∷ es) distinct (suc i) zero d less below = absurd (omega (arith, less))
+distinct-at (e ∷ es) distinct zero (suc j) d less below =
+    All-from_recursion (λ (x : Entry). same_block e x ≡ false) es (IsDistinct-head same_block e es distinct) j d (omega (arith, below))
+distinct-at (e ∷ es) distinct (suc i) (suc j) d less below =
+    distinct-at es (IsDistinct-tail same_block e es distinct) i j d (omega (arith, less)) (omega (arith, below))
+
+rises : (es : List Entry) → HasDistinctBlocks es → IsNonDecreasingBy (λ e. rank_of e.block) es → AreRising es
+rises es distinct rising i j d less below =
+    elim (cases_eq (rank_of (get_or es i d).block) (rank_of (get_or es j d).block)) [
+      | inl same ↦ absurd (both_ways _ (distinct-at es distinct i j d less below) (rank-block (get_or es i d) (get_or es j d) same))
+      | inr other ↦ let le = rising i j d (omega (arith, less)) below in omega (arith, le, other)
+    ]
+
+flips : (d e : Entry) → same_block d e ≡ same_block e d
+flips d e = grind arith
+
+pub sorted-order : (es sorted : List Entry) → HasDistinctBlocks es → IsPermutation es sorted → IsNonDecreasingBy (λ e. rank_of e.block) sorted → AreInOrder es sorted
+sorted-order es sorted distinct moved rising = record {
+  rising = rises sorted (IsDistinct-IsPermutation same_block flips es sorted moved distinct) rising;
+  listed = λ e has. Contains-permutation sorted es e (IsPermutation-sym es sorted moved) has;
+  every = λ e has. Contains-permutation es sorted e moved has;
+}
+
+pub same-order : (es given : List Entry) → HasDistinctBlocks es → given ≡ es → IsNonDecreasingBy (λ e. rank_of e.block) given → AreInOrder es given
+same-order es given distinct same rising = record {
+  rising = rises given (subst HasDistinctBlocks (sym same) distinct) rising;
+  listed = λ e has. subst (λ (xs : List Entry). Contains xs e) same has;
+  every = λ e has. subst (λ (xs : List Entry). Contains xs e) (sym same) has;
+}

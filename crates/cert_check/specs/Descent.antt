@@ -1,0 +1,73 @@
+use Rattle.std.specs.Prelude.{◌≡◌, ◌≢◌, ℕ, ◌+◌, ◌-◌, ◌<◌, List, Bool, Option, None, Some, Result, Ok, Err, length}
+use Rattle.prefix_keys.specs.Version.{width_of}
+use Rattle.pmap_text.specs.MapText.{map_of, text_at}
+use Rattle.pmap_text.specs.PrefixList.{list_of}
+use Rattle.pmap_cert.specs.CertificateForm.{HasRoomBelow}
+use Rattle.pmap_cert.specs.CertificateModel.{Tree}
+use Rattle.pmap_cert.specs.Node.{HasChainForm, Node, behind, first_node, tree_of}
+use Rattle.cert_check.specs.Carrying.{number_of}
+use Rattle.cert_check.specs.Checking.{bits_fault, node_count, node_fault, told}
+use Rattle.cert_check.specs.Kept.{AreSources}
+use Rattle.cert_check.specs.Parts.{IsPart}
+use Rattle.cert_check.specs.declared.checking.NodeLine.{NodeLine}
+use Rattle.cert_check.specs.declared.fault.CheckFault.{CheckFault}
+use Rattle.cert_check.specs.declared.fault.CheckFaultKind.{CheckFaultKind}
+use Rattle.cert_check.specs.declared.fault.CheckFaultKind.TheVariants.{NoMemory}
+use Rattle.cert_check.specs.declared.part.Part.{Part}
+use Rattle.cert_check.specs.declared.sources.Sources.{Sources}
+
+-- The contract of the functions that check a certificate's nodes: no user need read it.
+
+-- the tree of the node at a line
+abbrev pub tree_at : Sources → NodeLine → Tree
+tree_at s line = tree_of s.certificate.now.labels (first_node line.node)
+
+-- The first fault of the node at a line, if it has the number k and stands for the part's block, and that along a chain's bits
+-- with the node at the line at their end, if the chain has the number k.
+abbrev pub line_fault : Sources → NodeLine → Part → ℕ → Option CheckFault
+line_fault s line p k =
+    node_fault (map_of s.map.now) (list_of s.list.now).prefixes (tree_at s line) k p.block.len (number_of p.block)
+
+abbrev pub way_fault : Sources → NodeLine → ℕ → List Bool → Part → ℕ → Option CheckFault
+way_fault s end side bits p k =
+    bits_fault (map_of s.map.now) (list_of s.list.now).prefixes (text_at s.certificate.now.labels side) k
+    (node_fault (map_of s.map.now) (list_of s.list.now).prefixes (tree_at s end) (k + 1)) bits p.block.len (number_of p.block)
+
+-- The line has a node for the part's block.
+pub record IsAtNode (s : Sources) (line : NodeLine) (p : Part) : Type 0 where
+  pub sources : AreSources s
+  pub part : IsPart s p
+  pub here : 0 < length line.node
+  pub form : HasChainForm (length s.certificate.now.labels) (first_node line.node) (width_of p.block.version - p.block.len)
+
+-- The line has the node at the end of a chain with this number, side label and bits from the part's block on.
+pub record IsAtEnd (s : Sources) (end : NodeLine) (number side : ℕ) (bits : List Bool) (p : Part) : Type 0 where
+  pub sources : AreSources s
+  pub part : IsPart s p
+  pub here : 0 < length end.node
+  pub form : HasRoomBelow (HasChainForm (length s.certificate.now.labels) (first_node end.node)) bits (width_of p.block.version - p.block.len)
+  pub known : side < length s.certificate.now.labels
+  pub next : (k : ℕ) → told k ≡ number → told (k + 1) ≡ end.number
+
+-- the answer of a check whose nodes below had no fault, by what is wrong with the node itself
+abbrev pub answer_of : Option CheckFaultKind → ℕ → NodeLine → Result NodeLine CheckFault
+answer_of None number next = Ok next
+answer_of (Some kind) number next = Err (record { kind = kind; node = number })
+
+-- The answer to a check of so many nodes from the one with this number on, whose first fault by that number is given: this
+-- fault, or else the line that comes next.
+abbrev pub IsAnswer : (ℕ → Option CheckFault) → ℕ → ℕ → List Node → Result NodeLine CheckFault → Type 0
+IsAnswer fault number count after (Ok next) =
+    (next.node ≡ after) × ((k : ℕ) → told k ≡ number → (fault k ≡ None) × (next.number ≡ told (k + count)))
+IsAnswer fault number count after (Err found) = (k : ℕ) → told k ≡ number → fault k ≡ Some found
+
+abbrev pub IsNodeAnswer : Sources → NodeLine → Part → Result NodeLine CheckFault → Type 0
+IsNodeAnswer s line p = IsAnswer (line_fault s line p) line.number (node_count (tree_at s line)) (behind line.node)
+
+abbrev pub IsWayAnswer : Sources → NodeLine → ℕ → ℕ → List Bool → Part → Result NodeLine CheckFault → Type 0
+IsWayAnswer s end number side bits p = IsAnswer (way_fault s end side bits p) number (1 + node_count (tree_at s end)) (behind end.node)
+
+-- the answer to a check that may run out of memory, whose first fault is given
+abbrev pub IsOutcome : {A : Type 0} → Option CheckFault → Result A CheckFault → Type 0
+IsOutcome fault (Ok done) = fault ≡ None
+IsOutcome fault (Err found) = (found.kind ≢ NoMemory → fault ≡ Some found) × (found.kind ≡ NoMemory → found.node ≡ 0)
