@@ -232,20 +232,6 @@ merged-higher low high set lower higher none merging =
     sym (append-nil set)
     ∙ subst (λ (ls : List LabelId). set ++ common_numbers (numbers_of ls) (numbers_of higher) ≡ common_numbers low high) none merging.all
 
--- where no common number has come up, both sets have one just if what is left of them does
-pub apart-lower : (low high : List ℕ) (lower higher : List LabelId) → higher ≡ [] → IsMerging low high [] lower higher → common_numbers low high ≡ []
-apart-lower low high lower higher none merging = sym (merged-lower low high [] lower higher none merging)
-
-pub apart-higher : (low high : List ℕ) (lower higher : List LabelId) → lower ≡ [] → IsMerging low high [] lower higher → common_numbers low high ≡ []
-apart-higher low high lower higher none merging = sym (merged-higher low high [] lower higher none merging)
-
-pub not-apart : (low high : List ℕ) (x y : LabelId) (lower higher lower_rest higher_rest : List LabelId) → lower ≡ x ∷ lower_rest → higher ≡ y ∷ higher_rest
-    → IsMerging low high [] lower higher → x.0 ≡ y.0 → common_numbers low high ≡ [] → ⊥
-not-apart low high x y lower higher lower_rest higher_rest lower_is higher_is merging same none =
-    let both = merging-both low high [] x y lower higher lower_rest higher_rest lower_is higher_is merging (x.0 ∷ []) same refl in
-    let all : x.0 ∷ common_numbers (numbers_of lower_rest) (numbers_of higher_rest) ≡ [] = both.all ∙ none in
-    cc
-
 pub no_items : (xs : List LabelId) → length xs ≡ 0 → xs ≡ []
 no_items [] e = refl
 no_items (x ∷ xs) e = absurd (omega arith)

@@ -14,7 +14,7 @@ joined-cost low high (Leaf id) joined = absurd joined
 joined-cost low high (Chain cost set bits side end) joined = absurd joined
 joined-cost low high (Inner cost set left right) joined = exact-cost (cost_of low) (cost_of high) (set_of low) (set_of high) cost set joined.2
 
-node-cost : (plan : Plan) (node : Node) → IsNodeFor plan node → cost_of node < tips plan
+pub node-cost : (plan : Plan) (node : Node) → IsNodeFor plan node → cost_of node < tips plan
 node-cost (Tip id) node is = subst (λ (n : Node). cost_of n < 1) (sym is) (omega arith)
 node-cost (Fork low high) node is =
     let a = node-cost low is.low is.low_is in

@@ -14,7 +14,10 @@ use Rattle.label_trie.proofs.NodeLeaves.{inner_unsettled, length_leaves}
 use Rattle.prefix_keys.specs.Version.{width_of}
 use Rattle.pmap_cert.specs.Node.{Node}
 use Rattle.pmap_minimise.specs.Certified.{IsCertified}
+use Rattle.pmap_minimise.specs.Claiming.{AreClaimsOf}
+use Rattle.pmap_minimise.specs.Listing.{IsClaimed}
 use Rattle.pmap_minimise.specs.Outline.{IsNodeFor, IsOutline, Plan, leaves_part, outline_of, parts_of, plan_of}
+use Rattle.pmap_minimise.specs.declared.claim_list.Claims.{Claims}
 use Rattle.pmap_minimise.specs.declared.outline.Part.{Part}
 use Rattle.pmap_minimise.specs.declared.outline.Part.TheVariants.{Divided, Labelled}
 use Rattle.pmap_minimise.proofs.Joined.{all-left, all-right, joined-certified, leaf-certified}
@@ -91,6 +94,10 @@ module _ (t : TrieModel) (of : IsOfTree t) (labelled : All HasLabel t.leaves) wh
       let same = of.leaves in
       subst (λ (l : List LeafModel). IsCertified 0 0 (width_of t.version) l node) (sym same)
       (tree-certified of.tree 0 0 (width_of t.version) node all-labelled of.room (is (plan_of of.tree) parts-are) (subst (λ (l : List LeafModel). length l < 2 ^ 32) same few))
+
+pub trie-claimed : (t : TrieModel) (claims : Claims) (node : Node) → IsOfTree t → All (λ leaf. IsSome leaf.label) t.leaves → length t.leaves < 2 ^ 32
+    → AreClaimsOf (outline_of t.nodes) claims node → IsClaimed t.version t.leaves (outline_of t.nodes) claims node
+trie-claimed t claims node of labelled few are = record { are = are; certified = trie-certified t of labelled node are.node_is few }
 
 -- the leaves of each node of a tree have labels
 labelled-leaves : (t : Tree) (n q : ℕ) → IsLabelled t → All HasLabel (leaves_of t n q)

@@ -3,13 +3,12 @@ pub mod Certified
 pub mod Entered
 pub mod Shortest
 pub mod Outline
-pub mod Walk
 pub mod Kept
 pub mod Claiming
-pub mod Row
-pub mod Sketch
-pub mod Sketching
 pub mod Listing
 pub mod MadeLines
-pub mod Pricing
 pub mod Compacting
+pub mod Stretched
+pub mod Areas
+pub mod Built
+pub mod Building

@@ -7,8 +7,8 @@ use pmap_text::{Entry, LabelId};
 use prefix_keys::Block;
 use std::alloc::AllocError;
 
-// Whether the label is one of these.
-fn has_label(labels: &[LabelId], id: LabelId) -> bool
+/// Whether the label is one of these.
+pub fn has_label(labels: &[LabelId], id: LabelId) -> bool
     ensures { result ≡ list_any (λ label. id.0 == label.0) labels.now }
 {
     labels.iter().any(|label| id.0 == label.0)

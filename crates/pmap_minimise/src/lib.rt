@@ -19,7 +19,9 @@
 //! alone, `certificate_text` the text of the certificate, and `compact_text` that of the certificate compacted.
 #![tactic(auto)]
 
-mod ahead;
+mod area;
+mod building;
+mod built;
 mod certifying;
 mod claim_list;
 mod claiming;
@@ -28,11 +30,9 @@ mod entering;
 mod listing;
 mod minimal;
 mod outline;
-mod pricing;
 mod set_list;
 mod sets;
-mod sketch;
-mod sketching;
 mod stack;
+mod stretched;
 
 pub use minimal::{Minimal, certificate_text, compact_text, minimise, shortest};

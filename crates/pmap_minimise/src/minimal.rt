@@ -14,11 +14,11 @@ ghost use Rattle.pmap_cert.specs.MinimalPair.{IsMinimalPair};
 ghost use Rattle.label_trie.specs.TrieModel.{IsSettledLeaf, IsUndivided};
 ghost use Rattle.pmap_minimise.specs.Shortest.{list_with};
 
+use crate::building::built;
 use crate::certifying::{certified, push_lines};
 use crate::claiming::claimed;
 use crate::compacting::compacted;
 use crate::listing::listed;
-use crate::sketching::sketched;
 use label_trie::Trie;
 use pmap_cert::{Certificate, Format, minimal_pair_is_accepted, push_head, write_cert};
 use pmap_text::{Entries, Entry, MapText, Name, PrefixList};
@@ -83,8 +83,8 @@ pub fn shortest(alloc: Global, map: &MapText) -> Result<PrefixList, AllocError>
     // For their laws: a minimal pair is accepted, and the table's labels are distinct.
     minimal_pair_is_accepted();
     let _labels = map.labels.len();
-    let sketch = sketched(alloc, map)?;
-    let items = listed(alloc, &sketch, map.version)?;
+    let built = built(alloc, map)?;
+    let items = listed(alloc, &built, map.version)?;
     list_with(alloc, map, items)
 }
 
@@ -116,8 +116,8 @@ pub fn compact_text(alloc: Global, map: &MapText) -> Result<Vec<u8>, AllocError>
 {
     // For its law: the table's labels are distinct.
     let _labels = map.labels.len();
-    let sketch = sketched(alloc, map)?;
-    let root = compacted(alloc, &sketch)?;
+    let built = built(alloc, map)?;
+    let root = compacted(alloc, &built)?;
     let labels = map.labels.copy()?;
     let certificate = Certificate::of_format(Format::Two, map.version, labels, root);
     write_cert(alloc, &certificate)

@@ -1,5 +1,5 @@
 //! Sets of labels, as slices with their numbers in rising order.
-ghost use Rattle.std.specs.Prelude.{◌≡◌, ◌^◌, ◌++◌, ◌↔◌, [], IfOk, IsTrue, OnOk};
+ghost use Rattle.std.specs.Prelude.{◌≡◌, ◌^◌, ◌++◌, IfOk, OnOk};
 ghost use Rattle.pmap_cert.specs.CertificateForm.{IsRising};
 ghost use Rattle.pmap_minimise.specs.Numbers.{IsExactSet, IsUnion, common_numbers, numbers_of};
 
@@ -96,27 +96,4 @@ pub fn exact_set(
         return Ok((all, true));
     }
     Ok((shared, false))
-}
-
-/// Whether no label is in both sets.
-pub fn are_apart(low: &[LabelId], high: &[LabelId]) -> bool
-    requires low { IsRising (2 ^ 32) 0 (numbers_of low.now) }
-    requires high { IsRising (2 ^ 32) 0 (numbers_of high.now) }
-    ensures { IsTrue result ↔ (common_numbers (numbers_of low.now) (numbers_of high.now) ≡ []) }
-{
-    let mut lower = low;
-    let mut higher = high;
-    while let Some((x, lower_rest)) = lower.split_first() {
-        let Some((y, higher_rest)) = higher.split_first() else {
-            return true;
-        };
-        if x.0 < y.0 {
-            lower = lower_rest;
-        } else if y.0 < x.0 {
-            higher = higher_rest;
-        } else {
-            return false;
-        }
-    }
-    true
 }

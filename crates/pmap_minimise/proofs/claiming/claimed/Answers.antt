@@ -2,7 +2,7 @@ use Rattle.std.proofs.Common.{◌-◌, arith}
 use Rattle.pmap_minimise.specs.Outline.{outline_of}
 use Rattle.pmap_minimise.specs.declared.claim_list.Claims.{Claims}
 use Rattle.pmap_minimise.proofs.Claimed.{claims-end, claims-root, claims-step, sets-ready, waiting-ready}
-use Rattle.pmap_minimise.proofs.Listed.{trie-claimed}
+use Rattle.pmap_minimise.proofs.Planned.{trie-claimed}
 use Rattle.pmap_minimise.proofs.Planned.{outline-length, trie-outline}
 use Rattle.pmap_minimise.proofs.claiming.claimed.Goals as goal
 

@@ -1,35 +1,32 @@
-use Rattle.std.proofs.Common.{◌++◌, ◌∙◌, List, ap, length, subst, sym}
+use Rattle.std.proofs.Common.{◌≡◌, ◌++◌, ◌∙◌, ℕ, List, ap, arith, length, subst, sym}
 use Rattle.pmap_cert.specs.FormatReading.{DueLine}
 use Rattle.pmap_cert.specs.Node.{lines_of}
 use Rattle.pmap_cert.specs.Placing.{IsCompactNode}
-use Rattle.pmap_minimise.specs.Pricing.{IsPricedAt}
-use Rattle.pmap_minimise.specs.declared.pricing.Price.{Price}
+use Rattle.pmap_minimise.specs.Built.{IsAt}
 use Rattle.pmap_minimise.proofs.compacting.compacted.Goals as goal
 
-pub push_compact-requires-clause-kept : goal.push_compact-requires-clause-kept
-push_compact-requires-clause-kept c = c.requires.3.kept
+pub push_node-requires-clause-kept : goal.push_node-requires-clause-kept
+push_node-requires-clause-kept c = c.requires.3.kept
 
-pub push_compact-requires-clause-stands : goal.push_compact-requires-clause-stands
-push_compact-requires-clause-stands c =
-    let s = c.args.sketch.now in
-    let node = c.requires.2 in
-    let end = length s.marks.items in
-    (node, end, subst (λ (l : List Price). IsPricedAt s l node 0 end) (sym c.as_slice.ensures.value) (c.in_ok-prices.ensures c.requires.0 c.requires.1 node c.requires.3))
+pub push_node-requires-clause-stands : goal.push_node-requires-clause-stands
+push_node-requires-clause-stands c =
+    let b = c.args.built.now in
+    let is = c.requires.3 in
+    let same_len : length b.lines.items ≡ c.len.result = omega (arith, c.len.ensures, b.lines.ok) in
+    record { compact = is.compact; node = c.requires.2; from = 0; at = subst (λ (n : ℕ). IsAt b is.compact c.requires.2 0 n) same_len is.at }
 
 pub new-requires : goal.new-requires
 new-requires c =
-    let s = c.args.sketch.now in
-    let node = c.requires.2 in
-    let end = length s.marks.items in
-    let placed = subst (λ (l : List Price). IsPricedAt s l node 0 end) (sym c.as_slice.ensures.value) (c.in_ok-prices.ensures c.requires.0 c.requires.1 node c.requires.3) in
-    let done = c.in_ok-push_compact.ensures node end placed in
-    record { node = done.compact; is = done.lines ∙ ap (λ (ls : List DueLine). ls ++ lines_of done.compact) c.new-out.ensures }
+    let b = c.args.built.now in
+    let is = c.requires.3 in
+    let same_len : length b.lines.items ≡ c.len.result = omega (arith, c.len.ensures, b.lines.ok) in
+    let done = c.in_ok-push_node.ensures is.compact c.requires.2 0 (subst (λ (n : ℕ). IsAt b is.compact c.requires.2 0 n) same_len is.at) in
+    record { node = is.compact; is = done.lines_are ∙ ap (λ (ls : List DueLine). ls ++ lines_of is.compact) c.new-out.ensures }
 
 pub returns : goal.returns
-returns c version leaves node sketch =
-    let s = c.args.sketch.now in
-    let end = length s.marks.items in
-    let placed = subst (λ (l : List Price). IsPricedAt s l node 0 end) (sym c.as_slice.ensures.value) (c.in_ok-prices.ensures version leaves node sketch) in
-    let done = c.in_ok-push_compact.ensures node end placed in
-    let same = c.new.ensures done.compact (done.lines ∙ ap (λ (ls : List DueLine). ls ++ lines_of done.compact) c.new-out.ensures) in
-    subst (IsCompactNode node) (sym same) done.is
+returns c version leaves node is =
+    let b = c.args.built.now in
+    let same_len : length b.lines.items ≡ c.len.result = omega (arith, c.len.ensures, b.lines.ok) in
+    let done = c.in_ok-push_node.ensures is.compact node 0 (subst (λ (n : ℕ). IsAt b is.compact node 0 n) same_len is.at) in
+    let same = c.new.ensures is.compact (done.lines_are ∙ ap (λ (ls : List DueLine). ls ++ lines_of is.compact) c.new-out.ensures) in
+    subst (IsCompactNode node) (sym same) is.compact_is

@@ -1,12 +1,12 @@
 use Rattle.std.proofs.Common.{◌≡◌, ◌-◌, ◌∷◌, ◌∙◌, ◌==◌, ◌++◌, [], suc, Bool, List, ap, arith}
 use Rattle.std.proofs.lemmas.List.{append_assoc}
-use Rattle.pmap_minimise.specs.Compacting.{way_to}
-use Rattle.pmap_minimise.specs.Sketch.{digit}
+use Rattle.pmap_minimise.specs.Built.{way_to}
+use Rattle.pmap_minimise.specs.Built.{digit}
 use Rattle.pmap_minimise.proofs.compacting.push_way.Goals as goal
 
 pub loop-place-preserved : goal.loop-place-preserved
 loop-place-preserved c =
-    let value = c.args.lone.now.value in
+    let value = c.args.chain.now.end in
     let place = c.loop-place.place - 1 in
     let next : suc place ≡ c.loop-place.place = omega arith in
     ap (λ (bs : List Bool). bs ++ way_to value place) c.in_ok-push.ensures.items

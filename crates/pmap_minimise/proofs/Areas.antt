@@ -1,0 +1,571 @@
+-- Blocks of addresses with the stretches that have their ends, and the certificate's node for one.
+use Rattle.std.proofs.Common.{◌≡◌, ◌≢◌, ℕ, zero, suc, ◌+◌, ◌-◌, ◌*◌, ◌/◌, ◌%◌, ◌^◌, ◌<◌, ◌≤◌, inl, inr, ◌∙◌, ◌==◌, Bool, true, false, cond, List, [], ◌∷◌, Option, Some, None, IsSome, option_map, length, refl, sym, ap, subst, arith}
+use Rattle.std.proofs.lemmas.Bool.{cases_lt, cond-false, cond-true, cond_above, cond_below, eq-eqb, eqb-true, ne_eqb}
+use Rattle.std.proofs.Math.Nat.{pow-suc}
+use Rattle.std.proofs.lemmas.Nat.{pow_pos}
+use Rattle.std.proofs.lemmas.Option.{none-some, same_Some}
+use Rattle.std.specs.Option.{option_or}
+use Rattle.std.specs.Prelude.{◌⊎◌}
+use Rattle.prefix_keys.specs.Block.{block_number, first_of, last_of}
+use Rattle.prefix_keys.specs.Version.{width_of}
+use Rattle.prefix_keys.specs.declared.version.Version.{Version}
+use Rattle.prefix_keys.proofs.Quotients.{above_first, below_end, quotient_is}
+use Rattle.pmap_text.specs.Stretches.{HasStretch, label_seen}
+use Rattle.pmap_minimise.specs.Stretched.{AreStretches, HasEveryAddress, HoldsAddress, StretchesModel, first_at, label_at, last_at}
+use Rattle.pmap_text.specs.declared.label.LabelId.{LabelId}
+use Rattle.pmap_text.specs.declared.statement.Statement.{Statement}
+use Rattle.pmap_cert.specs.CertificateForm.{IsRising}
+use Rattle.pmap_cert.specs.Node.{Inner, Leaf, Node, cost_of, label_of, set_of}
+use Rattle.pmap_cert.specs.Placing.{IsShort, bits_down, end_down, is_leaf, side_below}
+use Rattle.label_trie.specs.Layers.{IsBlock, IsMapOf, parted_sum}
+use Rattle.label_trie.specs.Nodes.{encode, leaf_node}
+use Rattle.label_trie.specs.Tree.{Fits, Fork, IsLabelled, Tip, Tree, leaf_count}
+use Rattle.label_trie.proofs.Grown.{IsSplit, block_some, is_split, leaf_added}
+use Rattle.pmap_minimise.specs.Areas.{AreFew, AreHalvesOf, HasLabelledHalves, HasNoSide, IsArea, IsMade, IsRun, IsRunTo, IsStep, IsStop, StepsHigh, StepsLow, IsTreeOf, number_at, own_label}
+use Rattle.pmap_minimise.specs.Built.{cost_above, digit, node_over, set_above, way_node, way_to}
+use Rattle.pmap_minimise.specs.Numbers.{IsExact}
+use Rattle.pmap_minimise.specs.Outline.{IsNodeFor, plan_of}
+use Rattle.pmap_minimise.specs.declared.area.Area.{Area}
+use Rattle.pmap_minimise.proofs.Ways.{above-rising, down-high, down-low, down-none, way-cost, way-high, way-low, way-set}
+
+-- The stretches in their order.
+module _ (s : StretchesModel) (every : HasEveryAddress s) where
+  pub last-next : (i : ℕ) → i + 1 < length s.firsts → last_at s i + 1 ≡ first_at s (i + 1)
+  last-next i more =
+      let last : last_at s i ≡ first_at s (i + 1) - 1 = sym (cond_below (i + 1) (length s.firsts) (first_at s (i + 1) - 1) (2 ^ width_of s.version - 1) more) in
+      let rises = every.rising i (i + 1) (omega arith) more in
+      omega arith
+
+  first-most : (i j : ℕ) → i ≤ j → j < length s.firsts → first_at s i ≤ first_at s j
+  first-most i j most inside =
+      elim (cases_lt i j) [
+        | inl less ↦ let rises = every.rising i j less inside in omega arith
+        | inr least ↦ let same : i ≡ j = omega arith in subst (λ (k : ℕ). first_at s i ≤ first_at s k) same (omega arith)
+      ]
+
+  -- a later stretch begins after an earlier one
+  pub after-last : (i j : ℕ) → i < j → j < length s.firsts → last_at s i < first_at s j
+  after-last i j less inside =
+      let next = last-next i (omega arith) in
+      let most = first-most (i + 1) j (omega arith) inside in
+      omega arith
+
+  -- one stretch alone has an address
+  pub one-index : (a i j : ℕ) → HoldsAddress s a i → HoldsAddress s a j → i ≡ j
+  one-index a i j first second =
+      elim (cases_lt i j) [
+        | inl less ↦ let after = after-last i j less second.index in absurd (omega (arith, first.to, second.from))
+        | inr least ↦
+            elim (cases_lt j i) [
+              | inl less ↦ let after = after-last j i less first.index in absurd (omega (arith, second.to, first.from))
+              | inr most ↦ omega arith
+            ]
+      ]
+
+  pub stretch-some : (i : ℕ) → i < length s.firsts → first_at s i ≤ last_at s i
+  stretch-some i inside =
+      elim (cases_lt (i + 1) (length s.firsts)) [
+        | inl more ↦ let next = last-next i more in let rises = every.rising i (i + 1) (omega arith) more in omega arith
+        | inr end ↦
+            let last : last_at s i ≡ 2 ^ width_of s.version - 1 = sym (cond_above (i + 1) (length s.firsts) (first_at s (i + 1) - 1) (2 ^ width_of s.version - 1) (2 ^ width_of s.version - 1) end refl) in
+            let within = every.within i inside in
+            omega arith
+      ]
+
+  -- a later address is in no earlier stretch
+  pub index-most : (a b i j : ℕ) → a ≤ b → HoldsAddress s a i → HoldsAddress s b j → i ≤ j
+  index-most a b i j most first second =
+      elim (cases_lt j i) [
+        | inl less ↦ let after = after-last j i less first.index in absurd (omega (arith, second.to, first.from))
+        | inr least ↦ least
+      ]
+
+  -- the stretch of the next address
+  pub next-stretch : (a i : ℕ) → HoldsAddress s a i → a + 1 < 2 ^ width_of s.version → last_at s i ≡ a → HoldsAddress s (a + 1) (i + 1)
+  next-stretch a i holds below last =
+      elim (cases_lt (i + 1) (length s.firsts)) [
+        | inl more ↦
+            let next = last-next i more in
+            let some = stretch-some (i + 1) more in
+            record { index = more; from = omega arith; to = omega arith }
+        | inr end ↦
+            let most : last_at s i ≡ 2 ^ width_of s.version - 1 = sym (cond_above (i + 1) (length s.firsts) (first_at s (i + 1) - 1) (2 ^ width_of s.version - 1) (2 ^ width_of s.version - 1) end refl) in
+            absurd (omega arith)
+      ]
+
+  pub same-stretch : (a i : ℕ) → HoldsAddress s a i → (last_at s i ≡ a → ⊥) → HoldsAddress s (a + 1) i
+  same-stretch a i holds other =
+      let from = holds.from in
+      let to = holds.to in
+      record { index = holds.index; from = omega arith; to = omega (arith, other) }
+
+-- the halves of a block are determined
+same-area : (a b : Area) → a.first ≡ b.first → a.last ≡ b.last → a.len ≡ b.len → a.from ≡ b.from → a.to ≡ b.to → a ≡ b
+same-area a b first last len from to = λ i. record { first = first i; last = last i; len = len i; from = from i; to = to i }
+
+same-ends : (s : StretchesModel) (every : HasEveryAddress s) (a b : Area) → IsArea s a → IsArea s b → a.first ≡ b.first → a.last ≡ b.last → a.len ≡ b.len → a ≡ b
+same-ends s every a b is is' first last len =
+    same-area a b first last len
+    (one-index s every b.first a.from b.from (subst (λ (x : ℕ). HoldsAddress s x a.from) first is.start) is'.start)
+    (one-index s every b.last a.to b.to (subst (λ (x : ℕ). HoldsAddress s x a.to) last is.end) is'.end)
+
+pub record AreSameHalves (low high low' high' : Area) : Type 0 where
+  pub low_is : low ≡ low'
+  pub high_is : high ≡ high'
+
+pub same-halves : (s : StretchesModel) (a low high low' high' : Area) → AreHalvesOf s a low high → AreHalvesOf s a low' high' → AreSameHalves low high low' high'
+same-halves s a low high low' high' are are' =
+    let every = are.low_area.few.stretches.every in
+    record {
+      low_is = same-ends s every low low' are.low_area are'.low_area (are.low_first ∙ sym are'.low_first) (are.low_last ∙ sym are'.low_last) (are.low_len ∙ sym are'.low_len);
+      high_is = same-ends s every high high' are.high_area are'.high_area (are.high_first ∙ sym are'.high_first) (are.high_last ∙ sym are'.high_last) (are.high_len ∙ sym are'.high_len);
+    }
+
+-- the own label of a block
+pub own-none : (s : StretchesModel) (a : Area) → a.from < a.to → own_label s a ≡ None
+own-none s a less = cond-false (a.from == a.to) (option_map (λ (id : LabelId). id.0) (label_at s a.from)) None (ne_eqb a.from a.to (λ same. absurd (omega arith)))
+
+pub own-is : (s : StretchesModel) (a : Area) → a.from ≡ a.to → own_label s a ≡ option_map (λ (id : LabelId). id.0) (label_at s a.from)
+own-is s a same = cond-true (a.from == a.to) (option_map (λ (id : LabelId). id.0) (label_at s a.from)) None (eq-eqb a.from a.to same)
+
+-- a block that has one is in one stretch
+pub own-single : (s : StretchesModel) (a : Area) (n : ℕ) → a.from ≤ a.to → own_label s a ≡ Some n → a.from ≡ a.to
+own-single s a n ordered own =
+    elim (cases_lt a.from a.to) [
+      | inl less ↦ absurd (none-some n (sym (own-none s a less) ∙ own))
+      | inr most ↦ omega arith
+    ]
+
+-- A block with addresses of two stretches.
+module _ (s : StretchesModel) (a : Area) (is : IsArea s a) where
+  abbrev W : ℕ
+  W = width_of s.version
+
+  abbrev q : ℕ
+  q = number_at s a
+
+  module _ (divided : a.from < a.to) where
+    beyond : last_at s a.from < a.last
+    beyond =
+        let after = after-last s is.few.stretches.every a.from a.to divided is.end.index in
+        let from = is.end.from in
+        omega arith
+
+    pub area-split : (ss : List Statement) (default : Option LabelId) → AreStretches ss default s → IsSplit W a.len a.first a.last ss
+    area-split ss default are =
+        is_split s.version a.len a.first a.last (first_at s a.from) (last_at s a.from) ss default (label_at s a.from) (are.each a.from is.start.index)
+        is.within is.block is.start.from is.start.to beyond
+
+    abbrev middle : ℕ
+    middle = a.first + (a.last - a.first) / 2
+
+    module _ (low high : Area) (low_first : low.first ≡ a.first) (low_last : low.last ≡ middle) (high_first : high.first ≡ middle + 1) (high_last : high.last ≡ a.last)
+        (low_len : low.len ≡ a.len + 1) (high_len : high.len ≡ a.len + 1) (low_from : low.from ≡ a.from) (high_to : high.to ≡ a.to)
+        (low_end : HoldsAddress s low.last low.to) (high_start : HoldsAddress s high.first high.from) (low_order : low.from ≤ low.to) (high_order : high.from ≤ high.to) where
+      own_split : IsSplit W a.len a.first a.last is.few.statements
+      own_split = area-split is.few.statements is.few.default is.few.stretches
+
+      low_block : IsBlock W low.first low.last low.len (number_at s low)
+      low_block = rw (low_first, low_last, low_len) own_split.halves.low
+
+      high_block : IsBlock W high.first high.last high.len (number_at s high)
+      high_block = rw (high_first, high_last, high_len) own_split.halves.high
+
+      low_few : AreFew s low
+      low_few =
+          let sum = own_split.sum in
+          let few = is.few.few in
+          record {
+            statements = is.few.statements;
+            default = is.few.default;
+            labelled = is.few.labelled;
+            stretches = is.few.stretches;
+            few = rw (low_first, low_len) (omega arith);
+          }
+
+      high_few : AreFew s high
+      high_few =
+          let sum = own_split.sum in
+          let few = is.few.few in
+          record {
+            statements = is.few.statements;
+            default = is.few.default;
+            labelled = is.few.labelled;
+            stretches = is.few.stretches;
+            few = rw (high_first, high_len) (omega arith);
+          }
+
+      pub are-halves : AreHalvesOf s a low high
+      are-halves =
+          let below = own_split.below in
+          record {
+            divided = divided;
+            low_area = record {
+              within = omega arith;
+              block = low_block;
+              ordered = low_order;
+              start = rw (low_first, low_from) is.start;
+              end = low_end;
+              few = low_few;
+            };
+            high_area = record {
+              within = omega arith;
+              block = high_block;
+              ordered = high_order;
+              start = high_start;
+              end = rw (high_last, high_to) is.end;
+              few = high_few;
+            };
+            low_first = low_first;
+            low_last = low_last;
+            high_first = high_first;
+            high_last = high_last;
+            low_len = low_len;
+            high_len = high_len;
+            low_number = rw (low_first, low_len) own_split.halves.low_number;
+            high_number = rw (high_first, high_len) own_split.halves.high_number;
+          }
+
+-- The trees of blocks.
+
+-- a leaf's node is no other tree's
+one-leaf : (tree : Tree) (label : Option LabelId) → encode 0 tree ≡ leaf_node label ∷ [] → tree ≡ Tip label
+one-leaf (Tip None) None is = refl
+one-leaf (Tip None) (Some y) is = absurd cc
+one-leaf (Tip (Some x)) None is = absurd cc
+one-leaf (Tip (Some x)) (Some y) is = let same : x ≡ y = cc in ap (λ (id : LabelId). Tip (Some id)) same
+one-leaf (Fork low high) None is = absurd cc
+one-leaf (Fork low high) (Some y) is = absurd cc
+
+-- a block within a stretch has the tree of a leaf with its label
+leaf-tree : (v : Version) (ss : List Statement) (default : Option LabelId) (n q first last : ℕ) (label : Option LabelId) → HasStretch (width_of v) ss default first last label
+    → n ≤ width_of v → first ≤ first_of (width_of v) n q → last_of (width_of v) n q ≤ last → IsTreeOf v ss default n q (Tip label)
+leaf-tree v ss default n q first last label has within from to =
+    let added = leaf_added (width_of v) n q ss default [] first last label has within (block_some (width_of v) n q) from to in
+    let tree_is : added.tree ≡ Tip label = one-leaf added.tree label (sym added.nodes) in
+    subst (IsTreeOf v ss default n q) tree_is (record { fits = added.fits; labelled = added.labelled; few = added.few })
+
+-- and one that goes on beyond a stretch that of its halves' trees
+fork-tree : (v : Version) (ss : List Statement) (default : Option LabelId) (n first last : ℕ) (low high : Tree) → IsSplit (width_of v) n first last ss
+    → IsTreeOf v ss default (suc n) (2 * block_number (width_of v) n first) low → IsTreeOf v ss default (suc n) (2 * block_number (width_of v) n first + 1) high
+    → IsTreeOf v ss default n (block_number (width_of v) n first) (Fork low high)
+fork-tree v ss default n first last low high split lower upper =
+    let next : n + 1 ≡ suc n = omega arith in
+    let sum = rw (split.halves.low_number, split.halves.high_number, next) at split.sum in
+    let below = split.below in
+    record {
+      fits = λ m is. (
+        omega (arith, is.width, below),
+        rw (is.width, is.mappings) (split.unsettled m.table m.fallback),
+        lower.fits m is,
+        upper.fits m is,
+      );
+      labelled = λ some. (lower.labelled some, upper.labelled some);
+      few = omega (arith, lower.few, upper.few, sum);
+    }
+
+-- a label by its number
+abbrev id_of : ℕ → LabelId
+id_of n = record { 0 = n }
+
+own-label-is : (label : Option LabelId) (n : ℕ) → option_map (λ (id : LabelId). id.0) label ≡ Some n → label ≡ Some (id_of n)
+own-label-is None n is = absurd (none-some n is)
+own-label-is (Some id) n is = ap (λ (k : ℕ). Some (id_of k)) (same_Some id.0 n is)
+
+-- the node for a block in one stretch
+pub leaf-made : (s : StretchesModel) (a : Area) (n : ℕ) → IsArea s a → own_label s a ≡ Some n → n < 2 ^ 32 → IsMade s a (Tip (Some (id_of n))) (Leaf n)
+unfolding plan_of
+leaf-made s a n is own fits =
+    let single = own-single s a n is.ordered own in
+    let label : label_at s a.from ≡ Some (id_of n) = own-label-is (label_at s a.from) n (sym (own-is s a single) ∙ own) in
+    let first_is = is.block.first_is in
+    let last_is = is.block.last_is in
+    let from = is.start.from in
+    let to = is.end.to in
+    record {
+      tree_of = λ ss default are.
+          subst (λ (l : Option LabelId). IsTreeOf s.version ss default a.len (number_at s a) (Tip l)) label
+          (leaf-tree s.version ss default a.len (number_at s a) (first_at s a.from) (last_at s a.from) (label_at s a.from) (are.each a.from is.start.index) is.within
+          (omega arith) (subst (λ (k : ℕ). last_of (width_of s.version) a.len (number_at s a) ≤ last_at s k) (sym single) (omega arith)));
+      node_is = refl;
+      rising = (omega arith, fits, tt);
+      own = sym own;
+      single = λ same. (n, refl);
+      halves = λ less. absurd (omega arith);
+    }
+
+-- the node for a block by those for its halves
+pub halves-made : (s : StretchesModel) (a low high : Area) (low_tree high_tree : Tree) (lower upper : Node) (cost : ℕ) (set : List ℕ) → IsArea s a → AreHalvesOf s a low high
+    → IsMade s low low_tree lower → IsMade s high high_tree upper → IsExact lower upper cost set → IsRising (2 ^ 32) 0 set
+    → IsMade s a (Fork low_tree high_tree) (Inner cost set lower upper)
+unfolding plan_of
+halves-made s a low high low_tree high_tree lower upper cost set is are low_made high_made exact rising = record {
+  tree_of = λ ss default stretches.
+      let next : a.len + 1 ≡ suc a.len = omega arith in
+      let low_is : IsTreeOf s.version ss default (suc a.len) (2 * number_at s a) low_tree =
+      subst (λ (n : ℕ). IsTreeOf s.version ss default n (2 * number_at s a) low_tree) (are.low_len ∙ next)
+      (subst (λ (n : ℕ). IsTreeOf s.version ss default low.len n low_tree) are.low_number (low_made.tree_of ss default stretches)) in
+      let high_is : IsTreeOf s.version ss default (suc a.len) (2 * number_at s a + 1) high_tree =
+      subst (λ (n : ℕ). IsTreeOf s.version ss default n (2 * number_at s a + 1) high_tree) (are.high_len ∙ next)
+      (subst (λ (n : ℕ). IsTreeOf s.version ss default high.len n high_tree) are.high_number (high_made.tree_of ss default stretches)) in
+      fork-tree s.version ss default a.len a.first a.last low_tree high_tree (area-split s a is are.divided ss default stretches) low_is high_is;
+  node_is = record {
+    low = lower;
+    high = upper;
+    low_is = low_made.node_is;
+    high_is = high_made.node_is;
+    joined = (refl, refl, exact);
+  };
+  rising = rising;
+  own = sym (own-none s a are.divided);
+  single = λ same. let divided = are.divided in absurd (omega arith);
+  halves = λ less. record {
+    cost = cost;
+    set = set;
+    lower = lower;
+    upper = upper;
+    node_is = refl;
+    low = low;
+    high = high;
+    halves = are;
+    low_label = low_made.own;
+    high_label = high_made.own;
+  };
+}
+
+-- where no step goes on from a block, no run goes down its node
+pub made-stop : (s : StretchesModel) (side : ℕ) (a : Area) (tree : Tree) (node : Node) → IsMade s a tree node → IsStop s side a
+    → (bits_down side node ≡ []) × (end_down side node ≡ node)
+made-stop s side a tree node made (inl single) =
+    let leaf = made.single single in
+    (ap (bits_down side) leaf.1, ap (end_down side) leaf.1 ∙ sym leaf.1)
+made-stop s side a tree node made (inr none) =
+    let own = made.halves none.halves.divided in
+    let same = same-halves s a own.low own.high none.low none.high own.halves none.halves in
+    let low : label_of own.lower ≡ own_label s none.low = own.low_label ∙ ap (own_label s) same.low_is in
+    let high : label_of own.upper ≡ own_label s none.high = own.high_label ∙ ap (own_label s) same.high_is in
+    let down = down-none side own.cost own.set own.lower own.upper (λ e. none.low_other (sym low ∙ e)) (λ e. none.high_other (sym high ∙ e)) in
+    (ap (bits_down side) own.node_is ∙ down.0, ap (end_down side) own.node_is ∙ down.1 ∙ sym own.node_is)
+
+-- Runs.
+
+-- the tree of the node from which a run leads
+abbrev tree_over : ℕ → Tree → Tree → Tree
+tree_over zero way side = Fork way side
+tree_over (suc digit) way side = Fork side way
+
+abbrev pub way_tree : ℕ → ℕ → ℕ → Tree → Tree
+way_tree side value zero end = end
+way_tree side value (suc bits) end = tree_over (digit value bits) (way_tree side value bits end) (Tip (Some (id_of side)))
+
+-- the block at the end is in that from which the run leads
+pub record IsBelow (s : StretchesModel) (count : ℕ) (a end : Area) : Type 0 where
+  pub len : end.len ≡ a.len + count
+  pub number : number_at s end / 2 ^ count ≡ number_at s a
+  pub area : IsArea s end
+  pub smaller : end.last - end.first + count ≤ a.last - a.first
+
+halved : (e P q d : ℕ) → 0 < P → d < 2 → e / P ≡ 2 * q + d → e / (2 * P) ≡ q
+halved e P q d some small is =
+    let low = above_first e P (2 * q + d) some is in
+    let high = below_end e P (2 * q + d) some is in
+    quotient_is e (2 * P) q (omega arith) (lower q d P low) (upper q d P small high)
+  where
+    lower : (q d P : ℕ) → (2 * q + d) * P ≤ e → q * (2 * P) ≤ e
+    lower q d P le = let split : (2 * q + d) * P ≡ q * (2 * P) + d * P = omega arith in omega arith
+
+    upper : (q d P : ℕ) → d < 2 → e < (2 * q + d + 1) * P → e < (q + 1) * (2 * P)
+    upper q zero P small less = omega arith
+    upper q (suc zero) P small less = omega arith
+    upper q (suc (suc d)) P small less = absurd (omega arith)
+
+-- the digit by which a step goes
+pub record IsStepBy (s : StretchesModel) (side : ℕ) (a chosen : Area) : Type 0 where
+  pub digit : ℕ
+  pub small : digit < 2
+  pub number : number_at s chosen ≡ 2 * number_at s a + digit
+  pub len : chosen.len ≡ a.len + 1
+  pub area : IsArea s chosen
+  pub divided : a.from < a.to
+  pub smaller : chosen.last - chosen.first + 1 ≤ a.last - a.first
+
+pub block-order : (s : StretchesModel) (a : Area) → IsArea s a → a.first ≤ a.last
+block-order s a is =
+    let some = block_some (width_of s.version) a.len (number_at s a) in
+    let first_is = is.block.first_is in
+    let last_is = is.block.last_is in
+    omega arith
+
+pub step-by : (s : StretchesModel) (side : ℕ) (a chosen : Area) → IsStep s side a chosen → IsStepBy s side a chosen
+step-by s side a chosen step = by step.choice
+  where
+    halves : AreHalvesOf s a step.low step.high
+    halves = step.halves
+
+    by : StepsHigh s side step.low step.high chosen ⊎ StepsLow s side step.low step.high chosen → IsStepBy s side a chosen
+    by (inl high) =
+        subst (IsStepBy s side a) (sym high.chosen_is)
+        (let order = block-order s step.high halves.high_area in
+        let lower = block-order s step.low halves.low_area in
+        let low_first = halves.low_first in
+        let low_last = halves.low_last in
+        let high_first = halves.high_first in
+        let high_last = halves.high_last in
+        record {
+          digit = 1;
+          small = omega arith;
+          number = halves.high_number;
+          len = halves.high_len;
+          area = halves.high_area;
+          divided = halves.divided;
+          smaller = omega arith;
+        })
+    by (inr low) =
+        subst (IsStepBy s side a) (sym low.chosen_is)
+        (let order = block-order s step.high halves.high_area in
+        let lower = block-order s step.low halves.low_area in
+        let low_first = halves.low_first in
+        let low_last = halves.low_last in
+        let high_first = halves.high_first in
+        let high_last = halves.high_last in
+        record {
+          digit = 0;
+          small = omega arith;
+          number = halves.low_number ∙ omega arith;
+          len = halves.low_len;
+          area = halves.low_area;
+          divided = halves.divided;
+          smaller = omega arith;
+        })
+
+pub run-below : (s : StretchesModel) (side count : ℕ) (a end : Area) → IsArea s a → IsRun s side count a end → IsBelow s count a end
+run-below s side zero a end is run =
+    subst (IsBelow s zero a) (sym run) (record { len = omega arith; number = omega arith; area = is; smaller = omega arith })
+run-below s side (suc count) a end is run =
+    let step = step-by s side a run.chosen run.step in
+    let rest = run-below s side count run.chosen end step.area run.rest in
+    let len = rest.len in
+    let len' = step.len in
+    let smaller = rest.smaller in
+    let smaller' = step.smaller in
+    let twice : 2 ^ suc count ≡ 2 * 2 ^ count = pow-suc 2 count ∙ omega arith in
+    record {
+      len = omega arith;
+      number = ap (λ (p : ℕ). number_at s end / p) twice
+          ∙ halved (number_at s end) (2 ^ count) (number_at s a) step.digit (pow_pos count) step.small (rest.number ∙ step.number);
+      area = rest.area;
+      smaller = omega arith;
+    }
+
+-- the last digits of the end's number are those of the steps
+step-digit : (s : StretchesModel) (side count : ℕ) (a chosen end : Area) → (step : IsStepBy s side a chosen) → IsBelow s count chosen end → digit (number_at s end) count ≡ step.digit
+step-digit s side count a chosen end step below =
+    let number : number_at s end / 2 ^ count ≡ 2 * number_at s a + step.digit = below.number ∙ step.number in
+    let small = step.small in
+    omega arith
+
+-- the node from which a run leads to that of its end
+module _ (s : StretchesModel) (side : ℕ) (fits : side < 2 ^ 32) (end : Area) (tree : Tree) (node : Node) (made : IsMade s end tree node) where
+  abbrev value : ℕ
+  value = number_at s end
+
+  abbrev node_of : ℕ → Node
+  node_of count = way_node side value count node
+
+  abbrev tree_of : ℕ → Tree
+  tree_of count = way_tree side value count tree
+
+  way-rising : (count : ℕ) → IsRising (2 ^ 32) 0 (set_of (node_of count))
+  way-rising zero = made.rising
+  way-rising (suc count) = subst (IsRising (2 ^ 32) 0) (sym (way-set side fits node made.rising value (suc count))) (above-rising side fits node made.rising count)
+
+  over-made : (a : Area) (count d : ℕ) → IsMade s a (tree_over d (tree_of count) (Tip (Some (id_of side))))
+      (node_over d (cost_above side node) (set_above side (set_of node) count) (node_of count) (Leaf side)) → digit value count ≡ d
+      → IsMade s a (tree_of (suc count)) (node_of (suc count))
+  over-made a count d is same =
+      subst (λ (k : ℕ). IsMade s a (tree_over k (tree_of count) (Tip (Some (id_of side))))
+      (node_over k (cost_above side node) (set_above side (set_of node) count) (node_of count) (Leaf side))) (sym same) is
+
+  pub run-made : (count : ℕ) (a : Area) → IsArea s a → IsRun s side count a end → IsMade s a (tree_of count) (node_of count)
+  run-made zero a is run = subst (λ (b : Area). IsMade s b tree node) run made
+  run-made (suc count) a is run =
+      let step = step-by s side a run.chosen run.step in
+      by (run-below s side count run.chosen end step.area run.rest) (run-made count run.chosen step.area run.rest) run.step.choice
+    where
+      halves : AreHalvesOf s a run.step.low run.step.high
+      halves = run.step.halves
+
+      by : IsBelow s count run.chosen end → IsMade s run.chosen (tree_of count) (node_of count)
+          → StepsHigh s side run.step.low run.step.high run.chosen ⊎ StepsLow s side run.step.low run.step.high run.chosen → IsMade s a (tree_of (suc count)) (node_of (suc count))
+      by below rest (inl high) =
+          let number = below.number ∙ ap (number_at s) high.chosen_is ∙ halves.high_number in
+          over-made a count 1
+          (halves-made s a run.step.low run.step.high (Tip (Some (id_of side))) (tree_of count) (Leaf side) (node_of count) (cost_above side node) (set_above side (set_of node) count) is halves
+          (leaf-made s run.step.low side halves.low_area high.side_is fits)
+          (subst (λ (b : Area). IsMade s b (tree_of count) (node_of count)) high.chosen_is rest)
+          (way-high side fits node made.rising value count) (above-rising side fits node made.rising count))
+          (omega arith)
+      by below rest (inr low) =
+          let number = below.number ∙ ap (number_at s) low.chosen_is ∙ halves.low_number in
+          over-made a count 0
+          (halves-made s a run.step.low run.step.high (tree_of count) (Tip (Some (id_of side))) (node_of count) (Leaf side) (cost_above side node) (set_above side (set_of node) count) is halves
+          (subst (λ (b : Area). IsMade s b (tree_of count) (node_of count)) low.chosen_is rest)
+          (leaf-made s run.step.high side halves.high_area low.side_is fits)
+          (way-low side fits node made.rising value count) (above-rising side fits node made.rising count))
+          (omega arith)
+
+  -- the run goes down that node
+  pub record GoesDown (count : ℕ) : Type 0 where
+    pub bits : bits_down side (node_of count) ≡ way_to value count
+    pub last : end_down side (node_of count) ≡ node
+
+  over-down : (count d : ℕ) → digit value count ≡ d → d < 2 → (d ≡ 0 → label_of (node_of count) ≡ Some side → ⊥) → GoesDown count → GoesDown (suc count)
+  over-down count zero same small other down =
+      let low = down-low side (cost_above side node) (set_above side (set_of node) count) (node_of count) (other refl) in
+      by 0 same low.0 low.1
+    where
+      by : (d : ℕ) → digit value count ≡ d
+          → bits_down side (node_over d (cost_above side node) (set_above side (set_of node) count) (node_of count) (Leaf side)) ≡ (d == 1) ∷ bits_down side (node_of count)
+          → end_down side (node_over d (cost_above side node) (set_above side (set_of node) count) (node_of count) (Leaf side)) ≡ end_down side (node_of count) → GoesDown (suc count)
+      by d same bits end = record {
+        bits = ap (λ (k : ℕ). bits_down side (node_over k (cost_above side node) (set_above side (set_of node) count) (node_of count) (Leaf side))) same
+            ∙ bits ∙ (λ i. (sym same i == 1) ∷ down.bits i);
+        last = ap (λ (k : ℕ). end_down side (node_over k (cost_above side node) (set_above side (set_of node) count) (node_of count) (Leaf side))) same ∙ end ∙ down.last;
+      }
+  over-down count (suc zero) same small other down =
+      let high = down-high side (cost_above side node) (set_above side (set_of node) count) (node_of count) in
+      record {
+        bits = ap (λ (k : ℕ). bits_down side (node_over k (cost_above side node) (set_above side (set_of node) count) (node_of count) (Leaf side))) same
+            ∙ high.0 ∙ (λ i. (sym same i == 1) ∷ down.bits i);
+        last = ap (λ (k : ℕ). end_down side (node_over k (cost_above side node) (set_above side (set_of node) count) (node_of count) (Leaf side))) same ∙ high.1 ∙ down.last;
+      }
+  over-down count (suc (suc d)) same small other down = absurd (omega arith)
+
+  -- where it doesn't go on from the end
+  module _ (stop : IsStop s side end) where
+    stop-down : GoesDown zero
+    stop-down = let none = made-stop s side end tree node made stop in record { bits = none.0; last = none.1 }
+
+    pub run-down : (count : ℕ) (a : Area) → IsArea s a → IsRun s side count a end → GoesDown count
+    run-down zero a is run = stop-down
+    run-down (suc count) a is run =
+        let step = step-by s side a run.chosen run.step in
+        by (run-below s side count run.chosen end step.area run.rest) (run-made count run.chosen step.area run.rest) (run-down count run.chosen step.area run.rest) run.step.choice
+      where
+        by : IsBelow s count run.chosen end → IsMade s run.chosen (tree_of count) (node_of count) → GoesDown count
+            → StepsHigh s side run.step.low run.step.high run.chosen ⊎ StepsLow s side run.step.low run.step.high run.chosen → GoesDown (suc count)
+        by below chosen rest (inl high) =
+            let number = below.number ∙ ap (number_at s) high.chosen_is ∙ run.step.halves.high_number in
+            over-down count 1 (omega arith) (omega arith) (λ none. absurd (omega arith)) rest
+        by below chosen rest (inr low) =
+            let number = below.number ∙ ap (number_at s) low.chosen_is ∙ run.step.halves.low_number in
+            over-down count 0 (omega arith) (omega arith) (λ none e. low.other (ap (own_label s) (sym low.chosen_is) ∙ sym chosen.own ∙ e)) rest
+
+-- the side label of a run is that below its first node
+pub made-side : (s : StretchesModel) (a low high : Area) (tree : Tree) (node : Node) → IsMade s a tree node → AreHalvesOf s a low high
+    → side_below node ≡ option_or (own_label s low) (own_label s high)
+made-side s a low high tree node made are =
+    let own = made.halves are.divided in
+    let same = same-halves s a own.low own.high low high own.halves are in
+    ap side_below own.node_is
+    ∙ (λ i. option_or ((own.low_label ∙ ap (own_label s) same.low_is) i) ((own.high_label ∙ ap (own_label s) same.high_is) i))

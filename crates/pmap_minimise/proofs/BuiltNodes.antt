@@ -1,0 +1,482 @@
+-- What a block adds to the compact certificate that is built.
+use Rattle.std.proofs.Common.{◌≡◌, ℕ, zero, suc, ◌+◌, ◌-◌, ◌*◌, ◌/◌, ◌^◌, ◌<◌, ◌≤◌, ◌==◌, ◌∙◌, inl, inr, Bool, true, false, cond, List, [], ◌∷◌, ◌++◌, Option, Some, None, IsSome, length, slice_get, get_or, refl, sym, ap, subst, arith, length-append}
+use Rattle.std.specs.Option.{option_or}
+use Rattle.std.specs.Prelude.{◌⊎◌}
+use Rattle.std.proofs.Math.Seq.{get_or-append_seam}
+use Rattle.std.proofs.Math.Nat.{mul-le-mul_right, zero-div}
+use Rattle.std.proofs.lemmas.List.{append-nil, append_assoc, get_or_append_left}
+use Rattle.std.proofs.lemmas.Option.{get_or_from_slice_get, none-some, same_Some, slice_get-get_or, slice_get_within}
+use Rattle.std.proofs.lemmas.Bool.{cond_above}
+use Rattle.prefix_keys.specs.Block.{block_number, first_of, last_of}
+use Rattle.prefix_keys.specs.Version.{width_of}
+use Rattle.prefix_keys.specs.declared.version.Version.{Version}
+use Rattle.prefix_keys.specs.declared.version.Version.TheVariants.{V4, V6}
+use Rattle.pmap_text.specs.MapText.{map_of}
+use Rattle.pmap_text.specs.Stretches.{label_seen}
+use Rattle.pmap_text.specs.declared.statement.Statement.{Statement}
+use Rattle.pmap_text.specs.declared.label.LabelId.{LabelId}
+use Rattle.pmap_text.specs.declared.map_text.MapText.{MapText}
+use Rattle.pmap_minimise.specs.Stretched.{AreStretches, StretchesModel, first_at, label_at, last_at}
+use Rattle.pmap_cert.specs.Node.{Chain, Inner, Leaf, Node, cost_of, label_of, set_of}
+use Rattle.pmap_cert.specs.Placing.{IsCompactNode, bits_down, end_down, side_below}
+use Rattle.pmap_cert.proofs.CompactNodes.{compact-chain, compact-leaf, compact-none, compact-short}
+use Rattle.label_trie.specs.Layers.{parted_sum}
+use Rattle.label_trie.specs.Tree.{Fork, Tip, Tree, leaf_count, leaves_of}
+use Rattle.label_trie.proofs.Built.{map_layers, parted_most}
+use Rattle.label_trie.proofs.NodeLeaves.{fits_HasRoom, leaves_settled, leaves_undivided, length_leaves}
+use Rattle.pmap_minimise.specs.Areas.{AreHalvesOf, IsArea, IsMade, IsRun, IsLongRun, IsRunTo, IsShortRun, IsStop, IsTreeOf, StepsHigh, StepsLow, number_at, own_label}
+use Rattle.pmap_minimise.specs.Building.{AddsChain, AddsInner, AddsLeaf}
+use Rattle.pmap_minimise.specs.Built.{HasGrown, IsAt, IsBuilt, IsBuiltFor, IsBuiltOf, cost_above, way_node, way_to}
+use Rattle.pmap_minimise.specs.Claiming.{exact_cost}
+use Rattle.pmap_minimise.specs.Kept.{AreSetsKept, HaveGrown, IsHeldAs, IsRisingSet, IsSetOf, larger_in, set_by}
+use Rattle.pmap_minimise.specs.Numbers.{IsExact, IsExactSet, common_numbers, has_number}
+use Rattle.pmap_minimise.specs.Outline.{plan_of, tips}
+use Rattle.pmap_minimise.specs.declared.area.Area.{Area}
+use Rattle.pmap_minimise.specs.declared.built.Built.{Built}
+use Rattle.pmap_minimise.specs.declared.built.Chain.{Chain as ChainParts}
+use Rattle.pmap_minimise.specs.declared.built.Claim.{Claim}
+use Rattle.pmap_minimise.specs.declared.built.Line.{Line}
+use Rattle.pmap_minimise.specs.declared.built.Line.TheVariants.{Chain as ChainLine, Inner as InnerLine, Leaf as LeafLine}
+use Rattle.pmap_minimise.specs.declared.set_list.SetId.{SetId}
+use Rattle.pmap_minimise.specs.declared.set_list.Sets.{Sets}
+use Rattle.pmap_minimise.proofs.Areas.{AreSameHalves, area-split, halves-made, leaf-made, made-side, made-stop, run-below, run-down, run-made, same-halves, stretch-some, way_tree}
+use Rattle.pmap_minimise.proofs.Claimed.{exact-by, half-grown}
+use Rattle.pmap_minimise.proofs.Outlined.{node-cost}
+use Rattle.pmap_minimise.proofs.Planned.{tree-certified}
+use Rattle.pmap_minimise.proofs.Texts.{exact-rising}
+use Rattle.pmap_minimise.proofs.Ways.{down-high, down-low, way-cost, way-set}
+
+width-most : (v : Version) → width_of v ≤ 128
+width-most V4 = omega arith
+width-most V6 = omega arith
+
+-- what is listed goes on to be
+listed-on : {X : Type 0} (xs more : List X) (n : ℕ) (x : X) → slice_get xs n ≡ Some x → slice_get (xs ++ more) n ≡ Some x
+listed-on {X} xs more n x is =
+    let inside = slice_get_within xs n x is in
+    let long : n < length (xs ++ more) = omega (arith, length-append xs more) in
+    slice_get-get_or (xs ++ more) n x long
+    ∙ ap (λ (y : X). Some y) (get_or_append_left xs more x n inside ∙ get_or_from_slice_get xs n x x is)
+
+listed-grown : {X : Type 0} (xs more new : List X) (n : ℕ) (x : X) → new ≡ xs ++ more → slice_get xs n ≡ Some x → slice_get new n ≡ Some x
+listed-grown {X} xs more new n x is listed = subst (λ (l : List X). slice_get l n ≡ Some x) (sym is) (listed-on xs more n x listed)
+
+listed-last : {X : Type 0} (front whole : List X) (x : X) → whole ≡ front ++ x ∷ [] → slice_get whole (length front) ≡ Some x
+listed-last {X} front whole x is =
+    let long : length front < length whole = omega (arith, ap length is, length-append front (x ∷ [])) in
+    slice_get-get_or whole (length front) x long
+    ∙ ap (λ (y : X). Some y) (ap (λ (l : List X). get_or l (length front) x) is ∙ get_or-append_seam front x [] x)
+
+set-on : (old new : Sets) (id : SetId) (labels : List ℕ) → HaveGrown old new → IsSetOf (larger_in old) id labels → IsSetOf (larger_in new) id labels
+set-on old new id labels grown is = subst (λ (l : List (List ℕ)). IsSetOf l id labels) (sym grown.larger) (half-grown (larger_in old) grown.more id labels is)
+
+sets-again : (old middle new : Sets) → HaveGrown old middle → HaveGrown middle new → HaveGrown old new
+sets-again old middle new first second = record {
+  kept = second.kept;
+  more = first.more ++ second.more;
+  larger = second.larger ∙ ap (λ (l : List (List ℕ)). l ++ second.more) first.larger ∙ append_assoc (larger_in old) first.more second.more;
+}
+
+sets-same : (old : Sets) → AreSetsKept old → HaveGrown old old
+sets-same old kept = record { kept = kept; more = []; larger = sym (append-nil (larger_in old)) }
+
+grown-again : (old middle new : Built) → HasGrown old middle → HasGrown middle new → HasGrown old new
+grown-again old middle new first second = record {
+  sets = sets-again old.sets middle.sets new.sets first.sets second.sets;
+  lines = first.lines ++ second.lines;
+  lines_are = second.lines_are ∙ ap (λ (l : List Line). l ++ second.lines) first.lines_are ∙ append_assoc old.lines.items first.lines second.lines;
+  chains = first.chains ++ second.chains;
+  chains_are = second.chains_are ∙ ap (λ (l : List ChainParts). l ++ second.chains) first.chains_are ∙ append_assoc old.chains.items first.chains second.chains;
+}
+
+-- the lines are those of a node when others have come
+at-grown : (old new : Built) (compact node : Node) (from to : ℕ) → HasGrown old new → IsAt old compact node from to → IsAt new compact node from to
+at-grown old new (Leaf label) node from to grown is = record {
+  line_is = listed-grown old.lines.items grown.lines new.lines.items from _ grown.lines_are is.line_is;
+  to_is = is.to_is;
+  node_is = is.node_is;
+}
+at-grown old new (Inner cost set lower upper) node from to grown is = record {
+  id = is.id;
+  middle = is.middle;
+  last = is.last;
+  lower = is.lower;
+  upper = is.upper;
+  high = at-grown old new upper is.upper from is.middle grown is.high;
+  low = at-grown old new lower is.lower is.middle is.last grown is.low;
+  line_is = listed-grown old.lines.items grown.lines new.lines.items is.last _ grown.lines_are is.line_is;
+  to_is = is.to_is;
+  set_is = set-on old.sets new.sets is.id set grown.sets is.set_is;
+  node_is = is.node_is;
+}
+at-grown old new (Chain cost set bits side end) node from to grown is = record {
+  number = is.number;
+  chain = is.chain;
+  last = is.last;
+  end = is.end;
+  below = at-grown old new end is.end from is.last grown is.below;
+  line_is = listed-grown old.lines.items grown.lines new.lines.items is.last _ grown.lines_are is.line_is;
+  to_is = is.to_is;
+  listed = listed-grown old.chains.items grown.chains new.chains.items is.number is.chain grown.chains_are is.listed;
+  cost_is = is.cost_is;
+  set_is = is.set_is;
+  side_is = is.side_is;
+  bits_are = is.bits_are;
+  long = is.long;
+  few = is.few;
+  node_is = is.node_is;
+}
+
+pushed-length : {X : Type 0} (front whole : List X) (x : X) → whole ≡ front ++ x ∷ [] → length whole ≡ length front + 1
+pushed-length front whole x is = omega (arith, ap length is, length-append front (x ∷ []))
+
+-- a block in one stretch
+pub leaf-built : (s : StretchesModel) (a : Area) (id : LabelId) (old new : Built) (claim : Claim) → IsArea s a → own_label s a ≡ Some id.0 → AddsLeaf id old new claim
+    → IsBuilt s a old new claim
+leaf-built s a id old new claim is own adds = record {
+  tree = Tip (Some (record { 0 = id.0 }));
+  node = Leaf id.0;
+  compact = Leaf id.0;
+  made = leaf-made s a id.0 is own adds.fits;
+  compact_is = compact-leaf id.0;
+  at = record {
+    line_is = listed-last old.lines.items new.lines.items (LeafLine id) adds.lines_are;
+    to_is = pushed-length old.lines.items new.lines.items (LeafLine id) adds.lines_are;
+    node_is = refl;
+  };
+  grown = record {
+    sets = adds.held.grown;
+    lines = LeafLine id ∷ [];
+    lines_are = adds.lines_are;
+    chains = [];
+    chains_are = adds.chains_are ∙ sym (append-nil old.chains.items);
+  };
+  cost_is = adds.cost_is;
+  set_is = adds.held.stands;
+}
+
+-- what the node of a block costs is below its leaves
+tips-leaves : (tree : Tree) → tips (plan_of tree) ≡ leaf_count tree
+unfolding plan_of
+tips-leaves (Tip None) = refl
+tips-leaves (Tip (Some id)) = refl
+tips-leaves (Fork low high) = omega (arith, tips-leaves low, tips-leaves high)
+
+pub made-cost : (s : StretchesModel) (a : Area) (tree : Tree) (node : Node) (is : IsArea s a) → IsMade s a tree node
+    → cost_of node ≤ parted_sum (width_of s.version) (width_of s.version - a.len) a.len (number_at s a) is.few.statements
+made-cost s a tree node is made =
+    let few = (made.tree_of is.few.statements is.few.default is.few.stretches).few in
+    omega (arith, few, node-cost (plan_of tree) node made.node_is, tips-leaves tree)
+
+-- a node with a label is a leaf
+leaf-of : (node : Node) (n : ℕ) → label_of node ≡ Some n → node ≡ Leaf n
+leaf-of (Leaf m) n is = ap Leaf (same_Some m n is)
+leaf-of (Inner cost set lower upper) n is = absurd (none-some n is)
+leaf-of (Chain cost set bits side end) n is = absurd (none-some n is)
+
+-- The node of two halves.
+module _ (s : StretchesModel) (a low high : Area) (low_tree high_tree : Tree) (lower upper : Node) (are : AreHalvesOf s a low high)
+    (low_made : IsMade s low low_tree lower) (high_made : IsMade s high high_tree upper) where
+  -- its run has no more than one bit where that of its block has
+  short-run : (tree : Tree) (cost : ℕ) (set : List ℕ) (side : ℕ) (end : Area) → IsMade s a tree (Inner cost set lower upper) → (run : IsRunTo s side a end) → run.count < 2
+      → length (bits_down side (Inner cost set lower upper)) < 2
+  short-run tree cost set side end made run few = by run.count few run.run
+    where
+      whole : Node
+      whole = Inner cost set lower upper
+
+      by : (count : ℕ) → count < 2 → IsRun s side count a end → length (bits_down side whole) < 2
+      by zero few is =
+          let none = made-stop s side a tree whole made (subst (IsStop s side) is run.stop) in
+          let count = ap length none.0 in
+          omega arith
+      by (suc zero) few is = go is.step.choice
+        where
+          own : (x : Area) → is.chosen ≡ x → IsStop s side x
+          own x same = subst (IsStop s side) (is.rest ∙ same) run.stop
+
+          same : AreSameHalves is.step.low is.step.high low high
+          same = same-halves s a is.step.low is.step.high low high is.step.halves are
+
+          go : StepsHigh s side is.step.low is.step.high is.chosen ⊎ StepsLow s side is.step.low is.step.high is.chosen → length (bits_down side whole) < 2
+          go (inl up) =
+              let none = made-stop s side high high_tree upper high_made (own high (up.chosen_is ∙ same.high_is)) in
+              let leaf : lower ≡ Leaf side = leaf-of lower side (low_made.own ∙ ap (own_label s) (sym same.low_is) ∙ up.side_is) in
+              let bits = ap (λ (n : Node). bits_down side (Inner cost set n upper)) leaf ∙ (down-high side cost set upper).0 in
+              let count = ap length bits in
+              let count' = ap length none.0 in
+              omega arith
+          go (inr down) =
+              let none = made-stop s side low low_tree lower low_made (own low (down.chosen_is ∙ same.low_is)) in
+              let leaf : upper ≡ Leaf side = leaf-of upper side (high_made.own ∙ ap (own_label s) (sym same.high_is) ∙ down.side_is) in
+              let bits = ap (λ (n : Node). bits_down side (Inner cost set lower n)) leaf
+              ∙ (down-low side cost set lower (λ e. down.other (ap (own_label s) same.low_is ∙ sym low_made.own ∙ e))).0 in
+              let count = ap length bits in
+              let count' = ap length none.0 in
+              omega arith
+      by (suc (suc count)) few is = absurd (omega arith)
+
+way-length : (value bits : ℕ) → length (way_to value bits) ≡ bits
+way-length value zero = refl
+way-length value (suc bits) = let rest = way-length value bits in omega arith
+
+-- a block of two halves, whose run is short
+pub halves-built : (s : StretchesModel) (a low high : Area) (old middle after new : Built) (above below claim : Claim) → IsArea s a → AreHalvesOf s a low high
+    → IsShortRun s a (option_or (own_label s low) (own_label s high)) → IsBuilt s high old middle above → IsBuilt s low middle after below → AddsInner below above after new claim
+    → IsBuilt s a old new claim
+halves-built s a low high old middle after new above below claim is are short upper lower adds =
+    let grown : HasGrown after new = record {
+      sets = adds.held.held.grown;
+      lines = InnerLine claim.cost claim.set ∷ [];
+      lines_are = adds.lines_are;
+      chains = [];
+      chains_are = adds.chains_are ∙ sym (append-nil after.chains.items);
+    } in
+    let before : HasGrown middle new = grown-again middle after new lower.grown grown in
+    let low_is = lower.set_is.set_is in
+    let high_is = (set-on middle.sets after.sets above.set (set_of upper.node) lower.grown.sets upper.set_is).set_is in
+    let exact : IsExactSet (set_of lower.node) (set_of upper.node) adds.apart adds.held.set =
+    subst (λ (l : List ℕ). IsExactSet l (set_of upper.node) adds.apart adds.held.set) low_is
+    (subst (λ (l : List ℕ). IsExactSet (set_by (larger_in after.sets) below.set) l adds.apart adds.held.set) high_is adds.held.exact) in
+    let by = exact-by (cost_of lower.node) (cost_of upper.node) (set_of lower.node) (set_of upper.node) (common_numbers (set_of lower.node) (set_of upper.node)) adds.held.set adds.apart exact in
+    let cost : claim.cost ≡ exact_cost (cost_of lower.node) (cost_of upper.node) adds.apart =
+    adds.cost_is ∙ (λ i. exact_cost (lower.cost_is i) (upper.cost_is i) adds.apart) in
+    let exact' : IsExact lower.node upper.node claim.cost adds.held.set = subst (λ (k : ℕ). IsExact lower.node upper.node k adds.held.set) (sym cost) by in
+    let made = halves-made s a low high lower.tree upper.tree lower.node upper.node claim.cost adds.held.set is are lower.made upper.made exact'
+    (exact-rising (2 ^ 32) (cost_of lower.node) (cost_of upper.node) (set_of lower.node) (set_of upper.node) claim.cost adds.held.set lower.made.rising upper.made.rising exact') in
+    let labels : option_or (label_of lower.node) (label_of upper.node) ≡ option_or (own_label s low) (own_label s high) =
+    (λ i. option_or (lower.made.own i) (upper.made.own i)) in
+    record {
+      tree = Fork lower.tree upper.tree;
+      node = Inner claim.cost adds.held.set lower.node upper.node;
+      compact = Inner claim.cost adds.held.set lower.compact upper.compact;
+      made = made;
+      compact_is = go made adds.held.set (option_or (own_label s low) (own_label s high)) labels short;
+      at = record {
+        id = claim.set;
+        middle = length middle.lines.items;
+        last = length after.lines.items;
+        lower = lower.node;
+        upper = upper.node;
+        high = at-grown middle new upper.compact upper.node (length old.lines.items) (length middle.lines.items) before upper.at;
+        low = at-grown after new lower.compact lower.node (length middle.lines.items) (length after.lines.items) grown lower.at;
+        line_is = listed-last after.lines.items new.lines.items (InnerLine claim.cost claim.set) adds.lines_are;
+        to_is = pushed-length after.lines.items new.lines.items (InnerLine claim.cost claim.set) adds.lines_are;
+        set_is = adds.held.held.stands;
+        node_is = refl;
+      };
+      grown = grown-again old middle new upper.grown before;
+      cost_is = refl;
+      set_is = adds.held.held.stands;
+    }
+  where
+    go : {tree : Tree} → IsMade s a tree (Inner claim.cost adds.held.set lower.node upper.node) → (set : List ℕ) → (o : Option ℕ)
+        → option_or (label_of lower.node) (label_of upper.node) ≡ o → IsShortRun s a o
+        → IsCompactNode (Inner claim.cost adds.held.set lower.node upper.node) (Inner claim.cost adds.held.set lower.compact upper.compact)
+    go made set None e short = compact-none claim.cost adds.held.set lower.node upper.node lower.compact upper.compact lower.compact_is upper.compact_is e
+    go {tree} made set (Some side) e short =
+        compact-short claim.cost adds.held.set lower.node upper.node lower.compact upper.compact lower.compact_is upper.compact_is side e
+        (short-run s a low high lower.tree upper.tree lower.node upper.node are lower.made upper.made tree claim.cost adds.held.set side short.0 made short.1 short.2)
+
+-- a block from which a run of two bits or more leads to its end
+pub chain-built : (s : StretchesModel) (a low high end : Area) (old middle new : Built) (below claim : Claim) (side : LabelId) (number bits : ℕ) → IsArea s a → AreHalvesOf s a low high
+    → IsLongRun s a low high side.0 end → bits ≡ end.len - a.len → number ≡ number_at s end
+    → IsBuilt s end old middle below → AddsChain below side number bits middle new claim → IsBuilt s a old new claim
+chain-built s a low high end old middle new below claim side number bits_are is are long_run bits_same number_is built adds =
+    let run = long_run.run in
+    let label = long_run.side_is in
+    let bits : ℕ = bits_are in
+    let len = run.len in
+    let more = long_run.long in
+    let bits_is : bits ≡ run.count = omega (arith, bits_same) in
+    let long : 2 ≤ bits = omega arith in
+    let grown : HasGrown middle new = record {
+      sets = adds.held.grown;
+      lines = ChainLine (length middle.chains.items) ∷ [];
+      lines_are = adds.lines_are;
+      chains = record { cost = claim.cost; side = side; end = number; bits = bits } ∷ [];
+      chains_are = adds.chains_are;
+    } in
+    let value : ℕ = number_at s end in
+    let count : ℕ = run.count in
+    let node : Node = way_node side.0 value count built.node in
+    let made = run-made s side.0 adds.fits end built.tree built.node built.made count a is run.run in
+    let down = run-down s side.0 adds.fits end built.tree built.node built.made run.stop count a is run.run in
+    let parts = made.halves are.divided in
+    let some : 1 ≤ count = omega arith in
+    let below_set = built.set_is.set_is in
+    let cost : claim.cost ≡ cost_of node =
+    adds.cost_is ∙ (λ i. cond (has_number (below_set i) side.0) (built.cost_is i) (built.cost_is i + 1)) ∙ sym (first-cost count some) in
+    let set : set_of node ≡ side.0 ∷ [] = first-set count (omega arith) in
+    let parts_cost : cost_of node ≡ parts.cost = ap cost_of parts.node_is in
+    let parts_set : set_of node ≡ parts.set = ap set_of parts.node_is in
+    let sides : option_or (label_of parts.lower) (label_of parts.upper) ≡ Some side.0 =
+    sym (ap side_below parts.node_is) ∙ made-side s a low high (way_tree side.0 value count built.tree) node made are ∙ label in
+    record {
+      tree = way_tree side.0 value count built.tree;
+      node = node;
+      compact = Chain parts.cost parts.set (way_to value count) side.0 built.compact;
+      made = made;
+      compact_is = subst (λ (n : Node). IsCompactNode n (Chain parts.cost parts.set (way_to value count) side.0 built.compact)) (sym parts.node_is)
+          (compact-chain parts.cost parts.set parts.lower parts.upper side.0 (way_to value count) built.node built.compact sides
+          (sym down.bits ∙ ap (bits_down side.0) parts.node_is) (sym down.last ∙ ap (end_down side.0) parts.node_is) (omega (arith, way-length value count)) built.compact_is);
+      at = record {
+        number = length middle.chains.items;
+        chain = record { cost = claim.cost; side = side; end = number; bits = bits };
+        last = length middle.lines.items;
+        end = built.node;
+        below = at-grown middle new built.compact built.node (length old.lines.items) (length middle.lines.items) grown built.at;
+        line_is = listed-last middle.lines.items new.lines.items (ChainLine (length middle.chains.items)) adds.lines_are;
+        to_is = pushed-length middle.lines.items new.lines.items (ChainLine (length middle.chains.items)) adds.lines_are;
+        listed = listed-last middle.chains.items new.chains.items (record { cost = claim.cost; side = side; end = number; bits = bits }) adds.chains_are;
+        cost_is = sym parts_cost ∙ sym cost;
+        set_is = sym parts_set ∙ set;
+        side_is = refl;
+        bits_are = λ i. way_to (sym number_is i) (sym bits_is i);
+        long = long;
+        few = let inside = run.area.within in let len = run.len in omega (arith, width-most s.version);
+        node_is = λ i. way_node side.0 (sym number_is i) (sym bits_is i) built.node;
+      };
+      grown = grown-again old middle new built.grown grown;
+      cost_is = cost;
+      set_is = subst (IsSetOf (larger_in new.sets) claim.set) (sym set) adds.held.stands;
+    }
+  where
+    first-cost : (count : ℕ) → 1 ≤ count → cost_of (way_node side.0 (number_at s end) count built.node) ≡ cost_above side.0 built.node
+    first-cost zero some = absurd (omega arith)
+    first-cost (suc count) some = way-cost side.0 adds.fits built.node built.made.rising (number_at s end) (suc count)
+
+    first-set : (count : ℕ) → 2 ≤ count → set_of (way_node side.0 (number_at s end) count built.node) ≡ side.0 ∷ []
+    first-set zero some = absurd (omega arith)
+    first-set (suc zero) some = absurd (omega arith)
+    first-set (suc (suc count)) some = way-set side.0 adds.fits built.node built.made.rising (number_at s end) (suc (suc count))
+
+-- what is built for the whole address space is the map's
+pub whole-built : (m : MapText) (s : StretchesModel) (a : Area) (old new : Built) (claim : Claim) → s.version ≡ m.version → AreStretches m.statements (Some m.default) s
+    → a.first ≡ 0 → a.len ≡ 0 → old.lines.items ≡ [] → IsBuilt s a old new claim → IsBuiltFor m new
+whole-built m s a old new claim version are first len none built =
+    let v = m.version in
+    let W = width_of v in
+    let all : W - 0 ≡ W = omega arith in
+    let number : block_number (width_of s.version) a.len a.first ≡ 0 = ap (λ (x : ℕ). block_number (width_of s.version) a.len x) first ∙ zero-div (2 ^ (width_of s.version - a.len)) in
+    let tree_of = built.made.tree_of m.statements (Some m.default) are in
+    let tree_is : IsTreeOf v m.statements (Some m.default) 0 0 built.tree =
+    subst (λ (x : Version). IsTreeOf x m.statements (Some m.default) 0 0 built.tree) version
+    (subst (λ (n : ℕ). IsTreeOf s.version m.statements (Some m.default) n 0 built.tree) len
+    (subst (λ (q : ℕ). IsTreeOf s.version m.statements (Some m.default) a.len q built.tree) number tree_of)) in
+    let layers = map_layers m m.statements refl in
+    let fits = tree_is.fits (map_of m) layers in
+    let labelled = tree_is.labelled refl in
+    let most = mul-le-mul_right (length m.statements) (width-most v) in
+    let few = rw all at tree_is.few in
+    record {
+      leaves = leaves_of built.tree 0 0;
+      node = built.node;
+      settled = leaves_settled (map_of m) built.tree fits labelled;
+      undivided = leaves_undivided (map_of m) built.tree fits labelled;
+      built = record {
+        certified =
+            tree-certified built.tree 0 0 W built.node labelled (fits_HasRoom (map_of m) built.tree 0 0 W (omega arith) fits) built.made.node_is
+            (omega (arith, length_leaves built.tree 0 0, few, parted_most W m.statements, most, m.within_limit));
+        kept = built.grown.sets.kept;
+        compact = built.compact;
+        compact_is = built.compact_is;
+        at = subst (λ (k : ℕ). IsAt new built.compact built.node k (length new.lines.items)) (ap length none) built.at;
+      };
+    }
+
+-- and the whole address space is a block of it
+pub whole-few : (m : MapText) → parted_sum (width_of m.version) (width_of m.version - 0) 0 0 m.statements + 1 < 2 ^ 32
+whole-few m =
+    let W = width_of m.version in
+    let all : W - 0 ≡ W = omega arith in
+    let most = mul-le-mul_right (length m.statements) (width-most m.version) in
+    rw all (omega (arith, parted_most W m.statements, most, m.within_limit))
+
+-- the label of a block in one stretch
+pub area-label : (s : StretchesModel) (a : Area) → IsArea s a → label_at s a.from ≡ None → ⊥
+area-label s a is none =
+    let stretch = is.few.stretches.each a.from is.start.index in
+    seen is.few.default stretch.top is.few.labelled (sym stretch.label_is ∙ none)
+  where
+    seen : (default : Option LabelId) (top : Option Statement) → IsSome default → label_seen default top ≡ None → ⊥
+    seen (Some id) None some e = absurd (none-some id (sym e))
+    seen None None some e = absurd cc
+    seen default (Some x) some e = absurd (none-some x.label (sym e))
+
+-- a run's end has fewer addresses
+pub end-smaller : (s : StretchesModel) (a low high end : Area) (side : ℕ) → IsArea s a → IsLongRun s a low high side end → end.last - end.first + 2 ≤ a.last - a.first
+end-smaller s a low high end side is long =
+    let below = run-below s side long.run.count a end is long.run.run in
+    let smaller = below.smaller in
+    let more = long.long in
+    omega arith
+
+-- the costs of two halves and one more can be counted
+pub both-cost : (s : StretchesModel) (a low high : Area) (low_tree high_tree : Tree) (lower upper : Node) (low_cost high_cost : ℕ) (is : IsArea s a) → AreHalvesOf s a low high
+    → IsMade s low low_tree lower → IsMade s high high_tree upper → low_cost ≡ cost_of lower → high_cost ≡ cost_of upper → low_cost + high_cost + 1 < 2 ^ 32
+both-cost s a low high low_tree high_tree lower upper low_cost high_cost is are low_made high_made low_is high_is =
+    let node = Inner 0 [] lower upper in
+    let ss = is.few.statements in
+    let default = is.few.default in
+    let stretches = is.few.stretches in
+    let low_few = (low_made.tree_of ss default stretches).few in
+    let high_few = (high_made.tree_of ss default stretches).few in
+    let W = width_of s.version in
+    let sum = (area-split s a is are.divided ss default stretches).sum in
+    let few = is.few.few in
+    let low_sum : parted_sum W (W - low.len) low.len (number_at s low) ss ≡ parted_sum W (W - (a.len + 1)) (a.len + 1) (block_number W (a.len + 1) a.first) ss =
+    (λ i. parted_sum W (W - are.low_len i) (are.low_len i) (block_number W (are.low_len i) (are.low_first i)) ss) in
+    let high_sum : parted_sum W (W - high.len) high.len (number_at s high) ss
+    ≡ parted_sum W (W - (a.len + 1)) (a.len + 1) (block_number W (a.len + 1) (a.first + (a.last - a.first) / 2 + 1)) ss =
+    (λ i. parted_sum W (W - are.high_len i) (are.high_len i) (block_number W (are.high_len i) (are.high_first i)) ss) in
+    omega (
+      arith,
+      low_few,
+      high_few,
+      sum,
+      low_sum,
+      high_sum,
+      few,
+      low_is,
+      high_is,
+      node-cost (plan_of low_tree) lower low_made.node_is,
+      tips-leaves low_tree,
+      node-cost (plan_of high_tree) upper high_made.node_is,
+      tips-leaves high_tree,
+    )
+
+-- the whole address space as a block
+pub whole-area : (m : MapText) (s : StretchesModel) (a : Area) → s.version ≡ m.version → AreStretches m.statements (Some m.default) s → a.first ≡ 0 → a.len ≡ 0 → a.from ≡ 0
+    → a.to + 1 ≡ length s.firsts → a.last ≡ last_at s a.to → IsArea s a
+whole-area m s a version are first len from to last =
+    let W = width_of s.version in
+    let every = are.every in
+    let zero = every.zero in
+    let some = every.some in
+    let all : last_at s a.to ≡ 2 ^ W - 1 = sym (cond_above (a.to + 1) (length s.firsts) (first_at s (a.to + 1) - 1) (2 ^ W - 1) (2 ^ W - 1) (omega arith) refl) in
+    let whole : W - a.len ≡ W = omega arith in
+    let number : number_at s a ≡ 0 = ap (λ (x : ℕ). block_number W a.len x) first ∙ zero-div (2 ^ (W - a.len)) in
+    let P : ℕ = 2 ^ (W - a.len) in
+    let Q : ℕ = 2 ^ W in
+    let begin : 0 ≡ 0 * P = omega arith in
+    let finish : Q - 1 ≡ (0 + 1) * Q - 1 = omega arith in
+    let begins : first_at s a.from ≡ 0 = ap (first_at s) from ∙ zero in
+    let inside : a.to < length s.firsts = omega arith in
+    let end = stretch-some s every a.to inside in
+    let start = stretch-some s every a.from (omega arith) in
+    let few : parted_sum W (W - a.len) a.len (number_at s a) m.statements + 1 < 2 ^ 32 =
+    subst (λ (k : ℕ). k + 1 < 2 ^ 32)
+    (sym ((λ i. parted_sum W (W - len i) (len i) (number i) m.statements) ∙ (λ i. parted_sum (width_of (version i)) (width_of (version i) - 0) 0 0 m.statements)))
+    (whole-few m) in
+    record {
+      within = omega arith;
+      block = record {
+        first_is = first ∙ begin ∙ sym (ap (λ (q : ℕ). first_of W a.len q) number);
+        last_is = last ∙ all ∙ finish ∙ ap (λ (h : ℕ). (0 + 1) * 2 ^ h - 1) (sym whole) ∙ sym (ap (λ (q : ℕ). last_of W a.len q) number);
+      };
+      ordered = omega arith;
+      start = record { index = omega arith; from = omega arith; to = omega arith };
+      end = record { index = inside; from = rw last end; to = rw last (omega arith) };
+      few = record { statements = m.statements; default = Some m.default; labelled = refl; stretches = are; few = few };
+    }

@@ -1,0 +1,191 @@
+-- The entries of a block from which a run leads down.
+use Rattle.std.proofs.Common.{◌≡◌, ℕ, zero, suc, ◌+◌, ◌-◌, ◌*◌, ◌<◌, ◌≤◌, ◌==◌, ◌||◌, ◌∙◌, Bool, true, false, cond, List, [], ◌∷◌, ◌++◌, Option, Some, None, map, get_or, slice_get, refl, sym, ap, subst, arith}
+use Rattle.std.specs.List.{list_any}
+use Rattle.std.proofs.lemmas.Bool.{eq-eqb, eqb-true}
+use Rattle.std.proofs.lemmas.Option.{get_or_from_slice_get, same_Some}
+use Rattle.prefix_keys.specs.Version.{width_of}
+use Rattle.prefix_keys.specs.declared.block.Block.{Block}
+use Rattle.pmap_text.specs.declared.entry.Entry.{Entry}
+use Rattle.pmap_text.specs.declared.label.LabelId.{LabelId}
+use Rattle.pmap_cert.specs.FormatReading.{ChainLine}
+use Rattle.pmap_cert.specs.Node.{Inner, Leaf, Node, lines_of, set_of}
+use Rattle.label_trie.specs.Leaf.{number_of}
+use Rattle.label_trie.specs.Parts.{IsHalf}
+use Rattle.pmap_minimise.specs.Built.{cost_above, digit, node_over, set_above, way_node, way_to, with_number}
+use Rattle.pmap_minimise.specs.Entered.{AddsEntries}
+use Rattle.pmap_minimise.specs.Listing.{IsDown}
+use Rattle.pmap_minimise.specs.Numbers.{IsOwn, IsOwnBy, IsSound, has_number, keeps, numbers_of}
+use Rattle.pmap_minimise.specs.declared.built.Built.{Built}
+use Rattle.pmap_minimise.specs.declared.built.Chain.{Chain as ChainParts}
+use Rattle.pmap_minimise.proofs.Compacted.{IsChainNode}
+use Rattle.pmap_minimise.proofs.Entered.{inner-adds, leaf-adds}
+use Rattle.pmap_minimise.proofs.Halves.{has-halves}
+use Rattle.pmap_minimise.proofs.Ways.{with-has}
+
+-- a set that has the label that is inherited adds nothing and hands that on
+keeps-own : (ids : List LabelId) (block : Block) (side : LabelId) (entries : List Entry) → keeps ids (Some side) ≡ true → IsOwn ids block (Some side) entries entries side
+keeps-own ids block side entries kept = subst (λ (b : Bool). IsOwnBy b ids block (Some side) entries entries side) (sym kept) (refl, refl)
+
+-- labels of a set that has the side's
+abbrev ids_of : List ℕ → List LabelId
+ids_of set = map (λ (n : ℕ). record { 0 = n }) set
+
+ids-numbers : (set : List ℕ) → numbers_of (ids_of set) ≡ set
+ids-numbers [] = refl
+ids-numbers (n ∷ ns) = ap (λ (l : List ℕ). n ∷ l) (ids-numbers ns)
+
+ids-keep : (set : List ℕ) (side : LabelId) → keeps (ids_of set) (Some side) ≡ has_number set side.0
+ids-keep [] side = refl
+ids-keep (n ∷ ns) side = ap (λ (b : Bool). (side.0 == n) || b) (ids-keep ns side)
+
+above-side : (side : ℕ) (set : List ℕ) (more : ℕ) → has_number (set_above side set more) side ≡ true
+above-side side set zero = by (has_number set side)
+  where
+    by : (t : Bool) → has_number (cond t (side ∷ []) (with_number side set)) side ≡ true
+    by true = ap (λ (b : Bool). b || false) (eq-eqb side side refl)
+    by false = with-has side set
+above-side side set (suc more) = ap (λ (b : Bool). b || false) (eq-eqb side side refl)
+
+module _ (side : LabelId) (last : Node) (value : ℕ) where
+  abbrev way : ℕ → Node
+  way bits = way_node side.0 value bits last
+
+  abbrev set_over : ℕ → List ℕ
+  set_over bits = set_above side.0 (set_of last) bits
+
+  side-adds : (block : Block) (entries : List Entry) → AddsEntries (Leaf side.0) block (Some side) entries entries
+  side-adds block entries =
+      leaf-adds side block (Some side) entries entries (side ∷ []) side refl
+      (keeps-own (side ∷ []) block side entries (ap (λ b. b || false) (eq-eqb side.0 side.0 refl)))
+
+  -- a block with host bits is two halves, one of them with the side's label
+  over-adds : (bits d : ℕ) (block half : Block) (inherited : Option LabelId) (old middle new : List Entry) (ids : List LabelId) → digit value bits ≡ d → d < 2 → IsHalf d block half
+      → AddsEntries (way bits) half (Some side) middle new → numbers_of ids ≡ set_over bits → IsOwn ids block inherited old middle side
+      → AddsEntries (way (suc bits)) block inherited old new
+  over-adds bits d block half inherited old middle new ids same small is rest numbers own =
+      subst (λ (k : ℕ). AddsEntries (node_over k (cost_above side.0 last) (set_over bits) (way bits) (Leaf side.0)) block inherited old new) (sym same) (by d small is)
+    where
+      short : block.len < width_of block.version
+      short =
+          let inside = half.len_in_range in
+          let len = is.len in
+          let width : width_of half.version ≡ width_of block.version = ap width_of is.version in
+          omega arith
+
+      by : (d : ℕ) → d < 2 → IsHalf d block half → AddsEntries (node_over d (cost_above side.0 last) (set_over bits) (way bits) (Leaf side.0)) block inherited old new
+      by zero small is =
+          let halves = has-halves block short in
+          inner-adds (Inner (cost_above side.0 last) (set_over bits) (way bits) (Leaf side.0)) (way bits) (Leaf side.0) block half halves.high inherited old middle new new ids side
+          (refl, refl) numbers own is halves.high_half rest (side-adds halves.high new)
+      by (suc zero) small is =
+          let halves = has-halves block short in
+          inner-adds (Inner (cost_above side.0 last) (set_over bits) (Leaf side.0) (way bits)) (Leaf side.0) (way bits) block halves.low half inherited old middle middle new ids side
+          (refl, refl) numbers own halves.low_half is (side-adds halves.low middle) rest
+      by (suc (suc d)) small is = absurd (omega arith)
+
+  digit-small : (bits : ℕ) → digit value bits < 2
+  digit-small bits = omega arith
+
+  -- where the side's label is inherited, the entries are those of the end
+  way-adds : (bits : ℕ) (block end : Block) (old new : List Entry) → IsDown value bits block end → AddsEntries last end (Some side) old new → AddsEntries (way bits) block (Some side) old new
+  way-adds zero block end old new down adds = subst (λ (b : Block). AddsEntries last b (Some side) old new) down adds
+  way-adds (suc bits) block end old new down adds =
+      over-adds bits (digit value bits) block down.half (Some side) old old new (ids_of (set_over bits)) refl (digit-small bits) down.is
+      (way-adds bits down.half end old new down.rest adds) (ids-numbers (set_over bits))
+      (keeps-own (ids_of (set_over bits)) block side old (ids-keep (set_over bits) side ∙ above-side side.0 (set_of last) bits))
+
+  -- a node with one label alone hands that on
+  one-own : (block : Block) (inherited : Option LabelId) (old new : List Entry) (handed : LabelId) → IsOwn (side ∷ []) block inherited old new handed → handed ≡ side
+  one-own block None old new handed own = sym (same_Some side handed own.1)
+  one-own block (Some above) old new handed own = by (above.0 == side.0) refl own
+    where
+      by : (b : Bool) → above.0 == side.0 ≡ b → IsOwnBy (b || false) (side ∷ []) block (Some above) old new handed → handed ≡ side
+      by true same own = sym (same_Some above handed own.1) ∙ (λ i. record { 0 = eqb-true above.0 side.0 same i })
+      by false same own = sym (same_Some side handed own.1)
+
+  -- the own entry of a chain's block, and then those of its end
+  pub chain-adds : (bits : ℕ) (block end : Block) (inherited : Option LabelId) (old middle new : List Entry) (handed : LabelId) → 2 ≤ bits → IsOwn (side ∷ []) block inherited old middle handed
+      → IsDown value bits block end → AddsEntries last end (Some handed) middle new → AddsEntries (way bits) block inherited old new
+  chain-adds zero block end inherited old middle new handed long own down adds = absurd (omega arith)
+  chain-adds (suc zero) block end inherited old middle new handed long own down adds = absurd (omega arith)
+  chain-adds (suc (suc bits)) block end inherited old middle new handed long own down adds =
+      let same = one-own block inherited old middle handed own in
+      over-adds (suc bits) (digit value (suc bits)) block down.half inherited old middle new (side ∷ []) refl (digit-small (suc bits)) down.is
+      (way-adds (suc bits) down.half end middle new down.rest (subst (λ (i : LabelId). AddsEntries last end (Some i) middle new) same adds)) refl
+      (subst (λ (i : LabelId). IsOwn (side ∷ []) block inherited old middle i) same own)
+
+-- what is left of a sound node's room at the end of a way
+pub record IsDeep (last : Node) (bits room : ℕ) : Type 0 where
+  pub left : ℕ
+  pub room_is : room ≡ left + bits
+  pub sound : IsSound last left
+
+over-sound : (d cost : ℕ) (set : List ℕ) (way side : Node) (room : ℕ) → IsSound (node_over d cost set way side) room → (left : ℕ) × (room ≡ suc left) × IsSound way left
+over-sound zero cost set way side zero sound = absurd sound
+over-sound (suc d) cost set way side zero sound = absurd sound
+over-sound zero cost set way side (suc room) sound = (room, refl, sound.1)
+over-sound (suc d) cost set way side (suc room) sound = (room, refl, sound.2)
+
+pub way-sound : (side value bits : ℕ) (last : Node) (room : ℕ) → IsSound (way_node side value bits last) room → IsDeep last bits room
+way-sound side value zero last room sound = record { left = room; room_is = omega arith; sound = sound }
+way-sound side value (suc bits) last room sound =
+    let first = over-sound (digit value bits) (cost_above side last) (set_above side (set_of last) bits) (way_node side value bits last) (Leaf side) room sound in
+    let rest = way-sound side value bits last first.0 first.2 in
+    let one = first.1 in
+    let more = rest.room_is in
+    record { left = rest.left; room_is = omega arith; sound = rest.sound }
+
+-- the block of a chain's end has host bits for the node there
+pub down-len : (value bits : ℕ) (block end : Block) → IsDown value bits block end → (end.version ≡ block.version) × (end.len ≡ block.len + bits)
+down-len value zero block end down = (ap (λ (b : Block). b.version) down, ap (λ (b : Block). b.len) down ∙ omega arith)
+down-len value (suc bits) block end down =
+    let rest = down-len value bits down.half end down.rest in
+    let len = rest.1 in
+    let len' = down.is.len in
+    (rest.0 ∙ down.is.version, omega arith)
+
+-- a chain's node where its number was read
+module _ (b : Built) (compact node : Node) (number from to : ℕ) (is : IsChainNode b compact node number from to) (read : ChainParts) (read_is : read ≡ get_or b.chains.items number read) where
+  pub read-chain : read ≡ is.chain.chain
+  read-chain =
+      let listed : slice_get b.chains.items number ≡ Some is.chain.chain = subst (λ (n : ℕ). slice_get b.chains.items n ≡ Some is.chain.chain) is.number_is is.chain.listed in
+      read_is ∙ get_or_from_slice_get b.chains.items number is.chain.chain read listed
+
+  pub read-node : node ≡ way_node read.side.0 read.end read.bits is.chain.end
+  read-node =
+      is.chain.node_is ∙ ap (λ (side : ℕ). way_node side is.chain.chain.end is.chain.chain.bits is.chain.end) is.chain.side_is
+      ∙ ap (λ (c : ChainParts). way_node c.side.0 c.end c.bits is.chain.end) (sym read-chain)
+
+  pub read-long : 2 ≤ read.bits
+  read-long = subst (λ (c : ChainParts). 2 ≤ c.bits) (sym read-chain) is.chain.long
+
+  pub read-few : read.bits ≤ 128
+  read-few = subst (λ (c : ChainParts). c.bits ≤ 128) (sym read-chain) is.chain.few
+
+  pub read-deep : (room : ℕ) → IsSound node room → IsDeep is.chain.end read.bits room
+  read-deep room sound = way-sound read.side.0 read.end read.bits is.chain.end room (subst (λ (n : Node). IsSound n room) read-node sound)
+
+  pub read-entries : (here end : Block) (inherited : Option LabelId) (old middle new : List Entry) (handed : LabelId) → IsOwn (read.side ∷ []) here inherited old middle handed
+      → IsDown read.end read.bits here end → AddsEntries is.chain.end end (Some handed) middle new → AddsEntries node here inherited old new
+  read-entries here end inherited old middle new handed own down adds =
+      subst (λ (n : Node). AddsEntries n here inherited old new) (sym read-node)
+      (chain-adds read.side is.chain.end read.end read.bits here end inherited old middle new handed read-long own down adds)
+
+  -- .. and its line
+  pub read-lines : lines_of compact ≡ ChainLine read.cost (way_to read.end read.bits) read.side.0 (read.side.0 ∷ []) ∷ lines_of is.end
+  read-lines =
+      ap lines_of is.compact_is
+      ∙ (λ i. ChainLine (is.chain.cost_is i) (is.chain.bits_are i) (is.chain.side_is i) ((is.chain.set_is ∙ ap (λ (side : ℕ). side ∷ []) is.chain.side_is) i) ∷ lines_of is.end)
+      ∙ ap (λ (c : ChainParts). ChainLine c.cost (way_to c.end c.bits) c.side.0 (c.side.0 ∷ []) ∷ lines_of is.end) (sym read-chain)
+
+-- a step down to a half
+pub down-step : (value bits n d : ℕ) (block half end : Block) → n ≡ suc bits → digit value bits ≡ d → IsHalf d block half → IsDown value bits half end → IsDown value n block end
+down-step value bits n d block half end same digit_is is rest =
+    subst (λ (k : ℕ). IsDown value k block end) (sym same) (record { half = half; is = subst (λ (e : ℕ). IsHalf e block half) (sym digit_is) is; rest = rest })
+
+-- a block without host bits has no inner node
+pub no-room : (block : Block) (node : Node) (cost : ℕ) (set : List ℕ) (lower upper : Node) → node ≡ Inner cost set lower upper → block.len ≡ width_of block.version
+    → IsSound node (width_of block.version - block.len) → ⊥
+no-room block node cost set lower upper is full sound =
+    let none : width_of block.version - block.len ≡ 0 = omega arith in
+    subst (λ (n : Node). IsSound n 0) is (subst (IsSound node) none sound)

@@ -1,0 +1,112 @@
+//! Blocks of addresses with the stretches that have their ends, and the runs down from them.
+ghost use Rattle.std.specs.Prelude.{◌≡◌, ◌+◌, ◌^◌, ◌<◌, ◌↔◌, IsTrue, MatchOption, Some, option_map};
+ghost use Rattle.prefix_keys.specs.Version.{width_of};
+ghost use Rattle.pmap_minimise.specs.Areas.{AreHalvesOf, IsArea, IsRunTo, IsStep, IsStop, own_label};
+ghost use Rattle.pmap_minimise.specs.Stretched.{HoldsAddress};
+
+use crate::stretched::Stretches;
+use pmap_text::LabelId;
+
+/// A block of addresses, and the indices of the stretches that have its first and its last address.
+#[derive(Clone, Copy)]
+pub struct Area {
+    pub first: u128,
+    pub last: u128,
+    pub len: u32,
+    pub from: usize,
+    pub to: usize,
+}
+
+/// The label of a block in one stretch.
+pub fn own_label(stretches: &Stretches, area: &Area) -> Option<LabelId>
+    requires { IsArea stretches.now area.now }
+    ensures { option_map (λ id. id.0) result ≡ own_label stretches.now area.now }
+{
+    if area.from == area.to {
+        stretches.label(area.from)
+    } else {
+        None
+    }
+}
+
+// Whether a block is in one stretch, and has this label.
+fn has_side(stretches: &Stretches, area: &Area, side: LabelId) -> bool
+    requires { IsArea stretches.now area.now }
+    ensures { IsTrue result ↔ (own_label stretches.now area.now ≡ Some side.0) }
+{
+    match own_label(stretches, area) {
+        Some(id) => id.0 == side.0,
+        None => false,
+    }
+}
+
+// The index of the stretch that has the next address.
+fn next_index(stretches: &Stretches, at: usize, address: u128) -> usize
+    requires holds { HoldsAddress stretches.now address at }
+    requires below { address + 1 < 2 ^ width_of stretches.now.version }
+    ensures { HoldsAddress stretches.now (address + 1) result }
+{
+    // For its law: it has a number for each stretch, and these have every address.
+    let _count = stretches.len();
+    if stretches.last(at) == address {
+        at + 1
+    } else {
+        at
+    }
+}
+
+/// The halves of a block that has addresses of two stretches or more.
+pub fn halves(stretches: &Stretches, area: &Area) -> (Area, Area)
+    requires area { IsArea stretches.now area.now }
+    requires divided { area.now.from < area.now.to }
+    ensures { AreHalvesOf stretches.now area.now result.0 result.1 }
+{
+    let middle = area.first + (area.last - area.first) / 2;
+    let at = stretches.find(area.from, area.to, middle);
+    let next = next_index(stretches, at, middle);
+    let low = Area {
+        first: area.first,
+        last: middle,
+        len: area.len + 1,
+        from: area.from,
+        to: at,
+    };
+    let high = Area {
+        first: middle + 1,
+        last: area.last,
+        len: area.len + 1,
+        from: next,
+        to: area.to,
+    };
+    (low, high)
+}
+
+// The step of a run of the side label: the half that is chosen, none where the run ends.
+fn step(stretches: &Stretches, area: &Area, side: LabelId) -> Option<Area>
+    requires { IsArea stretches.now area.now }
+    ensures { MatchOption result (IsStop stretches.now side.0 area.now)
+        (λ chosen. IsStep stretches.now side.0 area.now chosen) }
+{
+    if area.from == area.to {
+        return None;
+    }
+    let (low, high) = halves(stretches, area);
+    if has_side(stretches, &low, side) {
+        Some(high)
+    } else if has_side(stretches, &high, side) {
+        Some(low)
+    } else {
+        None
+    }
+}
+
+/// The block at the end of the run of the side label.
+pub fn run_end(stretches: &Stretches, area: &Area, side: LabelId) -> Area
+    requires { IsArea stretches.now area.now }
+    ensures { IsRunTo stretches.now side.0 area.now result }
+{
+    match step(stretches, area, side) {
+        Some(chosen) => run_end(stretches, &chosen, side),
+        None => *area,
+    }
+}

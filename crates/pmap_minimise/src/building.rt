@@ -1,0 +1,207 @@
+//! The nodes of the compact certificate of a map's minimal pair, from the map's stretches.
+ghost use Rattle.std.specs.Prelude.{◌≡◌, ◌+◌, ◌^◌, ◌<◌, IfOk, MatchOption, if◌then◌else◌, option_map};
+ghost use Rattle.std.specs.Option.{option_or};
+ghost use Rattle.pmap_minimise.specs.Areas.{AreHalvesOf, IsArea, IsLongRun, IsShortRun, number_at, own_label};
+ghost use Rattle.pmap_minimise.specs.Building.{AddsChain, AddsInner, AddsLeaf};
+ghost use Rattle.pmap_minimise.specs.Built.{IsBuilt, IsBuiltFor};
+ghost use Rattle.pmap_minimise.specs.Kept.{AreSetsKept, IsHeldIn, larger_in};
+ghost use Rattle.pmap_minimise.specs.Numbers.{has_number, numbers_of};
+
+use crate::area::{Area, halves, own_label, run_end};
+use crate::built::{Built, Chain, Claim, Line};
+use crate::claiming::joined;
+use crate::entering::has_label;
+use crate::set_list::{Sets, are_one_label};
+use crate::stretched::Stretches;
+use pmap_text::{LabelId, MapText};
+use std::alloc::{AllocError, Global};
+
+// Adds the line of a leaf.
+fn push_leaf(built: &mut Built, id: LabelId) -> Result<Claim, AllocError>
+    requires { AreSetsKept built.old.sets }
+    ensures { IfOk result (AddsLeaf id built.old built.new) }
+{
+    built.lines.push(Line::Leaf(id))?;
+    let set = built.sets.hold_label(id)?;
+    Ok(Claim { cost: 0, set })
+}
+
+// Adds the line of an inner node, whose halves claim these: it claims their exact pair.
+fn push_inner(
+    alloc: Global,
+    built: &mut Built,
+    low: Claim,
+    high: Claim,
+) -> Result<Claim, AllocError>
+    requires kept { AreSetsKept built.old.sets }
+    requires low { IsHeldIn (larger_in built.old.sets) low.set }
+    requires high { IsHeldIn (larger_in built.old.sets) high.set }
+    requires few { low.cost + high.cost + 1 < 2 ^ 32 }
+    ensures { IfOk result (AddsInner low high built.old built.new) }
+{
+    let sum = low.cost + high.cost;
+    if are_one_label(low.set, high.set) {
+        built.lines.push(Line::Inner(sum, low.set))?;
+        return Ok(Claim {
+            cost: sum,
+            set: low.set,
+        });
+    }
+    let (set, apart) = joined(alloc, &mut built.sets, low.set, high.set)?;
+    let cost = if apart { sum + 1 } else { sum };
+    built.lines.push(Line::Inner(cost, set))?;
+    Ok(Claim { cost, set })
+}
+
+// What a chain claims to cost, by what its end claims.
+fn chain_cost(set: &[LabelId], cost: u32, side: LabelId) -> u32
+    requires { cost + 1 < 2 ^ 32 }
+    ensures { result ≡ (if has_number (numbers_of set.now) side.0 then cost else cost + 1) }
+{
+    if has_label(set, side) { cost } else { cost + 1 }
+}
+
+// Adds the line of a chain with so many bits to the block with the number `end`, whose node claims this.
+fn push_chain(
+    built: &mut Built,
+    below: Claim,
+    side: LabelId,
+    end: u128,
+    bits: u32,
+) -> Result<Claim, AllocError>
+    requires kept { AreSetsKept built.old.sets }
+    requires held { IsHeldIn (larger_in built.old.sets) below.set }
+    requires few { below.cost + 1 < 2 ^ 32 }
+    ensures { IfOk result (AddsChain below side end bits built.old built.new) }
+{
+    let number = built.chains.len();
+    if number > u32::MAX as usize {
+        return Err(AllocError);
+    }
+    let cost = chain_cost(built.sets.labels(&below.set), below.cost, side);
+    built.chains.push(Chain {
+        cost,
+        side,
+        end,
+        bits,
+    })?;
+    built.lines.push(Line::Chain(number as u32))?;
+    let set = built.sets.hold_label(side)?;
+    Ok(Claim { cost, set })
+}
+
+// Adds the lines of a block.
+#[cycle(area)]
+fn push_area(
+    alloc: Global,
+    built: &mut Built,
+    stretches: &Stretches,
+    area: Area,
+) -> Result<Claim, AllocError>
+    requires kept { AreSetsKept built.old.sets }
+    requires area { IsArea stretches.now area }
+    ensures { IfOk result (IsBuilt stretches.now area built.old built.new) }
+{
+    if area.from < area.to {
+        return push_divided(alloc, built, stretches, area);
+    }
+    let Some(id) = stretches.label(area.from) else {
+        unreachable!()
+    };
+    push_leaf(built, id)
+}
+
+// Adds the lines of a block with addresses of two stretches or more.
+#[cycle(area)]
+fn push_divided(
+    alloc: Global,
+    built: &mut Built,
+    stretches: &Stretches,
+    area: Area,
+) -> Result<Claim, AllocError>
+    requires kept { AreSetsKept built.old.sets }
+    requires area { IsArea stretches.now area }
+    requires divided { area.from < area.to }
+    ensures { IfOk result (IsBuilt stretches.now area built.old built.new) }
+{
+    let (low, high) = halves(stretches, &area);
+    match run_of(stretches, &area, &low, &high) {
+        Some((side, end)) => {
+            let below = push_area(alloc, built, stretches, end)?;
+            push_chain(
+                built,
+                below,
+                side,
+                number_of(stretches, &end),
+                end.len - area.len,
+            )
+        }
+        None => {
+            let above = push_area(alloc, built, stretches, high)?;
+            let below = push_area(alloc, built, stretches, low)?;
+            push_inner(alloc, built, below, above)
+        }
+    }
+}
+
+// The number of a block among those with as many bits, of which it has some.
+fn number_of(stretches: &Stretches, area: &Area) -> u128
+    requires area { IsArea stretches.now area.now }
+    requires some { 0 < area.now.len }
+    ensures { result ≡ number_at stretches.now area.now }
+{
+    area.first >> (stretches.version().width() - area.len)
+}
+
+// The side label and the end of the run from the block with these halves, where it has two bits or more.
+fn run_of(stretches: &Stretches, area: &Area, low: &Area, high: &Area) -> Option<(LabelId, Area)>
+    requires area { IsArea stretches.now area.now }
+    requires halves { AreHalvesOf stretches.now area.now low.now high.now }
+    ensures { MatchOption result
+        (IsShortRun stretches.now area.now (option_or (own_label stretches.now low.now) (own_label stretches.now high.now)))
+        (λ x. IsLongRun stretches.now area.now low.now high.now x.0.0 x.1) }
+{
+    let Some(side) = side_of(stretches, low, high) else {
+        return None;
+    };
+    let end = run_end(stretches, area, side);
+    if end.len - area.len < 2 {
+        return None;
+    }
+    Some((side, end))
+}
+
+// The side label of the run from the block with these halves.
+fn side_of(stretches: &Stretches, low: &Area, high: &Area) -> Option<LabelId>
+    requires low { IsArea stretches.now low.now }
+    requires high { IsArea stretches.now high.now }
+    ensures { option_map (λ id. id.0) result
+        ≡ option_or (own_label stretches.now low.now) (own_label stretches.now high.now) }
+{
+    match own_label(stretches, low) {
+        Some(side) => Some(side),
+        None => own_label(stretches, high),
+    }
+}
+
+/// The nodes of the compact certificate of a map's minimal pair.
+pub fn built(alloc: Global, map: &MapText) -> Result<Built, AllocError>
+    ensures { IfOk result (IsBuiltFor map.now) }
+{
+    let stretches = Stretches::of_map(alloc, map)?;
+    let to = stretches.len() - 1;
+    let mut built = Built {
+        lines: Vec::with_capacity(alloc, 2 * to + 1)?,
+        chains: Vec::new(alloc),
+        sets: Sets::with_capacity(alloc, 0)?,
+    };
+    let whole = Area {
+        first: 0,
+        last: stretches.last(to),
+        len: 0,
+        from: 0,
+        to,
+    };
+    push_area(alloc, &mut built, &stretches, whole)?;
+    Ok(built)
+}
