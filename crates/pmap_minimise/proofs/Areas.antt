@@ -1,6 +1,6 @@
 -- Blocks of addresses with the stretches that have their ends, and the certificate's node for one.
-use Rattle.std.proofs.Common.{◌≡◌, ◌≢◌, ℕ, zero, suc, ◌+◌, ◌-◌, ◌*◌, ◌/◌, ◌%◌, ◌^◌, ◌<◌, ◌≤◌, inl, inr, ◌∙◌, ◌==◌, Bool, true, false, cond, List, [], ◌∷◌, Option, Some, None, IsSome, option_map, length, refl, sym, ap, subst, arith}
-use Rattle.std.proofs.lemmas.Bool.{cases_lt, cond-false, cond-true, cond_above, cond_below, eq-eqb, eqb-true, ne_eqb}
+use Rattle.std.proofs.Common.{◌≡◌, ℕ, zero, suc, ◌+◌, ◌-◌, ◌*◌, ◌/◌, ◌^◌, ◌<◌, ◌≤◌, inl, inr, ◌∙◌, ◌==◌, List, [], ◌∷◌, Option, Some, None, option_map, length, refl, sym, ap, subst, arith}
+use Rattle.std.proofs.lemmas.Bool.{cases_lt, cond-false, cond-true, cond_above, cond_below, eq-eqb, ne_eqb}
 use Rattle.std.proofs.Math.Nat.{pow-suc}
 use Rattle.std.proofs.lemmas.Nat.{pow_pos}
 use Rattle.std.proofs.lemmas.Option.{none-some, same_Some}
@@ -10,23 +10,23 @@ use Rattle.prefix_keys.specs.Block.{block_number, first_of, last_of}
 use Rattle.prefix_keys.specs.Version.{width_of}
 use Rattle.prefix_keys.specs.declared.version.Version.{Version}
 use Rattle.prefix_keys.proofs.Quotients.{above_first, below_end, quotient_is}
-use Rattle.pmap_text.specs.Stretches.{HasStretch, label_seen}
+use Rattle.pmap_text.specs.Stretches.{HasStretch}
 use Rattle.pmap_minimise.specs.Stretched.{AreStretches, HasEveryAddress, HoldsAddress, StretchesModel, first_at, label_at, last_at}
 use Rattle.pmap_text.specs.declared.label.LabelId.{LabelId}
 use Rattle.pmap_text.specs.declared.statement.Statement.{Statement}
 use Rattle.pmap_cert.specs.CertificateForm.{IsRising}
-use Rattle.pmap_cert.specs.Node.{Inner, Leaf, Node, cost_of, label_of, set_of}
-use Rattle.pmap_cert.specs.Placing.{IsShort, bits_down, end_down, is_leaf, side_below}
-use Rattle.label_trie.specs.Layers.{IsBlock, IsMapOf, parted_sum}
+use Rattle.pmap_cert.specs.Node.{Inner, Leaf, Node, label_of, set_of}
+use Rattle.pmap_cert.specs.Placing.{bits_down, end_down, side_below}
+use Rattle.label_trie.specs.Layers.{IsBlock}
 use Rattle.label_trie.specs.Nodes.{encode, leaf_node}
-use Rattle.label_trie.specs.Tree.{Fits, Fork, IsLabelled, Tip, Tree, leaf_count}
+use Rattle.label_trie.specs.Tree.{Fork, Tip, Tree}
 use Rattle.label_trie.proofs.Grown.{IsSplit, block_some, is_split, leaf_added}
-use Rattle.pmap_minimise.specs.Areas.{AreFew, AreHalvesOf, HasLabelledHalves, HasNoSide, IsArea, IsMade, IsRun, IsRunTo, IsStep, IsStop, StepsHigh, StepsLow, IsTreeOf, number_at, own_label}
+use Rattle.pmap_minimise.specs.Areas.{AreFew, AreHalvesOf, IsArea, IsMade, IsRun, IsStep, IsStop, StepsHigh, StepsLow, IsTreeOf, number_at, own_label}
 use Rattle.pmap_minimise.specs.Built.{cost_above, digit, node_over, set_above, way_node, way_to}
 use Rattle.pmap_minimise.specs.Numbers.{IsExact}
-use Rattle.pmap_minimise.specs.Outline.{IsNodeFor, plan_of}
+use Rattle.pmap_minimise.specs.Outline.{plan_of}
 use Rattle.pmap_minimise.specs.declared.area.Area.{Area}
-use Rattle.pmap_minimise.proofs.Ways.{above-rising, down-high, down-low, down-none, way-cost, way-high, way-low, way-set}
+use Rattle.pmap_minimise.proofs.Ways.{above-rising, down-high, down-low, down-none, way-high, way-low, way-set}
 
 -- The stretches in their order.
 module _ (s : StretchesModel) (every : HasEveryAddress s) where

@@ -1,5 +1,5 @@
 -- What a block adds to the compact certificate that is built.
-use Rattle.std.proofs.Common.{◌≡◌, ℕ, zero, suc, ◌+◌, ◌-◌, ◌*◌, ◌/◌, ◌^◌, ◌<◌, ◌≤◌, ◌==◌, ◌∙◌, inl, inr, Bool, true, false, cond, List, [], ◌∷◌, ◌++◌, Option, Some, None, IsSome, length, slice_get, get_or, refl, sym, ap, subst, arith, length-append}
+use Rattle.std.proofs.Common.{◌≡◌, ℕ, zero, suc, ◌+◌, ◌-◌, ◌*◌, ◌/◌, ◌^◌, ◌<◌, ◌≤◌, ◌∙◌, inl, inr, cond, List, [], ◌∷◌, ◌++◌, Option, Some, None, IsSome, length, slice_get, get_or, refl, sym, ap, subst, arith, length-append}
 use Rattle.std.specs.Option.{option_or}
 use Rattle.std.specs.Prelude.{◌⊎◌}
 use Rattle.std.proofs.Math.Seq.{get_or-append_seam}
@@ -26,9 +26,9 @@ use Rattle.label_trie.proofs.Built.{map_layers, parted_most}
 use Rattle.label_trie.proofs.NodeLeaves.{fits_HasRoom, leaves_settled, leaves_undivided, length_leaves}
 use Rattle.pmap_minimise.specs.Areas.{AreHalvesOf, IsArea, IsMade, IsRun, IsLongRun, IsRunTo, IsShortRun, IsStop, IsTreeOf, StepsHigh, StepsLow, number_at, own_label}
 use Rattle.pmap_minimise.specs.Building.{AddsChain, AddsInner, AddsLeaf}
-use Rattle.pmap_minimise.specs.Built.{HasGrown, IsAt, IsBuilt, IsBuiltFor, IsBuiltOf, cost_above, way_node, way_to}
+use Rattle.pmap_minimise.specs.Built.{HasGrown, IsAt, IsBuilt, IsBuiltFor, cost_above, way_node, way_to}
 use Rattle.pmap_minimise.specs.Claiming.{exact_cost}
-use Rattle.pmap_minimise.specs.Kept.{AreSetsKept, HaveGrown, IsHeldAs, IsRisingSet, IsSetOf, larger_in, set_by}
+use Rattle.pmap_minimise.specs.Kept.{AreSetsKept, HaveGrown, IsSetOf, larger_in, set_by}
 use Rattle.pmap_minimise.specs.Numbers.{IsExact, IsExactSet, common_numbers, has_number}
 use Rattle.pmap_minimise.specs.Outline.{plan_of, tips}
 use Rattle.pmap_minimise.specs.declared.area.Area.{Area}
@@ -119,6 +119,7 @@ at-grown old new (Chain cost set bits side end) node from to grown is = record {
   to_is = is.to_is;
   listed = listed-grown old.chains.items grown.chains new.chains.items is.number is.chain grown.chains_are is.listed;
   cost_is = is.cost_is;
+  price_is = is.price_is;
   set_is = is.set_is;
   side_is = is.side_is;
   bits_are = is.bits_are;
@@ -330,6 +331,7 @@ chain-built s a low high end old middle new below claim side number bits_are is 
         to_is = pushed-length middle.lines.items new.lines.items (ChainLine (length middle.chains.items)) adds.lines_are;
         listed = listed-last middle.chains.items new.chains.items (record { cost = claim.cost; side = side; end = number; bits = bits }) adds.chains_are;
         cost_is = sym parts_cost ∙ sym cost;
+        price_is = adds.cost_is ∙ (λ i. cond (has_number (below_set i) side.0) (built.cost_is i) (built.cost_is i + 1));
         set_is = sym parts_set ∙ set;
         side_is = refl;
         bits_are = λ i. way_to (sym number_is i) (sym bits_is i);

@@ -9,7 +9,7 @@ use Rattle.pmap_text.specs.Stretches.{HasStretch, StandsAt, StretchesModel as Wa
 use Rattle.pmap_text.specs.declared.label.LabelId.{LabelId}
 use Rattle.pmap_text.specs.declared.map_text.MapText.{MapText}
 use Rattle.pmap_text.specs.declared.statement.Statement.{Statement}
-use Rattle.pmap_minimise.specs.Stretched.{AreStretches, HasEveryAddress, HoldsAddress, StretchesModel, first_at, label_at, last_at}
+use Rattle.pmap_minimise.specs.Stretched.{AreStretches, HasEveryAddress, StretchesModel, first_at, label_at, last_at}
 
 -- where a stretch with a later one ends
 pub last-before : (s : StretchesModel) (i : ℕ) → i + 1 < length s.firsts → last_at s i ≡ first_at s (i + 1) - 1

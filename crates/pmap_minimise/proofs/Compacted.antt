@@ -1,11 +1,11 @@
 -- What is read off the lines that were built.
-use Rattle.std.proofs.Common.{◌≡◌, ℕ, suc, ◌+◌, ◌-◌, ◌<◌, ◌≤◌, ◌∙◌, Bool, List, [], ◌∷◌, ◌++◌, Option, Some, Result, length, get_or, slice_get, refl, sym, ap, subst, arith}
-use Rattle.std.specs.Prelude.{IfOk}
-use Rattle.std.proofs.lemmas.Option.{get_or_from_slice_get, same_Some, slice_get-get_or, slice_get_within}
+use Rattle.std.proofs.Common.{◌≡◌, ℕ, ◌+◌, ◌-◌, ◌<◌, ◌≤◌, ◌∙◌, Bool, List, Some, Result, length, get_or, slice_get, refl, sym, ap, subst, arith}
+use Rattle.std.specs.Prelude.{IfOk, OnOk}
+use Rattle.std.proofs.lemmas.Option.{same_Some, slice_get-get_or, slice_get_within}
 use Rattle.std.proofs.lemmas.Result.{IfOk-weaker}
 use Rattle.pmap_text.specs.declared.label.LabelId.{LabelId}
 use Rattle.pmap_cert.specs.Node.{Chain, Inner, Leaf, Node}
-use Rattle.pmap_minimise.specs.Built.{IsAt, IsChainAt, IsInnerAt, IsLeafAt}
+use Rattle.pmap_minimise.specs.Built.{IsAt, IsChainAt, IsInnerAt}
 use Rattle.pmap_minimise.specs.declared.built.Built.{Built}
 use Rattle.pmap_minimise.specs.declared.built.Line.{Line}
 use Rattle.pmap_minimise.specs.declared.built.Line.TheVariants.{Chain as ChainLine, Inner as InnerLine, Leaf as LeafLine}
@@ -14,6 +14,9 @@ use Rattle.pmap_minimise.specs.declared.set_list.SetId.{SetId}
 -- what holds where a call went well holds in another form too
 pub if_ok : {T E : Type 0} (r : Result T E) (P Q : T → Type 0) → IfOk r P → ((x : T) → P x → Q x) → IfOk r Q
 if_ok r P Q holds so = IfOk-weaker r P Q so holds
+
+pub on_ok : {T E : Type 0} (r : Result T E) (P Q : Type 0) → OnOk r P → (P → Q) → OnOk r Q
+on_ok r P Q holds so = IfOk-weaker r (λ x. P) (λ x. Q) (λ x. so) holds
 
 -- a node has a line, and its own is the last one
 pub record IsLast (b : Built) (from to : ℕ) : Type 0 where

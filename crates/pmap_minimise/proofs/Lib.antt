@@ -18,3 +18,4 @@ pub mod Areas
 pub mod BuiltNodes
 pub mod WayEntries
 pub mod Collected
+pub mod Opened

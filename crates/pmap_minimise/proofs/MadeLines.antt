@@ -1,12 +1,10 @@
 -- The lines of a certificate's nodes that are made along an outline.
-use Rattle.std.proofs.Common.{◌≡◌, ℕ, ◌+◌, ◌-◌, ◌<◌, ◌≤◌, ◌∙◌, List, [], ◌∷◌, ◌++◌, length, map, get_or, refl, sym, ap, subst}
-use Rattle.std.proofs.lemmas.List.{append-nil, append_assoc, map-append}
+use Rattle.std.proofs.Common.{◌≡◌, ℕ, ◌+◌, ◌-◌, ◌<◌, ◌≤◌, ◌∙◌, List, [], ◌∷◌, ◌++◌, length, get_or, sym, ap, subst}
+use Rattle.std.proofs.lemmas.List.{append-nil, append_assoc}
 use Rattle.pmap_text.specs.declared.label.LabelId.{LabelId}
-use Rattle.pmap_cert.proofs.Written.{text_of_lines-append}
-use Rattle.pmap_cert.specs.CertificateText.{inner_line, leaf_line, text_of_lines}
 use Rattle.pmap_cert.specs.FormatReading.{DueLine, InnerLine, LeafLine, PlainLine}
-use Rattle.pmap_cert.specs.Node.{Chain, Inner, Leaf, Node, cost_of, line_text, lines_of, set_of}
-use Rattle.pmap_minimise.specs.MadeLines.{IsCertifying, IsWriting, lines_left}
+use Rattle.pmap_cert.specs.Node.{Chain, Inner, Leaf, Node, cost_of, lines_of, set_of}
+use Rattle.pmap_minimise.specs.MadeLines.{IsCertifying, lines_left}
 use Rattle.pmap_minimise.specs.Claiming.{AreClaimsOf}
 use Rattle.pmap_minimise.specs.Kept.{claims_in}
 use Rattle.pmap_minimise.specs.Numbers.{Claim, IsJoined, no_claim, numbers_of}
@@ -94,52 +92,3 @@ pub same_certifying : (parts : List Part) (claims : Claims) (root : Node) (next 
     → IsCertifying parts claims root next left lines → IsCertifying parts claims root next left' lines'
 same_certifying parts claims root next left left' lines lines' e f making =
     subst (λ (n : ℕ). IsCertifying parts claims root next n lines') (sym e) (subst (IsCertifying parts claims root next left) (sym f) making)
-
--- one more line of a text
-line-pushed : (old text new : List ℕ) (lines : List DueLine) (line : DueLine) → text ≡ old ++ text_of_lines (map line_text lines) → new ≡ text ++ (line_text line ++ 10 ∷ [])
-    → new ≡ old ++ text_of_lines (map line_text (lines ++ line ∷ []))
-line-pushed old text new lines line is pushed =
-    let before : List ℕ = text_of_lines (map line_text lines) in
-    let last : text_of_lines (map line_text (lines ++ line ∷ [])) ≡ before ++ (line_text line ++ 10 ∷ []) =
-    ap text_of_lines (map-append line_text lines (line ∷ [])) ∙ text_of_lines-append (map line_text lines) (line_text line ∷ [])
-    ∙ ap (λ (t : List ℕ). before ++ t) (append-nil (line_text line ++ 10 ∷ [])) in
-    pushed ∙ ap (λ (t : List ℕ). t ++ (line_text line ++ 10 ∷ [])) is ∙ append_assoc old before (line_text line ++ 10 ∷ []) ∙ ap (λ (t : List ℕ). old ++ t) (sym last)
-
-pub writing-start : (parts : List Part) (claims : Claims) (root : Node) (left : ℕ) (old : List ℕ) → AreClaimsOf parts claims root → left ≡ length (claims_in claims)
-    → IsWriting parts claims root old 0 left old
-writing-start parts claims root left old are all =
-    record { lines = []; certifying = certifying-start parts claims root left [] are all refl; text_is = sym (append-nil old) }
-
-pub writing-end : (parts : List Part) (claims : Claims) (root : Node) (old : List ℕ) (next left : ℕ) (text : List ℕ) → length parts ≤ next
-    → IsWriting parts claims root old next left text → text ≡ old ++ text_of_lines (map line_text (lines_of root))
-writing-end parts claims root old next left text end writing =
-    writing.text_is ∙ ap (λ (l : List DueLine). old ++ text_of_lines (map line_text l)) (certifying-end parts claims root next left writing.lines end writing.certifying)
-
-module _ (parts : List Part) (claims : Claims) (root : Node) (old : List ℕ) (next left : ℕ) (text new : List ℕ) (outline : IsOutline parts) (inside : next < length parts)
-    (writing : IsWriting parts claims root old next left text) where
-  pub writing-inside : (d : Part) → Divided ≡ get_or parts next d → (0 < left) × (left ≤ length (claims_in claims))
-  writing-inside d is = certifying-inside parts claims root next left writing.lines writing.lines outline inside writing.certifying d is
-
-  pub writing-leaf : (id : LabelId) (d : Part) → Labelled id ≡ get_or parts next d → new ≡ text ++ (leaf_line id.0 ++ 10 ∷ []) → IsWriting parts claims root old (next + 1) left new
-  writing-leaf id d is pushed = record {
-    lines = writing.lines ++ PlainLine (LeafLine id.0) ∷ [];
-    certifying = certifying-leaf parts claims root next left writing.lines (writing.lines ++ PlainLine (LeafLine id.0) ∷ []) outline inside writing.certifying id d is refl;
-    text_is = line-pushed old text new writing.lines (PlainLine (LeafLine id.0)) writing.text_is pushed;
-  }
-
-  pub writing-inner : (d : Part) (cost : ℕ) (ids : List LabelId) → Divided ≡ get_or parts next d → cost ≡ (get_or (claims_in claims) (left - 1) no_claim).cost
-      → numbers_of ids ≡ (get_or (claims_in claims) (left - 1) no_claim).set → new ≡ text ++ (inner_line cost (numbers_of ids) ++ 10 ∷ [])
-      → IsWriting parts claims root old (next + 1) (left - 1) new
-  writing-inner d cost ids is cost_is ids_are pushed = record {
-    lines = writing.lines ++ PlainLine (InnerLine cost (numbers_of ids)) ∷ [];
-    certifying =
-        certifying-inner parts claims root next left writing.lines (writing.lines ++ PlainLine (InnerLine cost (numbers_of ids)) ∷ []) outline inside writing.certifying
-        d cost ids is cost_is ids_are refl;
-    text_is = line-pushed old text new writing.lines (PlainLine (InnerLine cost (numbers_of ids))) writing.text_is pushed;
-  }
-
--- the same of equal values
-pub same_writing : (parts : List Part) (claims : Claims) (root : Node) (old : List ℕ) (next left left' : ℕ) (text text' : List ℕ) → left' ≡ left → text' ≡ text
-    → IsWriting parts claims root old next left text → IsWriting parts claims root old next left' text'
-same_writing parts claims root old next left left' text text' e f writing =
-    subst (λ (n : ℕ). IsWriting parts claims root old next n text') (sym e) (subst (IsWriting parts claims root old next left) (sym f) writing)

@@ -1,6 +1,5 @@
 -- The entries of a block from which a run leads down.
-use Rattle.std.proofs.Common.{◌≡◌, ℕ, zero, suc, ◌+◌, ◌-◌, ◌*◌, ◌<◌, ◌≤◌, ◌==◌, ◌||◌, ◌∙◌, Bool, true, false, cond, List, [], ◌∷◌, ◌++◌, Option, Some, None, map, get_or, slice_get, refl, sym, ap, subst, arith}
-use Rattle.std.specs.List.{list_any}
+use Rattle.std.proofs.Common.{◌≡◌, ℕ, zero, suc, ◌+◌, ◌-◌, ◌<◌, ◌≤◌, ◌==◌, ◌||◌, ◌∙◌, Bool, true, false, cond, List, [], ◌∷◌, Option, Some, None, map, get_or, slice_get, refl, sym, ap, subst, arith}
 use Rattle.std.proofs.lemmas.Bool.{eq-eqb, eqb-true}
 use Rattle.std.proofs.lemmas.Option.{get_or_from_slice_get, same_Some}
 use Rattle.prefix_keys.specs.Version.{width_of}
@@ -9,7 +8,6 @@ use Rattle.pmap_text.specs.declared.entry.Entry.{Entry}
 use Rattle.pmap_text.specs.declared.label.LabelId.{LabelId}
 use Rattle.pmap_cert.specs.FormatReading.{ChainLine}
 use Rattle.pmap_cert.specs.Node.{Inner, Leaf, Node, lines_of, set_of}
-use Rattle.label_trie.specs.Leaf.{number_of}
 use Rattle.label_trie.specs.Parts.{IsHalf}
 use Rattle.pmap_minimise.specs.Built.{cost_above, digit, node_over, set_above, way_node, way_to, with_number}
 use Rattle.pmap_minimise.specs.Entered.{AddsEntries}
@@ -161,6 +159,9 @@ module _ (b : Built) (compact node : Node) (number from to : ℕ) (is : IsChainN
 
   pub read-few : read.bits ≤ 128
   read-few = subst (λ (c : ChainParts). c.bits ≤ 128) (sym read-chain) is.chain.few
+
+  pub read-price : read.cost ≡ cost_above read.side.0 is.chain.end
+  read-price = subst (λ (c : ChainParts). c.cost ≡ cost_above c.side.0 is.chain.end) (sym read-chain) is.chain.price_is
 
   pub read-deep : (room : ℕ) → IsSound node room → IsDeep is.chain.end read.bits room
   read-deep room sound = way-sound read.side.0 read.end read.bits is.chain.end room (subst (λ (n : Node). IsSound n room) read-node sound)

@@ -1,12 +1,12 @@
 -- The nodes of a run: what they claim, and how the run goes down them.
-use Rattle.std.proofs.Common.{◌≡◌, ◌≢◌, ℕ, zero, suc, ◌+◌, ◌^◌, ◌<◌, ◌≤◌, inl, inr, ◌∙◌, ◌||◌, ◌==◌, Bool, true, false, cond, List, [], ◌∷◌, Some, None, refl, sym, ap, subst, arith}
+use Rattle.std.proofs.Common.{◌≡◌, ◌≢◌, ℕ, zero, suc, ◌+◌, ◌^◌, ◌<◌, ◌≤◌, inl, inr, ◌∙◌, ◌||◌, ◌==◌, Bool, true, false, cond, List, [], ◌∷◌, Some, refl, sym, ap, subst, arith}
 use Rattle.std.specs.List.{list_any}
-use Rattle.std.proofs.lemmas.Bool.{cases_lt, cond-false, cond-true, cond_above, cond_below, eq-eqb, eqb-true, ne_eqb}
+use Rattle.std.proofs.lemmas.Bool.{cases_lt, cond_above, cond_below, eq-eqb, eqb-true, ne_eqb}
 use Rattle.pmap_cert.specs.CertificateForm.{IsRising}
 use Rattle.pmap_cert.specs.Node.{Chain, Inner, Leaf, Node, cost_of, label_of, set_of}
 use Rattle.pmap_cert.specs.Placing.{bits_down, end_down, is_leaf}
-use Rattle.pmap_minimise.specs.Built.{cost_above, digit, node_over, set_above, way_node, way_to, with_number}
-use Rattle.pmap_minimise.specs.Numbers.{IsExact, IsExactBy, IsUnion, common_numbers, has_number}
+use Rattle.pmap_minimise.specs.Built.{cost_above, digit, node_over, set_above, way_node, with_number}
+use Rattle.pmap_minimise.specs.Numbers.{IsExact, IsExactBy, common_numbers, has_number}
 use Rattle.pmap_minimise.proofs.Merged.{lacks}
 
 -- a set and one number: what they have in common

@@ -37,9 +37,7 @@ use Rattle.pmap_minimise.specs.Shortest.{IsWhole, list_with, shortest_list}
 use Rattle.pmap_minimise.proofs.Distinct.{order-distinct}
 use Rattle.pmap_minimise.proofs.Entered.{half-entries}
 use Rattle.pmap_minimise.specs.Certified.{IsCertified, IsKnownLeaf}
-use Rattle.pmap_minimise.specs.Listing.{IsClaimed, IsListedBy}
-use Rattle.pmap_minimise.specs.declared.claim_list.Claims.{Claims}
-use Rattle.pmap_minimise.specs.declared.outline.Part.{Part}
+use Rattle.pmap_minimise.specs.Listing.{IsListedBy}
 use Rattle.pmap_minimise.proofs.Joined.{settled-known, whole-number}
 
 table-has : (table : List Label) (n : ℕ) → n < length table → IsTrue (has table (text_at table n))
@@ -124,15 +122,15 @@ certificate-pair m version leaves root l d c certified same ok settled undivided
     subst (λ (k : ListModel). IsMinimalPair (map_of m) k c) (sym (list-unique (map_of m) l (shortest_list (map_of m) tree) d c pair own (own-labels m))) own
 
 -- the text of a root's certificate that is part of the map's minimal pair
-pub claimed-text : (m : MapText) (version : Version) (leaves : List LeafModel) (parts : List Part) (claims : Claims) (root : Node) (head text : List ℕ) → IsClaimed version leaves parts claims root
+pub certified-text : (m : MapText) (version : Version) (leaves : List LeafModel) (root : Node) (head text : List ℕ) → IsCertified 0 0 (width_of version) leaves root
     → version ≡ m.version → IsLabelTable m.labels → All (IsSettledLeaf (map_of m)) leaves → All (IsUndivided (map_of m)) leaves
     → head ≡ text_of_lines (format_header 1 m.version (length m.labels) ∷ m.labels) → text ≡ head ++ text_of_lines (map line_text (lines_of root))
     → (l : ListModel) × (c : CertificateModel) × IsMinimalPair (map_of m) l c × HasTextForm c × (text ≡ certificate_text c)
-claimed-text m version leaves parts claims root head text claimed same ok settled undivided head_is text_is =
-    let form = certified-form m version leaves root claimed.certified same settled in (
+certified-text m version leaves root head text certified same ok settled undivided head_is text_is =
+    let form = certified-form m version leaves root certified same settled in (
       shortest_list (map_of m) (tree_of m.labels root),
       root_certificate m root,
-      minimal (map_of m) _ _ (tree_of m.labels root) (claimed.certified.stands (map_of m) ok settled undivided) refl refl,
+      minimal (map_of m) _ _ (tree_of m.labels root) (certified.stands (map_of m) ok settled undivided) refl refl,
       root-form m root form ok,
       whole_text 1 m.version m.labels root (width_of m.version) (lines_of root) head text ok (number-form (length m.labels) root (width_of m.version) form) refl head_is text_is,
     )

@@ -1,12 +1,10 @@
-use Rattle.std.specs.Prelude.{◌≡◌, ℕ, ◌+◌, ◌^◌, ◌<◌, Bool, List, [], ◌∷◌, ◌++◌, if◌then◌else◌, length}
+use Rattle.std.specs.Prelude.{◌≡◌, ℕ, ◌+◌, ◌^◌, ◌<◌, Bool, [], ◌∷◌, ◌++◌, if◌then◌else◌, length}
 use Rattle.pmap_text.specs.declared.label.LabelId.{LabelId}
 use Rattle.pmap_minimise.specs.Claiming.{IsHalfHeld, exact_cost}
 use Rattle.pmap_minimise.specs.Kept.{IsHeldAs, larger_in, set_by}
 use Rattle.pmap_minimise.specs.Numbers.{has_number}
 use Rattle.pmap_minimise.specs.declared.built.Built.{Built}
-use Rattle.pmap_minimise.specs.declared.built.Chain.{Chain}
 use Rattle.pmap_minimise.specs.declared.built.Claim.{Claim}
-use Rattle.pmap_minimise.specs.declared.built.Line.{Line}
 use Rattle.pmap_minimise.specs.declared.built.Line.TheVariants.{Chain as ChainLine, Inner as InnerLine, Leaf as LeafLine}
 
 -- What a node's own line adds.

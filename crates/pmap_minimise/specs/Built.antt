@@ -1,4 +1,4 @@
-use Rattle.std.specs.Prelude.{◌≡◌, ℕ, zero, suc, ◌+◌, ◌/◌, ◌%◌, ◌^◌, ◌<◌, ◌≤◌, ◌==◌, Bool, List, [], ◌∷◌, ◌++◌, Some, All, if◌then◌else◌, length, nat_lt, slice_get}
+use Rattle.std.specs.Prelude.{◌≡◌, ℕ, zero, suc, ◌+◌, ◌/◌, ◌%◌, ◌^◌, ◌≤◌, ◌==◌, Bool, List, [], ◌∷◌, ◌++◌, Some, All, if◌then◌else◌, length, nat_lt, slice_get}
 use Rattle.prefix_keys.specs.Version.{width_of}
 use Rattle.prefix_keys.specs.declared.version.Version.{Version}
 use Rattle.pmap_text.specs.MapText.{map_of}
@@ -84,6 +84,7 @@ pub record IsChainAt (b : Built) (cost : ℕ) (set : List ℕ) (bits : List Bool
   pub to_is : to ≡ last + 1
   pub listed : slice_get b.chains.items number ≡ Some chain
   pub cost_is : cost ≡ chain.cost
+  pub price_is : chain.cost ≡ cost_above chain.side.0 end
   pub set_is : set ≡ side ∷ []
   pub side_is : side ≡ chain.side.0
   pub bits_are : bits ≡ way_to chain.end chain.bits

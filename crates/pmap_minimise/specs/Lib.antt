@@ -12,3 +12,4 @@ pub mod Stretched
 pub mod Areas
 pub mod Built
 pub mod Building
+pub mod Opening

@@ -1,7 +1,6 @@
-use Rattle.std.specs.Prelude.{◌≡◌, ℕ, List, [], ◌∷◌, ◌++◌, map}
-use Rattle.pmap_cert.specs.CertificateText.{text_of_lines}
+use Rattle.std.specs.Prelude.{◌≡◌, ℕ, List, [], ◌∷◌, ◌++◌}
 use Rattle.pmap_cert.specs.FormatReading.{DueLine}
-use Rattle.pmap_cert.specs.Node.{Node, line_text, lines_of}
+use Rattle.pmap_cert.specs.Node.{Node, lines_of}
 use Rattle.pmap_minimise.specs.Kept.{claims_in}
 use Rattle.pmap_minimise.specs.Listing.{AreWaiting}
 use Rattle.pmap_minimise.specs.declared.claim_list.Claims.{Claims}
@@ -19,9 +18,3 @@ pub record IsCertifying (parts : List Part) (claims : Claims) (root : Node) (nex
   pub nodes : List Node
   pub waiting : AreWaiting parts (claims_in claims) next left nodes
   pub lines_are : lines ++ lines_left nodes ≡ lines_of root
-
--- the text is that of the lines so far behind the old one
-pub record IsWriting (parts : List Part) (claims : Claims) (root : Node) (old : List ℕ) (next left : ℕ) (text : List ℕ) : Type 0 where
-  pub lines : List DueLine
-  pub certifying : IsCertifying parts claims root next left lines
-  pub text_is : text ≡ old ++ text_of_lines (map line_text lines)

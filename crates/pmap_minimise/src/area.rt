@@ -1,5 +1,5 @@
 //! Blocks of addresses with the stretches that have their ends, and the runs down from them.
-ghost use Rattle.std.specs.Prelude.{◌≡◌, ◌+◌, ◌^◌, ◌<◌, ◌↔◌, IsTrue, MatchOption, Some, option_map};
+ghost use Rattle.std.specs.Prelude.{◌≡◌, ◌+◌, ◌^◌, ◌<◌, ◌≤◌, ◌↔◌, IsTrue, MatchOption, Some, option_map};
 ghost use Rattle.prefix_keys.specs.Version.{width_of};
 ghost use Rattle.pmap_minimise.specs.Areas.{AreHalvesOf, IsArea, IsRunTo, IsStep, IsStop, own_label};
 ghost use Rattle.pmap_minimise.specs.Stretched.{HoldsAddress};
@@ -55,6 +55,24 @@ fn next_index(stretches: &Stretches, at: usize, address: u128) -> usize
     }
 }
 
+// The index of the stretch that has an address of a block: most often the first or the last one.
+fn index_of(stretches: &Stretches, area: &Area, address: u128) -> usize
+    requires area { IsArea stretches.now area.now }
+    requires from { area.now.first ≤ address }
+    requires to { address ≤ area.now.last }
+    ensures holds { HoldsAddress stretches.now address result }
+    ensures from { area.now.from ≤ result }
+    ensures to { result ≤ area.now.to }
+{
+    if address <= stretches.last(area.from) {
+        return area.from;
+    }
+    if stretches.first(area.to) <= address {
+        return area.to;
+    }
+    stretches.find(area.from, area.to, address)
+}
+
 /// The halves of a block that has addresses of two stretches or more.
 pub fn halves(stretches: &Stretches, area: &Area) -> (Area, Area)
     requires area { IsArea stretches.now area.now }
@@ -62,7 +80,7 @@ pub fn halves(stretches: &Stretches, area: &Area) -> (Area, Area)
     ensures { AreHalvesOf stretches.now area.now result.0 result.1 }
 {
     let middle = area.first + (area.last - area.first) / 2;
-    let at = stretches.find(area.from, area.to, middle);
+    let at = index_of(stretches, area, middle);
     let next = next_index(stretches, at, middle);
     let low = Area {
         first: area.first,

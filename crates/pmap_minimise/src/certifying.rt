@@ -1,14 +1,13 @@
-//! The certificate's nodes and their lines, from a trie and what they claim.
-ghost use Rattle.std.specs.Prelude.{◌≡◌, ◌++◌, All, IfOk, IsSome, OnOk, map};
-ghost use Rattle.pmap_cert.specs.CertificateText.{text_of_lines};
-ghost use Rattle.pmap_cert.specs.Node.{Node, line_text, lines_of};
+//! The certificate's nodes, from a trie and what they claim.
+ghost use Rattle.std.specs.Prelude.{◌≡◌, All, IfOk, IsSome};
+ghost use Rattle.pmap_cert.specs.Node.{Node};
 ghost use Rattle.pmap_minimise.specs.Claiming.{AreClaimsOf};
 ghost use Rattle.pmap_minimise.specs.Outline.{outline_of};
 
 use crate::claim_list::Claims;
 use crate::outline::{Part, part_at};
 use label_trie::Trie;
-use pmap_cert::{Nodes, Root, push_inner_line, push_leaf_line};
+use pmap_cert::{Nodes, Root};
 use std::alloc::{AllocError, Global};
 
 /// The certificate's nodes of a trie, whose inner nodes claim this. The trie's nodes are met from the first to the
@@ -31,24 +30,4 @@ pub fn certified(alloc: Global, trie: &Trie, claims: &Claims) -> Result<Root, Al
         }
     }
     Ok(Root::new(nodes))
-}
-
-/// Appends the lines of these nodes, without making the nodes.
-pub fn push_lines(out: &mut Vec<u8>, trie: &Trie, claims: &Claims) -> Result<(), AllocError>
-    requires labelled { All (λ leaf. IsSome leaf.label) trie.now.leaves }
-    requires claimed { (node : Node) × AreClaimsOf (outline_of trie.now.nodes) claims.now node }
-    ensures { OnOk result ((node : Node) → AreClaimsOf (outline_of trie.now.nodes) claims.now node
-        → out.new.items ≡ out.old.items ++ text_of_lines (map line_text (lines_of node))) }
-{
-    let mut left = claims.len();
-    for number in 0..trie.node_count() {
-        match part_at(trie, number) {
-            Part::Labelled(id) => push_leaf_line(out, id)?,
-            Part::Divided => {
-                left -= 1;
-                push_inner_line(out, claims.cost(left), claims.set(left))?;
-            }
-        }
-    }
-    Ok(())
 }

@@ -29,6 +29,7 @@ mod compacting;
 mod entering;
 mod listing;
 mod minimal;
+mod opening;
 mod outline;
 mod set_list;
 mod sets;

@@ -15,10 +15,11 @@ ghost use Rattle.label_trie.specs.TrieModel.{IsSettledLeaf, IsUndivided};
 ghost use Rattle.pmap_minimise.specs.Shortest.{list_with};
 
 use crate::building::built;
-use crate::certifying::{certified, push_lines};
+use crate::certifying::certified;
 use crate::claiming::claimed;
 use crate::compacting::compacted;
 use crate::listing::listed;
+use crate::opening::push_text;
 use label_trie::Trie;
 use pmap_cert::{Certificate, Format, minimal_pair_is_accepted, push_head, write_cert};
 use pmap_text::{Entries, Entry, MapText, Name, PrefixList};
@@ -88,22 +89,18 @@ pub fn shortest(alloc: Global, map: &MapText) -> Result<PrefixList, AllocError>
     list_with(alloc, map, items)
 }
 
-/// The text of the certificate of `minimise` alone, which is made without the list and without the certificate's nodes.
-/// The trie is the map's, as `Trie::build` makes it.
-pub fn certificate_text(alloc: Global, map: &MapText, trie: &Trie) -> Result<Vec<u8>, AllocError>
-    requires version { trie.now.version ≡ map.now.version }
-    requires settled { All (IsSettledLeaf (map_of map.now)) trie.now.leaves }
-    requires undivided { All (IsUndivided (map_of map.now)) trie.now.leaves }
+/// The text of the certificate of `minimise` alone, which is made without the list and without a node for each line of it.
+pub fn certificate_text(alloc: Global, map: &MapText) -> Result<Vec<u8>, AllocError>
     // It is the text of the certificate of the map's minimal pair.
     ensures { IfOk result (λ text. (l : ListModel) × (c : CertificateModel) × IsMinimalPair (map_of map.now) l c
         × HasTextForm c × (text.items ≡ certificate_text c)) }
 {
     // For its law: the table's labels are distinct.
     let _labels = map.labels.len();
-    let claims = claimed(alloc, trie)?;
+    let built = built(alloc, map)?;
     let mut out = Vec::new(alloc);
     push_head(&mut out, Format::One, map.version, &map.labels)?;
-    push_lines(&mut out, trie, &claims)?;
+    push_text(&mut out, alloc, &built, built.lines.len())?;
     Ok(out)
 }
 

@@ -4,7 +4,6 @@ ghost use Rattle.pmap_text.specs.MapText.{map_of};
 ghost use Rattle.flowlabel.specs.Output.{PrintsMinimal};
 
 use crate::command::Shrunk;
-use label_trie::Trie;
 use pmap_minimise::{certificate_text, compact_text, shortest};
 use pmap_print::print_list;
 use pmap_text::MapText;
@@ -16,7 +15,7 @@ pub fn shrunk_text(alloc: Global, map: &MapText, printed: Shrunk) -> Result<Vec<
 {
     match printed {
         Shrunk::List => print_list(alloc, &shortest(alloc, map)?),
-        Shrunk::Certificate => certificate_text(alloc, map, &Trie::build(alloc, map)?),
+        Shrunk::Certificate => certificate_text(alloc, map),
         Shrunk::Compact => compact_text(alloc, map),
     }
 }

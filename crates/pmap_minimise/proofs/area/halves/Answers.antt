@@ -1,15 +1,12 @@
-use Rattle.std.proofs.Common.{◌+◌, ◌-◌, ◌/◌, ℕ, arith, refl, sym, subst}
-use Rattle.pmap_minimise.specs.Stretched.{HoldsAddress}
+use Rattle.std.proofs.Common.{◌+◌, ◌-◌, ◌/◌, ℕ, arith, refl}
 use Rattle.pmap_minimise.proofs.Areas.{are-halves, area-split, block-order, index-most}
 use Rattle.pmap_minimise.proofs.area.halves.Goals as goal
 
-pub find-at-requires : goal.find-at-requires
-find-at-requires c =
+pub index_of-at-requires : goal.index_of-at-requires
+index_of-at-requires c =
     let is = c.requires.area in
     let order = block-order c.args.stretches.now c.args.area.now is in
-    let from = is.start.from in
-    let to = is.end.to in
-    record { order = is.ordered; index = is.end.index; from = omega arith; to = omega arith }
+    record { area = is; from = omega arith; to = omega arith }
 
 pub next_index-next-requires : goal.next_index-next-requires
 next_index-next-requires c =
@@ -17,7 +14,7 @@ next_index-next-requires c =
     let split = area-split c.args.stretches.now c.args.area.now is c.requires.divided is.few.statements is.few.default is.few.stretches in
     let some = split.some in
     let fits = split.fits in
-    record { holds = c.find-at.ensures.holds; below = omega arith }
+    record { holds = c.index_of-at.ensures.holds; below = omega arith }
 
 pub returns : goal.returns
 returns c =
@@ -27,5 +24,5 @@ returns c =
     let split = area-split s a is c.requires.divided is.few.statements is.few.default is.few.stretches in
     let some = split.some in
     let middle : ℕ = a.first + (a.last - a.first) / 2 in
-    are-halves s a is c.requires.divided _ _ refl refl refl refl refl refl refl refl c.find-at.ensures.holds c.next_index-next.ensures c.find-at.ensures.from
+    are-halves s a is c.requires.divided _ _ refl refl refl refl refl refl refl refl c.index_of-at.ensures.holds c.next_index-next.ensures c.index_of-at.ensures.from
     (index-most s is.few.stretches.every (middle + 1) a.last c.next_index-next.result a.to (omega arith) c.next_index-next.ensures is.end)

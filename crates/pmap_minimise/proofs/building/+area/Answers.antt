@@ -1,4 +1,4 @@
-use Rattle.std.proofs.Common.{◌∙◌, ◌≡◌, ◌+◌, ◌-◌, ℕ, Option, Some, option_map, ap, arith, refl, sym}
+use Rattle.std.proofs.Common.{◌∙◌, ◌≡◌, ◌-◌, Option, Some, option_map, ap, arith, refl, sym}
 use Rattle.pmap_text.specs.declared.label.LabelId.{LabelId}
 use Rattle.pmap_minimise.specs.Areas.{own_label}
 use Rattle.pmap_minimise.specs.Built.{IsBuilt}

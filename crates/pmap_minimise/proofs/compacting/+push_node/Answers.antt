@@ -1,9 +1,9 @@
-use Rattle.std.proofs.Common.{◌≡◌, ◌+◌, ◌-◌, ◌∙◌, ◌++◌, ℕ, Bool, List, [], ◌∷◌, ap, arith, map, refl, subst, sym}
+use Rattle.std.proofs.Common.{◌≡◌, ◌-◌, ◌∙◌, ◌++◌, ℕ, Bool, List, [], ◌∷◌, ap, arith, map, subst, sym}
 use Rattle.std.proofs.lemmas.List.{append_assoc}
 use Rattle.std.proofs.lemmas.Option.{slice_get_within}
 use Rattle.pmap_text.specs.declared.label.LabelId.{LabelId}
-use Rattle.pmap_cert.specs.FormatReading.{ChainLine, DueLine, InnerLine, LeafLine, PlainLine}
-use Rattle.pmap_cert.specs.Node.{Node, lines_of}
+use Rattle.pmap_cert.specs.FormatReading.{ChainLine, DueLine, InnerLine, PlainLine}
+use Rattle.pmap_cert.specs.Node.{lines_of}
 use Rattle.pmap_minimise.specs.Built.{IsAt, way_to}
 use Rattle.pmap_minimise.specs.Kept.{IsHeldIn, larger_in, set_by}
 use Rattle.pmap_minimise.specs.Numbers.{numbers_of}

@@ -1,4 +1,4 @@
-use Rattle.std.proofs.Common.{◌≡◌, ◌-◌, ◌∙◌, ℕ, List, [], None, ap, arith, length, subst, sym}
+use Rattle.std.proofs.Common.{◌≡◌, ◌-◌, ◌∙◌, ℕ, List, None, ap, arith, length, subst, sym}
 use Rattle.prefix_keys.specs.Version.{width_of}
 use Rattle.pmap_text.specs.declared.entry.Entry.{Entry}
 use Rattle.pmap_minimise.specs.Built.{IsAt}

@@ -1,13 +1,26 @@
-use Rattle.std.proofs.Common.{◌++◌, ◌∷◌, ◌∙◌, ap, length}
+use Rattle.std.proofs.Common.{◌≡◌, ◌++◌, ◌∷◌, ◌∙◌, ℕ, ap, arith, length, refl, subst}
 use Rattle.pmap_cert.specs.CertificateText.{format_header, text_of_lines}
-use Rattle.pmap_minimise.specs.Outline.{outline_of}
-use Rattle.pmap_minimise.proofs.Whole.{claimed-text}
+use Rattle.pmap_minimise.specs.Built.{IsAt}
+use Rattle.pmap_minimise.proofs.Whole.{certified-text}
 use Rattle.pmap_minimise.proofs.minimal.certificate_text.Goals as goal
+
+pub push_text-requires-clause-kept : goal.push_text-requires-clause-kept
+push_text-requires-clause-kept c = c.in_ok-built.ensures.built.kept
+
+pub push_text-requires-clause-stands : goal.push_text-requires-clause-stands
+push_text-requires-clause-stands c =
+    let b = c.in_ok-built.built in
+    let built = c.in_ok-built.ensures in
+    let same_len : length b.lines.items ≡ c.len.result = omega (arith, c.len.ensures, b.lines.ok) in
+    record { compact = built.built.compact; node = built.node; from = 0; at = subst (λ (n : ℕ). IsAt b built.built.compact built.node 0 n) same_len built.built.at }
 
 pub returns : goal.returns
 returns c =
     let m = c.args.map.now in
-    claimed-text m c.args.trie.now.version c.args.trie.now.leaves (outline_of c.args.trie.now.nodes) c.in_ok-claims.claims c.in_ok-claims.ensures.0
-    c.push_head.new.out.items c.push_lines.new.out.items c.in_ok-claims.ensures.1 c.requires.version c.len-labels.ensures.table c.requires.settled c.requires.undivided
+    let b = c.in_ok-built.built in
+    let built = c.in_ok-built.ensures in
+    let same_len : length b.lines.items ≡ c.len.result = omega (arith, c.len.ensures, b.lines.ok) in
+    let text = c.in_ok-push_text.ensures built.built.compact built.node 0 (subst (λ (n : ℕ). IsAt b built.built.compact built.node 0 n) same_len built.built.at) in
+    certified-text m m.version built.leaves built.node c.push_head.new.out.items c.push_text.new.out.items built.built.certified refl c.len-labels.ensures.table built.settled built.undivided
     (c.in_ok-push_head.ensures ∙ ap (λ out. out ++ text_of_lines (format_header 1 m.version (length m.labels) ∷ m.labels)) c.new-out.ensures.items)
-    (c.in_ok-push_lines.ensures c.in_ok-claims.ensures.0 c.in_ok-claims.ensures.1.are)
+    text.text_is

@@ -2,8 +2,7 @@ use Rattle.std.proofs.Common.{◌≡◌, ◌+◌, ◌^◌, ◌∙◌, ◌∷◌,
 use Rattle.prefix_keys.specs.Version.{width_of}
 use Rattle.prefix_keys.specs.declared.version.Version.{Version}
 use Rattle.pmap_text.specs.declared.label.LabelId.{LabelId}
-use Rattle.pmap_minimise.specs.Stretched.{StretchesModel}
-use Rattle.pmap_minimise.proofs.Collected.{AreSoFar, IsOver, are-stretches, every-address, next-so-far, over-stretch}
+use Rattle.pmap_minimise.proofs.Collected.{AreSoFar, are-stretches, every-address, next-so-far, over-stretch}
 use Rattle.pmap_minimise.proofs.stretched.Stretches.of_map.Goals as goal
 
 pub loop-walk-preserved : goal.loop-walk-preserved

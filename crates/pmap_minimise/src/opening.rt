@@ -1,0 +1,131 @@
+//! The lines of the certificate's nodes, with each chain of what was built opened.
+ghost use Rattle.std.specs.Prelude.{◌≡◌, ℕ, ◌+◌, ◌++◌, ◌∷◌, ◌≤◌, [], IfOk, OnOk, length};
+ghost use Rattle.pmap_cert.specs.CertificateText.{inner_line};
+ghost use Rattle.pmap_cert.specs.Node.{Node, set_of};
+ghost use Rattle.pmap_minimise.specs.Built.{HasLinesTo, IsAt, set_above, with_number};
+ghost use Rattle.pmap_minimise.specs.Kept.{AreSetsKept};
+ghost use Rattle.pmap_minimise.specs.Numbers.{numbers_of};
+ghost use Rattle.pmap_minimise.specs.Opening.{AddsText, AddsWay};
+
+use crate::built::{Built, Chain, Line};
+use crate::entering::has_label;
+use pmap_cert::{push_inner_line, push_leaf_line};
+use pmap_text::LabelId;
+use std::alloc::{AllocError, Global};
+use std::slice;
+
+// Adds the labels of a set with one label more, where it has its place.
+fn push_with(all: &mut Vec<LabelId>, set: &[LabelId], side: LabelId) -> Result<(), AllocError>
+    ensures { OnOk result (numbers_of all.new.items
+        ≡ numbers_of all.old.items ++ with_number side.0 (numbers_of set.now)) }
+{
+    let mut rest = set;
+    while let Some((id, more)) = rest.split_first() {
+        if side.0 < id.0 {
+            all.push(side)?;
+            all.extend_from_slice(rest)?;
+            return Ok(());
+        }
+        all.push(*id)?;
+        rest = more;
+    }
+    all.push(side)?;
+    Ok(())
+}
+
+// Appends the line of a node on the way down a chain, by the set of the chain's end and how many nodes follow on the way.
+fn push_way_line(
+    out: &mut Vec<u8>,
+    alloc: Global,
+    chain: &Chain,
+    end: &[LabelId],
+    more: u32,
+) -> Result<(), AllocError>
+    ensures { OnOk result (out.new.items ≡ out.old.items
+        ++ (inner_line chain.now.cost (set_above chain.now.side.0 (numbers_of end.now) more) ++ 10 ∷ [])) }
+{
+    if more > 0 {
+        return push_inner_line(out, chain.cost, slice::from_ref(&chain.side));
+    }
+    if has_label(end, chain.side) {
+        return push_inner_line(out, chain.cost, slice::from_ref(&chain.side));
+    }
+    let mut all = Vec::new(alloc);
+    push_with(&mut all, end, chain.side)?;
+    push_inner_line(out, chain.cost, all.as_slice())
+}
+
+// The set of the node whose lines end here.
+fn set_to(built: &Built, to: usize) -> &[LabelId]
+    requires kept { AreSetsKept built.now.sets }
+    requires stands { HasLinesTo built.now to }
+    ensures { (compact node : Node) (start : ℕ) → IsAt built.now compact node start to
+        → numbers_of result.now ≡ set_of node }
+{
+    match &built.lines[to - 1] {
+        Line::Leaf(id) => slice::from_ref(id),
+        Line::Inner(_, set) => built.sets.labels(set),
+        Line::Chain(number) => slice::from_ref(&built.chains[*number as usize].side),
+    }
+}
+
+// Appends the lines of the node whose lines end here, opened, and returns where they begin.
+#[cycle(text)]
+pub fn push_text(
+    out: &mut Vec<u8>,
+    alloc: Global,
+    built: &Built,
+    to: usize,
+) -> Result<usize, AllocError>
+    requires kept { AreSetsKept built.now.sets }
+    requires stands { HasLinesTo built.now to }
+    ensures { IfOk result (λ from. (compact node : Node) (start : ℕ) → IsAt built.now compact node start to
+        → AddsText node out.old.items out.new.items start from) }
+{
+    match built.lines[to - 1] {
+        Line::Leaf(id) => {
+            push_leaf_line(out, id)?;
+            Ok(to - 1)
+        }
+        Line::Inner(cost, set) => {
+            push_inner_line(out, cost, built.sets.labels(&set))?;
+            let middle = push_text(out, alloc, built, to - 1)?;
+            push_text(out, alloc, built, middle)
+        }
+        Line::Chain(number) => {
+            let chain = built.chains[number as usize];
+            push_way(out, alloc, built, to - 1, chain, chain.bits)
+        }
+    }
+}
+
+// Appends the lines of the nodes down a chain, from that with so many bits below it on, and of the chain's end, whose
+// lines end here. It returns where these begin.
+#[cycle(text)]
+fn push_way(
+    out: &mut Vec<u8>,
+    alloc: Global,
+    built: &Built,
+    to: usize,
+    chain: Chain,
+    bits: u32,
+) -> Result<usize, AllocError>
+    requires kept { AreSetsKept built.now.sets }
+    requires stands { HasLinesTo built.now to }
+    requires few { bits ≤ 128 }
+    ensures { IfOk result (λ from. (compact node : Node) (start : ℕ) → IsAt built.now compact node start to
+        → AddsWay chain bits node out.old.items out.new.items start from) }
+{
+    if bits == 0 {
+        return push_text(out, alloc, built, to);
+    }
+    push_way_line(out, alloc, &chain, set_to(built, to), bits - 1)?;
+    if (chain.end >> (bits - 1)) % 2 == 1 {
+        push_leaf_line(out, chain.side)?;
+        push_way(out, alloc, built, to, chain, bits - 1)
+    } else {
+        let from = push_way(out, alloc, built, to, chain, bits - 1)?;
+        push_leaf_line(out, chain.side)?;
+        Ok(from)
+    }
+}
