@@ -10,8 +10,7 @@ use Rattle.prefix_keys.specs.Block.{block_number, first_of, last_of}
 use Rattle.prefix_keys.specs.Version.{width_of}
 use Rattle.prefix_keys.specs.declared.version.Version.{Version}
 use Rattle.prefix_keys.proofs.Quotients.{above_first, below_end, quotient_is}
-use Rattle.pmap_text.specs.Stretches.{HasStretch}
-use Rattle.pmap_minimise.specs.Stretched.{AreStretches, HasEveryAddress, HoldsAddress, StretchesModel, first_at, label_at, last_at}
+use Rattle.pmap_text.specs.Stretches.{AreStretches, HasEveryAddress, HasStretch, HoldsAddress, StretchesModel, first_at, label_at, last_at}
 use Rattle.pmap_text.specs.declared.label.LabelId.{LabelId}
 use Rattle.pmap_text.specs.declared.statement.Statement.{Statement}
 use Rattle.pmap_cert.specs.CertificateForm.{IsRising}

@@ -12,11 +12,10 @@ use Rattle.prefix_keys.specs.Version.{width_of}
 use Rattle.prefix_keys.specs.declared.version.Version.{Version}
 use Rattle.prefix_keys.specs.declared.version.Version.TheVariants.{V4, V6}
 use Rattle.pmap_text.specs.MapText.{map_of}
-use Rattle.pmap_text.specs.Stretches.{label_seen}
+use Rattle.pmap_text.specs.Stretches.{AreStretches, StretchesModel, first_at, label_at, label_seen, last_at}
 use Rattle.pmap_text.specs.declared.statement.Statement.{Statement}
 use Rattle.pmap_text.specs.declared.label.LabelId.{LabelId}
 use Rattle.pmap_text.specs.declared.map_text.MapText.{MapText}
-use Rattle.pmap_minimise.specs.Stretched.{AreStretches, StretchesModel, first_at, label_at, last_at}
 use Rattle.pmap_cert.specs.Node.{Chain, Inner, Leaf, Node, cost_of, label_of, set_of}
 use Rattle.pmap_cert.specs.Placing.{IsCompactNode, bits_down, end_down, side_below}
 use Rattle.pmap_cert.proofs.CompactNodes.{compact-chain, compact-leaf, compact-none, compact-short}

@@ -17,5 +17,4 @@ pub mod Ways
 pub mod Areas
 pub mod BuiltNodes
 pub mod WayEntries
-pub mod Collected
 pub mod Opened

@@ -4,7 +4,7 @@ use Rattle.prefix_keys.specs.Block.{block_number}
 use Rattle.prefix_keys.specs.Version.{width_of}
 use Rattle.prefix_keys.specs.declared.version.Version.{Version}
 use Rattle.pmap_text.specs.MapModel.{MapModel}
-use Rattle.pmap_minimise.specs.Stretched.{AreStretches, HoldsAddress, StretchesModel, label_at}
+use Rattle.pmap_text.specs.Stretches.{AreStretches, HoldsAddress, StretchesModel, label_at}
 use Rattle.pmap_text.specs.declared.label.LabelId.{LabelId}
 use Rattle.pmap_text.specs.declared.statement.Statement.{Statement}
 use Rattle.pmap_cert.specs.CertificateForm.{IsRising}

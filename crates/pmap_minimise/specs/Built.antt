@@ -3,7 +3,7 @@ use Rattle.prefix_keys.specs.Version.{width_of}
 use Rattle.prefix_keys.specs.declared.version.Version.{Version}
 use Rattle.pmap_text.specs.MapText.{map_of}
 use Rattle.pmap_text.specs.declared.map_text.MapText.{MapText}
-use Rattle.pmap_minimise.specs.Stretched.{StretchesModel}
+use Rattle.pmap_text.specs.Stretches.{StretchesModel}
 use Rattle.pmap_cert.specs.Node.{Chain as ChainNode, Inner, Leaf, Node, cost_of, set_of}
 use Rattle.pmap_cert.specs.Placing.{IsCompactNode}
 use Rattle.label_trie.specs.Tree.{Tree}

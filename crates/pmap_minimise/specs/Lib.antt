@@ -8,7 +8,6 @@ pub mod Claiming
 pub mod Listing
 pub mod MadeLines
 pub mod Compacting
-pub mod Stretched
 pub mod Areas
 pub mod Built
 pub mod Building

@@ -2,10 +2,9 @@
 ghost use Rattle.std.specs.Prelude.{◌≡◌, ◌+◌, ◌^◌, ◌<◌, ◌≤◌, ◌↔◌, IsTrue, MatchOption, Some, option_map};
 ghost use Rattle.prefix_keys.specs.Version.{width_of};
 ghost use Rattle.pmap_minimise.specs.Areas.{AreHalvesOf, IsArea, IsRunTo, IsStep, IsStop, own_label};
-ghost use Rattle.pmap_minimise.specs.Stretched.{HoldsAddress};
+ghost use Rattle.pmap_text.specs.Stretches.{HoldsAddress};
 
-use crate::stretched::Stretches;
-use pmap_text::LabelId;
+use pmap_text::{LabelId, Stretches};
 
 /// A block of addresses, and the indices of the stretches that have its first and its last address.
 #[derive(Clone, Copy)]

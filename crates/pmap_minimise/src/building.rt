@@ -12,8 +12,7 @@ use crate::built::{Built, Chain, Claim, Line};
 use crate::claiming::joined;
 use crate::entering::has_label;
 use crate::set_list::{Sets, are_one_label};
-use crate::stretched::Stretches;
-use pmap_text::{LabelId, MapText};
+use pmap_text::{LabelId, MapText, Stretches};
 use std::alloc::{AllocError, Global};
 
 // Adds the line of a leaf.
@@ -158,7 +157,8 @@ fn run_of(stretches: &Stretches, area: &Area, low: &Area, high: &Area) -> Option
     requires area { IsArea stretches.now area.now }
     requires halves { AreHalvesOf stretches.now area.now low.now high.now }
     ensures { MatchOption result
-        (IsShortRun stretches.now area.now (option_or (own_label stretches.now low.now) (own_label stretches.now high.now)))
+        (IsShortRun stretches.now area.now
+        (option_or (own_label stretches.now low.now) (own_label stretches.now high.now)))
         (λ x. IsLongRun stretches.now area.now low.now high.now x.0.0 x.1) }
 {
     let Some(side) = side_of(stretches, low, high) else {

@@ -34,6 +34,5 @@ mod outline;
 mod set_list;
 mod sets;
 mod stack;
-mod stretched;
 
 pub use minimal::{Minimal, certificate_text, compact_text, minimise, shortest};

@@ -69,8 +69,8 @@ pub fn minimise(alloc: Global, map: &MapText, trie: &Trie) -> Result<Minimal, Al
     })
 }
 
-/// The list of `minimise` alone, which is made without a trie and without the certificate's nodes: a shortest prefix list
-/// that labels every address as the map does, with the map's name and label table.
+/// The list of `minimise` alone, which is made without a trie and without the certificate's nodes: a shortest prefix
+/// list that labels every address as the map does, with the map's name and label table.
 pub fn shortest(alloc: Global, map: &MapText) -> Result<PrefixList, AllocError>
     // With a certificate, which has a text, it is the map's minimal pair.
     ensures minimal { IfOk result (λ list. (c : CertificateModel) × IsMinimalPair (map_of map.now) (list_of list) c
@@ -89,7 +89,8 @@ pub fn shortest(alloc: Global, map: &MapText) -> Result<PrefixList, AllocError>
     list_with(alloc, map, items)
 }
 
-/// The text of the certificate of `minimise` alone, which is made without the list and without a node for each line of it.
+/// The text of the certificate of `minimise` alone, which is made without the list and without a node for each line of
+/// it.
 pub fn certificate_text(alloc: Global, map: &MapText) -> Result<Vec<u8>, AllocError>
     // It is the text of the certificate of the map's minimal pair.
     ensures { IfOk result (λ text. (l : ListModel) × (c : CertificateModel) × IsMinimalPair (map_of map.now) l c

@@ -33,7 +33,8 @@ fn push_with(all: &mut Vec<LabelId>, set: &[LabelId], side: LabelId) -> Result<(
     Ok(())
 }
 
-// Appends the line of a node on the way down a chain, by the set of the chain's end and how many nodes follow on the way.
+// Appends the line of a node on the way down a chain, by the set of the chain's end and how many nodes follow on the
+// way.
 fn push_way_line(
     out: &mut Vec<u8>,
     alloc: Global,
