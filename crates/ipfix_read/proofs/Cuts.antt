@@ -9,7 +9,7 @@ use Rattle.ipfix_templates.specs.declared.field.Field.{Field}
 use Rattle.ipfix_templates.specs.Field.{has_bytes, is_variable}
 use Rattle.ipfix_templates.specs.Runs.{runs_behind, last_run_behind}
 use Rattle.ipfix_read.specs.Value.{FieldValueView, bytes_at, variable_at, value_at, values_at, whole_values}
-use Rattle.ipfix_read.proofs.Choice.{chosen, gave, some_is}
+use Rattle.ipfix_templates.proofs.Choice.{chosen, gave, some_is}
 
 -- what was read stands at the front, and is read alike whatever follows it
 abbrev pub Front : {A : Type 0} → (List ℕ → Option (A × List ℕ)) → List ℕ → A × List ℕ → Type 0

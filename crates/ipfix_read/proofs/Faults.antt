@@ -1,5 +1,6 @@
 -- That memory ran out is no fault of the bytes of a File.
-use Rattle.std.proofs.Common.{◌≡◌, ◌≢◌, ℕ, ◌+◌, ltb, eqb, List, length, drop, Some, None, inl, inr, sym, ap, ◌∙◌}
+use Rattle.std.proofs.Common.{◌≡◌, ◌≢◌, ℕ, ◌+◌, false, cond, ltb, eqb, List, length, drop, Some, None, inl, inr, refl, sym, ap, ◌∙◌}
+use Rattle.std.specs.Option.{option_or}
 use Rattle.byteorder.specs.Endian.{big_number}
 use Rattle.ipfix_templates.specs.declared.event.TemplateEvent.{TemplateEvent}
 use Rattle.ipfix_templates.specs.declared.fault.TemplateFaultKind.{TemplateFaultKind}
@@ -7,11 +8,17 @@ use Rattle.ipfix_templates.specs.declared.fault.TemplateFaultKind.TheVariants.{N
 use Rattle.ipfix_templates.specs.Laws.{MemoryIsNoFault as MemoryIsNoTemplateFault}
 use Rattle.ipfix_read.specs.declared.fault.ReadFault.{ReadFault}
 use Rattle.ipfix_read.specs.declared.fault.ReadFaultKind.{ReadFaultKind}
-use Rattle.ipfix_read.specs.declared.fault.ReadFaultKind.TheVariants.{TruncatedHeader, BadVersion, BadMessageLength, TruncatedMessage, TooManyMessages, BadTemplate, NoMemory}
+use Rattle.ipfix_read.specs.declared.fault.ReadFaultKind.TheVariants.{TruncatedHeader, BadVersion, BadMessageLength, TruncatedMessage, TooManyMessages, BadTemplate, ReadFault as Unread, NoMemory}
+use Rattle.ipfix_read.specs.Fault.{is_of_calls, is_of_reader}
 use Rattle.ipfix_read.specs.Set.{written_length, HasContentFault, HasSetFault}
-use Rattle.ipfix_read.specs.Message.{header_fault, HasMessageFault}
+use Rattle.ipfix_read.specs.Message.{header_fault, own_fault, HasMessageFault}
 use Rattle.ipfix_read.specs.Laws.{MemoryIsNoFault}
-use Rattle.ipfix_read.proofs.Choice.{chosen}
+use Rattle.ipfix_templates.proofs.Choice.{chosen}
+
+-- what is none of calls is none of a reader
+pub not_of_reader : (kind : ReadFaultKind) → is_of_calls kind ≡ false → is_of_reader kind ≡ false
+not_of_reader Unread e = absurd (cc)
+not_of_reader kind e = refl
 
 -- it tells what is wrong with the bytes
 abbrev Tells : ReadFaultKind → Type 0
@@ -29,27 +36,34 @@ from_kind fault kind offset is tells = (
 template_kind : (kind : TemplateFaultKind) → (kind ≡ NoTemplateMemory → ⊥) → Tells (BadTemplate kind)
 template_kind kind other = (λ e. cc, λ e. other cc)
 
+own_kind : (count : ℕ) (bytes : List ℕ) (kind : ReadFaultKind) → own_fault count bytes ≡ Some kind → Tells kind
+own_kind count bytes kind e =
+    elim (chosen (ltb count 4294967295) _ (Some TooManyMessages) (Some kind) e) [
+      | inl q ↦
+          elim (chosen (eqb (big_number 2 bytes) 10) _ (Some BadVersion) (Some kind) q.1) [
+            | inl r ↦
+                elim (chosen (ltb (written_length bytes) 16) (Some BadMessageLength) None (Some kind) r.1) [
+                  | inl s ↦ (λ t. cc, λ t. cc)
+                  | inr s ↦ absurd (cc)
+                ]
+            | inr r ↦ (λ s. cc, λ s. cc)
+          ]
+      | inr q ↦ (λ r. cc, λ r. cc)
+    ]
+
 header_kind : (count : ℕ) (bytes : List ℕ) (kind : ReadFaultKind) → header_fault count bytes ≡ Some kind → Tells kind
 header_kind count bytes kind e =
     elim (chosen (ltb (length bytes) 16) (Some TruncatedHeader) _ (Some kind) e) [
       | inl p ↦ (λ q. cc, λ q. cc)
       | inr p ↦
-          elim (chosen (ltb count 4294967295) _ (Some TooManyMessages) (Some kind) p.1) [
-            | inl q ↦
-                elim (chosen (eqb (big_number 2 bytes) 10) _ (Some BadVersion) (Some kind) q.1) [
-                  | inl r ↦
-                      elim (chosen (ltb (written_length bytes) 16) (Some BadMessageLength) _ (Some kind) r.1) [
-                        | inl s ↦ (λ t. cc, λ t. cc)
-                        | inr s ↦
-                            elim (chosen (ltb (length bytes) (written_length bytes)) (Some TruncatedMessage) None (Some kind) s.1) [
-                              | inl t ↦ (λ u. cc, λ u. cc)
-                              | inr t ↦ absurd (cc)
-                            ]
-                      ]
-                  | inr r ↦ (λ s. cc, λ s. cc)
+          elim (own_fault count bytes) as (λ o. own_fault count bytes ≡ o → option_or o (cond (ltb (length bytes) (written_length bytes)) (Some TruncatedMessage) None) ≡ Some kind → Tells kind) [
+            | Some own ↦ λ is q. own_kind count bytes kind (is ∙ q)
+            | None ↦ λ _ q.
+                elim (chosen (ltb (length bytes) (written_length bytes)) (Some TruncatedMessage) None (Some kind) q) [
+                  | inl t ↦ (λ u. cc, λ u. cc)
+                  | inr t ↦ absurd (cc)
                 ]
-            | inr q ↦ (λ r. cc, λ r. cc)
-          ]
+          ] refl p.1
     ]
 
 module _ (memory : MemoryIsNoTemplateFault) where
@@ -63,7 +77,7 @@ module _ (memory : MemoryIsNoTemplateFault) where
 
   message_kind : (history : List (ℕ × TemplateEvent)) (count : ℕ) (bytes : List ℕ) (base : ℕ) (fault : ReadFault) → HasMessageFault history count bytes base fault → Tells fault.kind
   message_kind history count bytes base fault (inl p) = from_kind fault p.0 base p.2 (header_kind count bytes p.0 p.1)
-  message_kind history count bytes base fault (inr p) = let q = p.6 in set_kind _ _ q.1 _ fault q.4
+  message_kind history count bytes base fault (inr p) = let q = p.6 in let found = q.3 in set_kind _ _ _ _ fault found.1
 
   pub memory_is_no_fault : MemoryIsNoFault
-  memory_is_no_fault history offset count bytes fault p = message_kind _ _ p.1 _ fault p.4
+  memory_is_no_fault history offset count bytes fault p = let found = p.3 in message_kind _ _ _ _ fault found.1

@@ -16,7 +16,7 @@ use Rattle.ipfix_read.proofs.Headers.{number_ahead, written_ahead, own_ahead, he
 -- ---- where the two parts lie
 
 -- the header that was read
-abbrev head_of : List ℕ → List ℕ → List ℕ
+abbrev pub head_of : List ℕ → List ℕ → List ℕ
 head_of xs ys = take 16 (put_mid 0 16 xs ys)
 
 pub head_is : (xs ys : List ℕ) → length ys ≡ 16 → head_of xs ys ≡ ys

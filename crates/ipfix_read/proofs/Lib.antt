@@ -1,4 +1,3 @@
-pub mod Choice
 pub mod Cuts
 pub mod RecordBytes
 pub mod PackedRecords
@@ -6,12 +5,9 @@ pub mod Events
 pub mod Sets
 pub mod MessageLemmas
 pub mod Faults
-pub mod UniqueRecords
-pub mod UniqueSets
-pub mod UniqueMessages
-pub mod OutcomesOfRecords
-pub mod OutcomesOfSets
-pub mod OutcomesOfMessages
+pub mod Contents
+pub mod SetReadings
+pub mod MessageReadings
 pub mod Headers
 pub mod Filling
 pub mod Gathering

@@ -15,7 +15,7 @@ use Rattle.ipfix_read.specs.declared.record.Record.{Record}
 use Rattle.ipfix_read.specs.Value.{FieldValueView, bytes_at, value_at, values_at}
 use Rattle.ipfix_read.specs.Record.{record_at, ReadsRecords, HasRecord}
 use Rattle.ipfix_read.specs.WholeRecords.{packed_records, whole_records}
-use Rattle.ipfix_read.proofs.Choice.{gave, mapped, some_is}
+use Rattle.ipfix_templates.proofs.Choice.{gave, mapped, some_is}
 use Rattle.ipfix_read.proofs.Cuts.{behind_runs, left, values_front, runs_are}
 
 -- the fields of values are those that they were read by
@@ -121,9 +121,10 @@ reads_front : (t : TemplateView) (bytes : List ℕ) (records : List Record) (res
     → (front : List ℕ) × (bytes ≡ front ++ rest) × ((more : List ℕ) → whole_records t.kind t.fields (length records) (front ++ more) ≡ records)
 reads_front t bytes [] rest done = ([], done, λ more. no_count t.kind t.fields more)
 reads_front t bytes (r ∷ rs) rest done =
-    let v = values_of t bytes done.0 r done.2 in
+    let one = done.1 in
+    let v = values_of t bytes done.0 r one.1 in
     let f = values_front t.fields bytes v.0 v.1 in
-    let g = reads_front t done.0 rs rest done.3 in (
+    let g = reads_front t done.0 rs rest done.2 in (
       f.0 ++ g.0,
       f.1 ∙ ap (λ (ys : List ℕ). f.0 ++ ys) (sym v.3 ∙ g.1) ∙ sym (append_assoc f.0 g.0 rest),
       λ more.
@@ -150,7 +151,7 @@ packed_length t bytes records rest count n done counted is = ap length (packed t
 -- where there is one, the first stands whole at the front
 pub first_stands : (t : TemplateView) (bytes : List ℕ) (records : List Record) (rest : List ℕ) (count : ℕ) → ReadsRecords t bytes records rest → length records ≡ count → 0 < count → HasRecord t bytes
 first_stands t bytes [] rest count done counted some = absurd (omega (arith, counted, some))
-first_stands t bytes (r ∷ rs) rest count done counted some = ([], bytes, refl, done.1, ap is_some done.2)
+first_stands t bytes (r ∷ rs) rest count done counted some = let one = done.1 in ([], bytes, refl, one.0, ap is_some one.1)
 
 -- ---- without variable fields
 
@@ -193,7 +194,7 @@ fixed_records t (suc count) bytes none some room =
     let behind : drop (count * least) v.0.1 ≡ drop (suc count * least) bytes = ap (drop (count * least)) v.2 ∙ drop-drop (count * least) least bytes ∙ ap (λ (n : ℕ). drop n bytes) (omega (arith, split)) in (
       record { kind = t.kind; fields = v.0.0 } ∷ more.0,
       ap (λ (n : ℕ). suc n) more.1,
-      (v.0.1, (some, omega (arith, room, split)), record_is t bytes v.0 v.1, subst (λ (rest : List ℕ). ReadsRecords t v.0.1 more.0 rest) behind more.2),
+      (v.0.1, ((some, omega (arith, room, split)), record_is t bytes v.0 v.1), subst (λ (rest : List ℕ). ReadsRecords t v.0.1 more.0 rest) behind more.2),
     )
 
 -- behind as many records as there is room for, there is none for one more

@@ -9,8 +9,9 @@ use Rattle.ipfix_templates.specs.Field.{least_field_length, least_length}
 use Rattle.ipfix_templates.specs.Template.{TemplateView}
 use Rattle.ipfix_read.specs.declared.record.Record.{Record}
 use Rattle.ipfix_read.specs.Value.{FieldValueView, bytes_at, variable_at, value_at, values_at}
-use Rattle.ipfix_read.specs.Record.{record_at, HasRoom, ReadsRecords}
-use Rattle.ipfix_read.proofs.Choice.{chosen, gave, mapped, some_is}
+use Rattle.ipfix_read.specs.Record.{record_at, ReadsRecord, ReadsRecords}
+use Rattle.ipfix_templates.proofs.Choice.{chosen, gave, mapped, some_is}
+use Rattle.ipfix_templates.proofs.Reading.{reads_shorter}
 
 bytes_shorter : (count : ℕ) (bytes : List ℕ) (x : List ℕ × List ℕ) → bytes_at count bytes ≡ Some x → length x.1 + count ≤ length bytes
 bytes_shorter count bytes x e =
@@ -54,12 +55,6 @@ record_shorter t bytes x e =
     omega (arith, values_shorter t.fields bytes a.0 a.1, ap (λ (y : Record × List ℕ). length y.1) a.2)
 
 -- records take at least one byte each
-pub reads_shorter : (t : TemplateView) (bytes : List ℕ) (records : List Record) (rest : List ℕ) → ReadsRecords t bytes records rest → length records + length rest ≤ length bytes
-reads_shorter t bytes [] rest e = omega (arith, ap length e)
-reads_shorter t bytes (r ∷ rs) rest h = omega (arith, record_shorter t bytes (r, h.0) h.2, reads_shorter t h.0 rs rest h.3, h.1.0)
-
--- one more record
-pub reads_more : (t : TemplateView) (bytes : List ℕ) (records : List Record) (rest : List ℕ) (r : Record) (after : List ℕ) → ReadsRecords t bytes records rest → HasRoom t rest
-    → record_at t rest ≡ Some (r, after) → ReadsRecords t bytes (records ++ r ∷ []) after
-reads_more t bytes [] rest r after done room read = (after, rw done room, rw done read, refl)
-reads_more t bytes (x ∷ xs) rest r after done room read = (done.0, done.1, done.2, reads_more t done.0 xs rest r after done.3 room read)
+pub records_shorter : (t : TemplateView) (bytes : List ℕ) (records : List Record) (rest : List ℕ) → ReadsRecords t bytes records rest → length records + length rest ≤ length bytes
+records_shorter t bytes records rest read =
+    omega (arith, reads_shorter (ReadsRecord t) length 1 (λ s r after h. let has = h.0 in omega (arith, has.0, record_shorter t s (r, after) h.1)) bytes records rest read)

@@ -1,29 +1,29 @@
 -- Sets, one after the other.
-use Rattle.std.proofs.Common.{◌≡◌, ℕ, ◌+◌, ◌-◌, ◌<◌, ◌≤◌, false, eqb, List, [], ◌∷◌, ◌++◌, length, take, drop, Result, Ok, Err, refl, sym, ap, subst, ◌∙◌, inr, append_assoc, arith, take-append-drop, length-append, length-drop}
-use Rattle.std.specs.Prelude.{IfOk}
-use Rattle.std.specs.List.{flat_map}
-use Rattle.std.proofs.lemmas.Grind.{flat_map-append}
+use Rattle.std.proofs.Common.{◌≡◌, ℕ, ◌+◌, ◌-◌, ◌<◌, ◌≤◌, false, eqb, List, [], ◌∷◌, ◌++◌, length, take, drop, refl, sym, ap, subst, ◌∙◌, inl, inr, append_assoc, arith, take-append-drop, length-drop}
 use Rattle.std.proofs.lemmas.List.{append-nil, take_all, get_or-take, get_or-drop, length-take-le}
 use Rattle.std.proofs.lemmas.List.Concat.{flat_map-cons}
 use Rattle.std.proofs.lemmas.List.Sums.{sum_by-append, sum_by-cons}
 use Rattle.byteorder.specs.Endian.{big_number}
 use Rattle.ipfix_templates.specs.declared.event.TemplateEvent.{TemplateEvent}
+use Rattle.ipfix_templates.specs.Reads.{Reads}
 use Rattle.ipfix_templates.specs.Template.{TemplateView}
 use Rattle.ipfix_templates.specs.Table.{Follows}
 use Rattle.ipfix_read.specs.declared.set.Set.{Set}
 use Rattle.ipfix_read.specs.declared.fault.ReadFault.{ReadFault}
-use Rattle.ipfix_read.specs.Set.{events_of_set, events_of_sets, written_length, IsContent, HasContentFault, IsSet, HasSetFault, ReadsSets}
+use Rattle.ipfix_read.specs.Set.{events_of_set, events_of_sets, written_length, IsContent, HasContentFault, IsSet, HasSetFault, Place, ReadsSet, IsRefused}
 use Rattle.ipfix_read.specs.Message.{set_size, message_size}
 
--- a content with no events leaves the table
-pub no_events : (r : Result Set ReadFault) (table : List ((ℕ × ℕ) × TemplateView)) (domain id : ℕ) (bytes : List ℕ)
-    → IfOk r (λ set. (history : List (ℕ × TemplateEvent)) → Follows table history → IsContent history domain id bytes set × (events_of_set domain set ≡ []))
-    → IfOk r (λ set. (history : List (ℕ × TemplateEvent)) → Follows table history → IsContent history domain id bytes set × Follows table (history ++ events_of_set domain set))
-no_events (Ok set) table domain id bytes h = λ history follows.
-    let read = h history follows in
-    let same : history ≡ history ++ events_of_set domain set = sym (ap (λ (es : List (ℕ × TemplateEvent)). history ++ es) read.1 ∙ append-nil history) in
-    (read.0, subst (λ (es : List (ℕ × TemplateEvent)). Follows table es) same follows)
-no_events (Err fault) table domain id bytes h = tt
+-- a fault of a part is one of the whole
+pub refused : (old at : List ((ℕ × ℕ) × TemplateView)) (has other : List (ℕ × TemplateEvent) → ReadFault → Type 0) (fault : ReadFault)
+    → ((history : List (ℕ × TemplateEvent)) → Follows old history → (later : List (ℕ × TemplateEvent)) × Follows at later × (has later fault → other history fault))
+    → IsRefused at has fault → IsRefused old other fault
+refused old at has other fault step r = (
+  r.0,
+  elim r.1 [
+    | inl memory ↦ inl memory
+    | inr found ↦ inr (λ history follows. let s = step history follows in s.2 (found s.0 s.1))
+  ],
+)
 
 -- bytes that are not empty
 pub not_empty : (xs : List ℕ) → eqb (length xs) 0 ≡ false → 0 < length xs
@@ -73,30 +73,15 @@ module _ (bytes front after : List ℕ) (n : ℕ) (cut : Cut bytes front after n
 
 -- ---- several sets
 
-pub flat_push : {X A : Type 0} (f : X → List A) (xs : List X) (x : X) → flat_map f (xs ++ x ∷ []) ≡ flat_map f xs ++ f x
-flat_push f xs x = flat_map-append f xs (x ∷ []) ∙ ap (λ (ys : List _). flat_map f xs ++ ys) (flat_map-cons f x [] ∙ append-nil (f x))
-
--- the history behind one more
-pub behind_push : {X : Type 0} (f : X → List (ℕ × TemplateEvent)) (history : List (ℕ × TemplateEvent)) (xs : List X) (x : X) → (history ++ flat_map f xs) ++ f x ≡ history ++ flat_map f (xs ++ x ∷ [])
-behind_push f history xs x = append_assoc history (flat_map f xs) (f x) ∙ ap (λ (es : List (ℕ × TemplateEvent)). history ++ es) (sym (flat_push f xs x))
-
-pub behind_cons : {X : Type 0} (f : X → List (ℕ × TemplateEvent)) (history : List (ℕ × TemplateEvent)) (x : X) (xs : List X) → history ++ flat_map f (x ∷ xs) ≡ (history ++ f x) ++ flat_map f xs
-behind_cons f history x xs = ap (λ (es : List (ℕ × TemplateEvent)). history ++ es) (flat_map-cons f x xs) ∙ sym (append_assoc history (f x) (flat_map f xs))
-
--- one more set
-pub sets_more : (history : List (ℕ × TemplateEvent)) (domain : ℕ) (bytes : List ℕ) (sets : List Set) (rest front after : List ℕ) (set : Set) → ReadsSets history domain bytes sets rest
-    → rest ≡ front ++ after → IsSet (history ++ events_of_sets domain sets) domain front set → ReadsSets history domain bytes (sets ++ set ∷ []) after
-sets_more history domain bytes [] rest front after set done parts is =
-    (front, after, done ∙ parts, subst (λ (h : List (ℕ × TemplateEvent)). IsSet h domain front set) (append-nil history) is, refl)
-sets_more history domain bytes (s ∷ ss) rest front after set done parts is =
-    let behind = subst (λ (h : List (ℕ × TemplateEvent)). IsSet h domain front set) (behind_cons (events_of_set domain) history s ss) is in
-    (done.0, done.1, done.2, done.3, sets_more (history ++ events_of_set domain s) domain done.1 ss rest front after set done.4 parts behind)
-
--- sets are in their bytes
-pub sets_shorter : (history : List (ℕ × TemplateEvent)) (domain : ℕ) (bytes : List ℕ) (sets : List Set) (rest : List ℕ) → ReadsSets history domain bytes sets rest → length rest ≤ length bytes
-sets_shorter history domain bytes [] rest done = omega (arith, ap length done)
-sets_shorter history domain bytes (s ∷ ss) rest done =
-    omega (arith, sets_shorter (history ++ events_of_set domain s) domain done.1 ss rest done.4, length-append done.0 done.1, ap length done.2)
+-- the history behind sets has their events
+pub sets_history : (domain : ℕ) (start : Place) (sets : List Set) (end : Place) → Reads (ReadsSet domain) start sets end → end.0 ≡ start.0 ++ events_of_sets domain sets
+sets_history domain start [] end done = ap (λ (at : Place). at.0) (sym done) ∙ sym (append-nil start.0)
+sets_history domain start (set ∷ sets) end done =
+    let one = done.1 in
+    sets_history domain done.0 sets end done.2
+    ∙ ap (λ (h : List (ℕ × TemplateEvent)). h ++ events_of_sets domain sets) one.3
+    ∙ append_assoc start.0 (events_of_set domain set) (events_of_sets domain sets)
+    ∙ ap (λ (es : List (ℕ × TemplateEvent)). start.0 ++ es) (sym (flat_map-cons (events_of_set domain) set sets))
 
 pub message_size_push : (sets : List Set) (set : Set) → message_size (sets ++ set ∷ []) ≡ message_size sets + set_size set
 message_size_push sets set = omega (arith, sum_by-append set_size sets (set ∷ []), sum_by-cons set_size set [])

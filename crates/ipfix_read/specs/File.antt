@@ -1,28 +1,33 @@
 -- Files (RFC 5655): messages one after the other.
-use Rattle.std.specs.Prelude.{◌≡◌, ℕ, ◌+◌, ◌-◌, ◌<◌, List, [], ◌∷◌, ◌++◌, length, None}
-use Rattle.std.specs.List.{flat_map}
+use Rattle.std.specs.Prelude.{◌≡◌, ℕ, ◌+◌, ◌-◌, ◌<◌, List, [], ◌++◌, length, None}
 use Rattle.ipfix_templates.specs.declared.event.TemplateEvent.{TemplateEvent}
+use Rattle.ipfix_templates.specs.Reads.{ReadsWhole, StopsAt}
 use Rattle.ipfix_read.specs.declared.fault.ReadFault.{ReadFault}
 use Rattle.ipfix_read.specs.Message.{MessageView, IsMessage, HasMessageFault, header_fault, events_of_message}
 
--- the template events of messages in order
-abbrev pub events_of_messages : List MessageView → List (ℕ × TemplateEvent)
-events_of_messages messages = flat_map events_of_message messages
+-- a place in a File: the template events before it, the number of messages, and the bytes from there on
+abbrev pub FilePlace : Type 0
+FilePlace = List (ℕ × TemplateEvent) × ℕ × List ℕ
 
--- The bytes are these messages one after the other, and then the rest. Reading begins behind a history of template
--- events and a number of messages; each message stands after the events of those before it, and is one more.
-abbrev pub ReadsMessages : List (ℕ × TemplateEvent) → ℕ → List ℕ → List MessageView → List ℕ → Type 0
-ReadsMessages history count bytes [] rest = bytes ≡ rest
-ReadsMessages history count bytes (m ∷ ms) rest =
-    (front : List ℕ) × (after : List ℕ) × (bytes ≡ front ++ after) × (header_fault count bytes ≡ None) × IsMessage history front m
-    × ReadsMessages (history ++ events_of_message m) (count + 1) after ms rest
+-- the message at a place, and the place after it, which stands after the message's events too and is behind one more
+abbrev pub ReadsMessage : FilePlace → MessageView → FilePlace → Type 0
+ReadsMessage at m next =
+    (front : List ℕ) × (at.2 ≡ front ++ next.2) × (header_fault at.1 at.2 ≡ None) × IsMessage at.0 front m
+    × (next.0 ≡ at.0 ++ events_of_message m) × (next.1 ≡ at.1 + 1)
 
--- the bytes are these messages one after the other, and nothing else
+-- nothing is left
+abbrev pub IsFileEnd : FilePlace → Type 0
+IsFileEnd at = at.2 ≡ []
+
+-- The bytes are these messages one after the other, and nothing else. Reading begins behind a history of template events
+-- and a number of messages.
 abbrev pub ReadsFile : List (ℕ × TemplateEvent) → ℕ → List ℕ → List MessageView → Type 0
-ReadsFile history count bytes messages = ReadsMessages history count bytes messages []
+ReadsFile history count bytes messages = ReadsWhole ReadsMessage IsFileEnd (history, count, bytes) messages
 
--- behind some messages there are bytes, and this is the first fault there; the bytes begin at this offset of the File
+-- bytes are left, of so many that begin at this offset of the File, and this is the fault of the message at their front
+abbrev pub IsMessageFault : ℕ → ℕ → FilePlace → ReadFault → Type 0
+IsMessageFault size offset at fault = (0 < length at.2) × HasMessageFault at.0 at.1 at.2 (offset + (size - length at.2)) fault
+
+-- behind some messages this is the first fault; the bytes begin at this offset of the File
 abbrev pub HasFileFault : List (ℕ × TemplateEvent) → ℕ → ℕ → List ℕ → ReadFault → Type 0
-HasFileFault history offset count bytes fault =
-    (messages : List MessageView) × (rest : List ℕ) × ReadsMessages history count bytes messages rest × (0 < length rest)
-    × HasMessageFault (history ++ events_of_messages messages) (count + length messages) rest (offset + (length bytes - length rest)) fault
+HasFileFault history offset count bytes fault = StopsAt ReadsMessage (IsMessageFault (length bytes) offset) (history, count, bytes) fault

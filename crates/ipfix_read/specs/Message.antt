@@ -1,5 +1,6 @@
 -- Messages (RFC 7011 section 3.1).
-use Rattle.std.specs.Prelude.{◌≡◌, ℕ, ◌+◌, ◌≤◌, ◌⊎◌, List, [], ◌++◌, length, drop, sum_by, Option, Some, None, nat_lt, ◌==◌, if◌then◌else◌}
+use Rattle.std.specs.Prelude.{◌≡◌, ℕ, ◌+◌, ◌≤◌, ◌⊎◌, List, ◌++◌, length, drop, sum_by, Option, Some, None, nat_lt, ◌==◌, if◌then◌else◌}
+use Rattle.std.specs.Option.{option_or}
 use Rattle.byteorder.specs.Endian.{big_number}
 use Rattle.ipfix_templates.specs.declared.event.TemplateEvent.{TemplateEvent}
 use Rattle.ipfix_read.specs.declared.set.Set.{Set}
@@ -7,7 +8,7 @@ use Rattle.ipfix_read.specs.declared.set.Set.TheVariants.{Templates, Values, Ski
 use Rattle.ipfix_read.specs.declared.fault.ReadFault.{ReadFault}
 use Rattle.ipfix_read.specs.declared.fault.ReadFaultKind.{ReadFaultKind}
 use Rattle.ipfix_read.specs.declared.fault.ReadFaultKind.TheVariants.{TruncatedHeader, BadVersion, BadMessageLength, TruncatedMessage, TooManyMessages}
-use Rattle.ipfix_read.specs.Set.{written_length, ReadsSets, HasSetsFault, events_of_sets}
+use Rattle.ipfix_read.specs.Set.{written_length, IsSets, HasSetsFault, events_of_sets}
 
 -- a message without where it lies in memory
 pub record MessageView : Type 0 where
@@ -38,7 +39,7 @@ pub record IsMessage (history : List (ℕ × TemplateEvent)) (bytes : List ℕ) 
   pub export_time : m.export_time ≡ big_number 4 (drop 4 bytes)
   pub sequence : m.sequence ≡ big_number 4 (drop 8 bytes)
   pub domain : m.domain ≡ big_number 4 (drop 12 bytes)
-  pub sets : ReadsSets history m.domain (drop 16 bytes) m.sets []
+  pub sets : IsSets history m.domain (drop 16 bytes) m.sets
 
 -- bytes have a header of version 10 that gives their length, as a message has
 pub record HasHeader (bytes : List ℕ) : Type 0 where
@@ -61,13 +62,7 @@ own_fault count header =
 abbrev pub header_fault : ℕ → List ℕ → Option ReadFaultKind
 header_fault count bytes =
     if nat_lt (length bytes) 16 then Some TruncatedHeader
-    else (if nat_lt count 4294967295 then
-    (if big_number 2 bytes == 10 then
-    (if nat_lt (written_length bytes) 16 then Some BadMessageLength
-    else (if nat_lt (length bytes) (written_length bytes) then Some TruncatedMessage
-    else None))
-    else Some BadVersion)
-    else Some TooManyMessages)
+    else option_or (own_fault count bytes) (if nat_lt (length bytes) (written_length bytes) then Some TruncatedMessage else None)
 
 -- the first fault of the message at the front, which begins at this offset of the File
 abbrev pub HasMessageFault : List (ℕ × TemplateEvent) → ℕ → List ℕ → ℕ → ReadFault → Type 0

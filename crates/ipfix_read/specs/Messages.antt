@@ -1,6 +1,7 @@
 -- The messages of a File, one call after the other, over the bytes that a reader still gives.
 use Rattle.std.specs.Prelude.{◌≡◌, ℕ, ◌+◌, ◌-◌, ◌<◌, ◌⊎◌, Bool, false, List, [], ◌∷◌, ◌++◌, length, take, Option, Some, None, Result, Ok, Err}
 use Rattle.ipfix_templates.specs.declared.event.TemplateEvent.{TemplateEvent}
+use Rattle.ipfix_templates.specs.Reads.{Reads}
 use Rattle.ipfix_templates.specs.Template.{TemplateView}
 use Rattle.ipfix_templates.specs.Table.{Follows}
 use Rattle.ipfix_read.specs.declared.fault.ReadFault.{ReadFault}
@@ -9,8 +10,9 @@ use Rattle.ipfix_read.specs.declared.fault.ReadFaultKind.TheVariants.{ReadFault 
 use Rattle.ipfix_read.specs.declared.state.State.{State}
 use Rattle.ipfix_read.specs.declared.state.State.TheVariants.{Going, Ended, Failed}
 use Rattle.ipfix_read.specs.Fault.{out_of_memory, read_fault, is_of_reader}
+use Rattle.ipfix_read.specs.Set.{IsReadAfter}
 use Rattle.ipfix_read.specs.Message.{MessageView, IsMessage, HasHeader, HasMessageFault, header_fault, events_of_message}
-use Rattle.ipfix_read.specs.File.{events_of_messages, ReadsMessages, ReadsFile, HasFileFault}
+use Rattle.ipfix_read.specs.File.{ReadsMessage, ReadsFile, HasFileFault}
 
 -- what stands between two calls: the table of templates, the offset and the number of messages that a File is read on from,
 -- and whether calls go on
@@ -31,7 +33,7 @@ at_start = record { table = []; offset = 0; count = 0; state = Going }
 abbrev pub AnswersNext : ProgressView → List ℕ → Result (Option MessageView) ReadFault → ProgressView → Option (List ℕ) → Type 0
 AnswersNext old left (Ok (Some m)) new gives =
     (front : List ℕ) × (after : List ℕ) × (left ≡ front ++ after) × (header_fault old.count left ≡ None)
-    × ((history : List (ℕ × TemplateEvent)) → Follows old.table history → IsMessage history front m × Follows new.table (history ++ events_of_message m))
+    × IsReadAfter old.table new.table (events_of_message m) (λ history. IsMessage history front m)
     × (new.offset ≡ old.offset + length front) × (new.count ≡ old.count + 1) × (new.state ≡ Going) × (gives ≡ Some after)
 AnswersNext old left (Ok None) new gives = (left ≡ []) × (new.state ≡ Ended) × (gives ≡ Some [])
 AnswersNext old left (Err fault) new gives =
@@ -74,9 +76,9 @@ is_unread (Err kind) = is_of_reader kind
 -- These messages are at the front of the bytes, where reading began behind a history of template events, at an offset and
 -- behind a number of messages; what stands between two calls is that behind them, and these bytes are left.
 pub record IsReadTo (history : List (ℕ × TemplateEvent)) (offset count : ℕ) (bytes : List ℕ) (messages : List MessageView) (p : ProgressView) (left : List ℕ) : Type 0 where
-  pub read : ReadsMessages history count bytes messages left
-  pub follows : Follows p.table (history ++ events_of_messages messages)
-  pub counted : p.count ≡ count + length messages
+  pub later : List (ℕ × TemplateEvent)
+  pub read : Reads ReadsMessage (history, count, bytes) messages (later, p.count, left)
+  pub follows : Follows p.table later
   pub placed : p.offset ≡ offset + (length bytes - length left)
 
 -- What an answer says of the File that the bytes are: the messages so far and one more are read of it; it is the messages so

@@ -1,6 +1,7 @@
 -- The records of a data set (RFC 7011 section 3.4.3).
-use Rattle.std.specs.Prelude.{◌≡◌, ℕ, ◌+◌, ◌<◌, ◌≤◌, List, [], ◌∷◌, length, Option, Some, None, IsSome, option_map}
+use Rattle.std.specs.Prelude.{◌≡◌, ℕ, ◌+◌, ◌<◌, ◌≤◌, List, length, Option, Some, None, IsSome, option_map}
 use Rattle.ipfix_templates.specs.Field.{least_length}
+use Rattle.ipfix_templates.specs.Reads.{Reads, ReadsWhole, StopsAt}
 use Rattle.ipfix_templates.specs.Template.{TemplateView}
 use Rattle.ipfix_read.specs.declared.record.Record.{Record}
 use Rattle.ipfix_read.specs.Value.{values_at}
@@ -13,22 +14,30 @@ record_at t bytes = option_map (λ v. (record { kind = t.kind; fields = v.0 }, v
 abbrev pub HasRoom : TemplateView → List ℕ → Type 0
 HasRoom t bytes = (0 < least_length t.fields) × (least_length t.fields ≤ length bytes)
 
+-- a record stands at the front, with these bytes after it
+abbrev pub ReadsRecord : TemplateView → List ℕ → Record → List ℕ → Type 0
+ReadsRecord t bytes r after = HasRoom t bytes × (record_at t bytes ≡ Some (r, after))
+
 -- records that stand one after the other are these, and leave these bytes
 abbrev pub ReadsRecords : TemplateView → List ℕ → List Record → List ℕ → Type 0
-ReadsRecords t bytes [] rest = bytes ≡ rest
-ReadsRecords t bytes (r ∷ rs) rest =
-    (after : List ℕ) × HasRoom t bytes × (record_at t bytes ≡ Some (r, after)) × ReadsRecords t after rs rest
+ReadsRecords t bytes records rest = Reads (ReadsRecord t) bytes records rest
 
--- the bytes behind the header of a data set are these records, and then padding (section 3.3.1)
+-- too few bytes for a record, which are padding (section 3.3.1)
+abbrev pub IsPadding : TemplateView → List ℕ → Type 0
+IsPadding t bytes = ¬ HasRoom t bytes
+
+-- the bytes behind the header of a data set are these records, and then padding
 abbrev pub IsDataSet : TemplateView → List ℕ → List Record → Type 0
-IsDataSet t bytes records = (padding : List ℕ) × ReadsRecords t bytes records padding × ¬ HasRoom t padding
+IsDataSet t bytes records = ReadsWhole (ReadsRecord t) (IsPadding t) bytes records
 
 -- behind some records there is no padding, and the record there stands whole
 abbrev pub HasRecord : TemplateView → List ℕ → Type 0
 HasRecord t bytes = (records : List Record) × (rest : List ℕ) × ReadsRecords t bytes records rest × HasRoom t rest × IsSome (record_at t rest)
 
--- at this place behind some records there is no padding, and a part of the record there passes the end
+-- at this place in so many bytes there is no padding, and a part of the record there passes the end
+abbrev pub IsCutOff : TemplateView → ℕ → List ℕ → ℕ → Type 0
+IsCutOff t size rest place = HasRoom t rest × (record_at t rest ≡ None) × (place + length rest ≡ size)
+
+-- behind some records one is cut off at this place
 abbrev pub HasRecordFault : TemplateView → List ℕ → ℕ → Type 0
-HasRecordFault t bytes place =
-    (records : List Record) × (rest : List ℕ) × ReadsRecords t bytes records rest
-    × HasRoom t rest × (record_at t rest ≡ None) × (place + length rest ≡ length bytes)
+HasRecordFault t bytes place = StopsAt (ReadsRecord t) (IsCutOff t (length bytes)) bytes place

@@ -1,18 +1,21 @@
 -- The sets of a message (RFC 7011 section 3.3).
-use Rattle.std.specs.Prelude.{◌≡◌, ◌≢◌, ℕ, ◌+◌, ◌-◌, ◌<◌, ◌≤◌, ◌⊎◌, List, [], ◌∷◌, ◌++◌, length, drop, map, Some, None}
+use Rattle.std.specs.Prelude.{◌≡◌, ◌≢◌, false, ℕ, ◌+◌, ◌-◌, ◌<◌, ◌≤◌, ◌⊎◌, List, [], ◌++◌, length, drop, map, Some, None}
 use Rattle.std.specs.List.{flat_map}
 use Rattle.byteorder.specs.Endian.{big_number}
 use Rattle.ipfix_templates.specs.declared.kind.Kind.{Kind}
 use Rattle.ipfix_templates.specs.declared.event.TemplateEvent.{TemplateEvent}
 use Rattle.ipfix_templates.specs.declared.fault.TemplateFault.{TemplateFault}
 use Rattle.ipfix_templates.specs.Kind.{set_id}
+use Rattle.ipfix_templates.specs.Reads.{ReadsWhole, StopsAt}
 use Rattle.ipfix_templates.specs.Template.{TemplateView}
 use Rattle.ipfix_templates.specs.InForce.{in_force}
+use Rattle.ipfix_templates.specs.Table.{Follows}
 use Rattle.ipfix_templates.specs.Reading.{IsTemplateSet, HasTemplateFault}
 use Rattle.ipfix_read.specs.declared.set.Set.{Set}
 use Rattle.ipfix_read.specs.declared.set.Set.TheVariants.{Templates, Values, Skipped}
 use Rattle.ipfix_read.specs.declared.fault.ReadFault.{ReadFault}
 use Rattle.ipfix_read.specs.declared.fault.ReadFaultKind.TheVariants.{BadSetLength, BadTemplate, BadRecord}
+use Rattle.ipfix_read.specs.Fault.{is_of_calls, out_of_memory}
 use Rattle.ipfix_read.specs.Record.{IsDataSet, HasRecordFault}
 
 -- template events, each with its domain
@@ -69,15 +72,40 @@ HasSetFault history domain bytes base fault =
     ⊎ ((front : List ℕ) × (after : List ℕ) × (bytes ≡ front ++ after) × (4 ≤ length front) × (written_length front ≡ length front)
     × HasContentFault history domain (big_number 2 front) (drop 4 front) (base + 4) fault)
 
--- the bytes are these sets one after the other, and then the rest; each set stands after the events of those before it
-abbrev pub ReadsSets : List (ℕ × TemplateEvent) → ℕ → List ℕ → List Set → List ℕ → Type 0
-ReadsSets history domain bytes [] rest = bytes ≡ rest
-ReadsSets history domain bytes (set ∷ sets) rest =
-    (front : List ℕ) × (after : List ℕ) × (bytes ≡ front ++ after) × IsSet history domain front set
-    × ReadsSets (history ++ events_of_set domain set) domain after sets rest
+-- a place in a message: the template events before it, and the bytes from there on
+abbrev pub Place : Type 0
+Place = List (ℕ × TemplateEvent) × List ℕ
 
--- behind some sets there are bytes, and this is the first fault there
+-- the set at a place, and the place after it, which stands after the set's events too
+abbrev pub ReadsSet : ℕ → Place → Set → Place → Type 0
+ReadsSet domain at set next =
+    (front : List ℕ) × (at.1 ≡ front ++ next.1) × IsSet at.0 domain front set × (next.0 ≡ at.0 ++ events_of_set domain set)
+
+-- nothing is left
+abbrev pub IsEnd : Place → Type 0
+IsEnd at = at.1 ≡ []
+
+-- the bytes are these sets one after the other, and nothing else
+abbrev pub IsSets : List (ℕ × TemplateEvent) → ℕ → List ℕ → List Set → Type 0
+IsSets history domain bytes sets = ReadsWhole (ReadsSet domain) IsEnd (history, bytes) sets
+
+-- bytes are left, of so many that begin at this offset of the File, and this is the fault of the set at their front
+abbrev pub IsSetFault : ℕ → ℕ → ℕ → Place → ReadFault → Type 0
+IsSetFault domain size base at fault = (0 < length at.1) × HasSetFault at.0 domain at.1 (base + (size - length at.1)) fault
+
+-- behind some sets this is the first fault
 abbrev pub HasSetsFault : List (ℕ × TemplateEvent) → ℕ → List ℕ → ℕ → ReadFault → Type 0
-HasSetsFault history domain bytes base fault =
-    (sets : List Set) × (rest : List ℕ) × ReadsSets history domain bytes sets rest × (0 < length rest)
-    × HasSetFault (history ++ events_of_sets domain sets) domain rest (base + (length bytes - length rest)) fault
+HasSetsFault history domain bytes base fault = StopsAt (ReadsSet domain) (IsSetFault domain (length bytes) base) (history, bytes) fault
+
+-- ---- what reading says of a table of templates
+
+-- This is read, with these events, and takes the table from the old one to the new: it is so after each history that the old
+-- one follows, and the new one follows the events too.
+abbrev pub IsReadAfter : List ((ℕ × ℕ) × TemplateView) → List ((ℕ × ℕ) × TemplateView) → List (ℕ × TemplateEvent) → (List (ℕ × TemplateEvent) → Type 0) → Type 0
+IsReadAfter old new events is = (history : List (ℕ × TemplateEvent)) → Follows old history → is history × Follows new (history ++ events)
+
+-- the fault is none of calls: memory ran out, or it is found after each history that the table follows
+abbrev pub IsRefused : List ((ℕ × ℕ) × TemplateView) → (List (ℕ × TemplateEvent) → ReadFault → Type 0) → ReadFault → Type 0
+IsRefused table found fault =
+    (is_of_calls fault.kind ≡ false)
+    × ((fault ≡ out_of_memory) ⊎ ((history : List (ℕ × TemplateEvent)) → Follows table history → found history fault))

@@ -1,16 +1,15 @@
-ghost use Rattle.std.specs.Prelude.{◌≡◌, ◌^◌, ◌+◌, ◌<◌, ◌≤◌, ◌++◌, ◌∷◌, [], ◌⊎◌, ℕ, List, length, drop, false, IfOk, IfErr, OnOk, OnErr, None, Some};
-ghost use Rattle.ipfix_templates.specs.declared.event.TemplateEvent.{TemplateEvent as Event};
-ghost use Rattle.ipfix_templates.specs.Table.{Follows};
-ghost use Rattle.ipfix_read.specs.Fault.{out_of_memory, is_of_calls};
-ghost use Rattle.ipfix_read.specs.Message.{message_size, header_fault, own_fault, events_of_message, IsMessage, HasHeader, HasMessageFault};
-ghost use Rattle.ipfix_read.specs.Set.{written_length, HasSetsFault};
+ghost use Rattle.std.specs.Prelude.{◌≡◌, ◌^◌, ◌+◌, ◌<◌, ◌≤◌, ◌++◌, length, drop, false, IfOk, IfErr, OnOk, None, Some};
+ghost use Rattle.ipfix_read.specs.Fault.{is_of_calls};
+ghost use Rattle.ipfix_read.specs.File.{ReadsMessage};
+ghost use Rattle.ipfix_read.specs.Message.{header_fault, own_fault, events_of_message, message_size, IsMessage, HasHeader, HasMessageFault};
+ghost use Rattle.ipfix_read.specs.Set.{written_length, HasSetsFault, IsReadAfter, IsRefused};
 ghost use Rattle.byteorder.specs.Endian.{big_number};
 
 use crate::fault::{ReadFault, ReadFaultKind};
 use crate::set::{SetList, read_sets};
 use byteorder::{BigEndian, ByteOrder};
-use ipfix_templates::TemplateTable;
-use std::alloc::{AllocError, Global};
+use ipfix_templates::{Items, TemplateTable};
+use std::alloc::Global;
 use std::marker::Model;
 
 /// A message (RFC 7011 section 3.1). It has at most 65,535 sets, events and records together.
@@ -74,53 +73,7 @@ impl<'a> Message<'a> {
 }
 
 /// A list of messages.
-#[derive(Debug, Drop)]
-pub struct MessageList<'a> {
-    items: Vec<Message<'a>>,
-}
-
-impl<'a> Model for MessageList<'a> {
-    ghost use Rattle.std.specs.Prelude.{List};
-    ghost use Rattle.ipfix_read.specs.Message.{MessageView};
-
-    ghost Value = { List MessageView };
-
-    ghost view = { λ a. a.items.items };
-}
-
-impl<'a> MessageList<'a> {
-    /// No messages.
-    pub fn new(alloc: Global) -> Self
-        ensures { result ≡ [] }
-    {
-        MessageList {
-            items: Vec::new(alloc),
-        }
-    }
-
-    /// How many messages.
-    pub fn len(&self) -> usize
-        ensures { result ≡ length self.now }
-    {
-        self.items.len()
-    }
-
-    /// The messages in order.
-    pub fn as_slice(&self) -> &[Message<'a>]
-        ensures { result.now ≡ self.now }
-    {
-        self.items.as_slice()
-    }
-
-    /// Adds a message at the end. An `Err` changes nothing.
-    pub fn push(&mut self, message: Message<'a>) -> Result<(), AllocError>
-        ensures ok { OnOk result (self.new ≡ self.old ++ message.entry ∷ []) }
-        ensures err { OnErr result (self.new ≡ self.old) }
-    {
-        self.items.push(message)?;
-        Ok(())
-    }
-}
+pub type MessageList<'a> = Items<Message<'a>>;
 
 /// The length of a message header.
 pub const HEADER_LENGTH: usize = 16;
@@ -133,13 +86,10 @@ const VERSION: u16 = 10;
 pub fn header_length(count: u32, header: &[u8]) -> Result<usize, ReadFaultKind>
     requires { 16 ≤ length header.now }
     ensures ok { OnOk result (own_fault count header.now ≡ None) }
-    ensures counted { OnOk result (count < 4294967295) }
     ensures whole { IfOk result (λ size. size ≡ written_length header.now) }
     ensures least { IfOk result (λ size. 16 ≤ size) }
     ensures most { IfOk result (λ size. size ≤ 65535) }
-    ensures version { OnOk result (big_number 2 header.now ≡ 10) }
-    ensures fault { IfErr result (λ kind. own_fault count header.now ≡ Some kind) }
-    ensures of_bytes { IfErr result (λ kind. is_of_calls kind ≡ false) }
+    ensures fault { IfErr result (λ kind. (own_fault count header.now ≡ Some kind) × (is_of_calls kind ≡ false)) }
 {
     if count == u32::MAX {
         return Err(ReadFaultKind::TooManyMessages);
@@ -154,28 +104,6 @@ pub fn header_length(count: u32, header: &[u8]) -> Result<usize, ReadFaultKind>
     Ok(size)
 }
 
-// The length of the message at the front behind so many messages, or what is wrong with its header.
-fn message_length(count: u32, bytes: &[u8]) -> Result<usize, ReadFaultKind>
-    ensures ok { OnOk result (header_fault count bytes.now ≡ None) }
-    ensures counted { OnOk result (count < 4294967295) }
-    ensures whole { IfOk result (λ size. size ≡ written_length bytes.now) }
-    ensures least { IfOk result (λ size. 16 ≤ size) }
-    ensures within { IfOk result (λ size. size ≤ length bytes.now) }
-    ensures most { IfOk result (λ size. size ≤ 65535) }
-    ensures version { OnOk result (big_number 2 bytes.now ≡ 10) }
-    ensures fault { IfErr result (λ kind. header_fault count bytes.now ≡ Some kind) }
-    ensures of_bytes { IfErr result (λ kind. is_of_calls kind ≡ false) }
-{
-    if bytes.len() < HEADER_LENGTH {
-        return Err(ReadFaultKind::TruncatedHeader);
-    }
-    let size = header_length(count, bytes)?;
-    if bytes.len() < size {
-        return Err(ReadFaultKind::TruncatedMessage);
-    }
-    Ok(size)
-}
-
 /// The message that these bytes are, whose header gives their length, where they begin at this offset of the File. The
 /// events of its template sets change the table.
 pub fn whole_message<'a>(
@@ -186,12 +114,9 @@ pub fn whole_message<'a>(
 ) -> Result<Message<'a>, ReadFault>
     requires header { HasHeader bytes.now }
     requires room { base + length bytes.now < 2 ^ 64 }
-    ensures ok { IfOk result (λ m. (history : List (ℕ × Event)) → Follows table.old history
-        → IsMessage history bytes.now m × Follows table.new (history ++ events_of_message m)) }
-    ensures fault { IfErr result (λ fault. (fault ≡ out_of_memory)
-        ⊎ ((history : List (ℕ × Event)) → Follows table.old history →
-        HasSetsFault history (big_number 4 (drop 12 bytes.now)) (drop 16 bytes.now) (base + 16) fault)) }
-    ensures of_bytes { IfErr result (λ fault. is_of_calls fault.kind ≡ false) }
+    ensures ok { IfOk result (λ m. IsReadAfter table.old table.new (events_of_message m) (λ history. IsMessage history bytes.now m)) }
+    ensures fault { IfErr result (IsRefused table.old (λ history.
+        HasSetsFault history (big_number 4 (drop 12 bytes.now)) (drop 16 bytes.now) (base + 16))) }
 {
     let export_time = BigEndian::read_u32(&bytes[4..]);
     let sequence = BigEndian::read_u32(&bytes[8..]);
@@ -206,6 +131,25 @@ pub fn whole_message<'a>(
     Ok(message)
 }
 
+// The length of the message at the front behind so many messages, or what is wrong with its header.
+fn message_length(count: u32, bytes: &[u8]) -> Result<usize, ReadFaultKind>
+    ensures ok { OnOk result (header_fault count bytes.now ≡ None) }
+    ensures own { OnOk result (own_fault count bytes.now ≡ None) }
+    ensures whole { IfOk result (λ size. size ≡ written_length bytes.now) }
+    ensures within { IfOk result (λ size. size ≤ length bytes.now) }
+    ensures most { IfOk result (λ size. size ≤ 65535) }
+    ensures fault { IfErr result (λ kind. (header_fault count bytes.now ≡ Some kind) × (is_of_calls kind ≡ false)) }
+{
+    if bytes.len() < HEADER_LENGTH {
+        return Err(ReadFaultKind::TruncatedHeader);
+    }
+    let size = header_length(count, bytes)?;
+    if bytes.len() < size {
+        return Err(ReadFaultKind::TruncatedMessage);
+    }
+    Ok(size)
+}
+
 /// The message at the front behind so many messages, and the bytes after it, where the message begins at this
 /// offset of the File. The events of its template sets change the table.
 pub fn read_message<'a>(
@@ -216,16 +160,11 @@ pub fn read_message<'a>(
     base: u64,
 ) -> Result<(Message<'a>, &'a [u8]), ReadFault>
     requires { base + length bytes.now < 2 ^ 64 }
-    ensures ok { IfOk result (λ read. (front : List ℕ) × (bytes.now ≡ front ++ read.1.now)
-        × (header_fault count bytes.now ≡ None)
-        × ((history : List (ℕ × Event)) → Follows table.old history
-        → IsMessage history front read.0 × Follows table.new (history ++ events_of_message read.0))) }
+    ensures ok { IfOk result (λ read. let events = events_of_message read.0 in IsReadAfter table.old table.new events
+        (λ history. ReadsMessage (history, count, bytes.now) read.0 (history ++ events, count + 1, read.1.now))) }
     ensures counted { OnOk result (count < 4294967295) }
     ensures shorter { IfOk result (λ read. length read.1.now < length bytes.now) }
-    ensures fault { IfErr result (λ fault. (fault ≡ out_of_memory)
-        ⊎ ((history : List (ℕ × Event)) → Follows table.old history →
-        HasMessageFault history count bytes.now base fault)) }
-    ensures of_bytes { IfErr result (λ fault. is_of_calls fault.kind ≡ false) }
+    ensures fault { IfErr result (IsRefused table.old (λ history. HasMessageFault history count bytes.now base)) }
 {
     let size = match message_length(count, bytes) {
         Ok(size) => size,

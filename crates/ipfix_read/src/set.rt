@@ -1,10 +1,10 @@
-ghost use Rattle.std.specs.Prelude.{◌≡◌, ◌≢◌, ◌^◌, ◌+◌, ◌<◌, ◌≤◌, ◌++◌, ◌∷◌, [], ◌⊎◌, ℕ, List, length, false, IfOk, IfErr, OnOk, OnErr};
+ghost use Rattle.std.specs.Prelude.{◌≡◌, ◌≢◌, ◌^◌, ◌+◌, ◌<◌, ◌≤◌, ◌++◌, ◌∷◌, [], ℕ, List, length, false, IfOk, IfErr, OnOk};
 ghost use Rattle.ipfix_templates.specs.declared.event.TemplateEvent.{TemplateEvent as Event};
 ghost use Rattle.ipfix_templates.specs.Table.{Follows};
 ghost use Rattle.ipfix_templates.specs.declared.fault.TemplateFaultKind.TheVariants.{NoMemory};
 ghost use Rattle.ipfix_templates.specs.Kind.{set_id};
 ghost use Rattle.ipfix_read.specs.Fault.{out_of_memory, is_of_calls};
-ghost use Rattle.ipfix_read.specs.Set.{in_domain, in_file, events_of_set, events_of_sets, IsContent, HasContentFault, IsSet, HasSetFault, ReadsSets, HasSetsFault};
+ghost use Rattle.ipfix_read.specs.Set.{in_domain, in_file, events_of_set, events_of_sets, IsContent, HasContentFault, ReadsSet, HasSetFault, IsSets, HasSetsFault, IsReadAfter, IsRefused};
 ghost use Rattle.ipfix_read.specs.Message.{set_size, message_size};
 
 use crate::data_set::read_data_set;
@@ -12,11 +12,10 @@ use crate::fault::{ReadFault, ReadFaultKind};
 use crate::record::RecordList;
 use byteorder::{BigEndian, ByteOrder};
 use ipfix_templates::{
-    Kind, TemplateEvent, TemplateEvents, TemplateFault, TemplateFaultKind, TemplateTable,
+    Items, Kind, TemplateEvent, TemplateEvents, TemplateFault, TemplateFaultKind, TemplateTable,
     events_fit, memory_is_no_fault, read_template_set,
 };
 use std::alloc::{AllocError, Global};
-use std::marker::Model;
 
 /// A set of a message (RFC 7011 section 3.3).
 #[derive(Debug, Drop)]
@@ -30,53 +29,7 @@ pub enum Set<'a> {
 }
 
 /// A list of sets.
-#[derive(Debug, Drop)]
-pub struct SetList<'a> {
-    items: Vec<Set<'a>>,
-}
-
-impl<'a> Model for SetList<'a> {
-    ghost use Rattle.std.specs.Prelude.{List};
-    ghost use Rattle.ipfix_read.specs.declared.set.Set.{Set};
-
-    ghost Value = { List Set };
-
-    ghost view = { λ a. a.items.items };
-}
-
-impl<'a> SetList<'a> {
-    /// No sets.
-    pub fn new(alloc: Global) -> Self
-        ensures { result ≡ [] }
-    {
-        SetList {
-            items: Vec::new(alloc),
-        }
-    }
-
-    /// How many sets.
-    pub fn len(&self) -> usize
-        ensures { result ≡ length self.now }
-    {
-        self.items.len()
-    }
-
-    /// The sets in order.
-    pub fn as_slice(&self) -> &[Set<'a>]
-        ensures { result.now ≡ self.now }
-    {
-        self.items.as_slice()
-    }
-
-    /// Adds a set at the end. An `Err` changes nothing.
-    pub fn push(&mut self, set: Set<'a>) -> Result<(), AllocError>
-        ensures ok { OnOk result (self.new ≡ self.old ++ set.entry ∷ []) }
-        ensures err { OnErr result (self.new ≡ self.old) }
-    {
-        self.items.push(set)?;
-        Ok(())
-    }
-}
+pub type SetList<'a> = Items<Set<'a>>;
 
 // The length of a set's header.
 const HEADER_LENGTH: usize = 4;
@@ -145,14 +98,10 @@ fn read_templates<'a>(
     base: u64,
 ) -> Result<Set<'a>, ReadFault>
     requires { base + length bytes.now < 2 ^ 64 }
-    ensures ok { IfOk result (λ set. (history : List (ℕ × Event)) → Follows table.old history
-        → IsContent history domain (set_id kind) bytes.now set
-        × Follows table.new (history ++ events_of_set domain set)) }
+    ensures ok { IfOk result (λ set. IsReadAfter table.old table.new (events_of_set domain set)
+        (λ history. IsContent history domain (set_id kind) bytes.now set)) }
     ensures size { IfOk result (λ set. set_size set ≤ 1 + length bytes.now) }
-    ensures fault { IfErr result (λ fault. (fault ≡ out_of_memory)
-        ⊎ ((history : List (ℕ × Event)) → Follows table.old history →
-        HasContentFault history domain (set_id kind) bytes.now base fault)) }
-    ensures of_bytes { IfErr result (λ fault. is_of_calls fault.kind ≡ false) }
+    ensures fault { IfErr result (IsRefused table.old (λ history. HasContentFault history domain (set_id kind) bytes.now base)) }
 {
     // For their laws: a set has room for its events, and bytes have no fault of memory.
     events_fit();
@@ -176,13 +125,10 @@ fn read_values_of<'a>(
     requires room { base + length bytes.now < 2 ^ 64 }
     requires flow { id ≢ 2 }
     requires options { id ≢ 3 }
-    ensures ok { IfOk result (λ set. (history : List (ℕ × Event)) → Follows table.now history
-        → IsContent history domain id bytes.now set × (events_of_set domain set ≡ [])) }
+    ensures ok { IfOk result (λ set. IsReadAfter table.now table.now (events_of_set domain set)
+        (λ history. IsContent history domain id bytes.now set)) }
     ensures size { IfOk result (λ set. set_size set ≤ 1 + length bytes.now) }
-    ensures fault { IfErr result (λ fault. (fault ≡ out_of_memory)
-        ⊎ ((history : List (ℕ × Event)) → Follows table.now history →
-        HasContentFault history domain id bytes.now base fault)) }
-    ensures of_bytes { IfErr result (λ fault. is_of_calls fault.kind ≡ false) }
+    ensures fault { IfErr result (IsRefused table.now (λ history. HasContentFault history domain id bytes.now base)) }
 {
     if id < FIRST_DATA_SET_ID {
         return Ok(Set::Skipped(id));
@@ -209,13 +155,10 @@ fn read_content<'a>(
     base: u64,
 ) -> Result<Set<'a>, ReadFault>
     requires { base + length bytes.now < 2 ^ 64 }
-    ensures ok { IfOk result (λ set. (history : List (ℕ × Event)) → Follows table.old history
-        → IsContent history domain id bytes.now set × Follows table.new (history ++ events_of_set domain set)) }
+    ensures ok { IfOk result (λ set. IsReadAfter table.old table.new (events_of_set domain set)
+        (λ history. IsContent history domain id bytes.now set)) }
     ensures size { IfOk result (λ set. set_size set ≤ 1 + length bytes.now) }
-    ensures fault { IfErr result (λ fault. (fault ≡ out_of_memory)
-        ⊎ ((history : List (ℕ × Event)) → Follows table.old history →
-        HasContentFault history domain id bytes.now base fault)) }
-    ensures of_bytes { IfErr result (λ fault. is_of_calls fault.kind ≡ false) }
+    ensures fault { IfErr result (IsRefused table.old (λ history. HasContentFault history domain id bytes.now base)) }
 {
     if id == Kind::Flow.set_id() {
         return read_templates(alloc, table, domain, Kind::Flow, bytes, base);
@@ -235,14 +178,10 @@ fn read_set<'a>(
     base: u64,
 ) -> Result<(Set<'a>, &'a [u8]), ReadFault>
     requires { base + length bytes.now < 2 ^ 64 }
-    ensures ok { IfOk result (λ read. (front : List ℕ) × (bytes.now ≡ front ++ read.1.now)
-        × ((history : List (ℕ × Event)) → Follows table.old history
-        → IsSet history domain front read.0 × Follows table.new (history ++ events_of_set domain read.0))) }
+    ensures ok { IfOk result (λ read. let events = events_of_set domain read.0 in IsReadAfter table.old table.new events
+        (λ history. ReadsSet domain (history, bytes.now) read.0 (history ++ events, read.1.now))) }
     ensures size { IfOk result (λ read. set_size read.0 + length read.1.now < length bytes.now) }
-    ensures fault { IfErr result (λ fault. (fault ≡ out_of_memory)
-        ⊎ ((history : List (ℕ × Event)) → Follows table.old history →
-        HasSetFault history domain bytes.now base fault)) }
-    ensures of_bytes { IfErr result (λ fault. is_of_calls fault.kind ≡ false) }
+    ensures fault { IfErr result (IsRefused table.old (λ history. HasSetFault history domain bytes.now base)) }
 {
     let bad_length = ReadFault {
         kind: ReadFaultKind::BadSetLength,
@@ -271,13 +210,10 @@ pub fn read_sets<'a>(
     base: u64,
 ) -> Result<SetList<'a>, ReadFault>
     requires { base + length bytes.now < 2 ^ 64 }
-    ensures ok { IfOk result (λ sets. (history : List (ℕ × Event)) → Follows table.old history
-        → ReadsSets history domain bytes.now sets [] × Follows table.new (history ++ events_of_sets domain sets)) }
+    ensures ok { IfOk result (λ sets. IsReadAfter table.old table.new (events_of_sets domain sets)
+        (λ history. IsSets history domain bytes.now sets)) }
     ensures size { IfOk result (λ sets. message_size sets ≤ length bytes.now) }
-    ensures fault { IfErr result (λ fault. (fault ≡ out_of_memory)
-        ⊎ ((history : List (ℕ × Event)) → Follows table.old history →
-        HasSetsFault history domain bytes.now base fault)) }
-    ensures of_bytes { IfErr result (λ fault. is_of_calls fault.kind ≡ false) }
+    ensures fault { IfErr result (IsRefused table.old (λ history. HasSetsFault history domain bytes.now base)) }
 {
     let mut sets = SetList::new(alloc);
     let mut rest = bytes;

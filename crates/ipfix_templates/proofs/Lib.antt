@@ -1,6 +1,6 @@
 pub mod Choice
+pub mod Reading
 pub mod Records
-pub mod Outcomes
 pub mod Loops
 pub mod History
 pub mod Tables

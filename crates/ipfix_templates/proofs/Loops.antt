@@ -1,11 +1,9 @@
 -- Reading one thing after the other, as a loop does.
-use Rattle.std.proofs.Common.{◌≡◌, ℕ, suc, ◌+◌, ◌-◌, ◌<◌, ◌≤◌, List, [], ◌∷◌, ◌++◌, length, Bool, true, false, Option, Some, None, Ok, refl, sym, ap, ◌∙◌, append_assoc, arith}
+use Rattle.std.proofs.Common.{◌≡◌, ℕ, suc, ◌+◌, ◌-◌, ◌<◌, ◌≤◌, List, [], ◌∷◌, ◌++◌, length, Bool, true, false, Option, Some, None, refl, sym, ap, ◌∙◌, append_assoc, arith}
 use Rattle.std.specs.Prelude.{is_some, option_and_then}
 use Rattle.std.proofs.lemmas.List.{append-nil}
 use Rattle.ipfix_templates.specs.declared.field.Field.{Field}
-use Rattle.ipfix_templates.specs.declared.kind.Kind.{Kind}
-use Rattle.ipfix_templates.specs.declared.event.TemplateEvent.{TemplateEvent}
-use Rattle.ipfix_templates.specs.Reading.{field_at, fields_at, record_at, ReadsEvents}
+use Rattle.ipfix_templates.specs.Reading.{field_at, fields_at}
 
 -- what was read before, and what is still read
 abbrev pub behind : List Field → Option (List Field × List ℕ) → Option (List Field × List ℕ)
@@ -65,9 +63,3 @@ stands_all count i bytes all le so_far =
     let k : count - i ≡ 0 = omega arith in
     let one : is_some (fields_at (count - i) bytes) ≡ true = rw k refl in
     sym one ∙ so_far
-
--- one more record
-pub reads_more : (kind : Kind) (bytes : List ℕ) (events : List TemplateEvent) (rest : List ℕ) (event : TemplateEvent) (after : List ℕ) → ReadsEvents kind bytes events rest → 4 ≤ length rest
-    → record_at kind rest ≡ Ok (event, after) → ReadsEvents kind bytes (events ++ event ∷ []) after
-reads_more kind bytes [] rest event after done long read = (after, rw done long, rw done read, refl)
-reads_more kind bytes (e ∷ es) rest event after done long read = (done.0, done.1, done.2, reads_more kind done.0 es rest event after done.3 long read)

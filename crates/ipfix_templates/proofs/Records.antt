@@ -1,7 +1,7 @@
 -- What a record takes from the front of its bytes.
-use Rattle.std.proofs.Common.{◌≡◌, ℕ, zero, suc, ◌+◌, ◌*◌, ◌≤◌, ◌||◌, true, false, cond, ltb, eqb, List, [], ◌∷◌, length, drop, Option, Some, None, Result, Ok, Err, ◌⊎◌, inl, inr, refl, sym, ap, subst, ◌∙◌, arith, length-drop}
+use Rattle.std.proofs.Common.{◌≡◌, ℕ, zero, suc, ◌+◌, ◌*◌, ◌-◌, ◌≤◌, ◌||◌, true, false, cond, ltb, eqb, List, [], ◌∷◌, length, drop, Option, Some, None, Result, Ok, Err, ◌⊎◌, inl, inr, refl, sym, ap, ◌∙◌, arith, length-drop}
 use Rattle.std.specs.Prelude.{option_and_then}
-use Rattle.std.proofs.lemmas.Bool.{ltb-false}
+use Rattle.std.proofs.lemmas.Bool.{cases_lt, ltb-false}
 use Rattle.byteorder.specs.Endian.{big_number}
 use Rattle.ipfix_templates.specs.declared.field.Field.{Field}
 use Rattle.ipfix_templates.specs.declared.kind.Kind.{Kind}
@@ -12,8 +12,10 @@ use Rattle.ipfix_templates.specs.declared.fault.TemplateFault.{TemplateFault}
 use Rattle.ipfix_templates.specs.declared.fault.TemplateFaultKind.{TemplateFaultKind}
 use Rattle.ipfix_templates.specs.declared.fault.TemplateFaultKind.TheVariants.{Truncated, BadTemplateId, BadScope, NoMemory}
 use Rattle.ipfix_templates.specs.Kind.{set_id}
-use Rattle.ipfix_templates.specs.Reading.{field_at, fields_at, defined_by, definition_at, withdrawal, followed_by, record_at, ReadsEvents, IsTemplateSet, HasTemplateFault}
+use Rattle.ipfix_templates.specs.Reading.{field_at, fields_at, defined_by, definition_at, withdrawal, followed_by, record_at, ReadsEvent, ReadsEvents, IsPadding, IsTemplateSet, IsRecordFault, HasTemplateFault}
+use Rattle.ipfix_templates.specs.Laws.{HasReading, OneReading}
 use Rattle.ipfix_templates.proofs.Choice.{chosen, gave, some_is, ok_is}
+use Rattle.ipfix_templates.proofs.Reading.{reads_shorter, Goes, has_outcome, one_outcome}
 
 pub field_shorter : (bytes : List ℕ) (x : Field × List ℕ) → field_at bytes ≡ Some x → length x.1 + 4 ≤ length bytes
 unfolding field_at
@@ -81,65 +83,53 @@ record_shorter kind bytes x long e =
           ]
     ]
 
+shorter : (kind : Kind) (bytes : List ℕ) (event : TemplateEvent) (after : List ℕ) → ReadsEvent kind bytes event after → length after + 4 ≤ length bytes
+shorter kind bytes event after r = record_shorter kind bytes (event, after) r.0 r.1
+
 -- records take at least 4 bytes each
-pub reads_shorter : (kind : Kind) (bytes : List ℕ) (events : List TemplateEvent) (rest : List ℕ) → ReadsEvents kind bytes events rest → 4 * length events + length rest ≤ length bytes
-reads_shorter kind bytes [] rest e = omega (arith, ap length e)
-reads_shorter kind bytes (event ∷ events) rest r = omega (arith, record_shorter kind bytes (event, r.0) r.1 r.2, reads_shorter kind r.0 events rest r.3)
+pub events_shorter : (kind : Kind) (bytes : List ℕ) (events : List TemplateEvent) (rest : List ℕ) → ReadsEvents kind bytes events rest → length events * 4 + length rest ≤ length bytes
+events_shorter kind = reads_shorter (ReadsEvent kind) length 4 (shorter kind)
 
--- ---- one reading
-
--- records are read alike as far as both lists go, and then one list goes on
-pub same_reading : (kind : Kind) (bytes : List ℕ) (events others : List TemplateEvent) (rest left : List ℕ)
-    → ReadsEvents kind bytes events rest → ReadsEvents kind bytes others left
-    → ((events ≡ others) × (rest ≡ left))
-    ⊎ (((event : TemplateEvent) × (after : List ℕ) × (4 ≤ length rest) × (record_at kind rest ≡ Ok (event, after)))
-    ⊎ ((event : TemplateEvent) × (after : List ℕ) × (4 ≤ length left) × (record_at kind left ≡ Ok (event, after))))
-same_reading kind bytes [] [] rest left r s = inl (refl, sym r ∙ s)
-same_reading kind bytes [] (o ∷ others) rest left r s = inr (inl (o, s.0, rw (← r) s.1, rw (← r) s.2))
-same_reading kind bytes (e ∷ events) [] rest left r s = inr (inr (e, r.0, rw (← s) r.1, rw (← s) r.2))
-same_reading kind bytes (e ∷ events) (o ∷ others) rest left r s =
-    let both : (e, r.0) ≡ (o, s.0) = ok_is {B = TemplateFaultKind} _ _ (sym r.2 ∙ s.2) in
-    let first : e ≡ o = ap (λ (x : TemplateEvent × List ℕ). x.0) both in
-    let after : r.0 ≡ s.0 = ap (λ (x : TemplateEvent × List ℕ). x.1) both in
-    let there = subst (λ (x : List ℕ). ReadsEvents kind x others left) (sym after) s.3 in
-    elim (same_reading kind r.0 events others rest left r.3 there) [
-      | inl same ↦ inl (ap (λ (x : TemplateEvent). x ∷ events) first ∙ ap (λ (xs : List TemplateEvent). o ∷ xs) same.0, same.1)
-      | inr more ↦ inr more
-    ]
+-- ---- one reading, or one fault
 
 ok_not_err : {A B : Type 0} (r : Result A B) (x : A) (y : B) → r ≡ Ok x → r ≡ Err y → ⊥
 ok_not_err r x y p q = cc
 
-pub one_set : (kind : Kind) (bytes : List ℕ) (events others : List TemplateEvent) → IsTemplateSet kind bytes events → IsTemplateSet kind bytes others → events ≡ others
-one_set kind bytes events others p q =
-    elim (same_reading kind bytes events others p.0 q.0 p.1 q.1) [
-      | inl same ↦ same.0
-      | inr (inl more) ↦ absurd (omega (arith, more.2, p.2))
-      | inr (inr more) ↦ absurd (omega (arith, more.2, q.2))
+one_event : (kind : Kind) (bytes : List ℕ) (event other : TemplateEvent) (after left : List ℕ) → ReadsEvent kind bytes event after → ReadsEvent kind bytes other left → (event ≡ other) × (after ≡ left)
+one_event kind bytes event other after left p q =
+    let both : (event, after) ≡ (other, left) = ok_is {B = TemplateFaultKind} _ _ (sym p.1 ∙ q.1) in
+    (ap (λ (x : TemplateEvent × List ℕ). x.0) both, ap (λ (x : TemplateEvent × List ℕ). x.1) both)
+
+alone : (kind : Kind) (size : ℕ) (rest : List ℕ) (fault other : TemplateFault) → IsRecordFault kind size rest fault → IsRecordFault kind size rest other → fault ≡ other
+alone kind size rest fault other p q =
+    let kinds : ◌≡◌ {A = Result (TemplateEvent × List ℕ) TemplateFaultKind} (Err fault.kind) (Err other.kind) = sym p.1 ∙ q.1 in
+    let alike : fault.kind ≡ other.kind = cc in
+    let offsets : fault.offset ≡ other.offset = omega (arith, p.2, q.2) in
+    λ i. record { kind = alike i; offset = offsets i }
+
+pub one_reading : OneReading
+one_reading kind bytes =
+    one_outcome (ReadsEvent kind) IsPadding (IsRecordFault kind (length bytes)) (one_event kind) (λ s g few. omega (arith, g.2.0, few))
+    (λ s fault g found. ok_not_err _ _ _ g.2.1 found.1) (λ s fault few found. omega (arith, few, found.0)) (alone kind (length bytes)) bytes
+
+-- a record or a fault is due where there is no padding
+due : (kind : Kind) (size : ℕ) (rest : List ℕ) → length rest ≤ size → IsPadding rest ⊎ (Goes (ReadsEvent kind) rest ⊎ ((fault : TemplateFault) × IsRecordFault kind size rest fault))
+due kind size rest room =
+    elim (cases_lt (length rest) 4) [
+      | inl padding ↦ inl padding
+      | inr long ↦
+          elim (record_at kind rest) as (λ r. record_at kind rest ≡ r → IsPadding rest ⊎ (Goes (ReadsEvent kind) rest ⊎ ((fault : TemplateFault) × IsRecordFault kind size rest fault))) [
+            | Ok x ↦ λ read. inr (inl (x.0, x.1, (long, read)))
+            | Err fault ↦ λ read. inr (inr (record { kind = fault; offset = size - length rest }, (long, read, omega (arith, room))))
+          ] refl
     ]
 
-pub one_fault : (kind : Kind) (bytes : List ℕ) (fault other : TemplateFault) → HasTemplateFault kind bytes fault → HasTemplateFault kind bytes other → fault ≡ other
-one_fault kind bytes fault other p q =
-    elim (same_reading kind bytes p.0 q.0 p.1 q.1 p.2 q.2) [
-      | inl same ↦
-          let kinds : ◌≡◌ {A = Result (TemplateEvent × List ℕ) TemplateFaultKind} (Err fault.kind) (Err other.kind) = sym p.4 ∙ ap (record_at kind) same.1 ∙ q.4 in
-          let alike : fault.kind ≡ other.kind = cc in
-          let offsets : fault.offset ≡ other.offset = omega (arith, p.5, q.5, ap length same.1) in
-          λ i. record { kind = alike i; offset = offsets i }
-      | inr (inl more) ↦ absurd (ok_not_err _ _ _ more.3 p.4)
-      | inr (inr more) ↦ absurd (ok_not_err _ _ _ more.3 q.4)
-    ]
-
-pub set_or_fault : (kind : Kind) (bytes : List ℕ) (events : List TemplateEvent) (fault : TemplateFault) → IsTemplateSet kind bytes events → HasTemplateFault kind bytes fault → ⊥
-set_or_fault kind bytes events fault p q =
-    elim (same_reading kind bytes events q.0 p.0 q.1 p.1 q.2) [
-      | inl same ↦ omega (arith, p.2, q.3, ap length same.1)
-      | inr (inl more) ↦ omega (arith, more.2, p.2)
-      | inr (inr more) ↦ ok_not_err _ _ _ more.3 q.4
-    ]
+pub has_reading : HasReading
+has_reading kind bytes =
+    has_outcome (ReadsEvent kind) IsPadding (IsRecordFault kind (length bytes)) length (length bytes) (λ s event next r. omega (arith, shorter kind s event next r)) (due kind (length bytes)) bytes (omega arith)
 
 pub events_fit : (kind : Kind) (bytes : List ℕ) (events : List TemplateEvent) → IsTemplateSet kind bytes events → 4 * length events ≤ length bytes
-events_fit kind bytes events p = omega (arith, reads_shorter kind bytes events p.0 p.1)
+events_fit kind bytes events p = omega (arith, events_shorter kind bytes events p.0 p.1)
 
 -- ---- no fault is that memory ran out
 
@@ -182,4 +172,4 @@ record_fault kind bytes e =
     ]
 
 pub memory_is_no_fault : (kind : Kind) (bytes : List ℕ) (fault : TemplateFault) → HasTemplateFault kind bytes fault → fault.kind ≡ NoMemory → ⊥
-memory_is_no_fault kind bytes fault p is = record_fault kind p.1 (p.4 ∙ ap (λ (k : TemplateFaultKind). Err k) is)
+memory_is_no_fault kind bytes fault p is = record_fault kind p.1 (p.3.1 ∙ ap (λ (k : TemplateFaultKind). Err k) is)

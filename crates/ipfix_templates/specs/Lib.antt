@@ -3,6 +3,7 @@ pub mod Field
 pub mod Runs
 pub mod Template
 pub mod Fault
+pub mod Reads
 pub mod Reading
 pub mod InForce
 pub mod Table

@@ -10,6 +10,7 @@ use Rattle.ipfix_templates.specs.declared.fault.TemplateFault.{TemplateFault}
 use Rattle.ipfix_templates.specs.declared.fault.TemplateFaultKind.{TemplateFaultKind}
 use Rattle.ipfix_templates.specs.declared.fault.TemplateFaultKind.TheVariants.{Truncated, BadTemplateId, BadScope}
 use Rattle.ipfix_templates.specs.Kind.{set_id}
+use Rattle.ipfix_templates.specs.Reads.{Reads, ReadsWhole, StopsAt}
 
 -- the field specifier at the front, and the bytes after it: the enterprise bit with the element's number, the
 -- length, and an enterprise number where the bit is 1
@@ -62,23 +63,31 @@ record_at kind bytes =
     else (if nat_lt id 256 then Err BadTemplateId
     else definition_at kind id count (drop 4 bytes))
 
+-- a record at the front gives an event and leaves the bytes after it
+abbrev pub ReadsEvent : Kind → List ℕ → TemplateEvent → List ℕ → Type 0
+ReadsEvent kind bytes event after = (4 ≤ length bytes) × (record_at kind bytes ≡ Ok (event, after))
+
 -- records that stand one after the other give these events and leave these bytes
 abbrev pub ReadsEvents : Kind → List ℕ → List TemplateEvent → List ℕ → Type 0
-ReadsEvents kind bytes [] rest = bytes ≡ rest
-ReadsEvents kind bytes (event ∷ events) rest =
-    (after : List ℕ) × (4 ≤ length bytes) × (record_at kind bytes ≡ Ok (event, after)) × ReadsEvents kind after events rest
+ReadsEvents kind bytes events rest = Reads (ReadsEvent kind) bytes events rest
 
--- the bytes behind the header of a template set are these records, and then padding of fewer than 4 bytes
+-- fewer bytes than a record has, which are padding
+abbrev pub IsPadding : List ℕ → Type 0
+IsPadding bytes = length bytes < 4
+
+-- the bytes behind the header of a template set are these records, and then padding
 abbrev pub IsTemplateSet : Kind → List ℕ → List TemplateEvent → Type 0
-IsTemplateSet kind bytes events = (padding : List ℕ) × ReadsEvents kind bytes events padding × (length padding < 4)
+IsTemplateSet kind bytes events = ReadsWhole (ReadsEvent kind) IsPadding bytes events
 
 -- behind some records there is no padding, and a record stands there
 abbrev pub HasTemplateRecord : Kind → List ℕ → Type 0
 HasTemplateRecord kind bytes =
     (events : List TemplateEvent) × (rest : List ℕ) × ReadsEvents kind bytes events rest × (4 ≤ length rest) × IsOk (record_at kind rest)
 
--- behind some records there is no padding and no record, and this is the first fault there
+-- there is no padding and no record at the front of the rest of so many bytes, but this fault
+abbrev pub IsRecordFault : Kind → ℕ → List ℕ → TemplateFault → Type 0
+IsRecordFault kind size rest fault = (4 ≤ length rest) × (record_at kind rest ≡ Err fault.kind) × (fault.offset + length rest ≡ size)
+
+-- behind some records this is the first fault
 abbrev pub HasTemplateFault : Kind → List ℕ → TemplateFault → Type 0
-HasTemplateFault kind bytes fault =
-    (events : List TemplateEvent) × (rest : List ℕ) × ReadsEvents kind bytes events rest
-    × (4 ≤ length rest) × (record_at kind rest ≡ Err fault.kind) × (fault.offset + length rest ≡ length bytes)
+HasTemplateFault kind bytes fault = StopsAt (ReadsEvent kind) (IsRecordFault kind (length bytes)) bytes fault

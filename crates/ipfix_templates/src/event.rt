@@ -1,9 +1,6 @@
-ghost use Rattle.std.specs.Prelude.{◌≡◌, ◌++◌, ◌∷◌, [], length, OnOk, OnErr};
-
+use crate::items::Items;
 use crate::kind::Kind;
 use crate::template::Template;
-use std::alloc::{AllocError, Global};
-use std::marker::Model;
 
 /// What one record of a template set says.
 #[derive(Debug, Drop)]
@@ -17,50 +14,4 @@ pub enum TemplateEvent {
 }
 
 /// A list of template events.
-#[derive(Debug, Drop)]
-pub struct TemplateEvents {
-    items: Vec<TemplateEvent>,
-}
-
-impl Model for TemplateEvents {
-    ghost use Rattle.std.specs.Prelude.{List};
-    ghost use Rattle.ipfix_templates.specs.declared.event.TemplateEvent.{TemplateEvent};
-
-    ghost Value = { List TemplateEvent };
-
-    ghost view = { λ a. a.items.items };
-}
-
-impl TemplateEvents {
-    /// No events.
-    pub fn new(alloc: Global) -> Self
-        ensures { result ≡ [] }
-    {
-        TemplateEvents {
-            items: Vec::new(alloc),
-        }
-    }
-
-    /// How many events.
-    pub fn len(&self) -> usize
-        ensures { result ≡ length self.now }
-    {
-        self.items.len()
-    }
-
-    /// The events in order.
-    pub fn as_slice(&self) -> &[TemplateEvent]
-        ensures { result.now ≡ self.now }
-    {
-        self.items.as_slice()
-    }
-
-    /// Adds an event at the end. An `Err` changes nothing.
-    pub fn push(&mut self, event: TemplateEvent) -> Result<(), AllocError>
-        ensures ok { OnOk result (self.new ≡ self.old ++ event ∷ []) }
-        ensures err { OnErr result (self.new ≡ self.old) }
-    {
-        self.items.push(event)?;
-        Ok(())
-    }
-}
+pub type TemplateEvents = Items<TemplateEvent>;

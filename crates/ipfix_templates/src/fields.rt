@@ -1,27 +1,71 @@
 ghost use Rattle.std.specs.Prelude.{◌≡◌, ◌≤◌, length, filter, IfOk};
 ghost use Rattle.ipfix_templates.specs.Field.{has_bytes, least_length};
-ghost use Rattle.ipfix_templates.specs.Runs.{runs_behind, last_run_behind};
+ghost use Rattle.ipfix_templates.specs.Runs.{IsKept, runs_behind, last_run_behind};
 
 use crate::field::Field;
-use crate::field_list::FieldList;
-use std::alloc::AllocError;
+use std::alloc::{AllocError, Global};
 use std::marker::Model;
 use std::rc::Rc;
+
+// A list of fields, and what reading a record asks of them, computed once.
+#[derive(Debug, Drop)]
+struct Layout {
+    items: Vec<Field>,
+    filled: Vec<Field>,
+    runs: Vec<u32>,
+    last_run: u32,
+    least: u32,
+}
 
 /// A list of at most 65,535 field specifiers, which its copies share.
 #[derive(Debug, Drop)]
 pub struct Fields {
-    shared: Rc<FieldList>,
+    shared: Rc<Layout>,
 }
 
 impl Model for Fields {
     ghost use Rattle.std.specs.Prelude.{List};
     ghost use Rattle.std.specs.Rc.{rc_value};
     ghost use Rattle.ipfix_templates.specs.Field.{FieldView};
+    ghost use Rattle.ipfix_templates.specs.Runs.{IsKept};
 
     ghost Value = { List FieldView };
 
-    ghost view = { λ a. rc_value a.shared };
+    ghost view = { λ a. (rc_value a.shared).items.items };
+
+    ghost invariant = { λ a. let l = rc_value a.shared in IsKept l.items.items l.filled.items l.runs.items l.last_run l.least };
+}
+
+// What is kept of the fields.
+fn layout_of(items: Vec<Field>) -> Result<Layout, AllocError>
+    requires { length items.items ≤ 65535 }
+    ensures fields { IfOk result (λ layout. layout.items.items ≡ items.items) }
+    ensures kept { IfOk result (λ l. IsKept l.items.items l.filled.items l.runs.items l.last_run l.least) }
+{
+    let alloc = *items.allocator();
+    let mut filled = Vec::new(alloc);
+    let mut runs = Vec::new(alloc);
+    let mut last_run = 0u32;
+    let mut least = 0u32;
+    for field in items.as_slice() {
+        least += u32::from(field.least_length());
+        if field.has_bytes() {
+            filled.push(*field)?;
+        }
+        if field.is_variable() {
+            runs.push(last_run)?;
+            last_run = 0;
+        } else {
+            last_run += u32::from(field.length());
+        }
+    }
+    Ok(Layout {
+        items,
+        filled,
+        runs,
+        last_run,
+        least,
+    })
 }
 
 impl Fields {
@@ -31,9 +75,9 @@ impl Fields {
         ensures { IfOk result (λ fields. fields ≡ items.items) }
     {
         let alloc = *items.allocator();
-        let list = FieldList::new(items)?;
+        let layout = layout_of(items)?;
         Ok(Fields {
-            shared: Rc::new(alloc, list)?,
+            shared: Rc::new(alloc, layout)?,
         })
     }
 
@@ -42,7 +86,7 @@ impl Fields {
         ensures value { result ≡ length self.now }
         ensures bound { result ≤ 65535 }
     {
-        self.shared.as_slice().len()
+        self.shared.items.len()
     }
 
     /// The fields in order.
@@ -50,14 +94,14 @@ impl Fields {
         ensures value { result.now ≡ self.now }
         ensures bound { length result.now ≤ 65535 }
     {
-        self.shared.as_slice()
+        self.shared.items.as_slice()
     }
 
     /// The fields whose values take bytes in a record, in order.
     pub fn filled(&self) -> &[Field]
         ensures { result.now ≡ filter has_bytes self.now }
     {
-        self.shared.filled()
+        self.shared.filled.as_slice()
     }
 
     /// For each variable field the sum of the fixed lengths since the variable field before it: what a reader skips
@@ -65,21 +109,21 @@ impl Fields {
     pub fn runs(&self) -> &[u32]
         ensures { result.now ≡ runs_behind 0 self.now }
     {
-        self.shared.runs()
+        self.shared.runs.as_slice()
     }
 
-    /// The sum of the fixed lengths behind the last variable field.
+    /// The sum of the fixed lengths after the last variable field.
     pub fn last_run(&self) -> u32
         ensures { result ≡ last_run_behind 0 self.now }
     {
-        self.shared.last_run()
+        self.shared.last_run
     }
 
     /// The fewest bytes of a record: the sum of the fixed lengths, and 1 for each variable one.
     pub fn least_length(&self) -> u32
         ensures { result ≡ least_length self.now }
     {
-        self.shared.least_length()
+        self.shared.least
     }
 
     /// The same list for another owner. The fields are shared, so that a copy takes no memory for them.

@@ -23,8 +23,8 @@
 mod event;
 mod fault;
 mod field;
-mod field_list;
 mod fields;
+mod items;
 mod kind;
 mod kind_table;
 mod laws;
@@ -37,6 +37,7 @@ pub use event::{TemplateEvent, TemplateEvents};
 pub use fault::{TemplateFault, TemplateFaultKind};
 pub use field::{Field, VARIABLE_LENGTH};
 pub use fields::Fields;
+pub use items::Items;
 pub use kind::Kind;
 pub use laws::{event_after_history, events_fit, has_reading, memory_is_no_fault, one_reading};
 pub use set::read_template_set;

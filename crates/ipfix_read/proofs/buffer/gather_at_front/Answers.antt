@@ -1,7 +1,8 @@
 use Rattle.std.proofs.Common.{rules, ◌∙◌, inl, inr, refl, sym, arith}
 use Rattle.std.proofs.lemmas.Result.{err_from_is_err_and}
-use Rattle.ipfix_read.proofs.Headers.{not_of_reader}
-use Rattle.ipfix_read.proofs.Gathering.{unread, nothing_left, short_header, faulty_header, short_message, gathered, holds_message}
+use Rattle.ipfix_read.proofs.Headers.{own_sound}
+use Rattle.ipfix_read.proofs.Faults.{not_of_reader}
+use Rattle.ipfix_read.proofs.Gathering.{head_of, unread, nothing_left, short_header, faulty_header, short_message, gathered, holds_message}
 use Rattle.ipfix_read.proofs.buffer.gather_at_front.Goals as goal
 
 pub returns-in_err-head-clause-gathers : goal.returns-in_err-head-clause-gathers
@@ -17,12 +18,14 @@ returns-in_err-head-clause-device g c =
 pub returns-in_err-size-clause-gathers : goal.returns-in_err-size-clause-gathers
 returns-in_err-size-clause-gathers g c =
     let p = err_from_is_err_and c.from_residual-in_err-size.result c.from_residual-in_err-size.ensures.1 in
-    rw (p.1, p.2) (faulty_header _ _ c.args.count c.in_ok-head.head c.args.buffer.now c.fill.new.bytes c.in_err-size.field-0.0 c.in_ok-head.ensures.given (search rules) (search rules) c.in_err-size.ensures.fault)
+    let found = c.in_err-size.ensures.fault in
+    rw (p.1, p.2) (faulty_header _ _ c.args.count c.in_ok-head.head c.args.buffer.now c.fill.new.bytes c.in_err-size.field-0.0 c.in_ok-head.ensures.given (search rules) (search rules) found.0)
 
 pub returns-in_err-size-clause-device : goal.returns-in_err-size-clause-device
 returns-in_err-size-clause-device g c =
     let p = err_from_is_err_and c.from_residual-in_err-size.result c.from_residual-in_err-size.ensures.1 in
-    rw (p.1, p.2) (λ none. c.in_ok-head.ensures.ok ∙ none ∙ sym (not_of_reader c.in_err-size.field-0.0 c.in_err-size.ensures.of_bytes))
+    let found = c.in_err-size.ensures.fault in
+    rw (p.1, p.2) (λ none. c.in_ok-head.ensures.ok ∙ none ∙ sym (not_of_reader c.in_err-size.field-0.0 found.1))
 
 pub returns-in_err-got-clause-gathers : goal.returns-in_err-got-clause-gathers
 returns-in_err-got-clause-gathers g c =
@@ -54,7 +57,7 @@ returns-clause-gathers g c =
 
 pub returns-clause-whole : goal.returns-clause-whole
 returns-clause-whole g c =
-    holds_message c.in_ok-size.size c.args.buffer.now c.fill.new.bytes c.fill-2.new.bytes (search rules) (search rules) c.in_ok-size.ensures.most c.in_ok-size.ensures.version c.in_ok-size.ensures.whole
+    holds_message c.in_ok-size.size c.args.buffer.now c.fill.new.bytes c.fill-2.new.bytes (search rules) (search rules) c.in_ok-size.ensures.most (own_sound c.args.count (head_of c.args.buffer.now c.fill.new.bytes) c.in_ok-size.ensures.ok).version c.in_ok-size.ensures.whole
 
 pub returns-in_err-head-clause-fault : goal.returns-in_err-head-clause-fault
 returns-in_err-head-clause-fault g c =
@@ -64,9 +67,13 @@ returns-in_err-head-clause-fault g c =
 pub returns-in_err-size-clause-fault : goal.returns-in_err-size-clause-fault
 returns-in_err-size-clause-fault g c =
     let p = err_from_is_err_and c.from_residual-in_err-size.result c.from_residual-in_err-size.ensures.1 in
-    rw (p.1, p.2) (inr c.in_err-size.ensures.of_bytes)
+    let found = c.in_err-size.ensures.fault in
+    rw (p.1, p.2) (inr found.1)
 
 pub returns-in_err-got-clause-fault : goal.returns-in_err-got-clause-fault
 returns-in_err-got-clause-fault g c =
     let p = err_from_is_err_and c.from_residual-in_err-got.result c.from_residual-in_err-got.ensures.1 in
     rw (p.1, p.2) (inl refl)
+
+pub returns-clause-counted : goal.returns-clause-counted
+returns-clause-counted g c = (own_sound c.args.count (head_of c.args.buffer.now c.fill.new.bytes) c.in_ok-size.ensures.ok).counted

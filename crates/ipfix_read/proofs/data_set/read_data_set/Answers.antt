@@ -3,13 +3,13 @@ use Rattle.std.proofs.lemmas.Result.{err_from_is_err_and}
 use Rattle.ipfix_templates.specs.declared.field.Field.{Field}
 use Rattle.ipfix_templates.specs.declared.kind.Kind.{Kind}
 use Rattle.ipfix_read.specs.WholeRecords.{whole_records}
-use Rattle.ipfix_read.proofs.RecordBytes.{reads_shorter}
+use Rattle.ipfix_read.proofs.RecordBytes.{records_shorter}
 use Rattle.ipfix_read.proofs.PackedRecords.{first_stands, packed, packed_length}
 use Rattle.ipfix_read.proofs.data_set.read_data_set.Goals as goal
 
 pub slice_bounds-whole-count : goal.slice_bounds-whole-count
 slice_bounds-whole-count c =
-    omega (arith, reads_shorter c.args.template.now c.args.bytes.now c.in-Ok.ensures.ok.0 c.in-Ok.read.1.now c.in-Ok.ensures.ok.2)
+    omega (arith, records_shorter c.args.template.now c.args.bytes.now c.in-Ok.ensures.ok.0 c.in-Ok.read.1.now c.in-Ok.ensures.ok.2)
 
 pub new-requires : goal.new-requires
 new-requires c =

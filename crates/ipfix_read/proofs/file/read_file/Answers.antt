@@ -1,25 +1,30 @@
-use Rattle.std.proofs.Common.{◌≡◌, ℕ, ◌+◌, ◌<◌, List, [], length, None, ◌⊎◌, inl, inr, subst, sym, ap, ◌∙◌, refl, arith}
-use Rattle.std.proofs.lemmas.List.{length_push}
+use Rattle.std.proofs.Common.{◌≡◌, ℕ, ◌+◌, ◌<◌, [], ◌++◌, length, ◌⊎◌, inl, inr, refl, subst, sym, ap, ◌∙◌, arith}
+use Rattle.std.proofs.lemmas.Bool.{eqb-true}
+use Rattle.std.proofs.lemmas.List.{length_push, nil_from_length}
 use Rattle.std.proofs.lemmas.Result.{err_from_is_err_and}
-use Rattle.ipfix_templates.specs.declared.event.TemplateEvent.{TemplateEvent}
-use Rattle.ipfix_templates.specs.Table.{Follows}
+use Rattle.ipfix_templates.proofs.Reading.{reads_more}
 use Rattle.ipfix_read.specs.declared.fault.ReadFault.{ReadFault}
 use Rattle.ipfix_read.specs.Fault.{out_of_memory}
-use Rattle.ipfix_read.specs.Message.{header_fault, events_of_message}
-use Rattle.ipfix_read.specs.File.{HasFileFault, events_of_messages}
-use Rattle.ipfix_read.proofs.Sets.{not_empty, behind_push}
-use Rattle.ipfix_read.proofs.MessageLemmas.{messages_more, file_fault}
+use Rattle.ipfix_read.specs.Message.{HasMessageFault, events_of_message}
+use Rattle.ipfix_read.specs.File.{ReadsMessage, HasFileFault}
+use Rattle.ipfix_read.proofs.Sets.{not_empty}
 use Rattle.ipfix_read.proofs.Faults.{no_template}
 use Rattle.ipfix_read.proofs.file.read_file.Goals as goal
+
+pub loop-rest-init : goal.loop-rest-init
+loop-rest-init c = rw c.new-messages.ensures (record { within = omega arith; counted = refl; read = ([], refl, c.new-table.ensures.follows) })
 
 -- what is wrong where a message is none
 found : (c : goal.After-drop-table-inside-in_err-message) → (c.in_err-message.field-0.0 ≡ out_of_memory) ⊎ HasFileFault [] 0 0 c.args.bytes.now c.in_err-message.field-0.0
 found c =
     let some : 0 < length c.loop-rest.rest.now = not_empty c.loop-rest.rest.now (sym c.loop-rest-test.ensures) in
-    elim c.in_err-message.ensures.fault [
+    let before = c.loop-rest.invariant.read in
+    let refused = c.in_err-message.ensures.fault in
+    elim refused.1 [
       | inl memory ↦ inl memory
-      | inr fault ↦ inr (file_fault c.args.bytes.now c.loop-rest.messages c.loop-rest.rest.now c.loop-rest.count _ c.in_err-message.field-0.0 c.loop-rest.invariant.read some c.loop-rest.invariant.counted refl
-          (fault (events_of_messages c.loop-rest.messages) c.loop-rest.invariant.follows))
+      | inr fault ↦
+          let placed = subst (λ (k : ℕ). HasMessageFault before.0 c.loop-rest.count c.loop-rest.rest.now k c.in_err-message.field-0.0) (omega arith) (fault before.0 before.2) in
+          inr (c.loop-rest.messages, (before.0, c.loop-rest.count, c.loop-rest.rest.now), before.1, (some, placed))
     ]
 
 pub returns-in_err-message-clause-fault : goal.returns-in_err-message-clause-fault
@@ -36,16 +41,26 @@ returns-in_err-message-clause-template c =
 pub returns-in_err-message-clause-of_bytes : goal.returns-in_err-message-clause-of_bytes
 returns-in_err-message-clause-of_bytes c =
     let p = err_from_is_err_and c.from_residual.result c.from_residual.ensures.1 in
-    rw (p.1, p.2) c.in_err-message.ensures.of_bytes
+    let refused = c.in_err-message.ensures.fault in
+    rw (p.1, p.2) refused.0
 
 pub loop-rest-preserved : goal.loop-rest-preserved
 loop-rest-preserved c =
-    let next = c.in_ok-message.ensures.ok in
-    let is = next.3 (events_of_messages c.loop-rest.messages) c.loop-rest.invariant.follows in
-    let none : header_fault (0 + length c.loop-rest.messages) c.loop-rest.rest.now ≡ None = subst (λ (k : ℕ). header_fault k c.loop-rest.rest.now ≡ None) (omega (arith, c.loop-rest.invariant.counted)) next.2 in
+    let before = c.loop-rest.invariant.read in
+    let is = c.in_ok-message.ensures.ok before.0 before.2 in
+    let later = before.0 ++ events_of_message c.in_ok-message.message in
     rw c.in_ok-push.ensures.ok (record {
       within = omega (arith, c.in_ok-message.ensures.shorter, c.loop-rest.invariant.within);
       counted = omega (arith, length_push c.loop-rest.messages c.in_ok-message.message, c.loop-rest.invariant.counted);
-      follows = subst (λ (h : List (ℕ × TemplateEvent)). Follows c.read_message.new.table h) (behind_push events_of_message [] c.loop-rest.messages c.in_ok-message.message) is.1;
-      read = messages_more [] 0 c.args.bytes.now c.loop-rest.messages c.loop-rest.rest.now next.0 c.in_ok-message.after.now c.in_ok-message.message c.loop-rest.invariant.read next.1 none is.0;
+      read = (
+        later,
+        reads_more ReadsMessage ([], 0, c.args.bytes.now) c.loop-rest.messages (before.0, c.loop-rest.count, c.loop-rest.rest.now) c.in_ok-message.message
+            (later, c.loop-rest.count + 1, c.in_ok-message.after.now) before.1 is.0,
+        is.1,
+      );
     })
+
+pub returns-clause-ok : goal.returns-clause-ok
+returns-clause-ok c =
+    let before = c.loop-rest.invariant.read in
+    ((before.0, c.loop-rest.count, c.loop-rest.rest.now), before.1, nil_from_length c.loop-rest.rest.now (eqb-true _ _ (sym c.loop-rest-test.ensures)))

@@ -1,5 +1,4 @@
 use Rattle.std.proofs.Common.{◌≡◌, ◌∙◌}
-use Rattle.ipfix_read.proofs.Sets.{no_events}
 use Rattle.ipfix_read.proofs.set.read_content.Goals as goal
 
 pub returns-then-id-set_id-clause-ok : goal.returns-then-id-set_id-clause-ok
@@ -13,6 +12,3 @@ returns-then-id-set_id-2-clause-ok c = let is : c.args.id ≡ 3 = c.if-id-set_id
 
 pub returns-then-id-set_id-2-clause-fault : goal.returns-then-id-set_id-2-clause-fault
 returns-then-id-set_id-2-clause-fault c = let is : c.args.id ≡ 3 = c.if-id-set_id-2.true ∙ c.set_id-2.ensures in rw is c.read_templates-then-id-set_id-2.ensures.fault
-
-pub returns-clause-ok : goal.returns-clause-ok
-returns-clause-ok c = no_events c.read_values_of.result c.args.table.now c.args.domain c.args.id c.args.bytes.now c.read_values_of.ensures.ok

@@ -1,7 +1,8 @@
-use Rattle.std.proofs.Common.{ℕ, ◌+◌, ◌≤◌, List, ◌++◌, length}
+use Rattle.std.proofs.Common.{ℕ, ◌+◌, ◌≤◌, List, length}
 use Rattle.ipfix_templates.specs.declared.event.TemplateEvent.{TemplateEvent}
+use Rattle.ipfix_templates.specs.Reads.{Reads}
 use Rattle.ipfix_templates.specs.Table.{Follows}
-use Rattle.ipfix_read.specs.Set.{ReadsSets, events_of_sets}
+use Rattle.ipfix_read.specs.Set.{ReadsSet}
 use Rattle.ipfix_read.specs.Message.{message_size}
 use Rattle.ipfix_read.proofs.set.read_sets.Given as goal
 
@@ -9,7 +10,7 @@ abbrev pub invariant-loop-rest : goal.invariant-loop-rest
 invariant-loop-rest l = record {
   within : message_size l.sets + length l.rest ≤ length l.bytes;
   read : (history : List (ℕ × TemplateEvent)) → Follows l.initial.table history
-      → ReadsSets history l.domain l.bytes l.sets l.rest × Follows l.table (history ++ events_of_sets l.domain l.sets);
+      → (later : List (ℕ × TemplateEvent)) × Reads (ReadsSet l.domain) (history, l.bytes) l.sets (later, l.rest) × Follows l.table later;
 }
 
 abbrev pub decreases-loop-rest : goal.decreases-loop-rest

@@ -1,8 +1,11 @@
-use Rattle.std.proofs.Common.{arith}
-use Rattle.ipfix_read.proofs.RecordBytes.{reads_shorter}
+use Rattle.std.proofs.Common.{ℕ, List, sym, subst, arith}
+use Rattle.std.proofs.lemmas.List.{append-nil}
+use Rattle.ipfix_templates.specs.declared.event.TemplateEvent.{TemplateEvent}
+use Rattle.ipfix_templates.specs.Table.{Follows}
+use Rattle.ipfix_read.proofs.RecordBytes.{records_shorter}
 use Rattle.ipfix_read.proofs.set.read_values_of.Goals as goal
 
 pub returns-in-Ok-clause-size : goal.returns-in-Ok-clause-size
 returns-in-Ok-clause-size c =
     let is = rw c.in-Ok.is at c.in_ok-records.ensures.read in
-    omega (arith, reads_shorter c.in-Some.template.now c.args.bytes.now c.in-Ok.records is.0 is.1)
+    omega (arith, records_shorter c.in-Some.template.now c.args.bytes.now c.in-Ok.records is.0 is.1)

@@ -1,6 +1,6 @@
 use Rattle.std.proofs.Common.{◌≡◌, ◌-◌, ℕ, List, [], length, take, Some, sym, ap, ◌∙◌, arith}
 use Rattle.ipfix_read.specs.Value.{FieldValueView, values_at, whole_values}
-use Rattle.ipfix_read.proofs.Choice.{mapped}
+use Rattle.ipfix_templates.proofs.Choice.{mapped}
 use Rattle.ipfix_read.proofs.RecordBytes.{values_shorter}
 use Rattle.ipfix_read.proofs.Cuts.{taken}
 use Rattle.ipfix_read.proofs.value.read_values.Goals as goal
