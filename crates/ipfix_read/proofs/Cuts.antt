@@ -86,15 +86,6 @@ whole_is (field ∷ fields) bytes x e =
     whole_step field fields bytes a.0 a.1 ∙ ap (λ (vs : List FieldValueView). record { field = field; value = a.0.0 } ∷ vs) (whole_is fields a.0.1 b.0 b.1)
     ∙ ap (λ (y : List FieldValueView × List ℕ). y.0) (some_is _ _ b.2)
 
--- a value for each field
-pub as_many : (fields : List Field) (bytes : List ℕ) (x : List FieldValueView × List ℕ) → values_at fields bytes ≡ Some x → length x.0 ≡ length fields
-unfolding values_at
-as_many [] bytes x e = sym (ap (λ (y : List FieldValueView × List ℕ). length y.0) (some_is ([], bytes) x e))
-as_many (field ∷ fields) bytes x e =
-    let a = gave (value_at field bytes) (λ v. option_and_then (λ vs. Some (record { field = field; value = v.0 } ∷ vs.0, vs.1)) (values_at fields v.1)) x e in
-    let b = gave (values_at fields a.0.1) (λ vs. Some (record { field = field; value = a.0.0 } ∷ vs.0, vs.1)) x a.2 in
-    omega (arith, as_many fields a.0.1 b.0 b.1, ap (λ (y : List FieldValueView × List ℕ). length y.0) (some_is _ _ b.2))
-
 -- the bytes before what is left are those of the values
 pub taken : (fields : List Field) (bytes : List ℕ) (x : List FieldValueView × List ℕ) (n : ℕ) → values_at fields bytes ≡ Some x → n ≡ length bytes - length x.1
     → (values_at fields (take n bytes) ≡ Some (whole_values fields (take n bytes), [])) × (whole_values fields (take n bytes) ≡ x.0)

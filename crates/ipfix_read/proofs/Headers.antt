@@ -58,23 +58,17 @@ own_sound count bytes e =
     ]
 
 -- and where the bytes are known
-pub record Sound (count : ℕ) (bytes : List ℕ) : Type 0 where
-  pub counted : count < 4294967295
-  pub version : big_number 2 bytes ≡ 10
-  pub least : 16 ≤ written_length bytes
-  pub within : written_length bytes ≤ length bytes
-
-pub header_sound : (count : ℕ) (bytes : List ℕ) → header_fault count bytes ≡ None → Sound count bytes
+pub header_sound : (count : ℕ) (bytes : List ℕ) → header_fault count bytes ≡ None → Own count bytes × (written_length bytes ≤ length bytes)
 header_sound count bytes e =
     elim (chosen (ltb (length bytes) 16) (Some TruncatedHeader) _ None e) [
       | inl p ↦ absurd (cc)
       | inr p ↦
-          elim (own_fault count bytes) as (λ o. own_fault count bytes ≡ o → option_or o (cond (ltb (length bytes) (written_length bytes)) (Some TruncatedMessage) None) ≡ None → Sound count bytes) [
+          elim (own_fault count bytes) as (λ o. own_fault count bytes ≡ o → option_or o (cond (ltb (length bytes) (written_length bytes)) (Some TruncatedMessage) None) ≡ None → Own count bytes × (written_length bytes ≤ length bytes)) [
             | Some kind ↦ λ _ q. absurd (cc)
             | None ↦ λ own q.
                 elim (chosen (ltb (length bytes) (written_length bytes)) (Some TruncatedMessage) None None q) [
                   | inl r ↦ absurd (cc)
-                  | inr r ↦ let o = own_sound count bytes own in record { counted = o.counted; version = o.version; least = o.least; within = ltb-false _ _ r.0 }
+                  | inr r ↦ (own_sound count bytes own, ltb-false _ _ r.0)
                 ]
           ] refl p.1
     ]

@@ -83,11 +83,12 @@ module _ (known : HasTemplateReading) where
       → Goes ReadsMessage at ⊎ ((fault : ReadFault) × HasMessageFault at.0 at.1 at.2 base fault)
   message_due at base (Some kind) is = inr (record { kind = kind; offset = base }, inl (kind, is, refl))
   message_due at base None is =
-      let header = header_sound at.1 at.2 is in
+      let sound = header_sound at.1 at.2 is in
+      let header = sound.0 in
       let size = written_length at.2 in
       let front = take size at.2 in
       let after = drop size at.2 in
-      let cut = cut_at at.2 (omega (arith, header.least)) header.within in
+      let cut = cut_at at.2 (omega (arith, header.least)) sound.1 in
       let least : 16 ≤ length front = omega (arith, cut_length at.2 front after size cut, header.least) in
       let parts = cut_parts at.2 front after size cut in
       let whole = cut_written at.2 front after size cut in

@@ -3,7 +3,7 @@ use Rattle.std.proofs.Common.{◌≡◌, ℕ, zero, suc, ◌+◌, ◌*◌, ◌-�
 use Rattle.std.specs.Prelude.{option_and_then, option_map}
 use Rattle.std.proofs.Math.Nat.{add-mul, le-div_iff_mul-le, suc-mul}
 use Rattle.std.proofs.lemmas.Bool.{le-ltb}
-use Rattle.std.proofs.lemmas.List.{append-nil, take_at}
+use Rattle.std.proofs.lemmas.List.{append-nil, length-map, take_at}
 use Rattle.std.proofs.lemmas.List.Elements.{All-cons, All-nil}
 use Rattle.std.proofs.lemmas.List.Sums.{sum_by-cons}
 use Rattle.ipfix_templates.specs.declared.field.Field.{Field}
@@ -27,6 +27,10 @@ fields_are (field ∷ fields) bytes x e =
     let b = gave (values_at fields a.0.1) (λ vs. Some (record { field = field; value = a.0.0 } ∷ vs.0, vs.1)) x a.2 in
     sym (ap (λ (y : List FieldValueView × List ℕ). map (λ v. v.field) y.0) (some_is _ _ b.2))
     ∙ ap (λ (fs : List Field). field ∷ fs) (fields_are fields a.0.1 b.0 b.1)
+
+-- a value for each field
+pub as_many : (fields : List Field) (bytes : List ℕ) (x : List FieldValueView × List ℕ) → values_at fields bytes ≡ Some x → length x.0 ≡ length fields
+as_many fields bytes x e = sym (length-map x.0 (λ v. v.field)) ∙ ap length (fields_are fields bytes x e)
 
 -- ---- one after the other
 
@@ -58,27 +62,23 @@ one_read kind fields (suc count) bytes values after some e =
     some_first kind fields count bytes (values, after) (sym e)
     ∙ ap (λ (n : ℕ). record { kind = kind; fields = values } ∷ whole_records kind fields n after) (omega arith)
 
--- each is of the kind, and has these fields
-all_of_kind : (kind : Kind) (fields : List Field) (count : ℕ) (bytes : List ℕ) → All (λ r. r.kind ≡ kind) (whole_records kind fields count bytes)
-all_of_kind kind fields zero bytes = rw (no_count kind fields bytes) (All-nil (λ (r : Record). r.kind ≡ kind))
-all_of_kind kind fields (suc count) bytes =
-    elim (values_at fields bytes) as (λ o. values_at fields bytes ≡ o → All (λ (r : Record). r.kind ≡ kind) (whole_records kind fields (suc count) bytes)) [
-      | None ↦ λ e. rw (none_first kind fields (suc count) bytes e) (All-nil (λ (r : Record). r.kind ≡ kind))
-      | Some x ↦ λ e. rw (some_first kind fields count bytes x e) (All-cons (λ (r : Record). r.kind ≡ kind) (record { kind = kind; fields = x.0 }) (whole_records kind fields count x.1) refl (all_of_kind kind fields count x.1))
+-- what holds of each whole record holds of all
+all_of : (P : Record → Type 0) (kind : Kind) (fields : List Field) → ((bytes : List ℕ) (x : List FieldValueView × List ℕ) → values_at fields bytes ≡ Some x → P (record { kind = kind; fields = x.0 }))
+    → (count : ℕ) (bytes : List ℕ) → All P (whole_records kind fields count bytes)
+all_of P kind fields each zero bytes = rw (no_count kind fields bytes) (All-nil P)
+all_of P kind fields each (suc count) bytes =
+    elim (values_at fields bytes) as (λ o. values_at fields bytes ≡ o → All P (whole_records kind fields (suc count) bytes)) [
+      | None ↦ λ e. rw (none_first kind fields (suc count) bytes e) (All-nil P)
+      | Some x ↦ λ e. rw (some_first kind fields count bytes x e)
+          (All-cons P (record { kind = kind; fields = x.0 }) (whole_records kind fields count x.1) (each bytes x e) (all_of P kind fields each count x.1))
     ] refl
 
 pub all_of_fields : (kind : Kind) (fields : List Field) (count : ℕ) (bytes : List ℕ) → All (λ r. map (λ v. v.field) r.fields ≡ fields) (whole_records kind fields count bytes)
-all_of_fields kind fields zero bytes = rw (no_count kind fields bytes) (All-nil (λ (r : Record). map (λ v. v.field) r.fields ≡ fields))
-all_of_fields kind fields (suc count) bytes =
-    elim (values_at fields bytes) as (λ o. values_at fields bytes ≡ o → All (λ (r : Record). map (λ v. v.field) r.fields ≡ fields) (whole_records kind fields (suc count) bytes)) [
-      | None ↦ λ e. rw (none_first kind fields (suc count) bytes e) (All-nil (λ (r : Record). map (λ v. v.field) r.fields ≡ fields))
-      | Some x ↦ λ e. rw (some_first kind fields count bytes x e)
-          (All-cons (λ (r : Record). map (λ v. v.field) r.fields ≡ fields) (record { kind = kind; fields = x.0 }) (whole_records kind fields count x.1) (fields_are fields bytes x e) (all_of_fields kind fields count x.1))
-    ] refl
+all_of_fields kind fields = all_of (λ r. map (λ v. v.field) r.fields ≡ fields) kind fields (fields_are fields)
 
 pub packed_of_kind : (kind : Kind) (fields : Option (List Field)) (count : ℕ) (bytes : List ℕ) → All (λ r. r.kind ≡ kind) (packed_records kind fields count bytes)
 packed_of_kind kind None count bytes = All-nil (λ (r : Record). r.kind ≡ kind)
-packed_of_kind kind (Some fields) count bytes = all_of_kind kind fields count bytes
+packed_of_kind kind (Some fields) count bytes = all_of (λ r. r.kind ≡ kind) kind fields (λ _ _ _. refl) count bytes
 
 -- what an iterator has left, which borrows the fields
 abbrev borrowed : Kind → Option (Bor (List Field)) → ℕ → List ℕ → List Record

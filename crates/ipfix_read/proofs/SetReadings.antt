@@ -10,7 +10,7 @@ use Rattle.ipfix_read.specs.declared.set.Set.{Set}
 use Rattle.ipfix_read.specs.declared.fault.ReadFault.{ReadFault}
 use Rattle.ipfix_read.specs.declared.fault.ReadFaultKind.TheVariants.{BadSetLength}
 use Rattle.ipfix_read.specs.Set.{written_length, HasContentFault, IsSet, HasSetLength, HasSetFault, events_of_set, Place, ReadsSet, IsEnd, IsSets, IsSetFault, HasSetsFault}
-use Rattle.ipfix_read.proofs.Sets.{Cut, cut_parts, cut_length, cut_written, front_length}
+use Rattle.ipfix_read.proofs.Sets.{Cut, cut_of, cut_parts, cut_length, cut_written, front_length}
 use Rattle.ipfix_read.proofs.Contents.{one_content, content_or_fault, one_content_fault, content}
 
 -- a front that has its own length is the one that the bytes' length cuts off
@@ -106,7 +106,7 @@ fits least many written =
 -- the front that a length in its place cuts off
 pub cut_at : (bytes : List ℕ) → 4 ≤ written_length bytes → written_length bytes ≤ length bytes
     → Cut bytes (take (written_length bytes) bytes) (drop (written_length bytes) bytes) (written_length bytes)
-cut_at bytes least within = record { front_is = refl; after_is = refl; least = least; within = within; whole = refl }
+cut_at bytes least within = cut_of bytes (take (written_length bytes) bytes) (drop (written_length bytes) bytes) (written_length bytes) refl refl least within refl
 
 module _ (known : HasTemplateReading) where
   set_due : (domain base : ℕ) (at : Place) → Goes (ReadsSet domain) at ⊎ ((fault : ReadFault) × HasSetFault at.0 domain at.1 base fault)

@@ -50,6 +50,9 @@ pub record Cut (bytes front after : List ℕ) (n : ℕ) : Type 0 where
   pub within : n ≤ length bytes
   pub whole : n ≡ written_length bytes
 
+pub cut_of : (bytes front after : List ℕ) (n : ℕ) → front ≡ take n bytes → after ≡ drop n bytes → 4 ≤ n → n ≤ length bytes → n ≡ written_length bytes → Cut bytes front after n
+cut_of bytes front after n front_is after_is least within whole = record { front_is = front_is; after_is = after_is; least = least; within = within; whole = whole }
+
 module _ (bytes front after : List ℕ) (n : ℕ) (cut : Cut bytes front after n) where
   pub cut_parts : bytes ≡ front ++ after
   cut_parts = rw (cut.front_is, cut.after_is) (sym (take-append-drop n bytes))
