@@ -39,25 +39,14 @@ abbrev pub allows_either : Option (List ℕ) → Option (List ℕ) → Option (L
 allows_either None source destination = true
 allows_either (Some label) source destination = is_label label source || is_label label destination
 
-abbrev pub allows_ports : Condition → RowView → Bool
-allows_ports c row = allows c.protocol row.protocol && allows c.sport row.sport && allows c.dport row.dport
-
-abbrev pub allows_addresses : Condition → RowView → Bool
-allows_addresses c row = allows c.saddress (row.version, row.src) && allows c.daddress (row.version, row.dst)
-
-abbrev pub allows_counts : Condition → RowView → Bool
-allows_counts c row = allows c.packets row.packets && allows c.bytes row.octets
-
--- by the labels of the source and the destination
-abbrev pub allows_labels : Condition → Option (List ℕ) → Option (List ℕ) → Bool
-allows_labels c source destination =
-    allows_label c.src_label source && allows_label c.dst_label destination && allows_either c.any_label source destination
-
 -- the row meets each condition that is given, by the labels of addresses
 abbrev pub row_passes : Condition → (AddressOf → Option (List ℕ)) → RowView → Bool
 row_passes c label row =
-    allows_ports c row && allows_addresses c row && allows_counts c row
-    && allows_labels c (label (row.version, row.src)) (label (row.version, row.dst))
+    allows c.protocol row.protocol && allows c.sport row.sport && allows c.dport row.dport
+    && allows c.saddress (row.version, row.src) && allows c.daddress (row.version, row.dst)
+    && allows c.packets row.packets && allows c.bytes row.octets
+    && allows_label c.src_label (label (row.version, row.src)) && allows_label c.dst_label (label (row.version, row.dst))
+    && allows_either c.any_label (label (row.version, row.src)) (label (row.version, row.dst))
 
 -- a condition on labels is given
 abbrev pub needs_map : Condition → Bool

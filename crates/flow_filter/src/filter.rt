@@ -1,6 +1,6 @@
-ghost use Rattle.std.specs.Prelude.{◌≡◌, ◌&&◌, IfErr, IfOk, Ok, option_map};
+ghost use Rattle.std.specs.Prelude.{◌≡◌, IfErr, IfOk, Ok, option_map};
 ghost use Rattle.flow_rows.specs.Row.{row_view};
-ghost use Rattle.flow_filter.specs.Condition.{allows, allows_counts, allows_labels, allows_ports, needs_map, row_passes};
+ghost use Rattle.flow_filter.specs.Condition.{allows, needs_map, row_passes};
 ghost use Rattle.label_lookup.specs.Labelling.{label_where, labelling_lent};
 ghost use Rattle.flow_filter.specs.Filters.{condition_in};
 ghost use Rattle.flow_filter.specs.Given.{by_place, covering};
@@ -96,51 +96,21 @@ impl<'a> Filter<'a> {
         })
     }
 
-    // Whether the row meets the conditions on its protocol and its ports.
-    fn allows_ports(&self, row: &Row) -> bool
-        ensures { result ≡ allows_ports (condition_in self.now) (row_view row.now) }
-    {
-        is_in(&self.protocol, u128::from(row.protocol))
-            && is_in(&self.sport, u128::from(row.sport))
-            && is_in(&self.dport, u128::from(row.dport))
-    }
-
-    // Whether it meets those on its addresses.
-    fn allows_addresses(&self, row: &Row) -> bool
-        ensures { let c = condition_in self.now in
-            result ≡ (allows c.saddress (row.now.src.version, row.now.src.value)
-            && allows c.daddress (row.now.dst.version, row.now.dst.value)) }
-    {
-        is_at(&self.saddress, row.src) && is_at(&self.daddress, row.dst)
-    }
-
-    // Whether it meets those on its packets and bytes.
-    fn allows_counts(&self, row: &Row) -> bool
-        ensures { result ≡ allows_counts (condition_in self.now) (row_view row.now) }
-    {
-        is_within(self.packets, row.packets) && is_within(self.bytes, row.octets)
-    }
-
-    // Whether it meets those on the labels of its addresses.
-    fn allows_labels<L: Labeller>(&self, row: &Row, labeller: Option<&L>) -> bool
-        ensures { let found = label_where (labelling_lent L.version_of L.label labeller.entry) in
-            result ≡ allows_labels (condition_in self.now) (found (row.now.src.version, row.now.src.value))
-            (found (row.now.dst.version, row.now.dst.value)) }
-    {
-        is_allowed(self.src_label, labeller, row.src)
-            && is_allowed(self.dst_label, labeller, row.dst)
-            && is_either_allowed(self.any_label, labeller, row.src, row.dst)
-    }
-
     /// Whether the row meets each condition that is given. Without a labeller no address has a label.
     pub fn passes<L: Labeller>(&self, row: &Row, labeller: Option<&L>) -> bool
         ensures { result ≡ row_passes (condition_in self.now)
             (label_where (labelling_lent L.version_of L.label labeller.entry)) (row_view row.now) }
     {
-        self.allows_ports(row)
-            && self.allows_addresses(row)
-            && self.allows_counts(row)
-            && self.allows_labels(row, labeller)
+        is_in(&self.protocol, u128::from(row.protocol))
+            && is_in(&self.sport, u128::from(row.sport))
+            && is_in(&self.dport, u128::from(row.dport))
+            && is_at(&self.saddress, row.src)
+            && is_at(&self.daddress, row.dst)
+            && is_within(self.packets, row.packets)
+            && is_within(self.bytes, row.octets)
+            && is_allowed(self.src_label, labeller, row.src)
+            && is_allowed(self.dst_label, labeller, row.dst)
+            && is_either_allowed(self.any_label, labeller, row.src, row.dst)
     }
 
     /// Whether a condition on labels is given, which needs a map or a list.
