@@ -5,7 +5,7 @@ ghost use Rattle.flow_filter.specs.Blocks.{items_cover, view_of};
 ghost use Rattle.flow_filter.specs.Given.{IsRead, IsRefused, by_place, covering};
 ghost use Rattle.flow_filter.specs.Ranges.{in_ranges};
 ghost use Rattle.flow_filter.specs.Texts.{address_list, number_list};
-ghost use Rattle.flow_filter.specs.Words.{addresses_in, counts_in, numbers_in};
+ghost use Rattle.flow_filter.specs.Words.{addresses_in, counts_in, fault_of, numbers_in};
 
 use crate::blocks::{places_of, read_item};
 use crate::cut::cut;
@@ -15,6 +15,13 @@ use crate::range::Range;
 use crate::ranges::Ranges;
 use prefix_keys::Block;
 use std::alloc::{AllocError, Global};
+
+// The fault of an option.
+fn refusal(option: FilterOption, kind: FilterFaultKind) -> FilterFault
+    ensures { result ≡ fault_of option kind }
+{
+    FilterFault { option, kind }
+}
 
 // The items and one more behind them, or want of memory, that of the items first.
 fn with_item<T: Drop>(items: Result<Vec<T>, AllocError>, item: T) -> Result<Vec<T>, AllocError>
@@ -86,18 +93,11 @@ pub fn numbers(
     let Some(text) = text else {
         return Ok(None);
     };
-    let no_memory = FilterFault {
-        option,
-        kind: FilterFaultKind::NoMemory,
-    };
     match read_ranges(alloc, text.as_bytes(), limit) {
-        None => Err(FilterFault {
-            option,
-            kind: FilterFaultKind::BadNumberList,
-        }),
-        Some(Err(_)) => Err(no_memory),
+        None => Err(refusal(option, FilterFaultKind::BadNumberList)),
+        Some(Err(_)) => Err(refusal(option, FilterFaultKind::NoMemory)),
         Some(Ok(ranges)) => match Ranges::new(alloc, ranges) {
-            Err(_) => Err(no_memory),
+            Err(_) => Err(refusal(option, FilterFaultKind::NoMemory)),
             Ok(set) => Ok(Some(set)),
         },
     }
@@ -117,18 +117,11 @@ pub fn addresses(
     let Some(text) = text else {
         return Ok(None);
     };
-    let no_memory = FilterFault {
-        option,
-        kind: FilterFaultKind::NoMemory,
-    };
     match read_blocks(alloc, text.as_bytes()) {
-        None => Err(FilterFault {
-            option,
-            kind: FilterFaultKind::BadBlock,
-        }),
-        Some(Err(_)) => Err(no_memory),
+        None => Err(refusal(option, FilterFaultKind::BadBlock)),
+        Some(Err(_)) => Err(refusal(option, FilterFaultKind::NoMemory)),
         Some(Ok(blocks)) => match places_of_all(alloc, blocks.as_slice()) {
-            Err(_) => Err(no_memory),
+            Err(_) => Err(refusal(option, FilterFaultKind::NoMemory)),
             Ok(set) => Ok(Some(set)),
         },
     }
@@ -146,9 +139,6 @@ pub fn counts(option: FilterOption, text: Option<&str>) -> Result<Option<Range>,
     };
     match read_range(text.as_bytes(), u64::MAX, true) {
         Some(range) => Ok(Some(range)),
-        None => Err(FilterFault {
-            option,
-            kind: FilterFaultKind::BadRange,
-        }),
+        None => Err(refusal(option, FilterFaultKind::BadRange)),
     }
 }
