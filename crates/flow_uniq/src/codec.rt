@@ -3,7 +3,7 @@ ghost use Rattle.std.specs.Prelude.{◌≡◌, ◌++◌, ◌∷◌, ◌<◌, ◌
 ghost use Rattle.flow_rows.specs.Row.{row_view};
 ghost use Rattle.label_lookup.specs.Labelling.{label_where, labelling_lent};
 ghost use Rattle.flow_uniq.specs.Key.{AddressPart, Key as Parts, LabelPart, key_of, key_part};
-ghost use Rattle.flow_uniq.specs.Parts.{AreSmall, IsSmall, front_bytes, key_code, part_after, part_code, part_model, text_front};
+ghost use Rattle.flow_uniq.specs.Parts.{AreSmall, IsSmall, front_bytes, key_code, length_code, part_after, part_code, part_model, text_front};
 
 use crate::field::KeyField;
 use flow_rows::Row;
@@ -114,8 +114,8 @@ fn append_address(out: &mut Bytes, addr: Addr) -> Result<(), AllocError>
 {
     match addr.version {
         Version::V4 => {
-            out.push(4)?;
-            out.extend_from_slice(&(addr.value as u32).to_be_bytes())?;
+            let [a, b, c, d] = (addr.value as u32).to_be_bytes();
+            out.extend_from_slice(&[4, a, b, c, d])?;
         }
         Version::V6 => {
             let high = (addr.value / 0x1_0000_0000_0000_0000) as u64;
@@ -128,14 +128,23 @@ fn append_address(out: &mut Bytes, addr: Addr) -> Result<(), AllocError>
     Ok(())
 }
 
+// Appends the kind of a label and the length of its text, in one byte if it fits.
+fn append_length(out: &mut Bytes, len: usize) -> Result<(), AllocError>
+    ensures { OnOk result (out.new.items ≡ out.old.items ++ length_code len) }
+{
+    if len < 256 {
+        return out.extend_from_slice(&[2, len as u8]);
+    }
+    out.push(3)?;
+    out.extend_from_slice(&(len as u64).to_be_bytes())
+}
+
 // Appends the bytes of the text of a label.
 fn append_text(out: &mut Bytes, text: &[u8]) -> Result<(), AllocError>
     ensures bytes { OnOk result (out.new.items ≡ out.old.items ++ part_code (LabelPart (Some text.now))) }
     ensures small { OnOk result (length text.now < 2 ^ 64) }
 {
-    let len = text.len() as u64;
-    out.push(2)?;
-    out.extend_from_slice(&len.to_be_bytes())?;
+    append_length(out, text.len())?;
     out.extend_from_slice(text)?;
     Ok(())
 }
@@ -148,8 +157,8 @@ fn append_part(out: &mut Bytes, part: KeyPart<'_>) -> Result<(), AllocError>
     match part {
         KeyPart::Address(addr) => append_address(out, addr)?,
         KeyPart::Number(number) => {
-            out.push(0)?;
-            out.extend_from_slice(&number.to_be_bytes())?;
+            let [high, low] = number.to_be_bytes();
+            out.extend_from_slice(&[0, high, low])?;
         }
         KeyPart::Label(None) => out.push(1)?,
         KeyPart::Label(Some(text)) => append_text(out, text)?,
@@ -245,6 +254,11 @@ fn part_after(kind: u8, code: &[u8]) -> (KeyPart<'_>, &[u8])
         }
         1 => (KeyPart::Label(None), code),
         2 => {
+            let (len, text_and_rest) = front_bytes::<1>(code);
+            let (label, rest) = text_front(u64::from(len[0]), text_and_rest);
+            (KeyPart::Label(label), rest)
+        }
+        3 => {
             let (len, text_and_rest) = front_bytes(code);
             let (label, rest) = text_front(u64::from_be_bytes(len), text_and_rest);
             (KeyPart::Label(label), rest)
