@@ -4,8 +4,10 @@ use Rattle.std.proofs.lemmas.List.{append-nil, append_assoc, drop_all, drop-appe
 use Rattle.std.proofs.lemmas.Bool.Decides.{nat_tests}
 use Rattle.std.proofs.lemmas.Grind.{flat_map-append}
 use Rattle.std.proofs.lemmas.Nat.{from_be_bytes-to_be_bytes_2, from_be_bytes-to_be_bytes_4, from_be_bytes-to_be_bytes_8}
-use Rattle.std.specs.Int.{w16, w32, w64, from_be_bytes, to_be_bytes}
+use Rattle.std.specs.Int.{w16, w32, w64, w128, from_be_bytes, to_be_bytes}
 use Rattle.std.specs.Result.{OnOk}
+use Rattle.byteorder.specs.Endian.{big_from}
+use Rattle.byteorder.specs.Numbers.{big_number-reads_back}
 use Rattle.prefix_keys.specs.declared.version.Version.TheVariants.{V4, V6}
 use Rattle.pmap_text.specs.MapModel.{Label}
 use Rattle.flow_uniq.specs.declared.field.KeyField.{KeyField}
@@ -35,14 +37,13 @@ text_front-back t r =
     (not_less (length (t ++ r)) (length t) (omega (arith, length-append t r)))
     ∙ (λ i. (Some (take-front (length t) t r refl i), drop-front (length t) t r refl i))
 
-whole : (n : ℕ) → n / 2 ^ 64 * 2 ^ 64 + n % 2 ^ 64 ≡ n
-whole n = omega arith
-
-high_fits : (n : ℕ) → n < 2 ^ 128 → n / 2 ^ 64 < 2 ^ 64
-high_fits n h = omega (arith, h)
-
-low_fits : (n : ℕ) → n % 2 ^ 64 < 2 ^ 64
-low_fits n = omega arith
+wide_back : (n : ℕ) → n < 2 ^ 128 → from_be_bytes w128 (to_be_bytes w128 n) ≡ n
+wide_back n h =
+    let bytes : List ℕ = to_be_bytes w128 n in
+    numbers bytes ∙ ap (big_from 0 16) (sym (append-nil bytes)) ∙ big_number-reads_back 16 n [] h
+  where
+    numbers : (bytes : List ℕ) → from_be_bytes w128 bytes ≡ big_from 0 16 bytes
+    numbers bytes = omega arith
 
 -- a part that was written is read, and what stands behind it is left
 parts_in-back : (p : KeyPartModel) (most : ℕ) (r : List ℕ) → IsSmall p → parts_in (suc most) (part_code p ++ r) ≡ p ∷ parts_in most r
@@ -68,14 +69,8 @@ parts_in-back (AddressPart (V4, v)) most r h =
     ap (λ (c : List ℕ × List ℕ). AddressPart (V4, from_be_bytes w32 c.0) ∷ parts_in most c.1) (front_bytes-back 4 (to_be_bytes w32 v) r refl)
     ∙ ap (λ (m : ℕ). AddressPart (V4, m) ∷ parts_in most r) (from_be_bytes-to_be_bytes_4 v h)
 parts_in-back (AddressPart (V6, v)) most r h =
-    let high : List ℕ = to_be_bytes w64 (v / 2 ^ 64) in
-    let low : List ℕ = to_be_bytes w64 (v % 2 ^ 64) in
-    ap (λ (l : List ℕ). parts_in (suc most) (6 ∷ l)) (append_assoc high low r)
-    ∙ ap (λ (c : List ℕ × List ℕ). let d = front_bytes 8 c.1 in AddressPart (V6, from_be_bytes w64 c.0 * 2 ^ 64 + from_be_bytes w64 d.0) ∷ parts_in most d.1)
-    (front_bytes-back 8 high (low ++ r) refl)
-    ∙ ap (λ (d : List ℕ × List ℕ). AddressPart (V6, from_be_bytes w64 high * 2 ^ 64 + from_be_bytes w64 d.0) ∷ parts_in most d.1) (front_bytes-back 8 low r refl)
-    ∙ (λ i. AddressPart (V6, from_be_bytes-to_be_bytes_8 (v / 2 ^ 64) (high_fits v h) i * 2 ^ 64 + from_be_bytes-to_be_bytes_8 (v % 2 ^ 64) (low_fits v) i) ∷ parts_in most r)
-    ∙ ap (λ (n : ℕ). AddressPart (V6, n) ∷ parts_in most r) (whole v)
+    ap (λ (c : List ℕ × List ℕ). AddressPart (V6, from_be_bytes w128 c.0) ∷ parts_in most c.1) (front_bytes-back 16 (to_be_bytes w128 v) r refl)
+    ∙ ap (λ (m : ℕ). AddressPart (V6, m) ∷ parts_in most r) (wide_back v h)
 
 one_byte : (p : KeyPartModel) → 1 ≤ length (part_code p)
 one_byte (NumberPart n) = omega arith
@@ -146,8 +141,7 @@ rest_shorter kind code =
     let first : List ℕ × List ℕ = front_bytes 1 code in
     let short : length (text_front (slice_index first.0 0) first.1).1 ≤ length code
     = omega (arith, text_shorter (slice_index first.0 0) first.1, front_shorter 1 code) in
-    let low : length (front_bytes 8 front.1).1 ≤ length code = omega (arith, front_shorter 8 front.1, front_shorter 8 code) in
-    grind (arith, front_shorter 2 code, front_shorter 4 code, short, text, low)
+    grind (arith, front_shorter 2 code, front_shorter 4 code, front_shorter 16 code, short, text)
 
 -- with as many parts as there are bytes none is left out
 enough : (m n : ℕ) (code : List ℕ) → length code ≤ m → length code ≤ n → parts_in m code ≡ parts_in n code

@@ -1,6 +1,6 @@
 -- How keys lie in memory.
-use Rattle.std.specs.Prelude.{◌≡◌, ℕ, zero, suc, ◌+◌, ◌*◌, ◌/◌, ◌%◌, ◌^◌, ◌<◌, ◌==◌, ◌++◌, Bool, List, [], ◌∷◌, Option, Some, None, length, take, drop, nat_lt, slice_index, option_copied, replicate, if◌then◌else◌}
-use Rattle.std.specs.Int.{w16, w32, w64, from_be_bytes, to_be_bytes}
+use Rattle.std.specs.Prelude.{◌≡◌, ℕ, zero, suc, ◌^◌, ◌<◌, ◌==◌, ◌++◌, Bool, List, [], ◌∷◌, Option, Some, None, length, take, drop, nat_lt, slice_index, option_copied, replicate, if◌then◌else◌}
+use Rattle.std.specs.Int.{w16, w32, w64, w128, from_be_bytes, to_be_bytes}
 use Rattle.std.specs.List.{flat_map}
 use Rattle.std.specs.Str.{bytes_eq}
 use Rattle.prefix_keys.specs.Version.{width_of}
@@ -26,7 +26,7 @@ part_code (NumberPart number) = 0 ∷ to_be_bytes w16 number
 part_code (LabelPart None) = 1 ∷ []
 part_code (LabelPart (Some text)) = length_code (length text) ++ text
 part_code (AddressPart (V4, value)) = 4 ∷ to_be_bytes w32 value
-part_code (AddressPart (V6, value)) = 6 ∷ to_be_bytes w64 (value / 2 ^ 64) ++ to_be_bytes w64 (value % 2 ^ 64)
+part_code (AddressPart (V6, value)) = 6 ∷ to_be_bytes w128 value
 
 abbrev pub key_code : Key → List ℕ
 key_code key = flat_map part_code key
@@ -56,17 +56,14 @@ text_front len code = if nat_lt (length code) len then (None, code) else (Some (
 -- the part of this kind, and the bytes after it
 abbrev pub part_after : ℕ → List ℕ → KeyPartModel × List ℕ
 part_after kind code =
-    let front = front_bytes 8 code in
-    let text = text_front (from_be_bytes w64 front.0) front.1 in
-    let first = front_bytes 1 code in
-    let short = text_front (slice_index first.0 0) first.1 in
-    let low = front_bytes 8 front.1 in
+    let short = text_front (slice_index (front_bytes 1 code).0 0) (front_bytes 1 code).1 in
+    let long = text_front (from_be_bytes w64 (front_bytes 8 code).0) (front_bytes 8 code).1 in
     if kind == 0 then (NumberPart (from_be_bytes w16 (front_bytes 2 code).0), (front_bytes 2 code).1)
     else if kind == 1 then (LabelPart None, code)
     else if kind == 2 then (LabelPart short.0, short.1)
-    else if kind == 3 then (LabelPart text.0, text.1)
+    else if kind == 3 then (LabelPart long.0, long.1)
     else if kind == 4 then (AddressPart (V4, from_be_bytes w32 (front_bytes 4 code).0), (front_bytes 4 code).1)
-    else (AddressPart (V6, from_be_bytes w64 front.0 * 2 ^ 64 + from_be_bytes w64 low.0), low.1)
+    else (AddressPart (V6, from_be_bytes w128 (front_bytes 16 code).0), (front_bytes 16 code).1)
 
 -- the parts in bytes, at most so many
 abbrev pub parts_in : ℕ → List ℕ → Key

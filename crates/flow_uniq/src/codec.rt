@@ -118,11 +118,8 @@ fn append_address(out: &mut Bytes, addr: Addr) -> Result<(), AllocError>
             out.extend_from_slice(&[4, a, b, c, d])?;
         }
         Version::V6 => {
-            let high = (addr.value / 0x1_0000_0000_0000_0000) as u64;
-            let low = (addr.value % 0x1_0000_0000_0000_0000) as u64;
             out.push(6)?;
-            out.extend_from_slice(&high.to_be_bytes())?;
-            out.extend_from_slice(&low.to_be_bytes())?;
+            out.extend_from_slice(&addr.value.to_be_bytes())?;
         }
     }
     Ok(())
@@ -139,16 +136,6 @@ fn append_length(out: &mut Bytes, len: usize) -> Result<(), AllocError>
     out.extend_from_slice(&(len as u64).to_be_bytes())
 }
 
-// Appends the bytes of the text of a label.
-fn append_text(out: &mut Bytes, text: &[u8]) -> Result<(), AllocError>
-    ensures bytes { OnOk result (out.new.items ≡ out.old.items ++ part_code (LabelPart (Some text.now))) }
-    ensures small { OnOk result (length text.now < 2 ^ 64) }
-{
-    append_length(out, text.len())?;
-    out.extend_from_slice(text)?;
-    Ok(())
-}
-
 // Appends the bytes of a part.
 fn append_part(out: &mut Bytes, part: KeyPart<'_>) -> Result<(), AllocError>
     ensures bytes { OnOk result (out.new.items ≡ out.old.items ++ part_code (part_model part.entry)) }
@@ -161,7 +148,10 @@ fn append_part(out: &mut Bytes, part: KeyPart<'_>) -> Result<(), AllocError>
             out.extend_from_slice(&[0, high, low])?;
         }
         KeyPart::Label(None) => out.push(1)?,
-        KeyPart::Label(Some(text)) => append_text(out, text)?,
+        KeyPart::Label(Some(text)) => {
+            append_length(out, text.len())?;
+            out.extend_from_slice(text)?;
+        }
     }
     Ok(())
 }
@@ -270,11 +260,9 @@ fn part_after(kind: u8, code: &[u8]) -> (KeyPart<'_>, &[u8])
             (KeyPart::Address(Addr { version, value }), rest)
         }
         _ => {
-            let (high, low_and_rest) = front_bytes(code);
-            let (low, rest) = front_bytes(low_and_rest);
+            let (bytes, rest) = front_bytes(code);
             let version = Version::V6;
-            let high = u128::from(u64::from_be_bytes(high)) * 0x1_0000_0000_0000_0000;
-            let value = high + u128::from(u64::from_be_bytes(low));
+            let value = u128::from_be_bytes(bytes);
             (KeyPart::Address(Addr { version, value }), rest)
         }
     }
