@@ -54,28 +54,17 @@ names_are (item ∷ items) all = by (field_named item) refl (names_are items)
         (rest (ap (λ (o : Option KeyField). is_none o || has_unnamed items) (sym e) ∙ all))
 
 module _ (text : List ℕ) where
-  pub read_bad : has_unnamed (items_of text) ≡ true → keys_reading text ≡ Err BadField
-  read_bad some =
-      ap (λ (b : Bool). let R : Result (List KeyField) KeyFault = if b then Err BadField
-      else if has_repetition (named_fields (items_of text)) then Err FieldRepeated else Ok (named_fields (items_of text)) in R) some
-
   module _ (all : has_unnamed (items_of text) ≡ false) where
     repeats : has_repetition (named_fields (items_of text)) ≡ has_repeated (items_of text)
     repeats = repetition_is (named_fields (items_of text)) ∙ ap has_repeated (names_are (items_of text) all)
 
-    read_as : (b : Bool) → has_repeated (items_of text) ≡ b
+    pub read_as : (b : Bool) → has_repeated (items_of text) ≡ b
         → keys_reading text ≡ (if b then Err FieldRepeated else Ok (named_fields (items_of text)))
     read_as b is =
         ap (λ (c : Bool). let R : Result (List KeyField) KeyFault = if c then Err BadField
         else if has_repetition (named_fields (items_of text)) then Err FieldRepeated else Ok (named_fields (items_of text)) in R) all
         ∙ ap (λ (c : Bool). let R : Result (List KeyField) KeyFault = if c then Err FieldRepeated else Ok (named_fields (items_of text)) in R)
         (repeats ∙ is)
-
-    pub read_repeated : has_repeated (items_of text) ≡ true → keys_reading text ≡ Err FieldRepeated
-    read_repeated = read_as true
-
-    pub read_ok : has_repeated (items_of text) ≡ false → keys_reading text ≡ Ok (named_fields (items_of text))
-    read_ok = read_as false
 
     pub names_each_once : has_repeated (items_of text) ≡ false → has_repetition (named_fields (items_of text)) ≡ false
     names_each_once is = repeats ∙ is

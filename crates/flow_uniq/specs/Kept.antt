@@ -26,11 +26,7 @@ IsBounded t = (t.packets ≤ (2 ^ 64 - 1) * t.records) × (t.octets ≤ (2 ^ 64 
 
 -- the totals of one row, and totals with one more row
 abbrev pub first_totals : RowView → Totals
-first_totals row = record {
-  records = 1;
-  packets = row.packets;
-  octets = row.octets;
-}
+first_totals row = record { records = 1; packets = row.packets; octets = row.octets }
 
 abbrev pub with_row : Totals → RowView → Totals
 with_row t row = record {

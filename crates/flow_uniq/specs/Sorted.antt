@@ -10,12 +10,9 @@ use Rattle.flow_uniq.specs.Groups.{GroupModel}
 abbrev pub part_order : KeyPartModel → KeyPartModel → Ordering
 part_order p q = slice_cmp nat_cmp (part_numbers p) (part_numbers q)
 
--- keys compare by their parts from the left, and groups by their keys
+-- keys compare by their parts from the left
 abbrev pub key_order : Key → Key → Ordering
 key_order a b = slice_cmp part_order a b
-
-abbrev pub group_order : GroupModel → GroupModel → Ordering
-group_order g h = key_order g.key h.key
 
 module _ {X : Type 0} (is_less : X → X → Bool) where
   -- the list with x before the first element that isn't less than it
@@ -28,9 +25,9 @@ module _ {X : Type 0} (is_less : X → X → Bool) where
   in_order [] = []
   in_order (x ∷ xs) = with_in_order x (in_order xs)
 
--- the group stands before the other
+-- the group's key is before that of the other
 abbrev pub is_before : GroupModel → GroupModel → Bool
-is_before g h = is_lt (group_order g h)
+is_before g h = is_lt (key_order g.key h.key)
 
 -- the groups in their order
 abbrev pub sorted_groups : List GroupModel → List GroupModel

@@ -25,8 +25,7 @@ pub enum KeyPart<'a> {
     Label(Option<&'a [u8]>),
 }
 
-/// The key of a group, borrowed: a list of parts in the order of the fields. Each is read from the bytes of the key when
-/// it is asked for.
+/// The key of a group, borrowed: its parts in the order of the fields, each read from the key's bytes when asked for.
 #[derive(Clone, Copy, Debug)]
 pub struct Key<'a> {
     code: &'a [u8],
@@ -136,7 +135,8 @@ fn append_length(out: &mut Bytes, len: usize) -> Result<(), AllocError>
     out.extend_from_slice(&(len as u64).to_be_bytes())
 }
 
-// Appends the bytes of a part.
+// Appends the bytes of a part. Inlined into its one caller, so that no part is copied.
+#[inline(always)]
 fn append_part(out: &mut Bytes, part: KeyPart<'_>) -> Result<(), AllocError>
     ensures bytes { OnOk result (out.new.items ≡ out.old.items ++ part_code (part_model part.entry)) }
     ensures small { OnOk result (IsSmall (part_model part.entry)) }

@@ -13,11 +13,9 @@
 //!
 //! It stands on flow_rows, whose rows it takes, and on label_lookup, for the labels of their addresses. `Keys` are the
 //! fields by which rows are grouped, and `Groups` has a group for each key, with its totals; a `Key` is kept as bytes and
-//! borrowed as the list of its parts, which `split_first` reads one by one. The layer above may rely on this: a text is read
-//! exactly where its items name distinct fields; groups that are those of a list of rows with their keys are, after one
-//! more row, those of the list followed by it, and so after more rows one by one; a row for which memory is refused leaves
-//! them as they were; and sorted groups are the groups in the order of their keys. A row whose key is known takes no memory
-//! but for a scratch that is kept.
+//! borrowed as the list of its parts. The layer above may rely on this: a text is read exactly if its items name distinct
+//! fields; after one more row the groups are those of all rows so far; if an allocation fails, the groups are unchanged;
+//! and sorted groups are in the order of their keys. A row whose key is known needs no memory but scratch, which is kept.
 #![tactic(auto)]
 
 mod codec;
