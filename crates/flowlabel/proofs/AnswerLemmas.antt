@@ -16,9 +16,9 @@ use Rattle.flow_filter.specs.declared.fault.FilterFault.{FilterFault}
 use Rattle.flow_uniq.specs.Field.{keys_reading, need_map}
 use Rattle.flow_uniq.specs.declared.fault.KeyFault.{KeyFault}
 use Rattle.flow_uniq.specs.declared.field.KeyField.{KeyField}
-use Rattle.flowlabel.specs.Request.{LabelSource, Request, Text, request_of}
+use Rattle.flowlabel.specs.Request.{LabelSource, Request, Text, check, info, recert, request_of}
 use Rattle.flowlabel.specs.Definition.{flowlabel_app}
-use Rattle.flowlabel.specs.Answer.{Answer, Answers, IsAnswer, IsFaultAt, IsFaultOfKind, IsOwnAnswer, IsOwnFault, SaysOnly, address_answer, address_in_rows, answer_of, answer_of_cat, answer_of_info, answer_of_label, answer_of_recert, answer_of_rows, answer_of_shrink, is_help, is_mistake, needed_source, shrunk_asked, shrunk_in_rows, source_answer, sources_in_rows, answer_of_check, IsUnlessMemory, condition_answer, condition_in_rows, with_labels, words_in_rows, answer_of_uniq, field_names_in_rows, fields_answer, fields_in_rows}
+use Rattle.flowlabel.specs.Answer.{Answer, Answers, IsAnswer, IsFaultAt, IsFaultOfKind, IsOwnAnswer, IsOwnFault, SaysOnly, address_answer, address_in_rows, answer_of, answer_of_cat, answer_of_label, answer_of_rows, answer_of_shrink, is_help, is_mistake, needed_source, shrunk_asked, shrunk_in_rows, source_answer, sources_in_rows, text_in_rows, IsUnlessMemory, condition_answer, condition_in_rows, with_labels, words_in_rows, answer_of_uniq, fields_answer, fields_in_rows}
 use Rattle.flowlabel.specs.declared.command.Command.{Command}
 use Rattle.flowlabel.specs.declared.usage.UsageFault.{UsageFault}
 use Rattle.flowlabel.specs.declared.usage.UsageFault.TheVariants.{Refused, NotUtf8, Help, MapTwice, MapMissing, BadAddress, Filter, Key, LabelNeedsMap, CompactAlone, NoMemory}
@@ -53,29 +53,16 @@ fault_at words k (Help text) (inl e) h =
     let bad : false ≡ true = rw e at h in
     cc
 fault_at words k (Help text) (inr among) h = among_passes is_help k _ among h
-fault_at words k NotUtf8 from h = absurd h
-fault_at words k MapTwice from h = absurd h
-fault_at words k MapMissing from h = absurd h
-fault_at words k BadAddress from h = absurd h
-fault_at words k (Filter fault) from h = absurd h
-fault_at words k (Key fault) from h = absurd h
-fault_at words k LabelNeedsMap from h = absurd h
-fault_at words k CompactAlone from h = absurd h
 fault_at words k NoMemory from h = tt
+fault_at words k fault from h = absurd h
 
 -- a fault of the program's own that is the answer to the words comes of them
 fault_of_answer : (words : List Text) (f : UsageFault) → IsOwnFault f → Answers words (Err f) → IsFaultAt words f
 fault_of_answer words (Refused text) own is = absurd own
 fault_of_answer words NotUtf8 own is = absurd own
 fault_of_answer words (Help text) own is = absurd own
-fault_of_answer words MapTwice own is = is
-fault_of_answer words MapMissing own is = is
-fault_of_answer words BadAddress own is = is
-fault_of_answer words (Filter fault) own is = is
-fault_of_answer words (Key fault) own is = is
-fault_of_answer words LabelNeedsMap own is = is
-fault_of_answer words CompactAlone own is = is
 fault_of_answer words NoMemory own is = tt
+fault_of_answer words fault own is = is
 
 -- steps that answer by no refusal of clap's and no help do so one after the other
 then_own : {A B : Type 0} (r : Result A UsageFault) (f : A → Result B UsageFault) → IsOwnAnswer r → ((x : A) → IsOwnAnswer (f x))
@@ -127,7 +114,7 @@ uniq_own : (rows : List Row) → IsOwnAnswer (answer_of_uniq rows)
 uniq_own rows =
     then_own (sources_in_rows rows) _ (source_own _ _)
     (λ source. then_own (condition_in_rows rows) _ (condition_own (filter_of_words (words_in_rows rows)))
-    (λ condition. then_own (fields_in_rows rows) _ (fields_own (keys_reading (field_names_in_rows rows)))
+    (λ condition. then_own (fields_in_rows rows) _ (fields_own (keys_reading (text_in_rows (codes "fields") rows)))
     (λ fields. with_labels_own (needs_map condition || need_map fields) source _)))
 
 cat_own : (rows : List Row) → IsOwnAnswer (answer_of_cat rows)
@@ -151,27 +138,19 @@ either_own false answer other p q = q
 -- each command answers so
 pub answer_own : (p : Text × List Row) → IsOwnAnswer (answer_of p)
 answer_own p =
-    either_own (bytes_eq p.0 (codes "info")) (answer_of_info p.1) _ tt
+    either_own (bytes_eq p.0 (codes "info")) (Ok (info (text_in_rows (codes "flows") p.1))) _ tt
     (either_own (bytes_eq p.0 (codes "rows")) (answer_of_rows p.1) _ (rows_own p.1)
     (either_own (bytes_eq p.0 (codes "uniq")) (answer_of_uniq p.1) _ (uniq_own p.1)
     (either_own (bytes_eq p.0 (codes "cat")) (answer_of_cat p.1) _ (cat_own p.1)
     (either_own (bytes_eq p.0 (codes "shrink")) (answer_of_shrink p.1) _ (shrink_own p.1)
-    (either_own (bytes_eq p.0 (codes "check")) (answer_of_check p.1) _ tt
-    (either_own (bytes_eq p.0 (codes "recert")) (answer_of_recert p.1) _ tt (label_own p.1)))))))
+    (either_own (bytes_eq p.0 (codes "check"))
+    (Ok (check (text_in_rows (codes "pmap") p.1) (text_in_rows (codes "list") p.1) (text_in_rows (codes "cert") p.1))) _ tt
+    (either_own (bytes_eq p.0 (codes "recert")) (Ok (recert (text_in_rows (codes "cert") p.1))) _ tt (label_own p.1)))))))
 
 -- memory aside, the result is that of the answer
 fault_unless_memory : (answer : Answer) (fault : UsageFault) → (fault ≢ NoMemory → answer ≡ Err fault) → IsUnlessMemory answer (Err fault)
 fault_unless_memory answer NoMemory says = tt
-fault_unless_memory answer (Refused text) says = says (λ e. cc)
-fault_unless_memory answer NotUtf8 says = says (λ e. cc)
-fault_unless_memory answer (Help text) says = says (λ e. cc)
-fault_unless_memory answer MapTwice says = says (λ e. cc)
-fault_unless_memory answer MapMissing says = says (λ e. cc)
-fault_unless_memory answer BadAddress says = says (λ e. cc)
-fault_unless_memory answer (Filter fault) says = says (λ e. cc)
-fault_unless_memory answer (Key fault) says = says (λ e. cc)
-fault_unless_memory answer LabelNeedsMap says = says (λ e. cc)
-fault_unless_memory answer CompactAlone says = says (λ e. cc)
+fault_unless_memory answer fault says = says (λ e. cc)
 
 pub unless_memory : (answer : Answer) (r : Result Command UsageFault) → IfOk r (λ command. answer ≡ Ok (request_of command))
     → IfErr r (λ fault. fault ≢ NoMemory → answer ≡ Err fault) → IsUnlessMemory answer r
@@ -181,16 +160,7 @@ unless_memory answer (Err fault) ok err = fault_unless_memory answer fault err
 -- and the answer's own, or want of memory
 said_or_memory : (answer : Answer) (fault : UsageFault) → IsUnlessMemory answer (Err fault) → (fault ≡ NoMemory) ⊎ (answer ≡ Err fault)
 said_or_memory answer NoMemory says = inl refl
-said_or_memory answer (Refused text) says = inr says
-said_or_memory answer NotUtf8 says = inr says
-said_or_memory answer (Help text) says = inr says
-said_or_memory answer MapTwice says = inr says
-said_or_memory answer MapMissing says = inr says
-said_or_memory answer BadAddress says = inr says
-said_or_memory answer (Filter fault) says = inr says
-said_or_memory answer (Key fault) says = inr says
-said_or_memory answer LabelNeedsMap says = inr says
-said_or_memory answer CompactAlone says = inr says
+said_or_memory answer fault says = inr says
 
 own_or_memory : (answer : Answer) (fault : UsageFault) → IsOwnAnswer answer → (fault ≡ NoMemory) ⊎ (answer ≡ Err fault) → IsOwnFault fault
 own_or_memory answer fault is (inl none) = rw none tt
@@ -235,11 +205,4 @@ own_of_memory k (Help text) e h =
     let bad : false ≡ true = rw e at h in
     cc
 own_of_memory k NotUtf8 e h = absurd h
-own_of_memory k MapTwice e h = tt
-own_of_memory k MapMissing e h = tt
-own_of_memory k BadAddress e h = tt
-own_of_memory k (Filter fault) e h = tt
-own_of_memory k (Key fault) e h = tt
-own_of_memory k LabelNeedsMap e h = tt
-own_of_memory k CompactAlone e h = tt
-own_of_memory k NoMemory e h = tt
+own_of_memory k fault e h = tt

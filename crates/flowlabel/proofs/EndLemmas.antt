@@ -8,19 +8,12 @@ use Rattle.flow_io.specs.WriterStates.{IsUntouched}
 use Rattle.flowlabel.specs.Answer.{Answers}
 use Rattle.flowlabel.specs.Ending.{IsAsked, IsEndOf}
 use Rattle.flowlabel.specs.Opening.{CannotOpenFirst, CannotOpenNamed, CanOpenBefore, name_at}
-use Rattle.flowlabel.specs.Request.{FileNames, Request, Text, files_of, names_of}
+use Rattle.flowlabel.specs.Request.{FileNames, Request, Text, files_of}
 use Rattle.flowlabel.specs.Run.{IsFaultOfRun, PrintsThen, is_write_stop}
 use Rattle.flowlabel.specs.Turns.{Turn}
-use Rattle.flowlabel.specs.declared.command.Files.{Files}
 use Rattle.flowlabel.specs.declared.fault.RunFault.{RunFault}
 use Rattle.flowlabel.specs.declared.fault.RunFault.TheVariants.{Usage, CannotOpen, CannotRead, CannotWrite, NoMemory, File}
 use Rattle.flowlabel.specs.declared.inputs.Inputs.{Inputs}
-
--- the names of files are those that their texts are
-pub same_names : (files : Files) (names : FileNames) → option_map (λ s. s.now) files.map ≡ names.map → option_map (λ s. s.now) files.list ≡ names.list
-    → option_map (λ s. s.now) files.certificate ≡ names.certificate → option_map (λ s. s.now) files.flows ≡ names.flows → names_of files ≡ names
-same_names files names map list certificate flows =
-    λ i. record { map = map i; list = list i; certificate = certificate i; flows = flows i }
 
 -- the fault of the first file that can't be opened, as a `?` hands it on
 pub refused_first : {A R : Type 0} (answers : Text → Option R → Type 0) (names : FileNames) (turn : Turn) (r : Result A RunFault) (fault : RunFault)
@@ -44,12 +37,8 @@ module _ {R W : Type 0} (answers : Text → Option R → Type 0) (left : R → O
   -- a fault that says that a file can't be opened names it
   pub end_of_open : (request : Request) (fault : RunFault) → Answers words (Ok request) → CannotOpenFirst answers (files_of request) fault
       → IsEndOf answers left failed taken last words old old (Err fault)
-  end_of_open request (Usage fault) is (turn, cannot, before) = absurd cannot
   end_of_open request (CannotOpen file) is first = (request, is, first, untouched)
-  end_of_open request (CannotRead file) is (turn, cannot, before) = absurd cannot
-  end_of_open request CannotWrite is (turn, cannot, before) = absurd cannot
-  end_of_open request NoMemory is (turn, cannot, before) = absurd cannot
-  end_of_open request (File fault) is (turn, cannot, before) = absurd cannot
+  end_of_open request fault is (turn, cannot, before) = absurd cannot
 
   -- a fault that a `?` hands on ends the program as it did
   pub passed_up : (r : Result (Unit {0}) RunFault) (fault : RunFault) → IsErrAnd r (λ y. y ≡ fault)
@@ -66,20 +55,13 @@ module _ {R W : Type 0} (answers : Text → Option R → Type 0) (left : R → O
   end_of_run request inputs inputs' new (Ok done) asked ok err = (request, inputs, asked, ok)
   end_of_run request inputs inputs' new (Err (Usage fault)) asked ok err = absurd err
   end_of_run request inputs inputs' new (Err (CannotOpen file)) asked ok err = absurd err
-  end_of_run request inputs inputs' new (Err (CannotRead file)) asked ok err = (request, inputs, inputs', asked, err)
-  end_of_run request inputs inputs' new (Err CannotWrite) asked ok err = (request, inputs, inputs', asked, err)
-  end_of_run request inputs inputs' new (Err NoMemory) asked ok err = (request, inputs, inputs', asked, err)
-  end_of_run request inputs inputs' new (Err (File fault)) asked ok err = (request, inputs, inputs', asked, err)
+  end_of_run request inputs inputs' new (Err fault) asked ok err = (request, inputs, inputs', asked, err)
 
 -- that fault is none of the writer's
 no_write_stop : (A : Type 0) {R : Type 0} (answers : Text → Option R → Type 0) (names : FileNames) (fault : RunFault)
     → CannotOpenFirst answers names fault → is_write_stop {A = A} (Err fault) ≡ false
-no_write_stop A answers names (Usage fault) first = refl
-no_write_stop A answers names (CannotOpen file) first = refl
-no_write_stop A answers names (CannotRead file) first = refl
 no_write_stop A answers names CannotWrite (turn, cannot, before) = absurd cannot
-no_write_stop A answers names NoMemory first = refl
-no_write_stop A answers names (File fault) first = refl
+no_write_stop A answers names fault first = refl
 
 pub passed_unwritten : {A R : Type 0} (answers : Text → Option R → Type 0) (names : FileNames) (r : Result A RunFault) (fault : RunFault)
     → IsErrAnd r (λ y. y ≡ fault) → CannotOpenFirst answers names fault → is_write_stop {A = A} r ≡ false

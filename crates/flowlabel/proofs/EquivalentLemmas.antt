@@ -8,7 +8,7 @@ use Rattle.pmap_text.specs.Reading.{ReadsList, ReadsMap}
 use Rattle.label_lookup.specs.Labelling.{Labelling, labelling_of_list, labelling_of_map}
 use Rattle.label_lookup.proofs.Labellings.{same_labelling}
 use Rattle.flowlabel.specs.Output.{FileTexts, FlowsThen, IsOutput, ListThen, MapThen, Outcome, Prints, PrintsRuns, ReportsThen, SameUnderEquivalents, label_text, report_of_rows, under, report_of_groups}
-use Rattle.flowlabel.specs.Request.{FromList, FromMap, label, info, rows, cat, shrink, check, uniq, recert}
+use Rattle.flowlabel.specs.Request.{FromList, FromMap, label, info, rows, cat, uniq}
 
 -- what comes of a text that is read as a map is what comes of the map, and so with lists
 of_map : (rest : MapModel → Outcome → Type 0) (text : List ℕ) (m : MapModel) (outcome : Outcome) → ReadsMap text m
@@ -59,6 +59,4 @@ same_under_equivalents (uniq fields (Some old) condition sorted columns name) fi
     (over_file (λ bytes. IsOutput (uniq fields (Some (FromList other)) condition sorted columns name) (record others { flows = bytes }) outcome) texts.flows others.flows flows)
 same_under_equivalents (cat old) file other texts others m l outcome either reads_map reads_list is flows =
     swap PrintsRuns texts.map others.list m l outcome reads_map reads_list is
-same_under_equivalents (shrink map printed) file other texts others m l outcome either reads_map reads_list is flows = absurd either
-same_under_equivalents (check map list certificate) file other texts others m l outcome either reads_map reads_list is flows = absurd either
-same_under_equivalents (recert certificate) file other texts others m l outcome either reads_map reads_list is flows = absurd either
+same_under_equivalents request file other texts others m l outcome either reads_map reads_list is flows = absurd either

@@ -39,12 +39,8 @@ passed_on P (Err other) fault is holds = subst P (sym is) holds
 
 -- and it ends both for the same reason
 same_stop : (A B : Type 0) (fault : RunFault) → is_read_stop {A = B} (Err fault) ≡ is_read_stop {A = A} (Err fault)
-same_stop A B (Usage fault) = refl
-same_stop A B (CannotOpen file) = refl
 same_stop A B (CannotRead file) = refl
-same_stop A B CannotWrite = refl
-same_stop A B NoMemory = refl
-same_stop A B (File fault) = refl
+same_stop A B fault = refl
 
 pub stop_handed_on : (A B : Type 0) (r : Result A RunFault) (fault : RunFault) → IsErrAnd r (λ y. y ≡ fault)
     → is_read_stop {A = B} (Err fault) ≡ is_read_stop r
@@ -131,12 +127,10 @@ module _ {R : Type 0} (left : R → Option (List ℕ)) where
   pub fault_joins : (failed : R → Bool) (old new : Inputs R) (over over' : FileTexts → Outcome → Type 0)
       → ((texts : FileTexts) → HaveTexts left old texts → (fault : BytesFault) → over texts (Err fault) → over' texts (Err fault))
       → (fault : RunFault) → IsFaultOfBytes left failed old new over fault → IsFaultOfBytes left failed old new over' fault
-  fault_joins failed old new over over' joins (Usage fault) is = absurd is
-  fault_joins failed old new over over' joins (CannotOpen file) is = absurd is
   fault_joins failed old new over over' joins (CannotRead file) is = is
-  fault_joins failed old new over over' joins CannotWrite is = absurd is
   fault_joins failed old new over over' joins NoMemory is = tt
   fault_joins failed old new over over' joins (File fault) is = (is.0, is.1, λ texts have. joins texts have fault.fault (is.2 texts have))
+  fault_joins failed old new over over' joins fault is = absurd is
 
   module _ (failed : R → Bool) (old new : Inputs R) (needs : Needs) (needed : AreNeeded needs old) where
     -- a fault at a turn, where the inputs before it are read and those behind it are kept
@@ -144,46 +138,35 @@ module _ {R : Type 0} (left : R → Option (List ℕ)) where
         → ((texts : FileTexts) → HaveTexts left old texts → is_some (input_at turn old) ≡ true → (fault : BytesFault) → turn_of fault ≡ turn
         → ((text : List ℕ) → HasText left (input_at turn old) text → IsFaultOfText fault text) → IsFirstFault needs texts (Err fault))
         → (fault : RunFault) → IsStop left failed turn (input_at turn old) input fault → IsFaultOfBytes left failed old new (IsFirstFault needs) fault
-    at_turn turn input at before behind first (Usage fault) is = absurd is
-    at_turn turn input at before behind first (CannotOpen file) is = absurd is
     at_turn turn input at before behind first (CannotRead file) is =
         (turn, subst (λ (x : Option (Source R)). HasFailed failed (input_at turn old) x file) (sym at) is, before, behind)
-    at_turn turn input at before behind first CannotWrite is = absurd is
     at_turn turn input at before behind first NoMemory is = tt
     at_turn turn input at before behind first (File fault) (its, name, says) = (
       subst (λ (t : Turn). HasName (input_at t old) fault.file) (sym its) name,
       subst (λ (t : Turn). AreKeptBehind t old new) (sym its) behind,
       λ texts have. first texts have (named_is_there (input_at turn old) _ name) fault.fault its says,
     )
+    at_turn turn input at before behind first fault is = absurd is
 
     -- such a fault is the first one of the texts
     pub map_first : (texts : FileTexts) → HaveTexts left old texts → is_some old.map ≡ true → (fault : BytesFault) → turn_of fault ≡ MapTurn
         → ((text : List ℕ) → HasText left old.map text → IsFaultOfText fault text) → IsFirstFault needs texts (Err fault)
     map_first texts have there (InMap fault) its says = (sym needed.map ∙ there, says texts.map have.map)
-    map_first texts have there (InList fault) its says = cc
-    map_first texts have there (InFlows fault) its says = cc
-    map_first texts have there (InCertificate fault) its says = cc
-    map_first texts have there (InCheck fault) its says = cc
+    map_first texts have there fault its says = cc
 
     pub list_first : IsRead left MapTurn old.map
         → (texts : FileTexts) → HaveTexts left old texts → is_some old.list ≡ true → (fault : BytesFault) → turn_of fault ≡ ListTurn
         → ((text : List ℕ) → HasText left old.list text → IsFaultOfText fault text) → IsFirstFault needs texts (Err fault)
-    list_first map texts have there (InMap fault) its says = cc
     list_first map texts have there (InList fault) its says = (
       sym needed.list ∙ there,
       says texts.list have.list,
       is_read_if needs.map MapTurn old.map texts.map needed.map map have.map,
     )
-    list_first map texts have there (InFlows fault) its says = cc
-    list_first map texts have there (InCertificate fault) its says = cc
-    list_first map texts have there (InCheck fault) its says = cc
+    list_first map texts have there fault its says = cc
 
     pub certificate_first : IsRead left MapTurn old.map → IsRead left ListTurn old.list
         → (texts : FileTexts) → HaveTexts left old texts → is_some old.certificate ≡ true → (fault : BytesFault) → turn_of fault ≡ CertificateTurn
         → ((text : List ℕ) → HasText left old.certificate text → IsFaultOfText fault text) → IsFirstFault needs texts (Err fault)
-    certificate_first map list texts have there (InMap fault) its says = cc
-    certificate_first map list texts have there (InList fault) its says = cc
-    certificate_first map list texts have there (InFlows fault) its says = cc
     certificate_first map list texts have there (InCertificate fault) its says = (
       sym needed.certificate ∙ there,
       says texts.certificate have.certificate,
@@ -191,16 +174,13 @@ module _ {R : Type 0} (left : R → Option (List ℕ)) where
       is_read_if needs.list ListTurn old.list texts.list needed.list list have.list,
     )
     certificate_first map list texts have there (InCheck fault) its says = absurd (says texts.certificate have.certificate)
+    certificate_first map list texts have there fault its says = cc
 
   -- a fault of an input's text, in the file of the input
   pub in_file_stop : (failed : R → Bool) (turn : Turn) (old new : Option (Source R)) (file : List ℕ) (fault : BytesFault) → turn_of fault ≡ turn
       → name_of old ≡ Some file
       → (is_want_of_memory fault ≡ false → (text : List ℕ) → HasText left old text → IsFaultOfText fault text)
       → (stop : RunFault) → IsInFile file fault stop → IsStop left failed turn old new stop
-  in_file_stop failed turn old new file fault its name says (Usage other) is = absurd is
-  in_file_stop failed turn old new file fault its name says (CannotOpen other) is = absurd is
-  in_file_stop failed turn old new file fault its name says (CannotRead other) is = absurd is
-  in_file_stop failed turn old new file fault its name says CannotWrite is = absurd is
   in_file_stop failed turn old new file fault its name says NoMemory is = tt
   in_file_stop failed turn old new file fault its name says (File other) (named, same) = (
     ap turn_of same ∙ its,
@@ -208,21 +188,19 @@ module _ {R : Type 0} (left : R → Option (List ℕ)) where
     λ text told. subst (λ (f : BytesFault). IsFaultOfText f text) (sym same)
         (says (subst (λ (f : BytesFault). is_want_of_memory f ≡ false) same other.of_bytes) text told),
   )
+  in_file_stop failed turn old new file fault its name says stop is = absurd is
 
   -- what a certificate says wrongly, in the certificate's file
   pub in_check : (failed : R → Bool) (inputs : Inputs R) (s : Source R) (over : List ℕ → Outcome → Type 0) (fault : CheckFault) → inputs.certificate ≡ Some s
       → ((bytes : List ℕ) → is_check_want fault.kind ≡ false → over bytes (Err (InCheck fault)))
       → (stop : RunFault) → IsInFile s.name.now (InCheck fault) stop → IsFaultOfAnswer left failed inputs inputs over stop
-  in_check failed inputs s over fault e says (Usage other) is = absurd is
-  in_check failed inputs s over fault e says (CannotOpen other) is = absurd is
-  in_check failed inputs s over fault e says (CannotRead other) is = absurd is
-  in_check failed inputs s over fault e says CannotWrite is = absurd is
   in_check failed inputs s over fault e says NoMemory is = tt
   in_check failed inputs s over fault e says (File other) (named, same) = (
     subst (λ (f : BytesFault). IsLateFault inputs inputs other.file f) (sym same) (ap name_of e ∙ ap Some (sym named), refl),
     λ bytes told. subst (λ (f : BytesFault). over bytes (Err f)) (sym same)
         (says bytes (subst (λ (f : BytesFault). is_want_of_memory f ≡ false) same other.of_bytes)),
   )
+  in_check failed inputs s over fault e says stop is = absurd is
 
   -- a fault of reading the flows is one of what comes of them
   flows_late : (old new : Inputs R) (s : Source R) (over : List ℕ → Outcome → Type 0) (file : Bor (List ℕ)) → old.flows ≡ Some s
@@ -230,46 +208,36 @@ module _ {R : Type 0} (left : R → Option (List ℕ)) where
       → (fault : BytesFault) → turn_of fault ≡ FlowsTurn → HasName (Some s) file
       → ((text : List ℕ) → left s.reader ≡ Some text → IsFaultOfText fault text)
       → IsLateFault old new file fault × ((bytes : List ℕ) → HasText left old.flows bytes → over bytes (Err fault))
-  flows_late old new s over file e joins (InMap fault) its name says = cc
-  flows_late old new s over file e joins (InList fault) its name says = cc
-  flows_late old new s over file e joins (InCertificate fault) its name says = cc
-  flows_late old new s over file e joins (InCheck fault) its name says = cc
   flows_late old new s over file e joins (InFlows fault) its name says = (
     subst (λ (x : Option (Source R)). HasName x file) (sym e) name,
     λ bytes told. joins bytes fault (says bytes (subst (λ (x : Option (Source R)). HasText left x bytes) e told)),
   )
+  flows_late old new s over file e joins fault its name says = cc
 
   pub flows_stop : (failed : R → Bool) (old new : Inputs R) (s s' : Source R) (over : List ℕ → Outcome → Type 0) → old.flows ≡ Some s → new.flows ≡ Some s'
       → ((bytes : List ℕ) (fault : ReadFault) → HasFileFault [] 0 0 bytes fault → over bytes (Err (InFlows fault)))
       → (fault : RunFault) → IsStop left failed FlowsTurn (Some s) (Some s') fault → IsFaultOfAnswer left failed old new over fault
-  flows_stop failed old new s s' over e e' joins (Usage fault) is = absurd is
-  flows_stop failed old new s s' over e e' joins (CannotOpen file) is = absurd is
   flows_stop failed old new s s' over e e' joins (CannotRead file) is = (
     subst (λ (x : Option (Source R)). HasName x file) (sym e) is.0,
     subst (λ (x : Option (Source R)). source_failed failed x ≡ true) (sym e') is.1,
   )
-  flows_stop failed old new s s' over e e' joins CannotWrite is = absurd is
   flows_stop failed old new s s' over e e' joins NoMemory is = tt
   flows_stop failed old new s s' over e e' joins (File fault) (its, name, says) = flows_late old new s over fault.file e joins fault.fault its name says
+  flows_stop failed old new s s' over e e' joins fault is = absurd is
 
   -- a fault of what comes of loaded files is one of all files
   late_is : (old mid new : Inputs R) (file : Bor (List ℕ)) → mid.flows ≡ old.flows → name_of mid.certificate ≡ name_of old.certificate
       → (fault : BytesFault) → IsLateFault mid new file fault → HasName (input_at (turn_of fault) old) file × AreKeptBehind (turn_of fault) old new
-  late_is old mid new file flows name (InMap fault) late = absurd late
-  late_is old mid new file flows name (InList fault) late = absurd late
   late_is old mid new file flows name (InFlows fault) late = (subst (λ (x : Option (Source R)). HasName x file) flows late, tt)
-  late_is old mid new file flows name (InCertificate fault) late = absurd late
   late_is old mid new file flows name (InCheck fault) (named, kept) = (sym name ∙ named, kept ∙ flows)
+  late_is old mid new file flows name fault late = absurd late
 
   pub answer_joins : (failed : R → Bool) (old mid new : Inputs R) (over : List ℕ → Outcome → Type 0) (over' : FileTexts → Outcome → Type 0)
       → mid.flows ≡ old.flows → name_of mid.certificate ≡ name_of old.certificate → AreReadBefore left FlowsTurn old
       → ((texts : FileTexts) → HaveTexts left old texts → (outcome : Outcome) → over texts.flows outcome → over' texts outcome)
       → (fault : RunFault) → IsFaultOfAnswer left failed mid new over fault → IsFaultOfBytes left failed old new over' fault
-  answer_joins failed old mid new over over' flows name read joins (Usage fault) is = absurd is
-  answer_joins failed old mid new over over' flows name read joins (CannotOpen file) is = absurd is
   answer_joins failed old mid new over over' flows name read joins (CannotRead file) is =
       (FlowsTurn, subst (λ (x : Option (Source R)). HasFailed failed x new.flows file) flows is, read, tt)
-  answer_joins failed old mid new over over' flows name read joins CannotWrite is = absurd is
   answer_joins failed old mid new over over' flows name read joins NoMemory is = tt
   answer_joins failed old mid new over over' flows name read joins (File fault) (late, says) =
       let (named, kept) = late_is old mid new fault.file flows name fault.fault late in (
@@ -278,6 +246,7 @@ module _ {R : Type 0} (left : R → Option (List ℕ)) where
         λ texts have. joins texts have (Err fault.fault)
             (says texts.flows (subst (λ (x : Option (Source R)). HasText left x texts.flows) (sym flows) have.flows)),
       )
+  answer_joins failed old mid new over over' flows name read joins fault is = absurd is
 
 -- what comes of the labels that are loaded for a source comes of the source
 labels_join : (source : LabelSource) (rest : Labelling → Outcome → Type 0) (texts : FileTexts) (outcome : Outcome) (map : Option MapText) (list : Option PrefixList)
@@ -286,25 +255,19 @@ labels_join : (source : LabelSource) (rest : Labelling → Outcome → Type 0) (
 labels_join (FromMap file) rest texts outcome (Some map) list there there' reads reads' labels is comes =
     let same : labels ≡ labelling_of_map (map_of map) = cc in
     inr (map_of map, reads, subst (λ (l : Labelling). rest l outcome) same comes)
-labels_join (FromMap file) rest texts outcome None list there there' reads reads' labels is comes = cc
-labels_join (FromList file) rest texts outcome (Some map) list there there' reads reads' labels is comes = cc
-labels_join (FromList file) rest texts outcome None None there there' reads reads' labels is comes = cc
 labels_join (FromList file) rest texts outcome None (Some list) there there' reads reads' labels is comes =
     let same : labels ≡ labelling_of_list (list_of list) = cc in
     inr (list_of list, reads', subst (λ (l : Labelling). rest l outcome) same comes)
+labels_join source rest texts outcome map list there there' reads reads' labels is comes = cc
 
 reports_join : (source : Option LabelSource) (text : Option Labelling → List MessageView → List ℕ) (texts : FileTexts) (outcome : Outcome)
     (map : Option MapText) (list : Option PrefixList) → is_some map ≡ is_some (option_and_then map_in source)
     → is_some list ≡ is_some (option_and_then list_in source) → Holds IsMapText texts.map map → Holds IsListText texts.list list
     → ReportsOf text (labelling_of_parts map list) texts.flows outcome → ReportsThen text source texts outcome
 reports_join None text texts outcome None None there there' reads reads' comes = comes
-reports_join None text texts outcome None (Some list) there there' reads reads' comes = cc
-reports_join None text texts outcome (Some map) list there there' reads reads' comes = cc
 reports_join (Some (FromMap file)) text texts outcome (Some map) list there there' reads reads' comes = inr (map_of map, reads, comes)
-reports_join (Some (FromMap file)) text texts outcome None list there there' reads reads' comes = cc
-reports_join (Some (FromList file)) text texts outcome (Some map) list there there' reads reads' comes = cc
 reports_join (Some (FromList file)) text texts outcome None (Some list) there there' reads reads' comes = inr (list_of list, reads', comes)
-reports_join (Some (FromList file)) text texts outcome None None there there' reads reads' comes = cc
+reports_join source text texts outcome map list there there' reads reads' comes = cc
 
 -- what comes of what is loaded for a request is its output
 pub output_of : (request : Request) (loaded : Loaded) (texts : FileTexts) (outcome : Outcome) → ArePresent (needs_of request) loaded → AreLoaded loaded texts
@@ -336,22 +299,15 @@ output_of (recert file) loaded texts outcome there reads (certificate, is, comes
 source_first : (source : LabelSource) (flows : Option Text) (rest : Labelling → Outcome → Type 0) (texts : FileTexts) (fault : BytesFault)
     → IsFirstFault (needs_named (files_named (Some source) flows)) texts (Err fault) → LabelsThen source rest texts (Err fault)
 source_first (FromMap file) flows rest texts (InMap fault) (there, fails) = inl (fault, fails, refl)
-source_first (FromMap file) flows rest texts (InList fault) (there, fails, reads) = cc
-source_first (FromMap file) flows rest texts (InFlows fault) is = absurd is
-source_first (FromMap file) flows rest texts (InCertificate fault) (there, fails, reads, reads') = cc
-source_first (FromMap file) flows rest texts (InCheck fault) is = absurd is
-source_first (FromList file) flows rest texts (InMap fault) (there, fails) = cc
 source_first (FromList file) flows rest texts (InList fault) (there, fails, reads) = inl (fault, fails, refl)
-source_first (FromList file) flows rest texts (InFlows fault) is = absurd is
-source_first (FromList file) flows rest texts (InCertificate fault) (there, fails, reads, reads') = cc
-source_first (FromList file) flows rest texts (InCheck fault) is = absurd is
+source_first source flows rest texts (InFlows fault) is = absurd is
+source_first source flows rest texts (InCheck fault) is = absurd is
+source_first source flows rest texts fault is = cc
 
 nothing_first : (flows : Option Text) (texts : FileTexts) (fault : BytesFault) → IsFirstFault (needs_named (files_named None flows)) texts (Err fault) → ⊥
-nothing_first flows texts (InMap fault) (there, fails) = cc
-nothing_first flows texts (InList fault) (there, fails, reads) = cc
 nothing_first flows texts (InFlows fault) is = is
-nothing_first flows texts (InCertificate fault) (there, fails, reads, reads') = cc
 nothing_first flows texts (InCheck fault) is = is
+nothing_first flows texts fault is = cc
 
 reports_first : (source : Option LabelSource) (flows : Option Text) (text : Option Labelling → List MessageView → List ℕ) (texts : FileTexts) (fault : BytesFault)
     → IsFirstFault (needs_named (files_named source flows)) texts (Err fault) → ReportsThen text source texts (Err fault)
@@ -361,27 +317,24 @@ reports_first (Some source) flows text texts fault is = source_first source flow
 map_only_first : (file : Text) (printed : Shrunk) (texts : FileTexts) (fault : BytesFault)
     → IsFirstFault (needs_of (shrink file printed)) texts (Err fault) → IsOutput (shrink file printed) texts (Err fault)
 map_only_first file printed texts (InMap fault) (there, fails) = inl (fault, fails, refl)
-map_only_first file printed texts (InList fault) (there, fails, reads) = cc
 map_only_first file printed texts (InFlows fault) is = absurd is
-map_only_first file printed texts (InCertificate fault) (there, fails, reads, reads') = cc
 map_only_first file printed texts (InCheck fault) is = absurd is
+map_only_first file printed texts fault is = cc
 
 certificate_only_first : (file : Text) (texts : FileTexts) (fault : BytesFault)
     → IsFirstFault (needs_of (recert file)) texts (Err fault) → IsOutput (recert file) texts (Err fault)
-certificate_only_first file texts (InMap fault) (there, fails) = cc
-certificate_only_first file texts (InList fault) (there, fails, reads) = cc
-certificate_only_first file texts (InFlows fault) is = absurd is
 certificate_only_first file texts (InCertificate fault) (there, fails, reads, reads') = inl (fault, fails, refl)
+certificate_only_first file texts (InFlows fault) is = absurd is
 certificate_only_first file texts (InCheck fault) is = absurd is
+certificate_only_first file texts fault is = cc
 
 three_first : (map list certificate : Text) (texts : FileTexts) (fault : BytesFault)
     → IsFirstFault (needs_of (check map list certificate)) texts (Err fault) → IsOutput (check map list certificate) texts (Err fault)
 three_first map list certificate texts (InMap fault) (there, fails) = inl (fault, fails, refl)
 three_first map list certificate texts (InList fault) (there, fails, (m, reads)) = inr (m, reads, inl (fault, fails, refl))
-three_first map list certificate texts (InFlows fault) is = absurd is
 three_first map list certificate texts (InCertificate fault) (there, fails, (m, reads), (l, reads')) =
     inr (m, reads, inr (l, reads', inl (fault, fails, refl)))
-three_first map list certificate texts (InCheck fault) is = absurd is
+three_first map list certificate texts fault is = absurd is
 
 pub first_output : (request : Request) (texts : FileTexts) (fault : BytesFault) → IsFirstFault (needs_of request) texts (Err fault)
     → IsOutput request texts (Err fault)
@@ -397,10 +350,9 @@ first_output (recert certificate) texts fault is = certificate_only_first certif
 
 parts_are_there : (source : LabelSource) (map : Option MapText) (list : Option PrefixList) → is_some map ≡ is_some (map_in source)
     → is_some list ≡ is_some (list_in source) → labelling_of_parts map list ≡ None → ⊥
-parts_are_there source (Some map) list there there' is = cc
-parts_are_there source None (Some list) there there' is = cc
 parts_are_there (FromMap file) None None there there' is = cc
 parts_are_there (FromList file) None None there there' is = cc
+parts_are_there source map list there there' is = cc
 
 -- labels are loaded where a source of them is needed
 pub labels_are_there : (source : LabelSource) (flows : Option Text) (loaded : Loaded)

@@ -45,10 +45,6 @@ abbrev pub address_answer : LabelSource → Option AddressOf → Answer
 address_answer source None = Err BadAddress
 address_answer source (Some address) = Ok (label source address)
 
--- `label`, by its sources and what its address stands for: two sources come first, and then a missing one
-abbrev pub label_answer : Result (Option LabelSource) UsageFault → Option AddressOf → Answer
-label_answer source address = source >>= (λ found. needed_source found >>= (λ labels. address_answer labels address))
-
 -- the source of labels that entries name
 abbrev pub sources_in_rows : List Row → Result (Option LabelSource) UsageFault
 sources_in_rows entries = source_answer (first_of (codes "pmap") entries) (first_of (codes "list") entries)
@@ -57,13 +53,14 @@ sources_in_rows entries = source_answer (first_of (codes "pmap") entries) (first
 abbrev pub address_in_rows : List Row → Option AddressOf
 address_in_rows entries = option_and_then address_of (first_of (codes "address") entries)
 
--- `label`, by the entries that clap finds for it
+-- `label`, by the entries that clap finds for it: two sources come first, and then a missing one
 abbrev pub answer_of_label : List Row → Answer
-answer_of_label entries = label_answer (sources_in_rows entries) (address_in_rows entries)
+answer_of_label entries =
+    sources_in_rows entries >>= (λ found. needed_source found >>= (λ labels. address_answer labels (address_in_rows entries)))
 
--- the file that the word FILE of entries names: clap takes no line of `info`, `rows` or `uniq` without one
-abbrev pub flows_in_rows : List Row → Text
-flows_in_rows entries = unwrap_or (first_of (codes "flows") entries) []
+-- the text of an option or a word that has to be there: clap takes no line without it
+abbrev pub text_in_rows : Text → List Row → Text
+text_in_rows id entries = unwrap_or (first_of id entries) []
 
 -- a flag is given: it has the value that clap gives it then
 abbrev pub is_given : Text → List Row → Bool
@@ -98,44 +95,29 @@ abbrev pub fields_answer : Result (List KeyField) KeyFault → Result (List KeyF
 fields_answer (Ok fields) = Ok fields
 fields_answer (Err fault) = Err (Key fault)
 
--- the text of the fields that entries name: clap takes no line of `uniq` without one
-abbrev pub field_names_in_rows : List Row → Text
-field_names_in_rows entries = unwrap_or (first_of (codes "fields") entries) []
-
 abbrev pub fields_in_rows : List Row → Result (List KeyField) UsageFault
-fields_in_rows entries = fields_answer (keys_reading (field_names_in_rows entries))
+fields_in_rows entries = fields_answer (keys_reading (text_in_rows (codes "fields") entries))
 
 -- the request, where labels that it needs have a source
 abbrev pub with_labels : Bool → Option LabelSource → Request → Answer
 with_labels needed source request = if needed && is_none source then Err LabelNeedsMap else Ok request
 
--- `info` and `rows`, by the entries that clap finds for them
-abbrev pub answer_of_info : List Row → Answer
-answer_of_info entries = Ok (info (flows_in_rows entries))
-
+-- `rows`, by the entries that clap finds for it
 abbrev pub answer_of_rows : List Row → Answer
 answer_of_rows entries =
     sources_in_rows entries >>= (λ source. condition_in_rows entries >>= (λ condition.
-    with_labels (needs_map condition) source (rows source condition (is_given (codes "columns") entries) (flows_in_rows entries))))
+    with_labels (needs_map condition) source (rows source condition (is_given (codes "columns") entries) (text_in_rows (codes "flows") entries))))
 
 -- `uniq`, by the entries that clap finds for it: labels are needed by its filters or by its fields
 abbrev pub answer_of_uniq : List Row → Answer
 answer_of_uniq entries =
     sources_in_rows entries >>= (λ source. condition_in_rows entries >>= (λ condition. fields_in_rows entries >>= (λ fields.
     with_labels (needs_map condition || need_map fields) source
-    (uniq fields source condition (is_given (codes "sort-output") entries) (is_given (codes "columns") entries) (flows_in_rows entries)))))
-
--- `cat`, by its sources: two come first, and then a missing one
-abbrev pub cat_answer : Result (Option LabelSource) UsageFault → Answer
-cat_answer source = source >>= (λ found. needed_source found >>= (λ labels. Ok (cat labels)))
+    (uniq fields source condition (is_given (codes "sort-output") entries) (is_given (codes "columns") entries) (text_in_rows (codes "flows") entries)))))
 
 -- `cat`, by the entries that clap finds for it
 abbrev pub answer_of_cat : List Row → Answer
-answer_of_cat entries = cat_answer (sources_in_rows entries)
-
--- the file that an entry names: clap takes no line of `shrink`, `check` or `recert` without those that it needs
-abbrev pub file_in_rows : Text → List Row → Text
-file_in_rows id entries = unwrap_or (first_of id entries) []
+answer_of_cat entries = sources_in_rows entries >>= (λ found. needed_source found >>= (λ labels. Ok (cat labels)))
 
 -- what `shrink` prints, by whether the certificate is asked for, and whether compact: a list has no compact form
 abbrev pub shrunk_asked : Bool → Bool → Result Shrunk UsageFault
@@ -149,27 +131,19 @@ shrunk_in_rows entries = shrunk_asked (is_given (codes "certificate") entries) (
 
 -- `shrink`, by the entries that clap finds for it
 abbrev pub answer_of_shrink : List Row → Answer
-answer_of_shrink entries = shrunk_in_rows entries >>= (λ printed. Ok (shrink (file_in_rows (codes "pmap") entries) printed))
-
--- `check`, by the entries that clap finds for it
-abbrev pub answer_of_check : List Row → Answer
-answer_of_check entries =
-    Ok (check (file_in_rows (codes "pmap") entries) (file_in_rows (codes "list") entries) (file_in_rows (codes "cert") entries))
-
--- `recert`, by the entries that clap finds for it
-abbrev pub answer_of_recert : List Row → Answer
-answer_of_recert entries = Ok (recert (file_in_rows (codes "cert") entries))
+answer_of_shrink entries = shrunk_in_rows entries >>= (λ printed. Ok (shrink (text_in_rows (codes "pmap") entries) printed))
 
 -- the answer to a subcommand, by its name and its entries
 abbrev pub answer_of : Text × List Row → Answer
 answer_of found =
-    if bytes_eq found.0 (codes "info") then answer_of_info found.1
+    if bytes_eq found.0 (codes "info") then Ok (info (text_in_rows (codes "flows") found.1))
     else if bytes_eq found.0 (codes "rows") then answer_of_rows found.1
     else if bytes_eq found.0 (codes "uniq") then answer_of_uniq found.1
     else if bytes_eq found.0 (codes "cat") then answer_of_cat found.1
     else if bytes_eq found.0 (codes "shrink") then answer_of_shrink found.1
-    else if bytes_eq found.0 (codes "check") then answer_of_check found.1
-    else if bytes_eq found.0 (codes "recert") then answer_of_recert found.1
+    else if bytes_eq found.0 (codes "check")
+    then Ok (check (text_in_rows (codes "pmap") found.1) (text_in_rows (codes "list") found.1) (text_in_rows (codes "cert") found.1))
+    else if bytes_eq found.0 (codes "recert") then Ok (recert (text_in_rows (codes "cert") found.1))
     else answer_of_label found.1
 
 -- the answer to the words that clap takes, by the subcommand and the entries that it finds in them
@@ -203,14 +177,8 @@ abbrev pub IsFaultAt : List Text → UsageFault → Type 0
 IsFaultAt words (Refused text) = list_any is_mistake (fault_of flowlabel_app words) ≡ true
 IsFaultAt words NotUtf8 = ⊥
 IsFaultAt words (Help text) = list_any is_help (fault_of flowlabel_app words) ≡ true
-IsFaultAt words MapTwice = Answers words (Err MapTwice)
-IsFaultAt words MapMissing = Answers words (Err MapMissing)
-IsFaultAt words BadAddress = Answers words (Err BadAddress)
-IsFaultAt words (Filter fault) = Answers words (Err (Filter fault))
-IsFaultAt words (Key fault) = Answers words (Err (Key fault))
-IsFaultAt words LabelNeedsMap = Answers words (Err LabelNeedsMap)
-IsFaultAt words CompactAlone = Answers words (Err CompactAlone)
 IsFaultAt words NoMemory = Unit {0}
+IsFaultAt words fault = Answers words (Err fault)
 
 -- the result is what the words ask for
 abbrev pub IsAnswer : List Text → Result Command UsageFault → Type 0
@@ -222,14 +190,7 @@ abbrev pub IsOwnFault : UsageFault → Type 0
 IsOwnFault (Refused text) = ⊥
 IsOwnFault NotUtf8 = ⊥
 IsOwnFault (Help text) = ⊥
-IsOwnFault MapTwice = Unit {0}
-IsOwnFault MapMissing = Unit {0}
-IsOwnFault BadAddress = Unit {0}
-IsOwnFault (Filter fault) = Unit {0}
-IsOwnFault (Key fault) = Unit {0}
-IsOwnFault LabelNeedsMap = Unit {0}
-IsOwnFault CompactAlone = Unit {0}
-IsOwnFault NoMemory = Unit {0}
+IsOwnFault fault = Unit {0}
 
 -- the result is no such fault
 abbrev pub IsOwnAnswer : {A : Type 0} → Result A UsageFault → Type 0
@@ -246,27 +207,10 @@ abbrev pub is_plain_word : Text → Bool
 is_plain_word [] = true
 is_plain_word (x ∷ xs) = not (x == 45)
 
--- `label --pmap MAP ADDRESS` is answered by its map and its address
-abbrev pub ReadsMapLine : List Text → Result Command UsageFault → Type 0
-ReadsMapLine words result = (program map address : Text) → is_plain_word map ≡ true → is_plain_word address ≡ true
-    → words ≡ program ∷ codes "label" ∷ codes "--pmap" ∷ map ∷ address ∷ []
-    → IsUnlessMemory (address_answer (FromMap map) (address_of address)) result
-
--- and `label --list LIST ADDRESS` by its list and its address
-abbrev pub ReadsListLine : List Text → Result Command UsageFault → Type 0
-ReadsListLine words result = (program list address : Text) → is_plain_word list ≡ true → is_plain_word address ≡ true
-    → words ≡ program ∷ codes "label" ∷ codes "--list" ∷ list ∷ address ∷ []
-    → IsUnlessMemory (address_answer (FromList list) (address_of address)) result
-
--- `label ADDRESS` misses its map
-abbrev pub ReadsBareLine : List Text → Result Command UsageFault → Type 0
-ReadsBareLine words result = (program address : Text) → is_plain_word address ≡ true
-    → words ≡ program ∷ codes "label" ∷ address ∷ [] → IsUnlessMemory (Err MapMissing) result
-
--- `info FILE` is answered by its file
-abbrev pub ReadsInfoLine : List Text → Result Command UsageFault → Type 0
-ReadsInfoLine words result = (program file : Text) → is_plain_word file ≡ true
-    → words ≡ program ∷ codes "info" ∷ file ∷ [] → IsUnlessMemory (Ok (info file)) result
+-- words with an answer of the program's own have no other: a result that is what they ask for is that answer, memory aside
+abbrev pub HaveOneAnswer : Type 0
+HaveOneAnswer = (words : List Text) (answer : Answer) (result : Result Command UsageFault)
+    → Answers words answer → IsAnswer words result → IsUnlessMemory answer result
 
 -- no filter is given
 abbrev pub no_condition : Condition
@@ -283,61 +227,22 @@ no_condition = record {
   any_label = None;
 }
 
--- `rows FILE` is answered by its file
-abbrev pub ReadsRowsLine : List Text → Result Command UsageFault → Type 0
-ReadsRowsLine words result = (program file : Text) → is_plain_word file ≡ true
-    → words ≡ program ∷ codes "rows" ∷ file ∷ [] → IsUnlessMemory (Ok (rows None no_condition false file)) result
-
--- `rows --columns FILE` asks for columns
-abbrev pub ReadsColumnsLine : List Text → Result Command UsageFault → Type 0
-ReadsColumnsLine words result = (program file : Text) → is_plain_word file ≡ true
-    → words ≡ program ∷ codes "rows" ∷ codes "--columns" ∷ file ∷ [] → IsUnlessMemory (Ok (rows None no_condition true file)) result
-
--- `cat --pmap FILE` is answered by its map
-abbrev pub ReadsCatLine : List Text → Result Command UsageFault → Type 0
-ReadsCatLine words result = (program file : Text) → is_plain_word file ≡ true
-    → words ≡ program ∷ codes "cat" ∷ codes "--pmap" ∷ file ∷ [] → IsUnlessMemory (Ok (cat (FromMap file))) result
-
--- `shrink --pmap FILE` is answered by its map
-abbrev pub ReadsShrinkLine : List Text → Result Command UsageFault → Type 0
-ReadsShrinkLine words result = (program file : Text) → is_plain_word file ≡ true
-    → words ≡ program ∷ codes "shrink" ∷ codes "--pmap" ∷ file ∷ [] → IsUnlessMemory (Ok (shrink file shrunk.List)) result
-
--- `shrink --pmap FILE --certificate` asks for the certificate
-abbrev pub ReadsCertificateLine : List Text → Result Command UsageFault → Type 0
-ReadsCertificateLine words result = (program file : Text) → is_plain_word file ≡ true
-    → words ≡ program ∷ codes "shrink" ∷ codes "--pmap" ∷ file ∷ codes "--certificate" ∷ []
-    → IsUnlessMemory (Ok (shrink file shrunk.Certificate)) result
-
--- `shrink --pmap FILE --certificate --compact` asks for it compacted
-abbrev pub ReadsCompactLine : List Text → Result Command UsageFault → Type 0
-ReadsCompactLine words result = (program file : Text) → is_plain_word file ≡ true
-    → words ≡ program ∷ codes "shrink" ∷ codes "--pmap" ∷ file ∷ codes "--certificate" ∷ codes "--compact" ∷ []
-    → IsUnlessMemory (Ok (shrink file shrunk.Compact)) result
-
--- `shrink --pmap FILE --compact` misses the certificate
-abbrev pub ReadsCompactAloneLine : List Text → Result Command UsageFault → Type 0
-ReadsCompactAloneLine words result = (program file : Text) → is_plain_word file ≡ true
-    → words ≡ program ∷ codes "shrink" ∷ codes "--pmap" ∷ file ∷ codes "--compact" ∷ [] → IsUnlessMemory (Err CompactAlone) result
-
--- `recert --cert FILE` is answered by its certificate
-abbrev pub ReadsRecertLine : List Text → Result Command UsageFault → Type 0
-ReadsRecertLine words result = (program file : Text) → is_plain_word file ≡ true
-    → words ≡ program ∷ codes "recert" ∷ codes "--cert" ∷ file ∷ [] → IsUnlessMemory (Ok (recert file)) result
+-- Three lines as examples: `label --pmap MAP ADDRESS` is answered by its map and its address, `rows --columns FILE` asks for columns,
+-- and `shrink --pmap FILE --compact` misses the certificate.
+pub record LinesHaveAnswers (program : Text) : Type 0 where
+  pub label_line : (map address : Text) → is_plain_word map ≡ true → is_plain_word address ≡ true
+      → Answers (program ∷ codes "label" ∷ codes "--pmap" ∷ map ∷ address ∷ []) (address_answer (FromMap map) (address_of address))
+  pub rows_line : (file : Text) → is_plain_word file ≡ true
+      → Answers (program ∷ codes "rows" ∷ codes "--columns" ∷ file ∷ []) (Ok (rows None no_condition true file))
+  pub shrink_line : (file : Text) → is_plain_word file ≡ true
+      → Answers (program ∷ codes "shrink" ∷ codes "--pmap" ∷ file ∷ codes "--compact" ∷ []) (Err CompactAlone)
 
 -- the fault comes of an error of this kind
 abbrev pub IsFaultOfKind : ErrorKind → UsageFault → Type 0
 IsFaultOfKind k (Refused text) = is_mistake k ≡ true
-IsFaultOfKind k NotUtf8 = ⊥
 IsFaultOfKind k (Help text) = is_help k ≡ true
-IsFaultOfKind k MapTwice = ⊥
-IsFaultOfKind k MapMissing = ⊥
-IsFaultOfKind k BadAddress = ⊥
-IsFaultOfKind k (Filter fault) = ⊥
-IsFaultOfKind k (Key fault) = ⊥
-IsFaultOfKind k LabelNeedsMap = ⊥
-IsFaultOfKind k CompactAlone = ⊥
 IsFaultOfKind k NoMemory = Unit {0}
+IsFaultOfKind k fault = ⊥
 
 -- the fault of a command line whose words can't be had, by the kind of the system's error: one of them is no text, or
 -- memory ran out

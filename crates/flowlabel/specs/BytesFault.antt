@@ -121,8 +121,5 @@ is_want_of_memory (InCheck fault) = is_check_want fault.kind
 
 -- the fault is no first one of a file's bytes: only calls for messages answer it, where a reader failed or a call before had a fault
 abbrev pub is_answer_of_calls : BytesFault → Bool
-is_answer_of_calls (InMap fault) = false
-is_answer_of_calls (InList fault) = false
 is_answer_of_calls (InFlows fault) = is_of_calls fault.kind
-is_answer_of_calls (InCertificate fault) = false
-is_answer_of_calls (InCheck fault) = false
+is_answer_of_calls fault = false

@@ -1,123 +1,67 @@
-use Rattle.std.specs.Prelude.{true, List, None, Option, Some, codes, option_map, unwrap_or}
+use Rattle.std.specs.Prelude.{◌≡◌, false, true, List, [], ◌∷◌, ◌++◌, Some, codes, map}
+use Rattle.std.specs.List.{AllZip, fold}
 use Rattle.clap.specs.declared.builder.action.ArgAction.TheVariants.{SetTrue}
 use Rattle.clap.specs.declared.builder.arg.Arg.{Arg}
-use Rattle.clap.specs.Walk.{texts}
-use Rattle.clap.specs.Words.{App, Rule, Text, items_of, new_app, new_rule, with_rule, with_subcommand}
+use Rattle.clap.specs.declared.builder.command.Command.{Command}
+use Rattle.clap.specs.declared.builder.command.Command.TheViews.{out-Command}
+use Rattle.clap.specs.Words.{App, Rule, Text, app_of, new_app, new_rule, rule_of, with_rule, with_subcommand}
 
 -- What clap reads of the definition of the command line: each subcommand with its options and words.
 
--- what help calls the values of an option or a word: of ours one name, and none where no value is taken
-abbrev pub value_names : Arg → List Text
-value_names arg = texts (items_of arg.val_names)
+-- `--name VALUE`, `--name VALUE` that has to be there, `--name`, and `VALUE`, which has to be there
+abbrev pub option_rule : Text → Rule
+option_rule name = record (new_rule name) { long = Some name; value_names = 1 }
 
--- what help says of it
-abbrev pub help_of : Arg → Option Text
-help_of arg = option_map (λ text. text.now) arg.help
+abbrev pub needed_rule : Text → Rule
+needed_rule name = record (new_rule name) { long = Some name; value_names = 1; required = true }
 
--- the heading that stands above it in help
-abbrev pub heading_of : Arg → Option Text
-heading_of arg = option_map (λ text. text.now) (unwrap_or arg.help_heading None)
+abbrev pub flag_rule : Text → Rule
+flag_rule name = record (new_rule name) { long = Some name; action = Some SetTrue }
 
--- `--pmap FILE`
-abbrev pub pmap_rule : Rule
-pmap_rule = record (new_rule (codes "pmap")) { long = Some (codes "pmap"); value_names = 1 }
+abbrev pub word_rule : Text → Rule
+word_rule name = record (new_rule name) { value_names = 1; required = true }
 
--- `--list FILE`
-abbrev pub list_rule : Rule
-list_rule = record (new_rule (codes "list")) { long = Some (codes "list"); value_names = 1 }
+-- a command with these arguments, after others
+abbrev pub with_rules : App → List Rule → App
+with_rules = fold with_rule
 
--- `ADDR`
-abbrev pub address_rule : Rule
-address_rule = record (new_rule (codes "address")) { value_names = 1; required = true }
+-- a command without subcommands, by its name and its arguments
+abbrev pub leaf : Text → List Rule → App
+leaf name = with_rules (new_app name)
 
--- `label [--pmap FILE] [--list FILE] ADDR`
-abbrev pub label_app : App
-label_app = with_rule (with_rule (with_rule (new_app (codes "label")) pmap_rule) list_rule) address_rule
+-- `--pmap FILE` and `--list FILE`; the filters, on what a row has and on its labels; `[--columns] FILE`
+abbrev pub source_rules : List Rule
+source_rules = option_rule (codes "pmap") ∷ option_rule (codes "list") ∷ []
 
--- `FILE`, an IPFIX File
-abbrev pub flows_rule : Rule
-flows_rule = record (new_rule (codes "flows")) { value_names = 1; required = true }
+abbrev pub filter_rules : List Rule
+filter_rules = map option_rule (
+    codes "protocol" ∷ codes "sport" ∷ codes "dport" ∷ codes "saddress" ∷ codes "daddress" ∷ codes "packets" ∷ codes "bytes"
+    ∷ codes "src-label" ∷ codes "dst-label" ∷ codes "any-label" ∷ [])
 
--- `--columns`
-abbrev pub columns_rule : Rule
-columns_rule = record (new_rule (codes "columns")) { long = Some (codes "columns"); action = Some SetTrue }
+abbrev pub table_rules : List Rule
+table_rules = flag_rule (codes "columns") ∷ word_rule (codes "flows") ∷ []
 
--- an option of one value, under its name
-abbrev pub value_rule : Text → Rule
-value_rule name = record (new_rule name) { long = Some name; value_names = 1 }
+-- the arguments of the subcommands; those of `cat` are `source_rules`
+abbrev pub label_rules : List Rule
+label_rules = source_rules ++ word_rule (codes "address") ∷ []
 
--- the filters, behind other options: those on what a row has
-abbrev pub with_value_filters : App → App
-with_value_filters app =
-    let ports = with_rule (with_rule (with_rule app (value_rule (codes "protocol"))) (value_rule (codes "sport"))) (value_rule (codes "dport")) in
-    let addresses = with_rule (with_rule ports (value_rule (codes "saddress"))) (value_rule (codes "daddress")) in
-    with_rule (with_rule addresses (value_rule (codes "packets"))) (value_rule (codes "bytes"))
+abbrev pub info_rules : List Rule
+info_rules = word_rule (codes "flows") ∷ []
 
--- and those on its labels
-abbrev pub with_label_filters : App → App
-with_label_filters app =
-    with_rule (with_rule (with_rule app (value_rule (codes "src-label"))) (value_rule (codes "dst-label"))) (value_rule (codes "any-label"))
+abbrev pub rows_rules : List Rule
+rows_rules = source_rules ++ filter_rules ++ table_rules
 
-abbrev pub with_filters : App → App
-with_filters app = with_label_filters (with_value_filters app)
+abbrev pub uniq_rules : List Rule
+uniq_rules = needed_rule (codes "fields") ∷ source_rules ++ filter_rules ++ flag_rule (codes "sort-output") ∷ table_rules
 
--- `info FILE`
-abbrev pub info_app : App
-info_app = with_rule (new_app (codes "info")) flows_rule
+abbrev pub shrink_rules : List Rule
+shrink_rules = needed_rule (codes "pmap") ∷ flag_rule (codes "certificate") ∷ flag_rule (codes "compact") ∷ []
 
--- `rows [--pmap FILE] [--list FILE] [filters] [--columns] FILE`
-abbrev pub rows_app : App
-rows_app =
-    with_rule (with_rule (with_filters (with_rule (with_rule (new_app (codes "rows")) pmap_rule) list_rule)) columns_rule) flows_rule
+abbrev pub check_rules : List Rule
+check_rules = needed_rule (codes "pmap") ∷ needed_rule (codes "list") ∷ needed_rule (codes "cert") ∷ []
 
--- `--fields NAMES`
-abbrev pub fields_rule : Rule
-fields_rule = record (value_rule (codes "fields")) { required = true }
-
--- `--sort-output`
-abbrev pub sort_rule : Rule
-sort_rule = record (new_rule (codes "sort-output")) { long = Some (codes "sort-output"); action = Some SetTrue }
-
--- `uniq --fields NAMES [--pmap FILE] [--list FILE] [filters] [--sort-output] [--columns] FILE`
-abbrev pub uniq_app : App
-uniq_app =
-    let labelled = with_rule (with_rule (with_rule (new_app (codes "uniq")) fields_rule) pmap_rule) list_rule in
-    with_rule (with_rule (with_rule (with_filters labelled) sort_rule) columns_rule) flows_rule
-
--- `cat [--pmap FILE] [--list FILE]`
-abbrev pub cat_app : App
-cat_app = with_rule (with_rule (new_app (codes "cat")) pmap_rule) list_rule
-
--- `--pmap FILE` where it has to be there
-abbrev pub needed_pmap_rule : Rule
-needed_pmap_rule = record pmap_rule { required = true }
-
--- `--certificate`
-abbrev pub certificate_rule : Rule
-certificate_rule = record (new_rule (codes "certificate")) { long = Some (codes "certificate"); action = Some SetTrue }
-
--- `--compact`
-abbrev pub compact_rule : Rule
-compact_rule = record (new_rule (codes "compact")) { long = Some (codes "compact"); action = Some SetTrue }
-
--- `shrink --pmap FILE [--certificate] [--compact]`
-abbrev pub shrink_app : App
-shrink_app = with_rule (with_rule (with_rule (new_app (codes "shrink")) needed_pmap_rule) certificate_rule) compact_rule
-
--- `--cert FILE`, and `--list FILE` where it has to be there
-abbrev pub cert_rule : Rule
-cert_rule = record (new_rule (codes "cert")) { long = Some (codes "cert"); value_names = 1; required = true }
-
-abbrev pub needed_list_rule : Rule
-needed_list_rule = record list_rule { required = true }
-
--- `check --pmap FILE --list FILE --cert FILE`
-abbrev pub check_app : App
-check_app = with_rule (with_rule (with_rule (new_app (codes "check")) needed_pmap_rule) needed_list_rule) cert_rule
-
--- `recert --cert FILE`
-abbrev pub recert_app : App
-recert_app = with_rule (new_app (codes "recert")) cert_rule
+abbrev pub recert_rules : List Rule
+recert_rules = needed_rule (codes "cert") ∷ []
 
 -- the program before its subcommands: it has a version, one of them is required, and `help` is none
 abbrev pub program : App
@@ -130,7 +74,22 @@ program = record (new_app (codes "flowlabel")) {
 }
 
 -- the command line
+abbrev pub with_app : App → App → App
+with_app app sub = with_subcommand app sub.top
+
 unfoldable pub flowlabel_app : App
-flowlabel_app =
-    with_subcommand (with_subcommand (with_subcommand (with_subcommand (with_subcommand (with_subcommand (with_subcommand (with_subcommand program label_app.top) info_app.top)
-    rows_app.top) uniq_app.top) cat_app.top) shrink_app.top) check_app.top) recert_app.top
+flowlabel_app = fold with_app program (
+    leaf (codes "label") label_rules ∷ leaf (codes "info") info_rules ∷ leaf (codes "rows") rows_rules ∷ leaf (codes "uniq") uniq_rules
+    ∷ leaf (codes "cat") source_rules ∷ leaf (codes "shrink") shrink_rules ∷ leaf (codes "check") check_rules
+    ∷ leaf (codes "recert") recert_rules ∷ [])
+
+-- clap reads an argument by this rule, and of its own command alone
+abbrev pub IsArgument : Rule → Arg → Type 0
+IsArgument rule arg = (rule_of arg ≡ rule) × (arg.global ≡ false)
+
+-- clap reads a command so, which has no arguments for others
+abbrev pub IsCommand : App → Command → Type 0
+IsCommand app command = (app_of command ≡ app) × ((out-Command command).has_globals ≡ false)
+
+abbrev pub IsLeaf : Text → List Rule → Command → Type 0
+IsLeaf name rules = IsCommand (leaf name rules)

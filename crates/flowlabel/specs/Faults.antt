@@ -102,11 +102,9 @@ fault_text fault = if is_memory_fault fault then out_of_memory else own_fault_te
 abbrev pub own_status_of : RunFault → ℕ
 own_status_of (Usage (usage.Help text)) = 0
 own_status_of (Usage fault) = 2
-own_status_of (CannotOpen file) = 4
-own_status_of (CannotRead file) = 4
-own_status_of CannotWrite = 4
 own_status_of NoMemory = 3
 own_status_of (File fault) = 1
+own_status_of fault = 4
 
 abbrev pub status_of : RunFault → ℕ
 status_of fault = if is_memory_fault fault then 3 else own_status_of fault
@@ -118,9 +116,6 @@ exit_status_of (Err fault) = status_of fault
 
 -- the fault of a file's bytes, by the file's name: want of memory tells no file
 abbrev pub IsInFile : List ℕ → BytesFault → RunFault → Type 0
-IsInFile file fault (Usage other) = ⊥
-IsInFile file fault (CannotOpen other) = ⊥
-IsInFile file fault (CannotRead other) = ⊥
-IsInFile file fault CannotWrite = ⊥
 IsInFile file fault NoMemory = is_want_of_memory fault ≡ true
 IsInFile file fault (File other) = (other.file.now ≡ file) × (other.fault ≡ fault)
+IsInFile file fault other = ⊥

@@ -63,14 +63,12 @@ IsReadIf true turn text = IsReadAt turn text
 
 -- the outcome is the first fault of the texts of a map, a list and a certificate, of which some are needed
 abbrev pub IsFirstFault : Needs → FileTexts → Outcome → Type 0
-IsFirstFault needs texts (Ok text) = ⊥
 IsFirstFault needs texts (Err (InMap fault)) = (needs.map ≡ true) × (map_reading texts.map ≡ Err fault)
 IsFirstFault needs texts (Err (InList fault)) =
     (needs.list ≡ true) × (list_reading texts.list ≡ Err fault) × IsReadIf needs.map MapTurn texts.map
 IsFirstFault needs texts (Err (InCertificate fault)) = (needs.certificate ≡ true) × (format_reading texts.certificate ≡ Err fault)
     × IsReadIf needs.map MapTurn texts.map × IsReadIf needs.list ListTurn texts.list
-IsFirstFault needs texts (Err (InFlows fault)) = ⊥
-IsFirstFault needs texts (Err (InCheck fault)) = ⊥
+IsFirstFault needs texts outcome = ⊥
 
 -- the labelling of a map or of a list
 abbrev pub labelling_of_either : LoadedLabels → Labelling
@@ -108,18 +106,14 @@ ComesOf (recert file) loaded flows outcome =
 module _ {R : Type 0} where
   -- a fault that comes behind the loading: one of the flows, or of what the certificate says, where nothing was read of the flows
   abbrev pub IsLateFault : Inputs R → Inputs R → Bor (List ℕ) → BytesFault → Type 0
-  IsLateFault old new file (InMap fault) = ⊥
-  IsLateFault old new file (InList fault) = ⊥
   IsLateFault old new file (InFlows fault) = HasName old.flows file
-  IsLateFault old new file (InCertificate fault) = ⊥
   IsLateFault old new file (InCheck fault) = HasName old.certificate file × (new.flows ≡ old.flows)
+  IsLateFault old new file fault = ⊥
 
   -- what a fault says of what comes of loaded files and the flows, by the relation of the bytes of the flows to the outcome
   abbrev pub IsFaultOfAnswer : (R → Option (List ℕ)) → (R → Bool) → Inputs R → Inputs R → (List ℕ → Outcome → Type 0) → RunFault → Type 0
-  IsFaultOfAnswer left failed old new over (Usage fault) = ⊥
-  IsFaultOfAnswer left failed old new over (CannotOpen file) = ⊥
   IsFaultOfAnswer left failed old new over (CannotRead file) = HasFailed failed old.flows new.flows file
-  IsFaultOfAnswer left failed old new over CannotWrite = ⊥
   IsFaultOfAnswer left failed old new over NoMemory = Unit {0}
   IsFaultOfAnswer left failed old new over (File fault) = IsLateFault old new fault.file fault.fault
       × ((bytes : List ℕ) → HasText left old.flows bytes → over bytes (Err fault.fault))
+  IsFaultOfAnswer left failed old new over fault = ⊥

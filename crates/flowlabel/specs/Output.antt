@@ -3,7 +3,6 @@ use Rattle.prefix_keys.specs.Text.{AddressOf}
 use Rattle.pmap_text.specs.ListModel.{IsEquivalent, ListModel}
 use Rattle.pmap_text.specs.MapModel.{MapModel}
 use Rattle.pmap_text.specs.Reading.{ReadsList, ReadsMap, label_limit, list_reading, map_reading, mapping_limit}
-use Rattle.pmap_text.specs.declared.fault.MapFault.{MapFault}
 use Rattle.pmap_cert.specs.Acceptance.{IsAccepted, IsLeast}
 use Rattle.pmap_cert.specs.CertificateForm.{HasFormatText, HasTextForm}
 use Rattle.pmap_cert.specs.CertificateModel.{CertificateModel}
@@ -11,12 +10,10 @@ use Rattle.pmap_cert.specs.CertificateText.{certificate_text}
 use Rattle.pmap_cert.specs.Compacting.{compact, line_count}
 use Rattle.pmap_cert.specs.FormatReading.{format_reading}
 use Rattle.pmap_cert.specs.MinimalPair.{IsMinimalPair}
-use Rattle.pmap_cert.specs.declared.fault.CertFault.{CertFault}
 use Rattle.cert_check.specs.Checking.{first_fault}
 use Rattle.cert_check.specs.declared.fault.CheckFault.{CheckFault}
 use Rattle.ipfix_read.specs.File.{HasFileFault, ReadsFile}
 use Rattle.ipfix_read.specs.Message.{MessageView}
-use Rattle.ipfix_read.specs.declared.fault.ReadFault.{ReadFault}
 use Rattle.flow_rows.specs.Counts.{counts_of}
 use Rattle.flow_rows.specs.Row.{RowView}
 use Rattle.flow_filter.specs.Condition.{Condition}
@@ -54,47 +51,32 @@ Outcome = Result (List ℕ) BytesFault
 abbrev pub Prints : List ℕ → Outcome → Type 0
 Prints text outcome = outcome ≡ Ok text
 
--- the outcome is the first fault of a map file's text, of a list file's text, of a File's bytes, or of a certificate's text
-abbrev pub FailsMap : List ℕ → Outcome → Type 0
-FailsMap text outcome = (fault : MapFault) × (map_reading text ≡ Err fault) × (outcome ≡ Err (InMap fault))
+-- the outcome over a file's text: its first fault, or what comes of the value that it is read as
+abbrev pub Then : {F A : Type 0} → (F → Type 0) → (F → BytesFault) → (A → Type 0) → (A → Outcome → Type 0) → Outcome → Type 0
+Then {F} {A} Fails in_file Reads rest outcome =
+    ((fault : F) × Fails fault × (outcome ≡ Err (in_file fault))) ⊎ ((value : A) × Reads value × rest value outcome)
 
-abbrev pub FailsList : List ℕ → Outcome → Type 0
-FailsList text outcome = (fault : MapFault) × (list_reading text ≡ Err fault) × (outcome ≡ Err (InList fault))
-
-abbrev pub FailsFlows : List ℕ → Outcome → Type 0
-FailsFlows bytes outcome = (fault : ReadFault) × HasFileFault [] 0 0 bytes fault × (outcome ≡ Err (InFlows fault))
-
-abbrev pub FailsCertificate : List ℕ → Outcome → Type 0
-FailsCertificate text outcome =
-    (fault : CertFault) × (format_reading text ≡ Err fault) × (outcome ≡ Err (InCertificate fault))
-
--- the outcome over the text of a map file: its first fault, or what comes of the map
+-- over the text of a map file, of a list file, of a certificate's file, and over the bytes of an IPFIX File
 abbrev pub MapThen : (MapModel → Outcome → Type 0) → List ℕ → Outcome → Type 0
-MapThen rest text outcome = FailsMap text outcome ⊎ ((map : MapModel) × ReadsMap text map × rest map outcome)
+MapThen rest text = Then (λ fault. map_reading text ≡ Err fault) InMap (ReadsMap text) rest
 
--- the outcome over the text of a list file: its first fault, or what comes of the list
 abbrev pub ListThen : (ListModel → Outcome → Type 0) → List ℕ → Outcome → Type 0
-ListThen rest text outcome = FailsList text outcome ⊎ ((list : ListModel) × ReadsList text list × rest list outcome)
+ListThen rest text = Then (λ fault. list_reading text ≡ Err fault) InList (ReadsList text) rest
 
 -- a text is read as a certificate, of either format: it is the text of it
 abbrev pub ReadsCertificate : List ℕ → CertificateModel → Type 0
 ReadsCertificate text certificate = HasFormatText certificate × (text ≡ certificate_text certificate)
 
--- the outcome over the text of a certificate's file: its first fault, or what comes of the certificate
 abbrev pub CertificateThen : (CertificateModel → Outcome → Type 0) → List ℕ → Outcome → Type 0
-CertificateThen rest text outcome =
-    FailsCertificate text outcome
-    ⊎ ((certificate : CertificateModel) × ReadsCertificate text certificate × rest certificate outcome)
+CertificateThen rest text = Then (λ fault. format_reading text ≡ Err fault) InCertificate (ReadsCertificate text) rest
+
+abbrev pub FlowsThen : (List MessageView → Outcome → Type 0) → List ℕ → Outcome → Type 0
+FlowsThen rest bytes = Then (HasFileFault [] 0 0 bytes) InFlows (ReadsFile [] 0 bytes) rest
 
 -- the outcome over the text of a source of labels: its first fault, or what comes of its labelling
 abbrev pub LabelsThen : LabelSource → (Labelling → Outcome → Type 0) → FileTexts → Outcome → Type 0
 LabelsThen (FromMap file) rest texts = MapThen (λ m. rest (labelling_of_map m)) texts.map
 LabelsThen (FromList file) rest texts = ListThen (λ l. rest (labelling_of_list l)) texts.list
-
--- the outcome over the bytes of an IPFIX File: their first fault, or what comes of the messages
-abbrev pub FlowsThen : (List MessageView → Outcome → Type 0) → List ℕ → Outcome → Type 0
-FlowsThen rest bytes outcome =
-    FailsFlows bytes outcome ⊎ ((messages : List MessageView) × ReadsFile [] 0 bytes messages × rest messages outcome)
 
 -- the same where there may be no source: then there is no labelling
 abbrev pub SourceThen : Option LabelSource → (Option Labelling → Outcome → Type 0) → FileTexts → Outcome → Type 0
@@ -196,26 +178,17 @@ HasOutput = (request : Request) (texts : FileTexts) → (outcome : Outcome) × I
 -- the request with the labels of this source, where it has labels
 abbrev pub under : LabelSource → Request → Request
 under source (label old address) = label source address
-under source (info flows) = info flows
-under source (rows None condition columns flows) = rows None condition columns flows
 under source (rows (Some old) condition columns flows) = rows (Some source) condition columns flows
-under source (uniq fields None condition sorted columns flows) = uniq fields None condition sorted columns flows
 under source (uniq fields (Some old) condition sorted columns flows) = uniq fields (Some source) condition sorted columns flows
 under source (cat old) = cat source
-under source (shrink map printed) = shrink map printed
-under source (check map list certificate) = check map list certificate
-under source (recert certificate) = recert certificate
+under source request = request
 
 -- the request takes labels from a map or a list alike, if it takes any
 abbrev pub TakesEither : Request → Type 0
-TakesEither (label source address) = Unit {0}
-TakesEither (info flows) = Unit {0}
-TakesEither (rows source condition columns flows) = Unit {0}
-TakesEither (uniq fields source condition sorted columns flows) = Unit {0}
-TakesEither (cat source) = Unit {0}
 TakesEither (shrink map printed) = ⊥
 TakesEither (check map list certificate) = ⊥
 TakesEither (recert certificate) = ⊥
+TakesEither request = Unit {0}
 
 -- Over one File, a request that takes labels from either has the outputs under a map text that it has under each list text
 -- whose list labels every address as the map does

@@ -45,13 +45,7 @@ IsAddress address = address.1 < 2 ^ width_of address.0
 -- the addresses of a request are addresses of their versions
 abbrev pub IsProper : Request → Type 0
 IsProper (label source address) = IsAddress address
-IsProper (info flows) = Unit {0}
-IsProper (rows source condition columns flows) = Unit {0}
-IsProper (uniq fields source condition sorted columns flows) = Unit {0}
-IsProper (cat source) = Unit {0}
-IsProper (shrink map printed) = Unit {0}
-IsProper (check map list certificate) = Unit {0}
-IsProper (recert certificate) = Unit {0}
+IsProper request = Unit {0}
 
 -- the source that a file of labels stands for
 abbrev pub source_of : LabelFile → LabelSource
@@ -103,24 +97,6 @@ files_named source flows = record {
   flows = flows;
 }
 
--- the three files of `check`
-abbrev pub files_checked : Text → Text → Text → FileNames
-files_checked map list certificate = record {
-  map = Some map;
-  list = Some list;
-  certificate = Some certificate;
-  flows = None;
-}
-
--- the one file of `recert`
-abbrev pub file_compacted : Text → FileNames
-file_compacted certificate = record {
-  map = None;
-  list = None;
-  certificate = Some certificate;
-  flows = None;
-}
-
 abbrev pub files_of : Request → FileNames
 files_of (label source address) = files_named (Some source) None
 files_of (info flows) = files_named None (Some flows)
@@ -128,8 +104,8 @@ files_of (rows source condition columns flows) = files_named source (Some flows)
 files_of (uniq fields source condition sorted columns flows) = files_named source (Some flows)
 files_of (cat source) = files_named (Some source) None
 files_of (shrink map printed) = files_named (Some (FromMap map)) None
-files_of (check map list certificate) = files_checked map list certificate
-files_of (recert certificate) = file_compacted certificate
+files_of (check map list certificate) = record { map = Some map; list = Some list; certificate = Some certificate; flows = None }
+files_of (recert certificate) = record { map = None; list = None; certificate = Some certificate; flows = None }
 
 -- which of the four inputs are read: those that there are names for
 abbrev pub needs_named : FileNames → Needs

@@ -83,27 +83,23 @@ module _ {R : Type 0} where
   -- what a fault of reading and decoding one input says: the input, by its name before the call, has a reader that has failed, or
   -- a text with this fault
   abbrev pub IsStop : (R → Option (List ℕ)) → (R → Bool) → Turn → Option (Source R) → Option (Source R) → RunFault → Type 0
-  IsStop left failed turn old new (Usage fault) = ⊥
-  IsStop left failed turn old new (CannotOpen file) = ⊥
   IsStop left failed turn old new (CannotRead file) = HasFailed failed old new file
-  IsStop left failed turn old new CannotWrite = ⊥
   IsStop left failed turn old new NoMemory = Unit {0}
   IsStop left failed turn old new (File fault) = (turn_of fault.fault ≡ turn) × HasName old fault.file
       × ((text : List ℕ) → HasText left old text → IsFaultOfText fault.fault text)
+  IsStop left failed turn old new fault = ⊥
 
   -- What a fault that comes before anything is written says, by the relation of the files' texts to the outcome, names being
   -- those before the call. A fault of a file's bytes is the outcome. Where a reader that is named has failed, the files before it
   -- were read without fault. Either way the files behind that one were not read.
   abbrev pub IsFaultOfBytes : (R → Option (List ℕ)) → (R → Bool) → Inputs R → Inputs R → (FileTexts → Outcome → Type 0) → RunFault → Type 0
-  IsFaultOfBytes left failed old new over (Usage fault) = ⊥
-  IsFaultOfBytes left failed old new over (CannotOpen file) = ⊥
   IsFaultOfBytes left failed old new over (CannotRead file) =
       (turn : Turn) × HasFailed failed (input_at turn old) (input_at turn new) file × AreReadBefore left turn old × AreKeptBehind turn old new
-  IsFaultOfBytes left failed old new over CannotWrite = ⊥
   IsFaultOfBytes left failed old new over NoMemory = Unit {0}
   IsFaultOfBytes left failed old new over (File fault) =
       HasName (input_at (turn_of fault.fault) old) fault.file × AreKeptBehind (turn_of fault.fault) old new
       × ((texts : FileTexts) → HaveTexts left old texts → over texts (Err fault.fault))
+  IsFaultOfBytes left failed old new over fault = ⊥
 
   -- the inputs are those that a command needs, and no others
   pub record AreNeeded (needs : Needs) (inputs : Inputs R) : Type 0 where
@@ -116,14 +112,13 @@ module _ {R : Type 0} where
 -- failed; any other fault comes before the writer has a call
 module _ {R W : Type 0} (left : R → Option (List ℕ)) (failed : R → Bool) (taken : W → Option (List ℕ)) (last : W → LastCall) where
   abbrev pub IsFaultOfRun : Inputs R → Inputs R → W → W → Request → RunFault → Type 0
-  IsFaultOfRun old new writer writer' request (Usage fault) = ⊥
-  IsFaultOfRun old new writer writer' request (CannotOpen file) = ⊥
   IsFaultOfRun old new writer writer' request (CannotRead file) =
       IsFaultOfBytes left failed old new (IsOutput request) (CannotRead file) × IsUntouched taken last writer writer'
   IsFaultOfRun old new writer writer' request CannotWrite = PrintsThen left old request (StopsWriting taken last writer writer')
   IsFaultOfRun old new writer writer' request NoMemory = IsUntouched taken last writer writer'
   IsFaultOfRun old new writer writer' request (File fault) =
       IsFaultOfBytes left failed old new (IsOutput request) (File fault) × IsUntouched taken last writer writer'
+  IsFaultOfRun old new writer writer' request fault = ⊥
 
 -- the run ended for a reader that failed, or for the writer
 abbrev pub is_read_stop : {A : Type 0} → Result A RunFault → Bool

@@ -130,11 +130,7 @@ impl<'a> Command<'a> {
 
     /// The files that the command reads, one for each input that it needs.
     pub fn files(&self) -> Files<'a>
-        ensures map { option_map (λ s. s.now) result.map ≡ (files_of (request_of self.now)).map }
-        ensures list { option_map (λ s. s.now) result.list ≡ (files_of (request_of self.now)).list }
-        ensures certificate { option_map (λ s. s.now) result.certificate
-            ≡ (files_of (request_of self.now)).certificate }
-        ensures flows { option_map (λ s. s.now) result.flows ≡ (files_of (request_of self.now)).flows }
+        ensures names { names_of result ≡ files_of (request_of self.now) }
         ensures needed { NamesNeeds (needs_of (request_of self.now)) result }
     {
         match self {

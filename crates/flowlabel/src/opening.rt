@@ -11,11 +11,9 @@ use crate::fault::RunFault;
 use crate::inputs::{Inputs, Source};
 use flow_io::{Buffered, Input, Watched};
 use std::fs::File;
-use thiserror::Error;
 
 /// A file can't be opened.
-#[derive(Clone, Copy, Debug, PartialEq, Eq, Error)]
-#[error("the file can't be opened")]
+#[derive(Clone, Copy, Debug)]
 pub struct OpenFault;
 
 /// What opens files by their names.

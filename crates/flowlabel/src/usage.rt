@@ -5,9 +5,7 @@ ghost use Rattle.flowlabel.specs.Faults.{is_usage_want};
 use flow_filter::{FilterFault, FilterFaultKind};
 use flow_uniq::KeyFault;
 use std::alloc::AllocError;
-use std::fmt;
 use std::marker::Model;
-use thiserror::Error;
 
 /// A text that clap made for the user: why it refuses a line, or its help.
 #[derive(Debug, Drop)]
@@ -41,51 +39,30 @@ impl ClapText {
     }
 }
 
-impl fmt::Display for ClapText {
-    ghost use Rattle.std.specs.Prelude.{Some};
-
-    ghost output = { λ t. Some t };
-
-    fn fmt<W: fmt::Write>(&self, f: &mut fmt::Formatter<W>) -> fmt::Result {
-        f.write_str(self.as_str())
-    }
-}
-
 /// Why a command line names no command.
-#[derive(Debug, Drop, Error)]
+#[derive(Debug, Drop)]
 pub enum UsageFault {
     /// P1: clap refuses the line, and says why.
-    #[error("{0}")]
     Refused(ClapText),
     /// P1 as well: a word of the line is no text, as its bytes aren't UTF-8.
-    #[error("P1 NotUtf8")]
     NotUtf8,
     /// The line asks for help or for the version, which is this text.
-    #[error("{0}")]
     Help(ClapText),
     /// P3: both a map and a list are named.
-    #[error("P3 MapTwice")]
     MapTwice,
     /// P2: the command reads a map or a list, and none is named.
-    #[error("P2 MapMissing")]
     MapMissing,
     /// P4: the word is no address.
-    #[error("P4 BadAddress")]
     BadAddress,
     /// L1 to L3: the text of a filter has not its form. L4, want of memory, is `NoMemory`.
-    #[error("a filter that can't be read")]
     Filter(FilterFault),
     /// U1 and U2: the text of fields names none, or one twice. U3, want of memory, is `NoMemory`.
-    #[error("fields that can't be read")]
     Key(KeyFault),
     /// P5: a filter asks for a label, or a key has one, and no map or list is named.
-    #[error("P5 LabelNeedsMap")]
     LabelNeedsMap,
     /// P6: the compact form is asked for, and no certificate.
-    #[error("P6 CompactAlone")]
     CompactAlone,
     /// Memory ran out.
-    #[error("out of memory")]
     NoMemory,
 }
 

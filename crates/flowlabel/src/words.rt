@@ -5,8 +5,8 @@ ghost use Rattle.flow_filter.specs.Words.{words_of};
 ghost use Rattle.clap.specs.Words.{first_of, found_of, kind_of, rows_of, takes};
 ghost use Rattle.clap.specs.Walk.{texts};
 ghost use Rattle.flowlabel.specs.Definition.{flowlabel_app};
-ghost use Rattle.flowlabel.specs.Request.{IsProper, request_of, source_of};
-ghost use Rattle.flowlabel.specs.Answer.{IsAnswer, IsFaultOfKind, IsOwnAnswer, ReadsBareLine, ReadsCatLine, ReadsCertificateLine, ReadsColumnsLine, ReadsCompactAloneLine, ReadsCompactLine, ReadsInfoLine, ReadsListLine, ReadsMapLine, ReadsRecertLine, ReadsRowsLine, ReadsShrinkLine, address_in_rows, answer_of, answer_of_cat, answer_of_label, answer_of_rows, answer_of_shrink, file_in_rows, flows_in_rows, is_given, sources_in_rows, words_fault_of, answer_of_check, answer_of_recert, condition_in_rows, shrunk_in_rows, words_in_rows, answer_of_uniq, field_names_in_rows, fields_in_rows};
+ghost use Rattle.flowlabel.specs.Request.{IsProper, Text, request_of, source_of};
+ghost use Rattle.flowlabel.specs.Answer.{HaveOneAnswer, IsAnswer, IsFaultOfKind, IsOwnAnswer, LinesHaveAnswers, address_in_rows, answer_of, answer_of_cat, answer_of_label, answer_of_rows, answer_of_shrink, text_in_rows, is_given, sources_in_rows, words_fault_of, condition_in_rows, shrunk_in_rows, words_in_rows, answer_of_uniq, fields_in_rows};
 ghost use Rattle.flowlabel.specs.declared.usage.UsageFault.TheVariants.{NoMemory};
 
 use crate::command::{Command, LabelFile, Shrunk};
@@ -82,11 +82,11 @@ fn label_command<'a>(entries: &ArgMatches<'a>) -> Result<Command<'a>, UsageFault
     Ok(Command::Label { labels, addr })
 }
 
-// The file of flows that the word FILE names: clap takes no line of `info`, `rows` or `uniq` without one.
-fn flows_in<'a>(entries: &ArgMatches<'a>) -> &'a str
-    ensures { result.now ≡ flows_in_rows (rows_of (found_of entries.now)) }
+// The text of an option or a word that has to be there: clap takes no line without it.
+fn needed_text<'a>(entries: &ArgMatches<'a>, id: &str) -> &'a str
+    ensures { result.now ≡ text_in_rows id.now (rows_of (found_of entries.now)) }
 {
-    text_of(entries, "flows").unwrap_or("")
+    text_of(entries, id).unwrap_or("")
 }
 
 // Whether a flag is given: its text is then `true`.
@@ -142,7 +142,7 @@ fn rows_command<'a>(alloc: Global, entries: &ArgMatches<'a>) -> Result<Command<'
         return Err(UsageFault::LabelNeedsMap);
     }
     let columns = is_given(entries, "columns");
-    let flows = flows_in(entries);
+    let flows = needed_text(entries, "flows");
     Ok(Command::Rows {
         labels,
         filter,
@@ -151,19 +151,12 @@ fn rows_command<'a>(alloc: Global, entries: &ArgMatches<'a>) -> Result<Command<'
     })
 }
 
-// The text of the fields that the line names: clap takes no line of `uniq` without one.
-fn field_names_in<'a>(entries: &ArgMatches<'a>) -> &'a str
-    ensures { result.now ≡ field_names_in_rows (rows_of (found_of entries.now)) }
-{
-    text_of(entries, "fields").unwrap_or("")
-}
-
 // The fields of keys that the line names, or the fault of their text.
 fn keys_in(alloc: Global, entries: &ArgMatches<'_>) -> Result<Keys, UsageFault>
     ensures ok { IfOk result (λ keys. fields_in_rows (rows_of (found_of entries.now)) ≡ Ok keys) }
     ensures err { IfErr result (λ fault. fault ≢ NoMemory → fields_in_rows (rows_of (found_of entries.now)) ≡ Err fault) }
 {
-    match Keys::read(alloc, field_names_in(entries)) {
+    match Keys::read(alloc, needed_text(entries, "fields")) {
         Ok(keys) => Ok(keys),
         Err(KeyFault::NoMemory) => Err(UsageFault::NoMemory),
         Err(fault) => Err(UsageFault::Key(fault)),
@@ -183,7 +176,7 @@ fn uniq_command<'a>(alloc: Global, entries: &ArgMatches<'a>) -> Result<Command<'
     }
     let sorted = is_given(entries, "sort-output");
     let columns = is_given(entries, "columns");
-    let flows = flows_in(entries);
+    let flows = needed_text(entries, "flows");
     Ok(Command::Uniq {
         keys,
         labels,
@@ -203,13 +196,6 @@ fn cat_command<'a>(entries: &ArgMatches<'a>) -> Result<Command<'a>, UsageFault>
         Some(labels) => Ok(Command::Cat { labels }),
         None => Err(UsageFault::MapMissing),
     }
-}
-
-// The file that an entry names: clap takes no line of `shrink`, `check` or `recert` without those that it needs.
-fn file_in<'a>(entries: &ArgMatches<'a>, id: &str) -> &'a str
-    ensures { result.now ≡ file_in_rows id.now (rows_of (found_of entries.now)) }
-{
-    text_of(entries, id).unwrap_or("")
 }
 
 // What `shrink` is to print, or its usage fault: a list has no compact form.
@@ -233,27 +219,8 @@ fn shrink_command<'a>(entries: &ArgMatches<'a>) -> Result<Command<'a>, UsageFaul
     ensures err { IfErr result (λ fault. answer_of_shrink (rows_of (found_of entries.now)) ≡ Err fault) }
 {
     let printed = shrunk_in(entries)?;
-    let map = file_in(entries, "pmap");
+    let map = needed_text(entries, "pmap");
     Ok(Command::Shrink { map, printed })
-}
-
-// The command `check`, by the entries that clap found for it.
-fn check_command<'a>(entries: &ArgMatches<'a>) -> Command<'a>
-    ensures { answer_of_check (rows_of (found_of entries.now)) ≡ Ok (request_of result) }
-{
-    Command::Check {
-        map: file_in(entries, "pmap"),
-        list: file_in(entries, "list"),
-        certificate: file_in(entries, "cert"),
-    }
-}
-
-// The command `recert`, by the entries that clap found for it.
-fn recert_command<'a>(entries: &ArgMatches<'a>) -> Command<'a>
-    ensures { answer_of_recert (rows_of (found_of entries.now)) ≡ Ok (request_of result) }
-{
-    let certificate = file_in(entries, "cert");
-    Command::Recert { certificate }
 }
 
 // The command of a subcommand, or its first usage fault, by its name and the entries that clap found for it.
@@ -266,7 +233,7 @@ fn command_of<'a>(
     ensures err { IfErr result (λ fault. fault ≢ NoMemory → answer_of (name.now, rows_of (found_of entries.now)) ≡ Err fault) }
 {
     if name == "info" {
-        let flows = flows_in(entries);
+        let flows = needed_text(entries, "flows");
         return Ok(Command::Info { flows });
     }
     if name == "rows" {
@@ -282,10 +249,15 @@ fn command_of<'a>(
         return shrink_command(entries);
     }
     if name == "check" {
-        return Ok(check_command(entries));
+        return Ok(Command::Check {
+            map: needed_text(entries, "pmap"),
+            list: needed_text(entries, "list"),
+            certificate: needed_text(entries, "cert"),
+        });
     }
     if name == "recert" {
-        return Ok(recert_command(entries));
+        let certificate = needed_text(entries, "cert");
+        return Ok(Command::Recert { certificate });
     }
     label_command(entries)
 }
@@ -301,6 +273,13 @@ pub fn words_fault(kind: io::ErrorKind) -> UsageFault
     }
 }
 
+/// Words have one answer of the program's own at most, which `parse` gives unless memory runs out. Of a line of `label`, one of `rows`
+/// and one of `shrink` it is named.
+pub fn lines_have_one_answer()
+    ensures one { HaveOneAnswer }
+    ensures lines { (program : Text) → LinesHaveAnswers program }
+{}
+
 /// Reads a command line, of which the first word is the program's name.
 ///
 /// # Errors
@@ -312,18 +291,6 @@ pub fn words_fault(kind: io::ErrorKind) -> UsageFault
 pub fn parse<'a>(alloc: Global, words: &'a [&'a str]) -> Result<Command<'a>, UsageFault>
     ensures answer { IsAnswer (texts words.entry.now) result }
     ensures proper { IfOk result (λ command. IsProper (request_of command)) }
-    ensures map_line { ReadsMapLine (texts words.entry.now) result }
-    ensures list_line { ReadsListLine (texts words.entry.now) result }
-    ensures bare_line { ReadsBareLine (texts words.entry.now) result }
-    ensures info_line { ReadsInfoLine (texts words.entry.now) result }
-    ensures rows_line { ReadsRowsLine (texts words.entry.now) result }
-    ensures columns_line { ReadsColumnsLine (texts words.entry.now) result }
-    ensures cat_line { ReadsCatLine (texts words.entry.now) result }
-    ensures shrink_line { ReadsShrinkLine (texts words.entry.now) result }
-    ensures certificate_line { ReadsCertificateLine (texts words.entry.now) result }
-    ensures compact_line { ReadsCompactLine (texts words.entry.now) result }
-    ensures compact_alone_line { ReadsCompactAloneLine (texts words.entry.now) result }
-    ensures recert_line { ReadsRecertLine (texts words.entry.now) result }
     ensures taken { takes flowlabel_app (texts words.entry.now) ≡ true → IsOwnAnswer result }
 {
     let command = definition(alloc)?;

@@ -1,7 +1,7 @@
 use Rattle.std.proofs.Common.{◌∙◌, subst, sym}
 use Rattle.flowlabel.specs.Opening.{CannotOpenFirst, HaveNames}
 use Rattle.flowlabel.specs.Request.{FileNames, files_of, request_of}
-use Rattle.flowlabel.proofs.EndLemmas.{end_of_open, end_of_run, passed_unwritten, passed_up, same_names}
+use Rattle.flowlabel.proofs.EndLemmas.{end_of_open, end_of_run, passed_unwritten, passed_up}
 use Rattle.flowlabel.proofs.execute.Goals as goal
 
 pub run_with_hashing-requires-clause-needed : goal.run_with_hashing-requires-clause-needed
@@ -10,7 +10,7 @@ run_with_hashing-requires-clause-needed g c = c.in_ok-inputs.ensures.needed _ c.
 pub returns-in_err-inputs-clause-end : goal.returns-in_err-inputs-clause-end
 returns-in_err-inputs-clause-end g c =
     let request = request_of c.in-Ok.command in
-    let named = same_names c.files.result (files_of request) c.files.ensures.map c.files.ensures.list c.files.ensures.certificate c.files.ensures.flows in
+    let named = c.files.ensures.names in
     let fault = c.in_err-inputs.field-0.0 in
     passed_up (g.O.Opener.answers c.args.opener.now) g.O.Reader.Input.bytes_left g.O.Reader.Input.failed g.W.Output.bytes_taken g.W.Output.last_call _ _ c.from_residual.result fault c.from_residual.ensures.1
     (end_of_open (g.O.Opener.answers c.args.opener.now) g.O.Reader.Input.bytes_left g.O.Reader.Input.failed g.W.Output.bytes_taken g.W.Output.last_call _ _ request fault c.in-Ok.ensures.answer (subst (λ (names : FileNames). CannotOpenFirst (g.O.Opener.answers c.args.opener.now) names fault) named c.in_err-inputs.ensures.err))
@@ -22,7 +22,7 @@ returns-in_err-inputs-clause-write_fault g c =
 pub returns-clause-end : goal.returns-clause-end
 returns-clause-end g c =
     let request = request_of c.in-Ok.command in
-    let named = same_names c.files.result (files_of request) c.files.ensures.map c.files.ensures.list c.files.ensures.certificate c.files.ensures.flows in
+    let named = c.files.ensures.names in
     end_of_run (g.O.Opener.answers c.args.opener.now) g.O.Reader.Input.bytes_left g.O.Reader.Input.failed g.W.Output.bytes_taken g.W.Output.last_call _ _ request c.in_ok-inputs.inputs _ _ c.run_with_hashing.result
     (record {
       asked = c.in-Ok.ensures.answer;

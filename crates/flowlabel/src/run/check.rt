@@ -6,7 +6,7 @@ ghost use Rattle.pmap_cert.specs.Certificate.{certificate_of};
 ghost use Rattle.flowlabel.specs.BytesFault.{is_check_want};
 ghost use Rattle.flowlabel.specs.Loading.{ArePresent, ComesOf, IsFaultOfAnswer};
 ghost use Rattle.flowlabel.specs.Output.{Checks, minimal_text};
-ghost use Rattle.flowlabel.specs.Request.{check, files_checked, needs_named};
+ghost use Rattle.flowlabel.specs.Request.{check, needs_of};
 ghost use Rattle.flowlabel.specs.Run.{AreNeeded};
 ghost use Rattle.flowlabel.specs.declared.bytes_fault.BytesFault.TheVariants.{Check};
 
@@ -48,8 +48,8 @@ pub fn check_loaded<'a, R: Input>(
     loaded: &Loaded,
     inputs: &Inputs<'a, R>,
 ) -> Result<Vec<u8>, RunFault<'a>>
-    requires present { ArePresent (needs_named (files_checked [] [] [])) loaded.now }
-    requires needed { AreNeeded (needs_named (files_checked [] [] [])) inputs.now }
+    requires present { ArePresent (needs_of (check [] [] [])) loaded.now }
+    requires needed { AreNeeded (needs_of (check [] [] [])) inputs.now }
     ensures ok { IfOk result (λ out. ComesOf (check [] [] []) loaded.now [] (Ok out.items)) }
     ensures err { IfErr result (IsFaultOfAnswer R.bytes_left R.failed inputs.now inputs.now (ComesOf (check [] [] []) loaded.now)) }
 {

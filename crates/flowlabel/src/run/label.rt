@@ -5,8 +5,8 @@ ghost use Rattle.flowlabel.specs.Loading.{labelling_of_either};
 ghost use Rattle.flowlabel.specs.Output.{label_text, line_of};
 
 use crate::run::loaded::LoadedLabels;
-use label_lookup::{AddressLabels, Labeller, ListScan, Scan, label_row};
-use prefix_keys::Addr;
+use label_lookup::{Labeller, ListScan, Scan};
+use prefix_keys::{Addr, convert};
 use std::alloc::{AllocError, Global};
 
 // The line of a label: the line feed alone where there is none.
@@ -26,7 +26,10 @@ fn line_by<L: Labeller>(alloc: Global, labels: &L, addr: Addr) -> Result<Vec<u8>
     ensures { IfOk result (λ out. out.items
         ≡ label_text (addr.version, addr.value) (labelling (L.version_of labels.now) (L.label labels.now))) }
 {
-    line(alloc, label_row(&AddressLabels::new(labels), addr))
+    match convert(addr, labels.version()) {
+        Some(place) => line(alloc, labels.label_of(place)),
+        None => line(alloc, None),
+    }
 }
 
 /// The line of the label that a map or a list gives an address. One search among all statements or entries finds it,

@@ -3,7 +3,7 @@ ghost use Rattle.std.specs.Prelude.{[], Ok, IfOk};
 ghost use Rattle.pmap_cert.specs.Certificate.{certificate_of};
 ghost use Rattle.flowlabel.specs.Loading.{ArePresent, ComesOf};
 ghost use Rattle.flowlabel.specs.Output.{PrintsCompact};
-ghost use Rattle.flowlabel.specs.Request.{file_compacted, needs_named, recert};
+ghost use Rattle.flowlabel.specs.Request.{needs_of, recert};
 
 use crate::run::loaded::Loaded;
 use pmap_cert::{Certificate, compact, write_cert};
@@ -19,7 +19,7 @@ fn compact_text(alloc: Global, certificate: &Certificate) -> Result<Vec<u8>, All
 
 /// The text of the certificate that is loaded, compacted.
 pub fn compact_loaded(alloc: Global, loaded: &Loaded) -> Result<Vec<u8>, AllocError>
-    requires { ArePresent (needs_named (file_compacted [])) loaded.now }
+    requires { ArePresent (needs_of (recert [])) loaded.now }
     ensures { IfOk result (λ out. ComesOf (recert []) loaded.now [] (Ok out.items)) }
 {
     let Some(certificate) = &loaded.certificate else {

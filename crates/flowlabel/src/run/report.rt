@@ -16,7 +16,7 @@ use crate::inputs::{Inputs, Source};
 use crate::run::loaded::LoadedLabels;
 use flow_io::Input;
 use ipfix_read::{Buffer, Message, Progress, ReadFault, ReadFaultKind};
-use label_lookup::{Labeller, Scan, StretchIndex};
+use label_lookup::{Labeller, StretchIndex};
 use std::alloc::{AllocError, Global};
 
 /// What may be printed of the messages of a File, which are taken one after the other.
@@ -119,48 +119,18 @@ fn report_of_file<'a, R: Input, P: Report, L: Labeller>(
     }
 }
 
-// The same with the labels of a labeller. A reference to one that borrows others must be an argument by itself for the
-// borrow checker, and can't stand in an `Option`.
-fn report_by<'a, R: Input, P: Report, L: Labeller>(
+// What finds the labels of a map or a list, if there is one.
+fn index_of<'a>(
     alloc: Global,
-    source: &mut Source<'a, R>,
-    report: &P,
-    labels: &L,
-) -> Result<Vec<u8>, RunFault<'a>>
-    requires { R.failed source.old.reader ≡ false }
-    ensures ok { IfOk result (λ out. (bytes : List ℕ) → R.bytes_left source.old.reader ≡ Some bytes
-        → ReportsOf (P.text report.now) (Some (labelling_by L.version_of L.label labels.now)) bytes (Ok out.items)) }
-    ensures err { IfErr result (IsStop R.bytes_left R.failed FlowsTurn (Some source.old) (Some source.new)) }
-    ensures failed { R.failed source.new.reader ≡ is_read_stop result }
-{
-    report_of_file(alloc, source, report, Some(labels))
-}
-
-// The index of the labels of a map or a list.
-fn index_of<'a>(alloc: Global, labels: LoadedLabels<'a>) -> Result<StretchIndex<'a>, AllocError>
-    ensures { IfOk result (λ index. labelling_of_stretches index ≡ labelling_of_either labels.entry) }
+    labels: Option<LoadedLabels<'a>>,
+) -> Result<Option<StretchIndex<'a>>, AllocError>
+    ensures { IfOk result (λ index. option_map labelling_of_stretches index ≡ option_map labelling_of_either labels.entry) }
 {
     match labels {
-        LoadedLabels::Map(map) => StretchIndex::of_map(alloc, map),
-        LoadedLabels::List(list) => StretchIndex::of_list(alloc, list),
+        None => Ok(None),
+        Some(LoadedLabels::Map(map)) => Ok(Some(StretchIndex::of_map(alloc, map)?)),
+        Some(LoadedLabels::List(list)) => Ok(Some(StretchIndex::of_list(alloc, list)?)),
     }
-}
-
-// The report on a File under the labels of a map or a list.
-fn report_labelled<'a, R: Input, P: Report>(
-    alloc: Global,
-    source: &mut Source<'a, R>,
-    report: &P,
-    labels: LoadedLabels<'_>,
-) -> Result<Vec<u8>, RunFault<'a>>
-    requires { R.failed source.old.reader ≡ false }
-    ensures ok { IfOk result (λ out. (bytes : List ℕ) → R.bytes_left source.old.reader ≡ Some bytes
-        → ReportsOf (P.text report.now) (Some (labelling_of_either labels.entry)) bytes (Ok out.items)) }
-    ensures err { IfErr result (IsStop R.bytes_left R.failed FlowsTurn (Some source.old) (Some source.new)) }
-    ensures failed { R.failed source.new.reader ≡ is_read_stop result }
-{
-    let index = index_of(alloc, labels)?;
-    report_by(alloc, source, report, &index)
 }
 
 /// The report on the File that is there, under the labels of a map or a list, if there is one.
@@ -178,11 +148,9 @@ pub fn report_under<'a, R: Input, P: Report>(
         (ReportsOf (P.text report.now) (option_map labelling_of_either labels.entry))) }
     ensures failed { any_failed R.failed inputs.new ≡ is_read_stop result }
 {
+    let index = index_of(alloc, labels)?;
     let Some(source) = &mut inputs.flows else {
         unreachable!()
     };
-    match labels {
-        None => report_of_file(alloc, source, report, None::<&Scan<'_>>),
-        Some(labels) => report_labelled(alloc, source, report, labels),
-    }
+    report_of_file(alloc, source, report, index.as_ref())
 }

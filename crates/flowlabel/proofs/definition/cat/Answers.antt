@@ -1,16 +1,5 @@
-use Rattle.std.proofs.Common.{◌≡◌, ◌∙◌, ap₂, rules, codes}
-use Rattle.std.proofs.lemmas.Result.{IfOk-weaker}
-use Rattle.clap.specs.Words.{app_of, new_app, with_rule}
-use Rattle.flowlabel.specs.Definition.{pmap_rule}
+use Rattle.flowlabel.specs.Definition.{source_rules}
 use Rattle.flowlabel.proofs.definition.cat.Goals as goal
 
-pub returns-clause-app : goal.returns-clause-app
-returns-clause-app c =
-    let empty : app_of c.described.result ≡ new_app (codes "cat") = c.described.ensures.app in
-    let one : app_of c.in_ok-arg.field-0 ≡ with_rule (new_app (codes "cat")) pmap_rule =
-    c.in_ok-arg.ensures.shape c.map_argument.ensures.local ∙ ap₂ with_rule empty c.map_argument.ensures.rule in
-    IfOk-weaker c.arg-2.result _ _ (λ r added. added.shape c.list_argument.ensures.local ∙ ap₂ with_rule one c.list_argument.ensures.rule) c.arg-2.ensures
-
-pub returns-clause-local : goal.returns-clause-local
-returns-clause-local c =
-    IfOk-weaker c.arg-2.result _ _ (λ r added. added.globals ∙ search rules) c.arg-2.ensures
+pub returns : goal.returns
+returns c = c.command.ensures source_rules (rw c.in_ok-arguments.ensures.items (c.option.ensures, (c.option-2.ensures, tt)))

@@ -1,18 +1,5 @@
-use Rattle.std.proofs.Common.{◌≡◌, ◌∙◌, ap₂, rules, codes}
-use Rattle.std.proofs.lemmas.Result.{IfOk-weaker}
-use Rattle.clap.specs.Words.{app_of, new_app, with_rule}
-use Rattle.flowlabel.specs.Definition.{needed_list_rule, needed_pmap_rule}
+use Rattle.flowlabel.specs.Definition.{check_rules}
 use Rattle.flowlabel.proofs.definition.check.Goals as goal
 
-pub returns-clause-app : goal.returns-clause-app
-returns-clause-app c =
-    let empty : app_of c.described.result ≡ new_app (codes "check") = c.described.ensures.app in
-    let one : app_of c.in_ok-arg.field-0 ≡ with_rule (new_app (codes "check")) needed_pmap_rule =
-    c.in_ok-arg.ensures.shape c.needed_map_argument.ensures.local ∙ ap₂ with_rule empty c.needed_map_argument.ensures.rule in
-    let two : app_of c.in_ok-arg-2.field-0 ≡ with_rule (with_rule (new_app (codes "check")) needed_pmap_rule) needed_list_rule =
-    c.in_ok-arg-2.ensures.shape c.needed_list_argument.ensures.local ∙ ap₂ with_rule one c.needed_list_argument.ensures.rule in
-    IfOk-weaker c.arg-3.result _ _ (λ r added. added.shape c.certificate_argument.ensures.local ∙ ap₂ with_rule two c.certificate_argument.ensures.rule) c.arg-3.ensures
-
-pub returns-clause-local : goal.returns-clause-local
-returns-clause-local c =
-    IfOk-weaker c.arg-3.result _ _ (λ r added. added.globals ∙ search rules) c.arg-3.ensures
+pub returns : goal.returns
+returns c = c.command.ensures check_rules (rw c.in_ok-arguments.ensures.items (c.needed_option.ensures, (c.needed_option-2.ensures, (c.needed_option-3.ensures, tt))))

@@ -1,23 +1,24 @@
-use Rattle.std.proofs.Common.{◌∙◌, ap}
+use Rattle.std.proofs.Common.{[], ap}
 use Rattle.std.proofs.lemmas.Result.{IfOk-weaker}
-use Rattle.clap.specs.Words.{App, with_subcommand}
-use Rattle.flowlabel.specs.Definition.{cat_app, check_app, flowlabel_app, info_app, label_app, recert_app, rows_app, shrink_app, uniq_app}
+use Rattle.clap.specs.Words.{App}
+use Rattle.flowlabel.specs.Definition.{flowlabel_app}
+use Rattle.flowlabel.proofs.DefinitionLemmas.{with_command}
 use Rattle.flowlabel.proofs.definition.definition.Goals as goal
 
 pub returns-clause-app : goal.returns-clause-app
 unfolding flowlabel_app
 returns-clause-app c =
-    let reports : App → App = λ a. with_subcommand (with_subcommand (with_subcommand (with_subcommand a label_app.top) info_app.top) rows_app.top) uniq_app.top in
-    let maps : App → App = λ a. with_subcommand (with_subcommand (with_subcommand (with_subcommand a cat_app.top) shrink_app.top) check_app.top) recert_app.top in
-    let reporting = c.in_ok-with_reports.ensures.app ∙ ap reports c.program.ensures.app in
-    IfOk-weaker c.with_maps.result _ _ (λ r added. added ∙ ap maps reporting) c.with_maps.ensures.app
-
-pub returns-clause-local : goal.returns-clause-local
-returns-clause-local c =
-    let reporting = c.in_ok-with_reports.ensures.local ∙ c.program.ensures.local in
-    IfOk-weaker c.with_maps.result _ _ (λ r added. added ∙ reporting) c.with_maps.ensures.local
+    let one = with_command _ _ _ _ _ c.program.ensures c.in_ok-label.ensures c.in_ok-subcommand.ensures in
+    let two = with_command _ _ _ _ _ one c.in_ok-info.ensures c.in_ok-subcommand-2.ensures in
+    let three = with_command _ _ _ _ _ two c.in_ok-rows.ensures c.in_ok-subcommand-3.ensures in
+    let four = with_command _ _ _ _ _ three c.in_ok-uniq.ensures c.in_ok-subcommand-4.ensures in
+    let five = with_command _ _ _ _ _ four c.in_ok-cat.ensures c.in_ok-subcommand-5.ensures in
+    let six = with_command _ _ _ _ _ five c.in_ok-shrink.ensures c.in_ok-subcommand-6.ensures in
+    let seven = with_command _ _ _ _ _ six c.in_ok-check.ensures c.in_ok-subcommand-7.ensures in
+    IfOk-weaker c.subcommand-8.result _ _
+    (λ new adds. with_command _ _ _ _ _ seven c.in_ok-recert.ensures adds) c.subcommand-8.ensures
 
 pub returns-clause-required : goal.returns-clause-required
 unfolding flowlabel_app
 returns-clause-required c =
-    IfOk-weaker c.with_maps.result _ _ (λ r is. ap (λ (a : App). a.top.subcommand_required) is) (returns-clause-app c)
+    IfOk-weaker c.subcommand-8.result _ _ (λ new is. ap (λ (a : App). a.top.subcommand_required) is.0) (returns-clause-app c)

@@ -1,26 +1,15 @@
-use Rattle.std.proofs.Common.{◌≡◌, ◌∙◌, ap, ap₂, rules, codes}
+use Rattle.std.proofs.Common.{◌∷◌, codes}
 use Rattle.std.proofs.lemmas.Result.{IfOk-weaker}
-use Rattle.clap.specs.Words.{app_of, new_app, with_rule}
-use Rattle.flowlabel.specs.Definition.{columns_rule, fields_rule, list_rule, pmap_rule, sort_rule, with_filters}
+use Rattle.std.specs.List.{AllZip}
+use Rattle.flowlabel.specs.Definition.{IsArgument, filter_rules, flag_rule, needed_rule, source_rules, table_rules}
+use Rattle.flowlabel.proofs.DefinitionLemmas.{with_arguments}
 use Rattle.flowlabel.proofs.definition.uniq.Goals as goal
 
-pub returns-clause-app : goal.returns-clause-app
-returns-clause-app c =
-    let empty : app_of c.described.result ≡ new_app (codes "uniq") = c.described.ensures.app in
-    let one : app_of c.in_ok-arg.field-0 ≡ with_rule (new_app (codes "uniq")) fields_rule =
-    c.in_ok-arg.ensures.shape c.fields_argument.ensures.local ∙ ap₂ with_rule empty c.fields_argument.ensures.rule in
-    let two : app_of c.in_ok-arg-2.field-0 ≡ with_rule (with_rule (new_app (codes "uniq")) fields_rule) pmap_rule =
-    c.in_ok-arg-2.ensures.shape c.map_argument.ensures.local ∙ ap₂ with_rule one c.map_argument.ensures.rule in
-    let three : app_of c.in_ok-labelled.labelled ≡ with_rule (with_rule (with_rule (new_app (codes "uniq")) fields_rule) pmap_rule) list_rule =
-    c.in_ok-labelled.ensures.shape c.list_argument.ensures.local ∙ ap₂ with_rule two c.list_argument.ensures.rule in
-    let filtered : app_of c.in_ok-with_filters.field-0 ≡ with_filters (with_rule (with_rule (with_rule (new_app (codes "uniq")) fields_rule) pmap_rule) list_rule) =
-    c.in_ok-with_filters.ensures.app ∙ ap with_filters three in
-    let four : app_of c.in_ok-arg-3.field-0 ≡ with_rule (with_filters (with_rule (with_rule (with_rule (new_app (codes "uniq")) fields_rule) pmap_rule) list_rule)) sort_rule =
-    c.in_ok-arg-3.ensures.shape c.sort_argument.ensures.local ∙ ap₂ with_rule filtered c.sort_argument.ensures.rule in
-    let five : app_of c.in_ok-arg-4.field-0 ≡ with_rule (with_rule (with_filters (with_rule (with_rule (with_rule (new_app (codes "uniq")) fields_rule) pmap_rule) list_rule)) sort_rule) columns_rule =
-    c.in_ok-arg-4.ensures.shape c.columns_argument.ensures.local ∙ ap₂ with_rule four c.columns_argument.ensures.rule in
-    IfOk-weaker c.arg-6.result _ _ (λ r added. added.shape c.flows_argument.ensures.local ∙ ap₂ with_rule five c.flows_argument.ensures.rule) c.arg-6.ensures
-
-pub returns-clause-local : goal.returns-clause-local
-returns-clause-local c =
-    IfOk-weaker c.arg-6.result _ _ (λ r added. added.globals ∙ search rules) c.arg-6.ensures
+pub returns : goal.returns
+returns c =
+    let before = needed_rule (codes "fields") ∷ source_rules in
+    let behind = flag_rule (codes "sort-output") ∷ table_rules in
+    let first : AllZip IsArgument before c.in_ok-labels.labels.items = rw c.in_ok-labels.ensures.items (c.needed_option.ensures, (c.option.ensures, (c.option-2.ensures, tt))) in
+    let last : AllZip IsArgument behind c.in_ok-last.last.items = rw c.in_ok-last.ensures.items (c.flag.ensures, (c.flag-2.ensures, (c.word.ensures, tt))) in
+    let filtered = with_arguments _ _ _ filter_rules _ (c.in_ok-command.ensures before first) c.in_ok-filters.ensures c.in_ok-args.ensures in
+    IfOk-weaker c.args-3.result _ _ (λ new adds. with_arguments _ _ _ behind c.in_ok-last.last.items filtered last adds) c.args-3.ensures

@@ -3,13 +3,12 @@ use Rattle.std.specs.Prelude.{option_map}
 use Rattle.clap.specs.Words.{App, HasKind, Row, Text, fault_of, found_of, is_simple, is_simple_and_free, rows_of, subcommand_of, takes}
 use Rattle.flowlabel.specs.Answer.{answer_of}
 use Rattle.flowlabel.proofs.AnswerLemmas.{answers, fault_at, flowlabel_is_free, flowlabel_is_simple, answer_own, own, own_of_memory, subcommand_is, unless_memory}
-use Rattle.flowlabel.proofs.LineLemmas.{reads_bare_line, reads_cat_line, reads_certificate_line, reads_columns_line, reads_compact_alone_line, reads_compact_line, reads_info_line, reads_list_line, reads_map_line, reads_recert_line, reads_rows_line, reads_shrink_line}
 use Rattle.flowlabel.proofs.RequestLemmas.{answer_is_proper}
 use Rattle.flowlabel.proofs.words.parse.Goals as goal
 
 pub returns-in-Ok-clause-answer : goal.returns-in-Ok-clause-answer
 returns-in-Ok-clause-answer c =
-    let app_is = c.in_ok-command.ensures.app in
+    let app_is = c.in_ok-command.ensures.app.0 in
     let fails = c.in-Ok.ensures.kinds (ap is_simple_and_free app_is ∙ flowlabel_is_free) in
     let matches = c.in-Ok.ensures.matches (ap is_simple app_is ∙ flowlabel_is_simple) in
     let words = map (λ s. s.now) c.args.words.now in
@@ -20,15 +19,6 @@ returns-in-Ok-clause-answer c =
     let sub = subcommand_is c.in-Ok.matches _ _ name rows in
     answers words _ _ none (sym found ∙ sub) (unless_memory _ c.command_of.result c.command_of.ensures.ok c.command_of.ensures.err)
 
-pub returns-in-Ok-clause-map_line : goal.returns-in-Ok-clause-map_line
-returns-in-Ok-clause-map_line c = reads_map_line _ c.command_of.result (returns-in-Ok-clause-answer c)
-
-pub returns-in-Ok-clause-list_line : goal.returns-in-Ok-clause-list_line
-returns-in-Ok-clause-list_line c = reads_list_line _ c.command_of.result (returns-in-Ok-clause-answer c)
-
-pub returns-in-Ok-clause-bare_line : goal.returns-in-Ok-clause-bare_line
-returns-in-Ok-clause-bare_line c = reads_bare_line _ c.command_of.result (returns-in-Ok-clause-answer c)
-
 pub returns-in-Ok-clause-taken : goal.returns-in-Ok-clause-taken
 returns-in-Ok-clause-taken c =
     let found : Text × List Row = (c.unwrap.result.0.now, rows_of (found_of c.unwrap.result.1.now)) in
@@ -36,80 +26,17 @@ returns-in-Ok-clause-taken c =
 
 pub returns-in-Err-clause-answer : goal.returns-in-Err-clause-answer
 returns-in-Err-clause-answer c =
-    let app_is = c.in_ok-command.ensures.app in
+    let app_is = c.in_ok-command.ensures.app.0 in
     let fails = c.in-Err.ensures.kinds (ap is_simple_and_free app_is ∙ flowlabel_is_free) in
     let words = map (λ s. s.now) c.args.words.now in
     let of = subst (λ (a : App). HasKind (fault_of a words) c.in-Err.error) app_is fails in
     fault_at words _ _ of c.fault_of_error.ensures
 
-pub returns-in-Err-clause-map_line : goal.returns-in-Err-clause-map_line
-returns-in-Err-clause-map_line c = reads_map_line _ (Err c.fault_of_error.result) (returns-in-Err-clause-answer c)
-
-pub returns-in-Err-clause-list_line : goal.returns-in-Err-clause-list_line
-returns-in-Err-clause-list_line c = reads_list_line _ (Err c.fault_of_error.result) (returns-in-Err-clause-answer c)
-
-pub returns-in-Err-clause-bare_line : goal.returns-in-Err-clause-bare_line
-returns-in-Err-clause-bare_line c = reads_bare_line _ (Err c.fault_of_error.result) (returns-in-Err-clause-answer c)
-
 pub returns-in-Err-clause-taken : goal.returns-in-Err-clause-taken
 returns-in-Err-clause-taken c =
-    let app_is = c.in_ok-command.ensures.app in
+    let app_is = c.in_ok-command.ensures.app.0 in
     let words = map (λ s. s.now) c.args.words.now in
     λ taken. own_of_memory _ _ (c.in-Err.ensures.passes (ap (λ (a : App). takes a words) app_is ∙ taken)) c.fault_of_error.ensures
 
-pub returns-in-Ok-clause-info_line : goal.returns-in-Ok-clause-info_line
-returns-in-Ok-clause-info_line c = reads_info_line _ c.command_of.result (returns-in-Ok-clause-answer c)
-
-pub returns-in-Ok-clause-rows_line : goal.returns-in-Ok-clause-rows_line
-returns-in-Ok-clause-rows_line c = reads_rows_line _ c.command_of.result (returns-in-Ok-clause-answer c)
-
-pub returns-in-Ok-clause-columns_line : goal.returns-in-Ok-clause-columns_line
-returns-in-Ok-clause-columns_line c = reads_columns_line _ c.command_of.result (returns-in-Ok-clause-answer c)
-
-pub returns-in-Err-clause-info_line : goal.returns-in-Err-clause-info_line
-returns-in-Err-clause-info_line c = reads_info_line _ (Err c.fault_of_error.result) (returns-in-Err-clause-answer c)
-
-pub returns-in-Err-clause-rows_line : goal.returns-in-Err-clause-rows_line
-returns-in-Err-clause-rows_line c = reads_rows_line _ (Err c.fault_of_error.result) (returns-in-Err-clause-answer c)
-
-pub returns-in-Err-clause-columns_line : goal.returns-in-Err-clause-columns_line
-returns-in-Err-clause-columns_line c = reads_columns_line _ (Err c.fault_of_error.result) (returns-in-Err-clause-answer c)
-
 pub returns-in-Ok-clause-proper : goal.returns-in-Ok-clause-proper
 returns-in-Ok-clause-proper c = answer_is_proper c.command_of.result
-
-pub returns-in-Ok-clause-cat_line : goal.returns-in-Ok-clause-cat_line
-returns-in-Ok-clause-cat_line c = reads_cat_line _ c.command_of.result (returns-in-Ok-clause-answer c)
-
-pub returns-in-Err-clause-cat_line : goal.returns-in-Err-clause-cat_line
-returns-in-Err-clause-cat_line c = reads_cat_line _ (Err c.fault_of_error.result) (returns-in-Err-clause-answer c)
-
-pub returns-in-Ok-clause-shrink_line : goal.returns-in-Ok-clause-shrink_line
-returns-in-Ok-clause-shrink_line c = reads_shrink_line _ c.command_of.result (returns-in-Ok-clause-answer c)
-
-pub returns-in-Ok-clause-certificate_line : goal.returns-in-Ok-clause-certificate_line
-returns-in-Ok-clause-certificate_line c = reads_certificate_line _ c.command_of.result (returns-in-Ok-clause-answer c)
-
-pub returns-in-Err-clause-shrink_line : goal.returns-in-Err-clause-shrink_line
-returns-in-Err-clause-shrink_line c = reads_shrink_line _ (Err c.fault_of_error.result) (returns-in-Err-clause-answer c)
-
-pub returns-in-Err-clause-certificate_line : goal.returns-in-Err-clause-certificate_line
-returns-in-Err-clause-certificate_line c = reads_certificate_line _ (Err c.fault_of_error.result) (returns-in-Err-clause-answer c)
-
-pub returns-in-Ok-clause-compact_line : goal.returns-in-Ok-clause-compact_line
-returns-in-Ok-clause-compact_line c = reads_compact_line _ c.command_of.result (returns-in-Ok-clause-answer c)
-
-pub returns-in-Err-clause-compact_line : goal.returns-in-Err-clause-compact_line
-returns-in-Err-clause-compact_line c = reads_compact_line _ (Err c.fault_of_error.result) (returns-in-Err-clause-answer c)
-
-pub returns-in-Ok-clause-compact_alone_line : goal.returns-in-Ok-clause-compact_alone_line
-returns-in-Ok-clause-compact_alone_line c = reads_compact_alone_line _ c.command_of.result (returns-in-Ok-clause-answer c)
-
-pub returns-in-Err-clause-compact_alone_line : goal.returns-in-Err-clause-compact_alone_line
-returns-in-Err-clause-compact_alone_line c = reads_compact_alone_line _ (Err c.fault_of_error.result) (returns-in-Err-clause-answer c)
-
-pub returns-in-Ok-clause-recert_line : goal.returns-in-Ok-clause-recert_line
-returns-in-Ok-clause-recert_line c = reads_recert_line _ c.command_of.result (returns-in-Ok-clause-answer c)
-
-pub returns-in-Err-clause-recert_line : goal.returns-in-Err-clause-recert_line
-returns-in-Err-clause-recert_line c = reads_recert_line _ (Err c.fault_of_error.result) (returns-in-Err-clause-answer c)

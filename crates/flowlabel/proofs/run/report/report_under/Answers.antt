@@ -1,15 +1,34 @@
--- A fault of the File is the outcome of the report.
-use Rattle.std.proofs.Common.{Some, inl, refl}
-use Rattle.std.specs.Prelude.{option_map}
-use Rattle.std.proofs.lemmas.Result.{IfErr-weaker}
-use Rattle.flowlabel.specs.Loading.{labelling_of_either}
+-- The labels of the index are those of the map or the list, and a fault of the File is the outcome of the report.
+use Rattle.std.proofs.Common.{◌≡◌, ◌∙◌, ℕ, List, Option, Ok, Some, None, ap, inl, refl, subst}
+use Rattle.std.specs.Borrow.{Bor}
+use Rattle.std.specs.Prelude.{option_copied, option_map}
+use Rattle.std.proofs.lemmas.Result.{IfErr-weaker, IfOk-weaker}
+use Rattle.prefix_keys.specs.declared.version.Version.{Version}
+use Rattle.pmap_text.specs.MapModel.{Label}
+use Rattle.label_lookup.specs.Labelling.{Labelling, labelling_by, labelling_lent}
+use Rattle.flowlabel.specs.Loading.{IsFaultOfAnswer, labelling_of_either}
 use Rattle.flowlabel.specs.Output.{ReportsOf}
+use Rattle.flowlabel.specs.Run.{HasText}
 use Rattle.flowlabel.specs.declared.inputs.Inputs.{Inputs}
+use Rattle.flowlabel.specs.declared.inputs.Source.{Source}
 use Rattle.flowlabel.proofs.LoadingLemmas.{flows_stop}
 use Rattle.flowlabel.proofs.run.report.report_under.Goals as goal
 
-pub returns-in-None-clause-err : goal.returns-in-None-clause-err
-returns-in-None-clause-err g c =
+lent_is : {L : Type 0} (version : L → Version) (label : L → ℕ → Option Label) (lent : Option (Bor L)) (owned : Option L) → option_copied lent ≡ owned
+    → labelling_lent version label lent ≡ option_map (labelling_by version label) owned
+lent_is version label None owned is = ap (option_map (labelling_by version label)) is
+lent_is version label (Some l) owned is = ap (option_map (labelling_by version label)) is
+
+pub returns-clause-ok : goal.returns-clause-ok
+returns-clause-ok g c =
+    let same = lent_is _ _ c.as_ref.result _ c.as_ref.ensures.value ∙ c.in_ok-index.ensures in
+    IfOk-weaker c.report_of_file.result _ _
+    (λ out reports. λ bytes told. subst (λ (l : Option Labelling). ReportsOf (g.P.Report.text c.args.report.now) l bytes (Ok out.items)) same
+    (reports bytes (subst (λ (x : Option (Source g.row.R.Denot)). HasText g.R.Input.bytes_left x bytes) c.in-Some.is told)))
+    c.report_of_file.ensures.ok
+
+pub returns-clause-err : goal.returns-clause-err
+returns-clause-err g c =
     let old = c.args.inputs.now in
     let new : Inputs g.row.R.Denot = record { map = old.map; list = old.list; certificate = old.certificate; flows = Some c.report_of_file.new.source } in
     IfErr-weaker c.report_of_file.result _ _
@@ -17,13 +36,3 @@ returns-in-None-clause-err g c =
     (ReportsOf (g.P.Report.text c.args.report.now) (option_map labelling_of_either c.args.labels)) c.in-Some.is refl
     (λ bytes fault is. inl (fault, is, refl)))
     c.report_of_file.ensures.err
-
-pub returns-in-Some-labels-clause-err : goal.returns-in-Some-labels-clause-err
-returns-in-Some-labels-clause-err g c =
-    let old = c.args.inputs.now in
-    let new : Inputs g.row.R.Denot = record { map = old.map; list = old.list; certificate = old.certificate; flows = Some c.report_labelled.new.source } in
-    IfErr-weaker c.report_labelled.result _ _
-    (flows_stop g.R.Input.bytes_left g.R.Input.failed old new c.in-Some.source c.report_labelled.new.source
-    (ReportsOf (g.P.Report.text c.args.report.now) (option_map labelling_of_either c.args.labels)) c.in-Some.is refl
-    (λ bytes fault is. inl (fault, is, refl)))
-    c.report_labelled.ensures.err

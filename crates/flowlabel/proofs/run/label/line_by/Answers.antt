@@ -1,0 +1,29 @@
+-- The place of an address is one of the version, so its label is one at addresses alone.
+use Rattle.std.proofs.Common.{◌≡◌, ◌∙◌, ◌<◌, ◌^◌, ℕ, [], Option, Some, ap, subst, sym}
+use Rattle.std.specs.Prelude.{option_and_then, option_map, unwrap_or}
+use Rattle.std.proofs.lemmas.Result.{IfOk-weaker}
+use Rattle.prefix_keys.specs.Conversion.{converted}
+use Rattle.prefix_keys.specs.Text.{AddressOf}
+use Rattle.prefix_keys.specs.Version.{width_of}
+use Rattle.prefix_keys.specs.declared.addr.Addr.{Addr}
+use Rattle.prefix_keys.specs.declared.version.Version.{Version}
+use Rattle.pmap_text.specs.MapModel.{Label}
+use Rattle.label_lookup.specs.Labelling.{at_addresses, label_by, labelling}
+use Rattle.label_lookup.proofs.Labellings.{same_at_addresses}
+use Rattle.flowlabel.specs.Output.{line_of}
+use Rattle.flowlabel.proofs.run.label.line_by.Goals as goal
+
+at_place : (v : Version) (f : ℕ → Option Label) (address : AddressOf) (place : Addr) → Some (place.version, place.value) ≡ converted v address
+    → place.version ≡ v → f place.value ≡ label_by (labelling v f) address
+at_place v f address place is own =
+    same_at_addresses v f place.value (subst (λ (w : Version). place.value < 2 ^ width_of w) own place.in_range)
+    ∙ ap (λ (found : Option AddressOf). option_and_then (λ p. at_addresses v f p.1) found) is
+
+pub returns-in-Some : goal.returns-in-Some
+returns-in-Some g c =
+    let address : AddressOf = (c.args.addr.version, c.args.addr.value) in
+    let is = ap (option_map (λ (a : Addr). (a.version, a.value))) (sym c.in-Some.is) ∙ c.convert.ensures.value ∙ ap (λ (v : Version). converted v address) c.version.ensures in
+    IfOk-weaker c.line.result _ _
+    (λ out printed. printed ∙ ap (λ (l : Option Label). line_of (unwrap_or l []))
+    (c.label_of.ensures ∙ at_place _ (g.L.Labeller.label c.args.labels.now) address c.in-Some.place is (c.in-Some.ensures.version ∙ c.version.ensures)))
+    c.line.ensures
