@@ -15,12 +15,10 @@
 //! `label` has at the address. For a `Scan` that is the map's label, and for a `ListScan` and a `ListIndex` the prefix
 //! list's. For a `TrieLabeller` it is the text of the trie's label, which is the map's or the prefix list's if the trie
 //! was built from one. A `StretchIndex` has the labelling of the map or the prefix list that it was built from.
-//! `AddressLabels` have the labels of another labeller at the addresses of its version, and none at other numbers.
 //! `label_row` is the label of the address of a row, which counts by its place among the labeller's addresses, by one
 //! definition for all labellers.
 #![tactic(auto)]
 
-mod address_labels;
 mod labeller;
 mod list_index;
 mod list_scan;
@@ -29,7 +27,6 @@ mod scan;
 mod stretch_index;
 mod trie_labeller;
 
-pub use address_labels::AddressLabels;
 pub use labeller::Labeller;
 pub use list_index::ListIndex;
 pub use list_scan::ListScan;
