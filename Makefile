@@ -1,8 +1,9 @@
 # make test: the gate, with as many tasks at a time as there are processors (RT_JOBS=N: with N), and what each crate
-# cost. Every proof from nothing, then the scripts of tests/: calls of the crates, a caller that must not compile, how
-# bin/flowlabel builds, the built program as a user runs it, each request for memory refused, its installation; and the
-# examples that need no other program. make examples: all examples of the pages. make scripts: the scripts of examples/
-# and the packages of make package. What needs packages is skipped where they aren't there.
+# cost. Every proof from nothing, then whether docs/DEFINITIONS.md explains each definition that the headline needs, and
+# the scripts of tests/: calls of the crates, a caller that must not compile, how bin/flowlabel builds, the built program
+# as a user runs it, each request for memory refused, its installation; and the examples that need no other program.
+# make examples: all examples of the pages. make scripts: the scripts of examples/ and the packages of make package. What
+# needs packages is skipped if they aren't there.
 # make bench: the speed of the program.
 # make install, make uninstall: the proved program with its manual pages and completions, below DESTDIR and PREFIX.
 # make package: these in out/flowlabel-VERSION-x86_64-linux.tar.gz and out/flowlabel_VERSION_amd64.deb.
@@ -24,6 +25,7 @@ test:
 	touch out/gate
 	bench/gate
 	mv -f out/gate out/built
+	docs/trusted >out/trusted
 	tests/calls/run
 	tests/borrow
 	tests/build
