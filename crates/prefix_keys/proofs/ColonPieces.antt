@@ -7,7 +7,7 @@ use Rattle.prefix_keys.specs.Text.{groups_of, text_groups, last_groups, hex_grou
 use Rattle.prefix_keys.specs.Steps.{more_groups}
 use Rattle.prefix_keys.proofs.Pieces.{split-whole}
 
--- The groups that the pieces of a text between colons write, one piece after another.
+-- The groups of the pieces of a text between colons, one piece after another.
 
 abbrev pub is_colon : ℕ → Bool
 is_colon b = b == 58
@@ -40,7 +40,7 @@ text_groups-more dotted text piece behind front back h =
     ∙ groups_of-more dotted (before_first is_colon text) (slice_split is_colon (after_first is_colon text))
     (omega (arith, length-slice_split is_colon (after_first is_colon text))))
 
--- a group behind groups, and groups behind it
+-- a group after groups, and more groups after it
 pub more-next : (c n g c' n' : ℕ) (x : Option (List ℕ)) → Some (c', n') ≡ more_groups c n (Some (g ∷ [])) →
     more_groups c n (onto_groups (Some g) x) ≡ more_groups c' n' x
 more-next c n g c' n' None h = refl
@@ -51,7 +51,7 @@ pub more-full : (c n g : ℕ) (x : Option (List ℕ)) → None ≡ more_groups c
 more-full c n g None h = refl
 more-full c n g (Some groups) h = grind (arith, nat_tests)
 
--- the groups of a text behind others, by its first piece
+-- the groups of a text after other groups, by its first piece
 pub turn-none : (dotted : Bool) (text piece behind : List ℕ) (c n : ℕ) → piece ≡ before_first is_colon text →
     behind ≡ after_first is_colon text → length piece ≢ length text → None ≡ hex_group piece →
     more_groups c n (text_groups dotted text) ≡ None

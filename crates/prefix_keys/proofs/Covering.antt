@@ -10,7 +10,7 @@ use Rattle.prefix_keys.proofs.Quotients.{above_first, below_end, quotient_is}
 
 -- The numbers from low to high, and the numbers a with a / d ≡ q.
 
--- both have some number
+-- both contain some number
 abbrev pub Meet : ℕ → ℕ → ℕ → ℕ → Type 0
 Meet d q low high = (a : ℕ) × (a / d ≡ q) × ((low ≤ a) × (a ≤ high))
 
@@ -38,7 +38,7 @@ pub within-high : (d q low high : ℕ) → 0 < d → Within d q low high → (q 
 within-high d q low high some w =
     (w ((q + 1) * d - 1) (quotient_is ((q + 1) * d - 1) d q some (omega arith) (omega arith))).1
 
--- `IsInBlock` and `IsInSpan` at a span and a block of one version
+-- `IsInBlock` and `IsInSpan` for a span and a block of one version
 pub span_meets : (span : Span) (block : Block) → span.low.version ≡ block.version →
     span.low.value ≤ last_of (width_of block.version) block.len (block_number (width_of block.version) block.len block.value) →
     first_of (width_of block.version) block.len (block_number (width_of block.version) block.len block.value) ≤ span.high.value →

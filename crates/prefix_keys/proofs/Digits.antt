@@ -6,7 +6,7 @@ use Rattle.std.proofs.lemmas.Bool.{cases_eq, cases_lt, ne_eqb}
 use Rattle.std.proofs.lemmas.List.{append_assoc, length_push}
 use Rattle.std.proofs.Math.Nat.{div-eq_of_lt, mod-eq_of_lt, div-lt_iff_lt-mul, one-mul, pow-zero, pow-suc, mod-lt, div-add-mod'}
 
--- The digits of a number in a base: those of its quotient, and then the last one.
+-- The digits of a number in a base: those of its quotient, followed by the last one.
 
 module _ (base : ℕ) where
   abbrev last : ℕ → ℕ
@@ -59,7 +59,7 @@ module _ (base : ℕ) where
     unfolding digits
     digits_last n h = spell_last 63 n [] (div-eq_of_lt h)
 
-    -- one more digit is put behind those of the quotient
+    -- the last digit follows those of the quotient
     pub digits_next : (n : ℕ) → base ≤ n → n < 2 ^ 63 → digits base false n ≡ digits base false (n / base) ++ digit_glyph false (n % base) ∷ []
     unfolding digits
     digits_next n h small =
@@ -69,7 +69,7 @@ module _ (base : ℕ) where
         ∙ spell_enough 62 63 (n / base) (last n ∷ []) (half n (2 ^ 63) (omega arith)) (half n (2 ^ 64) (omega arith))
         ∙ spell-append 64 (n / base) (last n ∷ [])
 
-    -- a number below the power has at most so many digits
+    -- the maximum number of digits of a number below a power of the base
     pub length-digits-le : (k n : ℕ) → n < base ^ suc k → n < 2 ^ 63 → length (digits base false n) ≤ suc k
     length-digits-le zero n h small =
         let one : base ^ 1 ≡ base = pow-suc base 0 ∙ ap (λ x. x * base) (pow-zero base) ∙ one-mul base in
@@ -86,7 +86,7 @@ module _ (base : ℕ) where
           ))
     ]
 
-    -- induction on the digits: one digit, or one more behind those of the quotient
+    -- induction on the digits: one digit, or one more after those of the quotient
     pub digits_by_steps : (P : ℕ → List ℕ → Type 0)
         → ((n : ℕ) → n < base → P n (digit_glyph false n ∷ []))
         → ((n : ℕ) (text : List ℕ) → base ≤ n → P (n / base) text → P n (text ++ digit_glyph false (n % base) ∷ []))
@@ -102,7 +102,7 @@ module _ (base : ℕ) where
           (digits_by_steps P one more k (n / base) (half n (2 ^ suc k) (omega arith)) (half n (2 ^ 63) (omega arith))))
     ]
 
-    -- what the digits stand for, by the value of each of them
+    -- the number that the digits represent, from the value of each of them
     pub fold-digits : (value : ℕ → ℕ) → ((d : ℕ) → d < base → value (digit_glyph false d) ≡ d)
         → (n : ℕ) → n < 2 ^ 63 → fold (λ m b. m * base + value b) 0 (digits base false n) ≡ n
     fold-digits value known n small =
@@ -120,7 +120,7 @@ module _ (base : ℕ) where
         zero-mul_plus : (b m : ℕ) → 0 * b + m ≡ m
         zero-mul_plus b m = omega arith
 
-    -- what holds of each digit of the base holds of each byte
+    -- what is true of each digit of the base is true of each byte
     pub All-digits : (P : ℕ → Type 0) → ((d : ℕ) → d < base → P (digit_glyph false d))
         → (n : ℕ) → n < 2 ^ 63 → All P (digits base false n)
     All-digits P known n small =

@@ -4,7 +4,7 @@ use Rattle.prefix_keys.specs.Text.{around_gap, around_address, colon_address, ga
 
 -- The first `::` of a text.
 
--- whether a `::` stands at that place
+-- whether there is a `::` at that index
 abbrev pub is_gap : List ℕ → ℕ → Bool
 is_gap text k = (get_or text k 0 == 58) && (get_or text (suc k) 0 == 58)
 
@@ -17,7 +17,7 @@ and_false : (b : Bool) → (b && false) ≡ false
 and_false true = refl
 and_false false = refl
 
--- a byte in front of both sides
+-- a byte put before the front side
 abbrev onto_front : ℕ → Option (List ℕ × List ℕ) → Option (List ℕ × List ℕ)
 onto_front b sides = option_map (λ sides. (b ∷ sides.0, sides.1)) sides
 

@@ -9,13 +9,13 @@ use Rattle.std.proofs.lemmas.Bool.Decides.{nat_tests}
 use Rattle.prefix_keys.specs.Text.{groups_number, whole_address, gap_address}
 use Rattle.prefix_keys.specs.Steps.{more_groups}
 
--- Groups of 16 bits and the numbers that they make.
+-- Groups of 16 bits and the numbers that they form.
 
 -- one group more
 abbrev pub next_step : ℕ → ℕ → ℕ
 next_step n group = n * 65536 + group
 
--- c groups make a number of 16 * c bits
+-- c groups form a number of 16 * c bits
 pub bits-more : (c : ℕ) → 2 ^ (16 * (c + 1)) ≡ 2 ^ (16 * c) * 65536
 bits-more c = let e : 16 * (c + 1) ≡ 16 * c + 16 = omega arith in ap (λ k. 2 ^ k) e ∙ pow-add 2 (16 * c) 16
 
@@ -25,7 +25,7 @@ number-more n c g h small = let e = bits-more c in omega arith
 pub bits-within : (c : ℕ) → c ≤ 8 → 2 ^ (16 * c) ≤ 2 ^ 128
 bits-within c h = pow-le-pow_right {n = 2} (omega arith) {i = 16 * c} {j = 128} (omega arith)
 
--- groups behind a number
+-- groups after a number
 times-more : (n g p q : ℕ) → q ≡ p * 65536 → (n * 65536 + g) * p ≡ n * q + g * p
 times-more n g p q e = rw e (omega arith)
 
@@ -42,7 +42,7 @@ groups-behind n (g ∷ groups) =
     let split : (n * 65536 + g) * p ≡ n * 2 ^ (16 * length (g ∷ groups)) + g * p = times-more n g p _ more in
     omega arith
 
--- groups of zero make no number
+-- leading groups of zero don't change the number
 pub zeros-behind : (k : ℕ) (groups : List ℕ) → groups_number (replicate k 0 ++ groups) ≡ groups_number groups
 zeros-behind zero groups = refl
 zeros-behind (suc k) groups = zeros-behind k groups
@@ -58,7 +58,7 @@ number-between front back k =
     ∙ ap (λ n. groups_number front * 2 ^ (16 * n) + groups_number (replicate k 0 ++ back)) e
     ∙ ap (λ n. groups_number front * 2 ^ (16 * (k + length back)) + n) (zeros-behind k back)
 
--- what at most eight groups count and make
+-- the count and the number of at most eight groups
 pub counted-count : (groups : List ℕ) (c n : ℕ) → Some (c, n) ≡ more_groups 0 0 (Some groups) → c ≡ length groups
 counted-count groups c n h = grind (arith, nat_tests)
 

@@ -9,7 +9,7 @@ use Rattle.prefix_keys.specs.declared.version.Version.TheVariants.{V4, V6}
 
 -- The groups of an address.
 
--- each part has its number of bits
+-- each part fits its number of bits
 parts-below : (bits : ℕ) (places : List ℕ) (number : ℕ) → 0 < 2 ^ bits → All (λ part. part < 2 ^ bits) (parts_at bits places number)
 parts-below bits [] number some k d h = absurd (omega arith)
 parts-below bits (place ∷ places) number some zero d h = mod-lt (number / 2 ^ (bits * place)) some
@@ -26,12 +26,12 @@ width-le V6 = omega arith
 pub bytes-below : (number : ℕ) → All (λ byte. byte < 256) (address_bytes number)
 bytes-below number = parts-below 8 (3 ∷ 2 ∷ 1 ∷ 0 ∷ []) number (omega arith)
 
--- the places below, the highest first
+-- the bit offsets below, the highest first
 places_below : ℕ → List ℕ
 places_below zero = []
 places_below (suc k) = k ∷ places_below k
 
--- the parts above a place and the part there are the parts from there on
+-- the parts above an offset, followed by the part at it, are the parts from there on
 part-more : (bits k number : ℕ) →
     number / 2 ^ (bits * suc k) * 2 ^ bits + number / 2 ^ (bits * k) % 2 ^ bits ≡ number / 2 ^ (bits * k)
 part-more bits k number =
@@ -40,7 +40,7 @@ part-more bits k number =
     ∙ ap (λ q. q * 2 ^ bits + number / 2 ^ (bits * k) % 2 ^ bits) (sym (div-div-eq-div-mul number (2 ^ (bits * k)) (2 ^ bits)))
     ∙ div-add-mod' (number / 2 ^ (bits * k)) (2 ^ bits)
 
--- a number is that of its parts
+-- a number is the number of its parts
 parts_number : (bits k number : ℕ) →
     fold (λ n part. n * 2 ^ bits + part) (number / 2 ^ (bits * k)) (parts_at bits (places_below k) number) ≡ number
 unfolding places_below

@@ -4,7 +4,7 @@ use Rattle.std.specs.Fmt.{digits}
 use Rattle.std.proofs.lemmas.List.{append_assoc, drop_more, drop_all, length-drop, length-map}
 use Rattle.prefix_keys.specs.Print.{joined_text}
 
--- Numbers with a separator between each two.
+-- Numbers separated by a separator.
 
 -- one more piece
 pub join_push : (c : ℕ) (pieces : List (List ℕ)) (piece : List ℕ) → 0 < length pieces →
@@ -15,13 +15,13 @@ join_push c (x ∷ y ∷ rest) piece h =
     ap (λ text. x ++ (c ∷ text)) (join_push c (y ∷ rest) piece (omega arith))
     ∙ sym (append_assoc x (c ∷ join_with_byte c (y ∷ rest)) (c ∷ piece))
 
--- one more piece before others, or before none
+-- one more piece before other pieces, or before nothing
 pub join_before : (c : ℕ) (piece : List ℕ) (pieces : List (List ℕ)) → 0 < length pieces →
     join_with_byte c (piece ∷ pieces) ≡ piece ++ (c ∷ join_with_byte c pieces)
 join_before c piece [] h = absurd (omega arith)
 join_before c piece (x ∷ rest) h = refl
 
--- the numbers from a place on: the number there, and behind a separator those from the next place on
+-- the numbers from an index on: the number there, and after a separator those from the next index on
 module _ (base separator : ℕ) (numbers : List ℕ) (i d : ℕ) (inside : i < length numbers) where
   pub joined-last : i + 1 ≡ length numbers → joined_text base separator (drop i numbers) ≡ digits base false (get_or numbers i d)
   joined-last e =

@@ -1,4 +1,4 @@
--- The groups of an address that a text begins with.
+-- The groups at the start of a text.
 use Rattle.std.proofs.Common.{◌≡◌, ℕ, ◌+◌, ◌-◌, ◌*◌, ◌^◌, ◌<◌, ◌≤◌, ◌&&◌, ◌||◌, ◌==◌, Bool, true, false, List, [], ◌∷◌, ◌++◌, Option, Some, None, All, length, take, ap, sym, refl, ◌∙◌, arith, inl, inr, nat_le, le-leb, option_map, if◌then◌else◌}
 use Rattle.std.specs.List.{list_all, list_any, slice_split}
 use Rattle.std.proofs.lemmas.Bool.{and_from, and_right, cond-true, cond-false, cases_Bool, eq-eqb, true_from_ne_false}
@@ -15,7 +15,7 @@ use Rattle.prefix_keys.proofs.Bytes.{all-weaker, apart, each-fails, lacks, none-
 use Rattle.prefix_keys.proofs.Printed.{Lacks}
 use Rattle.prefix_keys.proofs.PrintedGaps.{around-piece, behind-behind, behind-nil, colon-begins, onto-behind, skip}
 
--- a group is of hexadecimal digits, one or more
+-- a group consists of one or more hexadecimal digits
 pub group-digits : (text : List ℕ) (g : ℕ) → hex_group text ≡ Some g → list_all is_hex_digit text ≡ true
 group-digits text g reads = elim (cases_Bool (list_all is_hex_digit text)) [
   | inl all ↦ all
@@ -52,8 +52,8 @@ groups-next dotted f t g reads =
     ∙ groups_of-more dotted f (slice_split is_colon t) (omega (arith, length-slice_split is_colon t))
     ∙ ap (λ x. onto_groups x (text_groups dotted t)) reads
 
--- What was read of the groups that a text begins with: some groups with a colon behind each, of so many groups that make that
--- number, and then the rest.
+-- What was read of the groups at the start of a text: groups with a colon after each, with this count and this number,
+-- and then the rest.
 pub record HasRead (text rest : List ℕ) (count number : ℕ) : Type 0 where
   pub done : List ℕ
   pub whole : text ≡ done ++ rest
@@ -73,7 +73,7 @@ read-none text = record {
 group-bytes : (f : List ℕ) (g : ℕ) → hex_group f ≡ Some g → list_all is_colon_byte f ≡ true
 group-bytes f g reads = all-weaker is_hex_digit is_colon_byte (λ b digit. rw digit refl) f (group-digits f g reads)
 
--- a colon in front of what stands before a `::`
+-- a colon put before the front side of a `::`
 colon-front : (sides : Option (List ℕ × List ℕ)) → option_map (λ sides. (58 ∷ sides.0, sides.1)) sides ≡ behind (58 ∷ []) sides
 colon-front None = refl
 colon-front (Some sides) = refl
@@ -87,7 +87,7 @@ eight-groups : (text : List ℕ) (c n : ℕ) → c ≡ 8 → Some (c, n) ≡ mor
 eight-groups [] c n eight h = let zero : c ≡ 0 = counted-count [] c n h in absurd (omega arith)
 eight-groups (b ∷ text) c n eight h = h
 
--- one more group and the colon behind it
+-- one more group and the colon after it
 pub read-more : (text rest behind-group next : List ℕ) (c n g c' n' : ℕ) → HasRead text rest c n → BeginsWithGroup rest behind-group g
     → behind-group ≡ 58 ∷ next → Some (c', n') ≡ more_groups c n (Some (g ∷ [])) → HasRead text next c' n'
 read-more text rest behind-group next c n g c' n' has group colon more =
@@ -119,7 +119,7 @@ read-more text rest behind-group next c n g c' n' has group colon more =
           ∙ behind-behind has.done (f ++ 58 ∷ []) (around_gap t);
     }
 
--- the last group, with no colon that goes on behind it
+-- the last group, with no single colon after it
 pub read-last : (text rest left : List ℕ) (c n g c' n' : ℕ) → HasRead text rest c n → BeginsWithGroup rest left g
     → Some (c', n') ≡ more_groups c n (Some (g ∷ [])) → BeginsWithSide text left c' n'
 read-last text rest left c n g c' n' has group more =
@@ -188,7 +188,7 @@ colon-whole text rest c n side eight =
           ∙ cond-true (c == 8) (Some n) None (eq-eqb c 8 eight);
     }
 
--- a text without a colon is no such address, since it writes at most two groups
+-- a text without a colon is not an IPv6 address, since it has at most two groups
 no-colon : (text : List ℕ) → list_any (λ b. b == 58) text ≡ false → colon_address text ≡ None
 no-colon text none =
     let lacks-colon : Lacks 58 text = each-fails (λ b. b == 58) text none in

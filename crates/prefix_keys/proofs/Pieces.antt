@@ -14,18 +14,18 @@ use Rattle.prefix_keys.specs.Text.{four_bytes, four_pieces, short_number, is_dig
 abbrev pub is_point : ℕ → Bool
 is_point b = b == 46
 
--- what stands before the first point and after it
+-- the text before the first point and after it
 abbrev pub front : List ℕ → List ℕ
 front text = before_first is_point text
 
 abbrev pub back : List ℕ → List ℕ
 back text = after_first is_point text
 
--- what has a byte that is no digit is no number
+-- a text with a byte that isn't a digit is not a number
 pub short_number-undigit : (limit : ℕ) (text : List ℕ) → list_all is_digit text ≡ false → short_number limit text ≡ None
 short_number-undigit limit text h = grind (arith, common_steps)
 
--- a text with a point is no number
+-- a text with a point is not a number
 pub short_number-pointed : (limit : ℕ) (text : List ℕ) → position_or_len is_point text < length text → short_number limit text ≡ None
 short_number-pointed limit text h =
     let n : ℕ = position_or_len is_point text in
@@ -60,12 +60,12 @@ four_bytes-fourth (Some a) None c = refl
 four_bytes-fourth (Some a) (Some b) None = refl
 four_bytes-fourth (Some a) (Some b) (Some c) = refl
 
--- five pieces or more are no address
+-- five pieces or more are not an address
 four_pieces-five : (a b c d : List ℕ) (rest : List (List ℕ)) → 0 < length rest → four_pieces (a ∷ b ∷ c ∷ d ∷ rest) ≡ None
 four_pieces-five a b c d [] h = absurd (omega arith)
 four_pieces-five a b c d (e ∷ rest) h = refl
 
--- what is empty has no number
+-- an empty text is not a number
 front_empty : (t : List ℕ) → t ≡ [] → short_number 255 (front t) ≡ None
 front_empty t e = ap (λ t. short_number 255 (front t)) e
 
@@ -118,7 +118,7 @@ dotted text t1 t2 t3 e1 e2 e3 =
           ∙ four_bytes-second (s (front text)) (s (front t2)) (s t3))
     ]
 
--- the same, by the pieces that were cut off and the numbers that were read
+-- the address of a text, from the pieces that were cut off and the numbers that were read
 pub dotted_of : (text f0 f1 f2 t1 t2 t3 : List ℕ) →
     f0 ≡ front text → t1 ≡ back text → f1 ≡ front t1 → t2 ≡ back t1 → f2 ≡ front t2 → t3 ≡ back t2 →
     (a b c d : Option ℕ) →

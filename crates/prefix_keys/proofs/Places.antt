@@ -1,11 +1,11 @@
--- Bytes that are written before a place of a buffer, from the last of them on.
+-- Bytes that are written before an offset of a buffer, from the last of them on.
 use Rattle.std.proofs.Common.{ℕ, ◌≡◌, ◌+◌, ◌-◌, ◌/◌, ◌%◌, ◌<◌, ◌≤◌, ◌∙◌, false, List, [], ◌∷◌, ◌++◌, length, drop, set, ap, arith, length-set}
 use Rattle.std.specs.Fmt.{decimal, digit_glyph, digits}
 use Rattle.std.proofs.lemmas.Fmt.{decimal_digit, decimal_step}
 use Rattle.std.proofs.lemmas.List.{drop-set, drop-set-lt}
 use Rattle.prefix_keys.proofs.Digits.{digits_last, digits_next}
 
--- a byte that is written just before a place
+-- a byte that is written just before an offset
 pub put : (xs : List ℕ) (i j b : ℕ) → i + 1 ≡ j → j ≤ length xs → drop i (set xs i b) ≡ b ∷ drop j xs
 put xs i j b e h = drop-set xs i b (omega arith) ∙ ap (λ k. b ∷ drop k xs) e
 
@@ -41,7 +41,7 @@ module _ (buf : List ℕ) (end : ℕ) (within : end ≤ length buf) (a b c d : �
       (omega (arith, length-set buf (end - 1) a, length-set one (end - 2) b, length-set two (end - 3) c))
       ∙ ap (λ text. d ∷ text) (put_three (omega arith))
 
-  -- what stands behind the bytes that are written further ahead
+  -- the bytes after those that are written earlier in the buffer
   pub last_of_three : 3 ≤ end → drop (end - 1) three ≡ a ∷ drop end buf
   last_of_three h =
       drop-set-lt (end - 1) two (end - 3) c (omega arith) ∙ drop-set-lt (end - 1) one (end - 2) b (omega arith)

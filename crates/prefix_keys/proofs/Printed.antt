@@ -11,13 +11,13 @@ use Rattle.prefix_keys.specs.Print.{joined_text}
 use Rattle.prefix_keys.specs.Text.{is_digit, is_hex_digit, hex_digit_value, hex_value, hex_group, decimal_value, short_number}
 use Rattle.prefix_keys.proofs.Digits.{length-digits-le, fold-digits, All-digits, digits_some}
 
--- Numbers as they are printed, and texts of them with a separator between each two.
+-- Printed numbers, and texts of them separated by a separator.
 
 -- the byte is not in the text
 abbrev pub Lacks : ℕ → List ℕ → Type 0
 Lacks c text = All (λ b. (b == c) ≡ false) text
 
--- what a computed test says of the first numbers
+-- a computed test of the first numbers
 tested : (n : ℕ) (test : ℕ → Bool) → list_all test (range_with_len 0 n) ≡ true → (d : ℕ) → d < n → test d ≡ true
 tested n test passed d h =
     ap test (sym (get_or-range_with_len 0 n d 0 h ∙ omega arith))
@@ -63,7 +63,7 @@ short_number-decimal limit n within h =
     cond-true _ (Some (decimal_value text)) None (and_from _ _ some (and_from _ _ short (and_from _ _ all limited)))
     ∙ ap (λ m. Some m) value
 
--- each digit is another byte than the separators
+-- no digit is a separator
 digit-other : (c : ℕ) → list_all (λ d. not (digit_glyph false d == c)) (range_with_len 0 16) ≡ true → (d : ℕ) → d < 16 → (digit_glyph false d == c) ≡ false
 digit-other c passed d h = not-true _ (tested 16 (λ d. not (digit_glyph false d == c)) passed d h)
 
@@ -76,12 +76,12 @@ no_point = digit-other 46 refl
 pub no_slash : (d : ℕ) → d < 16 → (digit_glyph false d == 47) ≡ false
 no_slash = digit-other 47 refl
 
--- a byte that is no digit is not in a number
+-- a byte that isn't a digit is not in a number
 pub Lacks-digits : (c : ℕ) → ((d : ℕ) → d < 16 → (digit_glyph false d == c) ≡ false) → (base n : ℕ) → 2 ≤ base → base ≤ 16 → n < 2 ^ 63 → Lacks c (digits base false n)
 Lacks-digits c other base n low high small =
     All-digits base low (λ b. (b == c) ≡ false) (λ d h. other d (omega arith)) n small
 
--- nor in numbers, where it is not the separator
+-- nor in numbers, if it isn't the separator
 pub Lacks-joined : (c separator : ℕ) → ((d : ℕ) → d < 16 → (digit_glyph false d == c) ≡ false) → (separator == c) ≡ false
     → (base : ℕ) → 2 ≤ base → base ≤ 16 → (numbers : List ℕ) → All (λ n. n < 65536) numbers → Lacks c (joined_text base separator numbers)
 Lacks-joined c separator other apart base low high [] all = All-nil (λ b. (b == c) ≡ false)
@@ -109,7 +109,7 @@ split-joined base separator other low high n (m ∷ numbers) all =
     ∙ ap (λ pieces. digits base false n ∷ pieces)
     (split-joined base separator other low high m numbers (All-tail (λ n. n < 65536) n (m ∷ numbers) all))
 
--- numbers have a first byte, which is no separator
+-- the text of numbers has a first byte, which isn't a separator
 pub joined-some : (base separator : ℕ) → 2 ≤ base → (n : ℕ) (numbers : List ℕ) → n < 65536 → 0 < length (joined_text base separator (n ∷ numbers))
 joined-some base separator low n [] small = digits_some base low n (omega arith)
 joined-some base separator low n (m ∷ numbers) small =

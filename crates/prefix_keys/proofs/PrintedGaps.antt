@@ -37,7 +37,7 @@ pub colon-begins : (text rest : List ℕ) → 0 < length text → Lacks 58 text 
 colon-begins [] rest some lacks = absurd (omega arith)
 colon-begins (b ∷ text) rest some lacks = All-head (λ b. (b == 58) ≡ false) b text lacks
 
--- what has no colon has no `::`
+-- a text without a colon has no `::`
 pub around-piece : (piece rest : List ℕ) → Lacks 58 piece → around_gap (piece ++ rest) ≡ behind piece (around_gap rest)
 around-piece [] rest lacks = behind-nil (around_gap rest)
 around-piece (b ∷ piece) rest lacks =
@@ -77,13 +77,13 @@ around-groups group (next ∷ groups) rest all =
     ∙ ap (onto 58) (around-groups next groups rest others) ∙ onto-behind 58 text (around_gap rest))
     ∙ behind-behind (hex group) (58 ∷ text) (around_gap rest)
 
--- the first `::` of groups, `::` and groups is that one
+-- the first `::` of a text of groups, `::` and groups
 pub around-gap : (front back : List ℕ) → All IsGroup front → around_gap (groups_text front ++ 58 ∷ 58 ∷ back) ≡ Some (groups_text front, back)
 around-gap [] back all = refl
 around-gap (group ∷ front) back all =
     around-groups group front (58 ∷ 58 ∷ back) all ∙ ap (λ text. Some (text, back)) (append-nil (groups_text (group ∷ front)))
 
--- groups alone have none
+-- groups alone have no `::`
 pub around-none : (group : ℕ) (groups : List ℕ) → All IsGroup (group ∷ groups) → around_gap (groups_text (group ∷ groups)) ≡ None
 around-none group groups all =
     ap around_gap (sym (append-nil (groups_text (group ∷ groups)))) ∙ around-groups group groups [] all

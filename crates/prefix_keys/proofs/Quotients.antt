@@ -7,24 +7,24 @@ use Rattle.std.proofs.lemmas.Nat.{pow_pos, pow-add, and_mask, div-mul-add, div_b
 
 -- Blocks of d numbers each, counted from 0: q * d is the first number of the block q.
 
--- a number that begins a block is the first of its block
+-- a number without a remainder is the first of its block
 pub whole : (v d : ℕ) → 0 < d → v % d ≡ 0 → v / d * d ≡ v
 whole v d some none = omega arith
 
--- a number stands between the ends of its block
+-- a number is between the ends of its block
 pub above_first : (a d q : ℕ) → 0 < d → a / d ≡ q → q * d ≤ a
 above_first a d q some e = rw (← e) (omega arith)
 
 pub below_end : (a d q : ℕ) → 0 < d → a / d ≡ q → a < (q + 1) * d
 below_end a d q some e = rw (← e) (omega arith)
 
--- what stands between the ends of a block is in it
+-- a number between the ends of a block is in it
 pub quotient_is : (a d q : ℕ) → 0 < d → q * d ≤ a → a < (q + 1) * d → a / d ≡ q
 quotient_is a d q some low high =
     let e : a ≡ q * d + (a - q * d) = omega arith in
     ap (λ n. n / d) e ∙ div-mul-add q d (a - q * d) (omega arith)
 
--- without its place in its block a number begins the block
+-- a number less its remainder is the first of its block
 pub cleared : (a d : ℕ) → 0 < d → a - a % d ≡ a / d * d
 cleared a d some = omega arith
 
@@ -33,13 +33,13 @@ cleared-mod a d some =
     let e : a - a % d ≡ a / d * d + 0 = omega arith in
     ap (λ n. n % d) e ∙ mod-mul-add (a / d) d 0 some
 
--- `&` with one below a power of two
+-- `&` with a power of two less one
 pub and_low : (a mask k : ℕ) → mask + 1 ≡ 2 ^ k → bit_and a mask ≡ a % 2 ^ k
 and_low a mask k e =
     let m : mask ≡ 2 ^ k - 1 = omega arith in
     ap (λ n. bit_and a n) m ∙ and_mask a k
 
--- the widths: the numbers of W bits are 2 ^ n blocks of n bits
+-- the numbers of W bits are 2 ^ n blocks of n bits
 pub width_split : (W n : ℕ) → n ≤ W → 2 ^ W ≡ 2 ^ n * 2 ^ (W - n)
 width_split W n h =
     let e : W ≡ n + (W - n) = omega arith in
@@ -89,7 +89,7 @@ pub width_at_most : (version : Version) → 2 ^ width_of version ≤ 2 ^ 128
 width_at_most V4 = lit≤ tt
 width_at_most V6 = lit≤ tt
 
--- what holds of the numbers of a block's halves, with h for the size of a half
+-- the numbers of a block's halves, where h is the size of a half
 pub record AreHalves (W n v h : ℕ) : Type 0 where
   pub lower_free : v % 2 ^ (W - (n + 1)) ≡ 0
   pub upper_free : (v + h) % 2 ^ (W - (n + 1)) ≡ 0

@@ -24,7 +24,7 @@ use Rattle.prefix_keys.proofs.Runs.{longest_is_run}
 abbrev hex : ℕ → List ℕ
 hex group = digits 16 false group
 
--- groups of colon texts
+-- the groups of texts with colons
 last_groups-hex : (dotted : Bool) (group : ℕ) → group < 65536 → last_groups dotted (hex group) ≡ Some (group ∷ [])
 last_groups-hex true group small =
     ap (λ t. cond t (option_map two_groups (dotted_address (hex group))) (option_map (λ group. group ∷ []) (hex_group (hex group))))
@@ -55,7 +55,7 @@ side_groups-printed dotted (group ∷ groups) all =
     side_some dotted (groups_text (group ∷ groups)) (joined-some 16 58 (omega arith) group groups (All-head IsGroup group groups all))
     ∙ text_groups-printed dotted group groups all
 
--- a list is what stands before a run of zeros, the zeros, and the rest
+-- a list is a front, a run of zeros, and the rest
 around_run : (groups : List ℕ) (start len : ℕ) → IsZeroRun groups start len
     → take start groups ++ (replicate len 0 ++ drop (start + len) groups) ≡ groups
 around_run groups start len run =
@@ -73,7 +73,7 @@ whole_back (group ∷ groups) eight all =
     ∙ ap whole_address (text_groups-printed true group groups all)
     ∙ cond-true (length (group ∷ groups) == 8) (Some (groups_number (group ∷ groups))) None (eq-eqb _ _ eight)
 
--- the text with a run of them left out
+-- the text of the groups without such a run
 gap_back : (groups : List ℕ) (start len : ℕ) → length groups ≡ 8 → All IsGroup groups → IsZeroRun groups start len → start + len ≤ 8 → 2 ≤ len
     → colon_address (groups_text (take start groups) ++ 58 ∷ 58 ∷ groups_text (drop (start + len) groups)) ≡ Some (groups_number groups)
 gap_back groups start len eight all run within long =
@@ -93,7 +93,7 @@ gap_back groups start len eight all run within long =
     ∙ ap (λ n. Some (groups_number (front ++ (replicate n 0 ++ back)))) count
     ∙ ap (λ list. Some (groups_number list)) (around_run groups start len run)
 
--- a printed text is the one or the other
+-- a printed text is one of these two
 shortened-long : (groups : List ℕ) (start len : ℕ) → 2 ≤ len
     → shortened_text groups (start, len) ≡ groups_text (take start groups) ++ 58 ∷ 58 ∷ groups_text (drop (start + len) groups)
 shortened-long groups start len h = cond-true (nat_le 2 len) _ (groups_text groups) (le-leb 2 len h)
@@ -115,7 +115,7 @@ shortened_back groups start len eight all run = elim (cases_lt len 2) [
       ∙ gap_back groups start len eight all run (omega (arith, run_within groups start len run (omega arith))) long
 ]
 
--- and has a colon
+-- and it has a colon
 colon_in : (front back : List ℕ) → list_any (λ b. b == 58) (front ++ 58 ∷ back) ≡ true
 colon_in front back =
     list_any-append (λ b. b == 58) front (58 ∷ back)
@@ -172,7 +172,7 @@ address_is_read_back V6 number h =
     ∙ ap (option_map (λ value. (V6, value)))
     (shortened_back groups run.0 run.1 refl (groups-below number) (longest_is_run groups) ∙ ap (λ n. Some n) (groups-number number h))
 
--- a text is cut at the first byte of that value
+-- a text is cut at the first byte with that value
 first_at : (c : ℕ) (front back : List ℕ) → Lacks c front → position_or_len (λ b. b == c) (front ++ c ∷ back) ≡ length front
 first_at c front back lacks =
     position_or_len_is (λ b. b == c) (front ++ c ∷ back) (length front) 0
@@ -214,7 +214,7 @@ address_lacks_slash V6 number =
     shortened_lacks_slash (address_groups number) (longest_run (address_groups number)).0 (longest_run (address_groups number)).1
     (groups-below number)
 
--- a number without host bits is that of its block
+-- a number without host bits is the number of its block
 whole_quotient : (number size : ℕ) → number % size ≡ 0 → number / size * size ≡ number
 whole_quotient number size h = omega (arith, div-add-mod' number size)
 

@@ -11,7 +11,7 @@ ahead-zero group groups e = ap (λ t. cond t (1 + zeros_ahead groups) 0) (eq-eqb
 ahead-other : (group : ℕ) (groups : List ℕ) → (group ≡ 0 → ⊥) → zeros_ahead (group ∷ groups) ≡ 0
 ahead-other group groups e = ap (λ t. cond t (1 + zeros_ahead groups) 0) (ne_eqb group 0 e)
 
--- the zeros ahead are a run
+-- the zeros at the start are a run
 ahead_is_run : (groups : List ℕ) → IsZeroRun groups 0 (zeros_ahead groups)
 ahead_is_run [] = refl
 ahead_is_run (group ∷ groups) = elim (cases_eq group 0) [
@@ -21,7 +21,7 @@ ahead_is_run (group ∷ groups) = elim (cases_eq group 0) [
   | inr e ↦ rw (ahead-other group groups e) refl
 ]
 
--- and no run at the front is longer
+-- and no run at the start is longer
 run_is_ahead : (groups : List ℕ) (len : ℕ) → IsZeroRun groups 0 len → len ≤ zeros_ahead groups
 run_is_ahead groups zero h = omega arith
 run_is_ahead [] (suc len) h = cc

@@ -1,7 +1,7 @@
 use Rattle.std.specs.Prelude.{ℕ, ◌+◌, ◌-◌, ◌*◌, ◌/◌, ◌^◌}
 
--- Blocks of addresses of W bits. The addresses that share their first n bits make a block of n bits, and the block is
--- named by its number: the quotient that its addresses have by 2 ^ (W - n).
+-- Blocks of addresses of W bits. The addresses that share their first n bits form a block of n bits. The number of the
+-- block is the quotient of these addresses by 2 ^ (W - n).
 
 -- the number of the block of n bits that the address is in
 abbrev pub block_number : ℕ → ℕ → ℕ → ℕ

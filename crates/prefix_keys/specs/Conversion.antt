@@ -4,13 +4,14 @@ use Rattle.prefix_keys.specs.Text.{AddressOf}
 use Rattle.prefix_keys.specs.declared.version.Version.{Version}
 use Rattle.prefix_keys.specs.declared.version.Version.TheVariants.{V4, V6}
 
--- The place of the IPv4 addresses among the IPv6 addresses: the block ::ffff:0:0/96 (RFC 4291, section 2.5.5.2).
+-- IPv4 addresses among the IPv6 addresses: the block ::ffff:0:0/96 (RFC 4291, section 2.5.5.2).
 
 -- the number of ::ffff:0:0
 abbrev pub mapped_prefix : ℕ
 mapped_prefix = 65535 * 2 ^ 32
 
--- the address in the other version, where it has a place there; in its own version it stays
+-- the address in the given version, unchanged if it is of that version; none for an IPv6 address that maps no IPv4
+-- address
 abbrev pub converted : Version → AddressOf → Option AddressOf
 converted V4 (V4, value) = Some (V4, value)
 converted V4 (V6, value) =

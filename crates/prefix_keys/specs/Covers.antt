@@ -5,14 +5,14 @@ use Rattle.prefix_keys.specs.declared.addr.Addr.{Addr}
 use Rattle.prefix_keys.specs.declared.block.Block.{Block}
 use Rattle.prefix_keys.specs.declared.span.Span.{Span}
 
--- Which addresses blocks and spans cover.
+-- The addresses that blocks and spans cover.
 
--- the number is in the block: it has the quotient of the block's own number
+-- the number is in the block: its quotient is that of the block's own number
 abbrev pub IsInBlock : Block → ℕ → Type 0
 IsInBlock block a =
     block_number (width_of block.version) block.len a ≡ block_number (width_of block.version) block.len block.value
 
--- the number is one from the span's low address to its high one
+-- the number is between the span's low address and its high one, both included
 abbrev pub IsInSpan : Span → ℕ → Type 0
 IsInSpan span a = (span.low.value ≤ a) × (a ≤ span.high.value)
 
@@ -24,12 +24,12 @@ BlockCovers block addr = (block.version ≡ addr.version) × IsInBlock block add
 abbrev pub SpanCovers : Span → Addr → Type 0
 SpanCovers span addr = (span.low.version ≡ addr.version) × IsInSpan span addr.value
 
--- a span covers a block where it covers each address that the block covers
+-- a span covers a block if it covers each address that the block covers
 abbrev pub SpanCoversBlock : Span → Block → Type 0
 SpanCoversBlock span block =
     (span.low.version ≡ block.version) × ((a : ℕ) → IsInBlock block a → IsInSpan span a)
 
--- a span meets a block where both cover some address
+-- a span meets a block if both cover some address
 abbrev pub SpanMeetsBlock : Span → Block → Type 0
 SpanMeetsBlock span block =
     (span.low.version ≡ block.version) × ((a : ℕ) × IsInBlock block a × IsInSpan span a)

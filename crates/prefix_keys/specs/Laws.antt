@@ -5,13 +5,13 @@ use Rattle.prefix_keys.specs.Version.{width_of}
 use Rattle.prefix_keys.specs.declared.block.Block.{Block}
 use Rattle.prefix_keys.specs.declared.version.Version.{Version}
 
--- What holds of the texts.
+-- Laws about the texts.
 
--- so many groups from the start on are zero
+-- the `len` groups from `start` on are zero
 abbrev pub IsZeroRun : List ℕ → ℕ → ℕ → Type 0
 IsZeroRun groups start len = take len (drop start groups) ≡ replicate len 0
 
--- the longest run is one of zeros, no run of zeros is longer, and none as long starts earlier
+-- the longest run consists of zeros, no run of zeros is longer, and none of the same length starts earlier
 abbrev pub LongestRunIsLongest : Type 0
 LongestRunIsLongest = (groups : List ℕ) → let run = longest_run groups in
     IsZeroRun groups run.0 run.1

@@ -3,23 +3,23 @@ use Rattle.std.specs.List.{list_all}
 use Rattle.prefix_keys.specs.Steps.{more_groups}
 use Rattle.prefix_keys.specs.Text.{around_gap, colon_address, hex_group, is_hex_digit, side_groups}
 
--- What a text begins with, for the contracts of the code's own functions: no user need read them.
+-- Prefixes of a text, for the contracts of private functions. Callers of the crate need not read them.
 
--- the text is a group and then the rest
+-- the text is a group followed by the rest
 pub record BeginsWithGroup (text rest : List ℕ) (group : ℕ) : Type 0 where
   pub front : List ℕ
   pub whole : text ≡ front ++ rest
   pub reads : hex_group front ≡ Some group
 
--- a byte of groups with colons between
+-- a byte that occurs in groups separated by colons
 abbrev pub is_colon_byte : ℕ → Bool
 is_colon_byte b = is_hex_digit b || b == 58
 
--- a text in front of what stands before a `::`
+-- a text put before the front side of a `::`
 abbrev pub behind : List ℕ → Option (List ℕ × List ℕ) → Option (List ℕ × List ℕ)
 behind front sides = option_map (λ sides. (front ++ sides.0, sides.1)) sides
 
--- the text is one side of a `::`, of so many groups that make that number, and then the rest
+-- the text is one side of a `::`, with this count of groups that form this number, followed by the rest
 pub record BeginsWithSide (text rest : List ℕ) (count number : ℕ) : Type 0 where
   pub front : List ℕ
   pub whole : text ≡ front ++ rest
@@ -27,7 +27,7 @@ pub record BeginsWithSide (text rest : List ℕ) (count number : ℕ) : Type 0 w
   pub groups : (dotted : Bool) → Some (count, number) ≡ more_groups 0 0 (side_groups dotted front)
   pub gap : (back : List ℕ) → around_gap (front ++ back) ≡ behind front (around_gap back)
 
--- the text is an IPv6 address and then the rest
+-- the text is an IPv6 address followed by the rest
 pub record BeginsWithColon (text rest : List ℕ) (number : ℕ) : Type 0 where
   pub front : List ℕ
   pub whole : text ≡ front ++ rest

@@ -4,9 +4,9 @@ use Rattle.std.specs.Fmt.{decimal, digits}
 use Rattle.prefix_keys.specs.declared.version.Version.{Version}
 use Rattle.prefix_keys.specs.declared.version.Version.TheVariants.{V4, V6}
 
--- The printed texts of addresses and blocks: dotted decimal, and RFC 5952, section 4.
+-- The printed texts of addresses and blocks: dotted decimal, or the form of RFC 5952, section 4.
 
--- the parts of a number of so many bits each, at these places from the low end
+-- the parts of a number, of `bits` bits each, at these bit offsets from the low end
 abbrev pub parts_at : ℕ → List ℕ → ℕ → List ℕ
 parts_at bits places number = map (λ place. number / 2 ^ (bits * place) % 2 ^ bits) places
 
@@ -18,39 +18,39 @@ address_bytes = parts_at 8 (3 ∷ 2 ∷ 1 ∷ 0 ∷ [])
 abbrev pub address_groups : ℕ → List ℕ
 address_groups = parts_at 16 (7 ∷ 6 ∷ 5 ∷ 4 ∷ 3 ∷ 2 ∷ 1 ∷ 0 ∷ [])
 
--- numbers in a base, without leading zeros, with the separator between each two
+-- numbers in a base, without leading zeros, separated by the separator
 abbrev pub joined_text : ℕ → ℕ → List ℕ → List ℕ
 joined_text base separator numbers = join_with_byte separator (map (digits base false) numbers)
 
--- an IPv4 address: its bytes in decimal, with points between
+-- an IPv4 address: its bytes in decimal, separated by points
 abbrev pub dotted_text : ℕ → List ℕ
 dotted_text number = joined_text 10 46 (address_bytes number)
 
--- groups in lower-case hexadecimal, with colons between
+-- groups in lower-case hexadecimal, separated by colons
 abbrev pub groups_text : List ℕ → List ℕ
 groups_text groups = joined_text 16 58 groups
 
--- how many zeros the groups begin with
+-- the number of zeros at the start of the groups
 abbrev pub zeros_ahead : List ℕ → ℕ
 zeros_ahead groups = prefix_len (λ group. group == 0) groups
 
--- the longer run, of equal ones the first, the second counted from one group later on
+-- the longer of two runs, or the first if they are equal; the start of the second is counted from one group later
 abbrev pub longer_run : ℕ → ℕ × ℕ → ℕ × ℕ
 longer_run here (start, len) = if nat_le len here then (0, here) else (start + 1, len)
 
--- where the first longest run of zeros starts, and its length: the zeros ahead, unless a later run is longer
+-- the start of the first longest run of zeros, and its length: the zeros at the start, unless a later run is longer
 abbrev pub longest_run : List ℕ → ℕ × ℕ
 longest_run [] = (0, 0)
 longest_run (group ∷ groups) = longer_run (zeros_ahead (group ∷ groups)) (longest_run groups)
 
--- groups with `::` in place of a run of two or more
+-- groups in which `::` replaces a run of two or more
 abbrev pub shortened_text : List ℕ → ℕ × ℕ → List ℕ
 shortened_text groups (start, len) =
     if nat_le 2 len
     then groups_text (take start groups) ++ 58 ∷ 58 ∷ groups_text (drop (start + len) groups)
     else groups_text groups
 
--- an IPv6 address: its groups, the first longest run of zeros shortened
+-- an IPv6 address: its groups, with the first longest run of zeros shortened
 abbrev pub colon_text : ℕ → List ℕ
 colon_text number = shortened_text (address_groups number) (longest_run (address_groups number))
 
@@ -58,6 +58,6 @@ abbrev pub address_text : Version → ℕ → List ℕ
 address_text V4 number = dotted_text number
 address_text V6 number = colon_text number
 
--- a block: its address, a `/` and its length in decimal
+-- a block: its address, a `/`, and its length in decimal
 abbrev pub block_text : Version → ℕ → ℕ → List ℕ
 block_text version number len = address_text version number ++ 47 ∷ decimal len

@@ -13,11 +13,11 @@ use Rattle.prefix_keys.specs.declared.version.Version.TheVariants.{V4, V6}
 abbrev pub is_digit : ℕ → Bool
 is_digit b = nat_le 48 b && nat_le b 57
 
--- the number that decimal digits stand for, leading zeros allowed
+-- the number that decimal digits represent, leading zeros allowed
 abbrev pub decimal_value : List ℕ → ℕ
 decimal_value digits = fold (λ n b. n * 10 + (b - 48)) 0 digits
 
--- the number that one to so many digits stand for, at most the limit
+-- the number that 1 to `digits` decimal digits represent, at most the limit
 abbrev pub decimal_number : ℕ → ℕ → List ℕ → Option ℕ
 decimal_number digits limit text =
     if nat_le 1 (length text) && (nat_le (length text) digits && (list_all is_digit text && nat_le (decimal_value text) limit))
@@ -31,17 +31,17 @@ short_number limit text =
     then Some (decimal_value text)
     else None
 
--- the number whose four bytes, the first the highest, are these, where each is one
+-- the number of four bytes, the first the highest, if each exists
 abbrev pub four_bytes : Option ℕ → Option ℕ → Option ℕ → Option ℕ → Option ℕ
 four_bytes (Some a) (Some b) (Some c) (Some d) = Some (((a * 256 + b) * 256 + c) * 256 + d)
 four_bytes _ _ _ _ = None
 
--- the number that four pieces write, each a number from 0 to 255
+-- the number of four pieces, each a number from 0 to 255
 abbrev pub four_pieces : List (List ℕ) → Option ℕ
 four_pieces (a ∷ b ∷ c ∷ d ∷ []) = four_bytes (short_number 255 a) (short_number 255 b) (short_number 255 c) (short_number 255 d)
 four_pieces _ = None
 
--- the IPv4 address that a text in dotted decimal form stands for: four numbers from 0 to 255 with points between
+-- the IPv4 address of a text in dotted decimal form: four numbers from 0 to 255 separated by points
 abbrev pub dotted_address : List ℕ → Option ℕ
 dotted_address text = four_pieces (slice_split (λ b. b == 46) text)
 
@@ -49,11 +49,11 @@ dotted_address text = four_pieces (slice_split (λ b. b == 46) text)
 abbrev pub is_hex_digit : ℕ → Bool
 is_hex_digit b = is_digit b || ((nat_le 65 b && nat_le b 70) || (nat_le 97 b && nat_le b 102))
 
--- the number that one hexadecimal digit stands for
+-- the value of one hexadecimal digit
 abbrev pub hex_digit_value : ℕ → ℕ
 hex_digit_value b = if is_digit b then b - 48 else if nat_le b 70 then b - 55 else b - 87
 
--- the number that hexadecimal digits stand for
+-- the number that hexadecimal digits represent
 abbrev pub hex_value : List ℕ → ℕ
 hex_value digits = fold (λ n b. n * 16 + hex_digit_value b) 0 digits
 
@@ -62,38 +62,38 @@ abbrev pub hex_group : List ℕ → Option ℕ
 hex_group text =
     if nat_le 1 (length text) && (nat_le (length text) 4 && list_all is_hex_digit text) then Some (hex_value text) else None
 
--- the two groups that the number of an IPv4 address makes
+-- the two groups of an IPv4 address
 abbrev pub two_groups : ℕ → List ℕ
 two_groups value = value / 65536 ∷ value % 65536 ∷ []
 
--- the groups that the last of the pieces writes: one group, or two by an IPv4 text where one may stand there
+-- the groups of the last piece: one group, or two if an IPv4 text is allowed and the piece is one
 abbrev pub last_groups : Bool → List ℕ → Option (List ℕ)
 last_groups true piece = if list_any (λ b. b == 46) piece
     then option_map two_groups (dotted_address piece)
     else option_map (λ group. group ∷ []) (hex_group piece)
 last_groups false piece = option_map (λ group. group ∷ []) (hex_group piece)
 
--- a group in front of groups, where all are some
+-- a group put before groups, if all exist
 abbrev pub onto_groups : Option ℕ → Option (List ℕ) → Option (List ℕ)
 onto_groups (Some group) (Some groups) = Some (group ∷ groups)
 onto_groups _ _ = None
 
--- the groups that pieces write: each piece one, and the last one or two
+-- the groups of pieces: one for each piece, and one or two for the last
 abbrev pub groups_of : Bool → List (List ℕ) → Option (List ℕ)
 groups_of dotted [] = None
 groups_of dotted (piece ∷ []) = last_groups dotted piece
 groups_of dotted (piece ∷ next ∷ pieces) = onto_groups (hex_group piece) (groups_of dotted (next ∷ pieces))
 
--- the groups that a text writes by its pieces between colons
+-- the groups of a text of pieces separated by colons
 abbrev pub text_groups : Bool → List ℕ → Option (List ℕ)
 text_groups dotted text = groups_of dotted (slice_split (λ b. b == 58) text)
 
--- the groups on one side of a `::`, where there may be none
+-- the groups on one side of a `::`, which may be empty
 abbrev pub side_groups : Bool → List ℕ → Option (List ℕ)
 side_groups dotted [] = Some []
 side_groups dotted (b ∷ text) = text_groups dotted (b ∷ text)
 
--- the number that groups make, the first the highest
+-- the number that groups form, the first the highest
 abbrev pub groups_number : List ℕ → ℕ
 groups_number groups = fold (λ n group. n * 65536 + group) 0 groups
 
@@ -102,7 +102,7 @@ abbrev pub whole_address : Option (List ℕ) → Option ℕ
 whole_address (Some groups) = if length groups == 8 then Some (groups_number groups) else None
 whole_address None = None
 
--- the address of the groups before a `::` and after it, which stands for one or more groups of zero
+-- the address of the groups before a `::` and after it; the `::` represents one or more groups of zero
 abbrev pub gap_address : Option (List ℕ) → Option (List ℕ) → Option ℕ
 gap_address (Some front) (Some back) =
     if nat_le (length front + length back) 7
@@ -115,7 +115,7 @@ abbrev pub begins_gap : List ℕ → Bool
 begins_gap (a ∷ b ∷ text) = (a == 58) && (b == 58)
 begins_gap _ = false
 
--- what stands before the first `::` and after it, where there is one
+-- the text before the first `::` and the text after it, if there is one
 abbrev pub around_gap : List ℕ → Option (List ℕ × List ℕ)
 around_gap [] = None
 around_gap (b ∷ text) =
@@ -123,13 +123,13 @@ around_gap (b ∷ text) =
     then Some ([], drop 1 text)
     else option_map (λ sides. (b ∷ sides.0, sides.1)) (around_gap text)
 
--- the address of a text round its `::`, or of a whole text without one
+-- the address of a text on both sides of its `::`, or of a whole text without one
 abbrev pub around_address : List ℕ → Option (List ℕ × List ℕ) → Option ℕ
 around_address text (Some (front, back)) = gap_address (side_groups false front) (side_groups true back)
 around_address text None = whole_address (text_groups true text)
 
--- the IPv6 address that a text stands for (RFC 4291, section 2.2): eight groups with colons between, where one `::`
--- stands for one or more groups of zero, and an IPv4 text for the last two groups
+-- the IPv6 address of a text (RFC 4291, section 2.2): eight groups separated by colons, in which one `::` may replace
+-- one or more groups of zero, and an IPv4 text the last two groups
 abbrev pub colon_address : List ℕ → Option ℕ
 colon_address text = around_address text (around_gap text)
 
@@ -137,8 +137,8 @@ colon_address text = around_address text (around_gap text)
 abbrev pub AddressOf : Type 0
 AddressOf = Version × ℕ
 
--- the address that a text stands for, where it has one of the written forms: with a colon it is an IPv6 address, else
--- an IPv4 address
+-- the address of a text, if the text is a written form of one: an IPv6 address if it has a colon, otherwise an IPv4
+-- address
 abbrev pub address_of : List ℕ → Option AddressOf
 address_of text =
     if list_any (λ b. b == 58) text
@@ -160,7 +160,6 @@ abbrev pub block_from : Option AddressOf → List ℕ → Result BlockOf BlockFa
 block_from (Some addr) text = covering_block addr (short_number (width_of addr.0) text)
 block_from None text = Err BadAddress
 
--- the block that a text stands for: an address, a `/` and a length; after a text without `/` there is nothing, and so
--- no length
+-- the block of a text: an address, a `/` and a length; without a `/` the length is missing
 abbrev pub block_of_text : List ℕ → Result BlockOf BlockFault
 block_of_text text = block_from (address_of (before_first (λ b. b == 47) text)) (after_first (λ b. b == 47) text)

@@ -3,7 +3,7 @@ ghost use Rattle.prefix_keys.specs.Version.{width_of};
 
 use crate::version::Version;
 
-/// An IP address: its version, and the whole number that its bits make in network byte order.
+/// An IP address: a version, and the number whose bits in network byte order are the address.
 #[derive(Clone, Copy, Debug, PartialEq, Eq, Hash)]
 pub struct Addr {
     pub version: Version,
@@ -12,7 +12,7 @@ pub struct Addr {
 }
 
 impl Addr {
-    /// The address with this number, or `None` where the version has no such address.
+    /// Returns the address with this number, or `None` if the number is too large for the version.
     pub fn new(version: Version, value: u128) -> Option<Addr>
         ensures valid { IsSome result ↔ (value < 2 ^ width_of version) }
         ensures version { IfSome result (λ a. a.version ≡ version) }

@@ -6,8 +6,8 @@ use crate::addr::Addr;
 use crate::span::Span;
 use crate::version::Version;
 
-/// A CIDR block (RFC 4632): the addresses of one version that share their first `len` bits with `value`, whose
-/// remaining bits, the host bits, are 0.
+/// A CIDR block (RFC 4632): the addresses of one version whose first `len` bits are those of `value`. The remaining
+/// bits of `value`, the host bits, are 0.
 #[derive(Clone, Copy, Debug, PartialEq, Eq, Hash)]
 pub struct Block {
     pub version: Version,
@@ -18,7 +18,7 @@ pub struct Block {
     ghost no_host_bit: { value % 2 ^ (width_of version - len) ≡ 0 },
 }
 
-// The number whose bits after the first `len` are 1: one below the number of addresses in a block.
+// Returns the number whose bits after the first `len` are 1, which is one less than the number of addresses in a block.
 #[inline(always)]
 fn host_mask(version: Version, len: u32) -> u128
     requires { len ≤ width_of version }
@@ -32,7 +32,7 @@ fn host_mask(version: Version, len: u32) -> u128
     }
 }
 
-/// The block of this length that covers the address: its first `len` bits, the host bits cleared.
+/// Returns the block of length `len` that covers `addr`: its first `len` bits, with the host bits cleared.
 #[inline(always)]
 pub fn block_of(addr: Addr, len: u32) -> Block
     requires { len ≤ width_of addr.version }
@@ -51,7 +51,7 @@ pub fn block_of(addr: Addr, len: u32) -> Block
     }
 }
 
-/// The block of no bits, which has each address of the version.
+/// Returns the block of length 0, which covers every address of the version.
 pub fn whole_space(version: Version) -> Block
     ensures version { result.version ≡ version }
     ensures value { result.value ≡ 0 }
@@ -67,8 +67,8 @@ pub fn whole_space(version: Version) -> Block
 impl Block {
     ghost use Rattle.prefix_keys.specs.Covers.{BlockCovers};
 
-    /// The block with this number and length, or `None` where the length is over the width, the version has no such
-    /// address, or a host bit is 1.
+    /// Returns the block with this number and length, or `None` if the length exceeds the width, the number is too
+    /// large for the version, or a host bit is 1.
     pub fn new(version: Version, value: u128, len: u32) -> Option<Block>
         ensures valid { IsSome result ↔ ((len ≤ width_of version) × (value < 2 ^ width_of version)
             × (value % 2 ^ (width_of version - len) ≡ 0)) }
@@ -88,14 +88,14 @@ impl Block {
         }
     }
 
-    /// Whether the address is one of the block's.
+    /// Returns `true` if the block covers the address.
     pub fn covers(&self, addr: &Addr) -> bool
         ensures { IsTrue result ↔ BlockCovers self.now addr.now }
     {
         self.version == addr.version && block_of(*addr, self.len).value == self.value
     }
 
-    /// The lowest address of the block.
+    /// Returns the lowest address of the block.
     pub fn low(&self) -> Addr
         ensures version { result.version ≡ self.now.version }
         ensures value { result.value ≡ self.now.value }
@@ -108,7 +108,7 @@ impl Block {
         }
     }
 
-    /// The highest address of the block.
+    /// Returns the highest address of the block.
     #[inline(always)]
     pub fn high(&self) -> Addr
         ensures version { result.version ≡ self.now.version }
@@ -121,7 +121,7 @@ impl Block {
         }
     }
 
-    /// The span from the lowest address of the block to its highest.
+    /// Returns the span from the lowest address of the block to its highest.
     pub fn span(&self) -> Span
         ensures version { result.low.version ≡ self.now.version }
         ensures low { result.low.value ≡ self.now.value }
@@ -136,7 +136,8 @@ impl Block {
         }
     }
 
-    /// The two blocks of one bit more that make up the block, the lower first, or `None` at full length.
+    /// Returns the two halves of the block, which are one bit longer, the lower half first. Returns `None` if the block
+    /// is a single address.
     pub fn halves(&self) -> Option<(Block, Block)>
         ensures full { IsNone result ↔ (self.now.len ≡ width_of self.now.version) }
         ensures versions { IfSome result

@@ -1,15 +1,16 @@
-//! Where a text is cut.
+//! Cutting a text at a byte.
 ghost use Rattle.std.specs.Prelude.{◌≡◌, ◌==◌, position};
 ghost use Rattle.std.specs.List.{before_first, after_first};
 
-/// The place of the first byte of this value.
+/// Returns the index of the first byte with this value.
 pub fn find_byte(text: &[u8], byte: u8) -> Option<usize>
     ensures { result ≡ position (λ b. b == byte) text.now }
 {
     text.iter().position(|b| *b == byte)
 }
 
-/// The bytes before the first of this value, and those after it: all and none where there is no such byte.
+/// Returns the bytes before the first byte with this value, and the bytes after it. If there is no such byte, returns
+/// the whole text and an empty slice.
 pub fn cut(text: &[u8], byte: u8) -> (&[u8], &[u8])
     ensures front { result.0.now ≡ before_first (λ b. b == byte) text.now }
     ensures back { result.1.now ≡ after_first (λ b. b == byte) text.now }

@@ -1,16 +1,17 @@
-//! Decimal digits, and the numbers that they stand for.
+//! Decimal digits and the numbers that they represent.
 ghost use Rattle.std.specs.Prelude.{◌≡◌, ◌≤◌, IfSome};
 ghost use Rattle.std.specs.List.{list_all};
 ghost use Rattle.prefix_keys.specs.Text.{decimal_number, is_digit};
 
-/// Whether each byte is a digit.
+/// Returns `true` if every byte is a decimal digit.
 pub fn are_digits(text: &[u8]) -> bool
     ensures { result ≡ list_all is_digit text.now }
 {
     text.iter().all(|byte| byte.is_ascii_digit())
 }
 
-/// The number, at most the limit, that one to so many digits stand for. Leading zeros are allowed.
+/// Returns the number that 1 to `digits` decimal digits represent, or `None` if the text is anything else or the number
+/// exceeds the limit. Leading zeros are allowed.
 #[tactic(auto, using(crate::proofs::Room::digits_room))]
 pub fn read_decimal(text: &[u8], digits: usize, limit: u32) -> Option<u32>
     requires { digits ≤ 19 }

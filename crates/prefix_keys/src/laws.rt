@@ -1,7 +1,7 @@
-//! The laws on printed texts.
+//! Laws about printed texts.
 ghost use Rattle.prefix_keys.specs.Laws.{AddressIsReadBack, BlockIsReadBack, LongestRunIsLongest};
 
-/// The run of zero groups that a text leaves out is the longest, and of equal ones the first.
+/// The run of zero groups that a printed text leaves out is a longest one, and the first of those.
 pub fn longest_run_is_longest()
     ensures { LongestRunIsLongest }
 {}

@@ -10,11 +10,11 @@
 //! assert!(rt; text.as_slice() == b"10.0.0.0/8".as_slice());
 //! ```
 //!
-//! It stands on no other crate. An address is a whole number below 2^32 (IPv4) or 2^128 (IPv6), a block is
-//! what shares the leading bits of a prefix (RFC 4632), and a span is the addresses from one to another. The
-//! layer above may rely on this: each call is the quotient and interval arithmetic on those numbers that its
-//! contract cites, each type keeps its own conditions, a text is read exactly where it has a written form, and what is
-//! printed is one of these forms and is read back as what it was, by the laws.
+//! This crate uses no other crate of the project. An address is a number below 2^32 (IPv4) or 2^128 (IPv6). A block is
+//! the addresses that share the leading bits of a prefix (RFC 4632). A span is the addresses from one to another.
+//! Callers may rely on this: each call is the quotient and interval arithmetic on those numbers that its contract
+//! cites, and each type keeps its own invariants. A text is read if and only if it is a written form, and the laws say
+//! that a printed text is a written form of the value that was printed.
 #![tactic(auto)]
 
 mod addr;

@@ -10,13 +10,13 @@ use crate::version::Version;
 use digits::{write_groups, write_octet};
 use std::alloc::AllocError;
 
-// How many bytes the text of a block has at most: eight groups of four digits, each with a separator, and `/128`.
+// The maximum length of a printed block in bytes: eight groups of four digits, each with a separator, and `/128`.
 const CAPACITY: usize = 44;
 
-// How many zero groups `::` stands for at least.
+// The minimum number of zero groups that `::` replaces.
 const SHORTEST_GAP: usize = 2;
 
-// The part of so many bits at a place from the low end.
+// Returns `bits` bits of `value`, starting at bit `place` from the low end.
 fn part(value: u128, bits: u32, place: u32) -> u16
     requires narrow { bits ≤ 16 }
     requires within { bits * place < 128 }
@@ -25,7 +25,7 @@ fn part(value: u128, bits: u32, place: u32) -> u16
     ((value >> (bits * place)) % (1 << bits)) as u16
 }
 
-// The eight groups of an IPv6 address, the highest first.
+// Returns the eight groups of an IPv6 address, the highest first.
 fn groups_of(value: u128) -> [u16; 8]
     ensures { result ≡ address_groups value }
 {
@@ -41,7 +41,7 @@ fn groups_of(value: u128) -> [u16; 8]
     ]
 }
 
-// Where the longest run of zero groups starts, and its length: the first of equal ones.
+// Returns the index of the longest run of zero groups, and its length. Of runs of equal length it is the first.
 fn longest_zeros(groups: &[u16]) -> (usize, usize)
     ensures run { result ≡ longest_run groups.now }
     ensures within { result.0 + result.1 ≤ length groups.now }
@@ -49,7 +49,7 @@ fn longest_zeros(groups: &[u16]) -> (usize, usize)
     let mut start = groups.len();
     let mut len = 0;
     let mut zeros = 0;
-    // From the last group on, so that of equal runs the first stays.
+    // Iterating from the last group keeps the first of equal runs.
     for i in (0..groups.len()).rev() {
         zeros = if groups[i] == 0 { zeros + 1 } else { 0 };
         if zeros >= len {
@@ -60,7 +60,7 @@ fn longest_zeros(groups: &[u16]) -> (usize, usize)
     (start, len)
 }
 
-// Writes the text of an IPv4 address so that it ends at `end`, and returns where it starts.
+// Writes the text of an IPv4 address so that it ends at offset `end`, and returns the offset of its start.
 #[inline(always)]
 fn write_dotted(value: u128, buf: &mut [u8], end: usize) -> usize
     requires room { 16 ≤ end }
@@ -78,7 +78,7 @@ fn write_dotted(value: u128, buf: &mut [u8], end: usize) -> usize
     write_octet(part(value, 8, 3), buf, at)
 }
 
-// The same of an IPv6 address.
+// Writes the text of an IPv6 address so that it ends at offset `end`, and returns the offset of its start.
 fn write_colon(value: u128, buf: &mut [u8], end: usize) -> usize
     requires room { 40 ≤ end }
     requires within { end ≤ length buf.old }
@@ -97,7 +97,7 @@ fn write_colon(value: u128, buf: &mut [u8], end: usize) -> usize
     write_groups(&groups[..start], buf, at - 2)
 }
 
-// The same of an address.
+// Writes the text of an address so that it ends at offset `end`, and returns the offset of its start.
 #[inline(always)]
 fn write_address(version: Version, value: u128, buf: &mut [u8], end: usize) -> usize
     requires room { 40 ≤ end }
@@ -112,12 +112,12 @@ fn write_address(version: Version, value: u128, buf: &mut [u8], end: usize) -> u
     }
 }
 
-/// Appends the text of an address: four decimal numbers with points between, or eight hexadecimal groups with `::` in
-/// place of the longest run of two or more zeros (RFC 5952, section 4).
+/// Appends the text of an address: four decimal numbers separated by points, or eight hexadecimal groups in which `::`
+/// replaces the longest run of two or more zeros (RFC 5952, section 4).
 ///
 /// # Errors
 ///
-/// Out of memory, with `out` as it was.
+/// If an allocation fails, `out` is unchanged.
 pub fn print_addr(out: &mut Vec<u8>, addr: Addr) -> Result<(), AllocError>
     ensures ok { OnOk result (out.new.items ≡ out.old.items ++ address_text addr.version addr.value) }
     ensures err { OnErr result (out.new.items ≡ out.old.items) }
@@ -127,11 +127,11 @@ pub fn print_addr(out: &mut Vec<u8>, addr: Addr) -> Result<(), AllocError>
     out.extend_from_slice(&bytes[start..])
 }
 
-/// Appends the text of a block: its address, `/` and its length.
+/// Appends the text of a block: its address, `/`, and its length.
 ///
 /// # Errors
 ///
-/// Out of memory, with `out` as it was.
+/// If an allocation fails, `out` is unchanged.
 pub fn print_block(out: &mut Vec<u8>, block: &Block) -> Result<(), AllocError>
     ensures ok { OnOk result (out.new.items
         ≡ out.old.items ++ block_text block.now.version block.now.value block.now.len) }

@@ -17,7 +17,7 @@ pub struct Span {
 impl Span {
     ghost use Rattle.prefix_keys.specs.Covers.{SpanCovers, SpanCoversBlock, SpanMeetsBlock};
 
-    /// The span between these addresses, or `None` where they are of two versions or `low` is above `high`.
+    /// Returns the span between these addresses, or `None` if their versions differ or `low` is above `high`.
     pub fn new(low: Addr, high: Addr) -> Option<Span>
         ensures valid { IsSome result ↔ ((low.version ≡ high.version) × (low.value ≤ high.value)) }
         ensures low { IfSome result (λ span. span.low ≡ low) }
@@ -30,7 +30,7 @@ impl Span {
         }
     }
 
-    /// Whether the address is one of the span's.
+    /// Returns `true` if the span covers the address.
     pub fn covers(&self, addr: &Addr) -> bool
         ensures { IsTrue result ↔ SpanCovers self.now addr.now }
     {
@@ -39,7 +39,7 @@ impl Span {
             && addr.value <= self.high.value
     }
 
-    /// Whether each address of the block is one of the span's.
+    /// Returns `true` if the span covers every address of the block.
     pub fn covers_block(&self, block: &Block) -> bool
         ensures meaning { IsTrue result ↔ SpanCoversBlock self.now block.now }
         ensures interval { let W = width_of block.now.version in
@@ -54,7 +54,7 @@ impl Span {
         self.low.value <= block.low().value && block.high().value <= self.high.value
     }
 
-    /// Whether some address of the block is one of the span's.
+    /// Returns `true` if the span covers some address of the block.
     pub fn meets(&self, block: &Block) -> bool
         ensures meaning { IsTrue result ↔ SpanMeetsBlock self.now block.now }
         ensures interval { let W = width_of block.now.version in

@@ -14,25 +14,25 @@ use crate::text::dotted::{read_dotted, read_number};
 use crate::version::Version;
 use thiserror::Error;
 
-/// Why a text is no block.
+/// The reason why a text is not a block.
 #[derive(Clone, Copy, Debug, PartialEq, Eq, Error)]
 pub enum BlockFault {
-    /// What stands before the `/` is no address.
+    /// The text before the `/` is not an address.
     #[error("not an address")]
     BadAddress,
-    /// What stands after the `/` is no length for the address, or there is no `/`.
+    /// There is no `/`, or the text after it is not a valid length for the address.
     #[error("not a block length")]
     BadLength,
 }
 
-/// Reads an address, or `None` where the text has none of the written forms.
+/// Reads an address. Returns `None` if the text is not a written form of an address.
 ///
-/// A text without a colon is an IPv4 address in dotted decimal form: four numbers from 0 to 255, of one to three
-/// digits, with points between. Leading zeros are allowed, and the number is decimal all the same.
+/// A text without a colon is an IPv4 address in dotted decimal form: four numbers from 0 to 255, of one to three digits
+/// each, separated by points. Leading zeros are allowed, and the number is still decimal.
 ///
 /// A text with a colon is an IPv6 address (RFC 4291, section 2.2): eight groups of one to four hexadecimal digits in
-/// either case, with colons between. One `::` may stand for one or more groups of zero, and an IPv4 text for the last
-/// two groups.
+/// either case, separated by colons. One `::` may replace one or more groups of zero, and an IPv4 text may replace the
+/// last two groups.
 pub fn read_addr(text: &[u8]) -> Option<Addr>
     ensures { option_map (λ addr. (addr.version, addr.value)) result ≡ address_of text.now }
 {
@@ -54,8 +54,8 @@ pub fn read_addr(text: &[u8]) -> Option<Addr>
 ///
 /// # Errors
 ///
-/// `BadAddress` where the text before the first `/`, or the whole text without one, is no address; else `BadLength`
-/// where what follows is no length, also where there is no `/`.
+/// Returns `BadAddress` if the text before the first `/`, or the whole text if there is no `/`, is not an address.
+/// Otherwise returns `BadLength` if there is no `/` or the text after it is not a valid length.
 pub fn read_block(text: &[u8]) -> Result<Block, BlockFault>
     ensures { result_map_both (λ block. (block.version, block.value, block.len)) (λ fault. fault) result
         ≡ block_of_text text.now }

@@ -1,7 +1,7 @@
 ghost use Rattle.std.specs.Prelude.{◌≡◌};
 ghost use Rattle.prefix_keys.specs.Version.{width_of};
 
-/// The version of the Internet Protocol that an address belongs to.
+/// The version of the Internet Protocol to which an address belongs.
 #[derive(Clone, Copy, Debug, PartialEq, Eq, Hash, PartialOrd, Ord)]
 pub enum Version {
     /// IPv4 (RFC 791).
@@ -11,7 +11,7 @@ pub enum Version {
 }
 
 impl Version {
-    /// How many bits an address has.
+    /// Returns the number of bits of an address.
     #[inline(always)]
     pub fn width(self) -> u32
         ensures { result ≡ width_of self }

@@ -1,9 +1,9 @@
-//! Numbers that are written from their last digit on.
+//! Printing numbers from their last digit backwards.
 ghost use Rattle.std.specs.Prelude.{◌≡◌, ◌+◌, ◌*◌, ◌<◌, ◌≤◌, ◌++◌, drop, false, length};
 ghost use Rattle.std.specs.Fmt.{decimal, digit_glyph, digits};
 ghost use Rattle.prefix_keys.specs.Print.{groups_text};
 
-// The lower-case digit.
+// Returns the lower-case hexadecimal digit.
 #[inline(always)]
 fn glyph(digit: u16) -> u8
     requires { digit < 16 }
@@ -16,8 +16,9 @@ fn glyph(digit: u16) -> u8
     }
 }
 
-/// Writes a number below 256 in decimal so that it ends at `end`, and returns where it starts. It takes all three
-/// places that it may need, whatever its length: what stands before its start is lost, and no branch is guessed wrong.
+/// Writes a number below 256 in decimal so that it ends at offset `end`, and returns the offset of its start. All three
+/// bytes before `end` are written, so bytes before the start may be overwritten. This avoids a branch that is hard to
+/// predict.
 #[inline(always)]
 pub fn write_octet(octet: u16, buf: &mut [u8], end: usize) -> usize
     requires small { octet < 256 }
@@ -39,7 +40,8 @@ pub fn write_octet(octet: u16, buf: &mut [u8], end: usize) -> usize
     }
 }
 
-/// Writes a group of an IPv6 address, in the same way: in lower-case hexadecimal, in up to four places.
+/// Writes a group of an IPv6 address in lower-case hexadecimal so that it ends at offset `end`, and returns the offset
+/// of its start. All four bytes before `end` are written, so bytes before the start may be overwritten.
 #[inline(always)]
 fn write_group(group: u16, buf: &mut [u8], end: usize) -> usize
     requires room { 4 ≤ end }
@@ -63,7 +65,7 @@ fn write_group(group: u16, buf: &mut [u8], end: usize) -> usize
     }
 }
 
-/// Writes groups with `:` between each two so that they end at `end`, and returns where they start.
+/// Writes groups separated by `:` so that they end at offset `end`, and returns the offset of their start.
 pub fn write_groups(groups: &[u16], buf: &mut [u8], end: usize) -> usize
     requires room { 5 * length groups.now ≤ end }
     requires within { end ≤ length buf.old }

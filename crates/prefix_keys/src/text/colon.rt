@@ -6,7 +6,7 @@ ghost use Rattle.prefix_keys.specs.Steps.{more_groups};
 use crate::cutting::cut;
 use crate::text::dotted::read_dotted;
 
-// Groups of 16 bits, at most eight: how many, and the number that they make, the first the highest.
+// At most eight groups of 16 bits: their count, and the number that they form, the first group highest.
 #[derive(Clone, Copy)]
 struct Groups {
     count: u32,
@@ -16,7 +16,7 @@ struct Groups {
 }
 
 impl Groups {
-    // These groups and one more behind them, where there is room.
+    // Returns these groups followed by `group`, or `None` if there are eight already.
     fn push(self, group: u32) -> Option<Groups>
         requires { group < 65536 }
         ensures { option_map (λ groups. (groups.count, groups.number)) result
@@ -32,7 +32,8 @@ impl Groups {
         }
     }
 
-    // These groups and those of the last piece behind them: one, or two by an IPv4 text where one may stand there.
+    // Returns these groups followed by those of the last piece: one group, or two if an IPv4 text is allowed and the
+    // piece is one.
     fn push_last(self, piece: &[u8], dotted: bool) -> Option<Groups>
         ensures { option_map (λ groups. (groups.count, groups.number)) result
             ≡ more_groups self.count self.number (last_groups dotted piece.now) }
@@ -46,7 +47,7 @@ impl Groups {
     }
 }
 
-// The number that one hexadecimal digit stands for.
+// Returns the value of a hexadecimal digit.
 #[inline(always)]
 fn digit_value(byte: u8) -> Option<u32>
     ensures value { result ≡ if is_hex_digit byte then Some (hex_digit_value byte) else None }
@@ -60,7 +61,7 @@ fn digit_value(byte: u8) -> Option<u32>
     }
 }
 
-// The group that one to four hexadecimal digits stand for.
+// Returns the group that one to four hexadecimal digits represent.
 fn read_group(text: &[u8]) -> Option<u32>
     ensures value { result ≡ hex_group text.now }
     ensures limited { IfSome result (λ group. group < 65536) }
@@ -75,7 +76,7 @@ fn read_group(text: &[u8]) -> Option<u32>
     Some(group)
 }
 
-// The groups that a text writes by its pieces between colons, where they are at most eight.
+// Returns the groups of a text of pieces separated by colons, or `None` if it is malformed or has more than eight.
 fn read_groups(text: &[u8], dotted: bool) -> Option<Groups>
     ensures { option_map (λ groups. (groups.count, groups.number)) result
         ≡ more_groups 0 0 (text_groups dotted text.now) }
@@ -95,7 +96,8 @@ fn read_groups(text: &[u8], dotted: bool) -> Option<Groups>
     }
 }
 
-// The groups on one side of a `::`, where they are at most eight.
+// Returns the groups on one side of a `::`, or `None` if the side is malformed or has more than eight. A side may be
+// empty.
 fn read_side(text: &[u8], dotted: bool) -> Option<Groups>
     ensures { option_map (λ groups. (groups.count, groups.number)) result
         ≡ more_groups 0 0 (side_groups dotted text.now) }
@@ -110,7 +112,7 @@ fn read_side(text: &[u8], dotted: bool) -> Option<Groups>
     }
 }
 
-// What stands before the first `::` and after it.
+// Returns the text before the first `::`, and the text after it.
 fn cut_gap(text: &[u8]) -> Option<(&[u8], &[u8])>
     ensures { option_map (λ sides. (sides.0.now, sides.1.now)) result ≡ around_gap text.now }
 {
@@ -122,8 +124,8 @@ fn cut_gap(text: &[u8]) -> Option<(&[u8], &[u8])>
     None
 }
 
-// The number of eight groups, those of the front first and those of the back last, with zeros between, where that
-// leaves room for one zero or more.
+// Returns the number of eight groups: those of the front, zeros, and those of the back. Returns `None` if there is no
+// room for at least one group of zeros.
 fn join(front: Groups, back: Groups) -> Option<u128>
     ensures { result ≡ if nat_le (front.count + back.count) 7
         then Some (front.number * 2 ^ (16 * (8 - front.count)) + back.number)
@@ -136,7 +138,7 @@ fn join(front: Groups, back: Groups) -> Option<u128>
     Some(high + back.number)
 }
 
-/// The number of an IPv6 address in one of the forms of RFC 4291, section 2.2.
+/// Reads an IPv6 address in one of the forms of RFC 4291, section 2.2, and returns its number.
 pub fn read_colon(text: &[u8]) -> Option<u128>
     ensures { result ≡ colon_address text.now }
 {
@@ -151,8 +153,8 @@ pub fn read_colon(text: &[u8]) -> Option<u128>
     join(read_side(front, false)?, read_side(back, true)?)
 }
 
-// The group of one to four hexadecimal digits that a text begins with, and what stands behind it: there is something, and
-// it begins with no such digit.
+// Returns the group of one to four hexadecimal digits at the start of a text, and the rest of the text. Returns `None`
+// if there is no such group, or if the text ends after it or goes on with another digit.
 #[inline(always)]
 fn leading_group(text: &[u8]) -> Option<(u32, &[u8])>
     ensures group { IfSome result (λ r. BeginsWithGroup text.now r.1.now r.0) }
@@ -175,7 +177,7 @@ fn leading_group(text: &[u8]) -> Option<(u32, &[u8])>
     None
 }
 
-// What stands behind the one colon that a text begins with.
+// Returns the text after a single colon at the start of a text.
 #[inline(always)]
 fn behind_colon(text: &[u8]) -> Option<&[u8]>
     ensures { IfSome result (λ r. text.now ≡ 58 ∷ r.now) }
@@ -187,8 +189,8 @@ fn behind_colon(text: &[u8]) -> Option<&[u8]>
     }
 }
 
-// The groups with a colon between each two that a text begins with, where they are at most eight, and what stands behind
-// them.
+// Returns the groups, separated by colons, at the start of a text, and the rest of the text. Returns `None` if there
+// are more than eight.
 #[inline(always)]
 fn leading_groups(text: &[u8]) -> Option<(Groups, &[u8])>
     ensures { IfSome result (λ r. BeginsWithSide text.now r.1.now r.0.count r.0.number) }
@@ -208,7 +210,7 @@ fn leading_groups(text: &[u8]) -> Option<(Groups, &[u8])>
     }
 }
 
-// The same, or no groups where the text begins with no hexadecimal digit.
+// Like [`leading_groups`], but returns no groups if the text does not start with a hexadecimal digit.
 #[inline(always)]
 fn leading_side(text: &[u8]) -> Option<(Groups, &[u8])>
     ensures { IfSome result (λ r. BeginsWithSide text.now r.1.now r.0.count r.0.number) }
@@ -225,7 +227,7 @@ fn leading_side(text: &[u8]) -> Option<(Groups, &[u8])>
     }
 }
 
-// What stands behind the `::` that a text begins with.
+// Returns the text after the `::` at the start of a text.
 #[inline(always)]
 fn behind_gap(text: &[u8]) -> Option<&[u8]>
     ensures { IfSome result (λ r. text.now ≡ 58 ∷ 58 ∷ r.now) }
@@ -236,8 +238,9 @@ fn behind_gap(text: &[u8]) -> Option<&[u8]>
     }
 }
 
-/// The number of the IPv6 address that a text begins with, where it is plainly one and has no dotted part, and what stands
-/// behind it. It is read in one pass over its bytes, and `read_addr` decides what any other text is.
+/// Reads an IPv6 address without a dotted part at the start of a text, and returns its number and the rest of the text.
+/// The text is read in one pass. If this function returns `None`, only `read_addr` can decide whether the text is an
+/// address.
 #[inline(always)]
 pub fn leading_colon(text: &[u8]) -> Option<(u128, &[u8])>
     ensures { IfSome result (λ r. BeginsWithColon text.now r.1.now r.0) }

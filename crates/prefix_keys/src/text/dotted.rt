@@ -5,7 +5,8 @@ ghost use Rattle.prefix_keys.specs.Text.{short_number, dotted_address};
 use crate::cutting::cut;
 use crate::decimal::read_decimal;
 
-/// The number, at most the limit, that one to three digits stand for.
+/// Returns the number that one to three digits represent, or `None` if the text is anything else or the number exceeds
+/// the limit.
 pub fn read_number(text: &[u8], limit: u32) -> Option<u32>
     ensures value { result ≡ short_number limit text.now }
     ensures limited { IfSome result (λ number. number ≤ limit) }
@@ -13,7 +14,7 @@ pub fn read_number(text: &[u8], limit: u32) -> Option<u32>
     read_decimal(text, 3, limit)
 }
 
-/// The number of an IPv4 address in dotted decimal form.
+/// Reads an IPv4 address in dotted decimal form, and returns its number.
 pub fn read_dotted(text: &[u8]) -> Option<u32>
     ensures { result ≡ dotted_address text.now }
 {

@@ -2,7 +2,7 @@ use Rattle.std.proofs.Common.{◌≡◌, ◌+◌, ◌≤◌, drop, length}
 use Rattle.prefix_keys.specs.Print.{longest_run, zeros_ahead}
 use Rattle.prefix_keys.proofs.print.longest_zeros.Given as goal
 
--- what is found so far is the longest run of the groups from i on
+-- the run found so far is the longest of the groups from i on
 abbrev pub invariant-loop-i : goal.invariant-loop-i
 invariant-loop-i l = record {
   zeros : l.zeros ≡ zeros_ahead (drop l.i l.groups);

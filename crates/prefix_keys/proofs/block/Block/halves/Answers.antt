@@ -4,7 +4,7 @@ use Rattle.prefix_keys.specs.declared.block.Block.{Block}
 use Rattle.prefix_keys.proofs.Quotients.{AreHalves, are_halves, width_at_most}
 use Rattle.prefix_keys.proofs.block.Block.halves.Goals as goal
 
--- what is known of the halves of the block, with h for the size of a half
+-- facts about the halves of the block, where h is the size of a half
 facts : (b : Block) (h : ℕ) → b.len ≢ width_of b.version → h ≡ 2 ^ (width_of b.version - (b.len + 1)) →
     AreHalves (width_of b.version) b.len b.value h
 facts b h short is =

@@ -3,7 +3,7 @@ use Rattle.std.specs.List.{list_all}
 use Rattle.prefix_keys.specs.Text.{is_hex_digit, hex_value}
 use Rattle.prefix_keys.proofs.text.colon.leading_group.Given as goal
 
--- the number of the digits so far, of which there are at most four
+-- the number of the at most four digits so far
 abbrev pub invariant-loop-at : goal.invariant-loop-at
 invariant-loop-at l = record {
   value : l.group ≡ hex_value (take l.at l.text);

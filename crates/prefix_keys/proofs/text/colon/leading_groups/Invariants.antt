@@ -2,7 +2,7 @@ use Rattle.std.proofs.Common.{◌≤◌, ◌<◌, ◌*◌, ◌^◌, length}
 use Rattle.prefix_keys.proofs.LeadingGroups.{HasRead}
 use Rattle.prefix_keys.proofs.text.colon.leading_groups.Given as goal
 
--- the groups so far, each with a colon behind it
+-- the groups so far, each followed by a colon
 abbrev pub invariant-loop-group : goal.invariant-loop-group
 invariant-loop-group l = record {
   count_in_range : l.groups.0 ≤ 8;

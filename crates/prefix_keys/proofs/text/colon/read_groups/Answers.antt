@@ -4,7 +4,7 @@ use Rattle.prefix_keys.specs.declared.text.colon.Groups.{Groups}
 use Rattle.prefix_keys.proofs.ColonPieces.{text_groups-last, turn-none, turn-full, turn-next}
 use Rattle.prefix_keys.proofs.text.colon.read_groups.Goals as goal
 
--- the count and the number of groups, where there are some
+-- the count and the number of groups, if they exist
 abbrev counted : Option Groups → Option (ℕ × ℕ)
 counted result = option_map (λ groups. (groups.count, groups.number)) result
 

@@ -3,7 +3,7 @@ use Rattle.prefix_keys.specs.Text.{short_number}
 use Rattle.prefix_keys.proofs.Pieces.{dotted_of}
 use Rattle.prefix_keys.proofs.text.dotted.read_dotted.Goals as goal
 
--- In each answer the address is that of the four pieces that were cut off, and their numbers are those read so far.
+-- In each case the address is that of the four pieces that were cut off, and their numbers are those read so far.
 pub returns-in_err-a : goal.returns-in_err-a
 returns-in_err-a c =
     c.from_residual.ensures
