@@ -24,7 +24,7 @@ block_number-first_of W n q = mul-div_cancel q (pow_pos (W - n))
 pub first_of-lower : (W n q : ℕ) → n < W → first_of W (suc n) (2 * q) ≡ first_of W n q
 first_of-lower W n q below = let e : 2 ^ (W - n) ≡ 2 ^ (W - suc n) * 2 = pow-half W n below in rw e (omega arith)
 
--- an address of a block lies between its first and its last
+-- an address of a block is between its first and its last
 pub address-first : (W n q a : ℕ) → block_number W n a ≡ q → first_of W n q ≤ a
 address-first W n q a e = subst (λ (k : ℕ). k * 2 ^ (W - n) ≤ a) e (div-mul-le_self a (2 ^ (W - n)))
 
@@ -34,7 +34,7 @@ address-last W n q a e =
     let below' : a < q * 2 ^ (W - n) + 2 ^ (W - n) = subst (λ (k : ℕ). a < k * 2 ^ (W - n) + 2 ^ (W - n)) e below in
     omega arith
 
--- and what lies between them is an address of the block
+-- and each address between them is in the block
 pub address-between : (W n q a : ℕ) → first_of W n q ≤ a → a ≤ last_of W n q → block_number W n a ≡ q
 address-between W n q a low high =
     let some : 0 < 2 ^ (W - n) = pow_pos (W - n) in

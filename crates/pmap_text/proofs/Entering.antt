@@ -1,4 +1,4 @@
--- What is known of a text's lines so far, after one more line.
+-- Facts about a text's lines so far, after one more line.
 use Rattle.std.proofs.Common.{◌≡◌, ◌≢◌, ℕ, ◌+◌, ◌<◌, ◌≤◌, ◌==◌, Bool, true, false, nat_lt, if◌then◌else◌, ◌⊎◌, inl, inr, List, [], ◌∷◌, ◌++◌, Some, Ok, Err, length, take, arith, refl, sym, ap, ◌∙◌, subst, slice_get}
 use Rattle.std.proofs.Math.Seq.{take-append_seam}
 use Rattle.std.proofs.lemmas.Bool.{both_ways, eqb-true, lt-ltb, ltb-true}
@@ -16,12 +16,13 @@ use Rattle.pmap_text.proofs.Filed.{once-front, once-last}
 use Rattle.pmap_text.proofs.LabelTexts.{slice_get-push}
 use Rattle.pmap_text.proofs.LineEntries.{Adds, entries_from-fault, entries_from-line, refusal-fault, taken-cases}
 
--- the lines so far said some entries, and the lines of the text say those and then what the rest says
+-- the lines so far have some contents, and the lines of the text have those followed by those of the rest
 abbrev pub ReadSoFar : Form → List (List ℕ) → Earlier → ℕ → List (List ℕ) → Type 0
 ReadSoFar form text reading number rest =
     (entries : List Entry) × (entries_from form [] 0 text ≡ entries_from form entries number rest) × (reading ≡ earlier_of entries)
 
--- what is known after some lines: each entry's line is noted, and where the entries have blocks of their own, the lines so far were read
+-- facts after some lines: the line of each entry is noted, and if the entries have distinct blocks, the lines so far
+-- were read
 pub record HasReadTo (form : Form) (text : List (List ℕ)) (reading : Earlier) (noted : List ℕ) (number : ℕ) (rest : List (List ℕ)) : Type 0 where
   pub count : length noted ≡ length reading.prefixes
   pub read : HasDistinctKeys reading.prefixes → ReadSoFar form text reading number rest
@@ -35,7 +36,7 @@ none_noted form text reading noted is none = rw (is, none) (record {
   repeats = λ i line at. absurd (none-some line at);
 })
 
--- an entry at the end changes nothing for those before
+-- an entry at the end doesn't affect those before
 once_before : (ps : List Prefix) (p : Prefix) (i : ℕ) → i < length ps → IsFirstRepeat (ps ++ p ∷ []) (Some i) → IsFirstRepeat ps (Some i)
 once_before ps p i within first =
     let same : take i (ps ++ p ∷ []) ≡ take i ps = take-append-le i ps (p ∷ []) (omega (arith, within)) in
@@ -140,7 +141,7 @@ module _ (form : Form) (text : List (List ℕ)) (old new : Earlier) (noted : Lis
         by false e is = subst (λ (ns : List ℕ). HasReadTo form text new ns (number + 1) behind) (sym is)
             (read-plain (λ less. both_ways (nat_lt (length noted) (length new.prefixes)) e (lt-ltb _ _ less)))
 
-    -- no memory for the line's number
+    -- an allocation for the number of the line failed
     pub repeats-kept : NotesRepeats form text new.prefixes noted
     repeats-kept = elim (taken-cases old new (line_entry form old line) taken) [
       | inl kept ↦ subst (λ (ps : List Prefix). NotesRepeats form text ps noted) (sym kept.1) before.repeats
@@ -148,7 +149,7 @@ module _ (form : Form) (text : List (List ℕ)) (old new : Earlier) (noted : Lis
           (repeats_before form text old.prefixes entry.0 noted (omega (arith, before.count)) before.repeats)
     ]
 
--- at the end of the text all of it was read
+-- at the end of the text all of it has been read
 pub read-all : (form : Form) (text : List (List ℕ)) (reading : Earlier) (number : ℕ) (rest : List ℕ) → (length rest == 0) ≡ true
     → ReadSoFar form text reading number (lines_of rest)
     → (entries : List Entry) × (entries_from form [] 0 text ≡ Ok entries) × (reading ≡ earlier_of entries)

@@ -1,4 +1,4 @@
--- Lemmas on lists without repetition, and on how the blocks of entries are told apart.
+-- Lemmas about lists without repetition, and about distinguishing the blocks of entries.
 use Rattle.std.proofs.Common.{◌≡◌, ℕ, ◌+◌, ◌<◌, Bool, true, false, cond, ◌&&◌, ◌||◌, ◌==◌, List, [], ◌∷◌, ◌++◌, Some, get_or, length, map, option_map, refl, slice_get, sym, subst, take, ap, ap₂, ◌∙◌, arith}
 use Rattle.std.proofs.lemmas.Bool.{and_parts, eqb-true, false_from_ne_true, ltb-true}
 use Rattle.std.proofs.lemmas.Cmp.{and_equiv, nat_eq_equiv, on_equiv}
@@ -31,7 +31,7 @@ module _ {X Y : Type 0} (f : X → Y) where
   all_to_map P [] h = tt
   all_to_map P (x ∷ xs) h = (h.0, all_to_map P xs h.1)
 
-  -- no two elements are equal by what they map to exactly where the list of those has no two that are equal
+  -- no two elements have equal values of a function if and only if the list of these values has no two equal ones
   pub distinct_from_map : (eq : Y → Y → Bool) (xs : List X) → IsDistinct eq (map f xs) → IsDistinct (λ x y. eq (f x) (f y)) xs
   unfolding IsDistinct
   distinct_from_map eq [] h = tt
@@ -42,7 +42,7 @@ module _ {X Y : Type 0} (f : X → Y) where
   distinct_to_map eq [] h = tt
   distinct_to_map eq (x ∷ xs) h = (all_to_map (λ y. eq (f x) y ≡ false) xs h.0, distinct_to_map eq xs h.1)
 
--- two pairs of numbers are equal by their order where they are equal by their parts
+-- two pairs of numbers are equal in their order if and only if their parts are equal
 is_eq-nat_cmp : (x y : ℕ) → is_eq (nat_cmp x y) ≡ (x == y)
 is_eq-nat_cmp x y = by (nat_lt x y) (x == y) refl refl
   where
@@ -62,12 +62,12 @@ is_eq-pair start bits k =
     is_eq-then (nat_cmp start k.0) (nat_cmp bits k.1)
     ∙ ap₂ ◌&&◌ (is_eq-nat_cmp start k.0 ∙ nat_eq_equiv.symm start k.0) (is_eq-nat_cmp bits k.1 ∙ nat_eq_equiv.symm bits k.1)
 
--- a set of pairs has one exactly where a key of its parts is there
+-- a set of pairs has one if and only if a key with its parts is there
 pub is_found : (start bits : ℕ) (keys : List (ℕ × ℕ)) →
     list_any (λ k. is_eq (ordering_then (nat_cmp start k.0) (nat_cmp bits k.1))) keys ≡ list_any (λ k. k.0 == start && k.1 == bits) keys
 is_found start bits keys = ap (λ t. list_any t keys) (λ i k. is_eq-pair start bits k i)
 
--- entries stay filed where one more goes last, under its own block
+-- entries stay filed when one more is added at the end, with its own block
 cond-or : (here before : Bool) → cond here true before ≡ (before || (here || false))
 cond-or true true = refl
 cond-or true false = refl
@@ -99,12 +99,12 @@ pub none_filed : AreFiled [] []
 unfolding IsDistinct
 none_filed = record { blocks = λ start bits. refl; distinct = tt }
 
--- a key is in the set exactly where an entry has the block
+-- a key is in the set if and only if an entry has the block
 pub is_filed : (prefixes : List Prefix) (keys : List (ℕ × ℕ)) → AreFiled prefixes keys → (k : ℕ × ℕ) →
     list_any (λ q. is_eq (key_cmp k q)) keys ≡ has_prefix prefixes k.0 k.1
 is_filed prefixes keys ok k = is_found k.0 k.1 keys ∙ ok.blocks k.0 k.1
 
--- of entries of distinct blocks the last has a new one
+-- of entries with distinct blocks the last has a new one
 all_front : {X : Type 0} (P : X → Type 0) (xs : List X) (y : X) → AllByRecursion P (xs ++ y ∷ []) → AllByRecursion P xs
 all_front P [] y h = tt
 all_front P (x ∷ xs) y h = (h.0, all_front P xs y h.1)
@@ -137,14 +137,14 @@ distinct_rising es adjacent =
     (λ i j d under within. rank_apart (get_or es i d) (get_or es j d)
     (omega (arith, adjacent i d (omega (arith, under, within)), up (i + 1) j d (omega (arith, under)) within)))
 
--- so they have where they rise in another order
+-- this is also so if they rise in another order
 flips : (d e : Entry) → same_block d e ≡ same_block e d
 flips d e = ap₂ ◌&&◌ (nat_eq_equiv.symm d.block.value e.block.value) (nat_eq_equiv.symm d.block.len e.block.len)
 
 pub distinct_sorted : (es sorted : List Entry) → IsPermutation es sorted → HasDistinctBlocks sorted → HasDistinctBlocks es
 distinct_sorted es sorted moved = IsDistinct-IsPermutation same_block flips sorted es (IsPermutation-sym es sorted moved)
 
--- so their prefixes have
+-- and so for their prefixes
 pub distinct_keys : (table : List Label) (es : List Entry) → HasDistinctBlocks es → HasDistinctKeys (map (prefix_of table) es)
 distinct_keys table es = distinct_to_map (prefix_of table) same_key es
 

@@ -1,4 +1,4 @@
--- What a list has, and what is found in it.
+-- The elements of a list, and the ones that are found in it.
 use Rattle.std.proofs.Common.{◌≡◌, ◌⊎◌, inl, inr, Bool, true, false, cond, List, [], ◌∷◌, ◌++◌, Some, None, refl, sym, ap, ◌∙◌, subst, arith, All, Contains, filter, find, map, option_map}
 use Rattle.std.specs.List.{IsDistinct}
 use Rattle.std.proofs.lemmas.Bool.{both_ways}
@@ -22,7 +22,7 @@ Contains-cases y xs x has =
       | inr later ↦ inr later
     ]
 
--- an element of a mapped list is made of an element of the list
+-- an element of a mapped list comes from an element of the list
 pub Contains-from_map : {X Y : Type 0} (f : X → Y) (xs : List X) (y : Y) → Contains (map f xs) y
     → (x : X) × Contains xs x × (f x ≡ y)
 Contains-from_map f [] y has = absurd (Contains-nil y has)
@@ -34,7 +34,7 @@ Contains-from_map f (x ∷ xs) y has =
           (rest.0, Contains-later x xs rest.0 rest.1, rest.2)
     ]
 
--- what is found is in the list and passes
+-- the element that is found is in the list and passes
 pub find_passes : {X : Type 0} (test : X → Bool) (xs : List X) (x : X) → find test xs ≡ Some x → Contains xs x × (test x ≡ true)
 find_passes test [] x e = absurd (cc)
 find_passes {X} test (y ∷ ys) x e = step (find_passes test ys x) (test y) refl e
@@ -46,7 +46,7 @@ find_passes {X} test (y ∷ ys) x e = step (find_passes test ys x) (test y) refl
         (subst (λ (z : X). Contains (y ∷ ys) z) same (Contains-first y ys), subst (λ (z : X). test z ≡ true) same passes)
     step later false fails e = let rest = later e in (Contains-later y ys x rest.0, rest.1)
 
--- it stands behind elements that don't pass
+-- it comes after elements that don't pass
 pub record IsFoundAt {X : Type 0} (test : X → Bool) (xs : List X) (x : X) : Type 0 where
   pub before : List X
   pub behind : List X
@@ -86,7 +86,7 @@ find-first test [] behind x none passes = rw passes
 find-first test (y ∷ before) behind x none passes =
     rw (All-head (λ y. test y ≡ false) y before none) (find-first test before behind x (All-tail (λ y. test y ≡ false) y before none) passes)
 
--- where none is found, none passes
+-- if none is found, none passes
 pub find-fails : {X : Type 0} (test : X → Bool) (xs : List X) → find test xs ≡ None → All (λ x. test x ≡ false) xs
 find-fails test [] e = All-nil (λ x. test x ≡ false)
 find-fails {X} test (y ∷ ys) e = step (find-fails test ys) (test y) refl e
@@ -96,7 +96,7 @@ find-fails {X} test (y ∷ ys) e = step (find-fails test ys) (test y) refl e
     step later true passes e = absurd (none-some y (sym e))
     step later false fails e = All-cons (λ x. test x ≡ false) y ys fails (later e)
 
--- what holds of each element of two lists behind each other holds of those of each
+-- what is true of each element of two concatenated lists is true of those of each list
 pub All-left : {X : Type 0} (P : X → Type 0) (xs ys : List X) → All P (xs ++ ys) → All P xs
 All-left P [] ys h = All-nil P
 All-left P (x ∷ xs) ys h = All-cons P x xs (All-head P x (xs ++ ys) h) (All-left P xs ys (All-tail P x (xs ++ ys) h))
@@ -105,7 +105,7 @@ pub All-right : {X : Type 0} (P : X → Type 0) (xs ys : List X) → All P (xs +
 All-right P [] ys h = h
 All-right P (x ∷ xs) ys h = All-right P xs ys (All-tail P x (xs ++ ys) h)
 
--- none is found where none passes, and none is kept
+-- none is found if none passes, and none is kept
 pub find_none : {X : Type 0} (test : X → Bool) (xs : List X) → All (λ x. test x ≡ false) xs → find test xs ≡ None
 find_none test [] none = refl
 find_none test (x ∷ xs) none =
@@ -116,7 +116,7 @@ filter_none test [] none = refl
 filter_none test (x ∷ xs) none =
     rw (All-head (λ x. test x ≡ false) x xs none) (filter_none test xs (All-tail (λ x. test x ≡ false) x xs none))
 
--- where an element passes, and all that pass have its value, that value is found
+-- if an element passes, and all that pass have its value, that value is found
 pub find_alike : {X Y : Type 0} (f : X → Y) (test : X → Bool) (xs : List X) (x : X) → Contains xs x → test x ≡ true
     → ((z : X) → Contains xs z → test z ≡ true → f z ≡ f x) → option_map f (find test xs) ≡ Some (f x)
 find_alike f test [] x has passes alike = absurd (Contains-nil x has)
@@ -132,7 +132,7 @@ find_alike {X} f test (y ∷ ys) x has passes alike =
           | inr later ↦ further later
         ]
 
--- of elements that are distinct by a test, two that the test takes for one are one
+-- of elements that are distinct by a test, two that the test considers equal are equal
 pub distinct_same : {X : Type 0} (same : X → X → Bool) (xs : List X) (x y : X) → IsDistinct same xs → Contains xs x → Contains xs y
     → same x y ≡ true → same y x ≡ true → x ≡ y
 distinct_same same [] x y distinct has has' e e' = absurd (Contains-nil x has)

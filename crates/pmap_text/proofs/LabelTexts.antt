@@ -1,4 +1,4 @@
--- Lemmas on label tables.
+-- Lemmas about label tables.
 use Rattle.std.proofs.Common.{◌≡◌, ℕ, zero, suc, ◌+◌, ◌<◌, Bool, true, false, not, ◌||◌, cond, if◌then◌else◌, List, [], ◌∷◌, ◌++◌, map, length, length-append, Some, None, IsTrue, ◌⊎◌, inl, inr, refl, sym, ap, subst, ◌∙◌, arith, ltb, get_or, take}
 use Rattle.std.proofs.lemmas.Bool.Decides.{nat_tests}
 use Rattle.std.proofs.lemmas.Grind.{take_at_read}
@@ -16,7 +16,7 @@ use Rattle.indexmap.specs.IndexSet.{insert_key}
 use Rattle.pmap_text.specs.Label.{is_label, has_label, number_of, with_label, IsLabelTable}
 use Rattle.pmap_text.specs.MapModel.{Label}
 
--- a first place and a test of any element, after map
+-- the first index at which a test passes, and a test of any element, after map
 pub position_or_len-map : {X Y : Type 0} (f : X → Y) (p : Y → Bool) (xs : List X) → position_or_len p (map f xs) ≡ position_or_len (λ x. p (f x)) xs
 position_or_len-map f p [] = refl
 position_or_len-map f p (x ∷ xs) = ap (λ n. cond (not (p (f x))) (1 + n) 0) (position_or_len-map f p xs)
@@ -28,7 +28,7 @@ list_any-map f p (x ∷ xs) = ap (λ b. p (f x) || b) (list_any-map f p xs)
 pub position-map : {X Y : Type 0} (f : X → Y) (p : Y → Bool) (xs : List X) → position p (map f xs) ≡ position (λ x. p (f x)) xs
 position-map f p xs = rw (position_or_len-map f p xs, length-map xs f) refl
 
--- a first place is below the length exactly where some element passes
+-- the first index is below the length if and only if some element passes
 pub any_place : {X : Type 0} (p : X → Bool) (xs : List X) → ltb (position_or_len p xs) (length xs) ≡ list_any p xs
 any_place p [] = refl
 any_place {X} p (x ∷ xs) = by (p x) refl (any_place p xs)
@@ -40,7 +40,7 @@ any_place {X} p (x ∷ xs) = by (p x) refl (any_place p xs)
 pub position-any : {X : Type 0} (p : X → Bool) (xs : List X) → position p xs ≡ cond (list_any p xs) (Some (position_or_len p xs)) None
 position-any p xs = ap (λ b. cond b (Some (position_or_len p xs)) None) (any_place p xs)
 
--- an element keeps its place where others follow
+-- an element keeps its index if others follow
 pub slice_get-append : {X : Type 0} (xs ys : List X) (i : ℕ) (x : X) → slice_get xs i ≡ Some x → slice_get (xs ++ ys) i ≡ Some x
 slice_get-append [] ys i x e = absurd (none-some x e)
 slice_get-append (z ∷ zs) ys zero x e = e
@@ -58,11 +58,11 @@ slice_get-push (z ∷ zs) x (suc i) y e =
 bytes_eq-same : (x : Label) → bytes_eq x x ≡ true
 bytes_eq-same x = (bytes_eq-Decides x x).1 refl
 
--- a place that is there stays where another element follows
+-- an index that exists is unchanged if another element follows
 position-push : {X : Type 0} (p : X → Bool) (xs : List X) (x : X) (i : ℕ) → position p xs ≡ Some i → position p (xs ++ x ∷ []) ≡ Some i
 position-push p xs x i e = grind (arith, nat_tests, position_or_len_push p xs x, length-append xs (x ∷ []))
 
--- where no element passes, the first place is the length
+-- if no element passes, the first index is the length
 pub place-none : {X : Type 0} (p : X → Bool) (xs : List X) → list_any p xs ≡ false → position_or_len p xs ≡ length xs
 place-none p xs h = grind (arith, nat_tests, any_place p xs, prefix_len-le-length (λ x. not (p x)) xs)
 
@@ -70,7 +70,7 @@ place-none p xs h = grind (arith, nat_tests, any_place p xs, prefix_len-le-lengt
 position-last : {X : Type 0} (p : X → Bool) (xs : List X) (x : X) → list_any p xs ≡ false → p x ≡ true → position p (xs ++ x ∷ []) ≡ Some (length xs)
 position-last p xs x h e = grind (arith, nat_tests, place-none p xs h, position_or_len_push p xs x, length-append xs (x ∷ []))
 
--- a label table stays one where a new label goes last
+-- a label table remains one if a new label is added at the end
 IsLabelTable-push : (table : List Label) (x : Label) → IsLabelTable table → IsTrue (is_label x) → length table < 65536 → has_label table x ≡ false → IsLabelTable (table ++ x ∷ [])
 IsLabelTable-push table x ok label room h = record {
   few = omega (arith, length-append table (x ∷ []), ok.few, room);
@@ -82,7 +82,7 @@ IsLabelTable-push table x ok label room h = record {
 }
 
 module _ (table : List Label) (x : Label) where
-  -- what a text's number says of the table
+  -- facts about the table from a text's number
   pub has_label-number : (i : ℕ) → number_of table x ≡ Some i → has_label table x ≡ true
   has_label-number i e = by (has_label table x) refl
     where
@@ -100,20 +100,20 @@ module _ (table : List Label) (x : Label) where
   pub number_of-known : has_label table x ≡ true → number_of table x ≡ Some (position_or_len (bytes_eq x) table)
   number_of-known h = position-any (bytes_eq x) table ∙ ap (λ b. cond b (Some (position_or_len (bytes_eq x) table)) None) h
 
-  -- the text is at its number
+  -- the text is at the index that is its number
   pub slice_get-number : (i : ℕ) → number_of table x ≡ Some i → slice_get table i ≡ Some x
   slice_get-number i e =
       let found = position-Some (bytes_eq x) table i [] e in
       slice_get-get_or table i [] found.0 ∙ ap Some (sym ((bytes_eq-Decides x (get_or table i [])).0 found.1))
 
-  -- the table after a label is added, where it was known and where it was not
+  -- the table after a label is added, if it was known and if it was not
   pub with_label-known : has_label table x ≡ true → with_label table x ≡ table
   with_label-known h = ap (λ b. if b then table else table ++ x ∷ []) h
 
   pub with_label-new : has_label table x ≡ false → with_label table x ≡ table ++ x ∷ []
   with_label-new h = ap (λ b. if b then table else table ++ x ∷ []) h
 
-  -- each text keeps its place
+  -- each text keeps its number
   pub slice_get-with_label : (i : ℕ) (y : Label) → slice_get table i ≡ Some y → slice_get (with_label table x) i ≡ Some y
   slice_get-with_label i y e = by (has_label table x) refl
     where
@@ -121,7 +121,7 @@ module _ (table : List Label) (x : Label) where
       by true h = rw (with_label-known h) e
       by false h = rw (with_label-new h) (slice_get-append table (x ∷ []) i y e)
 
-  -- the text has the first place that it had, or the last
+  -- the text has the first index that it had, or the last
   pub number_of-added : number_of (with_label table x) x ≡ Some (position_or_len (bytes_eq x) table)
   number_of-added = by (has_label table x) refl
     where
@@ -129,7 +129,7 @@ module _ (table : List Label) (x : Label) where
       by true h = rw (with_label-known h) (number_of-known h)
       by false h = rw (with_label-new h) (position-last (bytes_eq x) table x h (bytes_eq-same x) ∙ ap Some (sym (place-none (bytes_eq x) table h)))
 
-  -- a label table stays one
+  -- a label table remains one
   pub IsLabelTable-with_label : IsLabelTable table → IsTrue (is_label x) → length table < 65536 → IsLabelTable (with_label table x)
   IsLabelTable-with_label ok label room = by (has_label table x) refl
     where
@@ -137,7 +137,7 @@ module _ (table : List Label) (x : Label) where
       by true h = subst IsLabelTable (sym (with_label-known h)) ok
       by false h = subst IsLabelTable (sym (with_label-new h)) (IsLabelTable-push table x ok label room h)
 
--- the texts before a text don't have it
+-- no text before the first occurrence of a text equals it
 none_before : {X : Type 0} (p : X → Bool) (xs : List X) → list_any p (take (position_or_len p xs) xs) ≡ false
 none_before p [] = refl
 none_before {X} p (x ∷ xs) = by (p x) refl (none_before p xs)
@@ -147,7 +147,7 @@ none_before {X} p (x ∷ xs) = by (p x) refl (none_before p xs)
     by true e ih = rw e refl
     by false e ih = rw (e, one-add, e) ih
 
--- so where the first texts of a table are one too, the next one goes last
+-- so if the first texts of a table are a table too, the next one is added at the end
 pub take-with_label : (table : List Label) (k : ℕ) (x : Label) → IsLabelTable table → slice_get table k ≡ Some x
     → with_label (take k table) x ≡ take (k + 1) table
 take-with_label table k x ok at =

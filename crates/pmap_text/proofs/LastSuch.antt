@@ -4,7 +4,7 @@ use Rattle.std.proofs.lemmas.Bool.{both_ways, false_from_ne_true}
 use Rattle.std.specs.Option.{option_or}
 use Rattle.pmap_text.specs.MapModel.{Mapping, last_such}
 
--- how the last mapping that passes is found: further on, or here where none further on passes
+-- how the last mapping that passes is found: further on, or here if none further on passes
 pub last_such-cases : (test : Mapping → Bool) (m : Mapping) (ms : List Mapping) (s : Mapping) →
     last_such test (m ∷ ms) ≡ Some s →
     (last_such test ms ≡ Some s) ⊎ ((last_such test ms ≡ None) × (test m ≡ true) × (m ≡ s))
@@ -19,12 +19,12 @@ last_such-passes test (m ∷ ms) s e =
       | inr h ↦ subst (λ (t : Mapping). test t ≡ true) h.2 h.1
     ]
 
--- where none passes, neither the first nor a later one does
+-- if none passes, neither the first nor a later one does
 pub last_such-none_cases : (test : Mapping → Bool) (m : Mapping) (ms : List Mapping) → last_such test (m ∷ ms) ≡ None →
     (last_such test ms ≡ None) × (test m ≡ false)
 last_such-none_cases test m ms e = grind arith
 
--- where none passes a test, none passes a stronger one
+-- if none passes a test, none passes a stronger one
 pub last_such-none : (weak strong : Mapping → Bool) → ((m : Mapping) → strong m ≡ true → weak m ≡ true) → (ms : List Mapping) →
     last_such weak ms ≡ None → last_such strong ms ≡ None
 last_such-none weak strong weaker [] e = refl
@@ -34,7 +34,7 @@ last_such-none weak strong weaker (m ∷ ms) e =
     let here : strong m ≡ false = false_from_ne_true (strong m) (λ t. both_ways (weak m) h.1 (weaker m t)) in
     rw (ih, here)
 
--- where the last that passes a test passes a stronger one, it is the last that does
+-- if the last that passes a test passes a stronger one, it is the last that does
 pub last_such-some : (weak strong : Mapping → Bool) → ((m : Mapping) → strong m ≡ true → weak m ≡ true) →
     (ms : List Mapping) (s : Mapping) → last_such weak ms ≡ Some s → strong s ≡ true → last_such strong ms ≡ Some s
 last_such-some weak strong weaker [] s e passes = cc
@@ -51,7 +51,7 @@ or_cond : (b : Bool) (m : Mapping) (o e : Option Mapping) → option_or (cond b 
 or_cond true m o e = refl
 or_cond false m o e = refl
 
--- of mappings with one more at the end it is that one, if it passes
+-- with one more mapping at the end it is that one, if it passes
 pub last_such-push : (test : Mapping → Bool) (ms : List Mapping) (m : Mapping) →
     last_such test (ms ++ m ∷ []) ≡ cond (test m) (Some m) (last_such test ms)
 last_such-push test [] m = refl

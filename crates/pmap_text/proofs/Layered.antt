@@ -10,7 +10,7 @@ zip_push R [] (y' ∷ ys) x y all one = absurd all
 zip_push R (x' ∷ xs) [] x y all one = absurd all
 zip_push R (x' ∷ xs) (y' ∷ ys) x y all one = (all.0, zip_push R xs ys x y all.1 one)
 
--- one pair more
+-- one more pair
 pub zip_more : {A B : Type 0} (R : A → B → Type 0) (xs : List A) (ys : List B) (i : ℕ) (x : A) (y : B) → i < length xs → x ≡ get_or xs i x
     → AllZip R (take i xs) ys → R x y → AllZip R (take (i + 1) xs) (ys ++ y ∷ [])
 zip_more {A} R xs ys i x y within is all one =

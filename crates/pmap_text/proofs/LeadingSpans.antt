@@ -1,4 +1,4 @@
--- Blocks and ranges of IPv4 that a line of a map of IPv4 begins with.
+-- Blocks and ranges of IPv4 at the start of a line of a map of IPv4.
 use Rattle.std.proofs.Common.{◌≡◌, ℕ, ◌+◌, ◌-◌, ◌≤◌, List, ◌∷◌, Option, Some, Ok, Err, ap, sym, subst, ◌∙◌, arith, le-leb, nat_le, unwrap_or}
 use Rattle.std.proofs.lemmas.Bool.{cond-true}
 use Rattle.std.specs.Prelude.{if◌then◌else◌}

@@ -1,4 +1,4 @@
--- What a text begins with, and its first word.
+-- The start of a text, and its first word.
 use Rattle.std.proofs.Common.{◌≡◌, ℕ, ◌+◌, ◌*◌, ◌<◌, ◌≤◌, ◌&&◌, ◌||◌, ◌==◌, Bool, true, false, List, [], ◌∷◌, ◌++◌, Some, None, Ok, All, length, take, drop, ap, sym, refl, ◌∙◌, arith, codes, inl, inr, nat_le, le-leb, option_map}
 use Rattle.std.specs.List.{list_all, list_any, position_or_len, before_first, after_first}
 use Rattle.std.specs.Str.{bytes_eq}
@@ -25,7 +25,7 @@ use Rattle.pmap_text.specs.Reading.{Earlier, block_line, content_line, one_or_tw
 use Rattle.pmap_text.specs.declared.form.Form.{Form}
 use Rattle.pmap_text.specs.declared.leading.Word.TheVariants.{Address, Block as block_word}
 
--- a number is of digits
+-- a number consists of digits
 pub number-digits : (limit : ℕ) (text : List ℕ) (n : ℕ) → short_number limit text ≡ Some n → list_all is_digit text ≡ true
 number-digits limit text n reads = elim (cases_Bool (list_all is_digit text)) [
   | inl all ↦ all
@@ -36,7 +36,7 @@ number-no_point : (limit : ℕ) (text : List ℕ) (n : ℕ) → short_number lim
 number-no_point limit text n reads =
     none-passes is_digit is_point (apart is_digit 46 refl) text (number-digits limit text n reads)
 
--- one to three digits at the front are a number
+-- one to three digits at the start are a number
 pub number-some : (limit : ℕ) (text : List ℕ) (at n : ℕ) → n ≡ decimal_value (take at text) → list_all is_digit (take at text) ≡ true
     → 0 < at → at ≤ 3 → at ≤ length text → n ≤ limit → short_number limit (take at text) ≡ Some n
 number-some limit text at n value digits some few within small =
@@ -48,7 +48,7 @@ number-some limit text at n value digits some few within small =
     cond-true _ (Some (decimal_value front)) None (and_from _ _ one (and_from _ _ three (and_from _ _ digits limited)))
     ∙ ap (λ m. Some m) (sym value)
 
--- four numbers with points between are an address
+-- four numbers separated by points are an address
 abbrev pub pointed : List ℕ → List ℕ → List ℕ → List ℕ → List ℕ
 pointed f0 f1 f2 f3 = f0 ++ 46 ∷ (f1 ++ 46 ∷ (f2 ++ 46 ∷ f3))
 
@@ -87,7 +87,7 @@ dotted-bytes f0 f1 f2 f3 a b c d ea eb ec ed =
     number-pointed f0 (f1 ++ 46 ∷ (f2 ++ 46 ∷ f3)) a ea
     (number-pointed f1 (f2 ++ 46 ∷ f3) b eb (number-pointed f2 f3 c ec (number-dotted f3 d ed)))
 
--- what stands behind the parts stands behind them all
+-- the text after the parts is the text after the whole
 pub dotted-whole : (text t1 t2 t3 rest f0 f1 f2 f3 : List ℕ)
     → text ≡ f0 ++ 46 ∷ t1 → t1 ≡ f1 ++ 46 ∷ t2 → t2 ≡ f2 ++ 46 ∷ t3 → t3 ≡ f3 ++ rest
     → text ≡ pointed f0 f1 f2 f3 ++ rest
@@ -128,7 +128,7 @@ dotted-byte b dotted = elim (or_cases (is_digit b) (b == 46) dotted) [
 pub address-bytes : (front : List ℕ) → list_all is_dotted_byte front ≡ true → list_all is_address_byte front ≡ true
 address-bytes front bytes = all-weaker is_dotted_byte is_address_byte dotted-byte front bytes
 
--- so is a colon address, of such bytes too
+-- so is a colon address, which also consists of such bytes
 colon-byte : (b : ℕ) → is_colon_byte b ≡ true → is_address_byte b ≡ true
 colon-byte b colon = elim (or_cases (is_hex_digit b) (b == 58) colon) [
   | inl digit ↦ rw digit refl
@@ -156,7 +156,7 @@ address-no_blank front bytes = none-passes is_address_byte is_blank (no_blank is
 pub digits-no_blank : (front : List ℕ) → list_all is_digit front ≡ true → All (λ b. is_blank b ≡ false) front
 digits-no_blank front digits = none-passes is_digit is_blank (no_blank is_digit refl refl refl) front digits
 
--- the first element that passes is behind a front of which none does
+-- the first element that passes comes after elements that don't pass
 pub first-behind : (p : ℕ → Bool) (front : List ℕ) (b : ℕ) (rest : List ℕ) → All (λ b. p b ≡ false) front → p b ≡ true
     → position_or_len p (front ++ b ∷ rest) ≡ length front
 first-behind p [] b rest all here = rw here refl
@@ -166,7 +166,7 @@ first-behind p (c ∷ front) b rest all here =
     first-behind p front b rest (All-tail (λ b. p b ≡ false) c front all) here in
     rw not (omega (arith, more))
 
--- the first word is the front without a blank, and behind it stands what begins with one
+-- the first word is the front without blanks, and the text after it begins with a blank
 pub word-front : (text front rest : List ℕ) → text ≡ front ++ rest → All (λ b. is_blank b ≡ false) front → BeginsWithBlank rest
     → first_word text ≡ front
 word-front text front rest whole none blank =
@@ -184,7 +184,7 @@ word-behind text front rest whole none blank =
     (first-behind is_blank front blank.blank blank.rest none blank.is)
     ∙ ap trim_start (drop_at front (blank.blank ∷ blank.rest) (length front) refl ∙ sym blank.whole)
 
--- an address with a blank behind it is the first word
+-- an address followed by a blank is the first word
 pub address-word : (text rest : List ℕ) (addr : Addr) → BeginsWithAddress text rest addr → BeginsWithBlank rest
     → IsWord (first_word text) (Address addr) × (behind_word text ≡ trim_start rest)
 address-word text rest addr begins blank =
@@ -197,7 +197,7 @@ address-word text rest addr begins blank =
       word-behind text begins.front rest begins.whole none blank,
     )
 
--- so is one with a length behind a slash
+-- so is an address with a slash and a length, followed by a blank
 block-whole : (text rest length left front digits : List ℕ) → text ≡ front ++ rest → rest ≡ 47 ∷ length → length ≡ digits ++ left
     → text ≡ (front ++ 47 ∷ digits) ++ left
 block-whole text rest length left front digits e0 e1 e2 =
@@ -251,7 +251,7 @@ block-word text rest length left addr len block begins slash number blank versio
       word-behind text front left whole none blank,
     )
 
--- a line whose first word has a `/` is one of a block, and one whose first word is an address begins with that
+-- a line whose first word has a `/` is one of a block, and a line whose first word is an address begins with that
 not-keyword : (word keyword : List ℕ) → (word ≡ keyword → ⊥) → bytes_eq word keyword ≡ false
 not-keyword word keyword other =
     false_from_ne_true (bytes_eq word keyword) (λ same. other ((bytes_eq-Decides word keyword).0 same))
@@ -273,7 +273,7 @@ address-statement form earlier word rest first reads slash =
     let known : None ≡ Some first = sym none ∙ ap address_of (sym same) ∙ reads in absurd cc) in
     rw (other (codes "map-name") refl, other (codes "mode") refl, other (codes "label") refl, other (codes "default") refl, slash, reads) refl
 
--- the same of a line's content
+-- a line whose content begins with a block, or with an address, by its content
 pub content-block : (form : Form) (earlier : Earlier) (content rest : List ℕ) (block : Block) → IsWord (first_word content) (block_word block)
     → rest ≡ behind_word content → content_line form earlier content ≡ block_line form earlier (Ok (block.version, block.value, block.len)) rest
 content-block form earlier [] rest block word behind = absurd (false≢true word.1)

@@ -1,4 +1,4 @@
--- What the lines so far say, after one more line.
+-- The content of the lines so far, after one more line.
 use Rattle.std.proofs.Common.{◌≡◌, ◌≢◌, ℕ, ◌+◌, ◌||◌, Bool, true, false, List, [], ◌∷◌, ◌++◌, Option, Some, None, Result, Ok, Err, ◌⊎◌, inl, inr, refl, sym, ap, ◌∙◌, fold}
 use Rattle.std.proofs.lemmas.List.Concat.{flat_map-append}
 use Rattle.std.proofs.lemmas.List.Sums.{fold-append}
@@ -22,7 +22,7 @@ option_or-assoc : {X : Type 0} (o p q : Option X) → option_or (option_or o p) 
 option_or-assoc None p q = refl
 option_or-assoc (Some x) p q = refl
 
--- the first and the last of some lines that say such a thing, with one more line
+-- the first and the last of the contents of a kind, with one more line
 
 first_in-push : {X : Type 0} (f : Entry → Option X) (es : List Entry) (entry : Entry) → first_in f (es ++ entry ∷ []) ≡ option_or (first_in f es) (f entry)
 first_in-push f [] entry = sym (option_or-none (f entry))
@@ -34,7 +34,7 @@ last_in-push f [] entry = option_or-none (f entry)
 last_in-push f (e ∷ es) entry =
     ap (λ d. option_or d (f e)) (last_in-push f es entry) ∙ option_or-assoc (f entry) (last_in f es) (f e)
 
--- whether some line says it
+-- whether some line has such a content
 any-push : (es : List Entry) (entry : Entry) → list_any decides_in (es ++ entry ∷ []) ≡ (list_any decides_in es || decides_in entry)
 any-push [] entry = by (decides_in entry)
   where
@@ -55,7 +55,7 @@ or-true : (b : Bool) → (b || true) ≡ true
 or-true true = refl
 or-true false = refl
 
--- each thing that the lines so far are, after one more line
+-- each part of the content of the lines so far, after one more line
 
 mode-push : (es : List Entry) (entry : Entry) → list_any decides_in (es ++ entry ∷ []) ≡ (added (earlier_of es) entry).mode
 mode-push es (Decides v) = any-push es (Decides v) ∙ or-true (list_any decides_in es)
@@ -95,7 +95,7 @@ prefixes-push : (es : List Entry) (entry : Entry) → flat_map prefix_in (es ++ 
 prefixes-push es (Lists v p) = flat_map-append prefix_in es (Lists v p ∷ [])
 prefixes-push es entry = flat_map-append prefix_in es (entry ∷ []) ∙ append-nil (flat_map prefix_in es)
 
--- one more line adds what it says
+-- one more line adds its content
 pub earlier_of-push : (entries : List Entry) (entry : Entry) → earlier_of (entries ++ entry ∷ []) ≡ added (earlier_of entries) entry
 earlier_of-push es entry =
     λ i. record {
@@ -109,12 +109,12 @@ earlier_of-push es entry =
       table = table-push es entry i;
     }
 
--- the line was read, and the lines so far have it at their end
+-- the line was read, and is the last of the lines so far
 abbrev pub Adds : Earlier → Earlier → Result Entry MapFaultKind → Type 0
 Adds old new (Ok entry) = new ≡ added old entry
 Adds old new (Err kind) = ⊥
 
--- where a line was read, the rest of the lines are read behind it
+-- if a line was read, the rest of the lines are read after it
 pub entries_from-line : (form : Form) (entries : List Entry) (number : ℕ) (line : List ℕ) (lines : List (List ℕ)) (new : Earlier) → Adds (earlier_of entries) new (line_entry form (earlier_of entries) line)
     → (more : List Entry) × (entries_from form entries number (line ∷ lines) ≡ entries_from form more (number + 1) lines) × (new ≡ earlier_of more)
 entries_from-line form entries number line lines new adds = by (line_entry form (earlier_of entries) line) refl adds
@@ -124,12 +124,12 @@ entries_from-line form entries number line lines new adds = by (line_entry form 
     by (Ok entry) e a = (entries ++ entry ∷ [], rw e refl, a ∙ sym (earlier_of-push entries entry))
     by (Err kind) e a = absurd a
 
--- where a line is faulty, so is the text
+-- if a line is faulty, so is the text
 pub entries_from-fault : (form : Form) (entries : List Entry) (number : ℕ) (line : List ℕ) (lines : List (List ℕ)) (kind : MapFaultKind) → line_entry form (earlier_of entries) line ≡ Err kind
     → entries_from form entries number (line ∷ lines) ≡ Err (record { kind = kind; line = number + 1 })
 entries_from-fault form entries number line lines kind e = rw e refl
 
--- a line that isn't read for another reason than want of memory has that fault
+-- a line that isn't read although no allocation failed has that fault
 pub refusal-fault : (r : Result Entry MapFaultKind) (kind : MapFaultKind) → kind ≡ refusal_of r → kind ≢ NoMemory → r ≡ Err kind
 refusal-fault (Ok entry) kind e other = absurd (other e)
 refusal-fault (Err fault) kind e other = λ i. Err (sym e i)

@@ -28,7 +28,7 @@ block_start v e same =
 pub block_short : (v : Version) (e : Entry) → e.block.version ≡ v → e.block.len ≤ width_of v
 block_short v e same = rw (← same) e.block.len_in_range
 
--- of two blocks in order that have a common address the second is no shorter
+-- of two blocks in order that share an address the second is no shorter
 pub longer_later : (es : List Entry) → IsNonDecreasingBy rank_of es → LongerLater es
 longer_later es rising i j d le below a version first second =
     let e = get_or es i d in
@@ -48,7 +48,7 @@ same_start : (W n a b : ℕ) → block_number W n a ≡ block_number W n b → b
     block_number W n b * 2 ^ (W - n) ≡ b → a ≡ b
 same_start W n a b same left right = sym left ∙ ap (λ (k : ℕ). k * 2 ^ (W - n)) same ∙ right
 
--- entries of one block have one start and one length
+-- entries with the same block have the same start and length
 pub same_block-from : (v : Version) (d e : Entry) → d.block.version ≡ v → e.block.version ≡ v → d.block.len ≡ e.block.len →
     block_number (width_of v) d.block.len d.block.value ≡ block_number (width_of v) e.block.len e.block.value → same_block d e ≡ true
 same_block-from v d e left right bits number =

@@ -12,7 +12,7 @@ use Rattle.pmap_text.specs.LongestMatch.{CoversAddress, HasDistinctPrefixes, Has
 use Rattle.pmap_text.specs.MapModel.{Label}
 use Rattle.pmap_text.proofs.Finds.{All-left, All-right, Contains-first, distinct_same, find-fails, find-first, find-place, find_alike, find_none}
 
--- an entry passes the test for n bits where it has n bits and covers the address
+-- an entry passes the test for n bits if it has n bits and covers the address
 pub covers-true : (W n a : ℕ) (p : Prefix) → n ≤ W → covers W n a p ≡ true → (p.bits ≡ n) × CoversAddress W a p
 covers-true W n a p fits h =
     let parts = and_parts (p.bits == n) (block_number W n p.start == block_number W n a) h in
@@ -34,7 +34,7 @@ covers-from W n a p c bits =
 covers-false : (W n a : ℕ) (p : Prefix) → covers W n a p ≡ false → CoversAddress W a p → p.bits ≡ n → ⊥
 covers-false W n a p fails c bits = both_ways (covers W n a p) fails (covers-from W n a p c bits)
 
--- of the entries of fewer than n bits that cover the address it is the longest, of equal blocks the first
+-- the entry is the longest of those of fewer than n bits that cover the address, and of equal blocks the first
 record IsLongestBelow (W : ℕ) (ps : List Prefix) (n a : ℕ) (p : Prefix) : Type 0 where
   before : List Prefix
   behind : List Prefix
@@ -106,7 +106,8 @@ longest-below W ps (suc n) a fits =
           ih.2,
         )
 
--- the label is that of the longest entry that covers the address, of equal blocks the first; none where none covers it
+-- the label is that of the longest entry that covers the address, and of equal blocks the first; it is none if none
+-- covers it
 pub longest-match : (W : ℕ) (ps : List Prefix) (a : ℕ) →
     MatchOption (label_below W ps (suc W) a) (All (λ p. CoversAddress W a p → ⊥) ps)
     (λ x. (p : Prefix) × IsLongestMatch W ps a p × (p.label ≡ x))
@@ -131,7 +132,7 @@ longest-match W ps a = by (label_below W ps (suc W) a) (longest-below W ps (suc 
           some.2,
         )
 
--- an entry that is longer than those that cover the address covers it not
+-- an entry that is longer than those that cover the address doesn't cover it
 pub label_at-past : (W : ℕ) (ps : List Prefix) (a n k : ℕ) → k ≤ W → n < k →
     All (λ r. CoversAddress W a r → r.bits ≤ n) ps → label_at W ps k a ≡ None
 label_at-past W ps a n k fits past most =
@@ -181,7 +182,8 @@ pub label-longest : (W : ℕ) (ps : List Prefix) (a : ℕ) (p : Prefix) → IsLo
 label-longest W ps a p longest =
     label_below-longest W ps a p longest (none_longer W ps a p longest) (suc W) (omega (arith, (longest.covers).fits)) (le_refl (suc W))
 
--- an entry that covers the address, where none that does is longer and those as long have its label, gives it its label
+-- an entry that covers the address gives it its label if no entry that covers it is longer and those of the same length
+-- have the same label
 pub label_below-top : (W : ℕ) (ps : List Prefix) (a : ℕ) (p : Prefix) → Contains ps p → CoversAddress W a p →
     ((r : Prefix) → Contains ps r → CoversAddress W a r → r.bits ≤ p.bits) →
     ((r : Prefix) → Contains ps r → CoversAddress W a r → r.bits ≡ p.bits → r.label ≡ p.label) →
@@ -201,7 +203,7 @@ label_below-top W ps a p has covered most alike (suc k) longer fits =
           (label_below-top W ps a p has covered most alike k past (omega arith))
     ]
 
--- entries of which no two have one block have one label for a block
+-- if no two entries have the same block, a block has one label
 pub once-distinct : (W : ℕ) (ps : List Prefix) → HasDistinctPrefixes W ps → LabelsBlocksOnce W ps
 once-distinct W ps distinct p r has has' bits number =
     let there = and_from (p.bits == r.bits) (block_number W p.bits p.start == block_number W r.bits r.start)
@@ -210,7 +212,7 @@ once-distinct W ps distinct p r has has' bits number =
     (eq-eqb r.bits p.bits (sym bits)) (eq-eqb (block_number W r.bits r.start) (block_number W p.bits p.start) (sym number)) in
     ap (λ (s : Prefix). s.label) (distinct_same (is_same_prefix W) ps p r distinct has has' there back)
 
--- the label depends on which entries a list has, and not on their order, where a block has one label
+-- if a block has only one label, the label depends on the entries of a list, and not on their order
 pub label-same_prefixes : (W : ℕ) (ps rs : List Prefix) (a : ℕ) → LabelsBlocksOnce W ps → HasSamePrefixes ps rs →
     label_below W ps (suc W) a ≡ label_below W rs (suc W) a
 label-same_prefixes W ps rs a once same =

@@ -1,4 +1,4 @@
--- A prefix list's entries as statements that lie over one another, the short ones first.
+-- A prefix list's entries as statements painted over one another, the short ones first.
 use Rattle.std.proofs.Common.{◌≡◌, ℕ, suc, ◌-◌, ◌<◌, ◌≤◌, List, [], ◌∷◌, Option, Some, None, option_and_then, map, length, refl, sym, ap, ◌∙◌, subst, arith, All, Contains, slice_get}
 use Rattle.std.specs.List.{AllZip}
 use Rattle.std.proofs.lemmas.List.Elements.{All-contains, All-cons, All-head, All-map, All-nil, All-tail, All-weaker}
@@ -25,7 +25,7 @@ use Rattle.pmap_text.proofs.Painted.{IsRising, IsSeen, painted, rising, seen_by,
 use Rattle.pmap_text.proofs.Seen.{last_such-is}
 use Rattle.pmap_text.proofs.SeenBlocks.{IsWhole, address_whole, ordered_of}
 
--- what holds of each entry holds of its statement in another form
+-- what is true of each entry is true of its statement in another form
 pub zip_all : (P : Entry → Type 0) (Q : Statement → Type 0) → ((e : Entry) (s : Statement) → HasStatement e s → P e → Q s) → (es : List Entry)
     → (ss : List Statement) → AllZip HasStatement es ss → All P es → All Q ss
 zip_all P Q step [] [] all given = All-nil Q
@@ -55,7 +55,7 @@ zip_mappings v table (e ∷ es) (s ∷ ss) all same =
     let rest = zip_mappings v table es ss all.1 (All-tail (λ (d : Entry). d.block.version ≡ v) e es same) in
     rw (here, rest)
 
--- the entries' blocks are distinct and have no host bits, so entries of one block are one
+-- the entries' blocks are distinct and have no host bits, so entries with the same block are equal
 same_entry : (l : PrefixList) (d e : Entry) → Contains l.entries d → Contains l.entries e → d.block.len ≡ e.block.len
     → block_number (width_of l.version) d.block.len d.block.value ≡ block_number (width_of l.version) e.block.len e.block.value → d ≡ e
 same_entry l d e has has' bits number =
@@ -81,7 +81,7 @@ list_blocks l =
           sym (ap (λ (s : Prefix). s.label) d.2) ∙ ap (λ (f : Entry). (prefix_of l.labels f).label) same ∙ ap (λ (s : Prefix). s.label) e.2;
     }
 
--- what is seen of prefixes at an address, the short ones first, by the statement that wins there
+-- the prefix that is seen at an address, the short ones first, from the statement that wins there
 record IsWon (W a : ℕ) (table : List Label) (ps : List Prefix) (o : Option Mapping) : Type 0 where
   label : Option ℕ
   seen : IsSeen W table ps W a label
@@ -106,7 +106,7 @@ won W a table ps ss up known (Some m) last whole =
 single : (W a : ℕ) → a ≡ block_number W W a
 single W a = let none : W - W ≡ 0 = omega arith in rw none (omega arith)
 
--- what is known of a list's statements: the one that wins at an address is that of the longest entry that covers it
+-- facts about a list's statements: the one that wins at an address is that of the longest entry that covers it
 pub record AreStatementsOf (l : PrefixList) (ss : List Statement) : Type 0 where
   pub version : All (λ s. s.span.low.version ≡ l.version) ss
   pub known : All (λ s. s.label.0 < length l.labels) ss

@@ -1,4 +1,4 @@
--- The longest entry that covers an address, where it is known which one is on top.
+-- The longest entry that covers an address, if the entry on top is known.
 use Rattle.std.proofs.Common.{◌≡◌, ℕ, zero, suc, ◌+◌, ◌-◌, ◌*◌, ◌^◌, ◌<◌, ◌≤◌, ◌==◌, inl, inr, true, false, nat_lt, List, [], Option, Some, None, option_and_then, option_map, filter, slice_get, length, refl, sym, ap, ◌∙◌, subst, arith, All, Contains, pow-suc, pow_pos}
 use Rattle.std.specs.Option.{ForSome}
 use Rattle.std.proofs.Math.Nat.{pow-le-pow_right}
@@ -13,7 +13,7 @@ use Rattle.pmap_text.proofs.Blocks.{address-between, address-first, address-last
 use Rattle.pmap_text.proofs.Orders.{both_le, known_text, le_both}
 use Rattle.pmap_text.proofs.Painted.{painted, IsTop, IsSeen}
 
--- prefixes of blocks, of which those of one block have one label
+-- prefixes of blocks; those with the same block have the same label
 pub record AreBlocks (W : ℕ) (ps : List Prefix) : Type 0 where
   pub short : All (λ p. p.bits ≤ W) ps
   pub alike : (p r : Prefix) → Contains ps p → Contains ps r → p.bits ≡ r.bits
@@ -28,7 +28,7 @@ meets_at W n q a p inside same =
     (omega (arith, address-first W p.bits (block_number W p.bits p.start) a (sym same), address-last W n q a (sym inside)))
     (omega (arith, address-first W n q a (sym inside), address-last W p.bits (block_number W p.bits p.start) a (sym same)))
 
--- so one that covers the address does, and one inside the block
+-- so do one that covers the address and one inside the block
 covers_parts : (W k a : ℕ) (p : Prefix) → covers W k a p ≡ true
     → (p.bits ≡ k) × (block_number W p.bits p.start ≡ block_number W p.bits a)
 covers_parts W k a p h =
@@ -76,7 +76,7 @@ top_short W n q p fits h =
       | inr short ↦ short
     ]
 
--- where no entry meets the block of an address, none covers the address
+-- if no entry meets the block of an address, none covers the address
 uncovered : (W : ℕ) (ps : List Prefix) (n q a : ℕ) → q ≡ block_number W n a → All (λ p. meets W n q (painted W p) ≡ false) ps → (k : ℕ)
     → label_at W ps k a ≡ None
 uncovered W ps n q a inside none k =
@@ -91,7 +91,7 @@ below_uncovered W ps n q a inside none zero = refl
 below_uncovered W ps n q a inside none (suc k) =
     rw (uncovered W ps n q a inside none k) (below_uncovered W ps n q a inside none k)
 
--- where one is on top, none that is longer covers the address, and those of its length have its label
+-- if an entry is on top, none that is longer covers the address, and those of its length have its label
 beyond_top : (W : ℕ) (ps : List Prefix) (n q a : ℕ) (top : Prefix) → q ≡ block_number W n a → IsTop W ps n q top → (k : ℕ) → top.bits < k
     → label_at W ps k a ≡ None
 beyond_top W ps n q a top inside is k longer =
@@ -120,7 +120,7 @@ below_top W ps n q a top blocks inside is (suc k) longer =
           rw (beyond_top W ps n q a top inside is k beyond) (below_top W ps n q a top blocks inside is k beyond)
     ]
 
--- so the longest entry of fewer than k bits gives the label that is seen, where k is not too small
+-- so the longest entry of fewer than k bits gives the label that is seen, if k is large enough
 pub label_seen : (W : ℕ) (table : List Label) (ps : List Prefix) (n q a k : ℕ) (label : Option ℕ) → AreBlocks W ps → q ≡ block_number W n a
     → ((bits : ℕ) → bits ≤ n → bits ≤ W → bits < k) → IsSeen W table ps n q label
     → label_below W ps k a ≡ option_and_then (slice_get table) label
@@ -132,7 +132,7 @@ label_seen W table ps n q a k (Some id) blocks inside enough f =
     below_top W ps n q a top blocks inside is k (enough top.bits (top_short W n q top fits is.covers) fits)
     ∙ ap Some (f.1).1 ∙ sym (known_text table id f.0)
 
--- and no entry lies inside the block
+-- and no entry is inside the block
 pub none_inside : (W : ℕ) (table : List Label) (ps : List Prefix) (n q : ℕ) (label : Option ℕ) → AreBlocks W ps → IsSeen W table ps n q label
     → filter (lies_inside W n q) ps ≡ []
 none_inside W table ps n q None blocks f =

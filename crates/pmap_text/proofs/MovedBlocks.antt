@@ -1,4 +1,4 @@
--- The place of a block in a text of either version.
+-- A block in a text of either version.
 use Rattle.std.proofs.Common.{◌≡◌, ℕ, ◌+◌, ◌-◌, ◌*◌, ◌/◌, ◌%◌, ◌^◌, ◌<◌, ◌≤◌, Ok, ap, ◌∙◌, arith}
 use Rattle.std.proofs.lemmas.Nat.{mod-mul-add, pow_pos}
 use Rattle.prefix_keys.proofs.Quotients.{whole, width_split}
@@ -13,7 +13,7 @@ use Rattle.pmap_text.specs.Reading.{number_in}
 pub first_of-whole : (W n v k : ℕ) → W - n ≡ k → v % 2 ^ k ≡ 0 → first_of W n (block_number W n v) ≡ v
 first_of-whole W n v k e h = rw e (whole v (2 ^ k) (pow_pos k) h)
 
--- the place of an IPv4 block in ::ffff:0:0/96 has no host bits
+-- the IPv4-mapped block of an IPv4 block in ::ffff:0:0/96 has no host bits
 mapped-mod : (value len : ℕ) → len ≤ 32 → value % 2 ^ (32 - len) ≡ 0 → (value + mapped_prefix) % 2 ^ (32 - len) ≡ 0
 mapped-mod value len within none =
     let d : ℕ = 2 ^ (32 - len) in
@@ -23,7 +23,7 @@ mapped-mod value len within none =
     let sum : value + mapped_prefix ≡ (value / d + 65535 * 2 ^ len) * d + 0 = omega arith in
     ap (λ n. n % d) sum ∙ mod-mul-add (value / d + 65535 * 2 ^ len) d 0 some
 
--- a block begins at its place in a text of either version
+-- a block begins at its address in a text of either version
 pub first_of-placed : (version own : Version) (value len start : ℕ) → len ≤ width_of own → value % 2 ^ (width_of own - len) ≡ 0 → number_in version (own, value) ≡ Ok start
     → first_of (width_of version) (len + (width_of version - width_of own)) (block_number (width_of version) (len + (width_of version - width_of own)) start) ≡ start
 first_of-placed V4 V4 value len start within none e =

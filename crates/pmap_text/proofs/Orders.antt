@@ -1,4 +1,4 @@
--- What meets a block and what covers it.
+-- Mappings that meet a block, and mappings that cover it.
 use Rattle.std.proofs.Common.{◌≡◌, ◌∙◌, ℕ, ◌<◌, ◌≤◌, ◌⊎◌, inl, inr, true, false, nat_le, ◌&&◌, List, Option, Some, length, sym, ap, arith, slice_get, unwrap_or, []}
 use Rattle.std.proofs.lemmas.Option.{slice_get-get_or}
 use Rattle.std.proofs.lemmas.Bool.{leb-true, le-leb, lt-leb, and_parts, and_from, and_left, and_right}
@@ -12,12 +12,12 @@ both_le a b c d h = let parts = and_parts (nat_le a b) (nat_le c d) h in (leb-tr
 pub le_both : (a b c d : ℕ) → a ≤ b → c ≤ d → (nat_le a b && nat_le c d) ≡ true
 le_both a b c d h k = and_from (nat_le a b) (nat_le c d) (le-leb a b h) (le-leb c d k)
 
--- a test of two orders fails where one of them does
+-- a conjunction of two order tests fails if one of them does
 pub not_both : (a b c d : ℕ) → (b < a) ⊎ (d < c) → (nat_le a b && nat_le c d) ≡ false
 not_both a b c d (inl h) = and_left (nat_le a b) (nat_le c d) (lt-leb a b h)
 not_both a b c d (inr h) = and_right (nat_le a b) (nat_le c d) (lt-leb c d h)
 
--- what covers an address of a block meets the block, and what covers the block covers the address
+-- a mapping that covers an address of a block meets the block, and one that covers the block covers the address
 pub meets_around : (W n q a : ℕ) → first_of W n q ≤ a → a ≤ last_of W n q → (s : Mapping) → spans a s ≡ true → meets W n q s ≡ true
 meets_around W n q a from to s h =
     let orders = both_le s.low a a s.high h in

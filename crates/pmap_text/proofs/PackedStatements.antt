@@ -1,4 +1,4 @@
--- Mappings as they are packed.
+-- Packed mappings.
 use Rattle.std.proofs.Common.{◌≡◌, ℕ, ◌+◌, ◌-◌, ◌<◌, ◌≤◌, ◌^◌, List, [], ◌∷◌, ◌++◌, Some, length, map, get_or, slice_get, ap, sym, ◌∙◌, arith}
 use Rattle.std.proofs.Props.{props}
 use Rattle.std.proofs.lemmas.List.{append-nil, append_assoc, get_or-map, get_or_append_left, get_or-append_right, length-append, length-map, map-append, nil_from_length}
@@ -12,7 +12,7 @@ use Rattle.pmap_text.specs.declared.packed.Narrow.{Narrow}
 use Rattle.pmap_text.specs.declared.packed.Wide.{Wide}
 use Rattle.pmap_text.specs.declared.statement.Statement.{Statement}
 
--- addresses, spans and statements are the same where what they say is
+-- addresses, spans and statements are equal if their parts are
 pub addr-same : (a b : Addr) → a.version ≡ b.version → a.value ≡ b.value → a ≡ b
 addr-same a b version value =
     λ i. record {
@@ -47,7 +47,7 @@ packed-right ns ws i k w s behind is within same =
     slice_get-get_or (narrow ++ wide) i s (omega (arith, length-append narrow wide, length-map ws wide_statement, count))
     ∙ ap (λ (x : Statement). Some x) (at ∙ sym same)
 
--- one more
+-- one more mapping
 pub packed-push_narrow : (ns : List Narrow) (n : Narrow) (s : Statement) → s ≡ narrow_statement n
     → map narrow_statement (ns ++ n ∷ []) ++ [] ≡ (map narrow_statement ns ++ []) ++ s ∷ []
 packed-push_narrow ns n s same =

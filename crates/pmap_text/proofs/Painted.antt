@@ -1,4 +1,4 @@
--- Prefixes painted over one another, the short ones first: what is seen of them at a block.
+-- Prefixes painted over one another, the short ones first, and the prefix that is seen at a block.
 use Rattle.std.proofs.Common.{◌≡◌, ℕ, suc, ◌-◌, ◌<◌, ◌≤◌, get_or, pow_pos, Bool, true, false, cond, List, [], ◌∷◌, Option, Some, None, length, map, refl, sym, ap, ◌∙◌, subst, arith, All, Contains, le_refl}
 use Rattle.std.specs.List.Sorted.{IsPermutation}
 use Rattle.std.specs.Option.{option_or}
@@ -29,7 +29,7 @@ painted W p = record {
   label = p.label;
 }
 
--- the map of such mappings, with a label for the addresses that none covers
+-- the map of such mappings, with a label for the addresses that no mapping covers
 abbrev pub painting : Version → List Label → List Prefix → Label → MapModel
 painting version table ps fallback = record {
   version = version;
@@ -45,19 +45,19 @@ pub record IsTop (W : ℕ) (ps : List Prefix) (n q : ℕ) (top : Prefix) : Type 
   pub covers : spans_all W n q (painted W top) ≡ true
   pub longest : All (λ p. meets W n q (painted W p) ≡ true → p.bits ≤ top.bits) ps
 
--- a label that is in the table is the text of the prefix on top; where there is none, no prefix meets the block
+-- the label is in the table, and its text is that of the prefix on top; without a label no prefix meets the block
 abbrev pub IsSeen : ℕ → List Label → List Prefix → ℕ → ℕ → Option ℕ → Type 0
 IsSeen W table ps n q None = All (λ p. meets W n q (painted W p) ≡ false) ps
 IsSeen W table ps n q (Some id) =
     (id < length table) × ((top : Prefix) × (top.label ≡ text_at table id) × IsTop W ps n q top)
 
--- of two prefixes that cover an address the longer comes later
+-- of two prefixes that cover an address the longer one comes later
 abbrev pub IsRising : ℕ → List Prefix → Type 0
 IsRising W [] = Unit {0}
 IsRising W (p ∷ ps) =
     All (λ r. (a : ℕ) → spans a (painted W p) ≡ true → spans a (painted W r) ≡ true → p.bits ≤ r.bits) ps × IsRising W ps
 
--- a prefix covers an address where the entry's block does
+-- a prefix covers an address if the entry's block does
 in_block : (table : List Label) (e : Entry) (a : ℕ) → spans a (painted (width_of e.block.version) (prefix_of table e)) ≡ true → IsInBlock e.block a
 in_block table e a h =
     let W = width_of e.block.version in
@@ -81,7 +81,7 @@ rising v table (e ∷ es) same later = (
       (λ i j d le below. later (suc i) (suc j) d (omega (arith, le)) (omega (arith, below))),
 )
 
--- none meets the block
+-- no mapping meets the block
 unmet-step : (b : Bool) (m : Mapping) (o : Option Mapping) → option_or o (cond b (Some m) None) ≡ None → (b ≡ false) × (o ≡ None)
 unmet-step b m (Some s) e = absurd (let h : Some s ≡ None = e in cc)
 unmet-step true m None e = absurd (let h : Some m ≡ None = e in cc)
@@ -94,14 +94,14 @@ unmet W n q (p ∷ ps) e =
     let here = unmet-step (meets W n q (painted W p)) (painted W p) (last_such (meets W n q) (map (painted W) ps)) e in
     All-cons (λ p. meets W n q (painted W p) ≡ false) p ps here.0 (unmet W n q ps here.1)
 
--- the last that meets the block is the longest
+-- the last mapping that meets the block is that of the longest prefix
 record IsLast (W n q : ℕ) (ps : List Prefix) (m : Mapping) : Type 0 where
   last : Prefix
   is : painted W last ≡ m
   listed : Contains ps last
   longest : All (λ p. meets W n q (painted W p) ≡ true → p.bits ≤ last.bits) ps
 
--- a prefix that meets a block which a later one covers is no longer than that
+-- a prefix that meets a block which a later prefix covers is no longer than the later one
 no_longer : (W n q : ℕ) (p r : Prefix) → ((a : ℕ) → spans a (painted W p) ≡ true → spans a (painted W r) ≡ true → p.bits ≤ r.bits)
     → spans_all W n q (painted W r) ≡ true → meets W n q (painted W p) ≡ true → p.bits ≤ r.bits
 no_longer W n q p r later whole met =
@@ -142,7 +142,8 @@ last_met W n q (p ∷ ps) m up e whole =
     last_met-step W n q p ps m up.0 whole (λ s. last_met W n q ps s up.1) (meets W n q (painted W p))
     (last_such (meets W n q) (map (painted W) ps)) refl e
 
--- what settles a block, whatever the label of the addresses that no prefix covers, is the prefix on top
+-- the label that settles a block, whatever the label of the addresses that no prefix covers, is that of the prefix on
+-- top
 pub seen_by : (W n q : ℕ) (ps : List Prefix) (x : Label) → IsRising W ps → (o : Option Mapping)
     → last_such (meets W n q) (map (painted W) ps) ≡ o → ((fallback : Label) → settled_by W n q fallback o ≡ Some x)
     → (top : Prefix) × (top.label ≡ x) × IsTop W ps n q top
@@ -160,7 +161,7 @@ seen_by W n q ps x up (Some m) last settled =
       },
     )
 
--- the order of the prefixes does not matter for what is on top
+-- the order of the prefixes doesn't affect which one is on top
 pub seen_permuted : (W : ℕ) (table : List Label) (ps rs : List Prefix) → IsPermutation ps rs → (n q : ℕ) (label : Option ℕ)
     → IsSeen W table ps n q label → IsSeen W table rs n q label
 seen_permuted W table ps rs moved n q None f = All-permutation (λ p. meets W n q (painted W p) ≡ false) ps rs moved f

@@ -1,4 +1,4 @@
--- Lemmas on numbers with texts beside them.
+-- Lemmas about numbers paired with texts.
 use Rattle.std.proofs.Common.{◌≡◌, ℕ, ◌+◌, ◌≤◌, Bool, true, false, not, cond, ◌||◌, ◌==◌, List, [], ◌∷◌, ◌++◌, length, length-append, Some, None, IsTrue, inl, inr, refl, sym, ap, subst, ◌∙◌, arith, ltb, option_map, if◌then◌else◌}
 use Rattle.std.proofs.lemmas.Bool.{eqb-true, eq-eqb}
 use Rattle.std.proofs.lemmas.Bool.Decides.{nat_tests}
@@ -22,14 +22,14 @@ none_passes p [] h = refl
 none_passes p (x ∷ xs) h = ap (λ b. b || list_any p xs) h.0 ∙ none_passes p xs h.1
 
 module _ (ns : List ℕ) (ts : List Label) (same : length ts ≡ length ns) (number : ℕ) where
-  -- a number is declared exactly where it is among the numbers
+  -- a number is declared if and only if it is among the numbers
   pub is_declared : list_any (λ (d : ℕ × Label). d.0 == number) (zip ns ts) ≡ list_any (nat_eq number) ns
   is_declared =
       sym (list_any-map (λ d. d.0) (λ n. n == number) (zip ns ts))
       ∙ ap (list_any (λ n. n == number)) (firsts-zip ns ts same)
       ∙ ap (λ p. list_any p ns) (λ i n. nat_eq_equiv.symm n number i)
 
-  -- its text stands at its place
+  -- its text is at its index
   pub declared_text-place : declared_text (zip ns ts) number ≡ slice_get ts (position_or_len (nat_eq number) ns)
   declared_text-place =
       let place : position_or_len (λ (d : ℕ × Label). d.0 == number) (zip ns ts) ≡ position_or_len (nat_eq number) ns =
@@ -64,7 +64,7 @@ other_place m length_m k length_k same a b le = grind (arith, nat_tests)
 both_ends : (m length_m k length_k : ℕ) → length_m ≡ length_k → ltb m length_m ≡ false → ltb k length_k ≡ false → m ≤ length_m → k ≤ length_k → true ≡ (m == k)
 both_ends m length_m k length_k same a b le_m le_k = grind (arith, nat_tests)
 
--- the places in two lists of one length are one, or both none, exactly where the first places are one
+-- the indices in two lists of equal length are equal, or both missing, if and only if the first indices are equal
 pub same_places : {X Y : Type 0} (p : X → Bool) (q : Y → Bool) (xs : List X) (ys : List Y) → length xs ≡ length ys
     → option_eq nat_eq (position p xs) (position q ys) ≡ (position_or_len p xs == position_or_len q ys)
 same_places p q xs ys same =
@@ -84,7 +84,8 @@ settle true false m k c rest e = grind (arith, nat_tests)
 settle false true m k c rest e = grind (arith, nat_tests)
 settle false false m k c rest e = rest ∙ grind (arith, nat_tests)
 
--- where numbers and texts don't repeat, a pair agrees with them exactly where number and text have one place, or both none
+-- if numbers and texts don't repeat, a pair agrees with them if and only if its number and its text have the same
+-- index, or both none
 pub conflicts-places : (ns : List ℕ) (ts : List Label) → length ts ≡ length ns → IsDistinct nat_eq ns → IsDistinct bytes_eq ts → (number : ℕ) (text : Label)
     → conflicts (zip ns ts) number text ≡ not (position_or_len (nat_eq number) ns == position_or_len (bytes_eq text) ts)
 unfolding IsDistinct
@@ -98,7 +99,7 @@ conflicts-places (n ∷ ns) (t ∷ ts) same dn dt number text =
     (λ a b. place-none (nat_eq number) ns (none_passes (nat_eq number) ns (subst (λ x. AllByRecursion (λ y. nat_eq x y ≡ false) ns) (sym (eqb-true number n a)) dn.0))
     ∙ sym (place-none (bytes_eq text) ts (none_passes (bytes_eq text) ts (subst (λ x. AllByRecursion (λ y. bytes_eq x y ≡ false) ts) (sym ((bytes_eq-Decides text t).0 b)) dt.0)) ∙ omega (arith, same)))
 
--- a pair goes last where its number and its text do
+-- a pair comes last if its number and its text do
 pub zip-push : {X Y : Type 0} (xs : List X) (ys : List Y) (x : X) (y : Y) → length ys ≡ length xs → zip (xs ++ x ∷ []) (ys ++ y ∷ []) ≡ zip xs ys ++ (x, y) ∷ []
 zip-push [] [] x y same = refl
 zip-push [] (z ∷ zs) x y same = absurd (omega (arith, same))
@@ -106,17 +107,17 @@ zip-push (z ∷ zs) [] x y same = absurd (omega (arith, same))
 zip-push (w ∷ ws) (z ∷ zs) x y same = ap (λ l. (w, z) ∷ l) (zip-push ws zs x y (omega (arith, same)))
 
 module _ (ns : List ℕ) (ts : List Label) (ok : ArePaired ns ts) (number : ℕ) (text : Label) where
-  -- a number that is there keeps its text
+  -- a known number keeps its text
   pub with_declared-known : list_any (nat_eq number) ns ≡ true → with_declared (zip ns ts) (number, text) ≡ zip ns ts
   with_declared-known h = ap (λ b. if b then zip ns ts else zip ns ts ++ (number, text) ∷ []) (is_declared ns ts ok.same_count number ∙ h)
 
-  -- a new one goes last with its text
+  -- a new number comes last with its text
   pub with_declared-new : list_any (nat_eq number) ns ≡ false → with_declared (zip ns ts) (number, text) ≡ zip (ns ++ number ∷ []) (ts ++ text ∷ [])
   with_declared-new h =
       ap (λ b. if b then zip ns ts else zip ns ts ++ (number, text) ∷ []) (is_declared ns ts ok.same_count number ∙ h)
       ∙ sym (zip-push ns ts number text ok.same_count)
 
-  -- the text of a new number is new, where they don't conflict
+  -- the text of a new number is new if they don't conflict
   pub new_text : list_any (nat_eq number) ns ≡ false → conflicts (zip ns ts) number text ≡ false → has_label ts text ≡ false
   new_text h agrees =
       sym (any_place (bytes_eq text) ts)

@@ -1,4 +1,4 @@
--- The first place at which a test passes.
+-- The first index at which a test passes.
 use Rattle.std.proofs.Common.{◌≡◌, ℕ, ◌+◌, ◌<◌, ◌≤◌, ◌||◌, Bool, true, false, not, List, [], ◌∷◌, ◌++◌, length, take, drop, get_or, length-take-le, Option, ap, refl, arith, unwrap_or, eqb, true≢false}
 use Rattle.std.proofs.lemmas.Bool.{ltb-false}
 use Rattle.std.proofs.lemmas.List.{take-append-drop}
@@ -11,7 +11,7 @@ use Rattle.pmap_text.specs.Lines.{lines_of}
 pub position_or_len-le : {X : Type 0} (p : X → Bool) (xs : List X) → position_or_len p xs ≤ length xs
 position_or_len-le p xs = prefix_len-le-length (λ x. not (p x)) xs
 
--- the place that `position` found, or the length, is the first place
+-- the index that `position` found, or the length, is the first index
 pub place_from_position : {X : Type 0} (p : X → Bool) (xs : List X) (found : Option ℕ) → found ≡ position p xs → unwrap_or found (length xs) ≡ position_or_len p xs
 place_from_position p xs found e = by (nat_lt (position_or_len p xs) (length xs)) refl
   where
@@ -19,7 +19,7 @@ place_from_position p xs found e = by (nat_lt (position_or_len p xs) (length xs)
     by true h = rw (e, h) refl
     by false h = rw (e, h) (omega (arith, ltb-false _ _ h, position_or_len-le p xs))
 
--- the place of the first line feed, or the length
+-- the index of the first line feed, or the length
 abbrev pub feed_at : List ℕ → ℕ
 feed_at text = position_or_len (λ b. eqb b 10) text
 
@@ -51,7 +51,7 @@ lines_of-no_feed b (b' ∷ bs) h = by (eqb b 10) refl (lines_of-no_feed b' bs)
         let ih' = ih (omega (arith, k)) in
         rw (e, ih') refl
 
--- where no element of a front passes, the first place is behind it
+-- if no element of a front passes, the first index is after the front
 place_behind : {X : Type 0} (p : X → Bool) (xs ys : List X) → list_any p xs ≡ false → position_or_len p (xs ++ ys) ≡ length xs + position_or_len p ys
 place_behind p [] ys h = omega arith
 place_behind {X} p (x ∷ xs) ys h = by (p x) refl (place_behind p xs ys)
@@ -61,7 +61,7 @@ place_behind {X} p (x ∷ xs) ys h = by (p x) refl (place_behind p xs ys)
     by true e ih = let k : true ≡ false = rw e at h in absurd (true≢false k)
     by false e ih = let k : list_any p xs ≡ false = rw e at h in rw e (omega (arith, ih k))
 
--- where none of the first n elements passes, the first place is that behind them
+-- if none of the first n elements passes, the first index is after them
 pub place_front : {X : Type 0} (p : X → Bool) (xs : List X) (n : ℕ) → n ≤ length xs → list_any p (take n xs) ≡ false
     → position_or_len p xs ≡ n + position_or_len p (drop n xs)
 place_front p xs n within none =
@@ -70,11 +70,11 @@ place_front p xs n within none =
     let whole : position_or_len p (take n xs ++ drop n xs) ≡ position_or_len p xs = ap (position_or_len p) (take-append-drop n xs) in
     omega (arith, behind, whole, long)
 
--- the place of the first line feed or `#`, or the length
+-- the index of the first line feed or `#`, or the length
 abbrev pub end_at : List ℕ → ℕ
 end_at text = position_or_len (λ b. eqb b 10 || eqb b 35) text
 
--- where no comment begins there, it is that of the line feed, and no comment begins before
+-- if no comment begins there, it is the index of the line feed, and no comment begins before it
 pub end_at-feed : (text : List ℕ) → (end_at text < length text → eqb (get_or text (end_at text) 0) 35 ≡ false)
     → (end_at text ≡ feed_at text) × (before_first (λ b. eqb b 35) (take (end_at text) text) ≡ take (end_at text) text)
 end_at-feed [] h = (refl, refl)

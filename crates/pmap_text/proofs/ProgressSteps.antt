@@ -1,4 +1,4 @@
--- What a reading keeps is what the lines so far say, also after one more line.
+-- The state of a reading is the content of the lines so far, also after one more line.
 use Rattle.std.proofs.Common.{◌≡◌, ℕ, ◌<◌, ◌≤◌, Bool, true, false, cond, List, [], ◌∷◌, ◌++◌, map, length, length-append, Option, Some, None, refl, sym, ap, ◌∙◌, arith, All, slice_get, unwrap_or}
 use Rattle.std.proofs.lemmas.List.Elements.{All-head, All-tail}
 use Rattle.std.proofs.lemmas.Option.{slice_get-get_or}
@@ -17,12 +17,12 @@ use Rattle.pmap_text.specs.declared.label.LabelId.{LabelId}
 use Rattle.pmap_text.specs.declared.statement.Statement.{Statement}
 use Rattle.pmap_text.proofs.LabelTexts.{list_any-map, slice_get-with_label}
 
--- where the version of an address was decided, it is the version of the lines so far
+-- if the version of an address was decided, it is the version of the lines so far
 pub version-decided : (v : Version) (decided : Option Version) → Some v ≡ decided → v ≡ unwrap_or decided V4
 version-decided v None e = absurd (cc)
 version-decided v (Some w) e = cc
 
--- a block has an entry where one of the prefixes has it
+-- a block has an entry if one of the prefixes has it
 pub has_prefix-entries : (table : List Label) (entries : List Entry) (start bits : ℕ) → has_prefix (map (prefix_of table) entries) start bits ≡ has_entry entries start bits
 has_prefix-entries table entries start bits = list_any-map (prefix_of table) _ entries
 
@@ -34,7 +34,7 @@ length-with_label table x = by (has_label table x)
     by true = omega arith
     by false = omega (arith, length-append table (x ∷ []))
 
--- a number in the table stands for the same text after a label is added
+-- a number in the table represents the same text after a label is added
 pub text_at-with_label : (table : List Label) (x : Label) (i : ℕ) → i < length table → text_at (with_label table x) i ≡ text_at table i
 text_at-with_label table x i h =
     let at = slice_get-get_or table i [] h in
@@ -59,7 +59,7 @@ fallback-with_label : (table : List Label) (x : Label) (f : Option LabelId) → 
 fallback-with_label table x None h = refl
 fallback-with_label table x (Some id) h = ap Some (text_at-with_label table x id.0 (h id refl))
 
--- what is kept goes on to hold with one more label text
+-- the state stays valid with one more label text
 pub IsProgress-with_label : (version : Option Version) (default : Option LabelId) (ss : List Statement) (es : List Entry) (table : List Label) (x : Label)
     → IsProgress version default ss es table → length (with_label table x) ≤ label_limit → IsProgress version default ss es (with_label table x)
 IsProgress-with_label version default ss es table x ok few =
@@ -89,7 +89,7 @@ module _ (mode : Bool) (version : Option Version) (name : Option Label) (declare
     table = with_label table x;
   }
 
-  -- the map of the lines so far, where they have a default and where they have none
+  -- the map of the lines so far, if they have a default and if they have none
   abbrev pub finished : LabelId → List Label → MapModel
   finished id texts = record {
     version = unwrap_or version V4;

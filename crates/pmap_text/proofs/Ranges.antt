@@ -1,4 +1,4 @@
--- Where stretches begin and end, by their indices.
+-- The ends of stretches, by their indices.
 use Rattle.std.proofs.Common.{◌≡◌, ◌∙◌, ℕ, ◌+◌, ◌-◌, ◌^◌, ◌<◌, ◌≤◌, inl, inr, Bool, cond, leb, leb-true, List, [], ◌∷◌, ◌++◌, Option, None, get_or, length, option_and_then, slice_get, ap, arith, sym}
 use Rattle.std.proofs.lemmas.Bool.{cases_lt, le-ltb, leb-false, lt-ltb}
 use Rattle.std.proofs.lemmas.Nat.{pow_pos}
@@ -112,7 +112,7 @@ module _ (s : StretchesModel) (first : ℕ) (label : Option LabelId) (s' : Stret
   pub last_late : (i : ℕ) → i + 1 ≡ length s.firsts → last_at s' i ≡ first - 1
   last_late i here = last_before s' i (omega (arith, here, length_added)) ∙ ap (λ (n : ℕ). n - 1) (first_late (i + 1) here)
 
-  -- they begin one after the other as those before did
+  -- they begin one after another, as those before did
   pub every_added : first_at s (length s.firsts - 1) < first → first < 2 ^ width_of s.version → HasEveryAddress s'
   every_added above fits = record {
     some = omega (arith, length_added);
@@ -168,7 +168,7 @@ module _ (s : StretchesModel) (every : HasEveryAddress s) where
         omega (arith, next_first i (omega (arith, less, below)), same)
   ]
 
-  -- of two addresses the lower one is not in a later stretch, and if they are in two, it is in an earlier one
+  -- of two addresses the lower one is not in a later stretch, and if they are in two, it is in the earlier one
   module _ (a b i j : ℕ) (first : HoldsAddress s a i) (second : HoldsAddress s b j) (le : a ≤ b) where
     pub held_order : i ≤ j
     held_order = elim (cases_lt j i) [

@@ -1,4 +1,4 @@
--- What is seen of statements at an address and at a block.
+-- The statement that is seen at an address and at a block.
 use Rattle.std.proofs.Common.{◌≡◌, ℕ, zero, suc, ◌<◌, ◌≤◌, Bool, true, false, cond, List, [], ◌∷◌, Option, Some, None, Contains, slice_get, refl, sym, ap, ◌∙◌, subst, arith}
 use Rattle.std.specs.Option.{option_or}
 use Rattle.std.proofs.lemmas.Option.{same_Some}
@@ -24,11 +24,11 @@ pub last_such-is : (p : Mapping → Bool) (ms : List Mapping) (m : Mapping) → 
 last_such-is p [] m e = absurd (let h : None ≡ Some m = e in cc)
 last_such-is p (x ∷ xs) m e = such-step p x xs m (last_such-is p xs m) (last_such p xs) refl (p x) refl e
 
--- what wins at an address, as a mapping to a text of a label table
+-- the statement that wins at an address, as a mapping to a text of a label table
 abbrev pub seen_at : List (List ℕ) → List Statement → ℕ → Option Mapping
 seen_at table ss a = last_such (spans a) (mappings_of table ss)
 
--- nothing is seen where nothing covers the address
+-- nothing is seen if nothing covers the address
 pub none_at : (table : List (List ℕ)) (ss : List Statement) (a : ℕ)
     → ((i : ℕ) (r : Statement) → slice_get ss i ≡ Some r → r.span.low.value ≤ a → a ≤ r.span.high.value → ⊥) → seen_at table ss a ≡ None
 none_at table [] a none = refl
@@ -43,7 +43,7 @@ none_at table (s ∷ ss) a none =
         absurd (none 0 s refl ends.0 ends.1)
     step false is rest = rw rest
 
--- a statement that covers the address is seen where none behind it does
+-- a statement that covers the address is seen if none after it does
 pub seen_last : (table : List (List ℕ)) (ss : List Statement) (a j : ℕ) (s : Statement) → slice_get ss j ≡ Some s → s.span.low.value ≤ a
     → a ≤ s.span.high.value
     → ((i : ℕ) (r : Statement) → slice_get ss i ≡ Some r → j < i → r.span.low.value ≤ a → a ≤ r.span.high.value → ⊥)

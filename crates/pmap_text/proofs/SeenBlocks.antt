@@ -1,4 +1,4 @@
--- What is seen of a block.
+-- The mapping that is seen at a block.
 use Rattle.std.proofs.Common.{◌≡◌, ℕ, ◌+◌, ◌-◌, ◌^◌, ◌<◌, ◌≤◌, inl, inr, Bool, true, false, cond, nat_le, pow_pos, List, Option, Some, None, Contains, refl, sym, ap, ◌∙◌, subst, arith}
 use Rattle.std.proofs.lemmas.Bool.{cases_lt, leb-false, leb-true}
 use Rattle.std.proofs.lemmas.List.Elements.{All-contains}
@@ -15,12 +15,12 @@ use Rattle.pmap_text.proofs.LastSuch.{last_such-none, last_such-some}
 use Rattle.pmap_text.proofs.Seen.{last_such-is}
 use Rattle.pmap_text.proofs.Orders.{both_le, le_both, meets_around, spans_within}
 
--- at each address of the block the same is seen
+-- the same mapping is seen at each address of the block
 pub record IsSeenAll (W n q : ℕ) (ms : List Mapping) (o : Option Mapping) : Type 0 where
   pub some : first_of W n q ≤ last_of W n q
   pub same : (a : ℕ) → first_of W n q ≤ a → a ≤ last_of W n q → last_such (spans a) ms ≡ o
 
--- then it is what the last mapping that meets the block is, and it covers the block
+-- then it is the last mapping that meets the block, and it covers the block
 pub record IsWhole (W n q : ℕ) (ms : List Mapping) (o : Option Mapping) : Type 0 where
   pub is : last_such (meets W n q) ms ≡ o
   pub covers : (m : Mapping) → o ≡ Some m → spans_all W n q m ≡ true
@@ -58,7 +58,7 @@ whole-step W n q ms o ordered seen (Some t) is =
           (same_Some t m (sym o_is ∙ e)) covers;
     }
 
--- so it is at a block of one address
+-- this is so at a block of one address
 pub address_whole : (W a : ℕ) (ms : List Mapping) → ((m : Mapping) → Contains ms m → m.low ≤ m.high) → IsWhole W W a ms (last_such (spans a) ms)
 address_whole W a ms ordered =
     let from = first_of-full W a in
@@ -90,7 +90,7 @@ stretch_whole m n q first last top ordered stretch some from to =
     record { some = some; same = λ a low high. stretch.same a (omega (arith, from, low)) (omega (arith, to, high)) } in
     whole-step W n q m.mappings top ordered seen (last_such (meets W n q) m.mappings) refl
 
--- a block in which two addresses see two things is not settled
+-- a block in which different mappings are seen at two addresses is not settled
 split-step : (W n q a b : ℕ) (x : Label) (ms : List Mapping) → first_of W n q ≤ a → a ≤ last_of W n q → first_of W n q ≤ b → b ≤ last_of W n q
     → (last_such (spans b) ms ≡ last_such (spans a) ms → ⊥)
     → (last : Option Mapping) → last_such (meets W n q) ms ≡ last → (c : Bool) → ((m : Mapping) → last ≡ Some m → spans_all W n q m ≡ c)
@@ -114,7 +114,7 @@ unfolding all_of
 all_is W n q None m e = absurd (let h : None ≡ Some m = e in cc)
 all_is W n q (Some r) m e = ap (spans_all W n q) (sym (same_Some r m e))
 
--- so is one that goes on beyond a stretch
+-- neither is one that extends beyond a stretch
 pub stretch_split : (m : MapModel) (n q first last : ℕ) (top : Option Mapping) → IsStretch m first last top
     → first ≤ first_of (width_of m.version) n q → first_of (width_of m.version) n q ≤ last → last < last_of (width_of m.version) n q
     → last_of (width_of m.version) n q < 2 ^ width_of m.version → settled_label m n q ≡ None
@@ -126,7 +126,7 @@ stretch_split m n q first last top stretch from to more fits =
     (λ same. stretch.behind (omega (arith, more, fits)) (same ∙ stretch.same last stretch.ordered (omega arith)))
     o refl (all_of W n q o) (all_is W n q o)
 
--- so a block is settled where one stretch holds it
+-- so a block is settled if one stretch contains it
 settled_whole : (m : MapModel) (n q : ℕ) (top : Option Mapping) → IsWhole (width_of m.version) n q m.mappings top
     → settled_label m n q ≡ Some (label_or top m.fallback)
 settled_whole m n q None whole = rw whole.is refl

@@ -1,4 +1,4 @@
--- Where statements begin: of the first of them, sorted, and in their own order.
+-- The starts of statements: of the first ones, sorted, and in their own order.
 use Rattle.std.proofs.Common.{◌≡◌, ℕ, ◌+◌, ◌<◌, ◌≤◌, inl, inr, zero, suc, List, [], ◌∷◌, ◌++◌, Some, All, Contains, length, slice_get, refl, sym, ap, ◌∙◌, subst, arith}
 use Rattle.std.specs.List.Sorted.{IsNonDecreasingBy, IsPermutation}
 use Rattle.std.proofs.lemmas.Bool.{cases_eq}
@@ -39,7 +39,7 @@ first_all ss count starts sorted has end moved up = record {
   rising = up;
 }
 
--- one at a place in its list
+-- the one at an index of its list
 some_at : (ss : List Statement) (k : ℕ) → k < length ss → ((s : Statement) × (slice_get ss k ≡ Some s))
 some_at [] k within = absurd (omega (arith, within))
 some_at (s ∷ ss) zero within = (s, refl)

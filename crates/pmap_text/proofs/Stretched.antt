@@ -1,4 +1,4 @@
--- How the stretches of statements come about, one after the other.
+-- Building the stretches of statements, one after another.
 use Rattle.std.proofs.Common.{◌≡◌, ◌≢◌, ◌∙◌, ℕ, ◌+◌, ◌-◌, ◌^◌, ◌<◌, ◌≤◌, inl, inr, List, [], ◌∷◌, Option, None, All, get_or, length, refl, sym, ap, subst, arith}
 use Rattle.std.specs.Option.{ForSome}
 use Rattle.std.proofs.lemmas.Bool.{cases_lt}
@@ -12,7 +12,7 @@ use Rattle.pmap_text.specs.declared.statement.Statement.{Statement}
 use Rattle.pmap_text.proofs.Ranges.{Adds, first_early, first_late, holder, label_early, label_late, last_early, last_end, last_late, length_added}
 use Rattle.pmap_text.proofs.Winners.{WinsOther, known_label, stretch_of, stretch_text}
 
--- the last of them
+-- the start of the last stretch
 abbrev pub last_first : StretchesModel → ℕ
 last_first s = first_at s (length s.firsts - 1)
 
@@ -25,7 +25,7 @@ pub record AreStretchesTo (ss : List Statement) (default : Option LabelId) (s : 
   pub wins : (a : ℕ) → last_first s ≤ a → a ≤ last → IsWinner ss a won
   pub label : label_at s (length s.firsts - 1) ≡ label_seen default (statement_won ss won)
 
--- the same stretch
+-- two equal stretches
 same_stretch : (ss : List Statement) (default : Option LabelId) (W W' f f' l l' : ℕ) (o o' : Option LabelId) → W' ≡ W → f' ≡ f → l' ≡ l → o' ≡ o
     → HasStretch W ss default f l o → HasStretch W' ss default f' l' o'
 same_stretch ss default W W' f f' l l' o o' width first last label has = rw (width, first, last, label) has
@@ -51,7 +51,7 @@ module _ (ss : List Statement) (default : Option LabelId) where
       label_first l is = rw is refl
 
   module _ (s : StretchesModel) (won : Option ℕ) (last : ℕ) (are : AreStretchesTo ss default s won last) where
-    -- the same statement goes on to win
+    -- the same statement still wins
     pub stretches_longer : (won' : Option ℕ) (last' : ℕ) → won' ≡ won → last + 1 ≤ last' → ((a : ℕ) → last + 1 ≤ a → a ≤ last' → IsWinner ss a won')
         → AreStretchesTo ss default s won last'
     stretches_longer won' last' same more wins = record {
@@ -66,7 +66,7 @@ module _ (ss : List Statement) (default : Option LabelId) where
       label = are.label;
     }
 
-    -- the last one, where another statement wins after it, or the addresses end
+    -- the last stretch, if another statement wins after it, or if it ends at the last address
     last_stretch : last < 2 ^ width_of s.version → (last + 1 < 2 ^ width_of s.version → WinsOther ss (last + 1) won)
         → HasStretch (width_of s.version) ss default (last_first s) last (label_at s (length s.firsts - 1))
     last_stretch fits after =
@@ -109,7 +109,7 @@ module _ (ss : List Statement) (default : Option LabelId) where
         begins : last_first s' ≡ last + 1
         begins = first_late s (last + 1) label s' are.every adds (length s'.firsts - 1) (omega (arith, longer))
 
-    -- all are there
+    -- all stretches are there
     pub stretches_all : last + 1 ≡ 2 ^ width_of s.version → AreStretches ss default s
     stretches_all end = record {
       every = are.every;
@@ -124,7 +124,7 @@ module _ (ss : List Statement) (default : Option LabelId) where
       ];
     }
 
--- the text that the stretches have at an address is that which the statements have there
+-- the text that the stretches have at an address is the one that the statements have there
 pub held_text : (ss : List Statement) (default : Option LabelId) (table : List Label) (s : StretchesModel) → AreStretches ss default s
     → AreLabelsBelow (length table) s → (a : ℕ) → a < 2 ^ width_of s.version → text_held table s a ≡ text_won table default ss a
 held_text ss default table s are known a fits =
@@ -133,7 +133,7 @@ held_text ss default table s are known a fits =
     sym (stretch_text s.version ss default table (first_at s i) (last_at s i) (label_at s i) (are.each i holds.index)
     (known i None (omega (arith, holds.index, are.every.paired))) a holds.from holds.to)
 
--- the labels are known where those of the statements and the default are
+-- the labels are known if those of the statements and the default are
 pub stretches_known : (ss : List Statement) (default : Option LabelId) (count : ℕ) (s : StretchesModel) → AreStretches ss default s
     → All (λ s. s.label.0 < count) ss → ForSome default (λ id. id.0 < count) → AreLabelsBelow count s
 stretches_known ss default count s are known fallback i d within =

@@ -1,4 +1,4 @@
--- What the steps of a sweep keep.
+-- The invariants of the steps of a sweep.
 use Rattle.std.proofs.Common.{◌≡◌, ℕ, ◌+◌, ◌<◌, ◌≤◌, ◌⊎◌, inl, inr, false, List, [], ◌∷◌, Option, Some, None, All, Contains, drop, get_or, length, option_map, slice_get, unwrap_or, refl, sym, ap, ◌∙◌, subst, arith, length-drop}
 use Rattle.std.specs.BinaryHeap.{IsHeap, IsUpperBound}
 use Rattle.std.specs.List.Sorted.{IsNonDecreasingBy, IsPermutation}
@@ -20,7 +20,7 @@ rising_drop starts n up i j d le below =
     let long = length-drop n starts in
     rw (get_or-drop n starts i d, get_or-drop n starts j d) (up (n + i) (n + j) d (omega (arith, le)) (omega (arith, below, long)))
 
--- where the first of a rising list is behind an address, all are
+-- if the first of a rising list is after an address, all are
 behind_first : (coming : List Start) (first : ℕ) (e : Start) → IsNonDecreasingBy (λ start. start.low) coming → 0 < length coming
     → e ≡ get_or coming 0 e → first < e.low → AreBehind first coming
 behind_first coming first e up some is behind k d below =
@@ -36,7 +36,7 @@ behind_coming ss starts next first e are within is behind =
     let here : get_or (drop next starts) 0 e ≡ get_or starts next e = get_or-drop next starts 0 e ∙ ap (λ (k : ℕ). get_or starts k e) (let z : next + 0 ≡ next = omega arith in z) in
     behind_first (drop next starts) first e (rising_drop starts next are.rising) (omega (arith, within, long)) (is ∙ sym here) behind
 
--- the top of a heap is the greatest
+-- the top of a heap is the maximum
 not_less : (x y : ℕ) → is_lt (nat_cmp x y) ≡ false → y ≤ x
 not_less x y e =
     elim (cases_lt x y) [
@@ -48,7 +48,7 @@ pub greatest : (x : ℕ) (xs : List ℕ) → IsUpperBound nat_cmp x xs → All (
 greatest x xs bound =
     All-weaker (λ y. is_lt (nat_cmp x y) ≡ false) (λ y. y ≤ x) (λ y e. not_less x y e) xs (All-from_recursion (λ y. is_lt (nat_cmp x y) ≡ false) xs bound)
 
--- what is in a list with one number more
+-- the elements of a list with one more number
 module _ (x : ℕ) (xs ys : List ℕ) (moved : IsPermutation (x ∷ xs) ys) where
   pub pushed_here : Contains ys x
   pushed_here = Contains-permutation (x ∷ xs) ys x moved (Contains-first x xs)
@@ -59,13 +59,13 @@ module _ (x : ℕ) (xs ys : List ℕ) (moved : IsPermutation (x ∷ xs) ys) wher
   pushed_cases : (j : ℕ) → Contains ys j → (x ≡ j) ⊎ Contains xs j
   pushed_cases j has = Contains-cases x xs j (Contains-permutation ys (x ∷ xs) j (IsPermutation-sym (x ∷ xs) ys moved) has)
 
--- of the open statements those were dropped that end before the address
+-- the open statements that end before the address were dropped
 pub record IsClosing (ss : List Statement) (first : ℕ) (old opened : List ℕ) : Type 0 where
   pub ordered : IsHeap nat_cmp opened
   pub fewer : (j : ℕ) → Contains opened j → Contains old j
   pub closed : (j : ℕ) (s : Statement) → slice_get ss j ≡ Some s → first ≤ s.span.high.value → Contains old j → Contains opened j
 
--- the last of them was taken out, which has this statement
+-- the last open statement was removed, and is this one
 module _ (ss : List Statement) (first : ℕ) (old opened opened' : List ℕ) (top : ℕ) (t : Statement) (before : IsClosing ss first old opened)
     (listed : slice_get ss top ≡ Some t) (moved : IsPermutation opened (top ∷ opened')) (ordered : IsHeap nat_cmp opened') where
   back : IsPermutation (top ∷ opened') opened
@@ -116,7 +116,7 @@ opens_first old number top = record {
   ];
 }
 
--- of two, the later one wins, and the other one is added
+-- of two statements the later one wins, and the other one is added
 module _ (old new : List ℕ) (won number : ℕ) (top : IsTop (Some won) old) where
   pub opens_earlier : number < won → IsPermutation (number ∷ old) new → (IsHeap nat_cmp old → IsHeap nat_cmp new)
       → Opens (Some won) old number won new
@@ -185,7 +185,7 @@ high_after : (o : Option ℕ) (first end : ℕ) → first ≤ end → first ≤ 
 high_after None first end fits goes_on = fits
 high_after (Some high) first end fits goes_on = goes_on
 
--- those that are open have numbers of statements
+-- the numbers of open statements are numbers of statements
 pub open_known : (ss : List Statement) (first j : ℕ) → HasBegun ss first j → j < length ss
 open_known ss first j begun = slice_get_within ss j begun.statement begun.listed
 
@@ -252,7 +252,7 @@ module _ (ss : List Statement) (starts : List Start) (next : ℕ) (won : Option 
       | inr same ↦ subst (λ (o : Option ℕ). first ≤ high_won ss end o) same goes_on
     ]
 
-  -- up to an address before the next start, and up to its own end, the winner wins
+  -- the winner wins up to an address that is before the next start and not after its own end
   module _ (end last : ℕ) (to : last ≤ high_won ss end won) (behind : AreBehind last (drop next starts)) where
     pub wins : (a : ℕ) → first ≤ a → a ≤ last → IsWinner ss a won
     wins a from below = record {

@@ -1,4 +1,4 @@
--- The statement that wins at an address, by its number and as contracts see it.
+-- The statement that wins at an address, by its number, and as contracts see it.
 use Rattle.std.proofs.Common.{◌≡◌, ◌≢◌, ◌∙◌, ℕ, ◌+◌, ◌^◌, ◌<◌, ◌≤◌, Bool, true, false, not, List, [], Some, None, Option, All, Contains, length, option_and_then, option_map, slice_get, refl, sym, ap, subst, arith}
 use Rattle.std.specs.Option.{ForSome, option_eq}
 use Rattle.std.specs.Prelude.{nat_eq}
@@ -16,7 +16,7 @@ use Rattle.pmap_text.specs.declared.statement.Statement.{Statement}
 use Rattle.pmap_text.proofs.Orders.{known_text}
 use Rattle.pmap_text.proofs.Seen.{none_at, seen_at, seen_last}
 
--- what is seen is the statement that wins
+-- the statement that is seen is the one that wins
 pub winner_seen : (table : List Label) (ss : List Statement) (a : ℕ) (won : Option ℕ) → IsWinner ss a won
     → seen_at table ss a ≡ option_map (mapping_of table) (statement_won ss won)
 winner_seen table ss a None wins =
@@ -29,7 +29,7 @@ winner_seen table ss a (Some j) wins =
     let most : i ≤ j = wins.most i (record { statement = r; listed = at; low = low; high = high }) in
     omega (arith, most, behind)))
 
--- two winners are seen as two, even if their statements are equal: of two equal ones, the earlier never wins
+-- two winners are seen as two, even if their statements are equal: of two equal statements the earlier one never wins
 pub winners_apart : (table : List Label) (ss : List Statement) (a b : ℕ) (v w : Option ℕ) → IsWinner ss a v → IsWinner ss b w → v ≢ w
     → seen_at table ss a ≢ seen_at table ss b
 winners_apart table ss a b None None first second other same = other refl
@@ -67,7 +67,7 @@ listed_won : (ss : List Statement) (won : Option ℕ) (s : Statement) → statem
 listed_won ss None s is = absurd (let h : None ≡ Some s = is in cc)
 listed_won ss (Some j) s is = (j, slice_get_within ss j s is, get_or_from_slice_get ss j s s is)
 
--- a stretch, where one statement wins and others before and after it
+-- a stretch, if one statement wins there, and others before and after it
 pub stretch_of : (W : ℕ) (ss : List Statement) (default : Option LabelId) (first last : ℕ) (won : Option ℕ) (label : Option LabelId)
     → first ≤ last → last < 2 ^ W → ((a : ℕ) → first ≤ a → a ≤ last → IsWinner ss a won)
     → ((a : ℕ) → a + 1 ≡ first → WinsOther ss a won) → (last + 1 < 2 ^ W → WinsOther ss (last + 1) won)
@@ -123,7 +123,7 @@ stretch_text version ss default table first last label has known a ge le =
     let known' = rw is at known in
     rw (seen, is) (label_text table default has.top known')
 
--- two numbers as a test of them finds them
+-- two numbers that a test finds to be different are different
 pub differ : (v w : Option ℕ) → true ≡ not (option_eq nat_eq v w) → v ≢ w
 differ None None e same = let h : true ≡ false = e in cc
 differ None (Some y) e same = let h : None ≡ Some y = same in cc

@@ -5,13 +5,13 @@ use Rattle.pmap_text.specs.declared.label.LabelId.{LabelId}
 use Rattle.pmap_text.specs.declared.stretches.Begins.{Begins}
 use Rattle.pmap_text.specs.declared.stretches.Begins.TheVariants.{Narrow, Wide}
 
--- How the code keeps stretches: no user need read it.
+-- How stretches are stored. This is private, and callers of the crate need not read it.
 
--- the label for which a number is kept: the greatest number is kept for no label
+-- the label for which a number is stored; the greatest number is stored for a missing label
 abbrev pub label_kept : LabelId → Option LabelId
 label_kept id = if id.0 == 4294967295 then None else Some id
 
--- the stretches that are kept
+-- the stretches that are stored
 abbrev pub stretches_of : Begins → StretchesModel
 stretches_of (Narrow begins) = record {
   version = V4;

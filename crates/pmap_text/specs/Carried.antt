@@ -8,33 +8,34 @@ use Rattle.pmap_text.specs.PrefixList.{prefix_of}
 use Rattle.pmap_text.specs.declared.entry.Entry.{Entry}
 use Rattle.pmap_text.specs.declared.statement.Statement.{Statement}
 
--- What of a map or a list is carried down to a block: no other statement and no other entry has a say in the block.
+-- The statements of a map and the entries of a list that are passed down to a block. No other statement or entry
+-- affects the block.
 
--- the items from the last that passes the test on, and all of them where none does
+-- the items from the last one that passes the test, or all of them if none does
 abbrev pub from_last : {X : Type 0} → (X → Bool) → List X → List X
 from_last p [] = []
 from_last p (x ∷ xs) = if list_any p xs then from_last p xs else x ∷ xs
 
--- a statement meets the block, or covers it whole, whatever its label
+-- a statement meets the block, or covers all of it, whatever its label
 abbrev pub statement_meets : ℕ → ℕ → ℕ → Statement → Bool
 statement_meets W n q s = meets W n q (mapping_of [] s)
 
 abbrev pub statement_spans : ℕ → ℕ → ℕ → Statement → Bool
 statement_spans W n q s = spans_all W n q (mapping_of [] s)
 
--- the statements that meet the block of n bits with the number q, from the last that covers it whole (all of them where none
--- does), in the order given
+-- the statements that meet the block of n bits with the number q, from the last one that covers all of it (all of them
+-- if none does), in the order given
 abbrev pub carried : ℕ → ℕ → ℕ → List Statement → List Statement
 carried W n q ss = from_last (statement_spans W n q) (filter (statement_meets W n q) ss)
 
--- of addresses of W bits, the entry's block covers the block of n bits with the number q
+-- among addresses of W bits, the entry's block covers the block of n bits with the number q
 abbrev pub covers_block : ℕ → ℕ → ℕ → Prefix → Bool
 covers_block W n q p = nat_le p.bits n && block_number W p.bits p.start == block_number W p.bits (first_of W n q)
 
 abbrev pub entry_covers : ℕ → ℕ → ℕ → Entry → Bool
 entry_covers W n q e = covers_block W n q (prefix_of [] e)
 
--- the longest entry that covers the block, if there is one, and those strictly inside it, in the order given
+-- the longest entry that covers the block, if there is one, and the entries strictly inside it, in the order given
 abbrev pub carried_entries : ℕ → ℕ → ℕ → List Entry → List Entry
 carried_entries W n q es =
     filter (λ e. (entry_covers W n q e && not (list_any (λ r. entry_covers W n q r && nat_lt e.block.len r.block.len) es))

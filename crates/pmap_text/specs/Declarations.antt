@@ -7,7 +7,7 @@ use Rattle.pmap_text.specs.MapModel.{Label}
 
 -- Label numbers that a text declares, each with its label text.
 
--- the number that 1 to 10 digits stand for, at most 2147483647
+-- the number that 1 to 10 digits represent, at most 2147483647
 abbrev pub label_number : List ℕ → Option ℕ
 label_number text =
     if nat_le 1 (length text) && (nat_le (length text) 10 && (list_all is_digit text && nat_le (decimal_value text) 2147483647))
@@ -29,7 +29,8 @@ clashes number text d = if d.0 == number then not (bytes_eq d.1 text) else bytes
 abbrev pub conflicts : List (ℕ × Label) → ℕ → Label → Bool
 conflicts declared number text = list_any (clashes number text) declared
 
--- the text that a label stands for: one that is a declared number means the text of that number, any other itself
+-- the text that a label represents: the text of the number if the label is a declared number, otherwise the label
+-- itself
 abbrev pub text_of_number : List (ℕ × Label) → Label → Option ℕ → Label
 text_of_number declared label None = label
 text_of_number declared label (Some number) = unwrap_or (declared_text declared number) label
@@ -37,7 +38,8 @@ text_of_number declared label (Some number) = unwrap_or (declared_text declared 
 abbrev pub meant_text : List (ℕ × Label) → Label → Label
 meant_text declared label = text_of_number declared label (label_number label)
 
--- the texts stand beside the numbers: as many of the one as of the other, no two numbers and no two texts equal, each text a label
+-- the texts are paired with the numbers: there are equally many, no two numbers and no two texts are equal, and each
+-- text is a label
 pub record ArePaired (numbers : List ℕ) (texts : List Label) : Type 0 where
   pub same_count : length texts ≡ length numbers
   pub numbers_once : IsDistinct nat_eq numbers

@@ -5,9 +5,9 @@ use Rattle.std.specs.declared.cmp.Ordering.{Ordering}
 use Rattle.pmap_text.specs.ListModel.{Prefix}
 use Rattle.pmap_text.specs.Reading.{has_prefix}
 
--- How the code finds the block of an earlier entry: no user need read it.
+-- How a repeated block is found. This is private, and callers of the crate need not read it.
 
--- two entries have blocks with one start and one length
+-- two entries have blocks with the same start and length
 abbrev pub same_key : Prefix → Prefix → Bool
 same_key p r = p.start == r.start && p.bits == r.bits
 
@@ -15,20 +15,20 @@ same_key p r = p.start == r.start && p.bits == r.bits
 abbrev pub HasDistinctKeys : List Prefix → Type 0
 HasDistinctKeys prefixes = IsDistinct same_key prefixes
 
--- starts and lengths in order
+-- the order of starts and lengths
 abbrev pub key_cmp : ℕ × ℕ → ℕ × ℕ → Ordering
 key_cmp x y = ordering_then (nat_cmp x.0 y.0) (nat_cmp x.1 y.1)
 
--- a set of keys has one
+-- whether a set of keys has a key
 abbrev pub has_key : List (ℕ × ℕ) → ℕ × ℕ → Bool
 has_key keys k = list_any (λ q. is_eq (key_cmp k q)) keys
 
--- the keys are the starts and lengths of the entries' blocks, no two of which are equal
+-- the keys are the starts and lengths of the entries' blocks, and no two of them are equal
 pub record AreFiled (prefixes : List Prefix) (keys : List (ℕ × ℕ)) : Type 0 where
   pub blocks : (start bits : ℕ) → list_any (λ k. k.0 == start && k.1 == bits) keys ≡ has_prefix prefixes start bits
   pub distinct : HasDistinctKeys prefixes
 
--- no entry has the block of an earlier one, or the one at this index is the first that has
+-- no entry has the block of an earlier one, or the entry at this index is the first that has
 abbrev pub IsFirstRepeat : List Prefix → Option ℕ → Type 0
 IsFirstRepeat ps None = HasDistinctKeys ps
 IsFirstRepeat ps (Some i) =

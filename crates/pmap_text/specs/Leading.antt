@@ -9,13 +9,13 @@ use Rattle.pmap_text.specs.declared.form.Form.TheVariants.{Map}
 use Rattle.pmap_text.specs.declared.leading.Word.{Word}
 use Rattle.pmap_text.specs.declared.leading.Word.TheVariants.{Address, Block as block_word}
 
--- What a text begins with, for the contracts of the code's own functions: no user need read them.
+-- Prefixes of a text, for the contracts of private functions. Callers of the crate need not read them.
 
 -- a byte of an address, in either form
 abbrev pub is_address_byte : ℕ → Bool
 is_address_byte b = is_hex_digit b || (b == 46 || b == 58)
 
--- so many bytes of the text, one to three, are digits of a number, and behind them stands something
+-- the text begins with the digits of a number, one to three of them, and continues after them
 pub record BeginsWithDigits (text : List ℕ) (number count : ℕ) : Type 0 where
   pub some : 0 < count
   pub short : count ≤ 3
@@ -23,27 +23,27 @@ pub record BeginsWithDigits (text : List ℕ) (number count : ℕ) : Type 0 wher
   pub digits : list_all is_digit (take count text) ≡ true
   pub value : number ≡ decimal_value (take count text)
 
--- the text is a number, at most the limit, and then the rest
+-- the text is a number, at most the limit, followed by the rest
 pub record BeginsWithNumber (text rest : List ℕ) (limit number : ℕ) : Type 0 where
   pub front : List ℕ
   pub whole : text ≡ front ++ rest
   pub reads : short_number limit front ≡ Some number
 
--- the text is an IPv4 address and then the rest
+-- the text is an IPv4 address followed by the rest
 pub record BeginsWithDotted (text rest : List ℕ) (number : ℕ) : Type 0 where
   pub front : List ℕ
   pub whole : text ≡ front ++ rest
   pub bytes : list_all (λ b. is_digit b || b == 46) front ≡ true
   pub reads : dotted_address front ≡ Some number
 
--- the text is an address and then the rest
+-- the text is an address followed by the rest
 pub record BeginsWithAddress (text rest : List ℕ) (addr : Addr) : Type 0 where
   pub front : List ℕ
   pub whole : text ≡ front ++ rest
   pub bytes : list_all is_address_byte front ≡ true
   pub reads : address_of front ≡ Some (addr.version, addr.value)
 
--- the text has a blank at its front
+-- the text begins with a blank
 pub record BeginsWithBlank (text : List ℕ) : Type 0 where
   pub blank : ℕ
   pub rest : List ℕ
@@ -57,7 +57,8 @@ IsWord word (Address addr) =
 IsWord word (block_word block) =
     (block_of_text word ≡ Ok (block.version, block.value, block.len)) × (list_any (λ b. b == 47) word ≡ true)
 
--- in a map text of IPv4 a line with this content says that the addresses from low to high have the label that is the rest
+-- in a map text of IPv4 a line with this content is a mapping of the addresses from low to high to the label in the
+-- rest
 abbrev pub SaysSpan : List ℕ → ℕ → ℕ → List ℕ → Type 0
 SaysSpan content low high rest =
     (earlier : Earlier) → earlier.version ≡ Some V4 → content_line Map earlier content ≡ span_line earlier V4 low high rest

@@ -2,13 +2,14 @@ use Rattle.std.specs.Prelude.{ℕ, ◌+◌, ◌*◌, ◌&&◌, ◌==◌, Bool, L
 use Rattle.std.specs.List.{list_any, IsDistinct}
 use Rattle.pmap_text.specs.declared.entry.Entry.{Entry}
 
--- The entries of a prefix list and their blocks. The blocks of one list are of one version, so that start and length say which.
+-- The entries of a prefix list and their blocks. The blocks of one list are of one version, so start and length
+-- identify a block.
 
--- one of the entries has the block of this length with this first address
+-- whether an entry has the block of this length with this first address
 abbrev pub has_entry : List Entry → ℕ → ℕ → Bool
 has_entry entries start bits = list_any (λ e. e.block.value == start && e.block.len == bits) entries
 
--- two entries have blocks with one start and one length
+-- whether two entries have blocks with the same start and length
 abbrev pub same_block : Entry → Entry → Bool
 same_block d e = d.block.value == e.block.value && d.block.len == e.block.len
 
@@ -16,7 +17,7 @@ same_block d e = d.block.value == e.block.value && d.block.len == e.block.len
 abbrev pub HasDistinctBlocks : List Entry → Type 0
 HasDistinctBlocks entries = IsDistinct same_block entries
 
--- A number by which entries rise in the order of their blocks: by first address, of one address the shorter block first.
--- Lengths are below 256.
+-- A number by which entries rise in the order of their blocks: by first address, and of equal first addresses the
+-- shorter block first. Lengths are below 256.
 abbrev pub rank_of : Entry → ℕ
 rank_of e = e.block.value * 256 + e.block.len

@@ -5,22 +5,23 @@ use Rattle.prefix_keys.specs.Version.{width_of}
 use Rattle.prefix_keys.specs.declared.version.Version.{Version}
 use Rattle.pmap_text.specs.MapModel.{Label, MapModel, map_label}
 
--- A prefix list as contracts see it, and what it labels an address under longest match.
+-- A prefix list as contracts see it, and the label that it gives an address under longest match.
 
--- the block of `bits` bits that the address `start` is in, with a label
+-- the block of `bits` bits that contains the address `start`, with a label
 pub record Prefix : Type 0 where
   pub start : ℕ
   pub bits : ℕ
   pub label : Label
 
--- any finite list of blocks of one version with labels: equal blocks, any labels and addresses without an entry are allowed
+-- any finite list of blocks of one version with labels; equal blocks, any labels, and addresses without an entry are
+-- allowed
 pub record ListModel : Type 0 where
   pub version : Version
   pub name : Option Label
   pub prefixes : List Prefix
   pub table : List Label
 
--- of addresses of W bits, the entry's block has n bits and covers the address
+-- among addresses of W bits, the entry's block has n bits and covers the address
 abbrev pub covers : ℕ → ℕ → ℕ → Prefix → Bool
 covers W n a p = p.bits == n && block_number W n p.start == block_number W n a
 
@@ -28,20 +29,20 @@ covers W n a p = p.bits == n && block_number W n p.start == block_number W n a
 abbrev pub label_at : ℕ → List Prefix → ℕ → ℕ → Option Label
 label_at W ps n a = option_map (λ p. p.label) (find (covers W n a) ps)
 
--- the label of the longest entry of fewer than n bits that covers the address, the first of equal blocks
+-- the label of the longest entry of fewer than n bits that covers the address, and of equal blocks the first
 abbrev pub label_below : ℕ → List Prefix → ℕ → ℕ → Option Label
 label_below W ps zero a = None
 label_below W ps (suc n) a = option_or (label_at W ps n a) (label_below W ps n a)
 
--- the label of the longest entry that covers the address, none where no entry covers it
+-- the label of the longest entry that covers the address, or none if no entry covers it
 abbrev pub list_label : ListModel → ℕ → Option Label
 list_label l a = label_below (width_of l.version) l.prefixes (suc (width_of l.version)) a
 
--- the list labels each address as the map does
+-- the list gives each address the same label as the map
 pub record IsEquivalent (l : ListModel) (m : MapModel) : Type 0 where
   pub version : l.version ≡ m.version
   pub labels : (a : ℕ) → a < 2 ^ width_of m.version → list_label l a ≡ Some (map_label m a)
 
--- of addresses of W bits, the entry's block lies strictly inside the block of n bits with the number q
+-- among addresses of W bits, the entry's block is strictly inside the block of n bits with the number q
 abbrev pub lies_inside : ℕ → ℕ → ℕ → Prefix → Bool
 lies_inside W n q p = nat_lt n p.bits && block_number W n p.start == q

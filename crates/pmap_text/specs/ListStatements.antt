@@ -10,7 +10,7 @@ use Rattle.pmap_text.specs.declared.statement.Statement.{Statement}
 
 -- The entries of a prefix list as statements.
 
--- the number of a block among those with as many bits
+-- the number of a block among the blocks of the same length
 abbrev pub number_of_block : Block → ℕ
 number_of_block b = block_number (width_of b.version) b.len b.value
 
@@ -21,16 +21,16 @@ pub record HasStatement (e : Entry) (s : Statement) : Type 0 where
   pub high : s.span.high.value ≡ last_of (width_of e.block.version) e.block.len (number_of_block e.block)
   pub label : s.label ≡ e.label
 
--- of two blocks with a common address, so that one lies in the other, the second is no shorter
+-- of two blocks that share an address, so that one is inside the other, the second is no shorter
 abbrev pub IsNoShorter : Block → Block → Type 0
 IsNoShorter b c = (a : ℕ) → b.version ≡ c.version → IsInBlock b a → IsInBlock c a → b.len ≤ c.len
 
--- of nested blocks the longer comes later
+-- the longer of nested blocks comes later
 abbrev pub LongerLater : List Entry → Type 0
 LongerLater es =
     (i j : ℕ) (d : Entry) → i ≤ j → j < length es → IsNoShorter (slice_index_or es i d).block (slice_index_or es j d).block
 
--- the statements are those of the entries, in an order in which of nested blocks the longer comes later
+-- the statements are those of the entries, in an order in which the longer of nested blocks comes later
 pub record AreShortestFirst (entries : List Entry) (ss : List Statement) : Type 0 where
   pub sorted : List Entry
   pub moved : IsPermutation entries sorted

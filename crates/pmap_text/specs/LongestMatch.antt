@@ -3,15 +3,15 @@ use Rattle.std.specs.List.{IsDistinct}
 use Rattle.prefix_keys.specs.Block.{block_number}
 use Rattle.pmap_text.specs.ListModel.{Prefix}
 
--- The words of the laws on prefix lists: the longest entry that covers an address, and lists of the same entries.
+-- The terms of the laws about prefix lists: the longest entry that covers an address, and lists with the same entries.
 
--- of addresses of W bits, the entry's block covers the address
+-- among addresses of W bits, the entry's block covers the address
 pub record CoversAddress (W a : ℕ) (p : Prefix) : Type 0 where
   pub fits : p.bits ≤ W
   pub number : block_number W p.bits p.start ≡ block_number W p.bits a
 
--- the entry is the longest of those that cover the address, of equal blocks the first: each that stands before it is
--- shorter, and none that stands behind it is longer
+-- the entry is the longest of those that cover the address, and of equal blocks the first: each one before it is
+-- shorter, and none after it is longer
 pub record IsLongestMatch (W : ℕ) (ps : List Prefix) (a : ℕ) (p : Prefix) : Type 0 where
   pub before : List Prefix
   pub behind : List Prefix
@@ -20,20 +20,20 @@ pub record IsLongestMatch (W : ℕ) (ps : List Prefix) (a : ℕ) (p : Prefix) : 
   pub earlier : All (λ r. CoversAddress W a r → r.bits < p.bits) before
   pub later : All (λ r. CoversAddress W a r → r.bits ≤ p.bits) behind
 
--- two entries have one block
+-- two entries have the same block
 abbrev pub is_same_prefix : ℕ → Prefix → Prefix → Bool
 is_same_prefix W p r = p.bits == r.bits && block_number W p.bits p.start == block_number W r.bits r.start
 
--- no two entries have one block
+-- no two entries have the same block
 abbrev pub HasDistinctPrefixes : ℕ → List Prefix → Type 0
 HasDistinctPrefixes W ps = IsDistinct (is_same_prefix W) ps
 
--- entries of one block have one label
+-- entries with the same block have the same label
 abbrev pub LabelsBlocksOnce : ℕ → List Prefix → Type 0
 LabelsBlocksOnce W ps =
     (p r : Prefix) → Contains ps p → Contains ps r → p.bits ≡ r.bits →
     block_number W p.bits p.start ≡ block_number W r.bits r.start → p.label ≡ r.label
 
--- each entry of the one list is one of the other
+-- each entry of one list is in the other
 abbrev pub HasSamePrefixes : List Prefix → List Prefix → Type 0
 HasSamePrefixes ps rs = (p : Prefix) → Contains ps p ↔ Contains rs p

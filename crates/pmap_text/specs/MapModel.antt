@@ -4,7 +4,7 @@ use Rattle.prefix_keys.specs.Block.{first_of, last_of}
 use Rattle.prefix_keys.specs.Version.{width_of}
 use Rattle.prefix_keys.specs.declared.version.Version.{Version}
 
--- A prefix map as contracts see it: statements over spans of addresses, the last of which counts, and a default.
+-- A prefix map as contracts see it: statements over spans of addresses, the last of which decides, and a default.
 
 -- a label's text
 abbrev pub Label : Type 0
@@ -16,7 +16,7 @@ pub record Mapping : Type 0 where
   pub high : ℕ
   pub label : Label
 
--- a map: what it is called, its statements in order, the label of an address that no statement covers, and its label table
+-- a map: its name, its statements in order, the label of addresses that no statement covers, and its label table
 pub record MapModel : Type 0 where
   pub version : Version
   pub name : Option Label
@@ -33,31 +33,31 @@ last_such p (m ∷ ms) = option_or (last_such p ms) (if p m then Some m else Non
 abbrev pub spans : ℕ → Mapping → Bool
 spans a m = nat_le m.low a && nat_le a m.high
 
--- the label of that mapping, or the default where there is none
+-- the label of that mapping, or the default if there is none
 abbrev pub label_or : Option Mapping → Label → Label
 label_or None x = x
 label_or (Some m) x = m.label
 
--- the label of an address: that of the last mapping that covers it, else the default
+-- the label of an address: that of the last mapping that covers it, otherwise the default
 abbrev pub map_label : MapModel → ℕ → Label
 map_label m a = label_or (last_such (spans a) m.mappings) m.fallback
 
--- of addresses of W bits, the mapping's span covers some address of the block of n bits with the number q
+-- among addresses of W bits, the mapping's span covers some address of the block of n bits with the number q
 abbrev pub meets : ℕ → ℕ → ℕ → Mapping → Bool
 meets W n q m = nat_le m.low (last_of W n q) && nat_le (first_of W n q) m.high
 
--- it covers each of them
+-- the mapping's span covers each address of the block
 abbrev pub spans_all : ℕ → ℕ → ℕ → Mapping → Bool
 spans_all W n q m = nat_le m.low (first_of W n q) && nat_le (last_of W n q) m.high
 
--- what the last mapping that meets a block says of it: its label where it covers the whole block, nothing where it covers
--- a part, and the default where there is no such mapping
+-- the label that the last mapping that meets a block gives it: its label if it covers the whole block, none if it
+-- covers a part, and the default if there is no such mapping
 abbrev pub settled_by : ℕ → ℕ → ℕ → Label → Option Mapping → Option Label
 settled_by W n q x None = Some x
 settled_by W n q x (Some m) = if spans_all W n q m then Some m.label else None
 
--- A block is settled with a label where the last mapping that meets it covers all of it and has that label, or none
--- meets it and the default is that label. None: it is not settled.
+-- A block is settled with a label if the last mapping that meets it covers all of it and has that label, or if no
+-- mapping meets it and the default is that label. None means that the block is not settled.
 abbrev pub settled_label : MapModel → ℕ → ℕ → Option Label
 settled_label m n q =
     settled_by (width_of m.version) n q m.fallback (last_such (meets (width_of m.version) n q) m.mappings)

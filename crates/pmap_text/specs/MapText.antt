@@ -12,7 +12,7 @@ abbrev pub mapping_of : List Label → Statement → Mapping
 mapping_of table s =
     record { low = s.span.low.value; high = s.span.high.value; label = text_at table s.label.0 }
 
--- a map text as the map that it is
+-- a map text as a map
 abbrev pub map_of : MapText → MapModel
 map_of m = record {
   version = m.version;

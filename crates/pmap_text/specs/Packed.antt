@@ -4,9 +4,9 @@ use Rattle.pmap_text.specs.declared.packed.Wide.{Wide}
 use Rattle.pmap_text.specs.declared.statement.Statement.{Statement}
 use Rattle.std.proofs.Common.{refl}
 
--- How the code keeps mappings: no user need read it.
+-- How mappings are stored. This is private, and callers of the crate need not read it.
 
--- the mapping that is packed
+-- the mapping that was packed
 abbrev pub narrow_statement : Narrow → Statement
 narrow_statement n = record {
   span = record {

@@ -10,7 +10,7 @@ use Rattle.pmap_text.specs.declared.prefix_list.PrefixList.{PrefixList}
 abbrev pub prefix_of : List Label → Entry → Prefix
 prefix_of table e = record { start = e.block.value; bits = e.block.len; label = text_at table e.label.0 }
 
--- a list text as the prefix list that it is
+-- a list text as a prefix list
 abbrev pub list_of : PrefixList → ListModel
 list_of l = record {
   version = l.version;

@@ -9,9 +9,9 @@ use Rattle.pmap_text.specs.declared.entry.Entry.{Entry}
 use Rattle.pmap_text.specs.declared.label.LabelId.{LabelId}
 use Rattle.pmap_text.specs.declared.statement.Statement.{Statement}
 
--- What a reading keeps of the lines so far: label numbers in place of texts.
+-- The state of reading the lines so far: label numbers in place of texts.
 
--- the lines so far, with the texts that the numbers stand for
+-- the lines so far, with the texts that the numbers represent
 abbrev pub progress_of : Bool → Option Version → Option Label → List (ℕ × Label) → Option LabelId → List Statement → List Entry → List Label → Earlier
 progress_of mode version name declared default statements entries table = record {
   mode = mode;
@@ -24,7 +24,7 @@ progress_of mode version name declared default statements entries table = record
   table = table;
 }
 
--- the addresses are of the version that is decided, the numbers stand in the table, and the limits are kept
+-- the addresses are of the version that is decided, the numbers are in the table, and the limits are observed
 pub record IsProgress (version : Option Version) (default : Option LabelId) (statements : List Statement) (entries : List Entry) (table : List Label) : Type 0 where
   pub spans : All (λ s. Some s.span.low.version ≡ version) statements
   pub blocks : All (λ e. Some e.block.version ≡ version) entries

@@ -25,10 +25,10 @@ use Rattle.pmap_text.specs.declared.form.Form.TheVariants as form
 use Rattle.pmap_text.specs.declared.map_text.MapText.{MapText}
 use Rattle.pmap_text.specs.declared.prefix_list.PrefixList.{PrefixList}
 
--- What it is for a text to be read as a map or as a prefix list, and the first fault of a text that isn't.
+-- How a text is read as a map or as a prefix list, and the first fault of a text that can't be read.
 
--- what a line says: nothing, a name, the version, a number for a label text, the label of addresses without a mapping,
--- or a mapping of a map or an entry of a list, with the version that the text has
+-- the content of a line: nothing, a name, the version, a number for a label text, the label of addresses without a
+-- mapping, or a mapping of a map or an entry of a list, with the version of the text
 pub data Entry : Type 0 where
   Nothing : Entry
   Names : (name : Label) → Entry
@@ -38,7 +38,7 @@ pub data Entry : Type 0 where
   Maps : (version : Version) (mapping : Mapping) → Entry
   Lists : (version : Version) (prefix : Prefix) → Entry
 
--- what a line says of each kind
+-- the contents of a line by their kind
 
 abbrev pub decides_in : Entry → Bool
 decides_in (Decides version) = true
@@ -77,7 +77,7 @@ text_in (Maps version mapping) = mapping.label ∷ []
 text_in (Lists version prefix) = prefix.label ∷ []
 text_in _ = []
 
--- the first of some lines that says such a thing says it of all, or the last
+-- the first value of `f` for some contents, or the last, if there is one
 abbrev pub first_in : {A : Type 0} → (Entry → Option A) → List Entry → Option A
 first_in f [] = None
 first_in f (entry ∷ entries) = option_or (f entry) (first_in f entries)
@@ -86,7 +86,7 @@ abbrev pub last_in : {A : Type 0} → (Entry → Option A) → List Entry → Op
 last_in f [] = None
 last_in f (entry ∷ entries) = option_or (last_in f entries) (f entry)
 
--- all that a line may ask about the lines before it
+-- the content of the lines before a line, as far as reading it needs
 pub record Earlier : Type 0 where
   pub mode : Bool
   pub version : Option Version
@@ -97,9 +97,9 @@ pub record Earlier : Type 0 where
   pub prefixes : List Prefix
   pub table : List Label
 
--- of some lines: whether a mode stands there, the version that the first mode or mapping decides, the last name, the
--- declared numbers, the last default, the mappings and the entries in order, and the label texts in the order of first
--- occurrence
+-- the content of some lines: whether there is a mode, the version that the first mode or mapping decides, the last
+-- name, the declared numbers, the last default, the mappings and the entries in order, and the label texts in the order
+-- of first occurrence
 abbrev pub earlier_of : List Entry → Earlier
 earlier_of entries = record {
   mode = list_any decides_in entries;
@@ -112,7 +112,7 @@ earlier_of entries = record {
   table = fold with_label [] (flat_map text_in entries);
 }
 
--- the greatest number of mappings, and of label texts, that a text may have
+-- the maximum number of mappings, and of label texts, of a text
 abbrev pub mapping_limit : ℕ
 mapping_limit = 1000000
 
@@ -123,13 +123,13 @@ label_limit = 65535
 abbrev pub has_room : List Label → Label → Bool
 has_room table text = has_label table text || nat_lt (length table) label_limit
 
--- what a step gives is handed to the next, and the first fault is the answer
+-- the value of a step is passed to the next step, and the first fault is the result
 infixl 10 ◌>>=◌
 abbrev pub ◌>>=◌ : {A B E : Type 0} → Result A E → (A → Result B E) → Result B E
 (Ok x) >>= f = f x
 (Err e) >>= f = Err e
 
--- the rest of a line as a label: there is one, and it has the form of a label
+-- the rest of a line as a label, which must exist and be well formed
 abbrev pub label_of : List ℕ → Result Label MapFaultKind
 label_of [] = Err MissingLabel
 label_of (b ∷ bs) = if is_label (b ∷ bs) then Ok (b ∷ bs) else Err BadLabel
@@ -144,11 +144,11 @@ mode_version word =
     if bytes_eq word (codes "ipv4") || bytes_eq word (codes "ip") then Some V4
     else (if bytes_eq word (codes "ipv6") then Some V6 else None)
 
--- a mapping or an entry stands on the lines before
+-- whether a mapping or an entry is in the lines before
 abbrev pub has_mapping : Earlier → Bool
 has_mapping earlier = nat_lt 0 (length earlier.mappings) || nat_lt 0 (length earlier.prefixes)
 
--- `mode WORD`, once and before the first mapping
+-- `mode WORD`, at most once and before the first mapping
 abbrev pub decided : Earlier → Option Version → Result Entry MapFaultKind
 decided earlier None = Err BadMode
 decided earlier (Some version) =
@@ -157,7 +157,8 @@ decided earlier (Some version) =
 abbrev pub mode_line : Earlier → List ℕ → Result Entry MapFaultKind
 mode_line earlier rest = decided earlier (mode_version rest)
 
--- `label NUMBER TEXT`: the text is a label of other bytes than digits alone, no number has two texts, and no text two numbers
+-- `label NUMBER TEXT`: the text is a label that doesn't consist of digits alone, no number has two texts, and no text
+-- has two numbers
 abbrev pub declared_line : Earlier → Option ℕ → List ℕ → Result Entry MapFaultKind
 declared_line earlier None rest = Err BadStatement
 declared_line earlier (Some number) rest =
@@ -168,14 +169,14 @@ declared_line earlier (Some number) rest =
 abbrev pub label_line : Earlier → List ℕ → Result Entry MapFaultKind
 label_line earlier rest = declared_line earlier (label_number (first_word rest)) (behind_word rest)
 
--- `default LABEL`, which no list has
+-- `default LABEL`, which is not allowed in a list
 abbrev pub default_line : Form → Earlier → List ℕ → Result Entry MapFaultKind
 default_line form.List earlier rest = Err NotAList
 default_line form.Map earlier rest =
     label_of rest >>= (λ label. let text = meant_text earlier.declared label in
     if has_room earlier.table text then Ok (Defaults text) else Err TooMany)
 
--- the addresses from low to high, and then a label
+-- the addresses from low to high, followed by a label
 abbrev pub span_line : Earlier → Version → ℕ → ℕ → List ℕ → Result Entry MapFaultKind
 span_line earlier version low high rest =
     label_of rest >>= (λ label. let text = meant_text earlier.declared label in
@@ -183,11 +184,11 @@ span_line earlier version low high rest =
     then Ok (Maps version (record { low = low; high = high; label = text }))
     else Err TooMany)
 
--- an entry for the block of this length with this first address stands there
+-- whether there is an entry for the block of this length with this first address
 abbrev pub has_prefix : List Prefix → ℕ → ℕ → Bool
 has_prefix prefixes start bits = list_any (λ p. p.start == start && p.bits == bits) prefixes
 
--- the block of this length with this first address, and then a label
+-- the block of this length with this first address, followed by a label
 abbrev pub prefix_line : Earlier → Version → ℕ → ℕ → List ℕ → Result Entry MapFaultKind
 prefix_line earlier version start bits rest =
     label_of rest >>= (λ label. let text = meant_text earlier.declared label in
@@ -196,18 +197,18 @@ prefix_line earlier version start bits rest =
     then Ok (Lists version (record { start = start; bits = bits; label = text }))
     else Err TooMany))
 
--- a block in the text's version, and then a label: in a map the span of its addresses, in a list the block itself
+-- a block in the text's version, followed by a label: in a map the span of its addresses, in a list the block itself
 abbrev pub placed_line : Form → Earlier → Version → ℕ → ℕ → List ℕ → Result Entry MapFaultKind
 placed_line form.Map earlier version start bits rest =
     span_line earlier version start (last_of (width_of version) bits (block_number (width_of version) bits start)) rest
 placed_line form.List earlier version start bits rest = prefix_line earlier version start bits rest
 
--- the version of the text at a line whose first address is of this version: where nothing decided it before, that address does
+-- the version of the text at a line whose first address is of this version, which decides if nothing decided before
 abbrev pub version_at : Earlier → Version → Version
 version_at earlier own = unwrap_or earlier.version own
 
--- the number of an address in a text of this version: a dotted address stands in an IPv6 text for its place in
--- ::ffff:0:0/96 (RFC 4291 section 2.5.5.2), and a colon address has no place in an IPv4 text
+-- the number of an address in a text of this version: in an IPv6 text a dotted address represents its IPv4-mapped
+-- address in ::ffff:0:0/96 (RFC 4291 section 2.5.5.2), and an IPv4 text has no colon addresses
 abbrev pub number_in : Version → AddressOf → Result ℕ MapFaultKind
 number_in V4 (V4, value) = Ok value
 number_in V4 (V6, value) = Err WrongVersion
@@ -223,7 +224,7 @@ block_line form earlier (Ok (own, first, len)) rest =
 block_line form earlier (Err block_faults.BadAddress) rest = Err BadAddress
 block_line form earlier (Err block_faults.BadLength) rest = Err BadLength
 
--- `LOW HIGH LABEL`, which no list has
+-- `LOW HIGH LABEL`, which is not allowed in a list
 abbrev pub range_line : Form → Earlier → AddressOf → AddressOf → List ℕ → Result Entry MapFaultKind
 range_line form.List earlier first second rest = Err NotAList
 range_line form.Map earlier first second rest =
@@ -237,12 +238,13 @@ single_line form earlier address rest =
     let version = version_at earlier address.0 in
     number_in version address >>= (λ start. placed_line form earlier version start (width_of version) rest)
 
--- a line that begins with an address: with a second one behind it, it is a range
+-- a line that begins with an address; if a second address follows, it is a range
 abbrev pub one_or_two : Form → Earlier → AddressOf → Option AddressOf → List ℕ → Result Entry MapFaultKind
 one_or_two form earlier first None rest = single_line form earlier first rest
 one_or_two form earlier first (Some second) rest = range_line form earlier first second (behind_word rest)
 
--- the fault of a line whose first word begins no statement: it looks like an address and is none, or anything else
+-- the fault of a line whose first word begins no statement: a word that looks like an address but isn't one, or any
+-- other word
 abbrev pub other_fault : List ℕ → MapFaultKind
 other_fault word = if is_digit (slice_index word 0) || list_any (λ b. b == 58) word then BadAddress else BadStatement
 
@@ -250,7 +252,7 @@ abbrev pub address_line : Form → Earlier → List ℕ → Option AddressOf →
 address_line form earlier word None rest = Err (other_fault word)
 address_line form earlier word (Some first) rest = one_or_two form earlier first (address_of (first_word rest)) rest
 
--- a line with a word, by its first word and what stands behind it
+-- a line with a word, by its first word and the text after it
 abbrev pub statement_line : Form → Earlier → List ℕ → List ℕ → Result Entry MapFaultKind
 statement_line form earlier word rest =
     if bytes_eq word (codes "map-name") then name_line rest
@@ -260,7 +262,7 @@ statement_line form earlier word rest =
     else (if list_any (λ b. b == 47) word then block_line form earlier (block_of_text word) rest
     else address_line form earlier word (address_of word) rest))))
 
--- what a line says, by its content
+-- the content of a line, by its words
 abbrev pub content_line : Form → Earlier → List ℕ → Result Entry MapFaultKind
 content_line form earlier [] = Ok Nothing
 content_line form earlier (b ∷ bs) = statement_line form earlier (first_word (b ∷ bs)) (behind_word (b ∷ bs))
@@ -273,24 +275,24 @@ abbrev pub at_line : ℕ → Result Entry MapFaultKind → Result Entry MapFault
 at_line number (Ok entry) = Ok entry
 at_line number (Err kind) = Err (record { kind = kind; line = number })
 
--- what the lines say that come after `number` lines which said `entries`: each line is read by what it and the lines
--- before it are, and the first faulty line ends the reading
+-- the contents of the lines after `number` lines whose contents are `entries`; each line is read from itself and the
+-- lines before it, and the first faulty line ends the reading
 abbrev pub entries_from : Form → List Entry → ℕ → List (List ℕ) → Result (List Entry) MapFault
 entries_from form entries number [] = Ok entries
 entries_from form entries number (line ∷ lines) =
     at_line (number + 1) (line_entry form (earlier_of entries) line)
     >>= (λ entry. entries_from form (entries ++ entry ∷ []) (number + 1) lines)
 
--- the label of an address that no mapping covers, where the text has no default
+-- the label of an address that no mapping covers, if the text has no default
 abbrev pub unknown : Label
 unknown = codes "UNKNOWN"
 
--- where there is no default, its text is in the table, last if it isn't there
+-- if there is no default, its text is in the table, and comes last if it wasn't there
 abbrev pub full_table : List Label → Option Label → List Label
 full_table table None = with_label table unknown
 full_table table (Some label) = table
 
--- the map of some lines: without a mode and a mapping it is of version 4
+-- the map of some lines; without a mode and a mapping it is of version 4
 abbrev pub map_from : Earlier → MapModel
 map_from lines = record {
   version = unwrap_or lines.version V4;
@@ -324,7 +326,7 @@ ReadsMap text map = map_reading text ≡ Ok map
 abbrev pub ReadsList : List ℕ → ListModel → Type 0
 ReadsList text list = list_reading text ≡ Ok list
 
--- what reading a text as a map returns, or as a list; out of memory is reported with the line 0
+-- the result of reading a text as a map, or as a list; a failed allocation is reported with line 0
 pub record ReturnsMap (text : List ℕ) (result : Result MapText MapFault) : Type 0 where
   pub ok : IfOk result (λ map. ReadsMap text (map_of map))
   pub fault : IfErr result (λ fault. fault.kind ≢ NoMemory → map_reading text ≡ Err fault)

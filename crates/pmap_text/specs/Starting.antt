@@ -3,9 +3,9 @@ use Rattle.std.specs.List.Sorted.{IsNonDecreasingBy}
 use Rattle.pmap_text.specs.declared.statement.Statement.{Statement}
 use Rattle.pmap_text.specs.declared.start.Start.{Start}
 
--- Where statements begin.
+-- The starts of statements.
 
--- where the statement with a number begins
+-- the start of the statement with a number
 abbrev pub start_of : ℕ → Statement → Start
 start_of number s = record { low = s.span.low.value; number = number }
 
@@ -21,12 +21,12 @@ pub record AreStarts (ss : List Statement) (starts : List Start) : Type 0 where
   pub every : (j : ℕ) (s : Statement) → slice_get ss j ≡ Some s → Contains starts (start_of j s)
   pub rising : IsNonDecreasingBy (λ start. start.low) starts
 
--- where statements begin, in their own order, with numbers from this one on
+-- the starts of statements, in their own order, with numbers from this one on
 abbrev pub starts_from : ℕ → List Statement → List Start
 starts_from n [] = []
 starts_from n (s ∷ ss) = start_of n s ∷ starts_from (n + 1) ss
 
--- the starts that are kept, or where none are, those of the statements in their own order
+-- the starts that are stored, or if none are, those of the statements in their own order
 abbrev pub starts_by : List Statement → Option (List Start) → List Start
 starts_by ss None = starts_from 0 ss
 starts_by ss (Some starts) = starts

@@ -11,9 +11,9 @@ use Rattle.pmap_text.specs.declared.fault.MapFaultKind.{MapFaultKind}
 use Rattle.pmap_text.specs.declared.fault.MapFaultKind.TheVariants.{DuplicateBlock, NoMemory}
 use Rattle.pmap_text.specs.declared.form.Form.{Form}
 
--- Steps of the code, for the contracts of its own functions: no user need read them.
+-- Steps of the code, for the contracts of private functions. Callers of the crate need not read them.
 
--- what the lines so far are after one more line
+-- the content of the lines so far, after one more line
 abbrev pub added : Earlier → Entry → Earlier
 added earlier Nothing = earlier
 added earlier (Names name) = record earlier { name = Some name }
@@ -32,12 +32,12 @@ added earlier (Lists version prefix) = record earlier {
   table = with_label earlier.table prefix.label;
 }
 
--- an entry of the line has a block that no earlier one has
+-- an entry of the line has a block that no earlier entry has
 abbrev pub IsNewIn : Earlier → Entry → Type 0
 IsNewIn earlier (Lists version prefix) = has_prefix earlier.prefixes prefix.start prefix.bits ≡ false
 IsNewIn earlier _ = Unit {0}
 
--- the line has an entry for a block that an earlier one has, and the entry was added all the same
+-- the line has an entry for the block of an earlier one, and the entry was added nevertheless
 pub record Repeats (old new : Earlier) : Type 0 where
   pub prefix : Prefix
   pub known : has_prefix old.prefixes prefix.start prefix.bits ≡ true
@@ -47,17 +47,18 @@ abbrev pub RepeatsAs : Earlier → Earlier → MapFaultKind → Type 0
 RepeatsAs old new DuplicateBlock = Repeats old new
 RepeatsAs old new _ = ⊥
 
--- the line was read, and the lines so far have it at their end; or it has an entry for the block of an earlier one
+-- the line was read, and is the last of the lines so far; or it has an entry for the block of an earlier one
 abbrev pub Takes : Earlier → Earlier → Result Entry MapFaultKind → Type 0
 Takes old new (Ok entry) = (new ≡ added old entry) × IsNewIn old entry
 Takes old new (Err kind) = RepeatsAs old new kind
 
--- the answer where a line isn't read: the fault that the line has, or want of memory where it has none
+-- the result if a line isn't read: the fault of the line, or that an allocation failed if the line has no fault
 abbrev pub refusal_of : Result Entry MapFaultKind → MapFaultKind
 refusal_of (Ok entry) = NoMemory
 refusal_of (Err kind) = kind
 
--- what a call returns that reads a line which says this: the line is taken, or its fault, or out of memory, and no entry is added
+-- the result of reading a line with this content: the line is taken, or its fault is returned, or that an allocation
+-- failed, and no entry is added
 pub record Reads (old new : Earlier) (line : Result Entry MapFaultKind) (result : Result (Unit {0}) MapFaultKind) : Type 0 where
   pub ok : OnOk result (Takes old new line)
   pub err : IfErr result (λ kind. kind ≡ refusal_of line)
@@ -67,13 +68,13 @@ pub record Reads (old new : Earlier) (line : Result Entry MapFaultKind) (result 
 abbrev pub has_prefix_room : Earlier → Label → Bool
 has_prefix_room earlier text = nat_lt (length earlier.prefixes) mapping_limit && has_room earlier.table text
 
--- the first of some entries that has the block of an earlier one is the first fault of the text, at the line noted for it
+-- the first entry with the block of an earlier one is the first fault of the text, at the line noted for it
 abbrev pub NotesRepeats : Form → List (List ℕ) → List Prefix → List ℕ → Type 0
 NotesRepeats form text ps noted =
     (i line : ℕ) → slice_get noted i ≡ Some line → IsFirstRepeat ps (Some i)
     → entries_from form [] 0 text ≡ Err (record { kind = DuplicateBlock; line = line })
 
--- the lines of a text were read up to a fault, but for entries of one block
+-- the lines of a text were read up to a fault, except for repeated blocks
 pub record HasRead (form : Form) (text : List (List ℕ)) (reading : Earlier) (noted : List ℕ) (result : Result (Unit {0}) MapFault) : Type 0 where
   pub repeats : NotesRepeats form text reading.prefixes noted
   pub ok : OnOk result (HasDistinctKeys reading.prefixes

@@ -8,14 +8,14 @@ use Rattle.pmap_text.specs.MapText.{mapping_of, text_at}
 use Rattle.pmap_text.specs.declared.label.LabelId.{LabelId}
 use Rattle.pmap_text.specs.declared.statement.Statement.{Statement}
 
--- Stretches: the maximal ranges of consecutive addresses at which one and the same statement wins, or none does.
+-- Stretches: the maximal ranges of consecutive addresses at which the same statement wins, or none does.
 
 -- the statement that wins at an address: the last that covers it, if one does
 abbrev pub winner : MapModel → ℕ → Option Mapping
 winner m a = last_such (spans a) m.mappings
 
--- From `first` to `last` one statement wins, `top`, or none does. It is not so at the address before, nor at the one behind.
--- (Of two equal statements the earlier one wins nowhere.)
+-- From `first` to `last` one statement wins, `top`, or none does. This is not so at the address before, nor at the
+-- address after. (Of two equal statements the earlier one wins nowhere.)
 pub record IsStretch (m : MapModel) (first last : ℕ) (top : Option Mapping) : Type 0 where
   pub ordered : first ≤ last
   pub within : last < 2 ^ width_of m.version
@@ -31,23 +31,24 @@ HaveAddresses ms = All (λ s. s.low ≤ s.high) ms
 abbrev pub mappings_of : List Label → List Statement → List Mapping
 mappings_of table ss = map (mapping_of table) ss
 
--- the label where the statement wins, or where none does
+-- the label if the statement wins, or if none does
 abbrev pub label_seen : Option LabelId → Option Statement → Option LabelId
 label_seen default None = default
 label_seen default (Some s) = Some s.label
 
--- the label text of the mapping, or the other where there is none
+-- the label text of the mapping, or the other one if there is no mapping
 abbrev pub text_or : Option Mapping → Option Label → Option Label
 text_or None x = x
 text_or (Some m) x = Some m.label
 
--- the label text that statements give an address: that of the one that wins there, or else the default's, if there is one
+-- the label text that statements give an address: that of the statement that wins there, otherwise that of the default,
+-- if there is one
 abbrev pub text_won : List Label → Option LabelId → List Statement → ℕ → Option Label
 text_won table default ss a =
     text_or (last_such (spans a) (mappings_of table ss)) (option_map (λ id. text_at table id.0) default)
 
--- Of addresses of W bits, those from `first` to `last` are a stretch of each map of these statements, whatever the texts of
--- its labels, and have the label of the statement that wins there, or the default where none does.
+-- Among addresses of W bits, those from `first` to `last` are a stretch of each map of these statements, whatever the
+-- texts of its labels. They have the label of the statement that wins there, or the default if none does.
 pub record HasStretch (W : ℕ) (ss : List Statement) (default : Option LabelId) (first last : ℕ) (label : Option LabelId) : Type 0 where
   pub ordered : first ≤ last
   pub within : last < 2 ^ W
@@ -57,14 +58,15 @@ pub record HasStretch (W : ℕ) (ss : List Statement) (default : Option LabelId)
   pub stretch : (m : MapModel) → width_of m.version ≡ W → m.mappings ≡ mappings_of m.table ss
       → IsStretch m first last (option_map (mapping_of m.table) top)
 
--- Stretches as contracts see them: of the addresses of a version, the first address of each, in rising order, and its label.
+-- Stretches as contracts see them: for the addresses of a version, the first address of each stretch, in rising order,
+-- and its label.
 pub record StretchesModel : Type 0 where
   pub version : Version
   pub firsts : List ℕ
   pub labels : List (Option LabelId)
 
--- the first address of the stretch with an index, its last one, which is before the next stretch or the last of the version,
--- and its label
+-- the first address of the stretch with an index, its last one, which is before the next stretch or the last of the
+-- version, and its label
 abbrev pub first_at : StretchesModel → ℕ → ℕ
 first_at s i = slice_index s.firsts i
 
@@ -89,20 +91,21 @@ pub record HasEveryAddress (s : StretchesModel) : Type 0 where
   pub rising : (i j : ℕ) → i < j → j < length s.firsts → first_at s i < first_at s j
   pub within : (i : ℕ) → i < length s.firsts → first_at s i < 2 ^ width_of s.version
 
--- they are the stretches of the statements, where the default is the label of the addresses that no statement covers
+-- they are the stretches of the statements; the default is the label of the addresses that no statement covers
 pub record AreStretches (ss : List Statement) (default : Option LabelId) (s : StretchesModel) : Type 0 where
   pub every : HasEveryAddress s
   pub each : (i : ℕ) → i < length s.firsts
       → HasStretch (width_of s.version) ss default (first_at s i) (last_at s i) (label_at s i)
 
--- each label is the number of a text in a table of so many texts
+-- each label is the number of a text in a table with this number of texts
 abbrev pub AreLabelsBelow : ℕ → StretchesModel → Type 0
 AreLabelsBelow count s = All (λ label. ForSome label (λ id. id.0 < count)) s.labels
 
--- how many stretches begin at the address or before it
+-- the number of stretches that begin at the address or before it
 abbrev pub count_begun : List ℕ → ℕ → ℕ
 count_begun firsts a = prefix_len (λ first. nat_le first a) firsts
 
--- the label text, in the table, of the stretch that has the address: the last that begins at it or before it
+-- the label text, in the table, of the stretch that has the address: the last one that begins at the address or before
+-- it
 abbrev pub text_held : List Label → StretchesModel → ℕ → Option Label
 text_held table s a = option_and_then (λ id. slice_get table id.0) (label_at s (count_begun s.firsts a - 1))

@@ -7,13 +7,13 @@ use Rattle.pmap_text.specs.declared.start.Start.{Start}
 use Rattle.pmap_text.specs.declared.sweep.Sweep.{Sweep}
 use Rattle.pmap_text.specs.Starting.{AreStarts, start_of}
 
--- How a sweep from the first address to the last finds out which statement wins.
+-- How a sweep from the first address to the last finds the statement that wins.
 
 -- the statement with the number, if there is a number
 abbrev pub statement_won : List Statement → Option ℕ → Option Statement
 statement_won ss won = option_and_then (slice_get ss) won
 
--- its last address, or else the end
+-- its last address, or the end if there is no number
 abbrev pub high_won : List Statement → ℕ → Option ℕ → ℕ
 high_won ss end won = unwrap_or (option_map (λ s. s.span.high.value) (statement_won ss won)) end
 
@@ -24,7 +24,8 @@ pub record Covers (ss : List Statement) (a j : ℕ) : Type 0 where
   pub low : statement.span.low.value ≤ a
   pub high : a ≤ statement.span.high.value
 
--- the statement with the number wins at the address: it covers the address, and no later one does; without a number, none does
+-- the statement with the number wins at the address: it covers the address, and no later one does; without a number,
+-- none does
 pub record IsWinner (ss : List Statement) (a : ℕ) (won : Option ℕ) : Type 0 where
   pub covers : ForSome won (Covers ss a)
   pub most : (j : ℕ) → Covers ss a j → IsSomeAnd won (λ k. j ≤ k)
@@ -43,8 +44,8 @@ IsOpen won opened j = (won ≡ Some j) ⊎ Contains opened j
 abbrev pub IsTop : Option ℕ → List ℕ → Type 0
 IsTop won opened = (j : ℕ) → Contains opened j → IsSomeAnd won (λ k. j ≤ k)
 
--- Each statement that covers an address from `first` on is open or still to come. All that are open have begun, and those to
--- come don't begin before `first`.
+-- Each statement that covers an address from `first` on is open or will be opened. All open statements have begun, and
+-- those that will be opened don't begin before `first`.
 pub record IsSwept (ss : List Statement) (starts : List Start) (next : ℕ) (won : Option ℕ) (opened : List ℕ) (first : ℕ) : Type 0 where
   pub within : next ≤ length starts
   pub ordered : IsHeap nat_cmp opened
@@ -54,11 +55,11 @@ pub record IsSwept (ss : List Statement) (starts : List Start) (next : ℕ) (won
       → IsOpen won opened j ⊎ Contains (drop next starts) (start_of j covers.statement)
   pub later : All (λ start. first ≤ start.low) (drop next starts)
 
--- those still to come begin after the address
+-- those that will be opened begin after the address
 abbrev pub AreBehind : ℕ → List Start → Type 0
 AreBehind a coming = All (λ start. a < start.low) coming
 
--- of the open ones the last that goes on to `first` was taken out, with those that are later
+-- the last open statement that extends to `first` was removed, together with those that are later
 pub record Closes (ss : List Statement) (first : ℕ) (old : List ℕ) (won : Option ℕ) (new : List ℕ) : Type 0 where
   pub ordered : IsHeap nat_cmp new
   pub top : IsTop won new
@@ -74,7 +75,7 @@ pub record Opens (won : Option ℕ) (old : List ℕ) (number latest : ℕ) (new 
   pub kept : (j : ℕ) → (j ≡ number) ⊎ IsOpen won old j → IsOpen (Some latest) new j
   pub fewer : (j : ℕ) → IsOpen (Some latest) new j → (j ≡ number) ⊎ IsOpen won old j
 
--- a sweep knows which statements matter from the address on
+-- a sweep knows which statements decide from the address on
 pub record IsReady (ss : List Statement) (first : ℕ) (s : Sweep) : Type 0 where
   pub starts : AreStarts ss s.starts
   pub swept : IsSwept ss s.starts s.next s.won (heap_items s.opened) first

@@ -8,8 +8,8 @@ use prefix_keys::read_decimal;
 use std::alloc::{AllocError, Global};
 use std::marker::Model;
 
-/// The numbers that a text declares for its labels, and their texts beside them: the first text is that of the first
-/// number, and so on. No two numbers are equal and no two texts.
+/// The numbers that a text declares for labels, and their texts: the first text belongs to the first number, and so on.
+/// No two numbers are equal, and no two texts are.
 #[derive(Debug, Drop)]
 pub struct Declarations {
     alloc: Global,
@@ -31,7 +31,7 @@ impl Model for Declarations {
 }
 
 impl Declarations {
-    /// No declarations. Numbers and texts are hashed by the numbers of `hashing`.
+    /// Returns an empty set of declarations. Numbers and texts are hashed with the numbers of `hashing`.
     pub fn new(alloc: Global, hashing: KeyHashing) -> Declarations
         ensures { result ≡ [] }
     {
@@ -42,7 +42,7 @@ impl Declarations {
         }
     }
 
-    /// Whether nothing is declared.
+    /// Returns `true` if nothing is declared.
     #[inline(always)]
     pub fn is_empty(&self) -> bool
         ensures { IsTrue result → self.now ≡ [] }
@@ -50,7 +50,7 @@ impl Declarations {
         self.numbers.is_empty()
     }
 
-    /// The text that was declared for a number. It is a label.
+    /// Returns the text that was declared for a number. The text is a label.
     pub fn text_of(&self, number: u32) -> Option<&[u8]>
         ensures value { option_map (λ t. t.now) result ≡ declared_text self.now number }
         ensures label { IfSome result (λ t. IsTrue (is_label t.now)) }
@@ -62,15 +62,16 @@ impl Declarations {
         }
     }
 
-    /// Whether the number has another text, or the text another number: else both stand at one place, or neither is
-    /// there.
+    /// Returns `true` if the number has another text, or the text another number. Otherwise both are at the same index,
+    /// or neither is declared.
     pub fn conflicts(&self, number: u32, text: &[u8]) -> bool
         ensures { result ≡ conflicts self.now number text.now }
     {
         self.numbers.get_index_of(&number) != self.texts.get_index_of(text)
     }
 
-    /// Declares a text for a number. What is known stays as it is. Where memory is refused, all stays as it was.
+    /// Declares a text for a number. If the number is declared already, nothing changes. If an allocation fails,
+    /// nothing changes either.
     pub fn add(&mut self, number: u32, text: &[u8]) -> Result<(), AllocError>
         requires label { IsTrue (is_label text.now) }
         requires agrees { conflicts self.old number text.now ≡ false }
@@ -80,14 +81,15 @@ impl Declarations {
         if self.numbers.contains(&number) {
             return Ok(());
         }
-        // With room for the number its insertion below takes no memory, so the two sets grow together.
+        // After this reservation the insertion below allocates nothing, so the two sets grow together.
         self.numbers.reserve(1)?;
         self.texts.insert(Vec::from_slice(self.alloc, text)?)?;
         self.numbers.insert(number)?;
         Ok(())
     }
 
-    /// The text that a label stands for: a declared number means its text, and any other label itself.
+    /// Returns the text that a label represents: the declared text if the label is a declared number, otherwise the
+    /// label itself.
     pub fn meant<'a>(&'a self, label: &'a [u8]) -> &'a [u8]
         ensures value { result.now ≡ meant_text self.now label.now }
         ensures label { IsTrue (is_label label.now) → IsTrue (is_label result.now) }
@@ -102,7 +104,7 @@ impl Declarations {
     }
 }
 
-/// The number that 1 to 10 digits stand for, at most 2147483647.
+/// Returns the number that 1 to 10 digits represent, at most 2147483647.
 pub fn label_number(text: &[u8]) -> Option<u32>
     ensures { result ≡ number_of_text text.now }
 {

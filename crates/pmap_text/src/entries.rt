@@ -7,7 +7,7 @@ use prefix_keys::Block;
 use std::alloc::{AllocError, Global};
 use std::marker::Model;
 
-/// The entries of a prefix list, in the order of the text. No two have blocks of the same start and length.
+/// The entries of a prefix list, in the order of the text. No two have blocks with the same start and length.
 #[derive(Debug, Drop)]
 pub struct Entries {
     items: Vec<Entry>,
@@ -26,7 +26,7 @@ impl Model for Entries {
 }
 
 impl Entries {
-    /// No entries.
+    /// Returns an empty list.
     pub fn new(alloc: Global) -> Entries
         ensures { result ≡ [] }
     {
@@ -35,7 +35,7 @@ impl Entries {
         }
     }
 
-    /// Entries whose blocks are distinct.
+    /// Returns the list of these entries, whose blocks must be distinct.
     pub fn from_distinct(items: Vec<Entry>) -> Entries
         requires { HasDistinctBlocks items.items }
         ensures { result ≡ items.items }
@@ -43,7 +43,7 @@ impl Entries {
         Entries { items }
     }
 
-    /// How many entries there are.
+    /// Returns the number of entries.
     pub fn len(&self) -> usize
         ensures value { result ≡ length self.now }
         ensures distinct { HasDistinctBlocks self.now }
@@ -51,14 +51,14 @@ impl Entries {
         self.items.len()
     }
 
-    /// Whether there is no entry.
+    /// Returns `true` if there are no entries.
     pub fn is_empty(&self) -> bool
         ensures { IsTrue result ↔ (self.now ≡ []) }
     {
         self.items.is_empty()
     }
 
-    /// The entries in order.
+    /// Returns the entries in order.
     pub fn as_slice(&self) -> &[Entry]
         ensures value { result.now ≡ self.now }
         ensures distinct { HasDistinctBlocks self.now }
@@ -66,15 +66,15 @@ impl Entries {
         self.items.as_slice()
     }
 
-    /// Whether an entry has the start and the length of this block. Its version is not looked at: a list has one alone.
-    /// Each entry is looked at.
+    /// Returns `true` if an entry has the start and the length of this block. The version is ignored, as a list has
+    /// only one. The search visits each entry.
     pub fn has_block(&self, block: &Block) -> bool
         ensures { result ≡ has_entry self.now block.now.value block.now.len }
     {
         has_block(&self.items, block)
     }
 
-    /// Adds an entry at the end. Where memory is refused, the entries stay as they were.
+    /// Appends an entry. If an allocation fails, the entries are unchanged.
     pub fn push(&mut self, entry: Entry) -> Result<(), AllocError>
         requires new { has_entry self.old entry.block.value entry.block.len ≡ false }
         ensures ok { OnOk result (self.new ≡ self.old ++ entry ∷ []) }

@@ -1,7 +1,7 @@
 use crate::label::LabelId;
 use prefix_keys::Block;
 
-/// One entry of a prefix list: the addresses of a block have a label, where no entry of a longer block covers them.
+/// An entry of a prefix list: the addresses of a block have a label, unless an entry with a longer block covers them.
 #[derive(Clone, Copy, Debug, PartialEq, Eq, Hash)]
 pub struct Entry {
     pub block: Block,

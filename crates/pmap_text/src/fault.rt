@@ -1,6 +1,6 @@
 use thiserror::Error;
 
-/// What is wrong with a line of a map text or a list text.
+/// The kind of a fault in a line of a map text or a list text.
 #[derive(Clone, Copy, Debug, PartialEq, Eq, Hash, Error)]
 pub enum MapFaultKind {
     #[error("no statement begins with this word")]
@@ -35,7 +35,7 @@ pub enum MapFaultKind {
     NoMemory,
 }
 
-/// The first fault of a text: what is wrong, and the line, counted from 1. Want of memory has the line 0.
+/// The first fault of a text: its kind, and its line, counted from 1. The line is 0 if an allocation failed.
 #[derive(Clone, Copy, Debug, PartialEq, Eq, Hash, Error)]
 #[error("line {line}: {kind}")]
 pub struct MapFault {

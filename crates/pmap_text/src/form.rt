@@ -1,8 +1,8 @@
-/// The two kinds of text. A prefix list has neither ranges nor a default, and no block twice.
+/// The two kinds of text. A prefix list has no ranges, no default and no repeated block.
 #[derive(Clone, Copy, Debug, PartialEq, Eq)]
 pub enum Form {
-    /// A map text: of two statements that cover an address the later one counts.
+    /// A map text: the last statement that covers an address decides.
     Map,
-    /// A list text: the longest block that covers an address counts.
+    /// A list text: the longest block that covers an address decides.
     List,
 }

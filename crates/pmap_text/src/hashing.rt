@@ -1,11 +1,11 @@
-//! Hashes of keys by secret numbers, so that whoever chooses the keys cannot choose keys that collide.
+//! Hashing of keys with secret numbers, so that an attacker who chooses the keys cannot make them collide.
 ghost use Rattle.std.specs.Prelude.{◌≡◌};
 ghost use Rattle.pmap_text.specs.Hashing.{folded};
 
 use std::hash::{BuildHasher, Hasher};
 use std::random::RandomSource;
 
-/// The two numbers by which the keys of a hash table are hashed. No output depends on them.
+/// The two numbers with which the keys of a hash table are hashed. No output depends on them.
 #[derive(Clone, Copy)]
 pub struct KeyHashing {
     seed: u64,
@@ -20,7 +20,8 @@ pub struct KeyHasher {
 }
 
 impl KeyHashing {
-    /// Numbers that nobody knows, from the system's random source. If that fails, the fixed numbers of [`known`](Self::known).
+    /// Returns secret numbers from the system's random source. If the source fails, returns the fixed numbers of
+    /// [`known`](Self::known).
     pub fn drawn(source: &impl RandomSource) -> KeyHashing {
         let mut bytes = [0; 16];
         let Ok(()) = source.fill_bytes(&mut bytes) else {
@@ -33,7 +34,7 @@ impl KeyHashing {
         }
     }
 
-    /// Fixed numbers, which everybody knows.
+    /// Returns fixed numbers, which are public.
     pub fn known() -> KeyHashing {
         KeyHashing {
             seed: 0x243f_6a88_85a3_08d3,
@@ -56,7 +57,7 @@ impl BuildHasher for KeyHashing {
     }
 }
 
-// The two halves of a product of 128 bits, joined by exclusive or.
+// Returns the two halves of a product of 128 bits, combined by exclusive or.
 #[inline(always)]
 fn folded(a: u64, b: u64) -> u64
     ensures { result ≡ folded a b }
@@ -77,8 +78,8 @@ impl Hasher for KeyHasher {
         folded(self.state, self.hashing.seed)
     }
 
-    // Each word of eight bytes is mixed into the state. So is one more of the bytes that are left, fewer than eight, behind
-    // a 1, so that the words of distinct keys are distinct.
+    // Each word of eight bytes is mixed into the state. The remaining bytes, fewer than eight, form one more word after
+    // a leading 1, so that distinct keys have distinct words.
     #[inline(always)]
     fn write(&mut self, bytes: &[u8]) {
         let multiplier = self.hashing.multiplier;

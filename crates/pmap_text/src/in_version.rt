@@ -6,8 +6,8 @@ ghost use Rattle.pmap_text.specs.Reading.{number_in};
 use crate::fault::MapFaultKind;
 use prefix_keys::{Addr, Block, Version, block_of, convert};
 
-/// An address in a text of this version: a dotted one stands in an IPv6 text for its place in `::ffff:0:0/96`, and an
-/// IPv4 text has no colon addresses.
+/// Returns an address as one of a text of this version. In an IPv6 text a dotted address represents its IPv4-mapped
+/// address in `::ffff:0:0/96`, and an IPv4 text has no colon addresses.
 pub fn addr_in(version: Version, addr: Addr) -> Result<Addr, MapFaultKind>
     ensures version { IfOk result (λ a. a.version ≡ version) }
     ensures ok { IfOk result (λ a. number_in version (addr.version, addr.value) ≡ Ok a.value) }
@@ -19,7 +19,7 @@ pub fn addr_in(version: Version, addr: Addr) -> Result<Addr, MapFaultKind>
     convert(addr, version).ok_or(MapFaultKind::WrongVersion)
 }
 
-/// A block in a text of this version. The length of a dotted one grows with the width of the address.
+/// Returns a block as one of a text of this version. The length of a dotted block grows with the width of the address.
 pub fn block_in(version: Version, block: Block) -> Result<Block, MapFaultKind>
     ensures version { IfOk result (λ b. b.version ≡ version) }
     ensures len { IfOk result (λ b. b.len ≡ block.len + (width_of version - width_of block.version)) }

@@ -6,29 +6,29 @@ ghost use Rattle.pmap_text.specs.Label.{is_blank, is_label_byte, is_label as is_
 #[derive(Clone, Copy, Debug, PartialEq, Eq, Hash, PartialOrd, Ord)]
 pub struct LabelId(pub u32);
 
-/// Whether a byte is a blank: a space, a tab or a carriage return.
+/// Returns `true` if the byte is a blank: a space, a tab or a carriage return.
 pub fn is_blank(byte: u8) -> bool
     ensures { result ≡ is_blank byte }
 {
     byte == b' ' || byte == b'\t' || byte == b'\r'
 }
 
-// Whether a byte may stand in a label: no control character but a tab, and no `#`.
+// Returns `true` if the byte is allowed in a label: a tab, or any byte except control characters and `#`.
 fn is_label_byte(byte: u8) -> bool
     ensures { result ≡ is_label_byte byte }
 {
     (byte == b'\t' || byte >= b' ') && byte != 0x7f && byte != b'#'
 }
 
-// Whether each byte may stand in a label.
+// Returns `true` if each byte is allowed in a label.
 fn has_label_bytes(text: &[u8]) -> bool
     ensures { result ≡ list_all is_label_byte text.now }
 {
     text.iter().all(|byte| is_label_byte(*byte))
 }
 
-/// Whether a text may be a label or a name: 1 to 255 bytes, no control character but an inner tab, no `#`, and no
-/// blank at its ends. Bytes above 127 may be any.
+/// Returns `true` if the text is well formed as a label or a name: 1 to 255 bytes, no control character except inner
+/// tabs, no `#`, and no blank at either end. Bytes above 127 are all allowed.
 pub fn is_label(text: &[u8]) -> bool
     ensures { result ≡ is_label_text text.now }
 {

@@ -7,7 +7,8 @@ use indexmap::IndexSet;
 use std::alloc::{AllocError, Global};
 use std::marker::Model;
 
-/// A table of distinct label texts. A text's number is its place, from 0 in the order in which texts were added.
+/// A table of distinct label texts. The number of a text is its index, from 0 in the order in which the texts were
+/// added.
 #[derive(Debug, Drop)]
 pub struct Labels {
     alloc: Global,
@@ -26,14 +27,14 @@ impl Model for Labels {
 }
 
 impl Labels {
-    /// An empty table, whose texts are hashed by the fixed numbers.
+    /// Returns an empty table, whose texts are hashed with the fixed numbers.
     pub fn new(alloc: Global) -> Labels
         ensures { result ≡ [] }
     {
         Labels::with_hashing(alloc, KeyHashing::known())
     }
 
-    /// An empty table, whose texts are hashed by these numbers.
+    /// Returns an empty table, whose texts are hashed with these numbers.
     pub fn with_hashing(alloc: Global, hashing: KeyHashing) -> Labels
         ensures { result ≡ [] }
     {
@@ -43,7 +44,7 @@ impl Labels {
         }
     }
 
-    /// How many texts there are.
+    /// Returns the number of texts.
     pub fn len(&self) -> usize
         ensures value { result ≡ length self.now }
         ensures few { result ≤ 65536 }
@@ -52,14 +53,14 @@ impl Labels {
         self.texts.len()
     }
 
-    /// Whether there is no text.
+    /// Returns `true` if there are no texts.
     pub fn is_empty(&self) -> bool
         ensures { IsTrue result ↔ (self.now ≡ []) }
     {
         self.texts.is_empty()
     }
 
-    /// The text with a number. It is a label, and its number is this one.
+    /// Returns the text with a number. The text is a label, and its number is this one.
     #[inline(always)]
     pub fn text(&self, id: LabelId) -> Option<&[u8]>
         ensures value { option_map (λ t. t.now) result ≡ slice_get self.now id.0 }
@@ -72,7 +73,7 @@ impl Labels {
         }
     }
 
-    /// The number of a text. The text with that number is this one.
+    /// Returns the number of a text. The text with that number is this one.
     pub fn id_of(&self, text: &[u8]) -> Option<LabelId>
         ensures value { option_map (λ id. id.0) result ≡ number_of self.now text.now }
         ensures text { IfSome result (λ id. slice_get self.now id.0 ≡ Some text.now) }
@@ -83,7 +84,7 @@ impl Labels {
         }
     }
 
-    /// A table with the same texts under the same numbers.
+    /// Returns a table with the same texts and numbers.
     pub fn copy(&self) -> Result<Labels, AllocError>
         ensures { IfOk result (λ copy. copy ≡ self.now) }
     {
@@ -98,8 +99,8 @@ impl Labels {
         })
     }
 
-    /// Adds a text, and answers its number. A known text keeps its number and takes no memory, a new one goes last.
-    /// The others keep their numbers. Where memory is refused, the table stays as it was.
+    /// Adds a text, and returns its number. A known text keeps its number, and nothing is allocated for it. A new text
+    /// comes last. All other texts keep their numbers. If an allocation fails, the table is unchanged.
     pub fn add(&mut self, text: &[u8]) -> Result<LabelId, AllocError>
         requires label { IsTrue (is_label text.now) }
         requires room { length self.old < 65536 }

@@ -1,4 +1,4 @@
-//! The laws on maps and prefix lists.
+//! Laws about maps and prefix lists.
 
 ghost use Rattle.std.specs.Prelude.{◌≡◌, ◌<◌, ◌≤◌, ◌^◌, ℕ, Option, Some, None, MatchOption, All, nat_le, if◌then◌else◌};
 ghost use Rattle.std.specs.List.Sorted.{IsPermutation};
@@ -17,8 +17,9 @@ pub fn settled_block_has_its_label()
         IsSettled m n q x → map_label m a ≡ x }
 {}
 
-/// A block is settled exactly where one stretch holds it. So it is told by the stretch that has the block's first
-/// address: that one has the last address too, and gives the block its label, or the block isn't settled.
+/// A block is settled if and only if one stretch contains it. So it is enough to look at the stretch of the block's
+/// first address: if it also has the block's last address, it gives the block its label, and otherwise the block isn't
+/// settled.
 pub fn block_is_settled_in_one_stretch()
     ensures { (m : MapModel) (n q first last : ℕ) (top : Option Mapping) → HaveAddresses m.mappings →
         IsStretch m first last top → first ≤ first_of (width_of m.version) n q →
@@ -27,8 +28,8 @@ pub fn block_is_settled_in_one_stretch()
         then Some (label_or top m.fallback) else None) }
 {}
 
-/// A list's label of an address is that of the longest entry that covers it, of equal blocks the first. Where no entry
-/// covers the address it has none.
+/// The label that a list gives an address is that of the longest entry that covers it. Of entries with equal blocks the
+/// first one counts. If no entry covers the address, it has no label.
 pub fn longest_match_counts()
     ensures label { (l : ListModel) (a : ℕ) (p : Prefix) → IsLongestMatch (width_of l.version) l.prefixes a p →
         list_label l a ≡ Some p.label }
@@ -37,8 +38,8 @@ pub fn longest_match_counts()
         (λ x. (p : Prefix) × IsLongestMatch (width_of l.version) l.prefixes a p × (p.label ≡ x)) }
 {}
 
-/// The order of a list's entries doesn't count where no two have one block, as in each list that a text is read as, nor
-/// where those of one block have one label.
+/// The order of a list's entries is irrelevant if no two entries have the same block, as in each list that is read from
+/// a text, or if entries with the same block have the same label.
 pub fn order_of_entries_is_free()
     ensures order { (l r : ListModel) → l.version ≡ r.version → HasDistinctPrefixes (width_of l.version) l.prefixes →
         IsPermutation l.prefixes r.prefixes → (a : ℕ) → list_label l a ≡ list_label r a }

@@ -1,5 +1,5 @@
-//! Addresses and blocks that a text begins with, read in one pass over its bytes. A text that isn't plainly of such a form has
-//! no answer here, and the readers of whole words decide what it is.
+//! Addresses and blocks at the start of a text, read in one pass over its bytes. If a function here returns `None`,
+//! only the functions that read whole words can decide what the text is.
 ghost use Rattle.std.specs.Prelude.{◌≡◌, ◌≤◌, ◌∷◌, ℕ, List, IfSome};
 ghost use Rattle.prefix_keys.specs.declared.version.Version.TheVariants.{V4};
 ghost use Rattle.pmap_text.specs.Leading.{BeginsWithAddress, BeginsWithBlank, BeginsWithDigits, BeginsWithDotted, BeginsWithNumber, IsWord, SaysSpan};
@@ -9,15 +9,15 @@ use crate::label::is_blank;
 use crate::lines::without_leading_blanks;
 use prefix_keys::{Addr, Block, Version, block_of, leading_colon};
 
-/// What the first word of a line may be.
+/// The possible first word of a line.
 #[derive(Clone, Copy)]
 pub enum Word {
     Address(Addr),
     Block(Block),
 }
 
-// The number, at most the limit, of one to three digits that a text begins with, and what stands behind it: there is
-// something, and it begins with no digit.
+// Returns the number of one to three digits at the start of a text, at most the limit, and the rest of the text.
+// Returns `None` if the text ends after the number or goes on with another digit.
 #[inline(always)]
 fn leading_number(text: &[u8], limit: u32) -> Option<(u32, &[u8])>
     ensures number { IfSome result (λ r. BeginsWithNumber text.now r.1.now limit r.0) }
@@ -31,7 +31,7 @@ fn leading_number(text: &[u8], limit: u32) -> Option<(u32, &[u8])>
     }
 }
 
-// The number of the one to three digits that a text begins with, and how many there are.
+// Returns the number of one to three digits at the start of a text, and the number of digits.
 #[inline(always)]
 fn front_digits(text: &[u8]) -> Option<(u32, usize)>
     ensures { IfSome result (λ r. BeginsWithDigits text.now r.0 r.1) }
@@ -42,8 +42,9 @@ fn front_digits(text: &[u8]) -> Option<(u32, usize)>
     }
 }
 
-// The number of the one to three digits that four bytes begin with, and how many there are. The fourth is none if the
-// others are. No branch depends on how many there are, which is hard to foresee.
+// Returns the number of the one to three digits at the start of four bytes, and the number of digits. Returns `None` if
+// the first byte isn't a digit, or if all four are. No branch depends on the number of digits, which is hard to
+// predict.
 #[inline(always)]
 fn digits_of(a: u8, b: u8, c: u8, d: u8) -> Option<(u32, usize)>
     ensures { IfSome result (λ r. (rest : List ℕ) → BeginsWithDigits (a ∷ b ∷ c ∷ d ∷ rest) r.0 r.1) }
@@ -66,7 +67,8 @@ fn digits_of(a: u8, b: u8, c: u8, d: u8) -> Option<(u32, usize)>
     }
 }
 
-// The same of a text.
+// Returns the number of the one to three digits at the start of a text, and the number of digits. Returns `None` unless
+// a byte that isn't a digit follows them.
 fn last_digits(text: &[u8]) -> Option<(u32, usize)>
     ensures { IfSome result (λ r. BeginsWithDigits text.now r.0 r.1) }
 {
@@ -83,7 +85,7 @@ fn last_digits(text: &[u8]) -> Option<(u32, usize)>
     None
 }
 
-// What stands behind this byte, which a text begins with.
+// Returns the text after this byte at the start of a text.
 #[inline(always)]
 fn behind_byte(text: &[u8], byte: u8) -> Option<&[u8]>
     ensures { IfSome result (λ r. text.now ≡ byte ∷ r.now) }
@@ -94,7 +96,7 @@ fn behind_byte(text: &[u8], byte: u8) -> Option<&[u8]>
     }
 }
 
-// The number of the IPv4 address that a text begins with, and what stands behind it.
+// Returns the number of the IPv4 address at the start of a text, and the rest of the text.
 #[inline(always)]
 fn leading_dotted(text: &[u8]) -> Option<(u32, &[u8])>
     ensures { IfSome result (λ r. BeginsWithDotted text.now r.1.now r.0) }
@@ -106,7 +108,7 @@ fn leading_dotted(text: &[u8]) -> Option<(u32, &[u8])>
     Some((((a * 256 + b) * 256 + c) * 256 + d, rest))
 }
 
-// The IPv4 address that a text begins with, and what stands behind it.
+// Returns the IPv4 address at the start of a text, and the rest of the text.
 #[inline(always)]
 fn leading_narrow(text: &[u8]) -> Option<(Addr, &[u8])>
     ensures address { IfSome result (λ r. BeginsWithAddress text.now r.1.now r.0) }
@@ -120,7 +122,7 @@ fn leading_narrow(text: &[u8]) -> Option<(Addr, &[u8])>
     Some((addr, rest))
 }
 
-// The IPv6 address that a text begins with, and what stands behind it.
+// Returns the IPv6 address at the start of a text, and the rest of the text.
 #[inline(always)]
 fn leading_wide(text: &[u8]) -> Option<(Addr, &[u8])>
     ensures { IfSome result (λ r. BeginsWithAddress text.now r.1.now r.0) }
@@ -133,7 +135,7 @@ fn leading_wide(text: &[u8]) -> Option<(Addr, &[u8])>
     Some((addr, rest))
 }
 
-// The address of either version that a text begins with, and what stands behind it.
+// Returns the address of either version at the start of a text, and the rest of the text.
 #[inline(always)]
 fn leading_address(text: &[u8]) -> Option<(Addr, &[u8])>
     ensures { IfSome result (λ r. BeginsWithAddress text.now r.1.now r.0) }
@@ -144,7 +146,7 @@ fn leading_address(text: &[u8]) -> Option<(Addr, &[u8])>
     }
 }
 
-// What stands behind the blanks that a text begins with, of which there is one or more.
+// Returns the text after one or more blanks at the start of a text.
 #[inline(always)]
 fn behind_blanks(text: &[u8]) -> Option<&[u8]>
     ensures { IfSome result (λ r. BeginsWithBlank text.now × (r.now ≡ trim_start text.now)) }
@@ -155,8 +157,8 @@ fn behind_blanks(text: &[u8]) -> Option<&[u8]>
     }
 }
 
-/// The first word of a text, where it is plainly an address or a block with a blank behind it, and what stands behind it
-/// and the blanks after it.
+/// Reads an address or a block, followed by blanks, at the start of a text. Returns it as the first word, and the text
+/// after the blanks.
 #[inline(always)]
 pub fn leading_word(text: &[u8]) -> Option<(Word, &[u8])>
     ensures word { IfSome result (λ r. IsWord (first_word text.now) r.0) }
@@ -172,8 +174,8 @@ pub fn leading_word(text: &[u8]) -> Option<(Word, &[u8])>
     }
 }
 
-/// The first and the last address of the IPv4 block or range that a text begins with, where it is plainly one with a
-/// blank behind it, and what stands behind that and the blanks after it.
+/// Reads an IPv4 block or range, followed by blanks, at the start of a text. Returns its first and its last address,
+/// and the text after the blanks.
 #[inline(always)]
 pub fn leading_span(text: &[u8]) -> Option<(u32, u32, &[u8])>
     ensures ordered { IfSome result (λ r. r.0 ≤ r.1) }

@@ -8,14 +8,14 @@
 //! assert!(rt; map.labels.text(map.default) == Some(b"UNKNOWN".as_slice()));
 //! ```
 //!
-//! It stands on `prefix_keys`, which reads addresses and blocks, and on `indexmap` for the tables of labels and of
-//! declared numbers. The layer above may rely on this: `read_map` and `read_list` answer exactly the
-//! map or the list that the text is read as, or the text's first fault with its line, counted from 1.
-//! Want of memory alone has the line 0. A label's number is its place in the order in which label texts first occur,
-//! so the number and the text determine each other. Each `MapText` keeps in its type that its statements are of its
-//! version and no more than 1,000,000, and that its labels stand in its table, and each `PrefixList` that its entries
-//! are of its version, that no two have one block, and that their labels stand in its table. The definitions that
-//! contracts cite, the label that a map gives an address and settled blocks among them, are in `specs`.
+//! This crate uses `prefix_keys` (addresses and blocks), and `indexmap` for the tables of labels and of declared
+//! numbers. Callers may rely on this: `read_map` and `read_list` return exactly the map or the list of the text, or the
+//! text's first fault with its line, counted from 1. A failed allocation has line 0. The number of a label is its index
+//! in the order in which label texts first occur, so the number and the text determine each other. The type of a
+//! `MapText` guarantees that its statements are of its version and at most 1,000,000, and that their labels are in its
+//! table. The type of a `PrefixList` guarantees that its entries are of its version, that no two have the same block,
+//! and that their labels are in its table. The definitions that contracts cite, including the label that a map gives an
+//! address and settled blocks, are in `specs`.
 #![tactic(auto)]
 
 mod declarations;

@@ -7,17 +7,17 @@ ghost use Rattle.pmap_text.specs.Lines.{behind_word, content_of, first_word, lin
 use crate::label::is_blank;
 use prefix_keys::find_byte;
 
-// How many bytes of a line are looked at together.
+// The number of bytes of a line that are examined together.
 const STEP: usize = 16;
 
-// The place of the first blank.
+// Returns the index of the first blank.
 fn find_blank(text: &[u8]) -> Option<usize>
     ensures { result ≡ position is_blank_byte text.now }
 {
     text.iter().position(|b| is_blank(*b))
 }
 
-// The place of the first byte that is no blank.
+// Returns the index of the first byte that isn't a blank.
 #[inline(always)]
 fn find_word(text: &[u8]) -> Option<usize>
     ensures { result ≡ position (λ b. not (is_blank_byte b)) text.now }
@@ -25,7 +25,7 @@ fn find_word(text: &[u8]) -> Option<usize>
     text.iter().position(|b| !is_blank(*b))
 }
 
-// The place that was found, or the length of the text.
+// Returns the index that was found, or the length of the text.
 #[inline(always)]
 fn place_or_end(found: Option<usize>, text: &[u8]) -> usize
     requires { (p : ℕ → Bool) × (found ≡ position p text.now) }
@@ -35,7 +35,7 @@ fn place_or_end(found: Option<usize>, text: &[u8]) -> usize
     found.unwrap_or(text.len())
 }
 
-/// The first line of a text and what stands behind its line feed.
+/// Returns the first line of a text, and the text after its line feed.
 pub fn split_line(text: &[u8]) -> (&[u8], &[u8])
     requires { 0 < length text.now }
     ensures line { lines_of text.now ≡ result.0.now ∷ lines_of result.1.now }
@@ -44,7 +44,7 @@ pub fn split_line(text: &[u8]) -> (&[u8], &[u8])
     split_at_feed(text, place_or_end(find_byte(text, b'\n'), text))
 }
 
-// What stands before the first line feed, which is at this place, and what stands behind it.
+// Returns the text before the first line feed, which is at this index, and the text after it.
 #[inline(always)]
 fn split_at_feed(text: &[u8], end: usize) -> (&[u8], &[u8])
     requires some { 0 < length text.now }
@@ -60,8 +60,8 @@ fn split_at_feed(text: &[u8], end: usize) -> (&[u8], &[u8])
     }
 }
 
-// Whether a line feed or a `#` is among the bytes. It looks at all of them, since without a way out of the loop several
-// bytes are compared at a time.
+// Returns `true` if a line feed or a `#` is among the bytes. The loop visits all of them and has no early exit, so that
+// several bytes are compared at a time.
 #[inline(always)]
 fn has_end(text: &[u8]) -> bool
     ensures { result ≡ list_any (λ b. b == 10 || b == 35) text.now }
@@ -73,7 +73,7 @@ fn has_end(text: &[u8]) -> bool
     found
 }
 
-// The place of the first line feed or `#`.
+// Returns the index of the first line feed or `#`.
 #[inline(always)]
 fn find_end(text: &[u8]) -> Option<usize>
     ensures { result ≡ position (λ b. b == 10 || b == 35) text.now }
@@ -81,7 +81,7 @@ fn find_end(text: &[u8]) -> Option<usize>
     text.iter().position(|b| *b == b'\n' || *b == b'#')
 }
 
-// Whether neither is among the first bytes, of which there are enough to look at together.
+// Returns `true` if neither byte is among the first bytes, and there are enough of them to examine together.
 #[inline(always)]
 fn begins_plain(text: &[u8]) -> bool
     ensures { IsTrue result → (16 ≤ length text.now) × (list_any (λ b. b == 10 || b == 35) (take 16 text.now) ≡ false) }
@@ -89,7 +89,7 @@ fn begins_plain(text: &[u8]) -> bool
     text.len() >= STEP && !has_end(&text[..STEP])
 }
 
-// Where the first line feed or `#` is, or the length.
+// Returns the index of the first line feed or `#`, or the length.
 #[inline(always)]
 fn content_end(text: &[u8]) -> usize
     ensures place { result ≡ position_or_len (λ b. b == 10 || b == 35) text.now }
@@ -102,7 +102,7 @@ fn content_end(text: &[u8]) -> usize
     text.len() - rest.len() + place_or_end(find_end(rest), rest)
 }
 
-/// What the first line of a text says (`content`), and what stands behind its line feed.
+/// Returns the content of the first line of a text (`content`), and the text after its line feed.
 #[inline(always)]
 pub fn split_content(text: &[u8]) -> (&[u8], &[u8])
     requires { 0 < length text.now }
@@ -119,14 +119,14 @@ pub fn split_content(text: &[u8]) -> (&[u8], &[u8])
     (without_outer_blanks(line), behind)
 }
 
-// What stands before the first `#`.
+// Returns the text before the first `#`.
 fn before_comment(line: &[u8]) -> &[u8]
     ensures { result.now ≡ before_first (λ b. b == 35) line.now }
 {
     &line[..place_or_end(find_byte(line, b'#'), line)]
 }
 
-/// The text from its first byte on that is no blank.
+/// Returns the text without its leading blanks.
 #[inline(always)]
 pub fn without_leading_blanks(text: &[u8]) -> &[u8]
     ensures { result.now ≡ trim_start text.now }
@@ -134,7 +134,7 @@ pub fn without_leading_blanks(text: &[u8]) -> &[u8]
     &text[place_or_end(find_word(text), text)..]
 }
 
-// The text up to its last byte that is no blank.
+// Returns the text without its trailing blanks.
 #[inline(always)]
 fn without_trailing_blanks(text: &[u8]) -> &[u8]
     ensures { result.now ≡ trim_end text.now }
@@ -146,7 +146,7 @@ fn without_trailing_blanks(text: &[u8]) -> &[u8]
     &text[..end]
 }
 
-// The text without blanks at its ends.
+// Returns the text without blanks at either end.
 #[inline(always)]
 fn without_outer_blanks(text: &[u8]) -> &[u8]
     ensures { result.now ≡ trim_end (trim_start text.now) }
@@ -154,14 +154,14 @@ fn without_outer_blanks(text: &[u8]) -> &[u8]
     without_trailing_blanks(without_leading_blanks(text))
 }
 
-/// What a line says: what stands before its comment, without outer blanks.
+/// Returns the content of a line: the text before its comment, without outer blanks.
 pub fn content(line: &[u8]) -> &[u8]
     ensures { result.now ≡ content_of line.now }
 {
     without_outer_blanks(before_comment(line))
 }
 
-/// The first word of a line's content, and what stands behind it and the blanks after it.
+/// Returns the first word of a line's content, and the text after the blanks that follow it.
 pub fn split_word(content: &[u8]) -> (&[u8], &[u8])
     ensures word { result.0.now ≡ first_word content.now }
     ensures rest { result.1.now ≡ behind_word content.now }

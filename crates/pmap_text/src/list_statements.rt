@@ -13,8 +13,8 @@ use crate::statement::Statement;
 use crate::statements::Statements;
 use std::alloc::{AllocError, Global};
 
-/// The entries of a list as statements, by first address, of one address the shorter block first: the statement that
-/// wins at an address is then that of the longest entry that covers it.
+/// Returns the entries of a list as statements, by first address, and of equal first addresses the shorter block first.
+/// The last statement that covers an address is then that of the longest entry that covers it.
 pub fn statements_of_list(alloc: Global, list: &PrefixList) -> Result<Statements, AllocError>
     ensures order { IfOk result (λ ss. AreShortestFirst list.now.entries ss) }
     ensures version { IfOk result (λ ss. All (λ s. s.span.low.version ≡ list.now.version) ss) }
@@ -26,7 +26,7 @@ pub fn statements_of_list(alloc: Global, list: &PrefixList) -> Result<Statements
     shortest_first(alloc, list.entries.as_slice())
 }
 
-// The entries as statements, in an order in which of nested blocks the longer comes later.
+// Returns the entries as statements, in an order in which the longer of nested blocks comes later.
 fn shortest_first(alloc: Global, entries: &[Entry]) -> Result<Statements, AllocError>
     ensures { IfOk result (λ statements. AreShortestFirst entries.now statements) }
 {
@@ -37,7 +37,7 @@ fn shortest_first(alloc: Global, entries: &[Entry]) -> Result<Statements, AllocE
     statements_of(alloc, sorted.as_slice())
 }
 
-// The entries as statements, in their own order.
+// Returns the entries as statements, in their own order.
 fn statements_of(alloc: Global, entries: &[Entry]) -> Result<Statements, AllocError>
     ensures { IfOk result (λ statements. AllZip HasStatement entries.now statements) }
 {

@@ -7,7 +7,7 @@ use crate::name::Name;
 use crate::statements::Statements;
 use prefix_keys::Version;
 
-/// A prefix map as its text has it: the version of its addresses, its name, the label of addresses that no statement
+/// A prefix map as its text states it: the version of its addresses, its name, the label of addresses that no statement
 /// covers, its statements in order, and its label table.
 #[derive(Drop)]
 pub struct MapText {

@@ -4,7 +4,7 @@ ghost use Rattle.pmap_text.specs.Label.{is_label};
 use std::alloc::{AllocError, Global};
 use std::marker::Model;
 
-/// What a prefix map or a prefix list is called: a text in the form of a label.
+/// The name of a prefix map or a prefix list: a text that is well formed as a label.
 #[derive(Debug, Drop)]
 pub struct Name {
     bytes: Vec<u8>,
@@ -22,7 +22,7 @@ impl Model for Name {
 }
 
 impl Name {
-    /// A name with this text.
+    /// Returns a name with this text.
     pub fn new(alloc: Global, text: &[u8]) -> Result<Name, AllocError>
         requires label { IsTrue (is_label text.now) }
         ensures { IfOk result (λ name. name ≡ text.now) }
@@ -31,7 +31,7 @@ impl Name {
         Ok(Name { bytes })
     }
 
-    /// The bytes of the name. They are in the form of a label.
+    /// Returns the bytes of the name, which are well formed as a label.
     pub fn as_bytes(&self) -> &[u8]
         ensures value { result.now ≡ self.now }
         ensures label { IsTrue (is_label self.now) }

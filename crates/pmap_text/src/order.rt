@@ -1,4 +1,4 @@
-//! The order of entries by their blocks: by first address, of one address the shorter block first.
+//! The order of entries by their blocks: by first address, and of equal first addresses the shorter block first.
 ghost use Rattle.std.specs.Prelude.{◌≡◌, IfOk, IsTrue};
 ghost use Rattle.std.specs.List.Sorted.{IsNonDecreasingBy, IsPermutation};
 ghost use Rattle.std.specs.Ordering.{nat_cmp};
@@ -8,7 +8,7 @@ use crate::entry::Entry;
 use std::alloc::{AllocError, Global};
 use std::cmp::Ordering;
 
-// Which of two entries comes first.
+// Compares two entries by their blocks.
 fn by_block(entry: &Entry, other: &Entry) -> Ordering
     ensures { result ≡ nat_cmp (rank_of entry.now) (rank_of other.now) }
 {
@@ -19,7 +19,7 @@ fn by_block(entry: &Entry, other: &Entry) -> Ordering
     }
 }
 
-/// Whether each entry comes after the one before it.
+/// Returns `true` if each entry comes after the one before it.
 pub fn are_in_order(entries: &[Entry]) -> bool
     ensures rising { IsTrue result → IsNonDecreasingBy rank_of entries.now }
     ensures distinct { IsTrue result → HasDistinctBlocks entries.now }
@@ -32,7 +32,7 @@ pub fn are_in_order(entries: &[Entry]) -> bool
     true
 }
 
-/// The entries in order.
+/// Returns the entries in order.
 pub fn in_order(alloc: Global, entries: &[Entry]) -> Result<Vec<Entry>, AllocError>
     ensures same { IfOk result (λ sorted. IsPermutation entries.now sorted.items) }
     ensures rising { IfOk result (λ sorted. IsNonDecreasingBy rank_of sorted.items) }

@@ -7,8 +7,8 @@ use crate::labels::Labels;
 use crate::name::Name;
 use prefix_keys::Version;
 
-/// A prefix list as its text has it: the version of its addresses, its name, its entries in order, and its label table.
-/// The label of an address is that of the longest block that covers it.
+/// A prefix list as its text states it: the version of its addresses, its name, its entries in order, and its label
+/// table. The label of an address is that of the longest block that covers it.
 #[derive(Drop)]
 pub struct PrefixList {
     pub version: Version,

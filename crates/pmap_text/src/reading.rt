@@ -29,16 +29,16 @@ use std::marker::Model;
 
 mod line;
 
-/// The greatest number of mappings that a map text may have, and of entries that a list text may have.
+/// The maximum number of mappings of a map text, and of entries of a list text.
 pub const MAPPING_LIMIT: usize = 1_000_000;
 
-/// The greatest number of label texts that a text may have.
+/// The maximum number of label texts of a text.
 pub const LABEL_LIMIT: usize = 65_535;
 
-// The label of addresses without a mapping, where the text has no default.
+// The label of addresses without a mapping if the text has no default.
 const UNKNOWN: &[u8] = b"UNKNOWN";
 
-/// What the lines so far say.
+/// The content of the lines so far.
 #[derive(Drop)]
 pub struct Reading {
     alloc: Global,
@@ -64,7 +64,7 @@ impl Model for Reading {
     ghost invariant = { λ r. IsProgress r.version r.default r.statements r.entries.items r.labels };
 }
 
-// Whether this is the number of the text, which is a label then.
+// Returns `true` if this is the number of the text. The text is then a label.
 #[inline(always)]
 fn is_number_of(labels: &Labels, id: LabelId, text: &[u8]) -> bool
     ensures number { IsTrue result → number_of labels.now text.now ≡ Some id.0 }
@@ -76,7 +76,7 @@ fn is_number_of(labels: &Labels, id: LabelId, text: &[u8]) -> bool
     }
 }
 
-// The number of a text that is in the table. It is looked for first where it was last found.
+// Returns the number of a text in the table. The search starts where the text was last found.
 fn known_number(labels: &Labels, recent: &mut Recent, text: &[u8]) -> Option<LabelId>
     ensures { option_map (λ id. id.0) result ≡ number_of labels.now text.now }
 {
@@ -89,7 +89,7 @@ fn known_number(labels: &Labels, recent: &mut Recent, text: &[u8]) -> Option<Lab
     Some(id)
 }
 
-// The number of a text, which is added to the table where it isn't there.
+// Returns the number of a text, which is added to the table if it isn't there.
 fn number_for(
     labels: &mut Labels,
     recent: &mut Recent,
@@ -116,7 +116,7 @@ fn number_for(
 }
 
 impl Reading {
-    /// No line was read. Labels are hashed by the numbers of `hashing`.
+    /// Returns a reading of no lines. Labels are hashed with the numbers of `hashing`.
     pub fn new(alloc: Global, hashing: KeyHashing) -> Reading
         ensures { result ≡ earlier_of [] }
     {
@@ -134,21 +134,21 @@ impl Reading {
         }
     }
 
-    /// Whether a mode was read.
+    /// Returns `true` if a mode was read.
     pub fn has_mode(&self) -> bool
         ensures { result ≡ self.now.mode }
     {
         self.mode
     }
 
-    /// Whether a mapping or an entry was read.
+    /// Returns `true` if a mapping or an entry was read.
     pub fn has_mapping(&self) -> bool
         ensures { result ≡ has_mapping_of self.now }
     {
         self.statements.len() > 0 || self.entries.len() > 0
     }
 
-    /// How many mappings there are.
+    /// Returns the number of mappings.
     #[inline(always)]
     pub fn mapping_count(&self) -> usize
         ensures { result ≡ length self.now.mappings }
@@ -156,42 +156,43 @@ impl Reading {
         self.statements.len()
     }
 
-    /// How many entries there are.
+    /// Returns the number of entries.
     pub fn entry_count(&self) -> usize
         ensures { result ≡ length self.now.prefixes }
     {
         self.entries.len()
     }
 
-    /// Whether an entry has this block. Each entry is looked at.
+    /// Returns `true` if an entry has this block. The search visits each entry.
     pub fn has_block(&self, block: &Block) -> bool
         ensures { result ≡ has_prefix_of self.now.prefixes block.now.value block.now.len }
     {
         has_block(&self.entries, block)
     }
 
-    /// The index of the first entry whose block an earlier one has.
+    /// Returns the index of the first entry with the block of an earlier one.
     pub fn first_repeat(&self) -> Result<Option<usize>, AllocError>
         ensures { IfOk result (IsFirstRepeat self.now.prefixes) }
     {
         first_repeat(self.alloc, &self.entries)
     }
 
-    /// The version of the text at a line whose first address is of the version `own`, which decides where nothing did.
+    /// Returns the version of the text at a line whose first address is of the version `own`. That version decides if
+    /// nothing decided before.
     pub fn version_at(&self, own: Version) -> Version
         ensures { result ≡ version_at_of self.now own }
     {
         self.version.unwrap_or(own)
     }
 
-    /// Whether the number has another text, or the text another number.
+    /// Returns `true` if the number has another text, or the text another number.
     pub fn conflicts(&self, number: u32, text: &[u8]) -> bool
         ensures { result ≡ conflicts_of self.now.declared number text.now }
     {
         self.declared.conflicts(number, text)
     }
 
-    /// Takes the name of the text.
+    /// Sets the name of the text.
     pub fn set_name(&mut self, name: &[u8]) -> Result<(), MapFaultKind>
         requires { IsTrue (is_label_text name.now) }
         ensures ok { OnOk result (self.new ≡ record self.old { name = Some name.now }) }
@@ -205,7 +206,7 @@ impl Reading {
         Ok(())
     }
 
-    /// Takes the version that a mode names, unless the version is decided.
+    /// Sets the version that a mode names, unless the version is decided.
     pub fn set_mode(&mut self, version: Version)
         ensures { self.new ≡ record self.old { mode = true; version = option_or self.old.version (Some version) } }
     {
@@ -213,7 +214,7 @@ impl Reading {
         self.version = Some(self.version_at(version));
     }
 
-    /// The number of the text that a label stands for, which is added to the table where it isn't there.
+    /// Returns the number of the text that a label represents. The text is added to the table if it isn't there.
     pub fn label_id(&mut self, label: &[u8]) -> Result<LabelId, MapFaultKind>
         requires { IsTrue (is_label_text label.now) }
         ensures room { OnOk result (has_room self.old.table (meant_text self.old.declared label.now) ≡ true) }
@@ -230,8 +231,8 @@ impl Reading {
         number_for(&mut self.labels, &mut self.recent, text)
     }
 
-    /// The number of a label that was found lately, where no number is declared. It needs no look at the label's bytes,
-    /// since each text of the table is a label.
+    /// Returns the number of a label that was found recently, if no number is declared. The label's bytes need not be
+    /// checked, since each text of the table is a label.
     #[inline(always)]
     pub fn recent_label(&self, label: &[u8]) -> Option<LabelId>
         ensures label { IfSome result (λ id. IsTrue (is_label_text label.now)) }
@@ -271,7 +272,7 @@ impl Reading {
         Ok(())
     }
 
-    /// Takes the label of addresses without a mapping.
+    /// Sets the label of addresses without a mapping.
     pub fn set_default(&mut self, label: LabelId)
         requires { label.0 < length self.old.table }
         ensures { self.new ≡ record self.old { fallback = Some (text_at self.old.table label.0) } }
@@ -279,7 +280,7 @@ impl Reading {
         self.default = Some(label);
     }
 
-    /// Adds a mapping of the text's version, which it decides where nothing did.
+    /// Adds a mapping of the text's version. Its version decides that of the text if nothing decided before.
     #[inline(always)]
     pub fn add_statement(&mut self, span: Span, label: LabelId) -> Result<(), MapFaultKind>
         requires version { version_at_of self.old span.low.version ≡ span.low.version }
@@ -303,7 +304,8 @@ impl Reading {
         Ok(())
     }
 
-    /// Adds an entry of the text's version, which it decides where nothing did. Its block may have an entry already.
+    /// Adds an entry of the text's version. Its version decides that of the text if nothing decided before. An earlier
+    /// entry may have the same block.
     pub fn add_entry(&mut self, block: Block, label: LabelId) -> Result<(), MapFaultKind>
         requires version { version_at_of self.old block.version ≡ block.version }
         requires label { label.0 < length self.old.table }
@@ -326,7 +328,7 @@ impl Reading {
         Ok(())
     }
 
-    /// The map of the lines so far.
+    /// Returns the map of the lines so far.
     pub fn into_map(self) -> Result<MapText, AllocError>
         ensures { IfOk result (λ map. map_of map ≡ map_from self) }
     {
@@ -351,7 +353,7 @@ impl Reading {
         })
     }
 
-    /// The list of the lines so far, whose entries have distinct blocks.
+    /// Returns the list of the lines so far. Their entries must have distinct blocks.
     pub fn into_list(self) -> PrefixList
         requires { HasDistinctKeys self.prefixes }
         ensures list { list_of result ≡ list_from self }

@@ -2,37 +2,37 @@ ghost use Rattle.std.specs.Prelude.{◌<◌};
 
 use crate::label::LabelId;
 
-// How many labels are remembered.
+// The number of labels that are remembered.
 const PLACES: usize = 1024;
 
-/// The labels that were last found, each at a place that the end of its text chooses, so that most labels are found
-/// again without a look into a table. A place may have the number of another text, or of none.
+/// The labels that were last found. The end of a label's text selects its slot, so that most labels are found again
+/// without a look-up in a table. A slot may have the number of another text, or of no text.
 #[derive(Drop)]
 pub struct Recent {
     ids: [LabelId; PLACES],
 }
 
 impl Recent {
-    /// Nothing was found yet.
+    /// Returns a table of empty slots.
     pub fn new() -> Recent {
         Recent {
             ids: [LabelId(0); PLACES],
         }
     }
 
-    /// The number at the place of a text. Whether it is the text's the caller must find out.
+    /// Returns the number in the slot of a text. The caller must check that it is the text's.
     #[inline(always)]
     pub fn guess(&self, text: &[u8]) -> LabelId {
         self.ids[place_of(text)]
     }
 
-    /// Remembers the number of a text in place of what stood there.
+    /// Remembers the number of a text, replacing the one in its slot.
     pub fn remember(&mut self, text: &[u8], id: LabelId) {
         self.ids[place_of(text)] = id;
     }
 }
 
-// The place of a text, by its last three bytes: names that end in different numbers have different places.
+// Returns the slot of a text, from its last three bytes: names that end in different numbers have different slots.
 #[inline(always)]
 fn place_of(text: &[u8]) -> usize
     ensures { result < 1024 }

@@ -1,4 +1,4 @@
-//! Blocks that entries share.
+//! Repeated blocks of entries.
 ghost use Rattle.std.specs.Prelude.{◌≡◌, ℕ, IfOk, IsTrue, List, map, not, true, if◌then◌else◌};
 ghost use Rattle.std.specs.Ordering.{is_eq};
 ghost use Rattle.pmap_text.specs.Filed.{IsFirstRepeat, has_key, key_cmp};
@@ -12,14 +12,14 @@ use prefix_keys::Block;
 use std::alloc::{AllocError, Global};
 use std::collections::BTreeSet;
 
-/// Whether an entry has the start and the length of this block.
+/// Returns `true` if an entry has the start and the length of this block.
 pub fn has_block(entries: &[Entry], block: &Block) -> bool
     ensures { result ≡ has_entry entries.now block.now.value block.now.len }
 {
     entries.iter().any(|entry| entry.block.value == block.value && entry.block.len == block.len)
 }
 
-// Adds a start and a length. Returns whether they are new.
+// Adds a start and a length. Returns `true` if they are new.
 fn add_key(keys: &mut BTreeSet<(u128, u32)>, key: (u128, u32)) -> Result<bool, AllocError>
     ensures new { IfOk result (λ new. has_key keys.old.keys key ≡ not new) }
     ensures ok { IfOk result (λ new. IsTrue new → (q : ℕ × ℕ) →
@@ -31,7 +31,7 @@ fn add_key(keys: &mut BTreeSet<(u128, u32)>, key: (u128, u32)) -> Result<bool, A
     }
 }
 
-// The index of the first entry whose block an earlier one has. Each block is looked for.
+// Returns the index of the first entry with the block of an earlier one, by a look-up of each block.
 fn find_repeat(alloc: Global, entries: &[Entry]) -> Result<Option<usize>, AllocError>
     ensures { IfOk result (λ first. (table : List Label) → IsFirstRepeat (map (prefix_of table) entries.now) first) }
 {
@@ -47,15 +47,15 @@ fn find_repeat(alloc: Global, entries: &[Entry]) -> Result<Option<usize>, AllocE
     Ok(None)
 }
 
-/// The index of the first entry whose block an earlier one has. Unlike with a hash table, no choice of blocks makes that
-/// slow.
+/// Returns the index of the first entry with the block of an earlier one. Unlike with a hash table, no choice of blocks
+/// makes this slow.
 pub fn first_repeat(alloc: Global, entries: &[Entry]) -> Result<Option<usize>, AllocError>
     ensures { IfOk result (λ first. (table : List Label) → IsFirstRepeat (map (prefix_of table) entries.now) first) }
 {
     if are_in_order(entries) {
         return Ok(None);
     }
-    // Sorting is faster than looking for each block, and few lists have a repeat.
+    // Sorting is faster than looking up each block, and few lists have a repeated block.
     let sorted = in_order(alloc, entries)?;
     if are_in_order(sorted.as_slice()) {
         return Ok(None);

@@ -7,7 +7,7 @@ use crate::statements::Statements;
 use std::alloc::{AllocError, Global};
 use std::marker::Model;
 
-/// Where statements begin, in rising order. Where they are in that order as they stand, as in most texts, nothing is
+/// The starts of statements, in rising order. If the statements are in that order already, as in most texts, nothing is
 /// copied and nothing is sorted.
 #[derive(Drop)]
 pub struct Starts<'a> {
@@ -25,7 +25,7 @@ impl<'a> Model for Starts<'a> {
     ghost view = { λ s. starts_by s.statements.now (option_map (λ v. v.items) s.sorted) };
 }
 
-// Whether no statement begins before an earlier one.
+// Returns `true` if no statement begins before an earlier one.
 fn are_rising(statements: &Statements) -> bool
     ensures { IsTrue result → IsNonDecreasingBy (λ s. s.span.low.value) statements.now }
 {
@@ -37,7 +37,7 @@ fn are_rising(statements: &Statements) -> bool
     true
 }
 
-// Where the statements begin, sorted.
+// Returns the starts of the statements, sorted.
 fn sorted_starts(alloc: Global, statements: &Statements) -> Result<Vec<Start>, AllocError>
     ensures { IfOk result (λ starts. AreStarts statements.now starts.items) }
 {
@@ -54,7 +54,7 @@ fn sorted_starts(alloc: Global, statements: &Statements) -> Result<Vec<Start>, A
 }
 
 impl<'a> Starts<'a> {
-    /// Where these statements begin.
+    /// Returns the starts of these statements.
     pub fn new(alloc: Global, statements: &'a Statements) -> Result<Starts<'a>, AllocError>
         ensures { IfOk result (λ starts. AreStarts statements.now starts) }
     {
@@ -73,7 +73,7 @@ impl<'a> Starts<'a> {
 }
 
 impl Starts<'_> {
-    /// How many there are.
+    /// Returns the number of starts.
     pub fn len(&self) -> usize
         ensures { result ≡ length self.now }
     {
@@ -83,7 +83,7 @@ impl Starts<'_> {
         }
     }
 
-    /// The one at a place.
+    /// Returns the start at an index.
     pub fn at(&self, place: usize) -> Start
         requires { place < length self.now }
         ensures { slice_get self.now place ≡ Some result }

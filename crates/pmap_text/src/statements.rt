@@ -25,7 +25,7 @@ impl Model for Statements {
     ghost view = { λ s. map narrow_statement s.narrow.items ++ map wide_statement s.wide.items };
 }
 
-// The mapping that is packed.
+// Unpacks an IPv4 mapping.
 fn unpack_narrow(packed: Narrow) -> Statement
     ensures { result ≡ narrow_statement packed }
 {
@@ -43,7 +43,7 @@ fn unpack_narrow(packed: Narrow) -> Statement
     }
 }
 
-// The same of one of any version.
+// Unpacks a mapping of any version.
 fn unpack_wide(packed: Wide) -> Statement
     ensures { result ≡ wide_statement packed }
 {
@@ -61,7 +61,7 @@ fn unpack_wide(packed: Wide) -> Statement
     }
 }
 
-// The mappings in order. Memory for all is asked for once.
+// Returns the mappings in order. Memory for all of them is allocated once.
 fn unpacked(alloc: Global, statements: &Statements) -> Result<Vec<Statement>, AllocError>
     ensures { IfOk result (λ all. all.items ≡ statements.now) }
 {
@@ -73,7 +73,7 @@ fn unpacked(alloc: Global, statements: &Statements) -> Result<Vec<Statement>, Al
     Ok(all)
 }
 
-// An IPv4 mapping, packed.
+// Packs an IPv4 mapping.
 #[inline(always)]
 fn pack_narrow(statement: Statement) -> Narrow
     requires { statement.span.low.version ≡ V4 }
@@ -86,7 +86,7 @@ fn pack_narrow(statement: Statement) -> Narrow
     }
 }
 
-// A mapping of any version, packed.
+// Packs a mapping of any version.
 fn pack_wide(statement: Statement) -> Wide
     ensures { wide_statement result ≡ statement }
 {
@@ -99,7 +99,7 @@ fn pack_wide(statement: Statement) -> Wide
 }
 
 impl Statements {
-    /// No mappings.
+    /// Returns an empty list.
     pub fn new(alloc: Global) -> Statements
         ensures { result ≡ [] }
     {
@@ -109,21 +109,21 @@ impl Statements {
         }
     }
 
-    /// How many mappings there are.
+    /// Returns the number of mappings.
     pub fn len(&self) -> usize
         ensures { result ≡ length self.now }
     {
         self.narrow.len() + self.wide.len()
     }
 
-    /// Whether there is no mapping.
+    /// Returns `true` if there are no mappings.
     pub fn is_empty(&self) -> bool
         ensures { IsTrue result ↔ (self.now ≡ []) }
     {
         self.len() == 0
     }
 
-    /// The mapping at a place.
+    /// Returns the mapping at an index.
     pub fn at(&self, place: usize) -> Statement
         requires { place < length self.now }
         ensures { slice_get self.now place ≡ Some result }
@@ -135,14 +135,14 @@ impl Statements {
         }
     }
 
-    /// The mappings in order, unpacked.
+    /// Returns the mappings in order, unpacked.
     pub fn to_vec(&self, alloc: Global) -> Result<Vec<Statement>, AllocError>
         ensures { IfOk result (λ all. all.items ≡ self.now) }
     {
         unpacked(alloc, self)
     }
 
-    /// Adds a mapping at the end.
+    /// Appends a mapping. If an allocation fails, the list is unchanged.
     #[inline(always)]
     pub fn push(&mut self, statement: Statement) -> Result<(), AllocError>
         ensures ok { OnOk result (self.new ≡ self.old ++ statement ∷ []) }

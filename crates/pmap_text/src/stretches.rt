@@ -16,7 +16,7 @@ use prefix_keys::Version;
 use std::alloc::{AllocError, Global};
 use std::marker::Model;
 
-// The number that is kept where there is no label.
+// The number that is stored for a missing label.
 const NO_LABEL: LabelId = LabelId(u32::MAX);
 
 // The first IPv4 address of a stretch, and the number of its label.
@@ -26,8 +26,8 @@ struct Begin {
     label: LabelId,
 }
 
-// The first addresses of stretches, in rising order, and the numbers of their labels. A stretch takes 8 bytes under
-// IPv4 and 20 under IPv6.
+// The first addresses of stretches, in rising order, and the numbers of their labels. A stretch takes 8 bytes for IPv4
+// and 20 for IPv6.
 #[derive(Drop)]
 enum Begins {
     Narrow(Vec<Begin>),
@@ -35,8 +35,8 @@ enum Begins {
 }
 
 /// The stretches of statements over the addresses of a version, in rising order. A stretch is a maximal range of
-/// addresses at which one and the same statement wins, the last that covers them, or none does. It has the label of
-/// that statement, or the default.
+/// addresses at which one statement wins (the last that covers them), or none does. It has the label of that statement,
+/// or the default.
 #[derive(Drop)]
 pub struct Stretches {
     begins: Begins,
@@ -55,7 +55,7 @@ impl Model for Stretches {
     ghost invariant = { λ s. HasEveryAddress (stretches_of s.begins) };
 }
 
-// The number that is kept for a label.
+// Returns the number that is stored for a label.
 fn kept(label: Option<LabelId>) -> LabelId
     requires { ForSome label (λ id. id.0 < 2 ^ 32 - 1) }
     ensures { label_kept result ≡ label }
@@ -63,7 +63,7 @@ fn kept(label: Option<LabelId>) -> LabelId
     label.unwrap_or(NO_LABEL)
 }
 
-// The label for which a number is kept.
+// Returns the label for which a number is stored.
 #[inline(always)]
 fn given(id: LabelId) -> Option<LabelId>
     ensures { result ≡ label_kept id }
@@ -71,7 +71,7 @@ fn given(id: LabelId) -> Option<LabelId>
     if id.0 == NO_LABEL.0 { None } else { Some(id) }
 }
 
-// The label where a statement wins, or where none does.
+// Returns the label where a statement wins, or the default if none does.
 fn label_won(
     statements: &Statements,
     won: Option<usize>,
@@ -87,8 +87,8 @@ fn label_won(
 }
 
 impl Stretches {
-    /// The stretches of statements, where `default` is the label of the addresses that no statement covers. The labels
-    /// are in the table.
+    /// Returns the stretches of statements. `default` is the label of the addresses that no statement covers. The
+    /// labels must be in the table.
     pub fn new(
         alloc: Global,
         version: Version,
@@ -104,7 +104,7 @@ impl Stretches {
         ensures labels { IfOk result (λ s. (a : ℕ) → a < 2 ^ width_of version →
             text_held labels.now s a ≡ text_won labels.now default statements.now a) }
     {
-        // For its law: the numbers of a table's labels are below the one that is kept for no label.
+        // Provides the law that the numbers of a table's labels are below the one that is stored for a missing label.
         let _count = labels.len();
         let end = last_address(version);
         let mut sweep = Sweep::new(alloc, end, statements)?;
@@ -121,7 +121,7 @@ impl Stretches {
         Ok(stretches)
     }
 
-    /// The stretches of a map.
+    /// Returns the stretches of a map.
     pub fn of_map(alloc: Global, map: &MapText) -> Result<Stretches, AllocError>
         ensures version { IfOk result (λ s. s.version ≡ map.now.version) }
         ensures stretches { IfOk result (AreStretches map.now.statements (Some map.now.default)) }
@@ -133,7 +133,7 @@ impl Stretches {
         Stretches::new(alloc, map.version, default, &map.labels, &map.statements)
     }
 
-    // One stretch that has all addresses of the version.
+    // Returns one stretch that has all addresses of the version.
     fn whole(
         alloc: Global,
         version: Version,
@@ -153,7 +153,8 @@ impl Stretches {
         Ok(Stretches { begins })
     }
 
-    // Adds a stretch that begins at the address, where the last one ended until now.
+    // Appends a stretch that begins at the address, where the last stretch ends. If an allocation fails, the stretches
+    // are unchanged.
     fn push(&mut self, first: u128, label: Option<LabelId>) -> Result<(), AllocError>
         requires above { first_at self.old (length self.old.firsts - 1) < first }
         requires within { first < 2 ^ width_of self.old.version }
@@ -178,7 +179,7 @@ impl Stretches {
         Ok(())
     }
 
-    /// The version of the addresses.
+    /// Returns the version of the addresses.
     pub fn version(&self) -> Version
         ensures { result ≡ self.now.version }
     {
@@ -188,7 +189,7 @@ impl Stretches {
         }
     }
 
-    /// How many stretches there are: one at least.
+    /// Returns the number of stretches, which is at least 1.
     pub fn len(&self) -> usize
         ensures value { result ≡ length self.now.firsts }
         ensures every { HasEveryAddress self.now }
@@ -199,7 +200,7 @@ impl Stretches {
         }
     }
 
-    /// The first address of the stretch with this index, which is below `len`.
+    /// Returns the first address of the stretch with this index, which must be below `len`.
     #[inline(always)]
     pub fn first(&self, index: usize) -> u128
         requires { index < length self.now.firsts }
@@ -211,7 +212,7 @@ impl Stretches {
         }
     }
 
-    /// The last address of the stretch with this index.
+    /// Returns the last address of the stretch with this index.
     #[inline(always)]
     pub fn last(&self, index: usize) -> u128
         requires { index < length self.now.firsts }
@@ -224,7 +225,7 @@ impl Stretches {
         }
     }
 
-    /// The label of the stretch with this index.
+    /// Returns the label of the stretch with this index.
     #[inline(always)]
     pub fn label(&self, index: usize) -> Option<LabelId>
         requires { index < length self.now.firsts }
@@ -236,7 +237,8 @@ impl Stretches {
         }
     }
 
-    /// The index of the stretch that has the address. It is one of those from the index `from` to the index `to`.
+    /// Returns the index of the stretch that has the address. The stretch must be one of those from the index `from` to
+    /// the index `to`.
     pub fn find(&self, from: usize, to: usize, address: u128) -> usize
         requires order { from ≤ to }
         requires index { to < length self.now.firsts }

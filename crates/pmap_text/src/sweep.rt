@@ -12,19 +12,19 @@ use std::alloc::{AllocError, Global};
 use std::collections::BinaryHeap;
 
 /// A sweep over the addresses from the first to the last: the number of the statement that wins at the addresses up to
-/// `last`, if one does, and what is needed to go on.
+/// `last`, if one does, and the state that is needed to continue.
 #[derive(Drop)]
 pub struct Sweep<'a> {
     pub won: Option<usize>,
     pub last: u128,
-    /// Where the statements begin, in rising order, of which those before `next` have been opened.
+    /// The starts of the statements, in rising order. Those before `next` have been opened.
     pub starts: Starts<'a>,
     pub next: usize,
-    /// The numbers of the others that have been opened and not yet been found to end.
+    /// The numbers of the other statements that have been opened and not yet been found to end.
     pub opened: BinaryHeap<usize>,
 }
 
-// The last address of the statement with the number, or else the end.
+// Returns the last address of the statement with the number, or the end if there is no number.
 fn high_won(statements: &Statements, won: Option<usize>, end: u128) -> u128
     requires { ForSome won (λ number. number < length statements.now) }
     ensures { result ≡ high_won statements.now end won }
@@ -35,7 +35,7 @@ fn high_won(statements: &Statements, won: Option<usize>, end: u128) -> u128
     }
 }
 
-// Takes out the last statement that goes on to the address, and drops those that are later.
+// Removes and returns the last statement that extends to the address, and drops those that are later.
 fn last_open(opened: &mut BinaryHeap<usize>, statements: &Statements, first: u128) -> Option<usize>
     requires ordered { IsHeap nat_cmp (heap_items opened.old) }
     requires known { All (λ j. j < length statements.now) (heap_items opened.old) }
@@ -69,7 +69,7 @@ fn open_statement(
     Ok(number)
 }
 
-/// The highest address of a version.
+/// Returns the highest address of a version.
 pub fn last_address(version: Version) -> u128
     ensures { result + 1 ≡ 2 ^ width_of version }
 {
@@ -80,7 +80,7 @@ pub fn last_address(version: Version) -> u128
 }
 
 impl<'a> Sweep<'a> {
-    /// A sweep that stands at the address 0.
+    /// Returns a sweep at address 0.
     pub fn new(
         alloc: Global,
         end: u128,
@@ -101,7 +101,7 @@ impl<'a> Sweep<'a> {
 }
 
 impl Sweep<'_> {
-    /// Goes on to the address.
+    /// Advances to the address. After a failed allocation the sweep must not be continued.
     pub fn move_to(
         &mut self,
         statements: &Statements,

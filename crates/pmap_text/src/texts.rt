@@ -1,4 +1,4 @@
-//! Map texts and list texts, which are read line by line.
+//! Reading map texts and list texts line by line.
 ghost use Rattle.std.specs.Prelude.{◌≡◌, ◌≢◌, ◌++◌, ◌∷◌, [], List, Some, Ok, Err, IfOk, IfErr, IsTrue, false, if◌then◌else◌, length, nat_lt, slice_get};
 ghost use Rattle.pmap_text.specs.Filed.{HasDistinctKeys};
 ghost use Rattle.pmap_text.specs.Lines.{lines_of};
@@ -15,7 +15,7 @@ use crate::prefix_list::PrefixList;
 use crate::reading::Reading;
 use std::alloc::Global;
 
-// The fault of a line, or the want of memory, which has the line 0.
+// Returns the fault of a line. A failed allocation has line 0.
 fn fault_at(kind: MapFaultKind, number: u64) -> MapFault
     ensures kind { result.kind ≡ kind }
     ensures line { kind ≢ NoMemory → result.line ≡ number }
@@ -29,7 +29,7 @@ fn fault_at(kind: MapFaultKind, number: u64) -> MapFault
     MapFault { kind, line }
 }
 
-// Notes the line of an entry if fewer lines are noted than there are entries. Returns false if an allocation fails.
+// Notes the line of an entry if fewer lines are noted than there are entries. Returns `false` if an allocation fails.
 fn note(noted: &mut Vec<u64>, count: usize, number: u64) -> bool
     ensures stored { IsTrue result → noted.new.items
         ≡ (if nat_lt (length noted.old.items) count then noted.old.items ++ number ∷ [] else noted.old.items) }
@@ -42,8 +42,8 @@ fn note(noted: &mut Vec<u64>, count: usize, number: u64) -> bool
     }
 }
 
-// Reads the lines of a text of this form up to a fault, and notes the line of each entry. An entry may have the block of
-// an earlier one.
+// Reads the lines of a text of this form up to the first fault, and notes the line of each entry. An entry may have the
+// block of an earlier one.
 fn read_on(
     reading: &mut Reading,
     noted: &mut Vec<u64>,
@@ -74,7 +74,8 @@ fn read_on(
     Ok(())
 }
 
-// The fault of the line of an entry whose block an earlier one has. A line that isn't noted found no memory.
+// Returns the fault of the line of an entry with the block of an earlier one. If the line wasn't noted, an allocation
+// failed.
 fn repeat_at(noted: &[u64], index: usize) -> MapFault
     ensures found { result.kind ≢ NoMemory → (slice_get noted.now index ≡ Some result.line)
         × (result ≡ record { kind = DuplicateBlock; line = result.line }) }
@@ -121,27 +122,30 @@ fn read_lines(
 
 /// Reads a map text.
 ///
-/// The text is cut into lines at each line feed. From the first `#` on a line is a comment; spaces, tabs and carriage
-/// returns are blanks, and a line without a word says nothing. Each other line is one of these:
+/// The text is split into lines at each line feed. A comment extends from the first `#` of a line to its end. Spaces,
+/// tabs and carriage returns are blanks. Lines without a word are ignored, but they count as lines. Each other line is
+/// one of these:
 ///
-/// - `map-name NAME`: what the map is called. The last one counts.
-/// - `mode VERSION`, with `ipv4`, `ip` (the same) or `ipv6`: once, and before the first mapping. Without it the first
-///   address of the first mapping decides, and a text without a mapping is of IPv4.
-/// - `label NUMBER TEXT`: on the lines below, a label that is this number, of 1 to 10 digits, means the text. The
-///   number is at most 2147483647, the text is not of digits alone, and no number has two texts nor a text two numbers.
-/// - `default LABEL`: the label of addresses without a mapping, `UNKNOWN` where no line says it. The last one counts.
-/// - `BLOCK LABEL`, as `10.0.0.0/8 A`: a mapping of the block's addresses. Host bits are cleared.
+/// - `map-name NAME`: the name of the map. The last one counts.
+/// - `mode VERSION`, with `ipv4`, `ip` (the same) or `ipv6`: at most once, and before the first mapping. Without a mode
+///   the first address of the first mapping decides the version, and a text without a mapping is of IPv4.
+/// - `label NUMBER TEXT`: on the following lines, a label that is this number, of 1 to 10 digits, represents the text.
+///   The number is at most 2147483647. The text doesn't consist of digits alone. No number has two texts, and no text
+///   has two numbers.
+/// - `default LABEL`: the label of addresses without a mapping, or `UNKNOWN` without such a line. The last one counts.
+/// - `BLOCK LABEL`, such as `10.0.0.0/8 A`: a mapping of the block's addresses. Host bits are cleared.
 /// - `LOW HIGH LABEL`: a mapping of the addresses from low to high.
 /// - `ADDRESS LABEL`: a mapping of one address.
 ///
-/// A label or a name is the rest of the line (`is_label`). Of two mappings that cover an address the later one counts.
-/// In an IPv6 text a dotted address stands for its place in `::ffff:0:0/96` (RFC 4291, section 2.5.5.2), and its
-/// block's length grows by 96. A text has at most 1,000,000 mappings and 65,535 label texts, to which an `UNKNOWN` that
-/// no line says may be added.
+/// A label or a name is the rest of the line (`is_label`). Of two mappings that cover an address the later one decides.
+/// In an IPv6 text a dotted address represents its IPv4-mapped address in `::ffff:0:0/96` (RFC 4291, section 2.5.5.2),
+/// and the length of its block grows by 96. A text has at most 1,000,000 mappings and 65,535 label texts. `UNKNOWN`, if
+/// no line has it, may be one more.
 ///
 /// # Errors
 ///
-/// The first faulty line, counted from 1, with the first of its faults in this order, or `NoMemory` with the line 0.
+/// Returns the first faulty line, counted from 1, with the first of its faults in this order, or `NoMemory` with line 0
+/// if an allocation fails.
 ///
 /// - `map-name`: `MissingLabel`, `BadLabel`. `default`: these and `TooMany`.
 /// - `mode`: `BadMode`, `ModeLate`, `ModeRepeated`.
@@ -149,14 +153,14 @@ fn read_lines(
 /// - A block: `BadAddress`, `BadLength`, `WrongVersion`, `MissingLabel`, `BadLabel`, `TooMany`.
 /// - A range or an address: `WrongVersion` of the first address and then of the second, `LowAboveHigh`, `MissingLabel`,
 ///   `BadLabel`, `TooMany`.
-/// - Any other first word: `BadAddress` where it begins with a digit or has a `:`, else `BadStatement`.
+/// - Any other first word: `BadAddress` if it begins with a digit or has a `:`, otherwise `BadStatement`.
 pub fn read_map(alloc: Global, text: &[u8]) -> Result<MapText, MapFault>
     ensures { ReturnsMap text.now result }
 {
     read_map_with_hashing(alloc, text, KeyHashing::known())
 }
 
-/// Like [`read_map`], but labels are hashed by these numbers, on which nothing that is returned depends.
+/// Reads a map text like [`read_map`], but hashes labels with these numbers. The result does not depend on them.
 pub fn read_map_with_hashing(
     alloc: Global,
     text: &[u8],
@@ -171,24 +175,24 @@ pub fn read_map_with_hashing(
     }
 }
 
-/// Reads a list text, in which the longest block that covers an address counts, and an address that none covers has no
+/// Reads a list text. The longest block that covers an address decides, and an address that no block covers has no
 /// label.
 ///
-/// The lines are those of a map text (`read_map`) but for three things: there are no ranges and no `default`, no block
-/// stands there twice, and no `UNKNOWN` is added to the label table. `ADDRESS LABEL` is an entry for the block of full
+/// The lines are those of a map text (`read_map`) with three differences: there are no ranges and no `default`, no
+/// block is repeated, and no `UNKNOWN` is added to the label table. `ADDRESS LABEL` is an entry for the block of full
 /// length. A text has at most 1,000,000 entries.
 ///
 /// # Errors
 ///
-/// As of `read_map`, with two faults more: `NotAList` is the only fault of a line of `default`, or of two addresses,
-/// and `DuplicateBlock` comes behind `BadLabel` and before `TooMany`.
+/// The faults are those of `read_map`, and two more: `NotAList` is the only fault of a line with `default` or with two
+/// addresses, and `DuplicateBlock` comes after `BadLabel` and before `TooMany`.
 pub fn read_list(alloc: Global, text: &[u8]) -> Result<PrefixList, MapFault>
     ensures { ReturnsList text.now result }
 {
     read_list_with_hashing(alloc, text, KeyHashing::known())
 }
 
-/// Like [`read_list`], but labels are hashed by these numbers, on which nothing that is returned depends.
+/// Reads a list text like [`read_list`], but hashes labels with these numbers. The result does not depend on them.
 pub fn read_list_with_hashing(
     alloc: Global,
     text: &[u8],

@@ -1,4 +1,4 @@
-//! The reading of one line of a text.
+//! Reading one line of a text.
 ghost use Rattle.std.specs.Prelude.{◌≡◌, ◌<◌, ◌≤◌, ◌==◌, ◌⊎◌, Some, Ok, Err, true, false, length, slice_index, IsTrue, IfOk, IfErr, OnOk, OnErr};
 ghost use Rattle.std.specs.List.{list_any};
 ghost use Rattle.prefix_keys.specs.Text.{address_of, block_of_text, is_digit};
@@ -23,7 +23,7 @@ use prefix_keys::{
     Addr, Block, BlockFault, Span, Version, are_digits, block_of, read_addr, read_block,
 };
 
-// The rest of a line as a label.
+// Returns the rest of a line as a label.
 fn label_text(rest: &[u8]) -> Result<&[u8], MapFaultKind>
     ensures ok { IfOk result (λ text. label_of rest.now ≡ Ok text.now) }
     ensures label { IfOk result (λ text. IsTrue (is_label_text text.now)) }
@@ -38,7 +38,7 @@ fn label_text(rest: &[u8]) -> Result<&[u8], MapFaultKind>
     }
 }
 
-// Whether the first byte is a digit.
+// Returns `true` if the first byte is a digit.
 fn begins_with_digit(word: &[u8]) -> bool
     ensures { result ≡ is_digit (slice_index word.now 0) }
 {
@@ -48,14 +48,14 @@ fn begins_with_digit(word: &[u8]) -> bool
     }
 }
 
-// Whether the byte stands in the word.
+// Returns `true` if the byte is in the word.
 fn has_byte(word: &[u8], byte: u8) -> bool
     ensures { result ≡ list_any (λ b. b == byte) word.now }
 {
     word.iter().any(|b| *b == byte)
 }
 
-// The fault of a line whose first word begins no statement.
+// Returns the fault of a line whose first word begins no statement.
 fn fault_of(word: &[u8]) -> MapFaultKind
     ensures { result ≡ other_fault word.now }
 {
@@ -66,7 +66,7 @@ fn fault_of(word: &[u8]) -> MapFaultKind
     }
 }
 
-// The version that the word of a mode names.
+// Returns the version that the word of a mode names.
 fn named_version(word: &[u8]) -> Option<Version>
     ensures { result ≡ mode_version word.now }
 {
@@ -80,7 +80,7 @@ fn named_version(word: &[u8]) -> Option<Version>
 }
 
 impl Reading {
-    // `map-name NAME`, from behind the first word.
+    // Reads `map-name NAME`, given the text after the first word.
     fn read_name(&mut self, rest: &[u8]) -> Result<(), MapFaultKind>
         ensures { Reads self.old self.new (name_line rest.now) result }
     {
@@ -88,7 +88,7 @@ impl Reading {
         self.set_name(name)
     }
 
-    // `mode WORD`, from behind the first word.
+    // Reads `mode WORD`, given the text after the first word.
     fn read_mode(&mut self, rest: &[u8]) -> Result<(), MapFaultKind>
         ensures { Reads self.old self.new (mode_line self.old rest.now) result }
     {
@@ -105,7 +105,7 @@ impl Reading {
         Ok(())
     }
 
-    // A text for this number, from behind the number.
+    // Reads a text for this number, given the text after the number.
     fn read_declared(&mut self, number: u32, rest: &[u8]) -> Result<(), MapFaultKind>
         ensures { Reads self.old self.new (declared_line self.old (Some number) rest.now) result }
     {
@@ -119,7 +119,7 @@ impl Reading {
         self.declare(number, text)
     }
 
-    // `label NUMBER TEXT`, from behind the first word.
+    // Reads `label NUMBER TEXT`, given the text after the first word.
     fn read_label(&mut self, rest: &[u8]) -> Result<(), MapFaultKind>
         ensures { Reads self.old self.new (label_line self.old rest.now) result }
     {
@@ -130,7 +130,7 @@ impl Reading {
         }
     }
 
-    // `default LABEL`, from behind the first word.
+    // Reads `default LABEL`, given the text after the first word.
     fn read_default(&mut self, form: Form, rest: &[u8]) -> Result<(), MapFaultKind>
         ensures { Reads self.old self.new (default_line form self.old rest.now) result }
     {
@@ -143,7 +143,7 @@ impl Reading {
         Ok(())
     }
 
-    // A span in the text's version and then a label, from behind the span.
+    // Reads a label for a span in the text's version, given the text after the span.
     #[inline(always)]
     fn read_span(&mut self, span: Span, rest: &[u8]) -> Result<(), MapFaultKind>
         requires { version_at_of self.old span.low.version ≡ span.low.version }
@@ -156,7 +156,7 @@ impl Reading {
         }
     }
 
-    // The same, where the label may be any.
+    // Reads any label for a span in the text's version, given the text after the span.
     fn read_labelled(&mut self, span: Span, rest: &[u8]) -> Result<(), MapFaultKind>
         requires { version_at_of self.old span.low.version ≡ span.low.version }
         ensures { Reads self.old self.new
@@ -170,7 +170,8 @@ impl Reading {
         self.add_statement(span, label)
     }
 
-    // The IPv4 addresses from one to another in a map text of IPv4 and then a label, from behind the addresses.
+    // Reads a label for the IPv4 addresses from `low` to `high` in a map text of IPv4, given the text after the
+    // addresses.
     #[inline(always)]
     fn read_narrow(&mut self, low: u32, high: u32, rest: &[u8]) -> Result<(), MapFaultKind>
         requires version { self.old.version ≡ Some V4 }
@@ -188,7 +189,7 @@ impl Reading {
         self.read_span(Span { low, high }, rest)
     }
 
-    // Adds an entry for a block with this label. Whether the block has an entry already is not looked at.
+    // Adds an entry for a block with this label. An earlier entry may have the same block.
     fn take_prefix(&mut self, block: Block, label: &[u8]) -> Result<(), MapFaultKind>
         requires version { version_at_of self.old block.version ≡ block.version }
         requires label { IsTrue (is_label_text label.now) }
@@ -207,8 +208,8 @@ impl Reading {
         self.add_entry(block, label)
     }
 
-    // A block in the text's version and then a label, as an entry, from behind the block. A block that has an entry
-    // already is found where the line has another fault, and else behind the last line.
+    // Reads a label for a block in the text's version, as an entry, given the text after the block. A repeated block is
+    // detected here if the line has another fault, otherwise after the last line.
     fn read_prefix(&mut self, block: Block, rest: &[u8]) -> Result<(), MapFaultKind>
         requires { version_at_of self.old block.version ≡ block.version }
         ensures { Reads self.old self.new (prefix_line self.old block.version block.value block.len rest.now) result }
@@ -221,7 +222,7 @@ impl Reading {
         }
     }
 
-    // A block in the text's version and then a label, from behind the block.
+    // Reads a label for a block in the text's version, given the text after the block.
     fn read_placed(&mut self, form: Form, block: Block, rest: &[u8]) -> Result<(), MapFaultKind>
         requires { version_at_of self.old block.version ≡ block.version }
         ensures { Reads self.old self.new
@@ -233,7 +234,7 @@ impl Reading {
         }
     }
 
-    // `BLOCK LABEL`, from behind the block.
+    // Reads `BLOCK LABEL`, given the block and the text after it.
     fn read_behind_block(
         &mut self,
         form: Form,
@@ -247,7 +248,7 @@ impl Reading {
         self.read_placed(form, block, rest)
     }
 
-    // `BLOCK LABEL`, from the block on.
+    // Reads `BLOCK LABEL`, given the word of the block and the text after it.
     fn read_block_line(&mut self, form: Form, word: &[u8], rest: &[u8]) -> Result<(), MapFaultKind>
         ensures { Reads self.old self.new (block_line form self.old (block_of_text word.now) rest.now) result }
     {
@@ -258,7 +259,7 @@ impl Reading {
         }
     }
 
-    // `LOW HIGH LABEL`, from behind the two addresses.
+    // Reads `LOW HIGH LABEL`, given the two addresses and the text after them.
     fn read_range(
         &mut self,
         form: Form,
@@ -281,7 +282,7 @@ impl Reading {
         }
     }
 
-    // `ADDRESS LABEL`, from behind the address.
+    // Reads `ADDRESS LABEL`, given the address and the text after it.
     fn read_single(&mut self, form: Form, addr: Addr, rest: &[u8]) -> Result<(), MapFaultKind>
         ensures { Reads self.old self.new (single_line form self.old (addr.version, addr.value) rest.now) result }
     {
@@ -290,7 +291,7 @@ impl Reading {
         self.read_placed(form, block_of(addr, version.width()), rest)
     }
 
-    // A line that begins with an address, from behind it.
+    // Reads a line that begins with an address, given the address and the text after it.
     fn read_address_line(
         &mut self,
         form: Form,
@@ -307,7 +308,8 @@ impl Reading {
         }
     }
 
-    // The same, where the word behind the address is read in one pass if it plainly is one more.
+    // Reads a line that begins with an address, given the address and the text after it. A second address is read in
+    // one pass if possible.
     fn read_behind_address(
         &mut self,
         form: Form,
@@ -323,7 +325,7 @@ impl Reading {
         }
     }
 
-    // A line whose first word is no keyword and has no `/`.
+    // Reads a line whose first word is not a keyword and has no `/`.
     fn read_other(&mut self, form: Form, word: &[u8], rest: &[u8]) -> Result<(), MapFaultKind>
         ensures { Reads self.old self.new (address_line form self.old word.now (address_of word.now) rest.now) result }
     {
@@ -333,7 +335,7 @@ impl Reading {
         }
     }
 
-    // A line with a word, by its first word and what stands behind it.
+    // Reads a line with a word, given its first word and the text after it.
     fn read_statement(&mut self, form: Form, word: &[u8], rest: &[u8]) -> Result<(), MapFaultKind>
         ensures { Reads self.old self.new (statement_line form self.old word.now rest.now) result }
     {
@@ -352,7 +354,7 @@ impl Reading {
         }
     }
 
-    // A line's content, by its words.
+    // Reads the content of a line by its words.
     fn read_words(&mut self, form: Form, content: &[u8]) -> Result<(), MapFaultKind>
         ensures { Reads self.old self.new (content_line form self.old content.now) result }
     {
@@ -363,7 +365,7 @@ impl Reading {
         self.read_statement(form, word, rest)
     }
 
-    // A line that begins with an address or a block of either version, or with anything else.
+    // Reads a line that begins with an address or a block of either version, or with any other word.
     fn read_line(&mut self, form: Form, content: &[u8]) -> Result<(), MapFaultKind>
         ensures { Reads self.old self.new (content_line form self.old content.now) result }
     {
@@ -374,7 +376,7 @@ impl Reading {
         }
     }
 
-    // Whether the text is a map of IPv4, as the lines so far decide.
+    // Returns `true` if the text is a map of IPv4, as decided by the lines so far.
     fn is_narrow(&self, form: Form) -> bool
         ensures form { IsTrue result → form ≡ Map }
         ensures version { IsTrue result → self.now.version ≡ Some V4 }
@@ -382,8 +384,8 @@ impl Reading {
         form == Form::Map && self.version_at(Version::V6) == Version::V4
     }
 
-    /// Reads the content of one more line. An entry for a block that has one already is added too. After a fault
-    /// nothing is known of the lines so far.
+    /// Reads the content of one more line. An entry with the block of an earlier one is added too. After a fault the
+    /// lines so far are unspecified.
     pub fn read_content(&mut self, form: Form, content: &[u8]) -> Result<(), MapFaultKind>
         ensures { Reads self.old self.new (content_line form self.old content.now) result }
     {

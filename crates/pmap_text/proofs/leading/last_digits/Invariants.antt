@@ -3,7 +3,7 @@ use Rattle.std.specs.List.{list_all}
 use Rattle.prefix_keys.specs.Text.{is_digit, decimal_value}
 use Rattle.pmap_text.proofs.leading.last_digits.Given as goal
 
--- the number of the digits so far, of which there are at most three
+-- the number of the at most three digits so far
 abbrev pub invariant-loop-at : goal.invariant-loop-at
 invariant-loop-at l = record {
   value : l.number ≡ decimal_value (take l.at l.text);

@@ -2,7 +2,7 @@ use Rattle.std.proofs.Common.{◌≡◌, ◌≤◌, ◌+◌, length}
 use Rattle.pmap_text.proofs.Places.{end_at}
 use Rattle.pmap_text.proofs.lines.content_end.Given as goal
 
--- nothing is found before the rest
+-- neither byte is found before the rest
 abbrev pub invariant-loop-rest : goal.invariant-loop-rest
 invariant-loop-rest l = (length l.rest ≤ length l.text) × (end_at l.text + length l.rest ≡ length l.text + end_at l.rest)
 

@@ -3,7 +3,7 @@ use Rattle.std.specs.List.{suffix_len}
 use Rattle.pmap_text.specs.Label.{is_blank}
 use Rattle.pmap_text.proofs.lines.without_trailing_blanks.Given as goal
 
--- what was left off are blanks
+-- the bytes that were removed are blanks
 abbrev pub invariant-loop-end : goal.invariant-loop-end
 invariant-loop-end l = (l.end ≤ length l.text) × (l.end + suffix_len is_blank l.text ≡ length l.text + suffix_len is_blank (take l.end l.text))
 

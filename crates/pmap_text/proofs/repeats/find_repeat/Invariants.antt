@@ -4,7 +4,7 @@ use Rattle.pmap_text.specs.MapModel.{Label}
 use Rattle.pmap_text.specs.PrefixList.{prefix_of}
 use Rattle.pmap_text.proofs.repeats.find_repeat.Given as goal
 
--- the keys are those of the entries so far, no two of which have one block
+-- the keys are those of the entries so far, no two of which have the same block
 abbrev pub invariant-loop-entry : goal.invariant-loop-entry
 invariant-loop-entry l = record {
   at : l.count ≡ l.entry-index;

@@ -3,7 +3,7 @@ use Rattle.pmap_text.specs.Lines.{lines_of}
 use Rattle.pmap_text.proofs.Entering.{HasReadTo}
 use Rattle.pmap_text.proofs.texts.read_on.Given as goal
 
--- what is known of the lines so far
+-- facts about the lines so far
 abbrev pub invariant-loop-rest : goal.invariant-loop-rest
 invariant-loop-rest l = record {
   fits : l.number + length l.rest ≤ length l.text;

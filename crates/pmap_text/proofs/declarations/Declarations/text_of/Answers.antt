@@ -11,7 +11,7 @@ returns-in_err-index-clause-value c =
     (sym c.in_err-index.ensures.index))
     ∙ ap (λ d. declared_text d c.args.number) c.self.view_is
 
--- the text stands at the place of its number
+-- the text is at the index of its number
 place : (c : goal.After-as_slice) → slice_get (map (λ v. v.items) c.self.inside.texts.keys) c.in_ok-index.index ≡ Some c.as_slice.result.now
 place c =
     slice_get-map (λ v. v.items) c.self.inside.texts.keys c.in_ok-index.index

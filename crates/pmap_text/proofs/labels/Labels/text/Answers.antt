@@ -3,7 +3,7 @@ use Rattle.std.proofs.lemmas.Option.{slice_get-map}
 use Rattle.pmap_text.specs.Label.{IsLabelTable}
 use Rattle.pmap_text.proofs.labels.Labels.text.Goals as goal
 
--- the table has the text at its number
+-- the table has the text at the index that is its number
 place : (c : goal.After-as_slice) → slice_get c.args.self.now c.args.id.0 ≡ Some c.as_slice.result.now
 place c =
     ap (λ t. slice_get t c.args.id.0) (sym c.self.view_is) ∙ slice_get-map (λ v. v.items) c.self.inside.texts.keys c.args.id.0

@@ -5,7 +5,7 @@ use Rattle.pmap_text.specs.Reading.{Earlier, content_line, statement_line}
 use Rattle.pmap_text.specs.declared.form.Form.{Form}
 use Rattle.pmap_text.proofs.reading.Reading.read_words.Goals as goal
 
--- a line with a word says what its statement says
+-- the content of a line with a word is that of its statement
 content_line-words : (form : Form) (earlier : Earlier) (content : List ℕ) → length content ≢ 0 → content_line form earlier content ≡ statement_line form earlier (first_word content) (behind_word content)
 content_line-words form earlier [] ne = absurd (ne refl)
 content_line-words form earlier (b ∷ bs) ne = refl

@@ -6,7 +6,7 @@ use Rattle.pmap_text.specs.Reading.{Earlier}
 use Rattle.pmap_text.proofs.LabelTexts.{has_label-number, slice_get-number}
 use Rattle.pmap_text.proofs.reading.Reading.recent_label.Goals as goal
 
--- without declared numbers each label means itself
+-- without declared numbers each label represents itself
 meant-itself : (declared : List (ℕ × Label)) (label : Label) → declared ≡ [] → meant_text declared label ≡ label
 meant-itself declared label none = ap (λ (d : List (ℕ × Label)). meant_text d label) none ∙ by (label_number label)
   where
