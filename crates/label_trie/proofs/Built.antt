@@ -1,4 +1,4 @@
--- The trie that is grown of statements, and that of a map text.
+-- The trie that is grown from statements, and the trie of a map text.
 use Rattle.std.proofs.Common.{◌≡◌, ℕ, ◌+◌, ◌-◌, ◌*◌, ◌/◌, ◌^◌, ◌<◌, ◌≤◌, List, [], Option, Some, IsSome, get_or, length, refl, sym, ap, subst, arith}
 use Rattle.std.proofs.Math.Nat.{mul-le-mul_right}
 use Rattle.std.proofs.lemmas.Nat.{pow_pos}
@@ -24,7 +24,7 @@ use Rattle.label_trie.proofs.NodeLeaves.{fits_HasRoom, leaves_cut, length_leaves
 use Rattle.label_trie.proofs.Parted.{parted_two}
 use Rattle.label_trie.proofs.Sums.{sum_most}
 
--- how many blocks statements part at most
+-- the maximum number of blocks that statements part
 width_most : (v : Version) → width_of v ≤ 128
 width_most V4 = omega arith
 width_most V6 = omega arith
@@ -45,7 +45,7 @@ room_at_root v ss nodes none few =
     let number : block_number (width_of v) 0 0 ≡ 0 = no_number (2 ^ (width_of v - 0)) in
     rw (none, number, all) (omega (arith, few_parted v ss few))
 
--- the whole address space as a block, and as a part
+-- the whole address space as a block and as a part
 root_block : (W last : ℕ) → last + 1 ≡ 2 ^ W → IsBlock W 0 last 0 0
 root_block W last end =
     let all : W - 0 ≡ W = omega arith in
@@ -67,7 +67,7 @@ space_part s last every end =
       };
     }
 
--- and its tree
+-- the tree of the whole address space
 pub space_tree : (s : StretchesModel) (last : ℕ) (old new : List Node) → old ≡ []
     → GrowsTree s (record { len = 0; first = 0; last = last; from = 0; to = length s.firsts - 1 }) old new
     → (ss : List Statement) (default : Option LabelId) → AreStretches ss default s → AddsTree (width_of s.version) ss default 0 0 [] new
@@ -75,7 +75,7 @@ space_tree s last old new none grows ss default are =
     let number : block_number (width_of s.version) 0 0 ≡ 0 = no_number (2 ^ (width_of s.version - 0)) in
     rw (number, none) at (grows ss default are)
 
--- what is known of nodes that were grown
+-- facts about nodes that were grown
 pub record IsGrown (W : ℕ) (ss : List Statement) (default : Option LabelId) (nodes : List Node) : Type 0 where
   pub trie : IsTrie W nodes
   pub fits : (m : MapModel) → IsMapOf W ss default m → Fits m (tree_of nodes) 0 0

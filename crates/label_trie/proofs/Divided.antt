@@ -1,4 +1,4 @@
--- A place that is divided into two.
+-- A node that is divided into two.
 use Rattle.std.proofs.Common.{◌≡◌, ℕ, suc, ◌+◌, ◌*◌, ◌++◌, None, All, arith}
 use Rattle.prefix_keys.specs.Block.{block_number}
 use Rattle.prefix_keys.specs.Version.{width_of}
@@ -24,7 +24,7 @@ half_leaves node side whole half is leaves =
     let number = is.number in
     rw (← len, ← number) leaves
 
--- what the leaves of both halves say of the place
+-- the leaves of a divided node, from those of both halves
 pub record HasBoth (low high : Tree) (whole : Block) (lower upper : CursorModel) : Type 0 where
   pub leaves : leaves_of (Fork low high) whole.len (number_of whole) ≡ lower.leaves ++ upper.leaves
   pub unsettled : (m : MapModel) → All (IsUndivided m) (leaves_of (Fork low high) whole.len (number_of whole))

@@ -1,4 +1,4 @@
--- How a list of nodes stands for a tree.
+-- How a list of nodes represents a tree.
 use Rattle.std.proofs.Common.{◌≡◌, ℕ, zero, suc, ◌+◌, ◌*◌, ◌^◌, ◌<◌, ◌≤◌, List, [], ◌∷◌, ◌++◌, Option, Some, None, length, slice_get, get_or, refl, sym, ap, ◌∙◌, subst, arith, length-append, append_assoc}
 use Rattle.std.proofs.lemmas.List.{append-nil, get_or_at}
 use Rattle.std.proofs.lemmas.Option.{get_or_from_slice_get, same_Some, slice_get-get_or, slice_get_within}
@@ -41,7 +41,7 @@ regroup : {X : Type 0} (front : List X) (x : X) (low high back : List X)
 regroup front x low high back =
     append_assoc front (x ∷ []) (low ++ (high ++ back)) ∙ ap (λ rest. front ++ (x ∷ rest)) (sym (append_assoc low high back))
 
--- the nodes of a tree stand in any list that has them in a row
+-- the nodes of a tree are in any list that contains them consecutively
 pub encoded_at : (front : List Node) (tree : Tree) (back : List Node) (at : ℕ) → length front ≡ at
     → IsAt (front ++ (encode at tree ++ back)) at tree
 encoded_at front (Tip label) back at e = at_middle front (leaf_node label) back at e
@@ -75,7 +75,7 @@ nodes_at front (Fork low high) n q back at e =
           (nodes_at ((front ++ x ∷ []) ++ l) high (suc n) (2 * q + 1) back (at + 1 + size low) len'),
     )
 
--- the tree that begins at a place is read back
+-- the tree that begins at an index is read back
 grown_leaf : (label : Option LabelId) (low : Tree) (of_number : ℕ → Tree) → grown (leaf_node label) low of_number ≡ Tip label
 grown_leaf None low of_number = refl
 grown_leaf (Some id) low of_number = refl
@@ -168,11 +168,11 @@ pub leaf_at : (nodes : List Node) (at : ℕ) (label : Option LabelId) → IsAt n
     → slice_get nodes at ≡ Some (leaf_node label) → tree_at nodes at ≡ Tip label
 leaf_at nodes at label here node = leaf_tree nodes at label (tree_at nodes at) here node
 
--- each place of a tree is in the list
+-- each index of a tree is in the list
 pub at_within : (nodes : List Node) (at : ℕ) (t : Tree) → IsAt nodes at t → at < length nodes
 at_within nodes at (Tip label) here = slice_get_within nodes at (leaf_node label) here
 at_within nodes at (Fork low high) here = slice_get_within nodes at (Inner (at + 1 + size low)) here.0
 
--- what a read of a place says
+-- the node that is read at an index
 pub node_read : (nodes : List Node) (at : ℕ) (t : Tree) (d x : Node) → IsAt nodes at t → get_or nodes at d ≡ x → slice_get nodes at ≡ Some x
 node_read nodes at t d x here is = slice_get-get_or nodes at d (at_within nodes at t here) ∙ ap Some is

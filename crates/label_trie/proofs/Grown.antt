@@ -1,4 +1,4 @@
--- What a block adds to the nodes of a trie.
+-- The nodes that a block adds to a trie.
 use Rattle.std.proofs.Common.{◌≡◌, ℕ, suc, ◌+◌, ◌-◌, ◌*◌, ◌/◌, ◌^◌, ◌<◌, ◌≤◌, List, [], ◌∷◌, ◌++◌, Option, Some, None, option_map, Contains, IsSome, length, set, refl, sym, ap, ◌∙◌, arith, append_assoc, length-append, mul-div_cancel, pow_pos}
 use Rattle.std.proofs.lemmas.List.{set_at}
 use Rattle.std.proofs.lemmas.List.Elements.{All-contains}
@@ -41,7 +41,7 @@ label_given : (default : Option LabelId) (top : Option Statement) → IsSome def
 label_given default None some = some
 label_given default (Some s) some = refl
 
--- a map of statements has them at its addresses
+-- a map of statements has them in order at its addresses
 ordered_map : (W : ℕ) (ss : List Statement) (default : Option LabelId) (m : MapModel) → IsMapOf W ss default m
     → (s : Mapping) → Contains m.mappings s → s.low ≤ s.high
 ordered_map W ss default m is s has = ordered_of m.table ss s (rw is.mappings at has)
@@ -105,7 +105,7 @@ fork_added W n q ss default old mid new x number below split low is high =
       few = omega (arith, low.few, high.few, sum');
     }
 
--- the number of a block with these ends, and those of its halves
+-- the number of a block with these ends, and the numbers of its halves
 pub number_at : (W n q first : ℕ) → first ≡ first_of W n q → block_number W n first ≡ q
 number_at W n q first is = rw is (mul-div_cancel q (pow_pos (W - n)))
 
@@ -128,7 +128,7 @@ are_halves W n q first last below block =
       high = rw (next, high_number) (record { first_is = ends.high_first; last_is = ends.high_last });
     }
 
--- a block that begins at a stretch and goes on beyond it
+-- a block that begins in a stretch and extends beyond it
 pub record IsSplit (W n first last : ℕ) (ss : List Statement) : Type 0 where
   pub below : n < W
   pub some : first < last
@@ -178,7 +178,7 @@ is_split v n first last s_first s_last ss default label has within block begun h
       sum = rw (halves.low_number, halves.high_number, next) sum;
     }
 
--- how many nodes there are then
+-- the number of nodes after the block is added
 pub added_most : (W n q : ℕ) (ss : List Statement) (default : Option LabelId) (old new : List Node) → AddsTree W ss default n q old new
     → length new ≤ length old + (1 + 2 * parted_sum W (W - n) n q ss)
 added_most W n q ss default old new added =
@@ -190,7 +190,7 @@ pub added_least : (W n q : ℕ) (ss : List Statement) (default : Option LabelId)
 added_least W n q ss default old new added =
     omega (arith, ap length added.nodes, length-append old (encode (length old) added.tree))
 
--- the whole block from what its halves add
+-- the whole block, from the nodes that its halves add
 pub split_added : (W n first last : ℕ) (ss : List Statement) (default : Option LabelId) (old start mid put new : List Node) (x : Node) (at number : ℕ)
     → IsSplit W n first last ss → start ≡ old ++ x ∷ [] → AddsTree W ss default (n + 1) (block_number W (n + 1) first) start mid
     → at ≡ length old → number ≡ length mid → put ≡ set mid at (Inner number)

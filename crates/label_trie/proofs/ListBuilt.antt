@@ -57,7 +57,7 @@ list_layers l sorted ss moved each =
           (rw (← same) is.low) (rw (← same) is.high)) sorted ss each versions);
     }
 
--- what is seen at each leaf
+-- the labels that are seen at each leaf
 pub list_seen : (l : PrefixList) (sorted : List Entry) (root : Tree) → IsPermutation l.entries sorted
     → LongerLater sorted
     → ((fallback : Label) → Fits (painting l.version l.labels (map (prefix_of l.labels) sorted) fallback) root 0 0)
@@ -99,7 +99,7 @@ list_bounded l sorted ss nodes layers grown =
     let most : parted_sum (width_of l.version) (width_of l.version) 0 0 ss ≤ width_of l.version * length l.entries = rw (← count) layers.parted in
     omega (arith, length_leaves (tree_of nodes) 0 0, grown.few, most)
 
--- the statements in order, from what the sorting ensures
+-- the statements in order, from the postcondition of sorting
 pub record IsReady (l : PrefixList) (ss : List Statement) : Type 0 where
   pub sorted : List Entry
   pub moved : IsPermutation l.entries sorted

@@ -62,7 +62,7 @@ pub label_among_high : (W : ℕ) (low high : Tree) (n q h a : ℕ) → h + n ≡
 label_among_high W low high n q h a e positive room inside =
     ap (option_and_then (λ leaf. leaf.label)) (found_high W low high n q h a e positive room inside)
 
--- the same, where a node has so many host bits as the half has and one more
+-- the labels of a half, by the host bits of the node, one more than those of the half
 pub label_below_low : (W : ℕ) (low high : Tree) (h a : ℕ) → h ≤ W → 0 < h → HasRoom high (h - 1) → a / 2 ^ (h - 1) % 2 ≡ 0
     → label_among W (leaves_of low (W - (h - 1)) (a / 2 ^ (h - 1))) a
     ≡ label_among W (leaves_of low (suc (W - h)) (2 * (a / 2 ^ h)) ++ leaves_of high (suc (W - h)) (2 * (a / 2 ^ h) + 1)) a
@@ -104,7 +104,7 @@ leaf_found W (Fork low high) n q h a e room inside =
           (below.0, found_high W low high n q h a e room.0 room.1 side ∙ below.1)
     ]
 
--- what is true of each leaf is true of that with the address
+-- what is true of each leaf is true of the leaf that has the address
 pub leaf_with : (W : ℕ) (P : LeafModel → Type 0) (node : Tree) (a : ℕ) → HasRoom node W → a < 2 ^ W → All P (leaves_of node 0 0)
     → (leaf : LeafModel) × P leaf × (leaf.number ≡ block_number W leaf.bits a) × (label_among W (leaves_of node 0 0) a ≡ leaf.label)
 leaf_with W P node a room below all =
@@ -118,7 +118,7 @@ leaf_with W P node a room below all =
       ap (option_and_then (λ leaf. leaf.label)) found.1,
     )
 
--- so the label of a whole trie is the map's at each address
+-- so the label of a whole trie is the map's label at each address
 pub labels_fit : (m : MapModel) (node : Tree) (a : ℕ) → HasRoom node (width_of m.version) → All (IsSettledLeaf m) (leaves_of node 0 0)
     → a < 2 ^ width_of m.version
     → option_and_then (slice_get m.table) (label_among (width_of m.version) (leaves_of node 0 0) a) ≡ Some (map_label m a)

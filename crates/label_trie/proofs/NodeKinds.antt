@@ -1,4 +1,4 @@
--- What a trie has at the node with a number.
+-- The kind of the node with a number.
 use Rattle.std.proofs.Common.{◌≡◌, ℕ, suc, ◌+◌, ◌*◌, ◌<◌, ◌≤◌, ◌∙◌, inl, inr, List, Option, Some, length, slice_get, get_or, refl, sym, ap, subst, arith}
 use Rattle.std.specs.Option.{ForSome}
 use Rattle.std.proofs.lemmas.Bool.{cases_lt}
@@ -53,7 +53,7 @@ tree_from nodes models at (Fork low high) n q number here known from to =
           }
     ]
 
--- what a read of the node with a number says of its tree
+-- the tree of the node with a number, from the node that is read
 module _ (W : ℕ) (nodes : List Node) (number : ℕ) (x : Node) (trie : IsTrie W nodes) (inside : number < length nodes) (is : x ≡ get_or nodes number x) where
   abbrev pub models : List NodeModel
   models = nodes_of (tree_of nodes) 0 0

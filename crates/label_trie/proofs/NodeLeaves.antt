@@ -1,4 +1,4 @@
--- The leaves of a node: what its room, and what a map that it fits, say of them.
+-- The leaves of a node with room, or of one that fits a map.
 use Rattle.std.proofs.Common.{◌≡◌, ℕ, suc, ◌+◌, ◌-◌, ◌*◌, ◌/◌, ◌^◌, ◌<◌, ◌≤◌, inl, inr, List, [], ◌∷◌, ◌++◌, Option, Some, None, option_map, refl, sym, arith, All, Contains, IsSome, length, length-append, true≢false}
 use Rattle.std.proofs.lemmas.Bool.{cases_eq}
 use Rattle.std.proofs.lemmas.List.Elements.{All-nil, All-cons, All-append, All-weaker, All-contains, Contains-push, Contains-append_left}
@@ -41,7 +41,7 @@ ends W n q P positive half whole = rw (half, whole) (omega arith)
 meet : (W n q P : ℕ) → 0 < P → 2 ^ (W - n) ≡ P → last_of W n (2 * q) + 1 ≡ first_of W n (2 * q + 1)
 meet W n q P positive whole = rw whole (omega arith)
 
--- the leaves of a node with room cut the block that it stands for
+-- the leaves of a node with room cut the block that it represents
 pub leaves_cut : (W : ℕ) (node : Tree) (n q h : ℕ) → h + n ≡ W → HasRoom node h
     → IsCut W (first_of W n q) (last_of W n q + 1) (leaves_of node n q)
 leaves_cut W (Tip label) n q h e room = (omega arith, refl, refl)
@@ -56,14 +56,14 @@ leaves_cut W (Fork low high) n q h e room =
     (IsCut-append W (first_of W (suc n) (2 * q)) (first_of W (suc n) (2 * q + 1)) (last_of W (suc n) (2 * q + 1) + 1)
     (leaves_of low (suc n) (2 * q)) (leaves_of high (suc n) (2 * q + 1)) (rw (meet W (suc n) q P (pow_pos (W - suc n)) refl) at front) back)
 
--- a leaf at or below the block of n bits with the number q, none of whose blocks round the leaf the map settles
+-- a leaf at or below the block of n bits with the number q; the map settles no larger block that contains the leaf
 record IsLeafBelow (m : MapModel) (n q : ℕ) (leaf : LeafModel) : Type 0 where
   deep : n ≤ leaf.bits
   within : leaf.number / 2 ^ (leaf.bits - n) ≡ q
   settled : IsSettledLeaf m leaf
   undivided : (k : ℕ) → n ≤ k → k < leaf.bits → settled_label m k (leaf.number / 2 ^ (leaf.bits - k)) ≡ None
 
--- the number that the block of one bit less has
+-- the number of the block that is one bit shorter
 outer_number : (number bits n : ℕ) → n < bits → number / 2 ^ (bits - n) ≡ number / 2 ^ (bits - suc n) / 2
 outer_number number bits n below =
     let more : bits - n ≡ (bits - suc n) + 1 = omega arith in
@@ -135,7 +135,7 @@ has_inside (Fork low high) n q =
       within = omega (arith, number, f.within);
     }
 
--- a divided block is round a leaf
+-- a divided block strictly contains a leaf
 pub inner_unsettled : (m : MapModel) (low high : Tree) (n q : ℕ)
     → All (IsUndivided m) (leaves_of low (suc n) (2 * q) ++ leaves_of high (suc n) (2 * q + 1)) → settled_label m n q ≡ None
 inner_unsettled m low high n q undivided =

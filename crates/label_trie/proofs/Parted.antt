@@ -1,4 +1,4 @@
--- How many blocks a span parts.
+-- The number of blocks that a span parts.
 use Rattle.std.proofs.Common.{◌≡◌, ℕ, zero, suc, ◌+◌, ◌-◌, ◌*◌, ◌^◌, ◌<◌, ◌≤◌, ◌⊎◌, inl, inr, cond, Bool, true, false, refl, sym, ap, ◌∙◌, arith}
 use Rattle.std.proofs.Math.Nat.{mul-le-mul_right}
 use Rattle.std.proofs.lemmas.Bool.{cases_lt}
@@ -40,12 +40,12 @@ cond_le true true x = omega arith
 cond_le true false x = omega arith
 cond_le false c x = omega arith
 
--- in any case no more than these
+-- in each case at most these
 parted_most : (W h n q : ℕ) (s : Span)
     → parted_count W (suc h) n q s ≤ 1 + (parted_count W h (suc n) (2 * q) s + parted_count W h (suc n) (2 * q + 1) s)
 parted_most W h n q s = cond_le _ _ _
 
--- where a block has two halves: from the last address of the lower one the higher one follows, and neither is empty
+-- a block with two halves: the higher half follows the last address of the lower one, and neither is empty
 record HasHalves (W n q : ℕ) : Type 0 where
   low_first : first_of W n q ≡ first_of W (suc n) (2 * q)
   low_some : first_of W (suc n) (2 * q) ≤ last_of W (suc n) (2 * q)
@@ -71,7 +71,7 @@ halves_of W h n q e =
 at_most : (c x y low high bound : ℕ) → c ≤ 1 + (x + y) → x ≤ low → y ≤ high → 1 + (low + high) ≤ bound → c ≤ bound
 at_most c x y low high bound most l r b = omega arith
 
--- a span that goes on beyond the block parts one block of each size at most
+-- a span that extends beyond the block parts at most one block of each size
 parted_from : (W h n q : ℕ) (s : Span) → h + n ≡ W → last_of W n q ≤ s.high.value → parted_count W h n q s ≤ h
 parted_from W zero n q s e beyond = omega arith
 parted_from W (suc h) n q s e beyond =
@@ -101,7 +101,7 @@ parted_to W (suc h) n q s e before =
           at_most _ _ _ 0 h (suc h) (parted_most W h n q s) (omega (arith, none)) (parted_to W h (suc n) (2 * q + 1) s (omega arith) (omega (arith, halves.meet, halves.low_some, low_before))) (omega arith)
     ]
 
--- any span parts two at most
+-- any span parts at most two blocks of each size
 pub parted_two : (W h n q : ℕ) (s : Span) → h + n ≡ W → parted_count W h n q s ≤ 2 * h
 parted_two W zero n q s e = omega arith
 parted_two W (suc h) n q s e =
@@ -133,7 +133,7 @@ next_multiple P a b below =
       | inr most ↦ let less = mul-le-mul_right P most in absurd (omega (arith, below, less))
     ]
 
--- a block of addresses of W bits that reaches to both sides of the middle of another isn't within one of its halves
+-- a block that is smaller than another doesn't have addresses on both sides of the other's middle
 reaches_over : (W n q n' q' : ℕ) → n < n' → n' ≤ W → first_of W n' q' < first_of W (suc n) (2 * q + 1)
     → first_of W (suc n) (2 * q + 1) ≤ last_of W n' q' → ⊥
 reaches_over W n q n' q' narrow within low high =
@@ -160,7 +160,7 @@ covers_met W n q n' q' wide within low high =
     let above = next_multiple P q ((q' + 1) * K) (omega (arith, high, to, positive)) in
     (omega (arith, below, from), omega (arith, above, to))
 
--- a span that is a block parts one block of each size at most
+-- a span that is a block parts at most one block of each size
 pub parted_block : (W h n q : ℕ) (s : Span) (n' q' : ℕ) → h + n ≡ W → n' ≤ W → s.low.value ≡ first_of W n' q' → s.high.value ≡ last_of W n' q'
     → parted_count W h n q s ≤ h
 parted_block W zero n q s n' q' e within low high = omega arith

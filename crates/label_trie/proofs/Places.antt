@@ -1,4 +1,4 @@
--- Places of a trie: the root, and those of the halves of a block.
+-- Nodes of a trie: the root, and the halves of a block.
 use Rattle.std.proofs.Common.{◌≡◌, ℕ, suc, ◌+◌, ◌-◌, ◌*◌, ◌/◌, ◌^◌, ◌≤◌, List, [], length, refl, ap, ◌∙◌, subst, arith}
 use Rattle.std.proofs.lemmas.List.{append-nil}
 use Rattle.prefix_keys.specs.Version.{width_of}
@@ -14,7 +14,7 @@ use Rattle.label_trie.proofs.Divided.{divided}
 use Rattle.label_trie.proofs.Encoded.{IsInner, nodes_at, size_leaves}
 use Rattle.label_trie.proofs.NodeLeaves.{length_leaves}
 
--- the nodes of a tree stand in their own list
+-- the nodes of a tree are in their own list
 pub whole_nodes : (t : Tree) → HasNodes (nodes_of t 0 0) 0 t 0 0
 whole_nodes t = subst (λ (nodes : List NodeModel). HasNodes nodes 0 t 0 0) (append-nil (nodes_of t 0 0)) (nodes_at [] t 0 0 [] 0 refl)
 
@@ -33,7 +33,7 @@ root_place nodes block trie value len =
       known = rw (number, len) (whole_nodes (tree_of nodes));
     }
 
--- a half of a block whose node is divided has a place
+-- each half of a divided node has a node
 half_place : (nodes : List Node) (at : ℕ) (t : Tree) (side : ℕ) (block half : Block) → tree_at nodes at ≡ t → IsAt nodes at t
     → size t ≤ length nodes → HasRoom t (width_of block.version - block.len - 1)
     → HasNodes (nodes_of (tree_of nodes) 0 0) at t (suc block.len) (2 * number_of block + side) → IsHalf side block half
@@ -66,7 +66,7 @@ high_place nodes at high block half place inner half_is =
     let known = rw tree at place.known in
     half_place nodes high inner.upper 1 block half inner.upper_tree inner.upper_at (omega (arith, inner.small)) room.2 (rw inner.high_is known.2) half_is
 
--- so the place is divided into the two
+-- so the node is divided into the two
 pub place_divided : (nodes : List Node) (at high : ℕ) (block : Block) (lower upper : CursorModel) → IsInner nodes at high
     → IsHalf 0 block lower.block → IsHalf 1 block upper.block
     → lower.leaves ≡ leaves_of (tree_at nodes (at + 1)) lower.block.len (number_of lower.block)

@@ -6,7 +6,7 @@ use Rattle.std.proofs.lemmas.Slice.Eq.{bytes_eq-Decides}
 use Rattle.pmap_text.specs.MapModel.{Label}
 use Rattle.label_trie.specs.Runs.{AreRuns, DiffersFromNext, HasOneLabel, Run}
 
--- two labels, or their want, are the same or not
+-- two labels, or missing labels, are equal or not
 text-cases : (x y : Label) → (b : Bool) → bytes_eq x y ≡ b → (Some x ≡ Some y) ⊎ (Some x ≢ Some y)
 text-cases x y true e = inl (ap Some ((bytes_eq-Decides x y).0 e))
 text-cases x y false e = inr (λ same. both_ways (bytes_eq x y) e ((bytes_eq-Decides x y).1 cc))
@@ -17,7 +17,7 @@ label-cases None (Some y) = inr (λ e. let h : None ≡ Some y = e in cc)
 label-cases (Some x) None = inr (λ e. let h : Some x ≡ None = e in cc)
 label-cases (Some x) (Some y) = text-cases x y (bytes_eq x y) refl
 
--- runs end behind where they begin
+-- runs end after they begin
 ordered : (f : ℕ → Option Label) (from to : ℕ) (rs : List Run) → AreRuns f from to rs → from ≤ to
 ordered f from to [] are = omega (arith, are)
 ordered f from to (r ∷ rs) are = omega (arith, are.0, are.1.some, ordered f (r.high + 1) to rs are.3)
@@ -26,7 +26,7 @@ ordered f from to (r ∷ rs) are = omega (arith, are.0, are.1.some, ordered f (r
 first-label : (f : ℕ → Option Label) (r : Run) → HasOneLabel f r → f r.low ≡ r.label
 first-label f r one = one.each r.low (omega arith) one.some
 
--- of two lists of runs that begin at one address, the first run of neither is longer
+-- if two lists of runs begin at one address, the first run of neither is longer
 not_shorter : (f : ℕ → Option Label) (from to : ℕ) (r s : Run) (rs ss : List Run) → AreRuns f from to (r ∷ rs) → AreRuns f from to (s ∷ ss)
     → r.high < s.high → ⊥
 not_shorter f from to r s [] ss ar bs h = omega (arith, h, ar.3, ordered f (s.high + 1) to ss bs.3)
@@ -44,7 +44,7 @@ unfolding made
 run-same r s low high label =
     ap (λ (l : ℕ). made l r.high r.label) low ∙ ap (λ (h : ℕ). made s.low h r.label) high ∙ ap (λ (x : Option Label). made s.low s.high x) label
 
--- there is one list of runs
+-- there is only one list of runs
 pub runs-one : (f : ℕ → Option Label) (from to : ℕ) (rs ss : List Run) → AreRuns f from to rs → AreRuns f from to ss → rs ≡ ss
 runs-one f from to [] [] ar bs = refl
 runs-one f from to [] (s ∷ ss) ar bs = absurd (omega (arith, ar, bs.0, bs.1.some, ordered f (s.high + 1) to ss bs.3))
@@ -66,7 +66,7 @@ runs-one f from to (r ∷ rs) (s ∷ ss) ar bs = by (runs-one f (r.high + 1) to 
         let rest : AreRuns f (r.high + 1) to ss = subst (λ h. AreRuns f (h + 1) to ss) (sym high) bs.3 in
         ap (λ (h : Run). h ∷ rs) head ∙ ap (λ (t : List Run). s ∷ t) (ih rest)
 
--- runs are those of any labelling that gives each address the same
+-- two labellings that agree at each address have the same runs
 pub runs-alike : (f g : ℕ → Option Label) (from to : ℕ) (rs : List Run) → ((a : ℕ) → a < to → f a ≡ g a)
     → AreRuns f from to rs → AreRuns g from to rs
 runs-alike f g from to [] same are = are
@@ -100,7 +100,7 @@ longer-differs : (from : ℕ) (r : Run) (rs : List Run) → DiffersFromNext r rs
 longer-differs from r [] d = d
 longer-differs from r (t ∷ ts) d = d
 
--- the runs from an address on, from those behind it
+-- the runs from an address on, from those after it
 runs-before : (f : ℕ → Option Label) (from to : ℕ) (r : Run) (rs : List Run) → AreRuns f (from + 1) to (r ∷ rs)
     → (f from ≡ r.label) ⊎ (f from ≢ r.label) → (ss : List Run) × AreRuns f from to ss
 runs-before f from to r rs are (inr other) =

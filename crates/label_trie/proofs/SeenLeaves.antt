@@ -1,4 +1,4 @@
--- What is seen of prefixes at the leaves of a trie.
+-- The labels of prefixes that are seen at the leaves of a trie.
 use Rattle.std.proofs.Common.{ℕ, suc, ◌+◌, ◌*◌, ◌<◌, List, [], Option, Some, None, option_map, length, map, refl, sym, arith, All, mul-div_cancel, pow_pos, ◌-◌}
 use Rattle.std.proofs.lemmas.List.Elements.{All-nil, All-cons, All-append}
 use Rattle.prefix_keys.specs.Block.{first_of}
@@ -23,7 +23,7 @@ seen version table ps (Some id) n q up f =
     let known : id.0 < length table = (f []).0 in
     (known, seen_by W n q ps (text_at table id.0) up (last_such (meets W n q) (map (painted W) ps)) refl (λ fallback. (f fallback).1))
 
--- so it is at each leaf of a trie that fits such a painting
+-- so it is seen at each leaf of a trie that fits such a painting
 abbrev pub IsSeenLeaf : ℕ → List Label → List Prefix → LeafModel → Type 0
 IsSeenLeaf W table ps leaf = IsSeen W table ps leaf.bits leaf.number leaf.label
 

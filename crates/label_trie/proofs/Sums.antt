@@ -1,4 +1,4 @@
--- How many blocks statements part, together.
+-- The number of blocks that statements part together.
 use Rattle.std.proofs.Common.{◌≡◌, ℕ, suc, ◌+◌, ◌*◌, ◌<◌, ◌≤◌, ◌⊎◌, inl, inr, Bool, true, false, cond, List, [], ◌∷◌, Option, Some, None, All, length, refl, arith}
 use Rattle.std.specs.Option.{option_or}
 use Rattle.std.proofs.lemmas.Bool.{and_cases, cases_lt, leb-false}
@@ -49,7 +49,7 @@ halves_sum : (W h n q : ℕ) (ss : List Statement) → suc h + n ≡ W
 halves_sum W h n q [] e = omega arith
 halves_sum W h n q (s ∷ ss) e = omega (arith, parted_halves W h n q s.span e, halves_sum W h n q ss e)
 
--- where a block is not settled, one is parted more
+-- if a block is not settled, the statements part at least one block more than in its halves
 parted_step : (W h n q : ℕ) (x : Label) (table : List (List ℕ)) (s : Statement) (ss : List Statement) → suc h + n ≡ W
     → (settled_by W n q x (last_such (meets W n q) (mappings_of table ss)) ≡ None
     → 1 + (parted_sum W h (suc n) (2 * q) ss + parted_sum W h (suc n) (2 * q + 1) ss) ≤ parted_sum W (suc h) n q ss)
@@ -78,7 +78,7 @@ split_sum W h n q x table (s ∷ ss) e none =
     parted_step W h n q x table s ss e (split_sum W h n q x table ss e) (last_such (meets W n q) (mappings_of table ss)) refl
     (meets W n q (mapping_of table s)) (spans_all W n q (mapping_of table s)) refl refl none
 
--- all together part no more than each may
+-- the sum is at most the maximum of each, times their number
 pub sum_most : (W each : ℕ) (ss : List Statement) → All (λ s. parted_count W W 0 0 s.span ≤ each) ss → parted_sum W W 0 0 ss ≤ each * length ss
 sum_most W each [] most = omega arith
 sum_most W each (s ∷ ss) most =

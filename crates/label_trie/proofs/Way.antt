@@ -11,8 +11,8 @@ use Rattle.label_trie.specs.declared.node.Node.TheVariants.{Inner}
 use Rattle.label_trie.proofs.Encoded.{IsInner, at_within, inner_at, leaf_at, node_read}
 use Rattle.label_trie.proofs.Lookup.{label_below_high, label_below_low}
 
--- The node with the number `at` stands for the block of the address with so many host bits, and the address has the label
--- that it has among the leaves at and below that node.
+-- The node with the number `at` represents the block of the address with this number of host bits. The address has the
+-- same label among all leaves as among those at and below that node.
 pub record IsOnWay (W a : ℕ) (nodes : List Node) (at host_bits : ℕ) : Type 0 where
   pub here : IsAt nodes at (tree_at nodes at)
   pub small : size (tree_at nodes at) ≤ length nodes
@@ -53,7 +53,7 @@ way_high W a nodes at high h way inner odd =
       label = rw upper (label_below_high W inner.lower inner.upper h a way.within room.0 room.1 odd ∙ label);
     }
 
--- what a read of a node on the way says: of two halves, of which the numbers are nodes, and of a leaf, which has the address's label
+-- the node that is read on the way: the numbers of two halves are nodes, and a leaf has the label of the address
 pub way_inner : (W a : ℕ) (nodes : List Node) (at high h : ℕ) (d : Node) → IsOnWay W a nodes at h → slice_index_or nodes at d ≡ Inner high
     → IsInner nodes at high
 way_inner W a nodes at high h d way is = inner_at nodes at high way.here way.small (node_read nodes at (tree_at nodes at) d (Inner high) way.here is)
@@ -61,7 +61,7 @@ way_inner W a nodes at high h d way is = inner_at nodes at high way.here way.sma
 pub way_next : (W a : ℕ) (nodes : List Node) (at high h : ℕ) → IsOnWay W a nodes at h → IsInner nodes at high → at + 1 < 2 ^ 32
 way_next W a nodes at high h way inner = omega (arith, at_within nodes (at + 1) inner.lower inner.lower_at, way.few)
 
--- there are halves only where there is a host bit
+-- there are halves only if there is a host bit
 pub way_room : (W a : ℕ) (nodes : List Node) (at high h : ℕ) → IsOnWay W a nodes at h → IsInner nodes at high → 0 < h
 way_room W a nodes at high h way inner = let tree = inner.tree in let room = rw tree at way.room in room.0
 

@@ -5,7 +5,8 @@ use Rattle.label_trie.specs.TrieModel.{NodeModel, TrieModel}
 use Rattle.label_trie.specs.declared.kind.Kind.{Kind}
 use Rattle.label_trie.specs.declared.kind.Kind.TheVariants.{Divided, Leaf}
 
--- what there is at a node: a leaf, which is its one leaf and has its block, or two halves, of which each has a leaf
+-- the kind of a node: a leaf, whose block is the node's and which is the node's only leaf, or two halves, each with a
+-- leaf
 abbrev pub IsKindOf : NodeModel → Kind → Type 0
 IsKindOf node (Leaf label) = node.leaves ≡ record { bits = node.bits; number = node.number; label = option_map (λ id. id.0) label } ∷ []
 IsKindOf node Divided = 2 ≤ length node.leaves

@@ -13,15 +13,16 @@ use Rattle.label_trie.specs.Tree.{Tree, Fits, IsLabelled, leaf_count}
 use Rattle.label_trie.specs.declared.growing.Part.{Part}
 use Rattle.label_trie.specs.declared.node.Node.{Node}
 
--- What the stretches of statements make of a block.
+-- How the stretches of statements divide a block.
 
--- of addresses of W bits, those from `first` to `last` are those of the block of n bits with the number q
+-- among addresses of W bits, those from `first` to `last` form the block of n bits with the number q
 pub record IsBlock (W first last n q : ℕ) : Type 0 where
   pub first_is : first ≡ first_of W n q
   pub last_is : last ≡ last_of W n q
 
--- The span parts a block where it has an address of it and lacks one. This is how many blocks it parts of the one of n bits
--- with the number q, its halves, theirs, and so on: the block has h host bits, and one of a single address isn't parted.
+-- A span parts a block if it has some of the block's addresses but not all. This is the number of blocks that the span
+-- parts among the block of n bits with the number q, its halves, their halves, and so on. The block has h host bits. A
+-- block of a single address isn't parted.
 abbrev pub parted_count : ℕ → ℕ → ℕ → ℕ → Span → ℕ
 parted_count W zero n q s = 0
 parted_count W (suc h) n q s =
@@ -31,21 +32,21 @@ parted_count W (suc h) n q s =
     else 1 + (parted_count W h (suc n) (2 * q) s + parted_count W h (suc n) (2 * q + 1) s))
     else 0
 
--- the same of each statement, together
+-- the number of blocks that each statement parts, added up
 abbrev pub parted_sum : ℕ → ℕ → ℕ → ℕ → List Statement → ℕ
 parted_sum W h n q [] = 0
 parted_sum W h n q (s ∷ ss) = parted_count W h n q s.span + parted_sum W h n q ss
 
--- the map has these statements, and the label in its label table as its default
+-- the map has these statements, and its default is this label of its label table
 pub record IsMapOf (W : ℕ) (ss : List Statement) (default : Option LabelId) (m : MapModel) : Type 0 where
   pub width : width_of m.version ≡ W
   pub mappings : m.mappings ≡ mappings_of m.table ss
   pub known : All (λ s. s.label.0 < length m.table) ss
   pub fallback : ForSome default (λ id. (id.0 < length m.table) × (text_at m.table id.0 ≡ m.fallback))
 
--- The new nodes are the old ones and those of a tree for the block of n bits with the number q. The tree fits each map of
--- these statements, its leaves are labelled where there is a default, and it has no more leaves than one and one for each
--- block that a statement parts.
+-- The new nodes are the old ones followed by those of a tree for the block of n bits with the number q. The tree fits
+-- each map of these statements. If there is a default, its leaves are labelled. It has at most one leaf, plus one for
+-- each block that a statement parts.
 pub record AddsTree (W : ℕ) (ss : List Statement) (default : Option LabelId) (n q : ℕ) (old new : List Node) : Type 0 where
   pub tree : Tree
   pub nodes : new ≡ old ++ encode (length old) tree
@@ -53,25 +54,26 @@ pub record AddsTree (W : ℕ) (ss : List Statement) (default : Option LabelId) (
   pub labelled : IsSome default → IsLabelled tree
   pub few : leaf_count tree ≤ 1 + parted_sum W (W - n) n q ss
 
--- the number of a part's block among those with as many bits
+-- the number of a part's block among the blocks of the same length
 abbrev pub part_number : StretchesModel → Part → ℕ
 part_number s p = block_number (width_of s.version) p.len p.first
 
--- the part is a block of the stretches' addresses, with the stretches of its first and its last address
+-- the part is a block of the stretches' addresses, and has the indices of the stretches of its first and its last
+-- address
 pub record IsPart (s : StretchesModel) (p : Part) : Type 0 where
   pub within : p.len ≤ width_of s.version
   pub block : IsBlock (width_of s.version) p.first p.last p.len (part_number s p)
   pub from : HoldsAddress s p.first p.from
   pub to : HoldsAddress s p.last p.to
 
--- with so many nodes already, the number of each node of the part fits into 32 bits
+-- after `count` nodes, the number of each node of the part fits 32 bits
 pub record HasRoomFor (s : StretchesModel) (p : Part) (count : ℕ) : Type 0 where
   pub statements : List Statement
   pub default : Option LabelId
   pub are : AreStretches statements default s
   pub room : count + (1 + 2 * parted_sum (width_of s.version) (width_of s.version - p.len) p.len (part_number s p) statements) ≤ 2 ^ 32
 
--- the new nodes are the old ones and those of the part, under all statements that have these stretches
+-- the new nodes are the old ones followed by those of the part, for all statements that have these stretches
 abbrev pub GrowsTree : StretchesModel → Part → List Node → List Node → Type 0
 GrowsTree s p old new = (ss : List Statement) (default : Option LabelId) → AreStretches ss default s →
     AddsTree (width_of s.version) ss default p.len (part_number s p) old new

@@ -7,37 +7,38 @@ use Rattle.label_trie.specs.Tree.{Tree, Tip, Fork, size, nodes_of, HasNodes, Has
 use Rattle.label_trie.specs.declared.node.Node.{Node}
 use Rattle.label_trie.specs.declared.node.Node.TheVariants.{Labelled, Unlabelled, Inner}
 
--- How a list of nodes stands for a tree: a node is followed by those of its lower half, and these by those of its higher one.
+-- How a list of nodes represents a tree: a node is followed by those of its lower half, and these by those of its
+-- higher half.
 
 -- the node of a leaf
 abbrev pub leaf_node : Option LabelId → Node
 leaf_node None = Unlabelled
 leaf_node (Some id) = Labelled id
 
--- the nodes of a tree, of which the first has the number `at`
+-- the nodes of a tree, whose first node has the number `at`
 abbrev pub encode : ℕ → Tree → List Node
 encode at (Tip label) = leaf_node label ∷ []
 encode at (Fork low high) = Inner (at + 1 + size low) ∷ (encode (at + 1) low ++ encode (at + 1 + size low) high)
 
--- the nodes of the tree stand in the list from the place `at` on
+-- the nodes of the tree are in the list from the index `at` on
 abbrev pub IsAt : List Node → ℕ → Tree → Type 0
 IsAt nodes at (Tip label) = slice_get nodes at ≡ Some (leaf_node label)
 IsAt nodes at (Fork low high) =
     (slice_get nodes at ≡ Some (Inner (at + 1 + size low))) × IsAt nodes (at + 1) low × IsAt nodes (at + 1 + size low) high
 
--- the tree whose first node is this, where the trees of what follows it and of any number are known
+-- the tree whose first node is this, given the tree that follows it and the trees at each number
 abbrev pub grown : Node → Tree → (ℕ → Tree) → Tree
 grown (Labelled id) low of_number = Tip (Some id)
 grown Unlabelled low of_number = Tip None
 grown (Inner high) low of_number = Fork low (of_number high)
 
--- the tree that begins at a place of the list, as deep as `fuel` allows
+-- the tree at an index of the list, as deep as `fuel` allows
 abbrev pub tree_within : ℕ → List Node → ℕ → Tree
 tree_within zero nodes at = Tip None
 tree_within (suc fuel) nodes at =
     grown (slice_index_or nodes at Unlabelled) (tree_within fuel nodes (at + 1)) (λ number. tree_within fuel nodes number)
 
--- the tree that begins at a place, and the whole tree
+-- the tree at an index, and the whole tree
 abbrev pub tree_at : List Node → ℕ → Tree
 tree_at nodes at = tree_within (length nodes) nodes at
 
@@ -51,7 +52,7 @@ pub record IsTrie (W : ℕ) (nodes : List Node) : Type 0 where
   pub room : HasRoom (tree_of nodes) W
   pub few : length nodes ≤ 2 ^ 32
 
--- the node with the number `at` stands for the block
+-- the node with the number `at` represents the block
 pub record IsPlace (nodes : List Node) (at : ℕ) (block : Block) : Type 0 where
   pub here : IsAt nodes at (tree_at nodes at)
   pub small : size (tree_at nodes at) ≤ length nodes

@@ -7,15 +7,16 @@ use Rattle.label_trie.specs.CursorModel.{CursorModel}
 use Rattle.label_trie.specs.declared.cursor.Parts.{Parts}
 use Rattle.label_trie.specs.declared.cursor.Parts.TheVariants.{Leaf, Inner}
 
--- the block is the lower half of the whole, where the side is 0, or the higher one, where it is 1
+-- the block is the lower half of the whole if the side is 0, and the higher half if it is 1
 pub record IsHalf (side : ℕ) (whole half : Block) : Type 0 where
   pub version : half.version ≡ whole.version
   pub len : half.len ≡ whole.len + 1
   pub number : number_of half ≡ 2 * number_of whole + side
 
--- A place divided into two, which stand at the halves of its block and together have its leaves. No map that settles no
--- block round a leaf there settles the block. Of the nodes at and below the place, which are one less than twice its leaves,
--- its own has the first number, those of the lower half have the next ones in a row, and then come those of the higher half.
+-- A node divided into two, whose blocks are the halves of its block and whose leaves together are its leaves. A map
+-- that settles no block larger than a leaf there doesn't settle the node's block. At and below the node there are twice
+-- as many nodes as leaves, less one. The node's own number is the first, followed by the numbers of the lower half and
+-- then those of the higher half.
 pub record IsDivided (whole low high : CursorModel) : Type 0 where
   pub low_half : IsHalf 0 whole.block low.block
   pub high_half : IsHalf 1 whole.block high.block
@@ -26,7 +27,7 @@ pub record IsDivided (whole low high : CursorModel) : Type 0 where
   pub low_number : low.number ≡ whole.number + 1
   pub high_number : high.number + 1 ≡ low.number + 2 * length low.leaves
 
--- what there is at a place: one leaf with its block and the label, or two places
+-- the parts of a node: one leaf with its block and the label, or two nodes
 abbrev pub ArePartsOf : CursorModel → Parts → Type 0
 ArePartsOf c (Leaf label) = c.leaves ≡ model_of (record { block = c.block; label = label }) ∷ []
 ArePartsOf c (Inner low high) = IsDivided c low high

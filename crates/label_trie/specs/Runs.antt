@@ -3,7 +3,7 @@ use Rattle.prefix_keys.specs.Version.{width_of}
 use Rattle.prefix_keys.specs.declared.version.Version.{Version}
 use Rattle.pmap_text.specs.MapModel.{Label}
 
--- Runs: the maximal ranges of consecutive addresses that have one label, or have none.
+-- Runs: the maximal ranges of consecutive addresses that have one label or no label.
 
 -- the addresses from low to high, and the label text of each of them, if they have one
 pub record Run : Type 0 where
@@ -11,7 +11,7 @@ pub record Run : Type 0 where
   pub high : ℕ
   pub label : Option Label
 
--- there is an address in the run, and each has the run's label, or none as the run has none
+-- the run has an address, and each of its addresses has the run's label, or no label if the run has none
 pub record HasOneLabel (label_of : ℕ → Option Label) (run : Run) : Type 0 where
   pub some : run.low ≤ run.high
   pub each : (a : ℕ) → run.low ≤ a → a ≤ run.high → label_of a ≡ run.label
@@ -21,8 +21,8 @@ abbrev pub DiffersFromNext : Run → List Run → Type 0
 DiffersFromNext run [] = Unit {0}
 DiffersFromNext run (next ∷ runs) = run.label ≢ next.label
 
--- The runs follow one another, the first beginning at `from` and the last ending right before `to`, each of one label, and
--- no two neighbours of the same.
+-- The runs follow one another. The first begins at `from`, and the last ends right before `to`. Each has one label, and
+-- no two neighbours have the same label.
 abbrev pub AreRuns : (ℕ → Option Label) → ℕ → ℕ → List Run → Type 0
 AreRuns label_of from to [] = from ≡ to
 AreRuns label_of from to (run ∷ runs) =

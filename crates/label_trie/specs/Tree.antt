@@ -5,8 +5,8 @@ use Rattle.pmap_text.specs.MapText.{text_at}
 use Rattle.pmap_text.specs.declared.label.LabelId.{LabelId}
 use Rattle.label_trie.specs.TrieModel.{LeafModel, NodeModel}
 
--- A trie as a tree: a leaf with its label, or the two halves of a block. The tree that stands for the block of n bits with
--- the number q has halves that stand for those with the numbers 2 * q and 2 * q + 1.
+-- A trie as a tree: a leaf with its label, or the two halves of a block. If the tree represents the block of n bits
+-- with the number q, its halves represent those with the numbers 2 * q and 2 * q + 1.
 pub data Tree : Type 0 where
   Tip : (label : Option LabelId) → Tree
   Fork : (low high : Tree) → Tree
@@ -16,12 +16,12 @@ abbrev pub leaves_of : Tree → ℕ → ℕ → List LeafModel
 leaves_of (Tip label) n q = record { bits = n; number = q; label = option_map (λ id. id.0) label } ∷ []
 leaves_of (Fork low high) n q = leaves_of low (suc n) (2 * q) ++ leaves_of high (suc n) (2 * q + 1)
 
--- how many leaves there are
+-- the number of leaves
 abbrev pub leaf_count : Tree → ℕ
 leaf_count (Tip label) = 1
 leaf_count (Fork low high) = leaf_count low + leaf_count high
 
--- how many nodes there are, leaves and divided blocks
+-- the number of nodes, leaves and divided blocks
 abbrev pub size : Tree → ℕ
 size (Tip label) = 1
 size (Fork low high) = 1 + (size low + size high)
@@ -30,13 +30,13 @@ size (Fork low high) = 1 + (size low + size high)
 abbrev pub top_of : Tree → ℕ → ℕ → NodeModel
 top_of tree n q = record { bits = n; number = q; leaves = leaves_of tree n q }
 
--- the nodes of a tree: the one at the top, then those of the lower half, then those of the higher
+-- the nodes of a tree: the one at the top, followed by those of the lower half and those of the higher half
 abbrev pub nodes_of : Tree → ℕ → ℕ → List NodeModel
 nodes_of (Tip label) n q = top_of (Tip label) n q ∷ []
 nodes_of (Fork low high) n q =
     top_of (Fork low high) n q ∷ (nodes_of low (suc n) (2 * q) ++ nodes_of high (suc n) (2 * q + 1))
 
--- in the list the nodes of the tree stand in a row from the place `at` on
+-- the nodes of the tree are in the list from the index `at` on
 abbrev pub HasNodes : List NodeModel → ℕ → Tree → ℕ → ℕ → Type 0
 HasNodes nodes at (Tip label) n q = slice_get nodes at ≡ Some (top_of (Tip label) n q)
 HasNodes nodes at (Fork low high) n q =
@@ -48,7 +48,7 @@ abbrev pub HasRoom : Tree → ℕ → Type 0
 HasRoom (Tip label) host_bits = Unit {0}
 HasRoom (Fork low high) host_bits = (0 < host_bits) × HasRoom low (host_bits - 1) × HasRoom high (host_bits - 1)
 
--- The leaf's block is settled by the map with the text of the label, which is in the map's label table. Where the leaf has
+-- The leaf's block is settled by the map with the text of the label, which is in the map's label table. If the leaf has
 -- no label, no mapping of the map meets the block.
 abbrev pub Settles : MapModel → Option LabelId → ℕ → ℕ → Type 0
 Settles m None n q = last_such (meets (width_of m.version) n q) m.mappings ≡ None
@@ -59,7 +59,7 @@ abbrev pub IsLabelled : Tree → Type 0
 IsLabelled (Tip label) = IsSome label
 IsLabelled (Fork low high) = IsLabelled low × IsLabelled high
 
--- the leaves of the tree are settled by the map with their labels, and what is divided is not settled
+-- the leaves of the tree are settled by the map with their labels, and no divided block is settled
 abbrev pub Fits : MapModel → Tree → ℕ → ℕ → Type 0
 Fits m (Tip label) n q = (n ≤ width_of m.version) × Settles m label n q
 Fits m (Fork low high) n q =

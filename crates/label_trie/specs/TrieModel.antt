@@ -27,19 +27,19 @@ pub record TrieModel : Type 0 where
   pub leaves : List LeafModel
   pub nodes : List NodeModel
 
--- The leaves are blocks of addresses of W bits that follow one another, the first beginning at `from` and the last ending
--- right before `to`: each address between is in one leaf alone.
+-- The leaves are consecutive blocks of addresses of W bits. The first begins at `from`, and the last ends right before
+-- `to`, so each address between is in exactly one leaf.
 abbrev pub IsCut : ℕ → ℕ → ℕ → List LeafModel → Type 0
 IsCut W from to [] = from ≡ to
 IsCut W from to (leaf ∷ leaves) =
     (leaf.bits ≤ W) × (first_of W leaf.bits leaf.number ≡ from)
     × IsCut W (last_of W leaf.bits leaf.number + 1) to leaves
 
--- of addresses of W bits, the leaf's block has the address
+-- among addresses of W bits, the leaf's block has the address
 abbrev pub has_address : ℕ → ℕ → LeafModel → Bool
 has_address W a leaf = leaf.number == block_number W leaf.bits a
 
--- the number of the label that the leaves give an address: that of the leaf that has the address
+-- the number of the label that the leaves give an address: that of the leaf whose block has the address
 abbrev pub label_among : ℕ → List LeafModel → ℕ → Option ℕ
 label_among W leaves a = option_and_then (λ leaf. leaf.label) (find (has_address W a) leaves)
 
@@ -54,12 +54,13 @@ pub record IsSettledLeaf (m : MapModel) (leaf : LeafModel) : Type 0 where
   pub known : id < length m.table
   pub settled : IsSettled m leaf.bits leaf.number (text_at m.table id)
 
--- no block that has the leaf's block and more is settled by the map
+-- the map settles no block that strictly contains the leaf's block
 abbrev pub IsUndivided : MapModel → LeafModel → Type 0
 IsUndivided m leaf = (k : ℕ) → k < leaf.bits → settled_label m k (leaf.number / 2 ^ (leaf.bits - k)) ≡ None
 
--- The prefix list decides the whole block of the leaf: no entry lies strictly inside the block, and the longest that covers
--- it has the leaf's label. Where no entry covers the block, the leaf has none. The label is in the list's label table.
+-- The prefix list decides the whole block of the leaf: no entry lies strictly inside the block, and the longest entry
+-- that covers it has the leaf's label. If no entry covers the block, the leaf has no label. The label is in the list's
+-- label table.
 pub record IsDecidedLeaf (l : ListModel) (leaf : LeafModel) : Type 0 where
   pub inside : filter (lies_inside (width_of l.version) leaf.bits leaf.number) l.prefixes ≡ []
   pub longest : label_below (width_of l.version) l.prefixes (suc leaf.bits) (first_of (width_of l.version) leaf.bits leaf.number)

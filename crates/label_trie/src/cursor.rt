@@ -12,7 +12,7 @@ use pmap_text::LabelId;
 use prefix_keys::Block;
 use std::marker::Model;
 
-/// A place in a trie: a block that it divides, or a leaf. A walk begins at `Trie::root`, or at any node by
+/// A cursor at a node of a trie: a divided block or a leaf. A walk starts at `Trie::root`, or at any node with
 /// `Trie::node`.
 #[derive(Drop)]
 pub struct Cursor<'a> {
@@ -42,14 +42,14 @@ impl<'a> Model for Cursor<'a> {
     ghost invariant = { λ c. IsPlace c.nodes.now c.number c.block };
 }
 
-/// What a trie has at a place: a leaf's label, or the places of the lower and of the higher half of the block.
+/// The parts of a node: a leaf's label, or cursors at the lower and the higher half of the block.
 #[derive(Drop)]
 pub enum Parts<'a> {
     Leaf(Option<LabelId>),
     Inner(Cursor<'a>, Cursor<'a>),
 }
 
-/// The place of the node with this number, which stands for the block.
+/// Returns a cursor at the node with this number, whose block is `block`.
 pub fn cursor_at<'a>(nodes: &'a [Node], number: u32, block: Block) -> Cursor<'a>
     requires { IsPlace nodes.now number block }
     ensures block { result.block ≡ block }
@@ -65,7 +65,7 @@ pub fn cursor_at<'a>(nodes: &'a [Node], number: u32, block: Block) -> Cursor<'a>
 }
 
 impl Cursor<'_> {
-    /// The block of the place.
+    /// Returns the block of the node.
     pub fn block(&self) -> Block
         ensures block { result ≡ self.now.block }
         ensures cut { let W = width_of result.version in
@@ -75,8 +75,8 @@ impl Cursor<'_> {
         self.block
     }
 
-    /// The number of the place's node, below `Trie::node_count`: each place of a trie has its own, the root 0, and the
-    /// places of the halves of a block have greater ones than the block.
+    /// Returns the number of the node, which is below `Trie::node_count`. No two nodes of a trie share a number. The
+    /// root has number 0, and the halves of a block have greater numbers than the block.
     pub fn number(&self) -> u32
         ensures value { result ≡ self.now.number }
         ensures node { IsNode self.now }
@@ -88,7 +88,7 @@ impl Cursor<'_> {
 impl<'a> Cursor<'a> {
     ghost use Rattle.label_trie.specs.Parts.{ArePartsOf};
 
-    /// What the trie has there.
+    /// Returns the node's label if it is a leaf, otherwise cursors at its two halves.
     pub fn parts(&self) -> Parts<'a>
         ensures { ArePartsOf self.now result }
     {

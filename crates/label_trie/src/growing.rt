@@ -1,4 +1,4 @@
-//! The nodes of a block, from the stretches of statements.
+//! Building the nodes of a block from the stretches of statements.
 ghost use Rattle.std.specs.Prelude.{◌≡◌, ◌<◌, OnOk, length, slice_set};
 ghost use Rattle.label_trie.specs.Layers.{GrowsTree, HasRoomFor, IsPart};
 
@@ -6,8 +6,8 @@ use crate::node::{Node, leaf_of};
 use pmap_text::Stretches;
 use std::alloc::AllocError;
 
-/// A block of `len` bits that has the addresses from `first` to `last`, and the indices of the stretches that have these
-/// two addresses.
+/// A block of `len` bits with the addresses from `first` to `last`. `from` and `to` are the indices of the stretches
+/// that contain these two addresses.
 #[derive(Clone, Copy)]
 pub struct Part {
     pub len: u32,
@@ -17,7 +17,7 @@ pub struct Part {
     pub to: usize,
 }
 
-/// Adds the nodes of the block.
+/// Appends the nodes of the block. If an allocation fails, some of them may have been appended.
 pub fn push_block(
     nodes: &mut Vec<Node>,
     stretches: &Stretches,
@@ -55,7 +55,7 @@ pub fn push_block(
     push_block(nodes, stretches, high)
 }
 
-// Makes a node that of two halves, of which the higher one has this number.
+// Sets the node at index `at` to two halves, where `high` is the number of the higher one.
 fn set_high(nodes: &mut Vec<Node>, at: usize, high: u32)
     requires { at < length nodes.old.items }
     ensures { nodes.new.items ≡ slice_set nodes.old.items at (Node.Inner high) }

@@ -1,4 +1,4 @@
-//! The laws on the runs of a labelling.
+//! Laws about the runs of a labelling.
 
 ghost use Rattle.std.specs.Prelude.{◌≡◌, ◌<◌, ◌^◌, ℕ, List, Option};
 ghost use Rattle.prefix_keys.specs.Version.{width_of};
@@ -6,7 +6,8 @@ ghost use Rattle.prefix_keys.specs.declared.version.Version.{Version};
 ghost use Rattle.pmap_text.specs.MapModel.{Label};
 ghost use Rattle.label_trie.specs.Runs.{AreRunsOf, Run};
 
-/// The addresses of a version have one list of runs, whatever labels they have, and it depends on these labels alone.
+/// The addresses of a version have exactly one list of runs, whatever their labels are. It depends on these labels
+/// alone.
 pub fn labelling_has_its_runs()
     ensures exist { (v : Version) (f : ℕ → Option Label) → (runs : List Run) × AreRunsOf v f runs }
     ensures one { (v : Version) (f : ℕ → Option Label) (runs other : List Run) →

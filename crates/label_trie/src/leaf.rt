@@ -1,7 +1,7 @@
 use pmap_text::LabelId;
 use prefix_keys::Block;
 
-/// A block that a trie doesn't divide, with the number of its label, if it has one.
+/// A block that a trie does not divide, with the number of its label, if it has one.
 #[derive(Clone, Copy, Debug, PartialEq, Eq, Hash)]
 pub struct Leaf {
     pub block: Block,

@@ -20,7 +20,7 @@ impl Model for Leaves {
 }
 
 impl Leaves {
-    /// No leaves.
+    /// Returns an empty list.
     pub fn new(alloc: Global) -> Leaves
         ensures { result ≡ [] }
     {
@@ -29,28 +29,28 @@ impl Leaves {
         }
     }
 
-    /// How many leaves there are.
+    /// Returns the number of leaves.
     pub fn len(&self) -> usize
         ensures { result ≡ length self.now }
     {
         self.items.len()
     }
 
-    /// Whether there is no leaf.
+    /// Returns `true` if there are no leaves.
     pub fn is_empty(&self) -> bool
         ensures { IsTrue result ↔ (self.now ≡ []) }
     {
         self.items.is_empty()
     }
 
-    /// The leaves in order.
+    /// Returns the leaves in order.
     pub fn as_slice(&self) -> &[Leaf]
         ensures { result.now ≡ self.now }
     {
         self.items.as_slice()
     }
 
-    /// Adds a leaf at the end.
+    /// Appends a leaf. If an allocation fails, the list is unchanged.
     pub fn push(&mut self, leaf: Leaf) -> Result<(), AllocError>
         ensures ok { OnOk result (self.new ≡ self.old ++ leaf ∷ []) }
         ensures err { OnErr result (self.new ≡ self.old) }

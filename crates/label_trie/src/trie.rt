@@ -26,12 +26,13 @@ use prefix_keys::{Addr, Version, whole_space};
 use std::alloc::{AllocError, Global};
 use std::marker::Model;
 
-/// A binary trie over the addresses of one version: blocks that have no address in common and together have each
-/// address, each with the number of a label.
+/// A binary trie over the addresses of one version. Its leaves are disjoint blocks that cover every address, and each
+/// leaf has the number of a label or none.
 #[derive(Drop)]
 pub struct Trie {
     version: Version,
-    // The node of the whole address space, and those of its halves' trees, the lower first; each tree alike.
+    // The node of the whole address space, followed by the nodes of its lower half and those of its higher half. The
+    // nodes of each half are in the same order.
     nodes: Vec<Node>,
 }
 
@@ -55,7 +56,7 @@ impl Model for Trie {
 }
 
 impl Trie {
-    /// The trie of a map: a block is divided exactly as long as the map doesn't settle it.
+    /// Builds the trie of a map. A block is divided if and only if the map does not settle it.
     pub fn build(alloc: Global, map: &MapText) -> Result<Trie, AllocError>
         ensures version { IfOk result (λ t. t.version ≡ map.now.version) }
         ensures cut { IfOk result (λ t. let W = width_of map.now.version in IsCut W 0 (2 ^ W) t.leaves) }
@@ -73,8 +74,8 @@ impl Trie {
         })
     }
 
-    /// The trie of a prefix list under longest match: no entry lies strictly inside a leaf, and a leaf that no entry
-    /// covers has no label.
+    /// Builds the trie of a prefix list under longest match. No entry lies strictly inside a leaf, and a leaf that no
+    /// entry covers has no label.
     pub fn build_list(alloc: Global, list: &PrefixList) -> Result<Trie, AllocError>
         requires { length list.now.entries ≤ 1000000 }
         ensures version { IfOk result (λ t. t.version ≡ list.now.version) }
@@ -93,7 +94,7 @@ impl Trie {
         })
     }
 
-    /// The number of the label at an address, which is of the trie's version.
+    /// Returns the number of the label at `addr`, which must be of the trie's version.
     pub fn label_at(&self, addr: Addr) -> Option<LabelId>
         requires { addr.version ≡ self.now.version }
         ensures { option_map (λ id. id.0) result ≡ label_in self.now addr.value }
@@ -101,7 +102,7 @@ impl Trie {
         label_from_root(self.nodes.as_slice(), addr)
     }
 
-    /// How many nodes there are: the leaves, and the blocks that are divided, of which there is one less.
+    /// Returns the number of nodes: the leaves, and the divided blocks, one fewer than the leaves.
     pub fn node_count(&self) -> u32
         ensures leaves { result + 1 ≡ 2 * length self.now.leaves }
         ensures nodes { result ≡ length self.now.nodes }
@@ -111,7 +112,7 @@ impl Trie {
         self.nodes.len() as u32
     }
 
-    /// What there is at the node with this number, which is below `node_count`.
+    /// Returns the kind of the node with this number, which must be below `node_count`.
     pub fn kind(&self, number: u32) -> Kind
         requires { number < length self.now.nodes }
         ensures { ForSome (slice_get self.now.nodes number) (λ node. IsKindOf node result) }
@@ -123,7 +124,7 @@ impl Trie {
         }
     }
 
-    /// The leaves in rising order of their blocks.
+    /// Returns the leaves in rising order of their blocks.
     pub fn leaves(&self, alloc: Global) -> Result<Leaves, AllocError>
         ensures version { IfOk result (All (λ leaf. leaf.block.version ≡ self.now.version)) }
         ensures leaves { IfOk result (λ leaves. map model_of leaves ≡ self.now.leaves) }
@@ -133,7 +134,7 @@ impl Trie {
         Ok(leaves)
     }
 
-    /// The place that stands for the whole address space.
+    /// Returns a cursor at the node of the whole address space.
     pub fn root(&self) -> Cursor
         ensures version { result.block.version ≡ self.now.version }
         ensures value { result.block.value ≡ 0 }
@@ -145,15 +146,15 @@ impl Trie {
         cursor_at(self.nodes.as_slice(), 0, whole_space(self.version))
     }
 
-    /// The place of the node with this number, which is below `node_count`. It goes there from the root, by one step
-    /// for each bit of the block's length.
+    /// Returns a cursor at the node with this number, which must be below `node_count`. The cursor descends from the
+    /// root, one step for each bit of the block's length.
     pub fn node(&self, number: u32) -> Cursor
         requires { number < length self.now.nodes }
         ensures version { result.block.version ≡ self.now.version }
         ensures number { result.number ≡ number }
         ensures nodes { result.nodes ≡ self.now.nodes }
     {
-        // For its law: there is one node less than twice the leaves.
+        // For the proof: the number of nodes is one less than twice the number of leaves.
         let _count = self.node_count();
         let mut place = self.root();
         while place.number() < number {
@@ -166,7 +167,7 @@ impl Trie {
     }
 }
 
-// The nodes of the trie of some statements, from their stretches.
+// Returns the nodes of the trie of some statements, given their stretches.
 fn grow(alloc: Global, stretches: &Stretches) -> Result<Vec<Node>, AllocError>
     requires { HasFewStatements stretches.now }
     ensures { IfOk result (λ nodes. (ss : List Statement) (default : Option LabelNumber) →
@@ -184,7 +185,7 @@ fn grow(alloc: Global, stretches: &Stretches) -> Result<Vec<Node>, AllocError>
     Ok(nodes)
 }
 
-// The number of the label at an address: that of the leaf to which its bits lead from the root.
+// Returns the number of the label at `addr`: that of the leaf to which its bits lead from the root.
 fn label_from_root(nodes: &[Node], addr: Addr) -> Option<LabelId>
     requires { IsTrie (width_of addr.version) nodes.now }
     ensures { let W = width_of addr.version in
@@ -208,7 +209,7 @@ fn label_from_root(nodes: &[Node], addr: Addr) -> Option<LabelId>
     }
 }
 
-// Adds the leaves at and below the place, at the end.
+// Appends the leaves at and below the node. If an allocation fails, some of them may have been appended.
 fn push_leaves(leaves: &mut Leaves, place: &Cursor) -> Result<(), AllocError>
     ensures version { OnOk result (All (λ leaf. leaf.block.version ≡ place.now.block.version) leaves.old
         → All (λ leaf. leaf.block.version ≡ place.now.block.version) leaves.new) }
