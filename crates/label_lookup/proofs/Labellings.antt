@@ -9,7 +9,7 @@ use Rattle.pmap_text.specs.ListModel.{IsEquivalent, ListModel, list_label}
 use Rattle.pmap_text.specs.MapModel.{Label, MapModel, map_label}
 use Rattle.label_lookup.specs.Labelling.{at_addresses, labelling, labelling_of_list, labelling_of_map}
 
--- at an address, labels are those at addresses alone
+-- at an address of the version, labels agree with their restriction to the version's addresses
 pub same_at_addresses : (v : Version) (f : ℕ → Option Label) (a : ℕ) → a < 2 ^ width_of v → f a ≡ at_addresses v f a
 same_at_addresses v f a h = ap (λ (b : Bool). if b then f a else None) (sym (lt-ltb a (2 ^ width_of v) h))
 
@@ -17,7 +17,7 @@ guarded : (b : Bool) (x y : Option Label) → (b ≡ true → x ≡ y) → (if b
 guarded true x y h = h refl
 guarded false x y h = refl
 
--- labels that agree at the addresses of a version make one labelling
+-- labels that agree at the addresses of a version are one labelling
 pub alike : (v : Version) (f g : ℕ → Option Label) → ((a : ℕ) → a < 2 ^ width_of v → f a ≡ g a) → labelling v f ≡ labelling v g
 alike v f g same =
     ap (λ (k : ℕ → Option Label). record { version = v; label = k })

@@ -1,4 +1,4 @@
--- The search among a map's statements from the last on.
+-- The search through a map's statements, from the last one backwards.
 use Rattle.std.proofs.Common.{◌≡◌, ℕ, ◌+◌, ◌<◌, ◌≤◌, ◌++◌, ◌∷◌, ◌&&◌, [], Bool, true, false, cond, List, Option, Some, arith, Contains, length, sym, refl, ap, ◌∙◌, slice_get, get_or, IsTrue}
 use Rattle.std.specs.Prelude.{◌↔◌, map, nat_le, take}
 use Rattle.std.proofs.lemmas.Bool.Decides.{nat_tests}
@@ -22,11 +22,11 @@ pub record IsLeft (m : MapText) (a left : ℕ) : Type 0 where
   pub few : left ≤ length m.statements
   pub same : last_of_first m a left ≡ last_such (spans a) (map_of m).mappings
 
--- the test of a span's addresses is true of those from its low address to its high one
+-- a number that passes the test of a span is between the span's low address and its high one
 spans-within : (low a high : ℕ) → (nat_le low a && nat_le a high) ≡ true → (low ≤ a) × (a ≤ high)
 spans-within low a high h = grind (arith, nat_tests)
 
--- the answer whether a statement's span covers an address of its version
+-- the test whether a statement's span covers an address of its version
 tested : (table : List Label) (s : Statement) (addr : Addr) → s.span.low.version ≡ addr.version → (r : Bool) →
     (IsTrue r ↔ SpanCovers s.span addr) → (b : Bool) → spans addr.value (mapping_of table s) ≡ b → b ≡ r
 tested table s addr same true h true e = refl
@@ -54,7 +54,7 @@ module _ (m : MapText) (a i left : ℕ) (next : i + 1 ≡ left) (kept : IsLeft m
       ∙ last_such-push (spans a) (map f (take i ss)) (f s))
       ∙ kept.same
 
-  -- the answer whether it covers the address
+  -- the test whether the statement covers the address
   pub covering : (addr : Addr) → addr.value ≡ a → addr.version ≡ m.version → (r : Bool) → (IsTrue r ↔ SpanCovers s.span addr) →
       spans a (mapping_of m.labels s) ≡ r
   covering addr at version r h =
@@ -62,14 +62,14 @@ module _ (m : MapText) (a i left : ℕ) (next : i + 1 ≡ left) (kept : IsLeft m
       ap (λ n. spans n (mapping_of m.labels s)) (sym at)
       ∙ tested m.labels s addr (own ∙ sym version) r h (spans addr.value (mapping_of m.labels s)) refl
 
-  -- a statement that doesn't cover the address isn't the one
+  -- a statement that doesn't cover the address isn't the one that is searched for
   pub passed_over : spans a (mapping_of m.labels s) ≡ false → IsLeft m a i
   passed_over misses = record {
     few = omega (arith, next, kept.few);
     same = ap (λ b. cond b (Some (mapping_of m.labels s)) (last_of_first m a i)) (sym misses) ∙ one_less;
   }
 
-  -- the first from the end that covers it has its label
+  -- the first statement from the end that covers the address has its label
   pub found : spans a (mapping_of m.labels s) ≡ true → slice_get m.labels s.label.0 ≡ Some (map_label (map_of m) a)
   found covers =
       let last : Some (mapping_of m.labels s) ≡ last_such (spans a) (map_of m).mappings =
@@ -77,7 +77,7 @@ module _ (m : MapText) (a i left : ℕ) (next : i + 1 ≡ left) (kept : IsLeft m
       let known = All-contains (λ (r : Statement). r.label.0 < length m.labels) m.statements s m.numbers_known within in
       known_text m.labels s.label.0 known ∙ ap (λ o. Some (label_or o (map_of m).fallback)) last
 
--- where none is left, the address has the default
+-- if no statements are left, the address has the default
 pub by_default : (m : MapText) (a : ℕ) → IsLeft m a 0 → slice_get m.labels m.default.0 ≡ Some (map_label (map_of m) a)
 by_default m a kept =
     known_text m.labels m.default.0 m.default_known ∙ ap (λ o. Some (label_or o (map_of m).fallback)) kept.same

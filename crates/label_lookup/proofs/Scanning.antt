@@ -29,7 +29,7 @@ Contains-map f (y ∷ ys) x has =
       | inr later ↦ Contains-later (f y) (map f ys) (f x) (Contains-map f ys x later)
     ]
 
--- where no entry covers the address it has no label
+-- if no entry covers the address, it has no label
 unmatched : (W : ℕ) (ps : List Prefix) (a : ℕ) → ((p : Prefix) → Contains ps p → CoversAddress W a p → ⊥) → label_below W ps (suc W) a ≡ None
 unmatched W ps a none = by (label_below W ps (suc W) a) (longest-match W ps a)
   where
@@ -44,7 +44,7 @@ unmatched W ps a none = by (label_below W ps (suc W) a) (longest-match W ps a)
         (Contains-append_right longest.before (p ∷ longest.behind) p (Contains-first p longest.behind)) in
         absurd (none p has longest.covers)
 
--- an entry as a prefix covers an address where its block does
+-- an entry covers an address as a prefix if its block does
 covers_address : (table : List Label) (v : Version) (e : Entry) (addr : Addr) → e.block.version ≡ v → BlockCovers e.block addr
     → CoversAddress (width_of v) addr.value (prefix_of table e)
 covers_address table v e addr same c = record {
@@ -63,7 +63,7 @@ module _ (l : PrefixList) (addr : Addr) (version : addr.version ≡ l.version) w
   of_version : (e : Entry) → Contains l.entries e → e.block.version ≡ l.version
   of_version e has = All-contains (λ (t : Entry). t.block.version ≡ l.version) l.entries e l.one_version has
 
-  -- the entry of a prefix that covers the address covers it
+  -- the entry of a prefix that covers the address covers the address too
   covering_entry : (p : Prefix) → Contains (map (prefix_of l.labels) l.entries) p → CoversAddress (width_of l.version) addr.value p
       → (e : Entry) × Contains l.entries e × (prefix_of l.labels e ≡ p) × BlockCovers e.block addr
   covering_entry p has c =
@@ -75,7 +75,7 @@ module _ (l : PrefixList) (addr : Addr) (version : addr.version ≡ l.version) w
             (subst (λ (r : Prefix). CoversAddress (width_of l.version) addr.value r) (sym from.2) c),
       )
 
-  -- with no entry that covers it the address has no label
+  -- if no entry covers the address, it has no label
   pub none_label : IsLongest l.entries addr None → list_label (list_of l) addr.value ≡ None
   none_label none =
       unmatched (width_of l.version) (map (prefix_of l.labels) l.entries) addr.value
@@ -83,7 +83,7 @@ module _ (l : PrefixList) (addr : Addr) (version : addr.version ≡ l.version) w
       let e = covering_entry p has c in
       All-contains (λ (t : Entry). BlockCovers t.block addr → ⊥) l.entries e.0 none e.1 e.3)
 
-  -- else it has that of the longest one
+  -- otherwise the address has the label of the longest entry that covers it
   pub longest_label : (e : Entry) → IsLongest l.entries addr (Some e) → list_label (list_of l) addr.value ≡ Some (text_at l.labels e.label.0)
   longest_label e (listed, covers, most) =
       let W = width_of l.version in
@@ -101,7 +101,7 @@ module _ (l : PrefixList) (addr : Addr) (version : addr.version ≡ l.version) w
       (c.number ∙ ap (λ (i : ℕ). block_number W i addr.value) bits ∙ sym top.number))
       (suc W) (omega (arith, top.fits)) (le_refl (suc W))
 
--- One entry more is looked at.
+-- One more entry is examined.
 module _ (entries : List Entry) (addr : Addr) (i : ℕ) (e : Entry) (within : i < length entries) (is : e ≡ get_or entries i e) where
   more : take (i + 1) entries ≡ take i entries ++ e ∷ []
   more = take_more entries i e within ∙ ap (λ (x : Entry). take i entries ++ x ∷ []) (sym is)
@@ -109,7 +109,7 @@ module _ (entries : List Entry) (addr : Addr) (i : ℕ) (e : Entry) (within : i 
   still_listed : (x : Entry) → Contains (take i entries) x → Contains (take (i + 1) entries) x
   still_listed x has = subst (λ (es : List Entry). Contains es x) (sym more) (Contains-append_left (take i entries) (e ∷ []) x has)
 
-  -- one that doesn't cover the address changes nothing
+  -- an entry that doesn't cover the address changes nothing
   pub passed_over : (found : Option Entry) → IsLongest (take i entries) addr found → (BlockCovers e.block addr → ⊥)
       → IsLongest (take (i + 1) entries) addr found
   passed_over None none not_covers =
@@ -127,7 +127,7 @@ module _ (entries : List Entry) (addr : Addr) (i : ℕ) (e : Entry) (within : i 
   not_longer None x none h = λ k d inside c. absurd (none k d inside c)
   not_longer (Some f) x (listed, covers, most) h = λ k d inside c. let most' = most k d inside c in omega (arith, most', h)
 
-  -- of one that does and the one so far the longer counts
+  -- of an entry that covers the address and the one found so far, the longer is kept
   pub found_longer : (found : Option Entry) (x : Entry) → IsLongest (take i entries) addr found → BlockCovers e.block addr
       → (x ≡ e) ⊎ (found ≡ Some x) → e.block.len ≤ x.block.len → IfSome found (λ f. f.block.len ≤ x.block.len)
       → IsLongest (take (i + 1) entries) addr (Some x)

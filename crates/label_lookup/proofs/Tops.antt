@@ -1,4 +1,4 @@
--- Where an index looks for the stretch that has an address.
+-- The stretches among which an index searches for the one that has an address.
 use Rattle.std.proofs.Common.{◌≡◌, ◌∙◌, ℕ, ◌+◌, ◌-◌, ◌*◌, ◌/◌, ◌^◌, ◌<◌, ◌≤◌, inl, inr, List, [], ◌∷◌, ◌++◌, get_or, length, option_and_then, slice_get, refl, sym, ap, subst, arith}
 use Rattle.std.proofs.Math.Nat.{div-lt_iff_lt-mul}
 use Rattle.std.proofs.lemmas.Bool.{cases_lt}
@@ -13,7 +13,7 @@ use Rattle.label_lookup.specs.Labelling.{at_addresses}
 use Rattle.label_lookup.specs.StretchIndex.{AreTops, IsTopAt, StretchModel, block_size}
 use Rattle.label_lookup.proofs.Labellings.{same_at_addresses}
 
--- the blocks have every address
+-- the blocks cover every address
 pub all_blocks : (v : Version) → 2 ^ width_of v ≡ 65536 * 2 ^ (width_of v - 16)
 all_blocks V4 = refl
 all_blocks V6 = refl
@@ -36,7 +36,7 @@ top_end s every =
       to = omega (arith, last_end s (length s.firsts - 1) (omega arith), all_blocks s.version, pow_pos (width_of s.version));
     }
 
--- the tops of the blocks before one, and of that one
+-- the tops of the blocks before one, followed by that of the block
 pub more_tops : (s : StretchesModel) (tops : List ℕ) (block index : ℕ) → length tops ≡ block
     → ((b : ℕ) → b < block → IsTopAt s b (get_or tops b 0)) → IsTopAt s block index
     → (b : ℕ) → b < block + 1 → IsTopAt s b (get_or (tops ++ index ∷ []) b 0)
@@ -56,7 +56,7 @@ tops_all s every tops tops' last long each is pushed = record {
       (more_tops s tops 65536 last long each (subst (IsTopAt s 65536) (sym is) (top_end s every)) b (omega (arith, le)));
 }
 
--- The stretch of an address is one of those from the top of its block to that of the next one.
+-- The stretch of an address is between the top of its block and that of the next block.
 module _ (s : StretchesModel) (every : HasEveryAddress s) (tops : List ℕ) (are : AreTops s tops) (a : ℕ) (fits : a < 2 ^ width_of s.version) where
   abbrev block : ℕ
   block = a / block_size s
@@ -91,7 +91,7 @@ module _ (s : StretchesModel) (every : HasEveryAddress s) (tops : List ℕ) (are
     | inr up ↦ up
   ]
 
-  -- so it is with the two that were read
+  -- this is also so with the two tops that were read
   module _ (width x y : ℕ) (is : width ≡ width_of s.version) (x_is : x ≡ get_or tops (a / 2 ^ (width - 16)) x)
       (y_is : y ≡ get_or tops (a / 2 ^ (width - 16) + 1) y) where
     read_from : from ≡ x

@@ -3,7 +3,8 @@ use Rattle.prefix_keys.specs.Covers.{BlockCovers}
 use Rattle.prefix_keys.specs.declared.addr.Addr.{Addr}
 use Rattle.pmap_text.specs.declared.entry.Entry.{Entry}
 
--- one of the entries that cover the address, and none of them is longer; or none covers it: no user need read it
+-- one of the entries that cover the address such that none of them is longer, or none if no entry covers it; for the
+-- contracts of private functions
 abbrev pub IsLongest : List Entry → Addr → Option Entry → Type 0
 IsLongest entries addr None = All (λ e. BlockCovers e.block addr → ⊥) entries
 IsLongest entries addr (Some e) =

@@ -9,16 +9,16 @@ pub record StretchModel : Type 0 where
   pub table : List Label
   pub stretches : StretchesModel
 
--- what the index labels
+-- the labelling of the index
 abbrev pub labelling_of_stretches : StretchModel → Labelling
 labelling_of_stretches m = labelling m.stretches.version (text_held m.table m.stretches)
 
--- how many addresses have the same first 16 bits
+-- the number of addresses with the same first 16 bits
 abbrev pub block_size : StretchesModel → ℕ
 block_size s = 2 ^ (width_of s.version - 16)
 
--- The stretch with the index begins at the first address of the block or before it, and ends there, or one address before it, or
--- later.
+-- The stretch with the index begins at the first address of the block or before it, and it ends at the address before
+-- the block or later.
 pub record IsTopAt (s : StretchesModel) (block index : ℕ) : Type 0 where
   pub below : index < length s.firsts
   pub from : first_at s index ≤ block * block_size s

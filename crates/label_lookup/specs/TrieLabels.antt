@@ -3,7 +3,7 @@ use Rattle.std.specs.Option.{ForSome}
 use Rattle.pmap_text.specs.MapModel.{Label}
 use Rattle.label_trie.specs.TrieModel.{TrieModel, label_in}
 
--- A trie of label numbers with the table that has their texts.
+-- A trie of label numbers, with the table of their texts.
 pub record TrieLabels : Type 0 where
   pub trie : TrieModel
   pub table : List Label

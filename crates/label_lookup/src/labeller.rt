@@ -3,7 +3,7 @@ ghost use Rattle.prefix_keys.specs.declared.version.Version.{Version as VersionO
 
 use prefix_keys::{Addr, Version};
 
-/// What knows the labels of the addresses of one version.
+/// A source of the labels of the addresses of one version.
 pub trait Labeller {
     /// The version of the addresses.
     ghost version_of: { Self → VersionOf };
@@ -11,11 +11,11 @@ pub trait Labeller {
     /// The label text of the address with a number, or none.
     ghost label: { Self → ℕ → Option (List ℕ) };
 
-    /// The version of the addresses.
+    /// Returns the version of the addresses.
     fn version(&self) -> Version
         ensures { result ≡ version_of self.now };
 
-    /// The label of an address, which is of the labeller's version.
+    /// Returns the label of an address, which must be of the labeller's version.
     fn label_of(&self, addr: Addr) -> Option<&[u8]>
         requires { addr.version ≡ version_of self.now }
         ensures { option_map (λ t. t.now) result ≡ label self.now addr.value };

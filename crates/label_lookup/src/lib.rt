@@ -1,4 +1,4 @@
-//! The label of an address, whatever knows it: a trie with its label table, a prefix list, or a prefix map itself.
+//! The labels of addresses from a trie with its label table, a prefix list, or a prefix map.
 //!
 //! ```rust
 //! use label_lookup::{Scan, label_row};
@@ -10,12 +10,12 @@
 //! assert!(rt; label_row(&Scan::new(&map), addr) == Some(b"Inside".as_slice()));
 //! ```
 //!
-//! It stands on prefix_keys (addresses and their versions), pmap_text (prefix maps, prefix lists, their stretches and label
-//! tables) and label_trie. The layer above may rely on `Labeller`'s law: the answer is the label that the labeller's
-//! `label` has at the address. For a `Scan` that is the map's label, and for a `ListScan` and a `ListIndex` the prefix
-//! list's. For a `TrieLabeller` it is the text of the trie's label, which is the map's or the prefix list's if the trie
-//! was built from one. A `StretchIndex` has the labelling of the map or the prefix list that it was built from.
-//! `label_row` is the label of the address of a row, which counts by its place among the labeller's addresses, by one
+//! This crate uses prefix_keys (addresses and their versions), pmap_text (prefix maps, prefix lists, their stretches
+//! and label tables) and label_trie. Callers may rely on the contract of `Labeller`: `label_of` returns the label that
+//! the labeller's `label` has at the address. For a `Scan` that is the map's label, and for a `ListScan` and a
+//! `ListIndex` the prefix list's. For a `TrieLabeller` it is the text of the trie's label, which is the map's or the
+//! prefix list's if the trie was built from one. A `StretchIndex` has the labelling of the map or the prefix list from
+//! which it was built. `label_row` returns the label of a row's address, converted to the labeller's version, with one
 //! definition for all labellers.
 #![tactic(auto)]
 

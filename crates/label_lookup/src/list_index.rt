@@ -8,7 +8,8 @@ use prefix_keys::{Addr, Version};
 use std::alloc::{AllocError, Global};
 use std::marker::Model;
 
-/// The labels of a prefix list under longest match, found among the stretches of addresses that have one label each.
+/// The labels of a prefix list under longest match, found by a search in the stretches of addresses that have one label
+/// each.
 #[derive(Drop)]
 pub struct ListIndex<'a> {
     list: &'a PrefixList,
@@ -31,7 +32,7 @@ impl<'a> Model for ListIndex<'a> {
 }
 
 impl<'a> ListIndex<'a> {
-    /// The labels of this list.
+    /// Builds the index of this list.
     pub fn build(alloc: Global, list: &'a PrefixList) -> Result<ListIndex<'a>, AllocError>
         ensures { IfOk result (λ index. index ≡ list_of list.now) }
     {

@@ -7,8 +7,8 @@ use pmap_text::{Entry, PrefixList};
 use prefix_keys::{Addr, Version};
 use std::marker::Model;
 
-/// The labels of a prefix list, found among its entries: the longest that covers the address counts. Each look-up goes
-/// over all entries, which is quicker than a [`ListIndex`](crate::ListIndex) if one address is looked up.
+/// The labels of a prefix list under longest match, found by a scan of all its entries. For a single address this is
+/// faster than building a [`ListIndex`](crate::ListIndex).
 #[derive(Drop)]
 pub struct ListScan<'a> {
     list: &'a PrefixList,
@@ -25,7 +25,7 @@ impl<'a> Model for ListScan<'a> {
 }
 
 impl<'a> ListScan<'a> {
-    /// The labels of this list.
+    /// Returns the labels of this list.
     pub fn new(list: &'a PrefixList) -> ListScan<'a>
         ensures { result ≡ list_of list.now }
     {
@@ -52,7 +52,7 @@ impl<'a> Labeller for ListScan<'a> {
     }
 }
 
-// The first of the longest entries that cover an address.
+// Returns the first of the longest entries that cover an address.
 fn longest(entries: &[Entry], addr: Addr) -> Option<Entry>
     ensures { IsLongest entries.now addr result }
 {
@@ -65,7 +65,7 @@ fn longest(entries: &[Entry], addr: Addr) -> Option<Entry>
     found
 }
 
-// The longer of two entries, and the first of two of one length.
+// Returns the longer of two entries, or the first if they are equally long.
 fn longer(found: Option<Entry>, entry: Entry) -> Entry
     ensures one { (result ≡ entry) ⊎ (found ≡ Some result) }
     ensures more { entry.block.len ≤ result.block.len }

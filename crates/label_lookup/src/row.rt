@@ -1,12 +1,12 @@
-//! The label of the address of a row.
+//! The label of a row's address.
 ghost use Rattle.std.specs.Prelude.{◌≡◌, option_map};
 ghost use Rattle.label_lookup.specs.Labelling.{label_by, label_where, labelling_by, labelling_lent};
 
 use crate::labeller::Labeller;
 use prefix_keys::{Addr, convert};
 
-/// The label of the address of a row, which counts by its place among the addresses of the labeller's version. The answer
-/// is `None` where it has no such place, or no label there.
+/// Returns the label of a row's address, converted to the labeller's version. Returns `None` if the address can't be
+/// converted, or has no label there.
 pub fn label_row<L: Labeller>(labeller: &L, addr: Addr) -> Option<&[u8]>
     ensures { option_map (λ t. t.now) result
         ≡ label_by (labelling_by L.version_of L.label labeller.now) (addr.version, addr.value) }
@@ -17,7 +17,7 @@ pub fn label_row<L: Labeller>(labeller: &L, addr: Addr) -> Option<&[u8]>
     }
 }
 
-/// The same by a labeller that there may be: without one no address has a label.
+/// Returns the label of a row's address like [`label_row`], or `None` if there is no labeller.
 pub fn label_row_under<L: Labeller>(labeller: Option<&L>, addr: Addr) -> Option<&[u8]>
     ensures { option_map (λ t. t.now) result
         ≡ label_where (labelling_lent L.version_of L.label labeller.entry) (addr.version, addr.value) }

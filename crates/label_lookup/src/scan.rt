@@ -6,7 +6,8 @@ use pmap_text::MapText;
 use prefix_keys::{Addr, Version};
 use std::marker::Model;
 
-/// The labels of a prefix map, found among its statements: from the last on, the first that covers the address counts.
+/// The labels of a prefix map, found by a scan of its statements from the last one backwards. The first one that covers
+/// the address decides.
 #[derive(Drop)]
 pub struct Scan<'a> {
     map: &'a MapText,
@@ -23,7 +24,7 @@ impl<'a> Model for Scan<'a> {
 }
 
 impl<'a> Scan<'a> {
-    /// The labels of this map.
+    /// Returns the labels of this map.
     pub fn new(map: &'a MapText) -> Scan<'a>
         ensures { result ≡ map_of map.now }
     {

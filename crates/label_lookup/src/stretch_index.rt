@@ -12,18 +12,19 @@ use prefix_keys::{Addr, Version};
 use std::alloc::{AllocError, Global};
 use std::marker::Model;
 
-// The addresses with one and the same first 16 bits are a block. There are so many blocks.
+// Addresses that share their first 16 bits form a block. There are 65536 blocks.
 const BLOCK_BITS: u32 = 16;
 
 const BLOCKS: usize = 65536;
 
-/// The labels of a prefix map or a prefix list, found among the stretches of addresses that have one label each. A table
-/// says among which stretches to look for the first 16 bits of an address, which are few for most addresses.
+/// The labels of a prefix map or a prefix list, found by a search in the stretches of addresses that have one label
+/// each. A table gives for the first 16 bits of an address the stretches to search in, which are few for most
+/// addresses.
 #[derive(Drop)]
 pub struct StretchIndex<'a> {
     labels: &'a Labels,
     stretches: Stretches,
-    // For each block, the index of the stretch that has its first address, and at the end that of the last stretch.
+    // For each block, the index of the stretch that has its first address, followed by the index of the last stretch.
     tops: Vec<usize>,
 }
 
@@ -40,7 +41,7 @@ impl<'a> Model for StretchIndex<'a> {
 }
 
 impl<'a> StretchIndex<'a> {
-    /// The labels of this map.
+    /// Builds the index of this map.
     pub fn of_map(alloc: Global, map: &'a MapText) -> Result<StretchIndex<'a>, AllocError>
         ensures { IfOk result (λ index. labelling_of_stretches index ≡ labelling_of_map (map_of map.now)) }
     {
@@ -52,7 +53,7 @@ impl<'a> StretchIndex<'a> {
         })
     }
 
-    /// The labels of this list.
+    /// Builds the index of this list.
     pub fn of_list(alloc: Global, list: &'a PrefixList) -> Result<StretchIndex<'a>, AllocError>
         ensures { IfOk result (λ index. labelling_of_stretches index ≡ labelling_of_list (list_of list.now)) }
     {
@@ -78,7 +79,7 @@ impl<'a> Labeller for StretchIndex<'a> {
     }
 
     fn label_of(&self, addr: Addr) -> Option<&[u8]> {
-        // For its law: the stretches have every address.
+        // Provides the law that the stretches cover every address.
         let _count = self.stretches.len();
         let block = (addr.value >> (addr.version.width() - BLOCK_BITS)) as usize;
         let from = self.tops[block];
@@ -91,7 +92,8 @@ impl<'a> Labeller for StretchIndex<'a> {
     }
 }
 
-// For each block, the index of the stretch that has its first address, and at the end that of the last stretch.
+// Returns for each block the index of the stretch that has its first address, followed by the index of the last
+// stretch.
 fn tops_of(alloc: Global, stretches: &Stretches) -> Result<Vec<usize>, AllocError>
     ensures { IfOk result (λ tops. AreTops stretches.now tops.items) }
 {
@@ -107,14 +109,14 @@ fn tops_of(alloc: Global, stretches: &Stretches) -> Result<Vec<usize>, AllocErro
     Ok(tops)
 }
 
-// The index of the stretch that has the address, which is not before the one with the index `from`.
+// Returns the index of the stretch that has the address. The stretch must not be before the one with index `from`.
 fn holder_from(stretches: &Stretches, from: usize, address: u128) -> usize
     requires from { from < length stretches.now.firsts }
     requires above { first_at stretches.now from ≤ address }
     requires within { address < 2 ^ width_of stretches.now.version }
     ensures { HoldsAddress stretches.now address result }
 {
-    // For its law: the stretches have every address.
+    // Provides the law that the stretches cover every address.
     let _count = stretches.len();
     let mut index = from;
     while stretches.last(index) < address {

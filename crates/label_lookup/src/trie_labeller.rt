@@ -7,7 +7,7 @@ use pmap_text::Labels;
 use prefix_keys::{Addr, Version};
 use std::marker::Model;
 
-/// The labels of a trie, by their texts in a label table.
+/// The labels of a trie, with their texts from a label table.
 #[derive(Drop)]
 pub struct TrieLabeller<'a> {
     trie: &'a Trie,
@@ -27,7 +27,7 @@ impl<'a> Model for TrieLabeller<'a> {
 impl<'a> TrieLabeller<'a> {
     ghost use Rattle.label_lookup.specs.TrieLabels.{AreNumbersKnown};
 
-    /// The labels of this trie, whose numbers have texts in the table.
+    /// Returns the labels of this trie. All numbers in the trie must have texts in the table.
     pub fn new(trie: &'a Trie, labels: &'a Labels) -> TrieLabeller<'a>
         requires { AreNumbersKnown trie.now labels.now }
         ensures trie { result.trie ≡ trie.now }
