@@ -1,8 +1,8 @@
--- Bytes that are held, of which some are handed out.
+-- Bytes that are held, and some of which are returned.
 use Rattle.std.proofs.Common.{◌≡◌, ◌∙◌, ℕ, ◌+◌, ◌-◌, ◌≤◌, List, [], ◌++◌, length, take, drop, slice_range, sym, ap, arith, drop-drop, length-take-le, take-append-drop, take_at}
 use Rattle.std.proofs.lemmas.List.{drop-take}
 
--- none are between a place and itself
+-- there are no bytes between an offset and itself
 pub none_between : (xs : List ℕ) (a e : ℕ) → a ≡ e → slice_range xs a e ≡ []
 none_between xs a e same = let none : e - a ≡ 0 = omega (arith, same) in ap (λ (n : ℕ). take n (drop a xs)) none
 
@@ -12,7 +12,7 @@ drop_between xs a e n fits =
     ap (λ (k : ℕ). drop n (take k (drop a xs))) (sym whole) ∙ drop-take n (e - (a + n)) (drop a xs)
     ∙ ap (take (e - (a + n))) (drop-drop n a xs)
 
--- what is handed out, and what is still held then
+-- the bytes that are returned, and those that are still held
 pub handed_out : (xs ahead copied rest : List ℕ) (a e n : ℕ) → ahead ≡ slice_range xs a e → copied ≡ take n (slice_range xs a e)
     → n ≤ length (slice_range xs a e) → n ≤ e - a → ahead ≡ take n (copied ++ rest) ++ slice_range xs (a + n) e
 handed_out xs ahead copied rest a e n is are fits within =

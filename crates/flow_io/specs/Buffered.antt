@@ -1,7 +1,7 @@
--- What contracts see of a `Buffered`.
+-- The state of a `Buffered` as contracts see it.
 use Rattle.std.specs.Prelude.{ℕ, List}
 
--- the reader behind, and the bytes that it gave and that are still to be handed out
+-- the inner reader, and the bytes that were read from it and not returned yet
 pub record BufferedState (T : Type 0) : Type 0 where
   pub inner : T
   pub ahead : List ℕ

@@ -1,4 +1,4 @@
--- What the answer to reading a device whole says of the device.
+-- The state of a device after it was read whole, from the result.
 use Rattle.std.specs.Prelude.{Bool, false, true, Result, Ok, Err}
 use Rattle.flow_io.specs.declared.whole_input.ReadStop.{ReadStop}
 use Rattle.flow_io.specs.declared.whole_input.ReadStop.TheVariants.{ReadFault, NoMemory}

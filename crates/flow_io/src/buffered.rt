@@ -4,12 +4,12 @@ ghost use Rattle.flow_io.specs.Buffered.{BufferedState};
 use crate::devices::{DeviceFault, Input};
 use std::marker::Model;
 
-// How many bytes are asked of the reader behind at a time.
+// The number of bytes that are requested from the inner reader at a time.
 const AHEAD: usize = 8192;
 
-/// A reader that asks the reader behind it for more bytes than it is asked for, so that it asks less often. It gives what
-/// it holds before it asks again, and so fails at the same byte as the reader behind. A call with room for as much as it
-/// holds at most is passed on as it is. It takes no memory but its own.
+/// A reader that reads ahead from another reader, so that it calls the other reader less often. It returns the bytes
+/// that it holds before it reads again, so it fails at the same byte as the inner reader. If it holds no bytes, a call
+/// with a buffer of 8192 bytes or more goes directly to the inner reader. It never allocates.
 #[derive(Drop)]
 pub struct Buffered<T> {
     inner: T,
@@ -30,7 +30,7 @@ impl<T> Model for Buffered<T> {
 }
 
 impl<T> Buffered<T> {
-    /// Reads from `inner`. Nothing is read of it yet.
+    /// Returns a reader over `inner`. Nothing is read yet.
     pub fn new(inner: T) -> Self
         ensures { result ≡ record { inner = inner; ahead = [] } }
     {
@@ -42,7 +42,7 @@ impl<T> Buffered<T> {
         }
     }
 
-    // Moves as many of the bytes that are held as the buffer has room for to its front, and answers how many.
+    // Moves as many of the held bytes as fit into the buffer to its start, and returns their number.
     fn hand_out(&mut self, buffer: &mut [u8]) -> usize
         ensures inner { self.new.inner ≡ self.old.inner }
         ensures count { result ≡ min (length self.old.ahead) (length buffer.old) }

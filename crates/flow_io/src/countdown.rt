@@ -2,7 +2,7 @@ ghost use Rattle.std.specs.Prelude.{◌≡◌, ℕ, ◌-◌, nat_eq, unwrap_or};
 
 use std::marker::Model;
 
-/// Counts the calls of a device down to the one that is to fail.
+/// Counts the calls of a device until the one that is to fail.
 #[derive(Drop)]
 pub struct Countdown {
     calls: u64,
@@ -15,7 +15,7 @@ impl Model for Countdown {
 }
 
 impl Countdown {
-    /// Starts before call number 1. With `None` or 0 no call fails.
+    /// Returns a countdown before call number 1. With `None` or 0 no call fails.
     pub fn new(fail_at: Option<u64>) -> Self
         ensures { result ≡ unwrap_or fail_at 0 }
     {
@@ -24,7 +24,7 @@ impl Countdown {
         }
     }
 
-    /// Counts a call, and answers whether it is the one that is to fail.
+    /// Counts a call, and returns `true` if it is the one that is to fail.
     pub fn is_due(&mut self) -> bool
         ensures due { result ≡ nat_eq self.old 1 }
         ensures counted { self.new ≡ self.old - 1 }

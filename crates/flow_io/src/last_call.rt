@@ -1,12 +1,12 @@
-/// The last call that a writer had.
+/// The last call of a writer.
 #[derive(Clone, Copy, Debug, PartialEq, Eq)]
 pub enum LastCall {
-    /// None yet.
+    /// There was no call yet.
     Nothing,
-    /// A write, whatever it answered.
+    /// A write, whether it succeeded or not.
     Write,
-    /// A flush that answered `Ok`.
+    /// A flush that returned `Ok`.
     Flush,
-    /// A flush that answered `Err`.
+    /// A flush that returned `Err`.
     FailedFlush,
 }

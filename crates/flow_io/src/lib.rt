@@ -3,27 +3,28 @@
 //! ```rust
 //! use flow_io::{MemoryInput, read_whole};
 //!
-//! // A reader that gives four bytes a call, and never fails.
+//! // A reader that returns four bytes a call, and never fails.
 //! let mut reader = MemoryInput::new(b"10.0.0.0/8 A\n", 4, None);
 //! let text = read_whole(alloc, &mut reader)?;
 //! assert!(rt; text.as_slice() == b"10.0.0.0/8 A\n".as_slice());
 //! ```
 //!
-//! The program reads its files and writes its output through the traits `Input` and `Output`. A device
-//! has failed exactly from its first call on that answered `Err`, or, of a writer, that took nothing of
-//! a nonempty slice; `failed` tells it, so the layer above can prove that it answers a read fault or a
-//! write fault only where a device failed. A writer tells its last call as well, so the layer above can
-//! prove that the output was flushed behind its last byte. A type may also tell its bytes: those that it
-//! still gives, or those that it has taken. Each read and write then says which bytes moved.
-//! `Watched` stands on any reader or writer of std and tells the bytes of those that tell theirs: a slice
-//! or a `Vec` does, and a file does not, as no contract speaks of what the system gives or takes.
-//! `Buffered` stands on any `Input`: it reads ahead, so that small reads cost no call of the device each, gives the same bytes
-//! and fails at the same one. `MemoryInput` and `MemoryOutput` tell theirs, and fail where a test wants.
+//! The program reads its files and writes its output through the traits `Input` and `Output`. A reader has failed from
+//! its first call on that returned `Err`. A writer has also failed from its first call on that took nothing of a
+//! nonempty slice. `failed` reports this, so a caller can prove that it returns a read fault or a write fault only if a
+//! device failed. A writer also reports its last call, so a caller can prove that the output was flushed after its last
+//! byte. A type may also report its bytes: those that a reader will still return, or those that a writer has taken. The
+//! contract of each read and write then says which bytes moved.
 //!
-//! `read_whole` answers the bytes that a reader still gave, all of them, and a read fault exactly where the reader
-//! failed; want of memory is its only other answer. `write_whole` hands a writer all of some bytes and then flushes it
-//! once, and answers a fault exactly where the writer failed: at a write, with a prefix of the bytes taken, or at the
-//! flush, with all of them. Nothing else here allocates.
+//! `Watched` wraps any reader or writer of std, and reports the bytes of those that report theirs. A slice or a `Vec`
+//! does. A file does not, as no contract says what the system reads or writes. `Buffered` wraps any `Input`: it reads
+//! ahead, so that not every small read calls the device. It returns the same bytes and fails at the same byte.
+//! `MemoryInput` and `MemoryOutput` report their bytes, and fail at the call that a test chooses.
+//!
+//! `read_whole` returns all the bytes that a reader will still return. It returns a read fault if and only if the
+//! reader failed. Its only other error is that an allocation failed. `write_whole` passes a writer all of some bytes
+//! and then flushes it once. It returns a fault if and only if the writer failed: at a write, with a prefix of the
+//! bytes taken, or at the flush, with all of them taken. Nothing else in this crate allocates.
 #![tactic(auto)]
 
 mod buffered;

@@ -6,7 +6,7 @@ use crate::countdown::Countdown;
 use crate::devices::{DeviceFault, Input};
 use std::marker::Model;
 
-/// A reader over bytes in memory, for tests. It gives them in pieces and fails at a call of choice.
+/// A reader over bytes in memory, for tests. It returns them in pieces, and fails at a chosen call.
 #[derive(Drop)]
 pub struct MemoryInput<'a> {
     left: &'a [u8],
@@ -32,8 +32,8 @@ impl<'a> Model for MemoryInput<'a> {
 }
 
 impl<'a> MemoryInput<'a> {
-    /// Gives `bytes`, at most `step` of them a call. Call number `fail_at`, counted from 1, answers
-    /// `Err`; with `None` or 0 no call does.
+    /// Returns a reader of `bytes` that returns at most `step` of them a call. Call number `fail_at`, counted from 1,
+    /// returns `Err`. With `None` or 0 no call fails.
     pub fn new(bytes: &'a [u8], step: usize, fail_at: Option<u64>) -> Self
         requires { 1 ≤ step }
         ensures { result ≡ record {
@@ -64,14 +64,14 @@ impl Input for MemoryInput<'_> {
         ensures given { ReadConsumes (Some self.old.left) (Some self.new.left) result buffer.new }
         ensures fails { FailsOnErr self.old.failed self.new.failed result }
 
-        // When it fails, and otherwise how much it gives.
+        // When the call fails, and otherwise how many bytes it returns.
         ensures err { IsErr result ↔ (self.old.failing_call ≡ 1) }
         ensures count { IfOk result (λ count. count
             ≡ min self.old.step (min (length buffer.old) (length self.old.left))) }
         ensures copied { IfOk result (λ count. buffer.new ≡ take count self.old.left ++ drop count buffer.old) }
         ensures unread { OnErr result (buffer.new ≡ buffer.old) }
 
-        // What comes of the rest.
+        // The state after the call.
         ensures left { IfOk result (λ count. self.new.left ≡ drop count self.old.left) }
         ensures step { self.new.step ≡ self.old.step }
         ensures counted { self.new.failing_call ≡ self.old.failing_call - 1 }

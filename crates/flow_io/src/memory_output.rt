@@ -8,8 +8,7 @@ use crate::devices::{DeviceFault, Output};
 use crate::last_call::LastCall;
 use std::marker::Model;
 
-/// A writer into memory, for tests, with room for `N` bytes. It takes them in pieces and fails at a
-/// call of choice.
+/// A writer into memory, for tests, with room for `N` bytes. It takes them in pieces, and fails at a chosen call.
 #[derive(Drop)]
 pub struct MemoryOutput<const N: usize> {
     buffer: [u8; N],
@@ -40,8 +39,8 @@ impl<const N: usize> Model for MemoryOutput<N> {
 }
 
 impl<const N: usize> MemoryOutput<N> {
-    /// Takes at most `step` bytes a call. Call number `fail_at` of `write` and `flush` together,
-    /// counted from 1, answers `Err`, or 0 where `zero` is true and it is a write; with `None` or 0
+    /// Returns a writer that takes at most `step` bytes a call. Call number `fail_at` of `write` and `flush` together,
+    /// counted from 1, returns `Err`. If `zero` is true and the call is a write, it returns 0 instead. With `None` or 0
     /// every call succeeds while there is room.
     pub fn new(step: usize, fail_at: Option<u64>, zero: bool) -> Self
         requires { 1 ≤ step }
@@ -65,7 +64,7 @@ impl<const N: usize> MemoryOutput<N> {
         }
     }
 
-    /// The bytes taken so far.
+    /// Returns the bytes taken so far.
     pub fn taken(&self) -> &[u8]
         ensures { result.now ≡ self.now.taken }
     {
@@ -88,13 +87,13 @@ impl<const N: usize> Output for MemoryOutput<N> {
         ensures fails { FailsOnShortWrite self.old.failed self.new.failed result slice.now }
         ensures last { self.new.last_call ≡ Write }
 
-        // When it fails, and otherwise how much it takes.
+        // When the call fails, and otherwise how many bytes it takes.
         ensures err { IsErr result ↔ ((self.old.failing_call ≡ 1) × (self.old.zero ≡ false)) }
         ensures zero { self.old.failing_call ≡ 1 → IfOk result (λ count. count ≡ 0) }
         ensures count { self.old.failing_call ≢ 1 → IfOk result (λ count.
             count ≡ min self.old.step (min (length slice.now) (N - length self.old.taken))) }
 
-        // What comes of the rest.
+        // The rest of the state after the call.
         ensures settings { (self.new.step ≡ self.old.step) × (self.new.zero ≡ self.old.zero) }
         ensures counted { self.new.failing_call ≡ self.old.failing_call - 1 }
     {

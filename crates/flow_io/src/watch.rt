@@ -6,9 +6,9 @@ use crate::last_call::LastCall;
 use std::io::{Read, Write};
 use std::marker::Model;
 
-/// A reader or a writer of std that remembers whether it failed, and of a writer which call it had last.
-/// Each call is passed on as it is, and any error, an interrupted call among them, is a `DeviceFault`.
-/// Where the reader or writer inside tells its bytes, these are its bytes.
+/// A reader or writer of std that remembers whether it failed, and in case of a writer which call was the last one.
+/// Each call is passed on unchanged. Any error, including an interrupted call, is a `DeviceFault`. If the inner reader
+/// or writer reports its bytes, these are the bytes of the wrapper.
 #[derive(Drop)]
 pub struct Watched<T> {
     inner: T,
@@ -29,7 +29,7 @@ impl<T> Model for Watched<T> {
 }
 
 impl<T> Watched<T> {
-    /// Watches over `inner`, which counts as not failed and not called yet.
+    /// Wraps `inner`, which counts as not failed and not called yet.
     pub fn new(inner: T) -> Self
         ensures { result ≡ record { inner = inner; failed = false; last_call = Nothing } }
     {

@@ -6,22 +6,22 @@ use crate::devices::Input;
 use std::alloc::Global;
 use thiserror::Error;
 
-/// Why a source was not read to its end.
+/// The reason why a source was not read to its end.
 #[derive(Clone, Copy, Debug, PartialEq, Eq, Error)]
 pub enum ReadStop {
     /// The reader failed.
     #[error("the reader failed")]
     ReadFault,
-    /// The bytes read so far do not fit the memory.
+    /// An allocation failed.
     #[error("no memory for the bytes read")]
     NoMemory,
 }
 
-// How many bytes are asked of the reader at a time.
+// The number of bytes that are requested from the reader at a time.
 const CHUNK: usize = 65536;
 
-/// Reads all that the reader still gives. A reader that never ends is answered with `NoMemory`, as
-/// each read makes the text longer.
+/// Reads all the bytes that the reader will still return. For a reader that never ends it returns `NoMemory`, as each
+/// read makes the text longer.
 pub fn read_whole<R: Input>(alloc: Global, reader: &mut R) -> Result<Vec<u8>, ReadStop>
     requires { R.failed reader.old ≡ false }
     ensures whole { IfOk result (λ text. IfSome (R.bytes_left reader.old) (λ left. text.items ≡ left)) }

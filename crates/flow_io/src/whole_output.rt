@@ -6,13 +6,13 @@ ghost use Rattle.flow_io.specs.WriterStates.{StopsWriting};
 use crate::devices::Output;
 use thiserror::Error;
 
-/// The writer failed before it had taken and handed on everything.
+/// The error of a writer that failed before it had taken and flushed everything.
 #[derive(Clone, Copy, Debug, PartialEq, Eq, Error)]
 #[error("the writer failed")]
 pub struct WriteFault;
 
-/// Writes all the bytes, and then flushes once. After a fault of a write the writer has taken a prefix of them, and
-/// after one of the flush all of them.
+/// Writes all the bytes, and then flushes once. If a write fails, the writer has taken a prefix of them. If the flush
+/// fails, the writer has taken all of them.
 pub fn write_whole<W: Output>(writer: &mut W, bytes: &[u8]) -> Result<(), WriteFault>
     requires { W.failed writer.old ≡ false }
     ensures whole { OnOk result (Appends (W.bytes_taken writer.old) (W.bytes_taken writer.new) bytes.now) }

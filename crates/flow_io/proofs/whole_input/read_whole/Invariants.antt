@@ -1,4 +1,4 @@
--- The reader has given the text since the loop began, and has not failed.
+-- The reader has returned the text since the loop began, and has not failed.
 use Rattle.std.proofs.Common.{◌≡◌, ◌-◌, ◌^◌, ◌<◌, false, vec_len}
 use Rattle.std.specs.Io.KnownBytes.{Consumes}
 use Rattle.flow_io.proofs.whole_input.read_whole.Given as goal
