@@ -16,7 +16,7 @@ Defined = Option (TemplateView × List (ℕ × TemplateEvent))
 abbrev more : ℕ × TemplateEvent → Defined → Defined
 more e found = option_map (λ d. (d.0, d.1 ++ e ∷ [])) found
 
--- the definition by an event that is the last one
+-- the definition by the last event
 abbrev newest : ℕ → ℕ → ℕ × TemplateEvent → Defined
 newest domain id e = cond (e.0 == domain) (option_map (λ t. (t, [])) (definition id e.1)) None
 
@@ -54,7 +54,7 @@ unless_not : (w : Bool) (t : TemplateView) → cond w None (Some t) ≡ cond (no
 unless_not true t = refl
 unless_not false t = refl
 
--- a definition that more events may withdraw
+-- a definition that later events may withdraw
 kept_step : (ends : TemplateView → Bool) (b q : Bool) (t : TemplateView)
     → cond (q || (b && ends t)) None (Some t) ≡ cond b (kept_where (λ u. not (ends u)) (cond q None (Some t))) (cond q None (Some t))
 kept_step ends true true t = refl

@@ -1,11 +1,11 @@
--- Reading one thing after the other, as a loop does.
+-- Reading one item after another, as a loop does.
 use Rattle.std.proofs.Common.{◌≡◌, ℕ, suc, ◌+◌, ◌-◌, ◌<◌, ◌≤◌, List, [], ◌∷◌, ◌++◌, length, Bool, true, false, Option, Some, None, refl, sym, ap, ◌∙◌, append_assoc, arith}
 use Rattle.std.specs.Prelude.{is_some, option_and_then}
 use Rattle.std.proofs.lemmas.List.{append-nil}
 use Rattle.ipfix_templates.specs.declared.field.Field.{Field}
 use Rattle.ipfix_templates.specs.Reading.{field_at, fields_at}
 
--- what was read before, and what is still read
+-- the fields that were read before, and those that are still to be read
 abbrev pub behind : List Field → Option (List Field × List ℕ) → Option (List Field × List ℕ)
 behind front read = option_and_then (λ x. Some (front ++ x.0, x.1)) read
 
@@ -36,7 +36,7 @@ is_done front count i bytes total le so_far =
     let one : behind front (fields_at (count - i) bytes) ≡ Some (front, bytes) = rw k (ap (λ (fs : List Field). Some (fs, bytes)) (append-nil front)) in
     sym one ∙ so_far
 
--- ---- whether specifiers stand, one after the other
+-- ---- whether there are enough specifiers, one after another
 
 still : (f : Field) (read : Option (List Field × List ℕ)) → is_some {T = List Field × List ℕ} (option_and_then (λ x. Some (f ∷ x.0, x.1)) read) ≡ is_some read
 still f None = refl

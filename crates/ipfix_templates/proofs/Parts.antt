@@ -45,7 +45,7 @@ same_some x y e = cc
 abbrev Domains : Type 0
 Domains = List (ℕ × BTreeMap ℕ TemplateView)
 
--- what a domain's map has at an ID, where there is one
+-- the template at an ID of a domain's map, if there is a map
 abbrev pub found : ℕ → Option (BTreeMap ℕ TemplateView) → Option TemplateView
 found id o = option_and_then (λ m. lookup (nat_eq id) m.entries) o
 
@@ -68,7 +68,7 @@ found_at d i (e ∷ es) apart =
       | false ↦ λ is. refl
     ] refl
 
--- another map in one domain, with one change
+-- another map for one domain, with one change
 pub changed : (old new : Domains) (domain id : ℕ) (m : BTreeMap ℕ TemplateView) (value : Option TemplateView)
     → IsDistinct nat_eq (keys_of old) → IsDistinct nat_eq (keys_of new)
     → ((q : ℕ) → lookup (nat_eq q) new ≡ cond (nat_eq domain q) (Some m) (lookup (nat_eq q) old))
@@ -95,7 +95,7 @@ nothing_there old domain id was none d i =
     ] refl
     ∙ ap (λ (o : Option TemplateView). cond (same_key (domain, id) (d, i)) None o) (sym (found_at d i old was))
 
--- the map of one domain taken away
+-- the map of one domain removed
 pub dropped : (old new : Domains) (domain : ℕ) → IsDistinct nat_eq (keys_of old) → IsDistinct nat_eq (keys_of new)
     → ((q : ℕ) → lookup (nat_eq q) new ≡ cond (nat_eq domain q) None (lookup (nat_eq q) old))
     → (d i : ℕ) → template_at (entries_of new) d i ≡ cond (nat_eq domain d) None (template_at (entries_of old) d i)
@@ -104,7 +104,7 @@ dropped old new domain was is outer d i =
     ∙ elim (nat_eq domain d) as (λ b. found i (cond b None (lookup (nat_eq d) old)) ≡ cond b None (found i (lookup (nat_eq d) old))) [ true ↦ refl | false ↦ refl ]
     ∙ ap (λ (o : Option TemplateView). cond (nat_eq domain d) None o) (sym (found_at d i old was))
 
--- a map of the same entries in the place of another
+-- a map replaced by another with the same entries
 pub same_entries : (test : ℕ → Bool) (es : Domains) (m w : BTreeMap ℕ TemplateView) → lookup test es ≡ Some m → w.entries ≡ m.entries
     → entries_of (set_value test es w) ≡ entries_of es
 same_entries test [] m w e same = absurd (cc)
@@ -208,7 +208,7 @@ module _ (f o : Entries) (domain : ℕ) (p : AreParted f o) where
   pub options_dropped_parted : (o' : Entries) → Drops o o' domain → AreParted f o'
   options_dropped_parted o' second d i = rw (second d i) (second_dropped (nat_eq domain d) (template_at f d i) (template_at o d i) (p d i))
 
--- ---- the entries that a table begins with
+-- ---- the entries of a new table
 
 pub from_view : (inside old new : Entries) (domain id : ℕ) (value : Option TemplateView) → inside ≡ old → ChangesAt inside new domain id value → ChangesAt old new domain id value
 from_view inside old new domain id value is change = rw is at change

@@ -1,22 +1,22 @@
--- Things read one after the other, and then the end or a fault.
+-- Items read one after another, followed by the end or a fault.
 use Rattle.std.proofs.Common.{◌≡◌, ℕ, zero, suc, ◌+◌, ◌*◌, ◌<◌, ◌≤◌, List, [], ◌∷◌, ◌++◌, length, ◌⊎◌, inl, inr, refl, sym, ap, subst, ◌∙◌, arith}
 use Rattle.std.proofs.Math.Nat.{suc-mul}
 use Rattle.ipfix_templates.specs.Reads.{Reads, ReadsWhole, StopsAt}
 
 module _ {S A : Type 0} (step : S → A → S → Type 0) where
-  -- one thing more
+  -- one item more
   pub reads_more : (start : S) (xs : List A) (at : S) (x : A) (end : S) → Reads step start xs at → step at x end → Reads step start (xs ++ x ∷ []) end
   reads_more start [] at x end done one = (end, subst (λ (s : S). step s x end) (sym done) one, refl)
   reads_more start (y ∷ ys) at x end done one = (done.0, done.1, reads_more done.0 ys at x end done.2 one)
 
-  -- each thing takes at least so much
+  -- each item takes at least `least`
   pub reads_shorter : (size : S → ℕ) (least : ℕ) → ((s : S) (x : A) (next : S) → step s x next → size next + least ≤ size s)
       → (start : S) (xs : List A) (end : S) → Reads step start xs end → length xs * least + size end ≤ size start
   reads_shorter size least shorter start [] end done = omega (arith, ap size done)
   reads_shorter size least shorter start (x ∷ xs) end done =
       omega (arith, shorter start x done.0 done.1, reads_shorter size least shorter done.0 xs end done.2, suc-mul (length xs) least)
 
-  -- something is read here
+  -- an item is read here
   abbrev pub Goes : S → Type 0
   Goes s = (x : A) × (next : S) × step s x next
 
@@ -30,12 +30,12 @@ module _ {S A : Type 0} (step : S → A → S → Type 0) where
     abbrev Outcome : S → Type 0
     Outcome start = ((xs : List A) × Whole start xs) ⊎ ((fault : F) × Stops start fault)
 
-    -- what comes of the places after the first thing comes of all
+    -- the outcome of the states after the first item is that of all
     behind : (start : S) (g : Goes start) → Outcome g.1 → Outcome start
     behind start g (inl q) = inl (g.0 ∷ q.0, (q.1.0, (g.1, g.2, q.1.1), q.1.2))
     behind start g (inr q) = inr (q.0, (g.0 ∷ q.1.0, q.1.1, (g.1, g.2, q.1.2), q.1.3))
 
-    -- there is a reading or a fault, where each place no larger than the start has a thing, the end or a fault
+    -- there is a reading or a fault, if each state no larger than the start has an item, the end or a fault
     module _ (size : S → ℕ) (most : ℕ) (smaller : (s : S) (x : A) (next : S) → step s x next → size next < size s)
         (due : (s : S) → size s ≤ most → Ends s ⊎ (Goes s ⊎ ((fault : F) × Faulty s fault))) where
       from : (s : S) → ((g : Goes s) → Outcome g.1) → Ends s ⊎ (Goes s ⊎ ((fault : F) × Faulty s fault)) → Outcome s
@@ -51,11 +51,11 @@ module _ {S A : Type 0} (step : S → A → S → Type 0) where
       pub has_outcome : (start : S) → size start ≤ most → Outcome start
       has_outcome start room = within (size start) start (omega arith) room
 
-    -- there is one reading at most, or one fault at most, where each place has one thing, the end or one fault at most
+    -- there is at most one reading or at most one fault, if each state has at most one item, the end or one fault
     module _ (one : (s : S) (x y : A) (t u : S) → step s x t → step s y u → (x ≡ y) × (t ≡ u)) (on : (s : S) → Goes s → Ends s → ⊥)
         (sound : (s : S) (fault : F) → Goes s → Faulty s fault → ⊥) (faulty : (s : S) (fault : F) → Ends s → Faulty s fault → ⊥)
         (alone : (s : S) (fault other : F) → Faulty s fault → Faulty s other → fault ≡ other) where
-      -- things are read alike as far as both lists go, and then one list goes on
+      -- two readings are equal, or reading can continue at the end of one of them
       alike : (start : S) (xs ys : List A) (t u : S) → Reads step start xs t → Reads step start ys u → ((xs ≡ ys) × (t ≡ u)) ⊎ (Goes t ⊎ Goes u)
       alike start [] [] t u r q = inl (refl, sym r ∙ q)
       alike start [] (y ∷ ys) t u r q = inr (inl (y, q.0, subst (λ (s : S). step s y q.0) r q.1))

@@ -1,4 +1,4 @@
--- What a record takes from the front of its bytes.
+-- The bytes that a record takes.
 use Rattle.std.proofs.Common.{◌≡◌, ℕ, zero, suc, ◌+◌, ◌*◌, ◌-◌, ◌≤◌, ◌||◌, true, false, cond, ltb, eqb, List, [], ◌∷◌, length, drop, Option, Some, None, Result, Ok, Err, ◌⊎◌, inl, inr, refl, sym, ap, ◌∙◌, arith, length-drop}
 use Rattle.std.specs.Prelude.{option_and_then}
 use Rattle.std.proofs.lemmas.Bool.{cases_lt, ltb-false}
@@ -112,7 +112,7 @@ one_reading kind bytes =
     one_outcome (ReadsEvent kind) IsPadding (IsRecordFault kind (length bytes)) (one_event kind) (λ s g few. omega (arith, g.2.0, few))
     (λ s fault g found. ok_not_err _ _ _ g.2.1 found.1) (λ s fault few found. omega (arith, few, found.0)) (alone kind (length bytes)) bytes
 
--- a record or a fault is due where there is no padding
+-- if there is no padding, there is a record or a fault
 due : (kind : Kind) (size : ℕ) (rest : List ℕ) → length rest ≤ size → IsPadding rest ⊎ (Goes (ReadsEvent kind) rest ⊎ ((fault : TemplateFault) × IsRecordFault kind size rest fault))
 due kind size rest room =
     elim (cases_lt (length rest) 4) [
@@ -131,7 +131,7 @@ has_reading kind bytes =
 pub events_fit : (kind : Kind) (bytes : List ℕ) (events : List TemplateEvent) → IsTemplateSet kind bytes events → 4 * length events ≤ length bytes
 events_fit kind bytes events p = omega (arith, events_shorter kind bytes events p.0 p.1)
 
--- ---- no fault is that memory ran out
+-- ---- no fault is that an allocation failed
 
 defined_fault : (kind : Kind) (id scopes : ℕ) (o : Option (List Field × List ℕ)) → defined_by kind id scopes o ≡ Err NoMemory → ⊥
 defined_fault kind id scopes None e = cc

@@ -1,4 +1,4 @@
--- Tables that change by an event at a time.
+-- Tables that change by one event at a time.
 use Rattle.std.proofs.Common.{◌≡◌, ℕ, ◌&&◌, not, Bool, true, false, cond, List, [], ◌∷◌, ◌++◌, Option, Some, None, refl, sym, ap, subst, ◌∙◌}
 use Rattle.std.specs.Prelude.{nat_eq, IfSome}
 use Rattle.std.specs.Borrow.{Bor}
@@ -21,7 +21,7 @@ kept_none : (o : Option TemplateView) → kept_where (λ t. false) o ≡ None
 kept_none None = refl
 kept_none (Some t) = refl
 
--- a template put at a key, and after the event that defines it
+-- a template added at a key, and the template in force after the event that defines it
 defines : (b c : Bool) (t : TemplateView) (before : Option TemplateView)
     → cond (b && c) (Some t) before ≡ cond b (option_or (cond c (Some t) None) (kept_where (λ u. true) before)) before
 defines false c t before = refl
@@ -53,7 +53,7 @@ follows_withdraw_all old new domain kind change history follows d i =
     change d i ∙ ap (λ (o : Option TemplateView). cond (nat_eq domain d) (kept_where (λ t. not (same_kind kind t.kind)) o) o) (follows d i)
     ∙ sym (in_force-append history domain (WithdrawAll kind) d i)
 
--- ---- each template at its own ID
+-- ---- each template has the ID of its entry
 
 abbrev Entries : Type 0
 Entries = List ((ℕ × ℕ) × TemplateView)

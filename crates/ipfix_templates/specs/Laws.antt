@@ -1,4 +1,4 @@
--- What holds of the definitions.
+-- Laws about the definitions.
 use Rattle.std.specs.Prelude.{◌≡◌, ℕ, ◌*◌, ◌≤◌, ◌⊎◌, length, List, [], ◌∷◌, ◌++◌, Option, not, ◌==◌, if◌then◌else◌}
 use Rattle.std.specs.Option.{option_or}
 use Rattle.ipfix_templates.specs.declared.kind.Kind.{Kind}
@@ -9,11 +9,11 @@ use Rattle.ipfix_templates.specs.Template.{TemplateView}
 use Rattle.ipfix_templates.specs.InForce.{in_force, definition, withdraws, kept_where}
 use Rattle.ipfix_templates.specs.Reading.{IsTemplateSet, HasTemplateFault}
 
--- what an event in the domain leaves of the template in force at an ID
+-- the template in force at an ID after an event in the domain
 abbrev pub after_event : ℕ → TemplateEvent → Option TemplateView → Option TemplateView
 after_event id event before = option_or (definition id event) (kept_where (λ t. not (withdraws id t.kind event)) before)
 
--- the template in force after one more event, from the one before it
+-- the template in force after one more event, from the template in force before it
 abbrev pub EventAfterHistory : Type 0
 EventAfterHistory = (history : List (ℕ × TemplateEvent)) (at : ℕ) (event : TemplateEvent) (domain id : ℕ)
     → in_force (history ++ (at, event) ∷ []) domain id ≡ (if at == domain then after_event id event (in_force history domain id) else in_force history domain id)
@@ -23,7 +23,7 @@ abbrev pub HasReading : Type 0
 HasReading = (kind : Kind) (bytes : List ℕ)
     → ((events : List TemplateEvent) × IsTemplateSet kind bytes events) ⊎ ((fault : TemplateFault) × HasTemplateFault kind bytes fault)
 
--- bytes are a template set of one list of events at most, or have one first fault at most, and not both
+-- bytes are a template set of at most one list of events, or have at most one first fault, and not both
 abbrev pub OneReading : Type 0
 OneReading = (kind : Kind) (bytes : List ℕ)
     → ((events others : List TemplateEvent) → IsTemplateSet kind bytes events → IsTemplateSet kind bytes others → events ≡ others)
@@ -34,6 +34,6 @@ OneReading = (kind : Kind) (bytes : List ℕ)
 abbrev pub EventsFit : Type 0
 EventsFit = (kind : Kind) (bytes : List ℕ) (events : List TemplateEvent) → IsTemplateSet kind bytes events → 4 * length events ≤ length bytes
 
--- that memory ran out is no fault of the bytes
+-- no bytes have the fault that an allocation failed
 abbrev pub MemoryIsNoFault : Type 0
 MemoryIsNoFault = (kind : Kind) (bytes : List ℕ) (fault : TemplateFault) → HasTemplateFault kind bytes fault → fault.kind ≡ NoMemory → ⊥

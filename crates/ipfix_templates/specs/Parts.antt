@@ -1,5 +1,5 @@
--- How a table lies in memory: the templates of each kind by themselves, and for each domain a map from the IDs. It is of
--- the code: what a table says is told by Table and InForce, and a user needs none of this.
+-- How a table is stored: the templates of each kind separately, and for each domain a map from the IDs. This is
+-- private. Table and InForce specify tables, and callers need not read this file.
 use Rattle.std.specs.Prelude.{◌≡◌, ⊤, ℕ, List, Option, Some, None, map}
 use Rattle.std.specs.List.{flat_map}
 use Rattle.std.specs.BTreeMap.{BTreeMap}
@@ -11,7 +11,7 @@ use Rattle.ipfix_templates.specs.Table.{template_at}
 abbrev pub entries_of : List (ℕ × BTreeMap ℕ TemplateView) → List ((ℕ × ℕ) × TemplateView)
 entries_of domains = flat_map (λ domain. map (λ e. ((domain.0, e.0), e.1)) domain.1.entries) domains
 
--- a template is found in the part of its kind, and never one in each part
+-- a template is found in the part of its kind, and never in both parts
 abbrev pub IsInItsPart : Option TemplateView → Option TemplateView → Type 0
 IsInItsPart None None = ⊤
 IsInItsPart (Some t) None = t.kind ≡ Flow

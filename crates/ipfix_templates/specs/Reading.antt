@@ -1,4 +1,4 @@
--- Template records, one after the other (RFC 7011 sections 3.2 and 3.4).
+-- Consecutive template records (RFC 7011 sections 3.2 and 3.4).
 use Rattle.std.specs.Prelude.{◌≡◌, ℕ, zero, suc, ◌+◌, ◌-◌, ◌<◌, ◌≤◌, List, [], ◌∷◌, length, drop, Option, Some, None, Result, Ok, Err, IsOk, option_and_then, nat_lt, ◌==◌, ◌||◌, if◌then◌else◌}
 use Rattle.byteorder.specs.Endian.{big_number}
 use Rattle.ipfix_templates.specs.declared.field.Field.{Field}
@@ -12,8 +12,8 @@ use Rattle.ipfix_templates.specs.declared.fault.TemplateFaultKind.TheVariants.{T
 use Rattle.ipfix_templates.specs.Kind.{set_id}
 use Rattle.ipfix_templates.specs.Reads.{Reads, ReadsWhole, StopsAt}
 
--- the field specifier at the front, and the bytes after it: the enterprise bit with the element's number, the
--- length, and an enterprise number where the bit is 1
+-- the field specifier at the start, and the bytes after it: the enterprise bit with the element's number, the length,
+-- and an enterprise number if the bit is 1
 unfoldable pub field_at : List ℕ → Option (Field × List ℕ)
 field_at bytes =
     let number = big_number 2 bytes in
@@ -23,17 +23,17 @@ field_at bytes =
     else (if nat_lt (length bytes) 8 then None
     else Some (record { enterprise = Some (big_number 4 (drop 4 bytes)); number = number - 32768; length = size }, drop 8 bytes)))
 
--- so many specifiers, and the bytes after them
+-- `n` specifiers at the start, and the bytes after them
 unfoldable pub fields_at : ℕ → List ℕ → Option (List Field × List ℕ)
 fields_at zero bytes = Some ([], bytes)
 fields_at (suc n) bytes = option_and_then (λ f. option_and_then (λ fs. Some (f.0 ∷ fs.0, fs.1)) (fields_at n f.1)) (field_at bytes)
 
--- the definition that so many specifiers end, behind what stands before them
+-- the definition that ends with these specifiers, and the bytes after it
 abbrev pub defined_by : Kind → ℕ → ℕ → Option (List Field × List ℕ) → Result (TemplateEvent × List ℕ) TemplateFaultKind
 defined_by kind id scopes None = Err Truncated
 defined_by kind id scopes (Some fs) = Ok (Define (record { id = id; kind = kind; scope_count = scopes; fields = fs.0 }), fs.1)
 
--- a definition of so many fields behind its ID and field count; an options template has a scope field count first
+-- the definition of `count` fields after its ID and field count; in an options template a scope field count comes first
 unfoldable pub definition_at : Kind → ℕ → ℕ → List ℕ → Result (TemplateEvent × List ℕ) TemplateFaultKind
 definition_at Flow id count bytes = defined_by Flow id 0 (fields_at count bytes)
 definition_at Options id count bytes =
@@ -42,8 +42,8 @@ definition_at Options id count bytes =
     else (if scopes == 0 || nat_lt count scopes then Err BadScope
     else defined_by Options id scopes (fields_at count (drop 2 bytes)))
 
--- what a field count of 0 says: under the set's own ID all templates of the kind are withdrawn, under another the
--- template of that ID (section 8.1)
+-- the withdrawal of a record with field count 0: of all templates of the kind if the ID is the set's own, otherwise of
+-- the template with that ID (section 8.1)
 abbrev pub withdrawal : Kind → ℕ → Result TemplateEvent TemplateFaultKind
 withdrawal kind id =
     if id == set_id kind then Ok (WithdrawAll kind)
@@ -54,7 +54,7 @@ abbrev pub followed_by : List ℕ → Result TemplateEvent TemplateFaultKind →
 followed_by after (Ok event) = Ok (event, after)
 followed_by after (Err fault) = Err fault
 
--- the template record at the front and the bytes after it, or the first fault of what stands there
+-- the template record at the start and the bytes after it, or the first fault of these bytes
 unfoldable pub record_at : Kind → List ℕ → Result (TemplateEvent × List ℕ) TemplateFaultKind
 record_at kind bytes =
     let id = big_number 2 bytes in
@@ -63,11 +63,11 @@ record_at kind bytes =
     else (if nat_lt id 256 then Err BadTemplateId
     else definition_at kind id count (drop 4 bytes))
 
--- a record at the front gives an event and leaves the bytes after it
+-- a record at the start is this event, and is followed by these bytes
 abbrev pub ReadsEvent : Kind → List ℕ → TemplateEvent → List ℕ → Type 0
 ReadsEvent kind bytes event after = (4 ≤ length bytes) × (record_at kind bytes ≡ Ok (event, after))
 
--- records that stand one after the other give these events and leave these bytes
+-- consecutive records are these events, and are followed by these bytes
 abbrev pub ReadsEvents : Kind → List ℕ → List TemplateEvent → List ℕ → Type 0
 ReadsEvents kind bytes events rest = Reads (ReadsEvent kind) bytes events rest
 
@@ -75,19 +75,19 @@ ReadsEvents kind bytes events rest = Reads (ReadsEvent kind) bytes events rest
 abbrev pub IsPadding : List ℕ → Type 0
 IsPadding bytes = length bytes < 4
 
--- the bytes behind the header of a template set are these records, and then padding
+-- the bytes after the header of a template set are these records, followed by padding
 abbrev pub IsTemplateSet : Kind → List ℕ → List TemplateEvent → Type 0
 IsTemplateSet kind bytes events = ReadsWhole (ReadsEvent kind) IsPadding bytes events
 
--- behind some records there is no padding, and a record stands there
+-- after some records there is no padding, but another record
 abbrev pub HasTemplateRecord : Kind → List ℕ → Type 0
 HasTemplateRecord kind bytes =
     (events : List TemplateEvent) × (rest : List ℕ) × ReadsEvents kind bytes events rest × (4 ≤ length rest) × IsOk (record_at kind rest)
 
--- there is no padding and no record at the front of the rest of so many bytes, but this fault
+-- at the start of the rest of so many bytes there is no padding and no record, but this fault
 abbrev pub IsRecordFault : Kind → ℕ → List ℕ → TemplateFault → Type 0
 IsRecordFault kind size rest fault = (4 ≤ length rest) × (record_at kind rest ≡ Err fault.kind) × (fault.offset + length rest ≡ size)
 
--- behind some records this is the first fault
+-- after some records this is the first fault
 abbrev pub HasTemplateFault : Kind → List ℕ → TemplateFault → Type 0
 HasTemplateFault kind bytes fault = StopsAt (ReadsEvent kind) (IsRecordFault kind (length bytes)) bytes fault

@@ -15,11 +15,11 @@ same_key a b = nat_eq a.0 b.0 && nat_eq a.1 b.1
 abbrev pub template_at : List ((ℕ × ℕ) × TemplateView) → ℕ → ℕ → Option TemplateView
 template_at table domain id = lookup (same_key (domain, id)) table
 
--- each template stands at its own ID
+-- each template has the ID of its entry
 abbrev pub AreKeyed : List ((ℕ × ℕ) × TemplateView) → Type 0
 AreKeyed table = (domain id : ℕ) → IfSome (template_at table domain id) (λ t. t.id ≡ id)
 
--- new has this at the domain and ID, and at each other place what old has
+-- new has this at the domain and ID, and at each other domain and ID what old has
 abbrev pub ChangesAt : List ((ℕ × ℕ) × TemplateView) → List ((ℕ × ℕ) × TemplateView) → ℕ → ℕ → Option TemplateView → Type 0
 ChangesAt old new domain id value = (d i : ℕ) → template_at new d i ≡ (if same_key (domain, id) (d, i) then value else template_at old d i)
 

@@ -2,7 +2,7 @@ use crate::items::Items;
 use crate::kind::Kind;
 use crate::template::Template;
 
-/// What one record of a template set says.
+/// The event that a record of a template set reports.
 #[derive(Debug, Drop)]
 pub enum TemplateEvent {
     /// The template is defined (RFC 7011 section 3.4).

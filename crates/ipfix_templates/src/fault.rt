@@ -4,19 +4,19 @@ ghost use Rattle.ipfix_templates.specs.Fault.{out_of_memory};
 use std::alloc::AllocError;
 use thiserror::Error;
 
-/// What is wrong with a template record.
+/// The kind of a fault in a template record.
 #[derive(Clone, Copy, Debug, PartialEq, Eq, Error)]
 pub enum TemplateFaultKind {
     /// A part of the record is missing.
     #[error("Truncated")]
     Truncated,
-    /// The template ID is below 256, and the record is no withdrawal of all templates of the set's kind.
+    /// The template ID is below 256, and the record does not withdraw all templates of the set's kind.
     #[error("BadTemplateId")]
     BadTemplateId,
     /// An options template has no scope field, or more scope fields than fields (RFC 7011 section 3.4.2.2).
     #[error("BadScope")]
     BadScope,
-    /// Memory ran out.
+    /// An allocation failed.
     #[error("NoMemory")]
     NoMemory,
 }
@@ -25,9 +25,10 @@ pub enum TemplateFaultKind {
 #[derive(Clone, Copy, Debug, PartialEq, Eq, Error)]
 #[error("{kind} at {offset}")]
 pub struct TemplateFault {
-    /// What is wrong.
+    /// The kind of the fault.
     pub kind: TemplateFaultKind,
-    /// Where the template record begins, in bytes from the end of the set's header; 0 where memory ran out.
+    /// The offset in bytes of the template record, from the end of the set's header. The offset is 0 if an allocation
+    /// failed.
     pub offset: u64,
 }
 

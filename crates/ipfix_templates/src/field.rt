@@ -3,17 +3,17 @@ ghost use Rattle.ipfix_templates.specs.Field.{has_bytes, least_field_length, is_
 
 use std::marker::Model;
 
-/// The length in a field specifier that stands for a variable length (RFC 7011 section 7).
+/// The length in a field specifier that means a variable length (RFC 7011 section 7).
 pub const VARIABLE_LENGTH: u16 = 65535;
 
-/// A field specifier (RFC 7011 section 3.2). Its element has a number below 32,768.
+/// A field specifier (RFC 7011 section 3.2). The number of its information element is below 32,768.
 #[derive(Clone, Copy, Debug, PartialEq, Eq)]
 pub struct Field {
-    /// The enterprise number, where the enterprise bit is 1.
+    /// The enterprise number, if the enterprise bit is 1.
     pub enterprise: Option<u32>,
     /// The number of the information element, without the enterprise bit.
     pub number: u16,
-    /// The bytes of each value, or `VARIABLE_LENGTH`.
+    /// The length of each value in bytes, or `VARIABLE_LENGTH`.
     pub length: u16,
 }
 
@@ -31,14 +31,14 @@ impl Model for Field {
 }
 
 impl Field {
-    /// The enterprise number, where the enterprise bit is 1.
+    /// Returns the enterprise number, if the enterprise bit is 1.
     pub fn enterprise(self) -> Option<u32>
         ensures { result ≡ self.enterprise }
     {
         self.enterprise
     }
 
-    /// The number of the information element, without the enterprise bit.
+    /// Returns the number of the information element, without the enterprise bit.
     pub fn number(self) -> u16
         ensures value { result ≡ self.number }
         ensures bound { result < 32768 }
@@ -46,28 +46,28 @@ impl Field {
         self.number
     }
 
-    /// The bytes of each value, or `VARIABLE_LENGTH`.
+    /// Returns the length of each value in bytes, or `VARIABLE_LENGTH`.
     pub fn length(self) -> u16
         ensures { result ≡ self.length }
     {
         self.length
     }
 
-    /// Whether the length is variable.
+    /// Returns `true` if the length is variable.
     pub fn is_variable(self) -> bool
         ensures { result ≡ is_variable self }
     {
         self.length == VARIABLE_LENGTH
     }
 
-    /// Whether values of the field take bytes in a record.
+    /// Returns `true` if values of the field take bytes in a record.
     pub fn has_bytes(self) -> bool
         ensures { result ≡ has_bytes self }
     {
         self.length != 0
     }
 
-    /// The fewest bytes that a value of the field takes in a record: 1 where the length is variable.
+    /// Returns the minimum number of bytes that a value of the field takes in a record: 1 if the length is variable.
     pub fn least_length(self) -> u16
         ensures value { result ≡ least_field_length self }
         ensures bound { result ≤ 65534 }

@@ -7,7 +7,7 @@ use std::alloc::{AllocError, Global};
 use std::marker::Model;
 use std::rc::Rc;
 
-// A list of fields, and what reading a record asks of them, computed once.
+// A list of fields, and numbers computed once that reading a record needs.
 #[derive(Debug, Drop)]
 struct Layout {
     items: Vec<Field>,
@@ -17,7 +17,7 @@ struct Layout {
     least: u32,
 }
 
-/// A list of at most 65,535 field specifiers, which its copies share.
+/// A list of at most 65,535 field specifiers. Its copies share it.
 #[derive(Debug, Drop)]
 pub struct Fields {
     shared: Rc<Layout>,
@@ -36,7 +36,7 @@ impl Model for Fields {
     ghost invariant = { λ a. let l = rc_value a.shared in IsKept l.items.items l.filled.items l.runs.items l.last_run l.least };
 }
 
-// What is kept of the fields.
+// Computes the layout of the fields.
 fn layout_of(items: Vec<Field>) -> Result<Layout, AllocError>
     requires { length items.items ≤ 65535 }
     ensures fields { IfOk result (λ layout. layout.items.items ≡ items.items) }
@@ -69,7 +69,7 @@ fn layout_of(items: Vec<Field>) -> Result<Layout, AllocError>
 }
 
 impl Fields {
-    /// These fields in order.
+    /// Returns the list of these fields, in order.
     pub fn from_vec(items: Vec<Field>) -> Result<Fields, AllocError>
         requires { length items.items ≤ 65535 }
         ensures { IfOk result (λ fields. fields ≡ items.items) }
@@ -81,7 +81,7 @@ impl Fields {
         })
     }
 
-    /// How many fields.
+    /// Returns the number of fields.
     pub fn len(&self) -> usize
         ensures value { result ≡ length self.now }
         ensures bound { result ≤ 65535 }
@@ -89,7 +89,7 @@ impl Fields {
         self.shared.items.len()
     }
 
-    /// The fields in order.
+    /// Returns the fields in order.
     pub fn as_slice(&self) -> &[Field]
         ensures value { result.now ≡ self.now }
         ensures bound { length result.now ≤ 65535 }
@@ -97,36 +97,36 @@ impl Fields {
         self.shared.items.as_slice()
     }
 
-    /// The fields whose values take bytes in a record, in order.
+    /// Returns the fields whose values take bytes in a record, in order.
     pub fn filled(&self) -> &[Field]
         ensures { result.now ≡ filter has_bytes self.now }
     {
         self.shared.filled.as_slice()
     }
 
-    /// For each variable field the sum of the fixed lengths since the variable field before it: what a reader skips
-    /// before each value of variable length.
+    /// Returns for each variable field the sum of the fixed lengths since the variable field before it. A reader skips
+    /// this number of bytes before each value of variable length.
     pub fn runs(&self) -> &[u32]
         ensures { result.now ≡ runs_behind 0 self.now }
     {
         self.shared.runs.as_slice()
     }
 
-    /// The sum of the fixed lengths after the last variable field.
+    /// Returns the sum of the fixed lengths after the last variable field.
     pub fn last_run(&self) -> u32
         ensures { result ≡ last_run_behind 0 self.now }
     {
         self.shared.last_run
     }
 
-    /// The fewest bytes of a record: the sum of the fixed lengths, and 1 for each variable one.
+    /// Returns the minimum number of bytes of a record: the sum of the fixed lengths, and 1 for each variable length.
     pub fn least_length(&self) -> u32
         ensures { result ≡ least_length self.now }
     {
         self.shared.least
     }
 
-    /// The same list for another owner. The fields are shared, so that a copy takes no memory for them.
+    /// Returns a copy of the list. The fields are shared, so the copy allocates no memory for them.
     pub fn copy(&self) -> Result<Fields, AllocError>
         ensures { IfOk result (λ fields. fields ≡ self.now) }
     {

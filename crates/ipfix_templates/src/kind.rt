@@ -1,7 +1,7 @@
 ghost use Rattle.std.specs.Prelude.{◌≡◌};
 ghost use Rattle.ipfix_templates.specs.Kind.{same_kind, set_id};
 
-/// What a template describes.
+/// The kind of records that a template describes.
 #[derive(Clone, Copy, Debug, PartialEq, Eq)]
 pub enum Kind {
     /// Flow records: a template of a template set (RFC 7011 section 3.4.1).
@@ -11,7 +11,7 @@ pub enum Kind {
 }
 
 impl Kind {
-    /// The set ID of the sets that hold templates of this kind (RFC 7011 section 3.3.2).
+    /// Returns the set ID of the sets that hold templates of this kind (RFC 7011 section 3.3.2).
     pub fn set_id(self) -> u16
         ensures { result ≡ set_id self }
     {
@@ -21,7 +21,7 @@ impl Kind {
         }
     }
 
-    /// Whether the two are the same kind.
+    /// Returns `true` if the two kinds are the same.
     pub fn is(self, other: Kind) -> bool
         ensures { result ≡ same_kind self other }
     {

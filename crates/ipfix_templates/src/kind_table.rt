@@ -7,9 +7,9 @@ use std::alloc::{AllocError, Global};
 use std::collections::BTreeMap;
 use std::marker::Model;
 
-/// Templates by their domains and IDs. The templates of a domain lie in a map of their own, so that all of them are
-/// dropped without a look at those of other domains. The maps are ordered: no choice of domains or IDs makes looking
-/// up slow. Contracts see the table as its entries; their order is left open.
+/// Templates by their domains and IDs. The templates of each domain have a map of their own, so dropping all of them
+/// does not visit those of other domains. The maps are ordered, so no choice of domains or IDs makes a lookup slow.
+/// Contracts see the table as its entries, in no particular order.
 #[derive(Drop)]
 pub struct KindTable {
     alloc: Global,
@@ -31,7 +31,7 @@ impl Model for KindTable {
 }
 
 impl KindTable {
-    /// A table of no templates.
+    /// Returns an empty table.
     pub fn new(alloc: Global) -> Self
         ensures { result ≡ [] }
     {
@@ -41,14 +41,14 @@ impl KindTable {
         }
     }
 
-    /// The template of this ID in the domain.
+    /// Returns the template with this ID in the domain.
     pub fn get(&self, domain: u32, id: u16) -> Option<&Template>
         ensures { option_copied result ≡ template_at self.now domain id }
     {
         self.domains.get(&domain)?.get(&id)
     }
 
-    /// Puts a template in the domain, in place of the one of its ID. An `Err` changes nothing.
+    /// Adds a template to the domain, replacing the one with its ID. If an allocation fails, the table is unchanged.
     pub fn insert(&mut self, domain: u32, template: Template) -> Result<(), AllocError>
         ensures ok { OnOk result (ChangesAt self.old self.new domain template.id (Some template)) }
         ensures err { OnErr result (self.new ≡ self.old) }
@@ -64,7 +64,7 @@ impl KindTable {
         Ok(())
     }
 
-    /// Drops the template of this ID in the domain. Where there is none, nothing changes.
+    /// Removes the template with this ID from the domain, if there is one.
     pub fn remove(&mut self, domain: u32, id: u16)
         ensures { ChangesAt self.old self.new domain id None }
     {
@@ -74,7 +74,7 @@ impl KindTable {
         templates.remove(&id);
     }
 
-    /// Drops all templates of the domain.
+    /// Removes all templates of the domain.
     pub fn remove_all(&mut self, domain: u32)
         ensures { (d i : ℕ) → template_at self.new d i ≡ (if nat_eq domain d then None else template_at self.old d i) }
     {

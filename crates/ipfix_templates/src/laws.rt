@@ -1,28 +1,28 @@
-//! The laws on template sets and on the templates in force.
+//! Laws about template sets and the templates in force.
 ghost use Rattle.ipfix_templates.specs.Laws.{EventAfterHistory, EventsFit, HasReading, MemoryIsNoFault, OneReading};
 
-/// One more event changes the template in force in its own domain alone: a definition puts its template at its
-/// ID, and a withdrawal takes away the templates that it names.
+/// One more event changes the templates in force in its own domain alone. A definition puts its template at its ID, and
+/// a withdrawal removes the templates that it names.
 pub fn event_after_history()
     ensures { EventAfterHistory }
 {}
 
-/// Any bytes have a reading as a template set, or a first fault, whichever kind of template it is.
+/// Any bytes have a reading as a template set or a first fault, for each kind of template.
 pub fn has_reading()
     ensures { HasReading }
 {}
 
-/// Bytes have one reading at most as a template set, or one first fault at most, and not both.
+/// Bytes have at most one reading as a template set, or at most one first fault, and not both.
 pub fn one_reading()
     ensures { OneReading }
 {}
 
-/// Each event of a template set stands on at least 4 bytes.
+/// Each event of a template set takes at least 4 bytes.
 pub fn events_fit()
     ensures { EventsFit }
 {}
 
-/// The fault that the bytes of a template set have is never that memory ran out.
+/// The bytes of a template set never have the fault that an allocation failed.
 pub fn memory_is_no_fault()
     ensures { MemoryIsNoFault }
 {}

@@ -11,13 +11,13 @@
 //! }
 //! ```
 //!
-//! It stands on no other crate of this repository. `read_template_set` reads the bytes after the header of a
-//! template set or an options template set into template events: definitions, withdrawals of one template and
-//! withdrawals of all templates of a kind. `TemplateTable` keeps the templates of each observation domain.
-//! The layer above may rely on this: the events are those of the bytes, record by record, or the fault is that
-//! of the first record that is none; and a table that was changed by each event of a history in turn finds at
-//! each domain and ID the template in force, which the history alone gives (`in_force`). Any bytes have such events
-//! or such a fault, and one of these alone.
+//! This crate uses no other crate of the project. `read_template_set` reads the bytes after the header of a template
+//! set or an options template set. It returns template events: definitions, withdrawals of one template, and
+//! withdrawals of all templates of a kind. `TemplateTable` holds the templates of each observation domain. Callers may
+//! rely on this: the events are those of the bytes, record by record, or the fault is that of the first malformed
+//! record. Any bytes have either such events or such a fault, and only one of them. A table that was changed by each
+//! event of a history in turn has at each domain and ID the template in force, which depends on the history alone
+//! (`in_force`).
 #![tactic(auto)]
 
 mod event;

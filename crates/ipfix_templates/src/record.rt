@@ -10,16 +10,17 @@ use crate::template::Template;
 use byteorder::{BigEndian, ByteOrder};
 use std::alloc::{AllocError, Global};
 
-/// What was read from the front of some bytes, and the bytes after it; or the fault of what stands there.
+/// A value that was read from the start of some bytes, and the bytes after it; or the fault of these bytes.
 pub type Read<'a, T> = Result<(T, &'a [u8]), TemplateFaultKind>;
 
-// The bit of a field specifier's first two bytes that says that an enterprise number follows.
+// The bit of a field specifier's first two bytes that is set if an enterprise number follows.
 const ENTERPRISE_BIT: u16 = 0x8000;
 
 // Template IDs below this one are reserved (RFC 7011 section 3.4.1).
 const FIRST_TEMPLATE_ID: u16 = 256;
 
-// The field specifier at the front, and the bytes after it. None where a part is missing.
+// Reads the field specifier at the start of the bytes, and returns it with the bytes after it. Returns `None` if the
+// input is too short.
 #[tactic(auto, unfolding(crate::specs::Reading::field_at))]
 fn read_field(bytes: &[u8]) -> Option<(Field, &[u8])>
     ensures { option_map (λ x. (x.0, x.1.now)) result ≡ field_at bytes.now }
@@ -48,7 +49,7 @@ fn read_field(bytes: &[u8]) -> Option<(Field, &[u8])>
     Some((field, &bytes[8..]))
 }
 
-// Whether so many field specifiers stand at the front.
+// Returns `true` if the bytes start with `count` field specifiers.
 fn has_fields(count: u16, bytes: &[u8]) -> bool
     ensures { result ≡ is_some (fields_at count bytes.now) }
 {
@@ -62,8 +63,8 @@ fn has_fields(count: u16, bytes: &[u8]) -> bool
     true
 }
 
-// So many field specifiers from the front, and the bytes after them. None where a part is missing; memory is asked for
-// only where none is.
+// Reads `count` field specifiers from the start of the bytes, and returns them with the bytes after them. Returns
+// `None` if the input is too short. Nothing is allocated in this case.
 fn read_fields(
     alloc: Global,
     count: u16,
@@ -88,7 +89,7 @@ fn read_fields(
     Ok(Some((Fields::from_vec(fields)?, rest)))
 }
 
-// The definition behind an ID and a field count.
+// Reads the definition that follows an ID and a field count.
 #[tactic(auto, unfolding(crate::specs::Reading::definition_at))]
 fn read_definition<'a>(
     alloc: Global,
@@ -128,8 +129,8 @@ fn read_definition<'a>(
     Ok(Ok((TemplateEvent::Define(template), rest)))
 }
 
-/// The template record at the front (RFC 7011 sections 3.4.1 and 3.4.2), and the bytes after it. Memory is asked for
-/// only where it has no fault.
+/// Reads the template record at the start of the bytes (RFC 7011 sections 3.4.1 and 3.4.2), and returns it with the
+/// bytes after it. Nothing is allocated if the record has a fault.
 #[tactic(auto, unfolding(crate::specs::Reading::record_at))]
 pub fn read_record<'a>(
     alloc: Global,

@@ -9,12 +9,13 @@ use crate::kind::Kind;
 use crate::record::read_record;
 use std::alloc::Global;
 
-/// Reads the bytes behind the header of a template set, or of an options template set where the kind is
-/// `Options` (RFC 7011 section 3.3). Records are read while 4 bytes are left; fewer are padding.
+/// Reads the bytes after the header of a template set, or of an options template set if the kind is `Options` (RFC 7011
+/// section 3.3). Records are read while at least 4 bytes remain. Fewer bytes are padding.
 ///
 /// # Errors
 ///
-/// The first record that is none, with its fault and the place where it begins; or memory ran out.
+/// Returns the fault of the first malformed record and the offset at which the record begins, or `NoMemory` if an
+/// allocation fails.
 pub fn read_template_set(
     alloc: Global,
     bytes: &[u8],
@@ -23,7 +24,7 @@ pub fn read_template_set(
     ensures ok { IfOk result (λ events. IsTemplateSet kind bytes.now events) }
     ensures fault { IfErr result (λ fault. (fault ≡ out_of_memory) ⊎ HasTemplateFault kind bytes.now fault) }
 
-    // Memory runs out only at a record that has no fault, behind others.
+    // An allocation fails only at a well-formed record, and all records before it are well formed.
     ensures memory { IfErr result (λ fault. fault ≡ out_of_memory → HasTemplateRecord kind bytes.now) }
 {
     let mut events = TemplateEvents::new(alloc);

@@ -10,8 +10,8 @@ use crate::template::Template;
 use std::alloc::{AllocError, Global};
 use std::marker::Model;
 
-/// The templates of each observation domain, by their IDs. Contracts see it as its entries, by what
-/// `template_at` finds there at each domain and ID; their order is left open.
+/// The templates of each observation domain, by their IDs. Contracts see the table as its entries, in no particular
+/// order: `template_at` returns the template at each domain and ID.
 #[derive(Drop)]
 pub struct TemplateTable {
     flow: KindTable,
@@ -32,7 +32,7 @@ impl Model for TemplateTable {
 }
 
 impl TemplateTable {
-    /// A table of no templates.
+    /// Returns an empty table.
     pub fn new(alloc: Global) -> Self
         ensures empty { result ≡ [] }
         ensures follows { Follows result [] }
@@ -43,7 +43,7 @@ impl TemplateTable {
         }
     }
 
-    /// The template of this ID in the domain.
+    /// Returns the template with this ID in the domain.
     pub fn get(&self, domain: u32, id: u16) -> Option<&Template>
         ensures found { option_copied result ≡ template_at self.now domain id }
         ensures numbered { IfSome result (λ template. template.now.id ≡ id) }
@@ -54,7 +54,7 @@ impl TemplateTable {
         }
     }
 
-    /// Defines a template in the domain, in place of the one of its ID. An `Err` changes nothing.
+    /// Defines a template in the domain, replacing the one with its ID. If an allocation fails, the table is unchanged.
     pub fn set(&mut self, domain: u32, template: Template) -> Result<(), AllocError>
         ensures ok { OnOk result (ChangesAt self.old self.new domain template.id (Some template)) }
         ensures err { OnErr result (self.new ≡ self.old) }
@@ -77,7 +77,7 @@ impl TemplateTable {
         Ok(())
     }
 
-    /// Withdraws the template of this ID in the domain. Where there is none, nothing changes.
+    /// Withdraws the template with this ID in the domain, if there is one.
     pub fn withdraw(&mut self, domain: u32, id: u16)
         ensures change { ChangesAt self.old self.new domain id None }
 

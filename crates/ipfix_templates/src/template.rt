@@ -6,15 +6,15 @@ use crate::kind::Kind;
 use std::alloc::AllocError;
 use std::marker::Model;
 
-/// A template (RFC 7011 section 3.4): its ID is 256 or above, and it has at least one field. A flow template
-/// has no scope fields. Of an options template the first fields are its scope, at least one of them.
+/// A template (RFC 7011 section 3.4). Its ID is 256 or above, and it has at least one field. A flow template has no
+/// scope fields. The first fields of an options template, at least one, are its scope fields.
 #[derive(Debug, Drop)]
 pub struct Template {
     /// The template ID.
     pub id: u16,
-    /// What its records describe.
+    /// The kind of records that the template describes.
     pub kind: Kind,
-    /// How many of the fields, from the first on, are scope fields.
+    /// The number of scope fields, which are the first fields.
     pub scope_count: u16,
     /// The fields, in the order of the values in a record.
     pub fields: Fields,
@@ -31,43 +31,43 @@ impl Model for Template {
 }
 
 impl Template {
-    /// The template ID.
+    /// Returns the template ID.
     pub fn id(&self) -> u16
         ensures { result ≡ self.now.id }
     {
         self.id
     }
 
-    /// What the records of this template describe.
+    /// Returns the kind of records that the template describes.
     pub fn kind(&self) -> Kind
         ensures { result ≡ self.now.kind }
     {
         self.kind
     }
 
-    /// How many of the fields, from the first on, are scope fields.
+    /// Returns the number of scope fields, which are the first fields.
     pub fn scope_count(&self) -> u16
         ensures { result ≡ self.now.scope_count }
     {
         self.scope_count
     }
 
-    /// The fields, in the order of the values in a record.
+    /// Returns the fields, in the order of the values in a record.
     pub fn fields(&self) -> &Fields
         ensures { result.now ≡ self.now.fields }
     {
         &self.fields
     }
 
-    /// The fewest bytes of a record: the sum of the fixed lengths, and 1 for each variable one. A data set
-    /// has records while it has this many bytes left; fewer are padding (RFC 7011 section 3.3.1).
+    /// Returns the minimum number of bytes of a record: the sum of the fixed lengths, and 1 for each variable length. A
+    /// data set has records while this many bytes remain. Fewer bytes are padding (RFC 7011 section 3.3.1).
     pub fn least_length(&self) -> u32
         ensures { result ≡ least_length self.now.fields }
     {
         self.fields.least_length()
     }
 
-    /// Another template with the same parts. The fields are shared, so that it takes no memory for them.
+    /// Returns a copy of the template. The fields are shared, so the copy allocates no memory for them.
     pub fn copy(&self) -> Result<Template, AllocError>
         ensures { IfOk result (λ template. template ≡ self.now) }
     {

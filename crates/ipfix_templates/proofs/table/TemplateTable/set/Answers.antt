@@ -4,7 +4,7 @@ use Rattle.ipfix_templates.proofs.Parts.{flow_put, options_put, flow_parted, opt
 use Rattle.ipfix_templates.proofs.Tables.{follows_define, keyed_put}
 use Rattle.ipfix_templates.proofs.table.TemplateTable.set.Goals as goal
 
--- the table of flow templates with this one, and that of options templates without one there
+-- the table of flow templates with this template, and that of options templates without one there
 flow_removed : (c : goal.After-remove) → ChangesAt c.self.inside.options c.remove.new.self c.args.domain c.args.template.id None
 flow_removed c = rw c.id-id.ensures at c.remove.ensures
 
