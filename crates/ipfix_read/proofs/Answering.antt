@@ -1,4 +1,4 @@
--- What a call for a message answers, from what it gathered and read.
+-- The result of a call for a message, from what it gathered and read.
 use Rattle.std.proofs.Common.{◌≡◌, ℕ, false, ◌+◌, ◌<◌, List, ◌++◌, length, take, drop, Option, None, Some, IfSome, Result, Ok, Err, ◌⊎◌, inl, inr, refl, subst, sym, ap, ◌∙◌, arith, length-append}
 use Rattle.std.proofs.lemmas.Option.{IfSome_then}
 use Rattle.byteorder.specs.Endian.{big_number}
@@ -12,7 +12,7 @@ use Rattle.ipfix_read.specs.Message.{MessageView, IsMessage, HasHeader, events_o
 use Rattle.ipfix_read.specs.Messages.{ProgressView, AnswersNext, Gathers}
 use Rattle.ipfix_read.proofs.MessageLemmas.{message_fault}
 
--- The answers by the fields that stand between two calls, which are the view of what stood there.
+-- The results, by the parts of the state between two calls, which are the view of the old state.
 module _ (view old new : ProgressView) (o n : Option (List ℕ)) (buffer : List ℕ) (same : view ≡ old) where
   by_left : (gathered : Result (Option ℕ) ReadFaultKind) (answer : Result (Option MessageView) ReadFault) → IfSome o (λ left. Gathers view.count left gathered buffer n)
       → ((left : List ℕ) → Gathers view.count left gathered buffer n → AnswersNext view left answer new n) → IfSome o (λ left. AnswersNext old left answer new n)
@@ -31,7 +31,7 @@ module _ (view old new : ProgressView) (o n : Option (List ℕ)) (buffer : List 
       ])
 
   module _ (front : List ℕ) (size : ℕ) (taken : front ≡ take size buffer) (is : IfSome o (λ left. Gathers view.count left (Ok (Some size)) buffer n)) where
-    -- a fault of the sets, or want of memory
+    -- a fault of the sets, or a failed allocation
     pub answers_fault_of_sets : (fault : ReadFault) → HasHeader front
         → IsRefused view.table (λ history. HasSetsFault history (big_number 4 (drop 12 front)) (drop 16 front) (view.offset + 16)) fault → new.state ≡ Failed
         → IfSome o (λ left. AnswersNext old left (Err fault) new n)
@@ -51,7 +51,7 @@ module _ (view old new : ProgressView) (o n : Option (List ℕ)) (buffer : List 
         let parts : left ≡ front ++ there.0 = there.1 ∙ ap (λ (l : List ℕ). l ++ there.0) (sym taken) in
         (front, there.0, parts, there.2, read, offset ∙ ap (λ (k : ℕ). view.offset + k) (sym sized), count, state, there.3))
 
--- whatever the reader tells: it failed, or the fault is none of calls
+-- whether the reader reports its bytes or not: it failed, or the fault is not one of calls
 pub fault_of_header : (view old : ProgressView) (kind : ReadFaultKind) → view ≡ old → (kind ≡ Unread) ⊎ (is_of_calls kind ≡ false)
     → (record { kind = kind; offset = view.offset } ≡ read_fault old.offset) ⊎ (is_of_calls kind ≡ false)
 fault_of_header view old kind same (inl unread) = inl (λ i. record { kind = unread i; offset = (same i).offset })

@@ -1,4 +1,4 @@
--- Bytes have one reading as the content of a set, or one fault.
+-- Bytes have at most one reading as the content of a set, or one fault.
 use Rattle.std.proofs.Common.{◌≡◌, ◌≢◌, ℕ, ◌+◌, ◌-◌, ◌<◌, ◌≤◌, List, length, Option, Some, None, ◌⊎◌, inl, inr, refl, sym, ap, subst, ◌∙◌, arith}
 use Rattle.std.proofs.lemmas.Bool.{cases_lt, cases_eq}
 use Rattle.ipfix_templates.specs.declared.kind.Kind.{Kind}
@@ -142,7 +142,7 @@ of_values : (history : List (ℕ × TemplateEvent)) (domain id : ℕ) (bytes : L
 of_values history domain id bytes base (Some t) high is = of_records history domain id bytes base t high is (records_outcome t bytes)
 of_values history domain id bytes base None high is = inl (Skipped id, (refl, λ e. omega (arith, e), λ e. omega (arith, e), λ _. is))
 
--- an ID below 256 of no templates
+-- an ID below 256 that isn't one of template sets
 of_low : (history : List (ℕ × TemplateEvent)) (domain id : ℕ) (bytes : List ℕ) (base : ℕ) → id ≢ 2 → id ≢ 3 → id < 256 → ContentOutcome history domain id bytes base
 of_low history domain id bytes base two three low = inl (Skipped id, (refl, two, three, λ high. absurd (omega (arith, low, high))))
 

@@ -1,4 +1,4 @@
--- The values at the front of bytes, and the bytes that they take.
+-- The values at the start of bytes, and the bytes that they take.
 use Rattle.std.proofs.Common.{◌≡◌, ℕ, ◌+◌, ◌-◌, ◌<◌, ◌≤◌, Bool, true, false, not, cond, ltb, eqb, List, [], ◌∷◌, ◌++◌, length, take, drop, Option, Some, None, inl, inr, refl, sym, ap, subst, ◌∙◌, append_assoc, take-append-drop, length-append, length-drop, drop-drop, arith}
 use Rattle.std.specs.Prelude.{filter, option_and_then, option_map}
 use Rattle.std.specs.Option.{option_map_or}
@@ -11,7 +11,7 @@ use Rattle.ipfix_templates.specs.Runs.{runs_behind, last_run_behind}
 use Rattle.ipfix_read.specs.Value.{FieldValueView, bytes_at, variable_at, value_at, values_at, whole_values}
 use Rattle.ipfix_templates.proofs.Choice.{chosen, gave, some_is}
 
--- what was read stands at the front, and is read alike whatever follows it
+-- the value that was read is at the start, and is read in the same way whatever follows it
 abbrev pub Front : {A : Type 0} → (List ℕ → Option (A × List ℕ)) → List ℕ → A × List ℕ → Type 0
 Front read bytes x = (front : List ℕ) × (bytes ≡ front ++ x.1) × ((more : List ℕ) → read (front ++ more) ≡ Some (x.0, more))
 
@@ -86,7 +86,7 @@ whole_is (field ∷ fields) bytes x e =
     whole_step field fields bytes a.0 a.1 ∙ ap (λ (vs : List FieldValueView). record { field = field; value = a.0.0 } ∷ vs) (whole_is fields a.0.1 b.0 b.1)
     ∙ ap (λ (y : List FieldValueView × List ℕ). y.0) (some_is _ _ b.2)
 
--- the bytes before what is left are those of the values
+-- the bytes before the remaining ones are those of the values
 pub taken : (fields : List Field) (bytes : List ℕ) (x : List FieldValueView × List ℕ) (n : ℕ) → values_at fields bytes ≡ Some x → n ≡ length bytes - length x.1
     → (values_at fields (take n bytes) ≡ Some (whole_values fields (take n bytes), [])) × (whole_values fields (take n bytes) ≡ x.0)
 taken fields bytes x n e is =
@@ -96,13 +96,13 @@ taken fields bytes x n e is =
     let whole = whole_is fields (take n bytes) (x.0, []) read in
     (read ∙ ap (λ (vs : List FieldValueView). Some (vs, [])) (sym whole), whole)
 
--- ---- the bytes behind values, run by run
+-- ---- the bytes after values, run by run
 
--- what is left of a reading
+-- the remaining bytes of a reading
 abbrev pub left : Option (List FieldValueView × List ℕ) → Option (List ℕ)
 left read = option_map (λ x. x.1) read
 
--- what is left behind runs of bytes with a variable value after each, and a last run
+-- the remaining bytes after runs of bytes, each followed by a variable value, and a last run
 abbrev pub behind_runs : List ℕ → ℕ → List ℕ → Option (List ℕ)
 behind_runs [] last bytes = option_map (λ f. f.1) (bytes_at last bytes)
 behind_runs (n ∷ ns) last bytes = option_and_then (λ f. option_and_then (λ v. behind_runs ns last v.1) (variable_at f.1)) (bytes_at n bytes)
@@ -119,7 +119,7 @@ left_step : (v : FieldValueView) (read : Option (List FieldValueView × List ℕ
 left_step v None = refl
 left_step v (Some x) = refl
 
--- the bytes behind the value of a field, and behind those of the fields after it
+-- the bytes after the value of a field, and those after the fields that follow it
 left_first : (field : Field) (fields : List Field) (read : Option (List ℕ × List ℕ))
     → left (option_and_then (λ v. option_and_then (λ vs. Some (record { field = field; value = v.0 } ∷ vs.0, vs.1)) (values_at fields v.1)) read)
     ≡ option_and_then (λ v. left (values_at fields v.1)) read
@@ -138,7 +138,7 @@ fixed_is : (field : Field) (bytes : List ℕ) → is_variable field ≡ false �
 unfolding value_at
 fixed_is field bytes is = rw is refl
 
--- no bytes, and then what follows
+-- no bytes, followed by the next step
 none_first : (next : List ℕ → Option (List ℕ)) (bytes : List ℕ) → option_and_then (λ f. next f.1) (bytes_at 0 bytes) ≡ next bytes
 none_first next bytes = rw (le-ltb (length bytes) 0 (omega arith)) refl
 
@@ -149,7 +149,7 @@ below_alike n a b le =
       | false ↦ λ h. le-ltb (n - a) b (omega (arith, ltb-false n (a + b) h))
     ] refl
 
--- what follows so many bytes
+-- the step after the given number of bytes
 abbrev then_next : (List ℕ → Option (List ℕ)) → Option (List ℕ × List ℕ) → Option (List ℕ)
 then_next next read = option_and_then (λ f. next f.1) read
 
@@ -158,7 +158,7 @@ cut_alike : (next : List ℕ → Option (List ℕ)) (short : Bool) (front other 
 cut_alike next true front other after = refl
 cut_alike next false front other after = refl
 
--- so many bytes and so many more, and then what follows
+-- two runs of bytes, followed by the next step
 both_first : (next : List ℕ → Option (List ℕ)) (a b : ℕ) (bytes : List ℕ)
     → option_and_then (λ f. then_next next (bytes_at b f.1)) (bytes_at a bytes) ≡ then_next next (bytes_at (a + b) bytes)
 both_first next a b bytes =
@@ -173,7 +173,7 @@ both_first next a b bytes =
           (cut_alike next (ltb (length bytes) (a + b)) (take b (drop a bytes)) (take (a + b) bytes) (drop (a + b) bytes))
     ] refl
 
--- runs that are kept of fields lead to what is left behind the fields' values
+-- the runs of fields lead to the bytes after the fields' values
 runs_behind_lem : (sum : ℕ) (fields : List Field) (bytes : List ℕ)
     → behind_runs (runs_behind sum fields) (last_run_behind sum fields) bytes ≡ option_and_then (λ f. left (values_at fields f.1)) (bytes_at sum bytes)
 unfolding values_at

@@ -1,4 +1,4 @@
--- That memory ran out is no fault of the bytes of a File.
+-- The bytes of a File never have the fault that an allocation failed.
 use Rattle.std.proofs.Common.{◌≡◌, ◌≢◌, ℕ, ◌+◌, false, cond, ltb, eqb, List, length, drop, Some, None, inl, inr, refl, sym, ap, ◌∙◌}
 use Rattle.std.specs.Option.{option_or}
 use Rattle.byteorder.specs.Endian.{big_number}
@@ -15,12 +15,12 @@ use Rattle.ipfix_read.specs.Message.{header_fault, own_fault, HasMessageFault}
 use Rattle.ipfix_read.specs.Laws.{MemoryIsNoFault}
 use Rattle.ipfix_templates.proofs.Choice.{chosen}
 
--- what is none of calls is none of a reader
+-- a fault that isn't one of calls isn't one of a reader
 pub not_of_reader : (kind : ReadFaultKind) → is_of_calls kind ≡ false → is_of_reader kind ≡ false
 not_of_reader Unread e = absurd (cc)
 not_of_reader kind e = refl
 
--- it tells what is wrong with the bytes
+-- the fault concerns the bytes
 abbrev Tells : ReadFaultKind → Type 0
 Tells kind = (kind ≢ NoMemory) × (kind ≢ BadTemplate NoTemplateMemory)
 

@@ -1,4 +1,4 @@
--- What two reads gather at the front of a buffer: a header, and then what it says is left.
+-- The bytes that two reads gather at the start of a buffer: a header, and the rest of the length that it gives.
 use Rattle.std.proofs.Common.{◌≡◌, ℕ, ◌+◌, ◌-◌, ◌<◌, ◌≤◌, List, [], ◌++◌, length, take, Option, None, Some, IfSome, Ok, Err, inl, inr, subst, sym, ap, ◌∙◌, refl, arith, append_assoc, length-append}
 use Rattle.std.specs.Io.KnownBytes.{Consumes, IsAtEnd}
 use Rattle.std.proofs.KnownBytes.{Consumes-trans}
@@ -13,7 +13,7 @@ use Rattle.ipfix_read.specs.Message.{HasHeader, own_fault}
 use Rattle.ipfix_read.specs.Messages.{Gathers, HoldsMessage}
 use Rattle.ipfix_read.proofs.Headers.{number_ahead, written_ahead, own_ahead, header_short, header_own, header_cut, header_none}
 
--- ---- where the two parts lie
+-- ---- the offsets of the two parts
 
 -- the header that was read
 abbrev pub head_of : List ℕ → List ℕ → List ℕ
@@ -22,7 +22,7 @@ head_of xs ys = take 16 (put_mid 0 16 xs ys)
 pub head_is : (xs ys : List ℕ) → length ys ≡ 16 → head_of xs ys ≡ ys
 head_is xs ys sixteen = take_at ys (post_of 0 16 xs) 16 sixteen
 
--- the buffer behind both
+-- the buffer after both reads
 abbrev both_in : ℕ → List ℕ → List ℕ → List ℕ → List ℕ
 both_in size xs ys zs = put_mid 16 (size - 16) (put_mid 0 16 xs ys) zs
 
@@ -33,9 +33,9 @@ two_parts size xs ys zs sixteen all =
     ∙ ap (λ (k : ℕ). take k (ys ++ (zs ++ rest))) (all ∙ ap (λ (k : ℕ). k + length zs) (sym sixteen))
     ∙ take-append-add ys (zs ++ rest) (length zs) ∙ ap (λ (l : List ℕ). ys ++ l) (take-append_seam zs rest)
 
--- ---- the reader gave nothing, too little, or a header that has a fault
+-- ---- the reader returned nothing, too little, or a header with a fault
 
--- where nothing is gathered, it is open what the buffer holds
+-- if nothing is gathered, the content of the buffer is unspecified
 pub unread : (o : Option (List ℕ)) (count : ℕ) → IfSome o (λ left. Gathers count left (Err Unread) [] None)
 unread None count = tt
 unread (Some left) count = inl refl
@@ -56,11 +56,11 @@ short_header (Some left) (Some rest) count head ys given some short within end =
     omega (arith, ap (λ (l : List ℕ). length l) given, length-append (take head ys) rest, ap (λ (l : List ℕ). length l) end, length-take-le head ys within) in
     inr (omega (arith, long, some), header_short count left (omega (arith, long, short)))
 
--- a whole header was read: it is at the front of what was left
+-- a whole header was read: it is at the start of the remaining bytes
 whole_head : (left rest ys : List ℕ) (head : ℕ) → left ≡ take head ys ++ rest → length ys ≡ 16 → 16 ≤ head → left ≡ ys ++ rest
 whole_head left rest ys head given sixteen whole = given ∙ ap (λ (l : List ℕ). l ++ rest) (take_all head ys (omega (arith, sixteen, whole)))
 
--- what a header at the front says of itself and of the length
+-- the fault and the length that a header at the start gives
 same_fault : (count : ℕ) (left xs ys more : List ℕ) → left ≡ ys ++ more → length ys ≡ 16 → own_fault count left ≡ own_fault count (head_of xs ys)
 same_fault count left xs ys more parts sixteen =
     ap (λ (l : List ℕ). own_fault count l) parts ∙ own_ahead count ys more (omega (arith, sixteen)) ∙ ap (λ (l : List ℕ). own_fault count l) (sym (head_is xs ys sixteen))
@@ -83,7 +83,7 @@ faulty_header (Some left) (Some rest) count head xs ys kind given sixteen whole 
 
 -- ---- both reads
 
--- what both gave
+-- the bytes that both reads returned
 both_given : (left rest ys zs : List ℕ) (head : ℕ) → left ≡ (take head ys ++ zs) ++ rest → length ys ≡ 16 → 16 ≤ head → left ≡ ys ++ (zs ++ rest)
 both_given left rest ys zs head given sixteen whole =
     given ∙ ap (λ (l : List ℕ). (l ++ zs) ++ rest) (take_all head ys (omega (arith, sixteen, whole))) ∙ append_assoc ys zs rest

@@ -1,4 +1,4 @@
--- What a header says of itself, however many bytes follow it, and what it says where they are known.
+-- Headers, whatever bytes follow them, and headers whose following bytes are known.
 use Rattle.std.proofs.Common.{◌≡◌, ℕ, ◌<◌, ◌≤◌, Bool, true, false, cond, ltb, eqb, List, ◌++◌, length, Option, Some, None, ◌⊎◌, inl, inr, refl, sym, ap, ◌∙◌, arith}
 use Rattle.std.specs.Option.{option_or}
 use Rattle.std.proofs.lemmas.Bool.{lt-ltb, le-ltb, ltb-true, ltb-false, eqb-true}
@@ -11,7 +11,7 @@ use Rattle.ipfix_read.specs.Set.{written_length}
 use Rattle.ipfix_read.specs.Message.{header_fault, own_fault}
 use Rattle.ipfix_read.proofs.Sets.{front_number, front_length}
 
--- ---- numbers at the front, whatever follows
+-- ---- numbers at the start, whatever follows
 
 pub number_ahead : (xs ys : List ℕ) → 2 ≤ length xs → big_number 2 (xs ++ ys) ≡ big_number 2 xs
 number_ahead xs ys long = sym (front_number (length xs) (xs ++ ys) long) ∙ ap (λ (l : List ℕ). big_number 2 l) (take_at xs ys (length xs) refl)
@@ -36,7 +36,7 @@ header_cut count bytes long own short = rw (le-ltb (length bytes) 16 long, own, 
 pub header_none : (count : ℕ) (bytes : List ℕ) → 16 ≤ length bytes → own_fault count bytes ≡ None → written_length bytes ≤ length bytes → header_fault count bytes ≡ None
 header_none count bytes long own within = rw (le-ltb (length bytes) 16 long, own, le-ltb (length bytes) (written_length bytes) within) refl
 
--- what a header says that has no fault
+-- facts about a header that has no fault
 pub record Own (count : ℕ) (bytes : List ℕ) : Type 0 where
   pub counted : count < 4294967295
   pub version : big_number 2 bytes ≡ 10
@@ -57,7 +57,7 @@ own_sound count bytes e =
       | inr p ↦ absurd (cc)
     ]
 
--- and where the bytes are known
+-- and about one whose following bytes are known
 pub header_sound : (count : ℕ) (bytes : List ℕ) → header_fault count bytes ≡ None → Own count bytes × (written_length bytes ≤ length bytes)
 header_sound count bytes e =
     elim (chosen (ltb (length bytes) 16) (Some TruncatedHeader) _ None e) [

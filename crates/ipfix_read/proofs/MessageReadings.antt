@@ -1,4 +1,4 @@
--- Bytes have one reading as a File, or one fault, and reading goes on behind a first message as if begun there.
+-- Bytes have at most one reading as a File, or one fault, and reading continues after a first message.
 use Rattle.std.proofs.Common.{◌≡◌, ℕ, ◌+◌, ◌-◌, ◌<◌, ◌≤◌, List, [], ◌∷◌, ◌++◌, length, take, drop, Option, Some, None, ◌⊎◌, inl, inr, refl, sym, ap, subst, ◌∙◌, arith, length-append}
 use Rattle.std.proofs.lemmas.Bool.{cases_lt}
 use Rattle.std.proofs.lemmas.List.{nil_from_length}
@@ -78,7 +78,7 @@ module _ (one : OneTemplateSet) where
 -- ---- there is a reading or a fault
 
 module _ (known : HasTemplateReading) where
-  -- a message is due at the front
+  -- there is a message at the start
   message_due : (at : FilePlace) (base : ℕ) (o : Option ReadFaultKind) → header_fault at.1 at.2 ≡ o
       → Goes ReadsMessage at ⊎ ((fault : ReadFault) × HasMessageFault at.0 at.1 at.2 base fault)
   message_due at base (Some kind) is = inr (record { kind = kind; offset = base }, inl (kind, is, refl))

@@ -1,4 +1,4 @@
--- Records that are kept as their bytes, their fields and their number.
+-- Records that are stored as their bytes, their fields and their number.
 use Rattle.std.proofs.Common.{◌≡◌, ℕ, zero, suc, ◌+◌, ◌*◌, ◌-◌, ◌<◌, ◌≤◌, ◌/◌, Bool, true, false, cond, All, List, [], ◌∷◌, ◌++◌, length, map, take, drop, Option, Some, None, Bor, refl, sym, ap, subst, is_some, ◌∙◌, append_assoc, length-append, length-drop, drop-drop, arith}
 use Rattle.std.specs.Prelude.{option_and_then, option_map}
 use Rattle.std.proofs.Math.Nat.{add-mul, le-div_iff_mul-le, suc-mul}
@@ -18,7 +18,7 @@ use Rattle.ipfix_read.specs.WholeRecords.{packed_records, whole_records}
 use Rattle.ipfix_templates.proofs.Choice.{gave, mapped, some_is}
 use Rattle.ipfix_read.proofs.Cuts.{behind_runs, left, values_front, runs_are}
 
--- the fields of values are those that they were read by
+-- the fields of values are those by which they were read
 pub fields_are : (fields : List Field) (bytes : List ℕ) (x : List FieldValueView × List ℕ) → values_at fields bytes ≡ Some x → map (λ v. v.field) x.0 ≡ fields
 unfolding values_at
 fields_are [] bytes x e = sym (ap (λ (y : List FieldValueView × List ℕ). map (λ v. v.field) y.0) (some_is ([], bytes) x e))
@@ -32,7 +32,7 @@ fields_are (field ∷ fields) bytes x e =
 pub as_many : (fields : List Field) (bytes : List ℕ) (x : List FieldValueView × List ℕ) → values_at fields bytes ≡ Some x → length x.0 ≡ length fields
 as_many fields bytes x e = sym (length-map x.0 (λ v. v.field)) ∙ ap length (fields_are fields bytes x e)
 
--- ---- one after the other
+-- ---- consecutive records
 
 none_first : (kind : Kind) (fields : List Field) (count : ℕ) (bytes : List ℕ) → values_at fields bytes ≡ None → whole_records kind fields count bytes ≡ []
 unfolding whole_records
@@ -62,7 +62,7 @@ one_read kind fields (suc count) bytes values after some e =
     some_first kind fields count bytes (values, after) (sym e)
     ∙ ap (λ (n : ℕ). record { kind = kind; fields = values } ∷ whole_records kind fields n after) (omega arith)
 
--- what holds of each whole record holds of all
+-- what is true of each complete record is true of all
 all_of : (P : Record → Type 0) (kind : Kind) (fields : List Field) → ((bytes : List ℕ) (x : List FieldValueView × List ℕ) → values_at fields bytes ≡ Some x → P (record { kind = kind; fields = x.0 }))
     → (count : ℕ) (bytes : List ℕ) → All P (whole_records kind fields count bytes)
 all_of P kind fields each zero bytes = rw (no_count kind fields bytes) (All-nil P)
@@ -80,7 +80,7 @@ pub packed_of_kind : (kind : Kind) (fields : Option (List Field)) (count : ℕ) 
 packed_of_kind kind None count bytes = All-nil (λ (r : Record). r.kind ≡ kind)
 packed_of_kind kind (Some fields) count bytes = all_of (λ r. r.kind ≡ kind) kind fields (λ _ _ _. refl) count bytes
 
--- what an iterator has left, which borrows the fields
+-- the remaining records of an iterator, which borrows the fields
 abbrev borrowed : Kind → Option (Bor (List Field)) → ℕ → List ℕ → List Record
 borrowed kind fields count bytes = packed_records kind (option_map (λ f. f.now) fields) count bytes
 
@@ -104,19 +104,19 @@ module _ (kind : Kind) (fields : Option (Bor (List Field))) (count : ℕ) (bytes
         of_fields ∙ one_read kind f.now count bytes values after some e
         ∙ ap (λ (o : Option (Bor (List Field))). record { kind = kind; fields = values } ∷ borrowed kind o (count - 1) after) (sym is)
 
--- ---- as they are read of a set
+-- ---- records as they are read from a set
 
--- the record at the front has the values at the front
+-- the record at the start has the values at the start
 record_is : (t : TemplateView) (bytes : List ℕ) (x : List FieldValueView × List ℕ) → values_at t.fields bytes ≡ Some x → record_at t bytes ≡ Some (record { kind = t.kind; fields = x.0 }, x.1)
 record_is t bytes x e = ap (option_map (λ v. (record { kind = t.kind; fields = v.0 }, v.1))) e
 
--- a record that is read is that of its values
+-- a record that is read consists of its values
 values_of : (t : TemplateView) (bytes after : List ℕ) (r : Record) → record_at t bytes ≡ Some (r, after) → (x : List FieldValueView × List ℕ) × (values_at t.fields bytes ≡ Some x) × (r ≡ record { kind = t.kind; fields = x.0 }) × (after ≡ x.1)
 values_of t bytes after r e =
     let m = mapped (values_at t.fields bytes) (λ v. (record { kind = t.kind; fields = v.0 }, v.1)) (r, after) e in
     (m.0, m.1, ap (λ (y : Record × List ℕ). y.0) (sym m.2), ap (λ (y : Record × List ℕ). y.1) (sym m.2))
 
--- the records that are read stand at the front, and are read alike whatever follows them
+-- the records that are read are at the start, and are read in the same way whatever follows them
 reads_front : (t : TemplateView) (bytes : List ℕ) (records : List Record) (rest : List ℕ) → ReadsRecords t bytes records rest
     → (front : List ℕ) × (bytes ≡ front ++ rest) × ((more : List ℕ) → whole_records t.kind t.fields (length records) (front ++ more) ≡ records)
 reads_front t bytes [] rest done = ([], done, λ more. no_count t.kind t.fields more)
@@ -134,7 +134,7 @@ reads_front t bytes (r ∷ rs) rest done =
           ∙ ap (λ (y : Record). y ∷ rs) (sym v.2),
     )
 
--- the bytes before what is left are the records
+-- the bytes before the remaining ones are the records
 pub packed : (t : TemplateView) (bytes : List ℕ) (records : List Record) (rest : List ℕ) (count n : ℕ) → ReadsRecords t bytes records rest → length records ≡ count
     → n ≡ length bytes - length rest → whole_records t.kind t.fields count (take n bytes) ≡ records
 packed t bytes records rest count n done counted is =
@@ -148,7 +148,7 @@ pub packed_length : (t : TemplateView) (bytes : List ℕ) (records : List Record
     → n ≡ length bytes - length rest → length (whole_records t.kind t.fields count (take n bytes)) ≡ count
 packed_length t bytes records rest count n done counted is = ap length (packed t bytes records rest count n done counted is) ∙ counted
 
--- where there is one, the first stands whole at the front
+-- if there are records, the first is complete at the start
 pub first_stands : (t : TemplateView) (bytes : List ℕ) (records : List Record) (rest : List ℕ) (count : ℕ) → ReadsRecords t bytes records rest → length records ≡ count → 0 < count → HasRecord t bytes
 first_stands t bytes [] rest count done counted some = absurd (omega (arith, counted, some))
 first_stands t bytes (r ∷ rs) rest count done counted some = let one = done.1 in ([], bytes, refl, one.0, ap is_some one.1)
@@ -166,7 +166,7 @@ no_runs_last sum (f ∷ fs) e =
           omega (arith, no_runs_last (sum + f.length) fs h, sum_by-cons least_field_length f fs, fixed)
     ] refl e
 
--- values of fixed lengths take the sum of these
+-- the length of values of fixed lengths is the sum of these
 fixed_values : (fields : List Field) (bytes : List ℕ) → runs_behind 0 fields ≡ [] → least_length fields ≤ length bytes
     → (x : List FieldValueView × List ℕ) × (values_at fields bytes ≡ Some x) × (x.1 ≡ drop (least_length fields) bytes)
 fixed_values fields bytes none enough =
@@ -180,7 +180,7 @@ fixed_values fields bytes none enough =
     ∙ ap (option_map (λ f. f.1)) cut in
     mapped (values_at fields bytes) (λ x. x.1) (drop (least_length fields) bytes) behind
 
--- as many records as there is room for
+-- as many records as fit
 pub fixed_records : (t : TemplateView) (count : ℕ) (bytes : List ℕ) → runs_behind 0 t.fields ≡ [] → 0 < least_length t.fields → count * least_length t.fields ≤ length bytes
     → (records : List Record) × (length records ≡ count) × ReadsRecords t bytes records (drop (count * least_length t.fields) bytes)
 fixed_records t zero bytes none some room =
@@ -197,13 +197,13 @@ fixed_records t (suc count) bytes none some room =
       (v.0.1, ((some, omega (arith, room, split)), record_is t bytes v.0 v.1), subst (λ (rest : List ℕ). ReadsRecords t v.0.1 more.0 rest) behind more.2),
     )
 
--- behind as many records as there is room for, there is none for one more
+-- after as many records as fit, there is no room for one more
 pub few_left : (n least : ℕ) → 0 < least → n / least * least + least ≤ n → ⊥
 few_left n least some room =
     let one_more : (n / least + 1) * least ≤ n = omega (arith, room, add-mul (n / least) 1 least) in
     omega (arith, (le-div_iff_mul-le {k = least} {x = n / least + 1} {y = n} some).1 one_more)
 
--- ---- a record, from what is left behind its values
+-- ---- a record, from the bytes after its values
 
 none_from_left : (o : Option (List FieldValueView × List ℕ)) → None ≡ option_map (λ x. x.1) o → o ≡ None
 none_from_left None e = refl

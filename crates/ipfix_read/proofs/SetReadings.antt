@@ -1,4 +1,4 @@
--- Bytes have one reading as the sets of a message, or one fault.
+-- Bytes have at most one reading as the sets of a message, or one fault.
 use Rattle.std.proofs.Common.{◌≡◌, ℕ, ◌+◌, ◌-◌, ◌<◌, ◌≤◌, List, [], ◌++◌, length, take, drop, ◌⊎◌, inl, inr, refl, sym, ap, subst, ◌∙◌, arith, length-append}
 use Rattle.std.proofs.lemmas.Bool.{cases_lt}
 use Rattle.std.proofs.lemmas.List.{nil_from_length, take_at, drop_at}
@@ -13,7 +13,7 @@ use Rattle.ipfix_read.specs.Set.{written_length, HasContentFault, IsSet, HasSetL
 use Rattle.ipfix_read.proofs.Sets.{Cut, cut_of, cut_parts, cut_length, cut_written, front_length}
 use Rattle.ipfix_read.proofs.Contents.{one_content, content_or_fault, one_content_fault, content}
 
--- a front that has its own length is the one that the bytes' length cuts off
+-- a front with its own length is the front that this length cuts off
 pub record Front (bytes front after : List ℕ) : Type 0 where
   pub parts : bytes ≡ front ++ after
   pub least : 4 ≤ length front
@@ -28,7 +28,7 @@ front_written bytes front after f = sym (front_length (length front) bytes f.lea
 pub front_within : (bytes front after : List ℕ) → Front bytes front after → length front + length after ≡ length bytes
 front_within bytes front after f = sym (ap length f.parts ∙ length-append front after)
 
--- two such fronts are one
+-- two such fronts are equal
 pub one_front : (bytes front after other left : List ℕ) → Front bytes front after → Front bytes other left → (front ≡ other) × (after ≡ left)
 one_front bytes front after other left f g =
     let sizes : length front ≡ length other = sym (front_written bytes front after f) ∙ front_written bytes other left g in
@@ -91,7 +91,7 @@ module _ (one : OneTemplateSet) where
 abbrev pub SetsOutcome : List (ℕ × TemplateEvent) → ℕ → List ℕ → ℕ → Type 0
 SetsOutcome history domain bytes base = ((sets : List Set) × IsSets history domain bytes sets) ⊎ ((fault : ReadFault) × HasSetsFault history domain bytes base fault)
 
--- a length that cuts a front off, of at least so many bytes
+-- a length that cuts off a front with a minimum length
 fits : (least many written : ℕ) → ((least ≤ many) × (least ≤ written) × (written ≤ many)) ⊎ ((least ≤ many) × (least ≤ written) × (written ≤ many) → ⊥)
 fits least many written =
     elim (cases_lt written least) [
@@ -103,7 +103,7 @@ fits least many written =
           ]
     ]
 
--- the front that a length in its place cuts off
+-- the front that the length in its header cuts off
 pub cut_at : (bytes : List ℕ) → 4 ≤ written_length bytes → written_length bytes ≤ length bytes
     → Cut bytes (take (written_length bytes) bytes) (drop (written_length bytes) bytes) (written_length bytes)
 cut_at bytes least within = cut_of bytes (take (written_length bytes) bytes) (drop (written_length bytes) bytes) (written_length bytes) refl refl least within refl

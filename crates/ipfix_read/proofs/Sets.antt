@@ -1,4 +1,4 @@
--- Sets, one after the other.
+-- Consecutive sets.
 use Rattle.std.proofs.Common.{◌≡◌, ℕ, ◌+◌, ◌-◌, ◌<◌, ◌≤◌, false, eqb, List, [], ◌∷◌, ◌++◌, length, take, drop, refl, sym, ap, subst, ◌∙◌, inl, inr, append_assoc, arith, take-append-drop, length-drop}
 use Rattle.std.proofs.lemmas.List.{append-nil, take_all, get_or-take, get_or-drop, length-take-le}
 use Rattle.std.proofs.lemmas.List.Concat.{flat_map-cons}
@@ -13,7 +13,7 @@ use Rattle.ipfix_read.specs.declared.fault.ReadFault.{ReadFault}
 use Rattle.ipfix_read.specs.Set.{events_of_set, events_of_sets, written_length, IsContent, HasContentFault, IsSet, HasSetFault, Place, ReadsSet, IsRefused}
 use Rattle.ipfix_read.specs.Message.{set_size, message_size}
 
--- a fault of a part is one of the whole
+-- a fault of a part is a fault of the whole
 pub refused : (old at : List ((ℕ × ℕ) × TemplateView)) (has other : List (ℕ × TemplateEvent) → ReadFault → Type 0) (fault : ReadFault)
     → ((history : List (ℕ × TemplateEvent)) → Follows old history → (later : List (ℕ × TemplateEvent)) × Follows at later × (has later fault → other history fault))
     → IsRefused at has fault → IsRefused old other fault
@@ -30,11 +30,11 @@ pub not_empty : (xs : List ℕ) → eqb (length xs) 0 ≡ false → 0 < length x
 not_empty [] e = absurd (cc)
 not_empty (x ∷ xs) e = omega arith
 
--- what is left behind some bytes, as a slice
+-- the bytes after some bytes, as a slice
 pub from_place : (n : ℕ) (xs : List ℕ) → take (length xs - n) (drop n xs) ≡ drop n xs
 from_place n xs = take_all (length xs - n) (drop n xs) (omega (arith, length-drop n xs))
 
--- numbers in the front of bytes
+-- numbers at the start of bytes
 pub front_number : (n : ℕ) (xs : List ℕ) → 2 ≤ n → big_number 2 (take n xs) ≡ big_number 2 xs
 front_number n xs h = rw (get_or-take n xs 0 0 (omega arith), get_or-take n xs 1 0 (omega arith)) refl
 
@@ -76,7 +76,7 @@ module _ (bytes front after : List ℕ) (n : ℕ) (cut : Cut bytes front after n
 
 -- ---- several sets
 
--- the history behind sets has their events
+-- the history after sets has their events
 pub sets_history : (domain : ℕ) (start : Place) (sets : List Set) (end : Place) → Reads (ReadsSet domain) start sets end → end.0 ≡ start.0 ++ events_of_sets domain sets
 sets_history domain start [] end done = ap (λ (at : Place). at.0) (sym done) ∙ sym (append-nil start.0)
 sets_history domain start (set ∷ sets) end done =

@@ -1,10 +1,10 @@
--- Faults that say nothing of bytes: that memory ran out, that a reader failed, and that a call before had a fault.
+-- Faults that don't concern the bytes: an allocation failed, a reader failed, or an earlier call failed.
 use Rattle.std.specs.Prelude.{ℕ, Bool, true, false}
 use Rattle.ipfix_read.specs.declared.fault.ReadFault.{ReadFault}
 use Rattle.ipfix_read.specs.declared.fault.ReadFaultKind.{ReadFaultKind}
 use Rattle.ipfix_read.specs.declared.fault.ReadFaultKind.TheVariants.{NoMemory, Failed, ReadFault as Unread}
 
--- that memory ran out has no place
+-- an allocation failed, which has no position
 abbrev pub out_of_memory : ReadFault
 out_of_memory = record { kind = NoMemory; offset = 0 }
 
@@ -12,16 +12,16 @@ out_of_memory = record { kind = NoMemory; offset = 0 }
 abbrev pub read_fault : ℕ → ReadFault
 read_fault offset = record { kind = Unread; offset = offset }
 
--- that a call before had a fault has no place
+-- an earlier call failed, which has no position
 abbrev pub failed_before : ReadFault
 failed_before = record { kind = Failed; offset = 0 }
 
--- the kind says that a reader failed
+-- the kind of a failed reader
 abbrev pub is_of_reader : ReadFaultKind → Bool
 is_of_reader Unread = true
 is_of_reader kind = false
 
--- the kind is one that only calls for messages answer: a reader failed, or a call before had a fault
+-- a kind that only calls for messages return: a reader failed, or an earlier call failed
 abbrev pub is_of_calls : ReadFaultKind → Bool
 is_of_calls Unread = true
 is_of_calls Failed = true

@@ -1,4 +1,4 @@
--- What holds of the definitions.
+-- Laws about the definitions.
 use Rattle.std.specs.Prelude.{◌≡◌, ◌≢◌, ℕ, ◌+◌, ◌⊎◌, List, [], ◌∷◌, ◌++◌, length, Option, None, Result}
 use Rattle.ipfix_templates.specs.declared.event.TemplateEvent.{TemplateEvent}
 use Rattle.ipfix_templates.specs.declared.fault.TemplateFaultKind.TheVariants.{NoMemory as NoTemplateMemory}
@@ -9,7 +9,7 @@ use Rattle.ipfix_read.specs.Message.{MessageView, IsMessage, header_fault, event
 use Rattle.ipfix_read.specs.File.{ReadsFile, HasFileFault}
 use Rattle.ipfix_read.specs.Messages.{ProgressView, at_start, AnswersNext, IsReadTo, JoinsFile}
 
--- the first message of a File stands at the front of its bytes, and what is read after it is as if begun there
+-- the first message of a File is at the start of its bytes, and the rest is read from the state after it
 abbrev pub FirstMessageAndRest : Type 0
 FirstMessageAndRest = (history : List (ℕ × TemplateEvent)) (offset count : ℕ) (front after : List ℕ) (m : MessageView)
     → header_fault count (front ++ after) ≡ None → IsMessage history front m
@@ -21,27 +21,27 @@ abbrev pub HasReading : Type 0
 HasReading = (history : List (ℕ × TemplateEvent)) (offset count : ℕ) (bytes : List ℕ)
     → ((messages : List MessageView) × ReadsFile history count bytes messages) ⊎ ((fault : ReadFault) × HasFileFault history offset count bytes fault)
 
--- bytes are a File of one list of messages at most, or have one first fault at most, and not both
+-- bytes are a File of at most one list of messages, or have at most one first fault, and not both
 abbrev pub OneReading : Type 0
 OneReading = (history : List (ℕ × TemplateEvent)) (offset count : ℕ) (bytes : List ℕ)
     → ((messages others : List MessageView) → ReadsFile history count bytes messages → ReadsFile history count bytes others → messages ≡ others)
     × ((fault other : ReadFault) → HasFileFault history offset count bytes fault → HasFileFault history offset count bytes other → fault ≡ other)
     × ((messages : List MessageView) (fault : ReadFault) → ReadsFile history count bytes messages → HasFileFault history offset count bytes fault → ⊥)
 
--- that memory ran out is no fault of the bytes, nor is it what is wrong with a template record
+-- no bytes have the fault that an allocation failed, not even in a template record
 abbrev pub MemoryIsNoFault : Type 0
 MemoryIsNoFault = (history : List (ℕ × TemplateEvent)) (offset count : ℕ) (bytes : List ℕ) (fault : ReadFault) → HasFileFault history offset count bytes fault
     → (fault.kind ≢ NoMemory) × (fault.kind ≢ BadTemplate NoTemplateMemory)
 
--- calls begin with nothing read of the bytes, behind each history that the table follows
+-- before any call nothing is read of the bytes, for each history that the table follows
 abbrev pub CallsBegin : Type 0
 CallsBegin = (history : List (ℕ × TemplateEvent)) (bytes : List ℕ) (p : ProgressView) → Follows p.table history → IsReadTo history p.offset p.count bytes [] p bytes
 
--- so they do at the beginning of a File
+-- this is also so at the beginning of a File
 abbrev pub CallsStart : Type 0
 CallsStart = (bytes : List ℕ) → IsReadTo [] 0 0 bytes [] at_start bytes
 
--- where messages are read so far, the answer of the next call joins them to the whole File
+-- if some messages are read so far, the result of the next call joins them to the whole File
 abbrev pub CallsJoinFile : Type 0
 CallsJoinFile = (history : List (ℕ × TemplateEvent)) (offset count : ℕ) (bytes : List ℕ) (messages : List MessageView) (left : List ℕ)
     (old new : ProgressView) (result : Result (Option MessageView) ReadFault) (gives : Option (List ℕ))

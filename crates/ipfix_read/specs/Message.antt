@@ -10,20 +10,20 @@ use Rattle.ipfix_read.specs.declared.fault.ReadFaultKind.{ReadFaultKind}
 use Rattle.ipfix_read.specs.declared.fault.ReadFaultKind.TheVariants.{TruncatedHeader, BadVersion, BadMessageLength, TruncatedMessage, TooManyMessages}
 use Rattle.ipfix_read.specs.Set.{written_length, IsSets, HasSetsFault, events_of_sets}
 
--- a message without where it lies in memory
+-- a message, without how it is stored
 pub record MessageView : Type 0 where
   pub export_time : ℕ
   pub sequence : ℕ
   pub domain : ℕ
   pub sets : List Set
 
--- a set, with its events or records
+-- the size of a set: one, and one for each event or record
 abbrev pub set_size : Set → ℕ
 set_size (Templates kind events) = 1 + length events
 set_size (Values kind records) = 1 + length records
 set_size (Skipped id) = 1
 
--- the sets, events and records of a message together
+-- the number of sets, events and records of a message
 abbrev pub message_size : List Set → ℕ
 message_size sets = sum_by set_size sets
 
@@ -31,7 +31,7 @@ message_size sets = sum_by set_size sets
 abbrev pub events_of_message : MessageView → List (ℕ × TemplateEvent)
 events_of_message m = events_of_sets m.domain m.sets
 
--- bytes are a message, after a history of template events: a header with version 10 and their length, and its sets
+-- bytes are a message after a history of template events: a header with version 10 and their length, and the sets
 pub record IsMessage (history : List (ℕ × TemplateEvent)) (bytes : List ℕ) (m : MessageView) : Type 0 where
   pub header : 16 ≤ length bytes
   pub version : big_number 2 bytes ≡ 10
@@ -41,14 +41,14 @@ pub record IsMessage (history : List (ℕ × TemplateEvent)) (bytes : List ℕ) 
   pub domain : m.domain ≡ big_number 4 (drop 12 bytes)
   pub sets : IsSets history m.domain (drop 16 bytes) m.sets
 
--- bytes have a header of version 10 that gives their length, as a message has
+-- bytes have a header with version 10 and their length, which a message can have
 pub record HasHeader (bytes : List ℕ) : Type 0 where
   pub least : 16 ≤ length bytes
   pub most : length bytes ≤ 65535
   pub version : big_number 2 bytes ≡ 10
   pub whole : written_length bytes ≡ length bytes
 
--- what is wrong with a header by itself, behind so many messages, however many bytes follow it
+-- the fault of a header itself, after `count` messages, whatever bytes follow it
 abbrev pub own_fault : ℕ → List ℕ → Option ReadFaultKind
 own_fault count header =
     if nat_lt count 4294967295 then
@@ -58,13 +58,13 @@ own_fault count header =
     else Some BadVersion)
     else Some TooManyMessages
 
--- what is wrong with the header at the front, behind so many messages
+-- the fault of the header at the start of the bytes, after `count` messages
 abbrev pub header_fault : ℕ → List ℕ → Option ReadFaultKind
 header_fault count bytes =
     if nat_lt (length bytes) 16 then Some TruncatedHeader
     else option_or (own_fault count bytes) (if nat_lt (length bytes) (written_length bytes) then Some TruncatedMessage else None)
 
--- the first fault of the message at the front, which begins at this offset of the File
+-- the first fault of the message at the start of the bytes, which begin at this offset of the File
 abbrev pub HasMessageFault : List (ℕ × TemplateEvent) → ℕ → List ℕ → ℕ → ReadFault → Type 0
 HasMessageFault history count bytes base fault =
     ((kind : ReadFaultKind) × (header_fault count bytes ≡ Some kind) × (fault ≡ record { kind = kind; offset = base }))

@@ -1,4 +1,4 @@
--- The messages of a File, one call after the other, over the bytes that a reader still gives.
+-- The messages of a File, one call after another, over the bytes that a reader will still return.
 use Rattle.std.specs.Prelude.{◌≡◌, ℕ, ◌+◌, ◌-◌, ◌<◌, ◌⊎◌, Bool, false, List, [], ◌∷◌, ◌++◌, length, take, Option, Some, None, Result, Ok, Err}
 use Rattle.ipfix_templates.specs.declared.event.TemplateEvent.{TemplateEvent}
 use Rattle.ipfix_templates.specs.Reads.{Reads}
@@ -14,8 +14,8 @@ use Rattle.ipfix_read.specs.Set.{IsReadAfter}
 use Rattle.ipfix_read.specs.Message.{MessageView, IsMessage, HasHeader, HasMessageFault, header_fault, events_of_message}
 use Rattle.ipfix_read.specs.File.{ReadsMessage, ReadsFile, HasFileFault}
 
--- what stands between two calls: the table of templates, the offset and the number of messages that a File is read on from,
--- and whether calls go on
+-- the state between two calls: the table of templates, the offset and the number of messages from which a File is read
+-- on, and whether there may be more messages
 pub record ProgressView : Type 0 where
   pub table : List ((ℕ × ℕ) × TemplateView)
   pub offset : ℕ
@@ -26,10 +26,11 @@ pub record ProgressView : Type 0 where
 abbrev pub at_start : ProgressView
 at_start = record { table = []; offset = 0; count = 0; state = Going }
 
--- What a going call answers where the reader still gives these bytes, and what it leaves behind: the first message of the
--- File that begins here, whose bytes alone the reader has then given; none where no byte is left; the first fault, where it
--- is that of the message here; or a refusal of memory or of the reader. Here is at the table, the offset and the number of
--- messages, and the table stands for each history that it follows.
+-- The result of a call in the state Going if the reader will still return these bytes, and the state after the call.
+-- The result is the first message of the File that begins here, and the reader has then returned exactly its bytes. It
+-- is none if no bytes remain. It is the first fault of the File if that fault is in this message, or the fault of a
+-- failed allocation or reader. Here means with the table, the offset and the number of messages, for each history that
+-- the table follows.
 abbrev pub AnswersNext : ProgressView → List ℕ → Result (Option MessageView) ReadFault → ProgressView → Option (List ℕ) → Type 0
 AnswersNext old left (Ok (Some m)) new gives =
     (front : List ℕ) × (after : List ℕ) × (left ≡ front ++ after) × (header_fault old.count left ≡ None)
@@ -42,47 +43,47 @@ AnswersNext old left (Err fault) new gives =
     ⊎ ((fault ≡ read_fault old.offset)
     ⊎ ((0 < length left) × ((history : List (ℕ × TemplateEvent)) → Follows old.table history → HasMessageFault history old.count left old.offset fault))))
 
--- the same, whatever is left behind
+-- the result of a call in the state Going, whatever the state after it
 abbrev pub GivesNext : ProgressView → List ℕ → Result (Option MessageView) ReadFault → Type 0
 GivesNext old left result = (new : ProgressView) × (gives : Option (List ℕ)) × AnswersNext old left result new gives
 
--- whether an answer says that the reader failed
+-- whether a result is that the reader failed
 abbrev pub is_read_fault : {A : Type 0} → Result A ReadFault → Bool
 is_read_fault (Ok _) = false
 is_read_fault (Err fault) = is_of_reader fault.kind
 
 -- ---- a call over a buffer
 
--- the bytes of a message, so many, are at the front of the buffer
+-- the buffer starts with the bytes of a message of this length
 pub record HoldsMessage (buffer : List ℕ) (size : ℕ) : Type 0 where
   pub sized : length (take size buffer) ≡ size
   pub header : HasHeader (take size buffer)
 
--- what is gathered at the front of a buffer, behind so many messages, where the reader still gives these bytes: those of the
--- next message; nothing where no byte is left; or what is wrong with its header
+-- the bytes read to the start of a buffer, after so many messages, if the reader will still return these bytes: those
+-- of the next message, none if no bytes remain, or the fault of its header
 abbrev pub Gathers : ℕ → List ℕ → Result (Option ℕ) ReadFaultKind → List ℕ → Option (List ℕ) → Type 0
 Gathers count left (Ok (Some size)) buffer gives =
     (after : List ℕ) × (left ≡ take size buffer ++ after) × (header_fault count left ≡ None) × (gives ≡ Some after)
 Gathers count left (Ok None) buffer gives = (left ≡ []) × (gives ≡ Some [])
 Gathers count left (Err kind) buffer gives = (kind ≡ Unread) ⊎ ((0 < length left) × (header_fault count left ≡ Some kind))
 
--- whether it says that the reader failed
+-- whether the result is that the reader failed
 abbrev pub is_unread : {A : Type 0} → Result A ReadFaultKind → Bool
 is_unread (Ok _) = false
 is_unread (Err kind) = is_of_reader kind
 
--- ---- calls one after the other
+-- ---- consecutive calls
 
--- These messages are at the front of the bytes, where reading began behind a history of template events, at an offset and
--- behind a number of messages; what stands between two calls is that behind them, and these bytes are left.
+-- These messages are at the start of the bytes. Reading began after a history of template events, at an offset and
+-- after a number of messages. The state between two calls is the one after these messages, and these bytes remain.
 pub record IsReadTo (history : List (ℕ × TemplateEvent)) (offset count : ℕ) (bytes : List ℕ) (messages : List MessageView) (p : ProgressView) (left : List ℕ) : Type 0 where
   pub later : List (ℕ × TemplateEvent)
   pub read : Reads ReadsMessage (history, count, bytes) messages (later, p.count, left)
   pub follows : Follows p.table later
   pub placed : p.offset ≡ offset + (length bytes - length left)
 
--- What an answer says of the File that the bytes are: the messages so far and one more are read of it; it is the messages so
--- far; or the fault is its first one, where it is none of memory or of the reader.
+-- The meaning of a result for the File that the bytes are: its messages begin with those so far and one more; it
+-- consists of the messages so far; or the fault is its first one, unless it is that of a failed allocation or reader.
 abbrev pub JoinsFile : List (ℕ × TemplateEvent) → ℕ → ℕ → List ℕ → List MessageView → ProgressView → Result (Option MessageView) ReadFault → ProgressView → Option (List ℕ) → Type 0
 JoinsFile history offset count bytes messages old (Ok (Some m)) new gives =
     (left : List ℕ) × (gives ≡ Some left) × IsReadTo history offset count bytes (messages ++ m ∷ []) new left

@@ -6,19 +6,19 @@ use Rattle.ipfix_templates.specs.Template.{TemplateView}
 use Rattle.ipfix_read.specs.declared.record.Record.{Record}
 use Rattle.ipfix_read.specs.Value.{values_at}
 
--- the record of this template at the front, and the bytes after it
+-- the record of this template at the start of the bytes, and the bytes after it
 abbrev pub record_at : TemplateView → List ℕ → Option (Record × List ℕ)
 record_at t bytes = option_map (λ v. (record { kind = t.kind; fields = v.0 }, v.1)) (values_at t.fields bytes)
 
--- there are as many bytes as the shortest record has, and that isn't empty: so a record stands there, and no padding
+-- there are as many bytes as the shortest record has, and a record isn't empty: so these are a record, not padding
 abbrev pub HasRoom : TemplateView → List ℕ → Type 0
 HasRoom t bytes = (0 < least_length t.fields) × (least_length t.fields ≤ length bytes)
 
--- a record stands at the front, with these bytes after it
+-- a record at the start of the bytes, followed by these bytes
 abbrev pub ReadsRecord : TemplateView → List ℕ → Record → List ℕ → Type 0
 ReadsRecord t bytes r after = HasRoom t bytes × (record_at t bytes ≡ Some (r, after))
 
--- records that stand one after the other are these, and leave these bytes
+-- consecutive records at the start of the bytes, followed by these bytes
 abbrev pub ReadsRecords : TemplateView → List ℕ → List Record → List ℕ → Type 0
 ReadsRecords t bytes records rest = Reads (ReadsRecord t) bytes records rest
 
@@ -26,18 +26,18 @@ ReadsRecords t bytes records rest = Reads (ReadsRecord t) bytes records rest
 abbrev pub IsPadding : TemplateView → List ℕ → Type 0
 IsPadding t bytes = ¬ HasRoom t bytes
 
--- the bytes behind the header of a data set are these records, and then padding
+-- the bytes after the header of a data set are these records, followed by padding
 abbrev pub IsDataSet : TemplateView → List ℕ → List Record → Type 0
 IsDataSet t bytes records = ReadsWhole (ReadsRecord t) (IsPadding t) bytes records
 
--- behind some records there is no padding, and the record there stands whole
+-- after some records there is no padding, and the next record is complete
 abbrev pub HasRecord : TemplateView → List ℕ → Type 0
 HasRecord t bytes = (records : List Record) × (rest : List ℕ) × ReadsRecords t bytes records rest × HasRoom t rest × IsSome (record_at t rest)
 
--- at this place in so many bytes there is no padding, and a part of the record there passes the end
+-- at this offset of so many bytes there is no padding, and the record there extends beyond the end
 abbrev pub IsCutOff : TemplateView → ℕ → List ℕ → ℕ → Type 0
 IsCutOff t size rest place = HasRoom t rest × (record_at t rest ≡ None) × (place + length rest ≡ size)
 
--- behind some records one is cut off at this place
+-- after some records, the record at this offset extends beyond the end
 abbrev pub HasRecordFault : TemplateView → List ℕ → ℕ → Type 0
 HasRecordFault t bytes place = StopsAt (ReadsRecord t) (IsCutOff t (length bytes)) bytes place

@@ -31,8 +31,8 @@ events_of_set domain (Skipped id) = []
 abbrev pub events_of_sets : ℕ → List Set → List (ℕ × TemplateEvent)
 events_of_sets domain sets = flat_map (events_of_set domain) sets
 
--- the bytes behind the header of a set with this ID, after a history of template events: a set of templates, records
--- under the template in force, or what is skipped, as it has no meaning or no template in force
+-- the bytes after the header of a set with this ID, after a history of template events: a set of templates, records
+-- under the template in force, or a skipped set, whose ID has no meaning or no template in force
 abbrev pub IsContent : List (ℕ × TemplateEvent) → ℕ → ℕ → List ℕ → Set → Type 0
 IsContent history domain id bytes (Templates kind events) = (id ≡ set_id kind) × IsTemplateSet kind bytes events
 IsContent history domain id bytes (Values kind records) =
@@ -40,7 +40,7 @@ IsContent history domain id bytes (Values kind records) =
 IsContent history domain id bytes (Skipped skipped) =
     (skipped ≡ id) × (id ≢ 2) × (id ≢ 3) × (256 ≤ id → in_force history domain id ≡ None)
 
--- the fault of a template set as one of the File, where the set's records begin at this offset
+-- the fault of a template set as a fault of the File; the set's records begin at this offset
 abbrev pub in_file : ℕ → TemplateFault → ReadFault
 in_file base fault = record { kind = BadTemplate fault.kind; offset = base + fault.offset }
 
@@ -52,59 +52,59 @@ HasContentFault history domain id bytes base fault =
     ⊎ ((t : TemplateView) × (place : ℕ) × (256 ≤ id) × (in_force history domain id ≡ Some t) × HasRecordFault t bytes place
     × (fault ≡ record { kind = BadRecord; offset = base + place }))
 
--- the length that stands in a set's header, and in a message's
+-- the length in a set's header, and in a message's header
 abbrev pub written_length : List ℕ → ℕ
 written_length bytes = big_number 2 (drop 2 bytes)
 
--- bytes are a set: a header with their length, and its content
+-- bytes are a set: a header with their length, followed by the content
 abbrev pub IsSet : List (ℕ × TemplateEvent) → ℕ → List ℕ → Set → Type 0
 IsSet history domain bytes set =
     (4 ≤ length bytes) × (written_length bytes ≡ length bytes) × IsContent history domain (big_number 2 bytes) (drop 4 bytes) set
 
--- a set's header stands at the front, with a length that is at least the header's and that the bytes have
+-- the bytes start with a set's header, whose length is at least the header's and at most that of the bytes
 abbrev pub HasSetLength : List ℕ → Type 0
 HasSetLength bytes = (4 ≤ length bytes) × (4 ≤ written_length bytes) × (written_length bytes ≤ length bytes)
 
--- the first fault of the set at the front, which begins at this offset of the File
+-- the first fault of the set at the start of the bytes, which begin at this offset of the File
 abbrev pub HasSetFault : List (ℕ × TemplateEvent) → ℕ → List ℕ → ℕ → ReadFault → Type 0
 HasSetFault history domain bytes base fault =
     ((HasSetLength bytes → ⊥) × (fault ≡ record { kind = BadSetLength; offset = base }))
     ⊎ ((front : List ℕ) × (after : List ℕ) × (bytes ≡ front ++ after) × (4 ≤ length front) × (written_length front ≡ length front)
     × HasContentFault history domain (big_number 2 front) (drop 4 front) (base + 4) fault)
 
--- a place in a message: the template events before it, and the bytes from there on
+-- a state of reading a message: the template events so far, and the remaining bytes
 abbrev pub Place : Type 0
 Place = List (ℕ × TemplateEvent) × List ℕ
 
--- the set at a place, and the place after it, which stands after the set's events too
+-- the set at the start of the remaining bytes, and the state after it, with the set's events
 abbrev pub ReadsSet : ℕ → Place → Set → Place → Type 0
 ReadsSet domain at set next =
     (front : List ℕ) × (at.1 ≡ front ++ next.1) × IsSet at.0 domain front set × (next.0 ≡ at.0 ++ events_of_set domain set)
 
--- nothing is left
+-- no bytes remain
 abbrev pub IsEnd : Place → Type 0
 IsEnd at = at.1 ≡ []
 
--- the bytes are these sets one after the other, and nothing else
+-- the bytes are exactly these consecutive sets
 abbrev pub IsSets : List (ℕ × TemplateEvent) → ℕ → List ℕ → List Set → Type 0
 IsSets history domain bytes sets = ReadsWhole (ReadsSet domain) IsEnd (history, bytes) sets
 
--- bytes are left, of so many that begin at this offset of the File, and this is the fault of the set at their front
+-- bytes remain, the whole bytes begin at this offset of the File, and this is the fault of the next set
 abbrev pub IsSetFault : ℕ → ℕ → ℕ → Place → ReadFault → Type 0
 IsSetFault domain size base at fault = (0 < length at.1) × HasSetFault at.0 domain at.1 (base + (size - length at.1)) fault
 
--- behind some sets this is the first fault
+-- after some sets this is the first fault
 abbrev pub HasSetsFault : List (ℕ × TemplateEvent) → ℕ → List ℕ → ℕ → ReadFault → Type 0
 HasSetsFault history domain bytes base fault = StopsAt (ReadsSet domain) (IsSetFault domain (length bytes) base) (history, bytes) fault
 
--- ---- what reading says of a table of templates
+-- ---- the table of templates while reading
 
--- This is read, with these events, and takes the table from the old one to the new: it is so after each history that the old
--- one follows, and the new one follows the events too.
+-- This is read, with these events, and changes the table from the old one to the new one. It holds for each history
+-- that the old table follows, and then the new table follows the history with the events.
 abbrev pub IsReadAfter : List ((ℕ × ℕ) × TemplateView) → List ((ℕ × ℕ) × TemplateView) → List (ℕ × TemplateEvent) → (List (ℕ × TemplateEvent) → Type 0) → Type 0
 IsReadAfter old new events is = (history : List (ℕ × TemplateEvent)) → Follows old history → is history × Follows new (history ++ events)
 
--- the fault is none of calls: memory ran out, or it is found after each history that the table follows
+-- the fault is not one of calls: an allocation failed, or it is found after each history that the table follows
 abbrev pub IsRefused : List ((ℕ × ℕ) × TemplateView) → (List (ℕ × TemplateEvent) → ReadFault → Type 0) → ReadFault → Type 0
 IsRefused table found fault =
     (is_of_calls fault.kind ≡ false)

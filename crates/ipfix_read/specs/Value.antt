@@ -5,20 +5,20 @@ use Rattle.byteorder.specs.Endian.{big_number}
 use Rattle.ipfix_templates.specs.declared.field.Field.{Field}
 use Rattle.ipfix_templates.specs.Field.{is_variable}
 
--- a value with its field's specifier, without where they lie in memory
+-- a value with its field's specifier, without how it is stored
 pub record FieldValueView : Type 0 where
   pub field : Field
   pub value : List ℕ
 
--- the length of a fixed field is that of each value
+-- the value of a field of fixed length has that length
 abbrev pub IsValueOf : Field → List ℕ → Type 0
 IsValueOf field value = field.length ≢ 65535 → length value ≡ field.length
 
--- so many bytes, and those after them
+-- the given number of bytes at the start, and the bytes after them
 abbrev pub bytes_at : ℕ → List ℕ → Option (List ℕ × List ℕ)
 bytes_at count bytes = if nat_lt (length bytes) count then None else Some (take count bytes, drop count bytes)
 
--- a length in one byte below 255, or in two bytes behind 255, and then the value
+-- a length in one byte below 255, or in the two bytes after a byte 255, followed by the value
 abbrev pub variable_at : List ℕ → Option (List ℕ × List ℕ)
 variable_at [] = None
 variable_at (first ∷ bytes) =
@@ -29,7 +29,7 @@ variable_at (first ∷ bytes) =
 unfoldable pub value_at : Field → List ℕ → Option (List ℕ × List ℕ)
 value_at field bytes = if is_variable field then variable_at bytes else bytes_at field.length bytes
 
--- the values of these fields, one after the other, and the bytes after them
+-- the values of these fields, in order, and the bytes after them
 unfoldable pub values_at : List Field → List ℕ → Option (List FieldValueView × List ℕ)
 values_at [] bytes = Some ([], bytes)
 values_at (field ∷ fields) bytes =
@@ -37,7 +37,7 @@ values_at (field ∷ fields) bytes =
     (λ v. option_and_then (λ vs. Some (record { field = field; value = v.0 } ∷ vs.0, vs.1)) (values_at fields v.1))
     (value_at field bytes)
 
--- the values of these fields, one after the other, as far as they stand whole in the bytes
+-- the values of these fields, in order, as far as they are complete in the bytes
 unfoldable pub whole_values : List Field → List ℕ → List FieldValueView
 whole_values [] bytes = []
 whole_values (field ∷ fields) bytes =

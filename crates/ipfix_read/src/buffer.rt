@@ -9,18 +9,18 @@ use crate::message::{HEADER_LENGTH, header_length};
 use flow_io::Input;
 use std::alloc::{AllocError, Global};
 
-// The length of the longest message.
+// The maximum length of a message in bytes.
 const LONGEST_MESSAGE: usize = 65_535;
 
-/// The one buffer that messages are read into and lent out of. It holds the longest message.
+/// The one buffer that messages are read into. It has room for the longest message, and messages borrow from it.
 #[derive(Drop)]
 pub struct Buffer {
     bytes: Vec<u8>,
     ghost sized: { vec_len bytes ≡ 65535 },
 }
 
-// Gathers the bytes of the next message at the front of a buffer, behind so many messages, and answers how many they
-// are: first those of the header, and then those that it says are left. None at the end of the input.
+// Reads the next message to the start of a buffer, after `count` messages, and returns its length: first its header,
+// then the rest of the length that the header gives. Returns `None` at the end of the input.
 fn gather_at_front<R: Input>(
     reader: &mut R,
     count: u32,
@@ -50,7 +50,7 @@ fn gather_at_front<R: Input>(
 }
 
 impl Buffer {
-    /// Reserves it.
+    /// Allocates the buffer.
     pub fn new(alloc: Global) -> Result<Self, AllocError>
         ensures { IfOk result (λ buffer. length buffer.bytes.items ≡ 65535) }
     {
@@ -58,7 +58,7 @@ impl Buffer {
         Ok(Buffer { bytes })
     }
 
-    // Gathers the bytes of the next message at the front, behind so many messages, and answers how many they are. None
+    // Reads the next message to the start of the buffer, after `count` messages, and returns its length. Returns `None`
     // at the end of the input.
     pub(crate) fn gather<R: Input>(
         &mut self,
@@ -75,7 +75,7 @@ impl Buffer {
         gather_at_front(reader, count, self.bytes.as_mut_slice())
     }
 
-    // So many bytes from the front.
+    // Returns the first `size` bytes.
     pub(crate) fn front(&self, size: usize) -> &[u8]
         requires { size ≤ 65535 }
         ensures { result.now ≡ take size self.now.bytes.items }

@@ -10,7 +10,7 @@ use crate::value::skip_values;
 use ipfix_templates::Template;
 use std::alloc::AllocError;
 
-// How many records without variable fields stand one after the other, and the padding behind them.
+// Returns the number of consecutive records without variable fields, and the padding after them.
 fn skip_fixed_records<'a>(template: &Template, bytes: &'a [u8]) -> (usize, &'a [u8])
     requires fixed { runs_behind 0 template.now.fields ≡ [] }
     requires some { 0 < least_length template.now.fields }
@@ -21,8 +21,8 @@ fn skip_fixed_records<'a>(template: &Template, bytes: &'a [u8]) -> (usize, &'a [
     (count, &bytes[count * least..])
 }
 
-// How many records stand one after the other, and the padding behind them; or the place where a record begins of which
-// a part passes the end.
+// Returns the number of consecutive records, and the padding after them. If a record extends beyond the end of the
+// bytes, returns the offset at which that record begins.
 fn skip_records<'a>(template: &Template, bytes: &'a [u8]) -> Result<(usize, &'a [u8]), usize>
     ensures ok { IfOk result (λ read. SkipsRecords template.now bytes.now read.0 read.1.now) }
     ensures err { IfErr result (HasRecordFault template.now bytes.now) }
@@ -47,8 +47,9 @@ fn skip_records<'a>(template: &Template, bytes: &'a [u8]) -> Result<(usize, &'a 
     Ok((count, rest))
 }
 
-/// The records that the bytes behind the header of a data set are, under its template; or the place among those
-/// bytes where a record begins of which a part passes their end. What is shorter than a record is padding.
+/// Returns the records of a data set under its template, given the bytes after the set's header. If a record extends
+/// beyond the end of the bytes, returns the offset at which that record begins. Trailing bytes that are too few for a
+/// record are padding.
 pub fn read_data_set<'a>(
     template: &Template,
     bytes: &'a [u8],
@@ -56,7 +57,7 @@ pub fn read_data_set<'a>(
     ensures read { IfOk result (λ read. MatchResult read (λ records. IsDataSet template.now bytes.now records)
         (λ place. HasRecordFault template.now bytes.now place)) }
 
-    // Memory runs out only at a record that has no fault, behind others.
+    // An allocation fails only if there is a well-formed record.
     ensures memory { OnErr result (HasRecord template.now bytes.now) }
 {
     let (count, padding) = match skip_records(template, bytes) {

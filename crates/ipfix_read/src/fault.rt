@@ -6,7 +6,7 @@ use ipfix_templates::TemplateFaultKind;
 use std::alloc::AllocError;
 use thiserror::Error;
 
-/// What is wrong with a File, or why a message of it can't be told.
+/// The kind of a fault in a File, or the reason why a message could not be read.
 #[derive(Clone, Copy, Debug, PartialEq, Eq, Error)]
 pub enum ReadFaultKind {
     /// Fewer bytes are left than a message header has (RFC 7011 section 3.1).
@@ -15,32 +15,32 @@ pub enum ReadFaultKind {
     /// The version is not 10.
     #[error("BadVersion")]
     BadVersion,
-    /// The message's length is below that of its header.
+    /// The message's length is less than that of its header.
     #[error("BadMessageLength")]
     BadMessageLength,
-    /// The message's length passes the end of the File.
+    /// The message extends beyond the end of the File.
     #[error("TruncatedMessage")]
     TruncatedMessage,
-    /// A set's header or length passes the end of its message, or the length is below that of the header
+    /// A set's header or length extends beyond the end of its message, or the length is less than that of the header
     /// (RFC 7011 section 3.3.2).
     #[error("BadSetLength")]
     BadSetLength,
-    /// A template record is none.
+    /// A template record is malformed.
     #[error("BadTemplate {0}")]
     BadTemplate(TemplateFaultKind),
-    /// A part of a data record passes the end of its set.
+    /// A data record extends beyond the end of its set.
     #[error("BadRecord")]
     BadRecord,
-    /// The reader failed. `read_file` has none.
+    /// The reader failed. `read_file` never returns this.
     #[error("ReadFault")]
     ReadFault,
     /// The File has more than 4,294,967,295 messages.
     #[error("TooManyMessages")]
     TooManyMessages,
-    /// Memory ran out.
+    /// An allocation failed.
     #[error("NoMemory")]
     NoMemory,
-    /// A call for a message before had a fault. `read_file` never answers it.
+    /// An earlier call for a message failed. `read_file` never returns this.
     #[error("Failed")]
     Failed,
 }
@@ -59,11 +59,11 @@ impl From<DeviceFault> for ReadFaultKind {
 #[derive(Clone, Copy, Debug, PartialEq, Eq, Error)]
 #[error("{kind} at {offset}")]
 pub struct ReadFault {
-    /// What is wrong.
+    /// The kind of the fault.
     pub kind: ReadFaultKind,
-    /// Where what is wrong begins, in bytes from the beginning of the File: the message, the set, the template
-    /// record or the data record; of a reader that failed the message being read; 0 where memory ran out, and where
-    /// a call before had a fault.
+    /// The offset in bytes of the invalid part from the beginning of the File: of the message, the set, the template
+    /// record or the data record. If the reader failed, it is the offset of the message that was being read. It is 0 if
+    /// an allocation failed or an earlier call failed.
     pub offset: u64,
 }
 

@@ -10,7 +10,7 @@ use crate::message::{MessageList, read_message};
 use ipfix_templates::TemplateTable;
 use std::alloc::Global;
 
-/// What a File says: its messages in order, at most 4,294,967,295. The values of records are slices of the File.
+/// The content of a File: its messages in order, at most 4,294,967,295. The values of records are slices of the File.
 #[derive(Debug, Drop)]
 pub struct FileEvents<'a> {
     /// The messages in order.
@@ -18,23 +18,23 @@ pub struct FileEvents<'a> {
     ghost counted: { length messages ≤ 4294967295 },
 }
 
-/// Reads an IPFIX File (RFC 5655), which is messages of RFC 7011 one after the other, and the session in which
-/// templates are in force. The memory that it takes is linear in the length of the bytes.
+/// Reads an IPFIX File (RFC 5655): consecutive messages of RFC 7011, which share one set of templates in force. The
+/// memory used is linear in the length of the bytes.
 ///
 /// # Errors
 ///
-/// The fault at the first place, in byte order, where the bytes are no File; or memory ran out.
+/// Returns the first fault, in byte order, or `NoMemory` if an allocation fails.
 pub fn read_file(alloc: Global, bytes: &[u8]) -> Result<FileEvents<'_>, ReadFault>
     ensures ok { IfOk result (λ file. ReadsFile [] 0 bytes.now file.messages) }
     ensures fault { IfErr result (λ fault. (fault ≡ out_of_memory) ⊎ HasFileFault [] 0 0 bytes.now fault) }
 
-    // A template record that is none is told by what is wrong with it.
+    // A malformed template record is reported by its own fault.
     ensures template { IfErr result (λ fault. fault.kind ≢ BadTemplate NoMemory) }
 
-    // No reader failed here, and no call before.
+    // The fault is not that of a failed reader or of an earlier failed call, as there are none.
     ensures of_bytes { IfErr result (λ fault. is_of_calls fault.kind ≡ false) }
 {
-    // For its law: bytes have no fault of memory.
+    // Provides the law that no bytes have the fault that an allocation failed.
     memory_is_no_fault();
     let mut table = TemplateTable::new(alloc);
     let mut messages = MessageList::new(alloc);

@@ -1,11 +1,11 @@
-//! A slice filled from a reader.
+//! Filling a slice from a reader.
 ghost use Rattle.std.specs.Prelude.{◌≡◌, ◌≤◌, ◌<◌, true, IfOk, OnOk, OnErr, length, take};
 ghost use Rattle.std.specs.Io.KnownBytes.{Consumes, IsAtEnd};
 
 use flow_io::{DeviceFault, Input};
 
-/// Fills the slice, and answers how many bytes it has then: fewer than it holds only at the end of the input. Each read
-/// asks for the bytes that are still lacking, and for no more.
+/// Fills the slice, and returns the number of bytes read. It is less than the length of the slice only at the end of
+/// the input. Each read requests the bytes that are still missing, and no more.
 pub fn fill<R: Input>(reader: &mut R, bytes: &mut [u8]) -> Result<usize, DeviceFault>
     ensures within { IfOk result (λ count. count ≤ length bytes.new) }
     ensures given { IfOk result (λ count.

@@ -1,26 +1,25 @@
-//! IPFIX Files (RFC 5655), read whole or message by message: messages of RFC 7011 one after the other, as values.
+//! IPFIX Files (RFC 5655), read whole or message by message, as values: consecutive messages of RFC 7011.
 //!
 //! ```rust
 //! use ipfix_read::read_file;
 //!
-//! // A message without sets: version 10, the length 16, and then export time, sequence number and domain.
+//! // A message without sets: version 10, length 16, export time, sequence number and observation domain.
 //! let bytes = [0u8, 10, 0, 16, 0x60, 0, 0, 0, 0, 0, 0, 0, 0, 0, 0, 1];
 //! let file = read_file(alloc, &bytes)?;
 //! assert!(rt; file.messages.len() == 1);
 //! ```
 //!
-//! It stands on ipfix_templates, for template sets and the templates in force. `read_file` gives the messages of a
-//! File, each with its sets: template events, data records whose values are slices of the File, and sets that
-//! are skipped. The layer above may rely on this: the File is the concatenation of the messages' bytes, a message
-//! its header and the concatenation of its sets, a data set its records and padding, under the template that the
-//! events before the place put in force; and where the File is not so, the fault is the one at the first place, in
-//! byte order, where no case fits. Reading may be begun behind any history of template events, offset and number
-//! of messages: a first message, and the rest begun after it, are the whole. Any bytes have such messages or such a
-//! fault, and one of these alone.
+//! This crate uses ipfix_templates (template sets and the templates in force). `read_file` returns the messages of a
+//! File, each with its sets: template events, data records whose values are slices of the File, and skipped sets.
+//! Callers may rely on this: the File is the concatenation of the messages' bytes. A message is its header and the
+//! concatenation of its sets. A data set is its records and padding, under the template that the events before it put
+//! in force. For any other bytes, the fault is the first one in byte order. Reading may begin after any history of
+//! template events, at any offset, and after any number of messages: a first message, and the rest read from the state
+//! after it, are the whole. Any bytes have either such messages or such a fault, and only one of them.
 //!
-//! `Messages` reads the same from a reader, a message at a time, into one buffer and lends it out of that. A call
-//! answers what a File begun at its table, offset and number of messages has first in the bytes that the reader still
-//! gives, and by a law the calls so far and the next one are the whole File.
+//! `Messages` reads the same messages from a reader, one at a time, into one buffer from which the message borrows. A
+//! call returns the first message of the File that consists of the bytes that the reader will still return, read from
+//! the current table, offset and number of messages. By a law the calls so far and the next one are the whole File.
 #![tactic(auto)]
 
 mod buffer;

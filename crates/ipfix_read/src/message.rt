@@ -12,10 +12,10 @@ use ipfix_templates::{Items, TemplateTable};
 use std::alloc::Global;
 use std::marker::Model;
 
-/// A message (RFC 7011 section 3.1). It has at most 65,535 sets, events and records together.
+/// A message (RFC 7011 section 3.1). It has at most 65,535 sets, template events and data records together.
 #[derive(Debug, Drop)]
 pub struct Message<'a> {
-    /// When the message left the exporter, in seconds since 1970.
+    /// The time at which the message left the exporter, in seconds since 1970.
     pub export_time: u32,
     /// The sequence number.
     pub sequence: u32,
@@ -42,28 +42,28 @@ impl<'a> Model for Message<'a> {
 }
 
 impl<'a> Message<'a> {
-    /// When the message left the exporter, in seconds since 1970.
+    /// Returns the time at which the message left the exporter, in seconds since 1970.
     pub fn export_time(&self) -> u32
         ensures { result ≡ self.now.export_time }
     {
         self.export_time
     }
 
-    /// The sequence number.
+    /// Returns the sequence number.
     pub fn sequence(&self) -> u32
         ensures { result ≡ self.now.sequence }
     {
         self.sequence
     }
 
-    /// The observation domain ID.
+    /// Returns the observation domain ID.
     pub fn domain(&self) -> u32
         ensures { result ≡ self.now.domain }
     {
         self.domain
     }
 
-    /// The sets in order. With their events and records they are at most 65,535.
+    /// Returns the sets in order. The sets with their template events and data records are at most 65,535.
     pub fn sets(&self) -> &SetList<'a>
         ensures value { result.now ≡ self.now.sets }
         ensures size { message_size self.now.sets ≤ 65535 }
@@ -75,14 +75,14 @@ impl<'a> Message<'a> {
 /// A list of messages.
 pub type MessageList<'a> = Items<Message<'a>>;
 
-/// The length of a message header.
+/// The length of a message header in bytes.
 pub const HEADER_LENGTH: usize = 16;
 
-// The version of IPFIX.
+// The version number of IPFIX.
 const VERSION: u16 = 10;
 
-/// The length that the header at the front gives its message behind so many messages, or what is wrong with the header
-/// by itself.
+/// Returns the length that a header gives for its message, which follows `count` messages, or the fault of the header
+/// itself.
 pub fn header_length(count: u32, header: &[u8]) -> Result<usize, ReadFaultKind>
     requires { 16 ≤ length header.now }
     ensures ok { OnOk result (own_fault count header.now ≡ None) }
@@ -104,8 +104,8 @@ pub fn header_length(count: u32, header: &[u8]) -> Result<usize, ReadFaultKind>
     Ok(size)
 }
 
-/// The message that these bytes are, whose header gives their length, where they begin at this offset of the File. The
-/// events of its template sets change the table.
+/// Reads a message from exactly its bytes, whose header gives their length. `base` is the offset of the message in the
+/// File. The events of its template sets change the table. After a fault the table may have changed by some of them.
 pub fn whole_message<'a>(
     alloc: Global,
     table: &mut TemplateTable,
@@ -131,7 +131,8 @@ pub fn whole_message<'a>(
     Ok(message)
 }
 
-// The length of the message at the front behind so many messages, or what is wrong with its header.
+// Returns the length of the message at the start of the bytes, which follows `count` messages, or the fault of its
+// header.
 fn message_length(count: u32, bytes: &[u8]) -> Result<usize, ReadFaultKind>
     ensures ok { OnOk result (header_fault count bytes.now ≡ None) }
     ensures own { OnOk result (own_fault count bytes.now ≡ None) }
@@ -150,8 +151,9 @@ fn message_length(count: u32, bytes: &[u8]) -> Result<usize, ReadFaultKind>
     Ok(size)
 }
 
-/// The message at the front behind so many messages, and the bytes after it, where the message begins at this
-/// offset of the File. The events of its template sets change the table.
+/// Reads the message at the start of the bytes, which follows `count` messages, and returns it with the bytes after it.
+/// `base` is the offset of the message in the File. The events of its template sets change the table. After a fault the
+/// table may have changed by some of them.
 pub fn read_message<'a>(
     alloc: Global,
     table: &mut TemplateTable,

@@ -10,15 +10,15 @@ use crate::progress::Progress;
 use flow_io::Input;
 use std::alloc::{AllocError, Global};
 
-/// The messages of a File, read from a reader one at a time into one buffer and lent out of it. What a call leaves
-/// behind is said by `Progress::next`, over the parts. What owns memory stands under a type parameter, so that a caller
-/// knows what became of its reader.
+/// The messages of a File, read from a reader one at a time into one buffer from which the message borrows. The
+/// contract of `Progress::next` specifies the state after a call, part by part. The parts that own memory are type
+/// parameters, so that a caller knows the final state of its reader.
 pub struct Messages<'r, R, P: Drop = Progress, B: Drop = Buffer> {
     /// The reader of the File.
     pub reader: &'r mut R,
-    /// What stands between two calls.
+    /// The state between two calls.
     pub progress: P,
-    /// The bytes of the message that was lent last.
+    /// The bytes of the last message.
     pub buffer: B,
 }
 
@@ -35,7 +35,8 @@ impl<R, P: Drop, B: Drop> Drop for Messages<'_, R, P, B> {
 }
 
 impl<'r, R: Input> Messages<'r, R, Progress, Buffer> {
-    /// The messages of the File that the reader still gives. It reserves the buffer, and reads nothing.
+    /// Returns the messages of the File that the reader will still return. The buffer is allocated, and nothing is
+    /// read.
     pub fn new(alloc: Global, reader: &'r mut R) -> Result<Self, AllocError>
         ensures same_reference { IfOk result (λ m. m.reader.ghost_name ≡ reader.entry.ghost_name) }
         ensures reader { IfOk result (λ m. m.reader.now ≡ reader.old) }
@@ -50,12 +51,12 @@ impl<'r, R: Input> Messages<'r, R, Progress, Buffer> {
         })
     }
 
-    /// The next message, with slices of the buffer; none at the end of the File, and none again. The message is to be
-    /// let go before the next call.
+    /// Returns the next message, whose values are slices of the buffer. Returns `None` at the end of the File and in
+    /// each call after it. The message must be dropped before the next call.
     ///
     /// # Errors
     ///
-    /// Those of `Progress::next`.
+    /// The errors are those of `Progress::next`.
     pub fn next_message(&mut self) -> Result<Option<Message<'_>>, ReadFault>
         ensures going { self.old.progress.state ≡ Going → IfSome (R.bytes_left self.old.reader.now)
             (λ left. GivesNext self.old.progress left result) }

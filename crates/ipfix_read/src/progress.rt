@@ -12,8 +12,8 @@ use ipfix_templates::TemplateTable;
 use std::alloc::Global;
 use std::marker::Model;
 
-/// What stands between two calls for a message: the templates in force, the offset in the File, the number of messages
-/// read, and whether calls go on.
+/// The state between two calls for a message: the templates in force, the offset in the File, the number of messages
+/// read, and whether there may be more messages.
 #[derive(Drop)]
 pub struct Progress {
     alloc: Global,
@@ -35,7 +35,7 @@ impl Model for Progress {
 }
 
 impl Progress {
-    /// At the beginning of a File.
+    /// Returns the state at the beginning of a File.
     pub fn new(alloc: Global) -> Self
         ensures { result ≡ at_start }
     {
@@ -48,20 +48,21 @@ impl Progress {
         }
     }
 
-    /// Whether calls go on.
+    /// Returns whether there may be more messages.
     pub fn state(&self) -> State
         ensures { result ≡ self.now.state }
     {
         self.state
     }
 
-    /// The next message of the File, lent out of the buffer; none at its end, and none again. The reader is asked for
-    /// the bytes that the message's header still lacks, then for those that the message still lacks, and for no others.
+    /// Returns the next message of the File, which borrows from the buffer. Returns `None` at the end of the File and
+    /// in each call after it. The reader is asked for the missing bytes of the message's header, then for the missing
+    /// bytes of the message, and for no others.
     ///
     /// # Errors
     ///
-    /// The first fault of the File, where it is that of the message that is read; that the reader failed; or that memory
-    /// ran out. After any of them each call answers that a call before had a fault.
+    /// Returns the first fault of the File if it is in the message that is read, `ReadFault` if the reader fails, or
+    /// `NoMemory` if an allocation fails. After any of these each call returns `Failed`.
     pub fn next<'b, R: Input>(
         &mut self,
         reader: &mut R,
@@ -74,7 +75,7 @@ impl Progress {
         ensures failed { self.old.state ≡ Failed
             → (result ≡ Err failed_before) × (self.new ≡ self.old) × (reader.new ≡ reader.old) }
 
-        // Also of a reader that does not tell its bytes.
+        // These clauses also hold for a reader that does not report its bytes.
         ensures fault { self.old.state ≡ Going → IfErr result (λ fault.
             (fault ≡ read_fault self.old.offset) ⊎ (is_of_calls fault.kind ≡ false)) }
         ensures counted { IfOk result (λ next. OnSome next ((self.new.count ≡ self.old.count + 1)
@@ -91,7 +92,7 @@ impl Progress {
         }
     }
 
-    // The same where calls go on.
+    // Reads the next message in the state `Going`.
     fn read_next<'b, R: Input>(
         &mut self,
         reader: &mut R,

@@ -7,7 +7,7 @@ use ipfix_templates::{Fields, Kind};
 use std::alloc::AllocError;
 use std::marker::Model;
 
-/// A data record (RFC 7011 section 3.4.3): what its template describes, and a value for each of its fields.
+/// A data record (RFC 7011 section 3.4.3): its kind, and a value for each field of its template.
 #[derive(Debug, Drop)]
 pub struct Record<'f, 'a> {
     /// Whether it is a flow record or an options record.
@@ -16,12 +16,12 @@ pub struct Record<'f, 'a> {
     pub fields: FieldValues<'f, 'a>,
 }
 
-/// The data records of a data set. It keeps their bytes and shares the template's fields; the records are cut out when
-/// they are asked for.
+/// The data records of a data set. The list holds their bytes and shares the template's fields. Each record is cut out
+/// of the bytes when it is requested.
 #[derive(Debug, Drop)]
 pub struct RecordList<'a> {
     kind: Kind,
-    // None where there are no records.
+    // `None` if there are no records.
     specifiers: Option<Fields>,
     bytes: &'a [u8],
     count: usize,
@@ -40,7 +40,7 @@ impl<'a> Model for RecordList<'a> {
 }
 
 impl<'a> RecordList<'a> {
-    // So many records of these fields, one after the other, which are these bytes.
+    // Returns the list of `count` consecutive records with these fields, which are these bytes.
     pub(crate) fn new(
         kind: Kind,
         fields: &Fields,
@@ -67,21 +67,21 @@ impl<'a> RecordList<'a> {
         })
     }
 
-    /// How many data records.
+    /// Returns the number of data records.
     pub fn len(&self) -> usize
         ensures { result ≡ length self.now }
     {
         self.count
     }
 
-    /// What each record is: a flow record or an options record.
+    /// Returns the kind of the records: flow records or options records.
     pub fn kind(&self) -> Kind
         ensures { All (λ r. r.kind ≡ result) self.now }
     {
         self.kind
     }
 
-    /// The fields of each record's values in order. None where there are no records.
+    /// Returns the fields of each record's values in order, or `None` if there are no records.
     pub fn fields(&self) -> Option<&Fields>
         ensures values { MatchOption result (self.now ≡ []) (λ fields.
             All (λ r. map (λ v. v.field) r.fields ≡ fields.now) self.now) }
@@ -90,14 +90,14 @@ impl<'a> RecordList<'a> {
         match &self.specifiers {
             None => None,
             Some(specifiers) => {
-                // It bounds the number of fields.
+                // Provides the bound on the number of fields.
                 let _most = specifiers.len();
                 Some(specifiers)
             }
         }
     }
 
-    /// The data records in order.
+    /// Returns an iterator over the data records in order.
     pub fn iter(&self) -> Records<'_, 'a>
         ensures { result ≡ self.now }
     {
@@ -110,7 +110,7 @@ impl<'a> RecordList<'a> {
     }
 }
 
-/// The data records of a data set in order, as an iterator.
+/// An iterator over the data records of a data set, in order.
 #[derive(Debug, Drop)]
 pub struct Records<'f, 'a> {
     kind: Kind,

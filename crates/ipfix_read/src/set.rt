@@ -24,20 +24,20 @@ pub enum Set<'a> {
     Templates(Kind, TemplateEvents),
     /// A data set under a template in force, with its records.
     Values(Kind, RecordList<'a>),
-    /// A set with this ID that has no meaning, or a data set without a template in force.
+    /// A set whose ID has no meaning, or a data set without a template in force. The value is the set ID.
     Skipped(u16),
 }
 
 /// A list of sets.
 pub type SetList<'a> = Items<Set<'a>>;
 
-// The length of a set's header.
+// The length of a set header in bytes.
 const HEADER_LENGTH: usize = 4;
 
-// Set IDs from this one on are those of data sets (RFC 7011 section 3.3.2).
+// The first of the set IDs that data sets have (RFC 7011 section 3.3.2).
 const FIRST_DATA_SET_ID: u16 = 256;
 
-// Changes the table by one event.
+// Changes the table by one template event. If an allocation fails, the table is unchanged.
 fn apply_event(
     table: &mut TemplateTable,
     domain: u32,
@@ -54,7 +54,8 @@ fn apply_event(
     Ok(())
 }
 
-// Changes the table by these events in turn.
+// Changes the table by these template events in turn. If an allocation fails, the table may have changed by some of
+// them.
 fn apply_events(
     table: &mut TemplateTable,
     domain: u32,
@@ -69,7 +70,7 @@ fn apply_events(
     Ok(())
 }
 
-// The fault of a template set as one of the File, where the set's records begin at this offset.
+// Returns the fault of a template set as a fault of the File. `base` is the offset of the set's records in the File.
 fn fault_in_file(fault: TemplateFault, base: u64) -> ReadFault
     requires { base + fault.offset < 2 ^ 64 }
     ensures memory { fault.kind ≡ NoMemory → result ≡ out_of_memory }
@@ -88,7 +89,8 @@ fn fault_in_file(fault: TemplateFault, base: u64) -> ReadFault
     }
 }
 
-// The content of a template set, whose events change the table.
+// Reads the content of a template set, whose events change the table. If an allocation fails, the table may have
+// changed by some of them.
 fn read_templates<'a>(
     alloc: Global,
     table: &mut TemplateTable,
@@ -103,7 +105,7 @@ fn read_templates<'a>(
     ensures size { IfOk result (λ set. set_size set ≤ 1 + length bytes.now) }
     ensures fault { IfErr result (IsRefused table.old (λ history. HasContentFault history domain (set_id kind) bytes.now base)) }
 {
-    // For their laws: a set has room for its events, and bytes have no fault of memory.
+    // Provides two laws: a set has room for its events, and no bytes have the fault that an allocation failed.
     events_fit();
     memory_is_no_fault();
     let events = match read_template_set(alloc, bytes, kind) {
@@ -114,7 +116,7 @@ fn read_templates<'a>(
     Ok(Set::Templates(kind, events))
 }
 
-// The content of a set with this ID, which no template set has.
+// Reads the content of a set with this ID, which isn't the ID of template sets or options template sets.
 fn read_values_of<'a>(
     table: &TemplateTable,
     domain: u32,
@@ -145,7 +147,8 @@ fn read_values_of<'a>(
     }
 }
 
-// The content of a set with this ID. The events of a template set change the table.
+// Reads the content of a set with this ID. The events of a template set change the table, even if an allocation fails
+// after some of them.
 fn read_content<'a>(
     alloc: Global,
     table: &mut TemplateTable,
@@ -169,7 +172,8 @@ fn read_content<'a>(
     read_values_of(table, domain, id, bytes, base)
 }
 
-// The set at the front, and the bytes after it.
+// Reads the set at the start of the bytes, and returns it with the bytes after it. The events of a template set change
+// the table, even if an allocation fails after some of them.
 fn read_set<'a>(
     alloc: Global,
     table: &mut TemplateTable,
@@ -200,8 +204,8 @@ fn read_set<'a>(
     Ok((set, after))
 }
 
-/// The sets that the bytes behind a message's header are, where those bytes begin at this offset of the File.
-/// The events of template sets change the table.
+/// Reads the sets of a message from the bytes after its header. `base` is the offset of these bytes in the File. The
+/// events of template sets change the table. After a fault the table may have changed by some of them.
 pub fn read_sets<'a>(
     alloc: Global,
     table: &mut TemplateTable,

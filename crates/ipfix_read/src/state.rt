@@ -1,10 +1,10 @@
-/// Whether calls for messages go on.
+/// Whether a call for the next message may return one.
 #[derive(Clone, Copy, Debug, PartialEq, Eq)]
 pub enum State {
     /// Messages may follow.
     Going,
-    /// The end of the File was met.
+    /// The end of the File was reached.
     Ended,
-    /// A call had a fault.
+    /// A call failed.
     Failed,
 }

@@ -6,13 +6,13 @@ use byteorder::{BigEndian, ByteOrder};
 use ipfix_templates::{Field, Fields};
 use std::marker::Model;
 
-/// The value of a field in a data record: the field's specifier, and the bytes that stand in the File. A value
-/// of a field of fixed length has that length.
+/// The value of a field in a data record: the field's specifier, and the bytes of the value in the File. The value of a
+/// field of fixed length has that length.
 #[derive(Debug, Drop)]
 pub struct FieldValue<'a> {
     /// The specifier in the template.
     pub field: Field,
-    /// The bytes of the value, without the length before a variable one.
+    /// The bytes of the value. For a variable length, the length at the start is not included.
     pub value: &'a [u8],
 }
 
@@ -27,14 +27,14 @@ impl<'a> Model for FieldValue<'a> {
 }
 
 impl<'a> FieldValue<'a> {
-    /// The specifier in the template.
+    /// Returns the specifier in the template.
     pub fn field(&self) -> Field
         ensures { result ≡ self.now.field }
     {
         self.field
     }
 
-    /// The bytes of the value. Those of a field of fixed length are as many as the field says.
+    /// Returns the bytes of the value. The value of a field of fixed length has that length.
     pub fn value(&self) -> &'a [u8]
         ensures value { result.now ≡ self.now.value }
         ensures sized { IsValueOf self.now.field self.now.value }
@@ -43,8 +43,8 @@ impl<'a> FieldValue<'a> {
     }
 }
 
-/// The values of a data record, one for each field of its template. It keeps the record's bytes and the
-/// template's fields; the values are cut out when they are asked for.
+/// The values of a data record, one for each field of its template. The list holds the record's bytes and borrows the
+/// template's fields. Each value is cut out of the bytes when it is requested.
 #[derive(Debug, Drop)]
 pub struct FieldValues<'f, 'a> {
     specifiers: &'f Fields,
@@ -63,28 +63,28 @@ impl<'f, 'a> Model for FieldValues<'f, 'a> {
 }
 
 impl<'f, 'a> FieldValues<'f, 'a> {
-    /// How many values.
+    /// Returns the number of values.
     pub fn len(&self) -> usize
         ensures { result ≡ length self.now }
     {
         self.specifiers.len()
     }
 
-    /// The fields of the values, in order.
+    /// Returns the fields of the values, in order.
     pub fn specifiers(&self) -> &'f Fields
         ensures { result.now ≡ map (λ v. v.field) self.now }
     {
         self.specifiers
     }
 
-    /// The bytes that the values stand in, one after the other.
+    /// Returns the bytes of the record, which are those of its values.
     pub fn bytes(&self) -> &'a [u8]
         ensures { values_at (map (λ v. v.field) self.now) result.now ≡ Some (self.now, []) }
     {
         self.bytes
     }
 
-    /// The values in order.
+    /// Returns an iterator over the values in order.
     pub fn iter(&self) -> Values<'f, 'a>
         ensures { result ≡ self.now }
     {
@@ -95,7 +95,7 @@ impl<'f, 'a> FieldValues<'f, 'a> {
     }
 }
 
-/// The values of a data record in order, as an iterator.
+/// An iterator over the values of a data record, in order.
 #[derive(Debug, Drop)]
 pub struct Values<'f, 'a> {
     specifiers: &'f [Field],
@@ -127,7 +127,7 @@ impl<'f, 'a> Iterator for Values<'f, 'a> {
     }
 }
 
-// So many bytes from the front, and those after them.
+// Splits the bytes after the first `count`. Returns `None` if the input is too short.
 fn read_bytes(count: usize, bytes: &[u8]) -> Option<(&[u8], &[u8])>
     ensures { option_map (λ x. (x.0.now, x.1.now)) result ≡ bytes_at count bytes.now }
 {
@@ -137,7 +137,8 @@ fn read_bytes(count: usize, bytes: &[u8]) -> Option<(&[u8], &[u8])>
     Some(bytes.split_at(count))
 }
 
-// The value of a variable length at the front, and the bytes after it.
+// Reads the value of a variable length at the start of the bytes, and returns it with the bytes after it. Returns
+// `None` if the input is too short.
 fn read_variable(bytes: &[u8]) -> Option<(&[u8], &[u8])>
     ensures { option_map (λ x. (x.0.now, x.1.now)) result ≡ variable_at bytes.now }
 {
@@ -151,7 +152,8 @@ fn read_variable(bytes: &[u8]) -> Option<(&[u8], &[u8])>
     read_bytes(usize::from(BigEndian::read_u16(rest)), &rest[2..])
 }
 
-/// The value of a field at the front, and the bytes after it. Returns `None` if the bytes end before the value does.
+/// Reads the value of a field at the start of the bytes, and returns it with the bytes after it. Returns `None` if the
+/// input is too short.
 #[tactic(auto, unfolding(crate::specs::Value::value_at))]
 pub fn read_value<'a>(field: Field, bytes: &'a [u8]) -> Option<(FieldValue<'a>, &'a [u8])>
     ensures field { IfSome result (λ x. x.0.field ≡ field) }
@@ -165,8 +167,9 @@ pub fn read_value<'a>(field: Field, bytes: &'a [u8]) -> Option<(FieldValue<'a>, 
     Some((FieldValue { field, value }, rest))
 }
 
-/// The bytes after the values of these fields at the front. None where a part passes the end. The fixed lengths between
-/// variable fields are skipped together, so that each step but the last takes a byte.
+/// Skips the values of these fields at the start of the bytes, and returns the bytes after them. Returns `None` if the
+/// input is too short. The fixed lengths between variable fields are skipped together, so each step but the last takes
+/// at least one byte.
 pub fn skip_values<'a>(fields: &Fields, bytes: &'a [u8]) -> Option<&'a [u8]>
     ensures { option_map (λ x. x.now) result ≡ option_map (λ x. x.1) (values_at fields.now bytes.now) }
 {
@@ -180,7 +183,8 @@ pub fn skip_values<'a>(fields: &Fields, bytes: &'a [u8]) -> Option<&'a [u8]>
     Some(after)
 }
 
-/// The values of these fields at the front, and the bytes after them. None where a part passes the end.
+/// Reads the values of these fields at the start of the bytes, and returns them with the bytes after them. Returns
+/// `None` if the input is too short.
 pub fn read_values<'f, 'a>(
     fields: &'f Fields,
     bytes: &'a [u8],

@@ -5,7 +5,7 @@ use Rattle.ipfix_read.proofs.RecordBytes.{values_shorter}
 use Rattle.ipfix_read.proofs.Cuts.{taken}
 use Rattle.ipfix_read.proofs.value.read_values.Goals as goal
 
--- what was read, and that the bytes behind it are the rest
+-- the values that were read, and that the bytes after them are the rest
 read : (c : goal.In_ok-rest) → (x : List FieldValueView × List ℕ) × (values_at c.args.fields.now c.args.bytes.now ≡ Some x) × (x.1 ≡ c.in_ok-rest.rest.now)
 read c = mapped (values_at c.args.fields.now c.args.bytes.now) (λ x. x.1) c.in_ok-rest.rest.now (sym c.in_ok-rest.ensures)
 
