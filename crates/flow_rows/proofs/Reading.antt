@@ -1,4 +1,4 @@
--- What is read at the places of elements is what the values of a record say of them.
+-- The numbers that are read at the offsets of elements are those of the record's values.
 use Rattle.std.proofs.Common.{◌≡◌, ◌∙◌, ℕ, ◌+◌, ◌-◌, ◌<◌, ◌≤◌, true, false, cond, ltb, List, [], ◌∷◌, ◌++◌, length, take, drop, map, Option, Some, None, is_some, refl, sym, ap, arith, append_assoc, length-append, take-append-drop}
 use Rattle.std.specs.Prelude.{◌==◌, ◌&&◌, filter, nat_le, option_and_then, option_map, slice_range}
 use Rattle.std.specs.Map.{lookup}
@@ -33,7 +33,7 @@ pub place_in-elements_at : (place : ℕ → Option Place) (number : ℕ) (range 
     → place_in (elements_at place) number ≡ place number
 place_in-elements_at place number range listed = looked_up place number range element_lengths listed
 
--- what is read of each element of a row is all that is read
+-- the number of each element of a row that is read is that of the values
 abbrev pub ReadsListed : Option ℕ → Elements → List ℕ → List FieldValueView → Type 0
 ReadsListed direction e bytes values =
     (number : ℕ) (range : ℕ × ℕ) → IsListed number range → number_there range (place_in e number) bytes ≡ element direction values number
@@ -48,7 +48,7 @@ said_all direction e bytes values reads number =
     ]
     refl
 
--- ---- what is read at one place
+-- ---- the number at one offset
 
 beyond : (range : ℕ × ℕ) (p : Place) (bytes : List ℕ) → length bytes < p.end → number_there range (Some p) bytes ≡ None
 beyond range p bytes short =
@@ -68,13 +68,13 @@ within range at size bytes enough few whole =
     )
     refl
 
--- the bytes behind others
+-- the bytes after others
 slice_behind : (front rest : List ℕ) (size : ℕ) → slice_range (front ++ rest) (length front) (length front + size) ≡ take size rest
 slice_behind front rest size =
     let size_is : length front + size - length front ≡ size = omega arith in
     λ i. take (size_is i) (drop_at front rest (length front) refl i)
 
--- where no field is variable, the first isn't, and none behind it
+-- if no field is variable, neither the first is nor any after it
 fixed_first : (sum : ℕ) (f : Field) (fs : List Field) → runs_behind sum (f ∷ fs) ≡ [] → (is_variable f ≡ false) × (runs_behind (sum + f.length) fs ≡ [])
 fixed_first sum f fs e =
     elim (is_variable f) as (λ b. cond b (sum ∷ runs_behind 0 fs) (runs_behind (sum + f.length) fs) ≡ [] → (b ≡ false) × (runs_behind (sum + f.length) fs ≡ [])) [
@@ -83,16 +83,16 @@ fixed_first sum f fs e =
     ]
     e
 
--- values that are left of a record, behind one that was read
+-- the remaining values of a record, after one that was read
 abbrev pub behind : List Field → Option (List ℕ × List ℕ) → List FieldValueView
 behind fs read = option_map_or (λ v. whole_values fs v.1) read []
 
--- what is said at a place that is known, and otherwise what the values that are left say
+-- the number at a known offset, or otherwise that of the remaining values
 abbrev pub known : Option ℕ → ℕ → ℕ × ℕ → Option Place → List ℕ → List FieldValueView → Option ℕ
 known direction number range place bytes left = cond (is_some place) (number_there range place bytes) (element direction left number)
 
 module _ (direction : Option ℕ) (number : ℕ) (range : ℕ × ℕ) (listed : IsListed number range) where
-  -- the number at the place of a usable field is that of its value, if the value is there
+  -- the number at the offset of a usable field is that of its value, if the value exists
   there : (f : Field) (front rest : List ℕ) → is_usable direction number f ≡ true
       → number_there range (Some (place_of (length front) f)) (front ++ rest) ≡ option_map (λ v. big_endian v.0) (value_at f rest)
   unfolding value_at
@@ -116,7 +116,7 @@ module _ (direction : Option ℕ) (number : ℕ) (range : ℕ × ℕ) (listed : 
       ]
       refl
 
-  -- ---- places in records whose fields all have fixed lengths
+  -- ---- offsets in records whose fields all have fixed lengths
 
   beyond_all : (fields : List Field) (at : ℕ) (bytes : List ℕ) → length bytes < at
       → number_there range (place direction at fields number) bytes ≡ None
@@ -167,7 +167,7 @@ module _ (direction : Option ℕ) (number : ℕ) (range : ℕ × ℕ) (listed : 
       ]
       refl
 
-  -- ---- places that are looked for in one record
+  -- ---- offsets that are determined for one record
 
   behind_said : (fs : List Field) (read : Option (List ℕ × List ℕ))
       → element direction (behind fs read) number ≡ option_map_or (λ v. element direction (whole_values fs v.1) number) read None
@@ -197,7 +197,7 @@ module _ (direction : Option ℕ) (number : ℕ) (range : ℕ × ℕ) (listed : 
   none_left None bytes = refl
   none_left (Some p) bytes = refl
 
--- what is said at the places that are known, with what the values that are left say, is what all values say
+-- the numbers at the known offsets, together with those of the remaining values, are those of all values
 pub record IsKnown (direction : Option ℕ) (e : Elements) (bytes : List ℕ) (left values : List FieldValueView) : Type 0 where
   pub at : (number : ℕ) (range : ℕ × ℕ) → IsListed number range
       → known direction number range (place_in e number) bytes left ≡ element direction values number
@@ -235,7 +235,7 @@ known_last direction e bytes left values none known_all =
     ∙ ap (λ (vs : List FieldValueView). known direction number range (place_in e number) bytes vs) (sym none)
     ∙ known_all.at number range listed)
 
--- ---- places that are looked for once
+-- ---- offsets that are determined once
 
 kept-none : (x : Option Place) → kept None x ≡ x
 kept-none None = refl
@@ -257,7 +257,7 @@ kept-given x direction at f fs number =
     kept_twice (Some x) p None = refl
     kept_twice (Some x) p (Some q) = refl
 
--- the places that are known, with those that more fields give
+-- the known offsets, together with those of more fields
 pub with_places : Option ℕ → Elements → ℕ → List Field → Elements
 with_places direction e at fields = elements_at (λ number. kept (place_in e number) (place direction at fields number))
 
@@ -285,10 +285,10 @@ filled_runs sum other (f ∷ fs) fixed =
       | false ↦ filled_runs (sum + f.length) other fs first.1
     ]
 
--- what is said of a record with these fields and values
+-- the numbers of a record with these fields and values
 module _ (direction : Option ℕ) (fields : List Field) (bytes : List ℕ) (values : List FieldValueView)
     (same : map (λ v. v.field) values ≡ fields) (read : values_at (map (λ v. v.field) values) bytes ≡ Some (values, [])) where
-  -- what its values say, those of its fields that take bytes say
+  -- the numbers of its values are those of the fields that take bytes
   pub filled_said : (filled : List Field) → filled ≡ filter has_bytes fields
       → (number : ℕ) → element direction (whole_values filled bytes) number ≡ element direction values number
   filled_said filled are number =
@@ -299,7 +299,7 @@ module _ (direction : Option ℕ) (fields : List Field) (bytes : List ℕ) (valu
       )
       ∙ element-with_bytes direction number values
 
-  -- and it is read at places that were looked for once, if no field is variable
+  -- and they are read at offsets that were determined once, if no field is variable
   pub fixed_said : (e : Elements) → e ≡ elements_at (place direction 0 (filter has_bytes fields)) → runs_behind 0 fields ≡ []
       → (number : ℕ) → said_there e bytes number ≡ element direction values number
   fixed_said e is fixed number =

@@ -1,4 +1,5 @@
--- The rows of records with the same fields: whether there are any is said by the fields, or by the packets that went back.
+-- The rows of records with the same fields: whether there are any follows from the fields, or from the packets that
+-- went back.
 use Rattle.std.proofs.Common.{◌≡◌, get_or, suc, ◌∙◌, ℕ, ◌+◌, All, Bool, true, false, not, cond, List, [], ◌∷◌, ◌++◌, length, map, Option, Some, None, is_some, refl, sym, ap, arith}
 use Rattle.std.specs.Prelude.{◌&&◌, ◌||◌, ◌==◌, count_by, filter, option_and_then}
 use Rattle.std.specs.List.{flat_map}
@@ -24,7 +25,7 @@ use Rattle.flow_rows.specs.Row.{RowView}
 use Rattle.flow_rows.specs.declared.elements.Elements.{Elements}
 use Rattle.flow_rows.proofs.Usable.{has_bytes_usable}
 
--- a flow record's row is that of what its values say
+-- the row of a flow record is that of its values
 pub first_row_of-flow : (kind : Kind) (values : List FieldValueView) → (kind ≡ Options → ⊥)
     → first_row_of kind values ≡ row_of_elements (element forward values)
 first_row_of-flow Flow values h = refl
@@ -33,7 +34,7 @@ first_row_of-flow Options values h = absurd (h refl)
 abbrev fields_of : List FieldValueView → List Field
 fields_of values = map (λ v. v.field) values
 
--- ---- whether an element is said is said by the fields that take bytes
+-- ---- whether an element exists follows from the fields that take bytes
 
 placed_behind : (direction : Option ℕ) (number at : ℕ) (f : Field) (b x : Bool) (fs : List Field) → is_usable direction number f ≡ false
     → ((n : ℕ) → is_some (place direction n fs number) ≡ x) → is_some (place direction at (cond b (f ∷ fs) fs) number) ≡ x
@@ -88,7 +89,7 @@ first_row_of-has Options values = refl
 
 -- ---- second rows
 
--- whether packets went back
+-- whether there are packets in the reverse direction
 abbrev pub went_back : Record → Bool
 went_back r = not (packets_of (element back r.fields) == 0)
 
@@ -96,7 +97,7 @@ absent : {X : Type 0} (o : Option X) → is_some o ≡ false → o ≡ None
 absent None e = refl
 absent (Some x) e = cc
 
--- where no field counts packets that went back, there are none
+-- if no field counts packets in the reverse direction, there are none
 pub none_back : (e : Elements) (fields : List Field) (values : List FieldValueView) → fields_of values ≡ fields
     → e ≡ elements_at (place back 0 (filter has_bytes fields)) → (is_some e.packets || is_some e.total_packets) ≡ false
     → packets_of (element back values) ≡ 0
@@ -113,7 +114,7 @@ none_back e fields values same is none =
 pub no_row_back : (said : ℕ → Option ℕ) (row : RowView) → packets_of said ≡ 0 → row_back said row ≡ None
 no_row_back said row none = rw none refl
 
--- ---- how many rows
+-- ---- the number of rows
 
 length_chosen : (b : Bool) (row : RowView) → length (option_to_list (cond b None (Some row))) ≡ cond (not b) 1 0
 length_chosen true row = refl
@@ -155,7 +156,7 @@ rows_none (r ∷ records) all =
       rows_none records (All-tail (λ (r : Record). is_some (first_row r) ≡ false) r records all),
     )
 
--- as many pass as there are, or none, where all pass alike
+-- if one test decides for all, either all or none pass
 together : (c : Bool) (n : ℕ) → cond c 1 0 + cond c n 0 ≡ cond c (suc n) 0
 together true n = omega arith
 together false n = omega arith
@@ -173,7 +174,7 @@ pub of_kind_counted : (kind : Kind) (records : List Record) (of : Kind) → All 
 of_kind_counted kind records of all =
     count_alike (is_of_kind kind) (same_kind of kind) records (λ k d within. ap (λ (x : Kind). same_kind x kind) (all k d within))
 
--- in the words of a plan for records with these fields
+-- facts in terms of a plan for records with these fields
 module _ (fields : List Field) (records : List Record) (of_fields : All (λ r. fields_of r.fields ≡ fields) records) where
   pub first_rows : (kind : Kind) (e : Elements) → All (λ r. r.kind ≡ kind) records → e ≡ elements_at (place forward 0 (filter has_bytes fields))
       → All (λ r. is_some (first_row r) ≡ (same_kind kind Flow && have_addresses e)) records

@@ -1,4 +1,4 @@
--- Fields that are usable for an element: their lengths, and what values say of the element.
+-- Fields that are usable for an element: their lengths, and the element's number in the values.
 use Rattle.std.proofs.Common.{◌≡◌, ◌∙◌, ℕ, ◌≤◌, Bool, true, false, not, cond, List, [], ◌∷◌, Option, Some, None, refl, sym, ap}
 use Rattle.std.specs.Prelude.{◌&&◌, ◌==◌, nat_eq, nat_le, option_map}
 use Rattle.std.specs.List.{list_all}
@@ -39,7 +39,7 @@ none_passes f key (e ∷ table) h =
       | false ↦ none_passes f key table parts.1
     ]
 
--- a length that no element has is not a usable field's
+-- the length of a usable field is one that some element may have
 pub has_other_length : (len : ℕ) → list_all (λ e. not (nat_le e.1.0 len && nat_le len e.1.1)) element_lengths ≡ true
     → (direction : Option ℕ) (number : ℕ) (f : Field) → is_usable direction number f ≡ true → (f.length == len) ≡ false
 unfolding fits
@@ -55,7 +55,7 @@ has_other_length len unlisted direction number f usable =
 pub has_bytes_usable : (direction : Option ℕ) (number : ℕ) (f : Field) → is_usable direction number f ≡ true → has_bytes f ≡ true
 has_bytes_usable direction number f usable = ap not (has_other_length 0 refl direction number f usable)
 
--- of a number that is no element's nothing is said
+-- a number that isn't an element's has no value
 not_usable : (p q : Bool) → (p && (q && false)) ≡ false
 not_usable true true = refl
 not_usable true false = refl
@@ -69,8 +69,7 @@ element-unlisted direction number none (v ∷ vs) =
     rw (none, not_usable (v.field.number == number) (option_eq nat_eq v.field.enterprise direction))
     (element-unlisted direction number none vs)
 
--- the values of a field and of those behind it say what the field's value says, if it is usable, and otherwise what those
--- behind it say
+-- the number in the value of a field if it is usable, otherwise that of the values after it
 abbrev first_and_more : Field → List Field → Option (List ℕ × List ℕ) → List FieldValueView
 first_and_more f fs read = option_map_or (λ v. record { field = f; value = v.0 } ∷ whole_values fs v.1) read []
 
@@ -96,7 +95,7 @@ module _ (direction : Option ℕ) (number : ℕ) (f : Field) (fs : List Field) w
   unfolding whole_values
   element-passed bytes unusable = first_passed (value_at f bytes) unusable
 
--- what values say of an element, those with bytes say
+-- the number of an element is that of the values with bytes
 passed_over : (direction : Option ℕ) (number : ℕ) (v : FieldValueView) (b : Bool) (vs : List FieldValueView)
     → is_usable direction number v.field ≡ false → element direction (cond b (v ∷ vs) vs) number ≡ element direction vs number
 passed_over direction number v true vs unusable = rw unusable refl

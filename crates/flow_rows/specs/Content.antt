@@ -1,4 +1,4 @@
--- What stands in the sets of messages, in order.
+-- The contents of the sets of messages, in order.
 use Rattle.std.specs.Prelude.{List, []}
 use Rattle.std.specs.List.{flat_map}
 use Rattle.ipfix_templates.specs.declared.event.TemplateEvent.{TemplateEvent}

@@ -12,7 +12,7 @@ use Rattle.ipfix_read.specs.Message.{MessageView}
 use Rattle.flow_rows.specs.declared.counts.Counts.{Counts}
 use Rattle.flow_rows.specs.Content.{events_of, records_of, rows_of, sets_of}
 
--- counts without the proof that they are bounded
+-- counts without the proof of their bounds
 pub record CountsView : Type 0 where
   pub messages : ℕ
   pub templates : ℕ
@@ -37,40 +37,40 @@ counts_view c = record {
   rows = c.rows;
 }
 
--- all counts together
+-- the sum of all counts
 abbrev pub total : Counts → ℕ
 total c =
     c.templates + c.options_templates + c.withdrawals + c.data_sets + c.skipped_sets + c.records + c.options_records + c.rows
 
--- the event defines a template of the kind
+-- whether the event defines a template of the kind
 abbrev pub defines : Kind → TemplateEvent → Bool
 defines kind (Define template) = same_kind template.kind kind
 defines kind (Withdraw id) = false
 defines kind (WithdrawAll every) = false
 
--- the event withdraws one template, or all of a kind
+-- whether the event withdraws one template, or all of a kind
 abbrev pub is_withdrawal : TemplateEvent → Bool
 is_withdrawal (Define template) = false
 is_withdrawal (Withdraw id) = true
 is_withdrawal (WithdrawAll every) = true
 
--- the set is a data set under a template in force
+-- whether the set is a data set under a template in force
 abbrev pub is_data_set : Set → Bool
 is_data_set (Templates kind events) = false
 is_data_set (Values kind records) = true
 is_data_set (Skipped id) = false
 
--- the set is skipped
+-- whether the set is skipped
 abbrev pub is_skipped : Set → Bool
 is_skipped (Templates kind events) = false
 is_skipped (Values kind records) = false
 is_skipped (Skipped id) = true
 
--- the record is described by a template of the kind
+-- whether the record is described by a template of the kind
 abbrev pub is_of_kind : Kind → Record → Bool
 is_of_kind kind r = same_kind r.kind kind
 
--- the counts of so many messages with these sets: definitions of templates of each kind, withdrawals, data sets and
+-- the counts of `messages` messages with these sets: definitions of templates of each kind, withdrawals, data sets and
 -- skipped sets, records of each kind, and rows
 abbrev pub counts_in : ℕ → List Set → CountsView
 counts_in messages sets = record {

@@ -1,5 +1,5 @@
--- The information elements of a row, and what a record says of one (RFC 7012, and IANA's registry of IPFIX elements),
--- in its own direction and in the reverse one (RFC 5103).
+-- The information elements of a row, and their numbers in a record (RFC 7012, and IANA's registry of IPFIX elements),
+-- in the record's own direction and in the reverse one (RFC 5103).
 use Rattle.std.specs.Prelude.{ℕ, List, [], ◌∷◌, length, Bool, false, Option, Some, None, option_map, find, nat_eq, nat_le, ◌==◌, ◌&&◌}
 use Rattle.std.specs.Option.{option_eq, option_map_or}
 use Rattle.std.specs.Map.{lookup}
@@ -7,8 +7,8 @@ use Rattle.byteorder.specs.Endian.{big_number}
 use Rattle.ipfix_templates.specs.declared.field.Field.{Field}
 use Rattle.ipfix_read.specs.Value.{FieldValueView}
 
--- the elements by their numbers, each with the least and the greatest length that its field may have. A number may
--- be sent in fewer bytes than it has (RFC 7011 section 6.2)
+-- the elements by their numbers, each with the minimum and the maximum length of its field; a number may be sent in
+-- fewer bytes than its type has (RFC 7011 section 6.2)
 abbrev pub element_lengths : List (ℕ × (ℕ × ℕ))
 element_lengths =
     (1, (1, 8))  -- octetDeltaCount
@@ -27,28 +27,28 @@ element_lengths =
     ∷ (153, (8, 8))  -- flowEndMilliseconds
     ∷ []
 
--- the element is one of a row, and a field of it may have this length
+-- the element belongs to a row, and a field of it may have this length
 unfoldable pub fits : ℕ → ℕ → Bool
 fits number len =
     option_map_or (λ range. nat_le range.0 len && nat_le len range.1) (lookup (λ n. n == number) element_lengths) false
 
--- the enterprise number of the elements of the record's own direction, which is none, and of the reverse direction (RFC
--- 5103 section 6.1)
+-- the enterprise number of the elements of the record's own direction, which is missing, and of the reverse direction
+-- (RFC 5103 section 6.1)
 abbrev pub forward : Option ℕ
 forward = None
 
 abbrev pub back : Option ℕ
 back = Some 29305
 
--- a field is usable for the element with this number, of a direction: it has the element's number and the direction's
+-- a field is usable for the element with this number in a direction: it has the element's number and the direction's
 -- enterprise number, and its length fits the element
 abbrev pub is_usable : Option ℕ → ℕ → Field → Bool
 is_usable direction number f = (f.number == number) && (option_eq nat_eq f.enterprise direction && fits number f.length)
 
--- the number that bytes make in network byte order
+-- the number of bytes in network byte order
 abbrev pub big_endian : List ℕ → ℕ
 big_endian bytes = big_number (length bytes) bytes
 
--- what values say of an element of a direction: the number of the first value whose field is usable for it
+-- the number of an element of a direction in values: that of the first value whose field is usable for it
 abbrev pub element : Option ℕ → List FieldValueView → ℕ → Option ℕ
 element direction values number = option_map (λ v. big_endian v.value) (find (λ v. is_usable direction number v.field) values)

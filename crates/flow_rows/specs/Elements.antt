@@ -1,4 +1,4 @@
--- The rows of a record, by what it says of each element.
+-- The rows of a record, from the numbers of its elements.
 use Rattle.std.specs.Prelude.{ℕ, List, ◌++◌, Option, Some, None, option_and_then, unwrap_or, ◌==◌, if◌then◌else◌}
 use Rattle.std.specs.Option.{option_or, option_to_list}
 use Rattle.prefix_keys.specs.declared.version.Version.{Version}
@@ -10,15 +10,15 @@ use Rattle.ipfix_read.specs.declared.record.Record.{Record}
 use Rattle.flow_rows.specs.Element.{back, element, forward}
 use Rattle.flow_rows.specs.Row.{RowView}
 
--- the packets, and the bytes, of a direction. Counts since the last report go before those since the flow began, and what
--- isn't there is 0
+-- the packets, and the bytes, of a direction; counts since the last report precede those since the flow began, and a
+-- missing count is 0
 abbrev pub packets_of : (ℕ → Option ℕ) → ℕ
 packets_of said = unwrap_or (option_or (said 2) (said 86)) 0
 
 abbrev pub octets_of : (ℕ → Option ℕ) → ℕ
 octets_of said = unwrap_or (option_or (said 1) (said 85)) 0
 
--- the row between two addresses of a version, where there are both. What isn't there is 0
+-- the row between two addresses of a version, if both exist; missing numbers are 0
 abbrev pub row_between : Version → Option ℕ → Option ℕ → (ℕ → Option ℕ) → Option RowView
 row_between version (Some src) (Some dst) said = Some (record {
   version = version;
@@ -36,11 +36,11 @@ row_between version (Some src) (Some dst) said = Some (record {
 row_between version (Some src) None said = None
 row_between version None dst said = None
 
--- the row of what is said of each element: between the IPv4 addresses, or else between the IPv6 addresses
+-- the row of the numbers of the elements: between the IPv4 addresses, or otherwise between the IPv6 addresses
 abbrev pub row_of_elements : (ℕ → Option ℕ) → Option RowView
 row_of_elements said = option_or (row_between V4 (said 8) (said 12) said) (row_between V6 (said 27) (said 28) said)
 
--- the first row of the values of a record. An options record has none
+-- the first row of the values of a record; an options record has none
 abbrev pub first_row_of : Kind → List FieldValueView → Option RowView
 first_row_of Flow values = row_of_elements (element forward values)
 first_row_of Options values = None
@@ -48,9 +48,8 @@ first_row_of Options values = None
 abbrev pub first_row : Record → Option RowView
 first_row r = first_row_of r.kind r.fields
 
--- the row of the reverse direction of a row, by what is said of that direction, where any packet went that way: addresses
--- and ports change round, the protocol is the same, and a time that isn't there is the row's own. What else isn't there
--- is 0
+-- the row of the reverse direction of a row, from the numbers of that direction, if it has packets: addresses and ports
+-- are exchanged, the protocol is the same, a missing time is the row's own, and other missing numbers are 0
 abbrev pub row_back : (ℕ → Option ℕ) → RowView → Option RowView
 row_back said row = if packets_of said == 0 then None else Some (record {
   version = row.version;
@@ -66,7 +65,8 @@ row_back said row = if packets_of said == 0 then None else Some (record {
   end_ms = unwrap_or (said 153) row.end_ms;
 })
 
--- the second row of a record: that of the reverse direction of its first row, where it has one and packets went back
+-- the second row of a record: that of the reverse direction of its first row, if it has a first row and packets went
+-- back
 abbrev pub second_row : Record → Option RowView
 second_row r = option_and_then (row_back (element back r.fields)) (first_row r)
 

@@ -1,4 +1,4 @@
-//! How many of each kind a set has.
+//! Counting the contents of a set by kind.
 ghost use Rattle.std.specs.Prelude.{◌≡◌, ◌+◌, ◌<◌, ◌≤◌, ◌^◌, count_by, length};
 ghost use Rattle.std.specs.List.{flat_map};
 ghost use Rattle.flow_rows.specs.Counts.{defines, is_of_kind, is_withdrawal};
@@ -8,7 +8,7 @@ use crate::plan::Plan;
 use ipfix_read::RecordList;
 use ipfix_templates::{Kind, TemplateEvent};
 
-/// How many events define a template of the kind.
+/// Returns the number of events that define a template of the kind.
 pub fn definitions(events: &[TemplateEvent], kind: Kind) -> u64
     ensures { result ≡ count_by (defines kind) events.now }
 {
@@ -20,7 +20,7 @@ pub fn definitions(events: &[TemplateEvent], kind: Kind) -> u64
         .count() as u64
 }
 
-/// How many events withdraw one template or more.
+/// Returns the number of events that withdraw one or more templates.
 pub fn withdrawals(events: &[TemplateEvent]) -> u64
     ensures { result ≡ count_by is_withdrawal events.now }
 {
@@ -30,7 +30,7 @@ pub fn withdrawals(events: &[TemplateEvent]) -> u64
         .count() as u64
 }
 
-/// How many of the records are described by a template of the kind: all of them, or none.
+/// Returns the number of records that are described by a template of the kind: all of them, or none.
 pub fn of_kind(records: &RecordList<'_>, kind: Kind) -> u64
     ensures { result ≡ count_by (is_of_kind kind) records.now }
 {
@@ -41,7 +41,7 @@ pub fn of_kind(records: &RecordList<'_>, kind: Kind) -> u64
     }
 }
 
-/// How many rows the records have.
+/// Returns the number of rows of the records.
 pub fn row_count(records: &RecordList<'_>) -> u64
     requires { length records.now < 2 ^ 63 }
     ensures value { result ≡ length (flat_map rows_of_record records.now) }

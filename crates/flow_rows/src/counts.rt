@@ -4,8 +4,8 @@ use crate::counting::{definitions, of_kind, row_count, withdrawals};
 use ipfix_read::{Message, Set};
 use ipfix_templates::Kind;
 
-/// The counts of messages: what `info` shows of a File. Each is at most 65,535 for each message, and
-/// the rows at most twice as many.
+/// The counts of messages, which `info` prints for a File. Each is at most 65,535 for each message, and the rows are at
+/// most twice as many.
 #[derive(Clone, Copy, Debug, PartialEq, Eq)]
 pub struct Counts {
     /// Messages (RFC 7011 section 3.1).
@@ -24,7 +24,7 @@ pub struct Counts {
     pub records: u64,
     /// Options records.
     pub options_records: u64,
-    /// Rows of the records, of which each has none, one or two.
+    /// Rows of the records. Each record has none, one or two.
     pub rows: u64,
     ghost bounded: { templates + options_templates + withdrawals + data_sets + skipped_sets + records + options_records + rows
         ≤ 589815 * messages },
@@ -36,7 +36,7 @@ impl Counts {
     ghost use Rattle.ipfix_read.specs.declared.set.Set.{Set as SetView};
     ghost use Rattle.flow_rows.specs.Counts.{counts_in, counts_of, counts_view, total};
 
-    /// The counts of no message.
+    /// Returns the counts of no messages.
     pub fn new() -> Counts
         ensures { counts_view result ≡ counts_of [] }
     {
@@ -53,7 +53,7 @@ impl Counts {
         }
     }
 
-    /// Counts one more message.
+    /// Adds the counts of one message.
     pub fn add(&mut self, message: &Message<'_>)
         requires { self.old.messages < 4294967295 }
         ensures { (messages : List MessageView) → counts_view self.old ≡ counts_of messages
@@ -65,7 +65,7 @@ impl Counts {
         }
     }
 
-    // Counts one more set.
+    // Adds the counts of one set.
     fn add_set(&mut self, set: &Set<'_>)
         requires few { self.old.messages ≤ 4294967295 }
         requires room { total self.old + 9 * set_size set.now ≤ 589815 * self.old.messages }

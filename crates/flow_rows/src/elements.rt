@@ -11,8 +11,8 @@ use ipfix_read::read_value;
 use ipfix_templates::Field;
 use prefix_keys::{Addr, Version};
 
-/// Where each information element of a row (RFC 7012), or the same one of the reverse direction (RFC 5103), lies in a
-/// record: the value of the first usable field.
+/// The offsets of each information element of a row (RFC 7012), or of the same element of the reverse direction (RFC
+/// 5103), in a record: those of the value of the first usable field.
 #[derive(Clone, Copy, Debug)]
 pub struct Elements {
     /// 1, octetDeltaCount.
@@ -45,7 +45,8 @@ pub struct Elements {
     pub end_ms: Option<Place>,
 }
 
-// Keeps the place of a field that begins at this offset, if its length is within these and no place is known.
+// Stores the offsets of a field that begins at this offset, if its length is within these limits and no offsets are
+// known.
 #[inline(always)]
 fn keep(slot: &mut Option<Place>, field: Field, at: usize, least: u16, most: u16)
     requires { at + 65535 < 2 ^ 64 }
@@ -61,7 +62,7 @@ fn keep(slot: &mut Option<Place>, field: Field, at: usize, least: u16, most: u16
     }
 }
 
-// The IPv4 address with this number.
+// Returns the IPv4 address with this number.
 fn ipv4(number: u32) -> Addr
     ensures version { result.version ≡ Version.V4 }
     ensures value { result.value ≡ number }
@@ -72,7 +73,7 @@ fn ipv4(number: u32) -> Addr
     }
 }
 
-// The IPv6 address with this number.
+// Returns the IPv6 address with this number.
 fn ipv6(number: u128) -> Addr
     ensures version { result.version ≡ Version.V6 }
     ensures value { result.value ≡ number }
@@ -84,7 +85,7 @@ fn ipv6(number: u128) -> Addr
 }
 
 impl Elements {
-    /// The places among no fields.
+    /// Returns the offsets of no fields.
     #[inline]
     pub fn new() -> Elements
         ensures { result ≡ elements_at (λ number. None) }
@@ -107,8 +108,8 @@ impl Elements {
         }
     }
 
-    /// Keeps the place of one more field, which begins at this offset, if it is usable for an element of the direction with
-    /// this enterprise number. Places of earlier fields stay.
+    /// Stores the offsets of one more field, which begins at this offset, if it is usable for an element of the
+    /// direction with this enterprise number. The offsets of earlier fields are unchanged.
     #[inline(always)]
     #[tactic(auto, unfolding(crate::specs::Element::fits))]
     pub fn keep(&mut self, direction: Option<u32>, field: Field, at: usize)
@@ -137,7 +138,8 @@ impl Elements {
         }
     }
 
-    /// Where the elements of a direction lie in a record with these bytes, each value read as long as it is there.
+    /// Returns the offsets of the elements of a direction in a record with these bytes, reading each value as long as
+    /// it is complete.
     #[inline(never)]
     pub fn of_record(direction: Option<u32>, fields: &[Field], bytes: &[u8]) -> Elements
         ensures { (number : ℕ) → said_there result bytes.now number
@@ -155,7 +157,7 @@ impl Elements {
         elements
     }
 
-    /// Whether there are both addresses of a version.
+    /// Returns `true` if there are both addresses of a version.
     #[inline]
     pub fn have_addresses(&self) -> bool
         ensures { result ≡ ((is_some self.now.src_v4 && is_some self.now.dst_v4) || (is_some self.now.src_v6 && is_some self.now.dst_v6)) }
@@ -164,7 +166,7 @@ impl Elements {
             || (self.src_v6.is_some() && self.dst_v6.is_some())
     }
 
-    /// Whether packets are counted.
+    /// Returns `true` if packets are counted.
     #[inline]
     pub fn have_packets(&self) -> bool
         ensures { result ≡ (is_some self.now.packets || is_some self.now.total_packets) }
@@ -172,7 +174,7 @@ impl Elements {
         self.packets.is_some() || self.total_packets.is_some()
     }
 
-    /// The packets in a record with these bytes, 0 if they are not counted.
+    /// Returns the number of packets in a record with these bytes, or 0 if they are not counted.
     #[inline(always)]
     pub fn packets(&self, bytes: &[u8]) -> u64
         ensures { result ≡ packets_of (said_there self.now bytes.now) }
@@ -182,7 +184,7 @@ impl Elements {
             .unwrap_or(0)
     }
 
-    // The bytes of the packets, 0 if they are not counted.
+    // Returns the number of bytes of the packets, or 0 if they are not counted.
     #[inline(always)]
     fn octets(&self, bytes: &[u8]) -> u64
         ensures { result ≡ octets_of (said_there self.now bytes.now) }
@@ -192,7 +194,7 @@ impl Elements {
             .unwrap_or(0)
     }
 
-    // The row between two addresses of this version.
+    // Returns the row between two addresses of this version.
     #[inline(always)]
     fn row_between(&self, version: Version, src: Addr, dst: Addr, bytes: &[u8]) -> Row
         requires src_version { src.version ≡ version }
@@ -214,7 +216,8 @@ impl Elements {
         }
     }
 
-    /// The row of a record with these bytes, if there are both addresses of a version; those of IPv4 come first.
+    /// Returns the row of a record with these bytes, if there are both addresses of a version. Those of IPv4 take
+    /// precedence.
     #[inline(always)]
     pub fn row(&self, bytes: &[u8]) -> Option<Row>
         ensures { option_map row_view result ≡ row_of_elements (said_there self.now bytes.now) }
@@ -230,7 +233,8 @@ impl Elements {
         Some(self.row_between(Version::V6, ipv6(src), ipv6(dst), bytes))
     }
 
-    /// The row of the reverse direction of a row, in a record with these bytes, if any packet went that way.
+    /// Returns the row of the reverse direction of a row, in a record with these bytes, if there are packets in that
+    /// direction.
     #[inline(always)]
     pub fn row_back(&self, row: &Row, bytes: &[u8]) -> Option<Row>
         ensures { option_map row_view result ≡ row_back (said_there self.now bytes.now) (row_view row.now) }

@@ -4,7 +4,7 @@
 //! use flow_rows::row_of;
 //! use ipfix_read::Record;
 //!
-//! // What a data record says of one flow, where it says both addresses of a version.
+//! // The octets of the flow that a data record describes, if the record has both addresses of a version.
 //! fn octets_of(record: &Record<'_, '_>) -> u64 {
 //!     match row_of(record) {
 //!         Some(row) => row.octets,
@@ -13,15 +13,14 @@
 //! }
 //! ```
 //!
-//! It stands on ipfix_read, whose records and messages it takes, and on prefix_keys, for addresses. `row_of` gives the
-//! flow row of a data record: the first usable field of each information element, read as a number in network byte
-//! order. A record that tells both directions of a flow (RFC 5103) has a second row, which `reverse_row_of` gives.
-//! A `Plan` gives the same rows of records with the same fields, as those of a data set are: it has looked up once where
-//! each element lies in all of them.
-//! `Counts` counts what stands in messages, one after the other. The layer above may rely on this: the rows are a
-//! function of the list of the record's fields with their values; a record without both addresses of a version, and an
-//! options record, has none; and counts that were those of a list of messages are, after one more message, those of
-//! the list with it. Nothing here takes memory.
+//! This crate uses ipfix_read (records and messages) and prefix_keys (addresses). `row_of` returns the flow row of a
+//! data record: the first usable field of each information element, read as a number in network byte order. A record
+//! with both directions of a flow (RFC 5103) has a second row, which `reverse_row_of` returns. A `Plan` returns the
+//! same rows for records with the same fields, such as those of a data set: it determines once where each element is in
+//! all of them. `Counts` counts the contents of messages. Callers may rely on this: the rows are a function of the list
+//! of the record's fields with their values. A record without both addresses of a version, and an options record, have
+//! none. Counts of a list of messages are, after one more message, those of the list with that message. Nothing in this
+//! crate allocates.
 #![tactic(auto)]
 
 mod counting;

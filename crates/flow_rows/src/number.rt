@@ -1,10 +1,10 @@
-//! The numbers that values are.
+//! The numbers of values.
 ghost use Rattle.std.specs.Prelude.{◌≡◌, ◌≤◌, length};
 ghost use Rattle.flow_rows.specs.Element.{big_endian};
 
 use byteorder::{BigEndian, ByteOrder};
 
-/// The number of 1 byte to 8: by one read of its width where there is one.
+/// Returns the number of 1 to 8 bytes. A number of 1, 2, 4 or 8 bytes is read at once.
 #[inline]
 pub fn number_u64(bytes: &[u8]) -> u64
     requires least { 1 ≤ length bytes.now }
@@ -20,7 +20,7 @@ pub fn number_u64(bytes: &[u8]) -> u64
     }
 }
 
-/// The number of 1 byte or 2.
+/// Returns the number of 1 or 2 bytes.
 #[inline]
 pub fn number_u16(bytes: &[u8]) -> u16
     requires least { 1 ≤ length bytes.now }

@@ -1,20 +1,20 @@
-//! Places of values in the bytes of records.
+//! Offsets of values in the bytes of records.
 ghost use Rattle.std.specs.Prelude.{◌≡◌, ◌≤◌, IfSome, length, option_map};
 ghost use Rattle.flow_rows.specs.Places.{bytes_there, number_there};
 
 use crate::number::{number_u16, number_u64};
 use byteorder::{BigEndian, ByteOrder};
 
-/// Where a value lies among the bytes of a record.
+/// The offsets of a value in the bytes of a record.
 #[derive(Clone, Copy, Debug)]
 pub struct Place {
-    /// The index of its first byte.
+    /// The offset of its first byte.
     pub begin: usize,
-    /// The index behind its last byte.
+    /// The offset after its last byte.
     pub end: usize,
 }
 
-// The bytes there, where the record has them and they are so many at least and at most.
+// Returns the bytes at the offsets, if the record has them and their number is between `least` and `most`.
 #[inline]
 fn bytes_there(place: Option<Place>, least: usize, most: usize, bytes: &[u8]) -> Option<&[u8]>
     ensures value { option_map (λ x. x.now) result ≡ bytes_there (least, most) place bytes.now }
@@ -32,7 +32,7 @@ fn bytes_there(place: Option<Place>, least: usize, most: usize, bytes: &[u8]) ->
     Some(&bytes[begin..end])
 }
 
-/// The number of 1 byte to 8, or of so many at least.
+/// Returns the number of `least` to 8 bytes.
 #[inline]
 pub fn u64_there(place: Option<Place>, least: usize, bytes: &[u8]) -> Option<u64>
     requires { 1 ≤ least }
@@ -41,7 +41,7 @@ pub fn u64_there(place: Option<Place>, least: usize, bytes: &[u8]) -> Option<u64
     Some(number_u64(bytes_there(place, least, 8, bytes)?))
 }
 
-/// The number of 1 byte or 2.
+/// Returns the number of 1 or 2 bytes.
 #[inline]
 pub fn u16_there(place: Option<Place>, bytes: &[u8]) -> Option<u16>
     ensures { result ≡ number_there (1, 2) place bytes.now }
@@ -49,7 +49,7 @@ pub fn u16_there(place: Option<Place>, bytes: &[u8]) -> Option<u16>
     Some(number_u16(bytes_there(place, 1, 2, bytes)?))
 }
 
-/// The number of 1 byte.
+/// Returns the number of 1 byte.
 #[inline]
 pub fn u8_there(place: Option<Place>, bytes: &[u8]) -> Option<u8>
     ensures { result ≡ number_there (1, 1) place bytes.now }
@@ -57,7 +57,7 @@ pub fn u8_there(place: Option<Place>, bytes: &[u8]) -> Option<u8>
     Some(bytes_there(place, 1, 1, bytes)?[0])
 }
 
-/// The number of 4 bytes.
+/// Returns the number of 4 bytes.
 #[inline]
 pub fn u32_there(place: Option<Place>, bytes: &[u8]) -> Option<u32>
     ensures { result ≡ number_there (4, 4) place bytes.now }
@@ -65,7 +65,7 @@ pub fn u32_there(place: Option<Place>, bytes: &[u8]) -> Option<u32>
     Some(BigEndian::read_u32(bytes_there(place, 4, 4, bytes)?))
 }
 
-/// The number of 16 bytes.
+/// Returns the number of 16 bytes.
 #[inline]
 pub fn u128_there(place: Option<Place>, bytes: &[u8]) -> Option<u128>
     ensures { result ≡ number_there (16, 16) place bytes.now }

@@ -14,8 +14,8 @@ use std::marker::Model;
 // The enterprise number of the elements of the reverse direction (RFC 5103 section 6.1).
 const REVERSE: u32 = 29305;
 
-/// How the rows of records with the same fields are found: where each information element of both directions lies in all
-/// of them, looked for once. Contracts see it as the fields.
+/// The plan by which the rows of records with the same fields are found: the offsets of each information element of
+/// both directions in all of the records, determined once. Contracts see the plan as the fields.
 #[derive(Debug, Drop)]
 pub struct Plan<'f> {
     fields: &'f Fields,
@@ -23,8 +23,8 @@ pub struct Plan<'f> {
     forward: Elements,
     // The elements of the reverse direction.
     back: Elements,
-    // Whether no field is variable. Otherwise the values of each record are read one by one, and the places only say which
-    // elements have a usable field.
+    // Whether no field is variable. Otherwise the values of each record are read one by one, and the offsets only show
+    // which elements have a usable field.
     is_fixed: bool,
 }
 
@@ -40,8 +40,8 @@ impl<'f> Model for Plan<'f> {
     ghost invariant = { λ p. IsPlanned p.fields.now p.forward p.back p.is_fixed };
 }
 
-// The row of a record's own direction, from a search through its values. Out of line, so that its table of places is in no
-// caller's frame.
+// Returns the row of a record's own direction, from a search through its values. Not inlined, so that its table of
+// offsets is not in the stack frame of a caller.
 #[inline(never)]
 fn row_of_values(fields: &[Field], bytes: &[u8]) -> Option<Row>
     ensures { option_map row_view result ≡ row_of_elements (element forward (whole_values fields.now bytes.now)) }
@@ -49,7 +49,8 @@ fn row_of_values(fields: &[Field], bytes: &[u8]) -> Option<Row>
     Elements::of_record(None, fields, bytes).row(bytes)
 }
 
-// How many packets went back, from a search through the record's values. Out of line like `row_of_values`.
+// Returns the number of packets in the reverse direction, from a search through the record's values. Not inlined, like
+// `row_of_values`.
 #[inline(never)]
 fn packets_back_of_values(fields: &[Field], bytes: &[u8]) -> u64
     ensures { result ≡ packets_of (element back (whole_values fields.now bytes.now)) }
@@ -58,12 +59,12 @@ fn packets_back_of_values(fields: &[Field], bytes: &[u8]) -> u64
 }
 
 impl<'f> Plan<'f> {
-    /// The plan for records with these fields.
+    /// Returns the plan for records with these fields.
     #[inline(always)]
     pub fn new(fields: &'f Fields) -> Plan<'f>
         ensures { result ≡ fields.now }
     {
-        // It bounds the number of fields that have bytes.
+        // Provides the bound on the number of fields that have bytes.
         let _most = fields.len();
         let mut forward = Elements::new();
         let mut back = Elements::new();
@@ -81,9 +82,9 @@ impl<'f> Plan<'f> {
         }
     }
 
-    /// The first row of a record with the plan's fields, from the first usable field of each element (RFC 7012). A field is
-    /// usable if it has no enterprise number and the template's length fits its element. Returns `None` for an options
-    /// record, and if neither both IPv4 addresses nor both IPv6 addresses are there.
+    /// Returns the first row of a record with the plan's fields, from the first usable field of each element (RFC
+    /// 7012). A field is usable if it has no enterprise number and the template's length fits its element. Returns
+    /// `None` for an options record, and for a record with neither both IPv4 addresses nor both IPv6 addresses.
     #[inline(always)]
     pub fn row_of(&self, source: &Record<'_, '_>) -> Option<Row>
         requires { map (λ v. v.field) source.now.fields ≡ self.now }
@@ -99,10 +100,10 @@ impl<'f> Plan<'f> {
         row_of_values(self.fields.filled(), bytes)
     }
 
-    /// The second row of a record with the plan's fields and this first row: that of the reverse direction (RFC 5103 section
-    /// 4), if the packets that went back are counted and not 0. Addresses and ports are those of the first row exchanged. A
-    /// field of the reverse direction is usable if its enterprise number is 29305 and the template's length fits its element;
-    /// a time without a field is that of the first row.
+    /// Returns the second row of a record with the plan's fields and this first row: the row of the reverse direction
+    /// (RFC 5103 section 4), if the packets in that direction are counted and not 0. Addresses and ports are those of
+    /// the first row, exchanged. A field of the reverse direction is usable if its enterprise number is 29305 and the
+    /// template's length fits its element. A time without a field is that of the first row.
     #[inline(always)]
     pub fn row_back_of(&self, source: &Record<'_, '_>, first: &Row) -> Option<Row>
         requires fields { map (λ v. v.field) source.now.fields ≡ self.now }
@@ -115,7 +116,7 @@ impl<'f> Plan<'f> {
         self.counted_row_back_of(source, first)
     }
 
-    // Like `row_back_of`, if a field counts the packets that went back.
+    // Returns the second row like `row_back_of`. A field must count the packets in the reverse direction.
     #[inline(never)]
     fn counted_row_back_of(&self, source: &Record<'_, '_>, first: &Row) -> Option<Row>
         requires fields { map (λ v. v.field) source.now.fields ≡ self.now }
@@ -129,7 +130,7 @@ impl<'f> Plan<'f> {
         Elements::of_record(Some(REVERSE), self.fields.filled(), bytes).row_back(first, bytes)
     }
 
-    // How many packets went back in a record with the plan's fields.
+    // Returns the number of packets in the reverse direction in a record with the plan's fields.
     #[inline(always)]
     fn packets_back(&self, source: &Record<'_, '_>) -> u64
         requires { map (λ v. v.field) source.now.fields ≡ self.now }
@@ -142,8 +143,8 @@ impl<'f> Plan<'f> {
         packets_back_of_values(self.fields.filled(), bytes)
     }
 
-    /// How many rows records with the plan's fields have. The fields say whether all of them have first rows; for second
-    /// rows each record is looked at, if a field counts packets that went back.
+    /// Returns the number of rows of records with the plan's fields. Whether they have first rows follows from the
+    /// fields. If a field counts packets in the reverse direction, each record is examined for a second row.
     pub fn row_count(&self, records: &RecordList<'_>) -> u64
         requires fields { All (λ r. map (λ v. v.field) r.fields ≡ self.now) records.now }
         requires few { length records.now < 2 ^ 63 }

@@ -7,14 +7,14 @@ use crate::plan::Plan;
 use crate::row::Row;
 use ipfix_read::Record;
 
-/// The first row of a data record, as [`Plan::row_of`] finds it. A `Plan` serves all records of the same fields.
+/// Returns the first row of a data record, like [`Plan::row_of`], which is for several records with the same fields.
 pub fn row_of(source: &Record<'_, '_>) -> Option<Row>
     ensures { option_map row_view result ≡ first_row source.now }
 {
     Plan::new(source.fields.specifiers()).row_of(source)
 }
 
-/// The second row of a data record, as [`Plan::row_back_of`] finds it, if it has a first row.
+/// Returns the second row of a data record, like [`Plan::row_back_of`], if it has a first row.
 pub fn reverse_row_of(source: &Record<'_, '_>) -> Option<Row>
     ensures { option_map row_view result ≡ second_row source.now }
 {

@@ -1,4 +1,4 @@
--- The counts are those of the messages and of the sets before the index, and there is room for those behind it.
+-- The counts are those of the messages and of the sets before the index, and there is room for those after it.
 use Rattle.std.proofs.Common.{◌≡◌, ◌+◌, ◌*◌, ◌≤◌, ◌++◌, List, drop, length, take}
 use Rattle.ipfix_read.specs.Message.{MessageView, message_size}
 use Rattle.flow_rows.specs.Content.{sets_of}

@@ -11,7 +11,7 @@ pub loop-field-init : goal.loop-field-init
 loop-field-init c =
     ([], refl, known_first c.args.direction c.new-elements.result c.args.bytes.now (whole_values c.args.fields.now c.args.bytes.now) c.new-elements.ensures)
 
--- what is known with one more place, and what the values behind its field say
+-- the known offsets with one more, and the numbers of the values after its field
 kept : (c : After-keep) → IsKnown c.args.direction c.keep.new.self c.args.bytes.now
     (behind (drop (c.loop-field.field-index + 1) c.args.fields.now) (value_at c.field-item.result c.loop-field.rest.now))
     (whole_values c.args.fields.now c.args.bytes.now)

@@ -1,5 +1,5 @@
--- What is said at the places that are known, with what the values that are left say, is what all values say; and these lie
--- behind the bytes that were read.
+-- The numbers at the known offsets, together with those of the remaining values, are those of all values. The remaining
+-- values follow the bytes that were read.
 use Rattle.std.proofs.Common.{◌≡◌, ℕ, List, ◌++◌, drop}
 use Rattle.ipfix_read.specs.Value.{whole_values}
 use Rattle.flow_rows.proofs.Reading.{IsKnown}

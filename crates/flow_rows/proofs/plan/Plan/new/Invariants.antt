@@ -1,4 +1,4 @@
--- The places that are known, with those that the fields from the index on give, are those of all fields.
+-- The known offsets, together with those of the fields from the index on, are those of all fields.
 use Rattle.std.proofs.Common.{◌≡◌, ◌*◌, ◌≤◌, drop}
 use Rattle.flow_rows.specs.Element.{back, forward}
 use Rattle.flow_rows.specs.Places.{elements_at, place}

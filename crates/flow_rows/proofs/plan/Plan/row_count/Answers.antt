@@ -48,7 +48,7 @@ returns-then-not-have_packets-clause-value c =
       c.len-count.ensures,
     )
 
--- those that are left, with the record at the front
+-- the rows of the remaining records, with those of the first one
 more : (c : After-packets_back) → count_by went_back c.loop-source.source-iterator ≡ cond (went_back c.in-Some.source) 1 0 + count_by went_back c.next.new.self
 more c = ap (count_by went_back) c.in-Some.ensures.steps ∙ sum_by-cons (λ r. cond (went_back r) 1 0) c.in-Some.source c.next.new.self
 

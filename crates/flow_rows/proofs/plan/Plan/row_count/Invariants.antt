@@ -1,4 +1,4 @@
--- Those that are counted, with those that are left, are all; and these records have the plan's fields.
+-- The rows that are counted, with those of the remaining records, are all; and these records have the plan's fields.
 use Rattle.std.proofs.Common.{◌≡◌, ◌+◌, All, length, map}
 use Rattle.std.specs.Prelude.{count_by}
 use Rattle.flow_rows.proofs.Rows.{went_back}
