@@ -1,4 +1,4 @@
--- The room that the digits of a number take.
+-- The maximum length of the digits of a number.
 use Rattle.std.proofs.Common.{ℕ, ◌^◌, ◌<◌, ◌≤◌, arith, lit<}
 use Rattle.std.proofs.Math.Nat.{pow-le-pow_right}
 

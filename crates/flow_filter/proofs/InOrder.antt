@@ -18,13 +18,13 @@ fault_is : {X : Type 0} (o : FilterOption) (k : FilterFaultKind) (read : List �
 fault_is o k read None f e = absurd (cc)
 fault_is o k read (Some text) f e = unless_is (fault_of o k) (read text) f e
 
--- behind options without a fault the first one is that of the rest
+-- after options without a fault the first fault is that of the rest
 first_behind : (before rest : List (Option FilterFault)) → first_some before ≡ None → first_some (before ++ rest) ≡ first_some rest
 first_behind [] rest none = refl
 first_behind (None ∷ os) rest none = first_behind os rest none
 first_behind (Some f ∷ os) rest none = absurd (cc)
 
--- an option behind these, none of which has a fault, is refused
+-- an option after these, none of which has a fault, has a fault
 module _ (w : Words) (f : FilterFault) (before after : List (Option FilterFault)) (o : FilterOption) (k : FilterFaultKind) {X : Type 0} (read : List ℕ → Option X)
     (order : faults w ≡ before ++ fault_in o k read (text_of o w) ∷ after) (place : place_of o ≡ length before) (sound : first_some before ≡ None)
     (of_kind : filter_of_words w ≡ Err (fault_of o k) → IsFault w (fault_of o k)) where

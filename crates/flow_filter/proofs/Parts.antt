@@ -8,7 +8,7 @@ use Rattle.std.proofs.lemmas.List.Splits.{slice_split_first, slice_split_none}
 use Rattle.std.proofs.lemmas.List.Sums.{position_or_len_is}
 use Rattle.flow_filter.specs.Cut.{after_byte}
 
--- what stands from a place on
+-- the text from an index on
 pub all_behind : (text : List ℕ) (n : ℕ) → take (length text - n) (drop n text) ≡ drop n text
 all_behind text n = ap (λ k. take k (drop n text)) (sym (length-drop n text)) ∙ take-length (drop n text)
 

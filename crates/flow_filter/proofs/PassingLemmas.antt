@@ -1,4 +1,4 @@
--- The rows that pass of a message, and rows that others are added to.
+-- The rows of a message that pass, and rows to which others are added.
 use Rattle.std.proofs.Common.{◌≡◌, ◌∙◌, ◌+◌, ◌*◌, ◌≤◌, Bool, false, List, [], ◌∷◌, ◌++◌, Option, Some, None, Result, Ok, Err, OnOk, arith, filter, length, map, take, true≢false, sym, ap}
 use Rattle.std.proofs.lemmas.List.{append-nil, append_assoc, length-append, length-map, length-take, take-take}
 use Rattle.std.proofs.lemmas.List.Concat.{length-flat_map}
@@ -16,14 +16,14 @@ use Rattle.flow_rows.specs.Elements.{first_row, rows_of_record, second_row}
 use Rattle.flow_rows.specs.Row.{RowView, row_view}
 use Rattle.flow_rows.specs.declared.row.Row.{Row}
 
--- what is in front stays there as more is added
+-- the rows at the start are unchanged when more are added
 front_within : {X : Type 0} (a b : List X) → take (length a) b ≡ a → length a ≤ length b
 front_within a b h = omega (arith, length-take (length a) b, ap length h)
 
 pub front_stays : {X : Type 0} (a b c : List X) → take (length a) b ≡ a → take (length b) c ≡ b → take (length a) c ≡ a
 front_stays a b c h k = sym (take-take (length a) (length b) c (front_within a b h)) ∙ ap (take (length a)) k ∙ h
 
--- what passes of one more record, with what passes of those behind it
+-- the rows of one more record that pass, followed by those of the records after it
 pub pass_one : (p : RowView → Bool) (rows : Record → List RowView) (before all whole : List RowView) (left more : List Record) (r : Record)
     → left ≡ r ∷ more → all ≡ before ++ filter p (rows r)
     → before ++ filter p (flat_map rows left) ≡ whole → all ++ filter p (flat_map rows more) ≡ whole
@@ -34,13 +34,13 @@ pass_one p rows before all whole left more r begins added so_far =
     ∙ ap (λ (those : List Record). before ++ filter p (flat_map rows those)) (sym begins)
     ∙ so_far
 
--- behind the last record
+-- the rows after the last record
 pub pass_all : (p : RowView → Bool) (rows : Record → List RowView) (before whole : List RowView) (left : List Record)
     → left ≡ [] → before ++ filter p (flat_map rows left) ≡ whole → before ≡ whole
 pass_all p rows before whole left none so_far =
     sym (append-nil before) ∙ ap (λ (those : List Record). before ++ filter p (flat_map rows those)) (sym none) ∙ so_far
 
--- a message has no more rows that pass than twice its sets and records
+-- a message has at most twice as many rows that pass as sets and records
 one_at_most : (o : Option RowView) → length (option_to_list o) ≤ 1
 one_at_most None = omega (arith)
 one_at_most (Some row) = omega (arith)
@@ -73,7 +73,7 @@ rows_within : (p : RowView → Bool) (sets : List Set) → length (filter p (row
 rows_within p sets =
     omega (arith, length-filter p (rows_of sets), count_by-le-length p (rows_of sets), records_within (records_of sets), sets_within sets)
 
--- with them there are so many rows more at most
+-- the maximum number of rows that are added
 few_more : (p : RowView → Bool) (sets : List Set) (old new : List Row) → message_size sets ≤ 65535
     → map row_view new ≡ map row_view old ++ filter p (rows_of sets) → length new ≤ length old + 131070
 few_more p sets old new size added =

@@ -1,4 +1,4 @@
--- The places of a block's addresses among the IPv6 addresses.
+-- The numbers of a block's addresses as IPv6 addresses.
 use Rattle.std.proofs.Common.{◌≡◌, ℕ, ◌+◌, ◌-◌, ◌*◌, ◌/◌, ◌%◌, ◌^◌, ◌<◌, ◌≤◌, ◌&&◌, ◌||◌, ◌==◌, Bool, true, false, List, [], ◌∷◌, ◌++◌, Some, None, nat_le, map, take, length, get_or, lit<, refl, sym, ap, ◌∙◌, arith, eq-eqb}
 use Rattle.std.proofs.Math.Seq.{take-length}
 use Rattle.std.specs.List.{list_any}
@@ -20,7 +20,7 @@ use Rattle.flow_filter.specs.Ranges.{in_range, in_ranges}
 use Rattle.flow_filter.specs.Texts.{single}
 use Rattle.flow_filter.specs.declared.range.Range.{Range}
 
--- the place that a conversion to IPv6 gives
+-- the number that a conversion to IPv6 gives
 pub place_is : (version : Version) (value : ℕ) (place : AddressOf) → Some place ≡ converted V6 (version, value) → place.1 ≡ mapped_number (version, value)
 place_is V4 value place e = ap (λ (a : AddressOf). a.1) (same_some place (V6, value + mapped_prefix) e)
   where
@@ -35,7 +35,7 @@ pub place_there : (version : Version) (value : ℕ) → None ≡ converted V6 (v
 place_there V4 value e = absurd (cc)
 place_there V6 value e = absurd (cc)
 
--- the numbers of a block of d numbers, moved up by m
+-- the numbers of a block of d numbers, increased by m
 interval : (n d value m low high at : ℕ) → 0 < d → value / d * d ≡ value → low ≡ value + m → high ≡ (value / d + 1) * d - 1 + m → at ≡ n + m →
     (nat_le low at && nat_le at high) ≡ (n / d == value / d)
 interval n d value m low high at some start is is' is'' = by (n / d == value / d) refl
@@ -56,7 +56,7 @@ interval n d value m low high at some start is is' is'' = by (n / d == value / d
         let same = quotient_is n d (value / d) some (omega (arith, above, start)) (omega (arith, below, some)) in
         both_ways (n / d == value / d) h (eq-eqb (n / d) (value / d) same))
 
--- an IPv4 block has none of the addresses outside the IPv4 addresses' place
+-- an IPv4 block has no address outside the IPv4-mapped addresses
 outside : (n d value low high : ℕ) → low ≡ value + mapped_prefix → high ≡ (value / d + 1) * d - 1 + mapped_prefix → 0 < d →
     (value / d + 1) * d ≤ 2 ^ 32 → (block_number 128 96 n == block_number 128 96 mapped_prefix) ≡ false → (nat_le low n && nat_le n high) ≡ false
 outside n d value low high is is' some end other =
@@ -68,7 +68,7 @@ outside n d value low high is is' some end other =
     let there : n / 4294967296 ≡ 65535 = quotient_is n 4294967296 65535 (lit< tt) above below in
     both_ways (block_number 128 96 n == block_number 128 96 mapped_prefix) other (eq-eqb (n / 4294967296) 65535 there))
 
--- a number in that place is an IPv4 address's number, moved up
+-- the number of an IPv4-mapped address is that of the IPv4 address, increased
 inside_place : (n : ℕ) → (block_number 128 96 n == block_number 128 96 mapped_prefix) ≡ true → n ≡ n - mapped_prefix + mapped_prefix
 inside_place n h =
     let there : n / 4294967296 ≡ 65535 = eqb-true (n / 4294967296) 65535 h in
@@ -106,7 +106,8 @@ block_places V6 value len low high (V6, n) short fits free is is' =
     interval n d value 0 low high n (pow_pos (128 - len)) (whole value d (pow_pos (128 - len)) free)
     (omega (arith, is)) (omega (arith, is')) (omega arith)
 
--- a range from the place of a block's first address to that of its last covers the places of the block's addresses
+-- a range from the IPv6 number of a block's first address to that of its last covers the IPv6 numbers of the block's
+-- addresses
 pub places_covered : (block : Block) (low high : ℕ) (first last : AddressOf) → first.0 ≡ block.version → first.1 ≡ block.value → last.0 ≡ block.version →
     last.1 ≡ last_of (width_of block.version) block.len (block_number (width_of block.version) block.len block.value) →
     low ≡ mapped_number first → high ≡ mapped_number last → (address : AddressOf) →
@@ -127,7 +128,7 @@ whole_block v w value first len n same is all start =
     one : (k : ℕ) → k ≡ 0 → value / 2 ^ k * 2 ^ k ≡ value
     one k e = rw e (omega arith)
 
--- the places so far are those of the blocks so far
+-- the ranges so far are those of the blocks so far
 abbrev pub HasPlaces : List Block → ℕ → List Range → Type 0
 HasPlaces blocks count ranges =
     (address : AddressOf) → in_ranges ranges (mapped_number address) ≡ items_cover (map view_of (take count blocks)) address

@@ -1,4 +1,4 @@
--- Ranges in rising order, each made to go up to where an earlier one goes.
+-- Ranges in rising order, each extended to the highest end of the earlier ones.
 use Rattle.std.proofs.Common.{◌≡◌, ℕ, ◌+◌, ◌-◌, ◌<◌, ◌≤◌, ◌||◌, inl, inr, Bool, true, false, List, [], ◌∷◌, ◌++◌, nat_le, leb, get_or, length, max, take, refl, sym, ap, subst, ◌∙◌, arith}
 use Rattle.std.specs.Ordering.{nat_cmp, ord_max}
 use Rattle.std.specs.List.Sorted.{IsNonDecreasingBy, IsPartitionPoint, IsPermutation}
@@ -14,7 +14,7 @@ use Rattle.flow_filter.specs.declared.range.Range.{Range}
 pub higher_is : (a b m : ℕ) → m ≡ ord_max nat_cmp a b → m ≡ max a b
 higher_is a b m is = is ∙ grind (arith, nat_tests)
 
--- where the test of a range passes
+-- a range whose test passes
 pub in_range-true : (n : ℕ) (r : Range) → in_range n r ≡ true → (r.low ≤ n) × (n ≤ r.high)
 in_range-true n r h = let parts = and_parts (nat_le r.low n) (nat_le n r.high) h in (leb-true r.low n parts.0, leb-true n r.high parts.1)
 
@@ -24,11 +24,11 @@ in_range-from n r low high = and_from (nat_le r.low n) (nat_le n r.high) (le-leb
 pub in_range-false : (n : ℕ) (r : Range) → (r.low ≤ n → n ≤ r.high → ⊥) → in_range n r ≡ false
 in_range-false n r out = false_from_ne_true (in_range n r) (λ h. let parts = in_range-true n r h in out parts.0 parts.1)
 
--- the sets of a list and of its permutation are one
+-- a list and its permutation have the same set
 pub same_permuted : (xs ys : List Range) → IsPermutation xs ys → in_ranges ys ≡ in_ranges xs
 same_permuted xs ys moved = λ i n. sym (list_any-IsPermutation (in_range n) xs ys moved) i
 
--- the ranges made from the first ones, the last of which goes up to `high`
+-- the ranges built from the first ones; the last one extends to `high`
 pub record AreWidened (ranges : List Range) (count : ℕ) (wide : List Range) (high : ℕ) : Type 0 where
   pub long : length wide ≡ count
   pub lows : (k : ℕ) (d : Range) → k < count → (get_or wide k d).low ≡ (get_or ranges k d).low
@@ -146,7 +146,7 @@ module _ (ranges : List Range) (count : ℕ) (wide : List Range) (high : ℕ) (u
       or_false true = refl
       or_false false = refl
 
--- at the end the set is the one of the ranges, and the ranges rise
+-- at the end the set is that of the ranges, and the ranges rise
 pub widened_set : (ranges wide : List Range) (count high : ℕ) → AreWidened ranges count wide high → length ranges ≤ count →
     take count ranges ≡ ranges → in_ranges wide ≡ in_ranges ranges
 widened_set ranges wide count high so_far all whole =
@@ -171,11 +171,11 @@ module _ (ranges : List Range) (rising : AreRising ranges) (n begun : ℕ)
   late k d from under =
       in_range-false n (get_or ranges k d) (λ low high. let after = leb-false (get_or ranges k d).low n (point.1 k d from under) in omega (arith, after, low))
 
-  -- a set none of whose ranges begins at the number or below it
+  -- a set in which no range begins at or below the number
   pub none_begun : begun ≡ 0 → in_ranges ranges n ≡ false
   none_begun none = list_any_none (in_range n) ranges (λ k d under. late k d (omega (arith, none)) under)
 
-  -- the last that begins there or below goes up the furthest
+  -- the last range that begins at or below the number extends the furthest
   pub last_begun : (r : Range) → 0 < begun → begun ≤ length ranges → r ≡ get_or ranges (begun - 1) r → nat_le n r.high ≡ in_ranges ranges n
   last_begun r some within is = by (nat_le n r.high) refl
     where

@@ -4,9 +4,9 @@ use Rattle.std.specs.Str.{bytes_eq}
 use Rattle.prefix_keys.specs.Text.{AddressOf}
 use Rattle.flow_rows.specs.Row.{RowView}
 
--- What filters ask of a row.
+-- Conditions of filters on a row.
 
--- For each option that is given: the numbers or the addresses that it asks for, each set as the test for it, or the label text.
+-- For each option given: the numbers or the addresses that it allows, as a test, or the label text.
 pub record Condition : Type 0 where
   pub protocol : Option (ℕ → Bool)
   pub sport : Option (ℕ → Bool)
@@ -19,27 +19,27 @@ pub record Condition : Type 0 where
   pub dst_label : Option (List ℕ)
   pub any_label : Option (List ℕ)
 
--- the test holds, if one is given
+-- the test passes, if one is given
 abbrev pub allows : {X : Type 0} → Option (X → Bool) → X → Bool
 allows None x = true
 allows (Some test) x = test x
 
--- what is found is this label
+-- the label exists and is this one
 abbrev pub is_label : List ℕ → Option (List ℕ) → Bool
 is_label label None = false
 is_label label (Some found) = bytes_eq found label
 
--- what is found is the label that is asked for, if one is
+-- the label is the requested one, if one is requested
 abbrev pub allows_label : Option (List ℕ) → Option (List ℕ) → Bool
 allows_label None found = true
 allows_label (Some label) found = is_label label found
 
--- one of the two is the label that is asked for, if one is
+-- one of the two labels is the requested one, if one is requested
 abbrev pub allows_either : Option (List ℕ) → Option (List ℕ) → Option (List ℕ) → Bool
 allows_either None source destination = true
 allows_either (Some label) source destination = is_label label source || is_label label destination
 
--- the row meets each condition that is given, by the labels of addresses
+-- the row meets each condition given, with these labels of addresses
 abbrev pub row_passes : Condition → (AddressOf → Option (List ℕ)) → RowView → Bool
 row_passes c label row =
     allows c.protocol row.protocol && allows c.sport row.sport && allows c.dport row.dport

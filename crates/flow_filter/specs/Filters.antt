@@ -4,7 +4,7 @@ use Rattle.flow_filter.specs.Given.{by_place, covering}
 use Rattle.flow_filter.specs.Ranges.{in_ranges}
 use Rattle.flow_filter.specs.declared.filter.Filter.{Filter}
 
--- the condition that a filter states
+-- the condition of a filter
 abbrev pub condition_in : Filter → Condition
 condition_in f = record {
   protocol = option_map in_ranges f.protocol;

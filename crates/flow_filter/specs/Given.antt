@@ -10,20 +10,20 @@ use Rattle.flow_filter.specs.declared.fault.FilterFaultKind.TheVariants.{NoMemor
 use Rattle.flow_filter.specs.declared.fault.FilterOption.{FilterOption}
 use Rattle.flow_filter.specs.declared.range.Range.{Range}
 
--- What the reading of one option answers: no user need read it.
+-- The results of reading one option, for the contracts of private functions. Callers of the crate need not read them.
 
--- what its text says, which has no fault
+-- the value of the option's text, which has no fault
 pub record IsRead {X : Type 0} (o : FilterOption) (k : FilterFaultKind) (read : List ℕ → Option X) (text : Option (List ℕ)) (x : Option X) : Type 0 where
   pub value : x ≡ option_and_then read text
   pub sound : fault_in o k read text ≡ None
 
--- want of memory where it is given and its text has no fault, or the fault of its text
+-- the fault that an allocation failed, if the option is given and its text has no fault; or the fault of its text
 abbrev pub IsRefused : {X : Type 0} → FilterOption → FilterFaultKind → (List ℕ → Option X) → Option (List ℕ) → FilterFault → Type 0
 IsRefused o k read text fault =
     ((fault ≡ fault_of o NoMemory) × (is_some text ≡ true) × (fault_in o k read text ≡ None))
     ⊎ (fault_in o k read text ≡ Some fault)
 
--- the addresses whose places are in the ranges
+-- the addresses whose IPv6 numbers are in the ranges
 abbrev pub by_place : List Range → AddressOf → Bool
 by_place ranges address = in_ranges ranges (mapped_number address)
 

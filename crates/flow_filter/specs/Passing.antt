@@ -11,7 +11,7 @@ use Rattle.flow_filter.specs.Condition.{Condition, row_passes}
 abbrev pub passes : Condition → Option Labelling → RowView → Bool
 passes condition labels row = row_passes condition (label_where labels) row
 
--- those of rows that do, and those of the rows of messages
+-- the rows that meet the condition, and those of the rows of messages
 abbrev pub passing : Condition → Option Labelling → List RowView → List RowView
 passing condition labels all = filter (passes condition labels) all
 

@@ -3,9 +3,9 @@ use Rattle.std.specs.List.{list_any}
 use Rattle.std.specs.List.Sorted.{IsNonDecreasingBy}
 use Rattle.flow_filter.specs.declared.range.Range.{Range}
 
--- Sets of numbers that ranges make.
+-- Sets of numbers given by ranges.
 
--- the number is one of those from the range's low end to its high end
+-- the number is between the range's low end and its high end, both included
 abbrev pub in_range : ℕ → Range → Bool
 in_range n r = nat_le r.low n && nat_le n r.high
 

@@ -15,27 +15,27 @@ bounded_number limit text =
     then Some (decimal_value text)
     else None
 
--- the numbers from the one to the other, which isn't below it
+-- the numbers from the first to the second, which isn't less
 abbrev pub range_between : Option ℕ → Option ℕ → Option Range
 range_between (Some low) (Some high) = if nat_le low high then Some (record { low = low; high = high }) else None
 range_between _ _ = None
 
--- the upper end that what stands behind a `-` writes, which may be left out where the range may be open
+-- the upper end in the text after a `-`, which may be empty if the range may be open
 abbrev pub upper_end : Bool → ℕ → List ℕ → Option ℕ
 upper_end may_be_open limit text = if may_be_open && length text == 0 then Some limit else bounded_number limit text
 
--- the upper end of a range: of a number without a `-` that number
+-- the upper end of a range; without a `-` it is the lower end
 abbrev pub end_or : Bool → ℕ → Option ℕ → Option (List ℕ) → Option ℕ
 end_or may_be_open limit low None = low
 end_or may_be_open limit low (Some text) = upper_end may_be_open limit text
 
--- the numbers that a text `N` or `N-M` stands for, where it may be open also `N-`: all from N to the limit
+-- the numbers of a text `N` or `N-M`, or `N-` if the range may be open: all from N to the limit
 abbrev pub number_range : Bool → ℕ → List ℕ → Option Range
 number_range may_be_open limit text =
     let low = bounded_number limit (before_first (λ b. b == 45) text) in
     range_between low (end_or may_be_open limit low (after_byte 45 text))
 
--- all of them, where each is there
+-- an item and more items, if all exist
 abbrev pub onto : {X : Type 0} → Option X → Option (List X) → Option (List X)
 onto (Some x) (Some xs) = Some (x ∷ xs)
 onto _ _ = None
@@ -44,7 +44,7 @@ abbrev pub each_some : {X : Type 0} → List (Option X) → Option (List X)
 each_some [] = Some []
 each_some (o ∷ os) = onto o (each_some os)
 
--- the items of a list with commas between
+-- the items of a list, separated by commas
 abbrev pub items_of : List ℕ → List (List ℕ)
 items_of text = slice_split (λ b. b == 44) text
 
@@ -60,7 +60,7 @@ abbrev pub block_or_none : Result BlockOf BlockFault → Option BlockOf
 block_or_none (Ok block) = Some block
 block_or_none (Err fault) = None
 
--- an item of an address list: with a `/` a block, else an address
+-- an item of an address list: a block if there is a `/`, otherwise an address
 abbrev pub address_item : List ℕ → Option BlockOf
 address_item text =
     if list_any (λ b. b == 47) text then block_or_none (block_of_text text) else option_map single (address_of text)

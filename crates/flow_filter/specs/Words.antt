@@ -12,7 +12,7 @@ use Rattle.flow_filter.specs.declared.fault.FilterOption.{FilterOption}
 use Rattle.flow_filter.specs.declared.fault.FilterOption.TheVariants.{AnyLabel, Bytes, DestinationAddress, DestinationLabel, DestinationPort, Packets, Protocol, SourceAddress, SourceLabel, SourcePort}
 use Rattle.flow_filter.specs.declared.words.FilterWords.{FilterWords}
 
--- The condition that the texts of the options state, or the first fault.
+-- The condition of the texts of options, or the first fault.
 
 -- the text of each option that is given
 pub record Words : Type 0 where
@@ -41,22 +41,22 @@ words_of w = record {
   any_label = option_map (λ s. s.now) w.any_label;
 }
 
--- the numbers that a text asks for, with their limit
+-- the numbers that a text allows, with their limit
 abbrev pub numbers_in : ℕ → List ℕ → Option (ℕ → Bool)
 numbers_in limit text = option_map in_ranges (number_list limit text)
 
--- the limit of what counts packets and bytes: below 2^64
+-- the limit of numbers of packets and bytes: below 2^64
 abbrev pub count_limit : ℕ
 count_limit = 18446744073709551615
 
 abbrev pub counts_in : List ℕ → Option (ℕ → Bool)
 counts_in text = option_map (λ range n. in_range n range) (number_range true count_limit text)
 
--- the addresses that a text asks for
+-- the addresses that a text allows
 abbrev pub addresses_in : List ℕ → Option (AddressOf → Bool)
 addresses_in text = option_map items_cover (address_list text)
 
--- the fault of a text that isn't read
+-- the fault of a text that can't be read
 abbrev pub fault_unless : {X : Type 0} → FilterFault → Option X → Option FilterFault
 fault_unless fault None = Some fault
 fault_unless fault (Some x) = None
@@ -69,7 +69,7 @@ abbrev pub fault_in : {X : Type 0} → FilterOption → FilterFaultKind → (Lis
 fault_in o k read None = None
 fault_in o k read (Some text) = fault_unless (fault_of o k) (read text)
 
--- the faults of the options in their order: any label is read
+-- the faults of the options in their order; any text is a label
 abbrev pub faults : Words → List (Option FilterFault)
 faults w =
     fault_in Protocol BadNumberList (numbers_in 255) w.protocol
@@ -81,7 +81,7 @@ faults w =
     ∷ fault_in Bytes BadRange counts_in w.bytes
     ∷ []
 
--- the first that is there
+-- the first that exists
 abbrev pub first_some : {X : Type 0} → List (Option X) → Option X
 first_some [] = None
 first_some (o ∷ os) = option_or o (first_some os)
@@ -108,11 +108,11 @@ abbrev pub unless_fault : Condition → Option FilterFault → Result Condition 
 unless_fault c None = Ok c
 unless_fault c (Some fault) = Err fault
 
--- the condition that the texts state, or the fault of the first option whose text has not its form
+-- the condition of the texts, or the fault of the first option whose text is malformed
 abbrev pub filter_of_words : Words → Result Condition FilterFault
 filter_of_words w = unless_fault (condition_of w) (first_fault w)
 
--- how many options with a form come before an option
+-- the number of options before an option, of those whose texts may be malformed
 abbrev pub place_of : FilterOption → ℕ
 place_of Protocol = 0
 place_of SourcePort = 1
@@ -143,7 +143,8 @@ pub record IsBeingRead (w : Words) (o : FilterOption) : Type 0 where
   pub given : is_some (text_of o w) ≡ true
   pub sound : first_some (take (place_of o + 1) (faults w)) ≡ None
 
--- want of memory is answered at an option that is read without fault, and each other fault is the first of the texts
+-- the fault that an allocation failed is at an option whose text has no fault, and any other fault is the first one of
+-- the texts
 abbrev pub IsFaultOfKind : Words → FilterFault → FilterFaultKind → Type 0
 IsFaultOfKind w fault NoMemory = IsBeingRead w fault.option
 IsFaultOfKind w fault BadNumberList = filter_of_words w ≡ Err fault

@@ -1,4 +1,4 @@
-//! The blocks of addresses that the items of an address list stand for, and the places of their addresses.
+//! The blocks of the items of an address list, and the IPv6 numbers of their addresses.
 ghost use Rattle.std.specs.Prelude.{◌≡◌, option_map};
 ghost use Rattle.prefix_keys.specs.Text.{AddressOf};
 ghost use Rattle.flow_filter.specs.Blocks.{item_covers, mapped_number, view_of};
@@ -8,14 +8,14 @@ ghost use Rattle.flow_filter.specs.Texts.{address_item, single};
 use crate::range::Range;
 use prefix_keys::{Addr, Block, Version, block_of, convert, read_addr, read_block};
 
-// The block of this address alone.
+// Returns the block of this address alone.
 fn block_of_one(addr: Addr) -> Block
     ensures { view_of result ≡ single (addr.version, addr.value) }
 {
     block_of(addr, addr.version.width())
 }
 
-/// The block that an item of an address list stands for: with a `/` a block, else an address and so the block of it alone.
+/// Reads an item of an address list: a block if there is a `/`, otherwise an address, which is a block of full length.
 pub fn read_item(text: &[u8]) -> Option<Block>
     ensures { option_map view_of result ≡ address_item text.now }
 {
@@ -30,7 +30,7 @@ pub fn read_item(text: &[u8]) -> Option<Block>
     }
 }
 
-/// The number of the address at its place among the IPv6 addresses (RFC 4291, section 2.5.5.2).
+/// Returns the number of the address as an IPv6 address (RFC 4291, section 2.5.5.2).
 pub fn place_of(addr: Addr) -> u128
     ensures { result ≡ mapped_number (addr.version, addr.value) }
 {
@@ -40,8 +40,8 @@ pub fn place_of(addr: Addr) -> u128
     }
 }
 
-/// The places of the block's addresses among the IPv6 addresses: an address is covered by the block exactly where its place
-/// is one of them.
+/// Returns the numbers of the block's addresses as IPv6 addresses. The block covers an address if and only if the
+/// number of the address as an IPv6 address is one of them.
 pub fn places_of(block: &Block) -> Range
     ensures { (address : AddressOf) → in_range (mapped_number address) result ≡ item_covers address (view_of block.now) }
 {

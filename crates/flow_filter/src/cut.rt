@@ -3,7 +3,8 @@ ghost use Rattle.std.specs.Prelude.{◌≡◌, ◌+◌, ◌<◌, ◌∷◌, ◌=
 ghost use Rattle.std.specs.List.{before_first, slice_split};
 ghost use Rattle.flow_filter.specs.Cut.{after_byte, parts_of, size_of};
 
-/// The bytes before the first of this value, and those after it: all, and nothing where there is no such byte.
+/// Returns the bytes before the first byte with this value, and the bytes after it. If there is no such byte, returns
+/// the whole text and `None`.
 pub fn cut(text: &[u8], byte: u8) -> (&[u8], Option<&[u8]>)
     ensures front { result.0.now ≡ before_first (λ b. b == byte) text.now }
     ensures back { option_map (λ t. t.now) result.1 ≡ after_byte byte text.now }

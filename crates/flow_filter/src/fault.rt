@@ -1,6 +1,6 @@
 use thiserror::Error;
 
-/// An option that states a condition on rows, in the order in which texts are read.
+/// An option that states a condition on rows. The order is that in which texts are read.
 #[derive(Clone, Copy, Debug, PartialEq, Eq)]
 pub enum FilterOption {
     /// `--protocol`
@@ -25,24 +25,24 @@ pub enum FilterOption {
     AnyLabel,
 }
 
-/// Why the text of an option can't be read.
+/// The reason why the text of an option can't be read.
 #[derive(Clone, Copy, Debug, PartialEq, Eq, Error)]
 pub enum FilterFaultKind {
-    /// It's no list of numbers and ranges of them.
+    /// The text is not a list of numbers and ranges.
     #[error("not a list of numbers")]
     BadNumberList,
-    /// It's no number or range.
+    /// The text is not a number or a range.
     #[error("not a range")]
     BadRange,
-    /// It's no list of addresses and blocks.
+    /// The text is not a list of addresses and blocks.
     #[error("not a list of addresses and blocks")]
     BadBlock,
-    /// There is no memory for what it says.
+    /// An allocation failed.
     #[error("out of memory")]
     NoMemory,
 }
 
-/// The option whose text can't be read, and why.
+/// The option whose text can't be read, and the reason.
 #[derive(Clone, Copy, Debug, PartialEq, Eq)]
 pub struct FilterFault {
     pub option: FilterOption,

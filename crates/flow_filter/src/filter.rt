@@ -19,13 +19,13 @@ use label_lookup::Labeller;
 use prefix_keys::Addr;
 use std::alloc::Global;
 
-/// Conditions on flow rows, one for each option that is given. A row has to meet all of them.
+/// Conditions on flow rows, one for each option given. A row passes if it meets all of them.
 #[derive(Debug, Drop)]
 pub struct Filter<'a> {
     protocol: Option<Ranges>,
     sport: Option<Ranges>,
     dport: Option<Ranges>,
-    // The places of the addresses among the IPv6 addresses.
+    // The numbers of the addresses as IPv6 addresses.
     saddress: Option<Ranges>,
     daddress: Option<Ranges>,
     packets: Option<Range>,
@@ -35,7 +35,7 @@ pub struct Filter<'a> {
     any_label: Option<&'a str>,
 }
 
-// Whether the number is in the set, if one is asked for.
+// Returns `true` if the number is in the set, or if no set is given.
 fn is_in(set: &Option<Ranges>, number: u128) -> bool
     ensures { result ≡ allows (option_map in_ranges set.now) number }
 {
@@ -45,7 +45,7 @@ fn is_in(set: &Option<Ranges>, number: u128) -> bool
     }
 }
 
-// Whether the address is one whose place is in the set, if one is asked for.
+// Returns `true` if the number of the address as an IPv6 address is in the set, or if no set is given.
 fn is_at(set: &Option<Ranges>, addr: Addr) -> bool
     ensures { result ≡ allows (option_map by_place set.now) (addr.version, addr.value) }
 {
@@ -55,7 +55,7 @@ fn is_at(set: &Option<Ranges>, addr: Addr) -> bool
     }
 }
 
-// Whether the range covers the number, if one is asked for.
+// Returns `true` if the range covers the number, or if no range is given.
 fn is_within(range: Option<Range>, number: u64) -> bool
     ensures { result ≡ allows (option_map covering range) number }
 {
@@ -66,11 +66,12 @@ fn is_within(range: Option<Range>, number: u64) -> bool
 }
 
 impl<'a> Filter<'a> {
-    /// The conditions that the texts of the options state.
+    /// Reads the conditions from the texts of the options.
     ///
     /// # Errors
     ///
-    /// The first option, in their order, whose text has not its form; or want of memory at the option that was being read.
+    /// Returns the fault of the first option, in their order, whose text is malformed. If an allocation fails, returns
+    /// `NoMemory` with the option that was being read.
     pub fn read(alloc: Global, words: &FilterWords<'a>) -> Result<Filter<'a>, FilterFault>
         ensures ok { IfOk result (λ filter. filter_of_words (words_of words.now) ≡ Ok (condition_in filter)) }
         ensures err { IfErr result (λ fault. IsFault (words_of words.now) fault) }
@@ -96,7 +97,7 @@ impl<'a> Filter<'a> {
         })
     }
 
-    /// Whether the row meets each condition that is given. Without a labeller no address has a label.
+    /// Returns `true` if the row meets each condition given. Without a labeller no address has a label.
     pub fn passes<L: Labeller>(&self, row: &Row, labeller: Option<&L>) -> bool
         ensures { result ≡ row_passes (condition_in self.now)
             (label_where (labelling_lent L.version_of L.label labeller.entry)) (row_view row.now) }
@@ -113,7 +114,7 @@ impl<'a> Filter<'a> {
             && is_either_allowed(self.any_label, labeller, row.src, row.dst)
     }
 
-    /// Whether a condition on labels is given, which needs a map or a list.
+    /// Returns `true` if a condition on labels is given, which needs a map or a list.
     pub fn needs_map(&self) -> bool
         ensures { result ≡ needs_map (condition_in self.now) }
     {

@@ -1,4 +1,4 @@
-//! The conditions on the labels of a row's addresses.
+//! Conditions on the labels of a row's addresses.
 ghost use Rattle.std.specs.Prelude.{◌≡◌, option_map};
 ghost use Rattle.flow_filter.specs.Condition.{allows_either, allows_label, is_label};
 ghost use Rattle.label_lookup.specs.Labelling.{label_where, labelling_lent};
@@ -6,7 +6,7 @@ ghost use Rattle.label_lookup.specs.Labelling.{label_where, labelling_lent};
 use label_lookup::{Labeller, label_row_under};
 use prefix_keys::Addr;
 
-// Whether the row's address has this label.
+// Returns `true` if the row's address has this label.
 fn has_label<L: Labeller>(label: &str, labeller: Option<&L>, addr: Addr) -> bool
     ensures { result ≡ is_label label.now
         (label_where (labelling_lent L.version_of L.label labeller.entry) (addr.version, addr.value)) }
@@ -17,7 +17,7 @@ fn has_label<L: Labeller>(label: &str, labeller: Option<&L>, addr: Addr) -> bool
     }
 }
 
-/// Whether the row's address has the label that is asked for, if one is.
+/// Returns `true` if the row's address has the requested label, or if no label is requested.
 pub fn is_allowed<L: Labeller>(label: Option<&str>, labeller: Option<&L>, addr: Addr) -> bool
     ensures { result ≡ allows_label (option_map (λ s. s.now) label.entry)
         (label_where (labelling_lent L.version_of L.label labeller.entry) (addr.version, addr.value)) }
@@ -28,7 +28,7 @@ pub fn is_allowed<L: Labeller>(label: Option<&str>, labeller: Option<&L>, addr: 
     }
 }
 
-/// Whether one of the row's two addresses has the label that is asked for, if one is.
+/// Returns `true` if one of the row's two addresses has the requested label, or if no label is requested.
 pub fn is_either_allowed<L: Labeller>(
     label: Option<&str>,
     labeller: Option<&L>,

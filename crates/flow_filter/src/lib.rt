@@ -11,15 +11,14 @@
 //! assert!(rt; passes == (row.protocol == 6 || row.protocol == 17));
 //! ```
 //!
-//! It stands on flow_rows (the rows), ipfix_read (the messages that have them), label_lookup (the labels of their
-//! addresses) and prefix_keys (addresses and blocks). `Filter::read` reads the texts of the options once. The layer
-//! above may rely on this: a filter is read exactly where each text that is given has its form, and else the fault is
-//! that of the first that hasn't, in the order of the options; `passes` answers whether the row meets each condition
-//! that is given; `add_passing_rows` puts the rows of a message that do behind others, each once and in their order, or
-//! leaves those as they were where memory is refused; and `needs_map` says whether a condition asks for a label. A
-//! filter is seen as its condition: the sets of the numbers and addresses that it asks for, and the label texts. How
-//! those sets are kept is its own affair: a row is looked up in them by a search of ranges in rising order, and takes
-//! no memory.
+//! This crate uses flow_rows (rows), ipfix_read (the messages with the rows), label_lookup (the labels of their
+//! addresses) and prefix_keys (addresses and blocks). `Filter::read` reads the texts of the options once. Callers may
+//! rely on this: a filter is read if and only if each text given is well formed, and otherwise the fault is that of the
+//! first malformed text, in the order of the options. `passes` returns whether the row meets each condition given.
+//! `add_passing_rows` appends the rows of a message that pass to other rows, each once and in order, and leaves those
+//! rows unchanged if an allocation fails. `needs_map` returns whether a condition is on a label. Contracts see a filter
+//! as its condition: the sets of the numbers and addresses that it allows, and the label texts. How those sets are
+//! stored is private. A row is looked up in them by a search in sorted ranges, which allocates nothing.
 #![tactic(auto)]
 
 mod blocks;

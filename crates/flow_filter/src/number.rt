@@ -1,11 +1,12 @@
-//! The numbers and the ranges that texts stand for.
+//! The numbers and the ranges of texts.
 ghost use Rattle.std.specs.Prelude.{◌≡◌};
 ghost use Rattle.flow_filter.specs.Texts.{bounded_number, number_range, upper_end};
 
 use crate::cut::cut;
 use crate::range::Range;
 
-// The number, at most the limit, that 1 to 20 digits stand for.
+// Returns the number that 1 to 20 digits represent, or `None` if the text is anything else or the number exceeds the
+// limit.
 #[tactic(auto, using(crate::proofs::Digits::digits_room))]
 fn read_number(text: &[u8], limit: u64) -> Option<u128>
     ensures { result ≡ bounded_number limit text.now }
@@ -27,7 +28,7 @@ fn read_number(text: &[u8], limit: u64) -> Option<u128>
     }
 }
 
-// The upper end that what stands behind a `-` writes. It may be left out where the range may be open.
+// Returns the upper end in the text after a `-`, which may be empty if the range may be open.
 fn read_end(text: &[u8], limit: u64, may_be_open: bool) -> Option<u128>
     ensures { result ≡ upper_end may_be_open limit text.now }
 {
@@ -38,8 +39,8 @@ fn read_end(text: &[u8], limit: u64, may_be_open: bool) -> Option<u128>
     }
 }
 
-/// The numbers that a text `N` or `N-M` stands for, and where it may be open also `N-`: all from N to the limit. They are at
-/// most the limit, and M isn't below N.
+/// Reads a text `N` or `N-M`, or `N-` if the range may be open: all numbers from N to the limit. The numbers are at
+/// most the limit, and M isn't less than N.
 pub fn read_range(text: &[u8], limit: u64, may_be_open: bool) -> Option<Range>
     ensures { result ≡ number_range may_be_open limit text.now }
 {

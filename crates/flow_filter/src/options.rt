@@ -1,4 +1,4 @@
-//! What the texts of the options ask for.
+//! Reading the texts of the options.
 ghost use Rattle.std.specs.Prelude.{◌≡◌, ◌++◌, ◌∷◌, [], IfErr, IfOk, IfSome, Some, is_some, map, option_map};
 ghost use Rattle.std.specs.Result.{IsOkAnd};
 ghost use Rattle.flow_filter.specs.Blocks.{items_cover, view_of};
@@ -23,7 +23,7 @@ fn refusal(option: FilterOption, kind: FilterFaultKind) -> FilterFault
     FilterFault { option, kind }
 }
 
-// The items and one more behind them, or want of memory, that of the items first.
+// Appends an item to the items. If an allocation failed for the items, the result is that failure.
 fn with_item<T: Drop>(items: Result<Vec<T>, AllocError>, item: T) -> Result<Vec<T>, AllocError>
     ensures { IfOk result (λ new. IsOkAnd items (λ old. new.items ≡ old.items ++ item ∷ [])) }
 {
@@ -32,8 +32,8 @@ fn with_item<T: Drop>(items: Result<Vec<T>, AllocError>, item: T) -> Result<Vec<
     Ok(items)
 }
 
-// The ranges of a number list, or `None` where the text is none. Where memory is refused the rest is looked through all the
-// same, so that a fault of the text comes first.
+// Reads the ranges of a number list, or returns `None` if the text is malformed. After a failed allocation the rest of
+// the text is still read, so that a fault of the text is reported first.
 fn read_ranges(alloc: Global, text: &[u8], limit: u64) -> Option<Result<Vec<Range>, AllocError>>
     ensures form { is_some result ≡ is_some (number_list limit text.now) }
     ensures ranges { IfSome result (λ read. IfOk read (λ v. number_list limit text.now ≡ Some v.items)) }
@@ -49,8 +49,8 @@ fn read_ranges(alloc: Global, text: &[u8], limit: u64) -> Option<Result<Vec<Rang
     Some(ranges)
 }
 
-// The blocks of an address list, or `None` where the text is none. Where memory is refused the rest is looked through all
-// the same.
+// Reads the blocks of an address list, or returns `None` if the text is malformed. After a failed allocation the rest
+// of the text is still read, so that a fault of the text is reported first.
 fn read_blocks(alloc: Global, text: &[u8]) -> Option<Result<Vec<Block>, AllocError>>
     ensures form { is_some result ≡ is_some (address_list text.now) }
     ensures blocks { IfSome result (λ read. IfOk read (λ v. address_list text.now ≡ Some (map view_of v.items))) }
@@ -66,7 +66,7 @@ fn read_blocks(alloc: Global, text: &[u8]) -> Option<Result<Vec<Block>, AllocErr
     Some(blocks)
 }
 
-// The places of the addresses that the blocks cover.
+// Returns the IPv6 numbers of the addresses that the blocks cover.
 fn places_of_all(alloc: Global, blocks: &[Block]) -> Result<Ranges, AllocError>
     ensures { IfOk result (λ set. by_place set ≡ items_cover (map view_of blocks.now)) }
 {
@@ -77,7 +77,7 @@ fn places_of_all(alloc: Global, blocks: &[Block]) -> Result<Ranges, AllocError>
     Ranges::new(alloc, ranges)
 }
 
-/// The numbers that an option asks for, where it is given.
+/// Returns the numbers that an option allows, if it is given.
 pub fn numbers(
     alloc: Global,
     option: FilterOption,
@@ -103,7 +103,7 @@ pub fn numbers(
     }
 }
 
-/// The places of the addresses that an option asks for, where it is given.
+/// Returns the IPv6 numbers of the addresses that an option allows, if it is given.
 pub fn addresses(
     alloc: Global,
     option: FilterOption,
@@ -127,7 +127,7 @@ pub fn addresses(
     }
 }
 
-/// The counts that an option asks for, where it is given.
+/// Returns the range of counts that an option allows, if it is given.
 pub fn counts(option: FilterOption, text: Option<&str>) -> Result<Option<Range>, FilterFault>
     ensures ok { IfOk result
         (λ range. IsRead option FilterFaultKind.BadRange counts_in (option_map (λ s. s.now) text.entry) (option_map covering range)) }

@@ -14,7 +14,7 @@ use ipfix_read::{Message, Record, RecordList, Set};
 use label_lookup::Labeller;
 use std::alloc::AllocError;
 
-// Adds the row, if it passes.
+// Appends the row if it passes.
 #[inline(always)]
 fn add_row<L: Labeller>(
     filter: &Filter<'_>,
@@ -34,7 +34,7 @@ fn add_row<L: Labeller>(
     Ok(())
 }
 
-// Adds the rows of a record that pass, found by the plan of its fields, the second right behind the first.
+// Appends the rows of a record that pass, found by the plan of its fields, the second row right after the first.
 #[inline(always)]
 #[tactic(auto, using(crate::proofs::PassingLemmas::front_stays))]
 fn add_rows_of_record<L: Labeller>(
@@ -60,7 +60,8 @@ fn add_rows_of_record<L: Labeller>(
     }
 }
 
-// Adds the rows of records that pass. Out of line, so that a set without records doesn't pay for the plan's frame.
+// Appends the rows of records that pass. Not inlined, so that a set without records doesn't pay for the plan's stack
+// frame.
 #[inline(never)]
 #[tactic(auto, using(crate::proofs::PassingLemmas::front_stays))]
 fn add_rows_of_records<L: Labeller>(
@@ -84,7 +85,7 @@ fn add_rows_of_records<L: Labeller>(
     Ok(())
 }
 
-// Adds the rows of sets that pass.
+// Appends the rows of sets that pass.
 #[tactic(auto, using(crate::proofs::PassingLemmas::front_stays))]
 fn add_rows_of_sets<L: Labeller>(
     filter: &Filter<'_>,
@@ -108,13 +109,13 @@ fn add_rows_of_sets<L: Labeller>(
 }
 
 impl<'a> Filter<'a> {
-    /// Adds the rows of a message that meet each condition that is given, behind those that are there, in order: the second
-    /// row of a record, where it has one, stands right behind the first, and each passes by itself. They are at most
-    /// 131,070. Without a labeller no address has a label.
+    /// Appends the rows of a message that meet each condition given, in order. The second row of a record, if there is
+    /// one, comes right after the first, and each row passes on its own. At most 131,070 rows are appended. Without a
+    /// labeller no address has a label.
     ///
     /// # Errors
     ///
-    /// Want of memory. Then the rows are those that were there.
+    /// If an allocation fails, `rows` is unchanged.
     pub fn add_passing_rows<L: Labeller>(
         &self,
         message: &Message<'_>,

@@ -1,7 +1,7 @@
 ghost use Rattle.std.specs.Prelude.{◌≡◌};
 ghost use Rattle.flow_filter.specs.Ranges.{in_range};
 
-/// The numbers from `low` to `high`, both among them.
+/// The numbers from `low` to `high`, both included.
 #[derive(Clone, Copy, Debug, PartialEq, Eq)]
 pub struct Range {
     pub low: u128,
@@ -9,7 +9,7 @@ pub struct Range {
 }
 
 impl Range {
-    /// Whether the number is one of them.
+    /// Returns `true` if the number is one of them.
     pub fn covers(&self, number: u128) -> bool
         ensures { result ≡ in_range number self.now }
     {

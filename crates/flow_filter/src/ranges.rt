@@ -6,7 +6,7 @@ use crate::range::Range;
 use std::alloc::{AllocError, Global};
 use std::marker::Model;
 
-/// A set of numbers: those of some ranges, which are kept in an order in which a search finds a number.
+/// A set of numbers: those of some ranges, which are stored in an order that allows a binary search.
 #[derive(Debug, Drop)]
 pub struct Ranges {
     // Neither a lower nor an upper end is below that of an earlier range.
@@ -26,7 +26,7 @@ impl Model for Ranges {
 }
 
 impl Ranges {
-    /// The numbers of these ranges, which may overlap and stand in any order.
+    /// Returns the set of the numbers of these ranges, which may overlap and be in any order.
     pub fn new(alloc: Global, mut ranges: Vec<Range>) -> Result<Ranges, AllocError>
         ensures { IfOk result (λ set. in_ranges set ≡ in_ranges ranges.items) }
     {
@@ -35,7 +35,7 @@ impl Ranges {
         Ok(Ranges { ranges: wide })
     }
 
-    /// Whether the number is in the set.
+    /// Returns `true` if the number is in the set.
     pub fn covers(&self, number: u128) -> bool
         ensures { result ≡ in_ranges self.now number }
     {
@@ -48,8 +48,8 @@ impl Ranges {
     }
 }
 
-// The ranges, of which no lower end is below an earlier one, each made to go up to where an earlier one goes. That adds no
-// number: what is added to a range is in that earlier one.
+// Returns the ranges, each extended to the highest end of the earlier ones. The lower ends must be in rising order. No
+// number is added to the set: a number that is added to a range is in an earlier one.
 fn widened(alloc: Global, ranges: &[Range]) -> Result<Vec<Range>, AllocError>
     requires { IsNonDecreasingBy (λ r. r.low) ranges.now }
     ensures rising { IfOk result (λ wide. AreRising wide.items) }

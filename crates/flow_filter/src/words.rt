@@ -1,19 +1,19 @@
-/// The text of each option that is given.
+/// The text of each option given.
 #[derive(Clone, Copy, Debug)]
 pub struct FilterWords<'a> {
-    /// `--protocol`: numbers and ranges with commas between, at most 255.
+    /// `--protocol`: numbers and ranges, separated by commas, at most 255.
     pub protocol: Option<&'a str>,
-    /// `--sport`: numbers and ranges with commas between, at most 65,535.
+    /// `--sport`: numbers and ranges, separated by commas, at most 65,535.
     pub sport: Option<&'a str>,
-    /// `--dport`: as `--sport`.
+    /// `--dport`: like `--sport`.
     pub dport: Option<&'a str>,
-    /// `--saddress`: addresses and blocks with commas between.
+    /// `--saddress`: addresses and blocks, separated by commas.
     pub saddress: Option<&'a str>,
-    /// `--daddress`: as `--saddress`.
+    /// `--daddress`: like `--saddress`.
     pub daddress: Option<&'a str>,
-    /// `--packets`: a number, a range, or a number and `-` for all from it on, below 2^64.
+    /// `--packets`: a number, a range, or a number followed by `-` for all numbers from it on, below 2^64.
     pub packets: Option<&'a str>,
-    /// `--bytes`: as `--packets`.
+    /// `--bytes`: like `--packets`.
     pub bytes: Option<&'a str>,
     /// `--src-label`: a label.
     pub src_label: Option<&'a str>,

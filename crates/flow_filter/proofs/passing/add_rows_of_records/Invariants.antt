@@ -1,4 +1,5 @@
--- The rows that are added, with those of the records that are left, are those of all; and these records have the plan's fields.
+-- The added rows, with those of the remaining records, are those of all records; and these records have the plan's
+-- fields.
 use Rattle.std.proofs.Common.{◌≡◌, ◌++◌, All, length, map, take}
 use Rattle.std.specs.List.{flat_map}
 use Rattle.flow_rows.specs.Elements.{rows_of_record}
