@@ -1,4 +1,4 @@
--- The numbers of parts tell them, and so do their codes.
+-- The numbers of parts distinguish them, and so do their codes.
 use Rattle.std.proofs.Common.{◌≡◌, ◌==◌, List, [], ◌∷◌, get_or, Some, None, if◌then◌else◌, refl, sym, ap, ◌∙◌, ℕ}
 use Rattle.std.proofs.lemmas.Bool.Decides.{Decides-like, same_from_decides}
 use Rattle.std.proofs.lemmas.Slice.Eq.{bytes_eq-Decides, slice_eq-Decides}
@@ -32,7 +32,7 @@ same_part-Decides p q =
 same_key-Decides : (a b : Key) → Decides (same_key a b) (a ≡ b)
 same_key-Decides a b = slice_eq-Decides same_part-Decides a b (same_key a b) refl
 
--- small keys have equal codes where they are equal
+-- small keys have equal codes if they are equal
 pub same_code-small : (a b : Key) → AreSmall a → AreSmall b → same_code a b ≡ same_key a b
 same_code-small a b small_a small_b =
     same_from_decides (same_code a b) (same_key a b)

@@ -1,4 +1,4 @@
--- What was written for a key is read as this key.
+-- The bytes that are written for a key are read back as this key.
 use Rattle.std.proofs.Common.{◌≡◌, ℕ, zero, suc, ◌+◌, ◌^◌, ◌<◌, ◌≤◌, Bool, true, false, if◌then◌else◌, List, [], ◌∷◌, ◌++◌, length, take, drop, nat_lt, slice_index, get_or, map, replicate, Option, Some, None, Result, Ok, Err, is_err, true≢false, refl, sym, ap, subst, ◌∙◌, arith}
 use Rattle.std.proofs.lemmas.List.{append-nil, append_assoc, drop_all, drop-append-le, length-append, length-drop, map_push, take_all, take-append-le, take_more}
 use Rattle.std.proofs.lemmas.Bool.Decides.{nat_tests}
@@ -17,14 +17,14 @@ use Rattle.flow_uniq.specs.Parts.{AreSmall, IsCode, IsSmall, front_bytes, key_co
 not_less : (a b : ℕ) → b ≤ a → nat_lt a b ≡ false
 not_less a b h = grind (arith, nat_tests)
 
--- a list in front of another is told by its length
+-- a list before another is found by its length
 take-front : (n : ℕ) (xs r : List ℕ) → length xs ≡ n → take n (xs ++ r) ≡ xs
 take-front n xs r e = take-append-le n xs r (omega (arith, e)) ∙ take_all n xs (omega (arith, e))
 
 drop-front : (n : ℕ) (xs r : List ℕ) → length xs ≡ n → drop n (xs ++ r) ≡ r
 drop-front n xs r e = drop-append-le n xs r (omega (arith, e)) ∙ ap (λ (l : List ℕ). l ++ r) (drop_all n xs (omega (arith, e)))
 
--- bytes that were written are read
+-- bytes that were written are read back
 front_bytes-back : (n : ℕ) (xs r : List ℕ) → length xs ≡ n → front_bytes n (xs ++ r) ≡ (xs, r)
 front_bytes-back n xs r e =
     ap (λ (b : Bool). let R : List ℕ × List ℕ = if b then (replicate n 0, xs ++ r) else (take n (xs ++ r), drop n (xs ++ r)) in R)
@@ -45,7 +45,7 @@ wide_back n h =
     numbers : (bytes : List ℕ) → from_be_bytes w128 bytes ≡ big_from 0 16 bytes
     numbers bytes = omega arith
 
--- a part that was written is read, and what stands behind it is left
+-- a part that was written is read back, and the bytes after it remain
 parts_in-back : (p : KeyPartModel) (most : ℕ) (r : List ℕ) → IsSmall p → parts_in (suc most) (part_code p ++ r) ≡ p ∷ parts_in most r
 parts_in-back (NumberPart n) most r h =
     ap (λ (c : List ℕ × List ℕ). NumberPart (from_be_bytes w16 c.0) ∷ parts_in most c.1) (front_bytes-back 2 (to_be_bytes w16 n) r refl)
@@ -94,22 +94,22 @@ parts_in-code (p ∷ k) zero h room = absurd (omega arith)
 parts_in-code (p ∷ k) (suc most) h room =
     parts_in-back p most (key_code k) h.0 ∙ ap (λ (l : Key). p ∷ l) (parts_in-code k most h.1 (omega arith))
 
--- a key that was written is read
+-- a key that was written is read back
 pub key_in-code : (k : Key) → AreSmall k → key_in (key_code k) ≡ k
 key_in-code k h = parts_in-code k (length (key_code k)) h (no_fewer_bytes k)
 
--- equal codes are equal keys
+-- keys with equal codes are equal
 pub same_from_codes : (a b : Key) → AreSmall a → AreSmall b → key_code a ≡ key_code b → a ≡ b
 same_from_codes a b small_a small_b e = sym (key_in-code a small_a) ∙ ap key_in e ∙ key_in-code b small_b
 
--- the bytes that were written for a key, where there were none
+-- the bytes that were written for a key, if there were none before
 pub written : (k : Key) (before code : List ℕ) → before ≡ [] → code ≡ before ++ key_code k → AreSmall k → IsCode code × (key_in code ≡ k)
 written k before code b e h =
     let is : code ≡ key_code k = e ∙ ap (λ (l : List ℕ). l ++ key_code k) b in
     let back : key_in code ≡ k = ap key_in is ∙ key_in-code k h in
     (record { small = subst AreSmall (sym back) h; same = is ∙ ap key_code (sym back) }, back)
 
--- what two promises of a call give together, and what they give where it went well
+-- two postconditions of a call combined, and combined for a call that succeeded
 pub both_ok : {T E P Q R : Type 0} (r : Result T E) → (P → Q → R) → OnOk r P → OnOk r Q → OnOk r R
 both_ok (Ok x) f p q = f p q
 both_ok (Err e) f p q = tt
@@ -118,7 +118,7 @@ pub when_ok : {T E P : Type 0} (r : Result T E) → is_err r ≡ false → OnOk 
 when_ok (Ok x) h p = p
 when_ok (Err e) h p = absurd (true≢false h)
 
--- what is read is no longer than the bytes
+-- the rest is no longer than the bytes
 front_shorter : (n : ℕ) (code : List ℕ) → length (front_bytes n code).1 ≤ length code
 front_shorter n code = by (nat_lt (length code) n)
   where
@@ -143,7 +143,7 @@ rest_shorter kind code =
     = omega (arith, text_shorter (slice_index first.0 0) first.1, front_shorter 1 code) in
     grind (arith, front_shorter 2 code, front_shorter 4 code, front_shorter 16 code, short, text)
 
--- with as many parts as there are bytes none is left out
+-- a limit of as many parts as there are bytes omits no part
 enough : (m n : ℕ) (code : List ℕ) → length code ≤ m → length code ≤ n → parts_in m code ≡ parts_in n code
 enough zero zero code p q = refl
 enough zero (suc n) [] p q = refl
@@ -160,12 +160,12 @@ key_in-rest kind code =
     ap (λ (k : Key). (part_after kind code).0 ∷ k)
     (enough (length code) (length (part_after kind code).1) (part_after kind code).1 (rest_shorter kind code) (omega arith))
 
--- one part more
+-- one more part
 small-push : (k : Key) (p : KeyPartModel) → AreSmall k → IsSmall p → AreSmall (k ++ p ∷ [])
 small-push [] p h s = (s, tt)
 small-push (q ∷ k) p h s = (h.0, small-push k p h.1 s)
 
--- one field more is appended
+-- one more field is appended
 module _ (f : KeyField → KeyPartModel) (fields : List KeyField) (i : ℕ) (d : KeyField) (p : KeyPartModel) (is : p ≡ f (get_or fields i d))
     (within : i < length fields) where
   one_more : map f (take (i + 1) fields) ≡ map f (take i fields) ++ p ∷ []

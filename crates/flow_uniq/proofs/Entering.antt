@@ -1,4 +1,4 @@
--- What a row changes in the groups that are kept.
+-- How a row changes the groups that are stored.
 use Rattle.std.proofs.Common.{◌≡◌, ℕ, ◌+◌, ◌-◌, ◌*◌, ◌^◌, ◌<◌, ◌≤◌, Bool, true, false, ◌||◌, cond, if◌then◌else◌, List, [], ◌∷◌, ◌++◌, length, map, All, Option, Some, None, unwrap_or, is_some, sum_by, refl, sym, ap, subst, ◌∙◌, arith}
 use Rattle.std.proofs.lemmas.Cmp.{nat_list_eq_equiv, on_equiv}
 use Rattle.std.proofs.lemmas.List.{append-nil, get_or-map, length-map, map_push}
@@ -26,11 +26,11 @@ use Rattle.flow_uniq.proofs.Grouping.{entered, fresh, grown, groups-push}
 abbrev Entries : Type 0
 Entries = List (Key × Totals)
 
--- what holds of each value of a function holds of the function at each element
+-- what is true of all values of a function is true of the function at each element
 All-each : {X Y : Type 0} (P : Y → Type 0) (f : X → Y) (xs : List X) → All P (map f xs) → All (λ x. P (f x)) xs
 All-each P f xs all = λ i d h. subst P (get_or-map f xs i d (f d) h) (all i (f d) (omega (arith, length-map xs f)))
 
--- each group has a key of so many parts
+-- each group has a key with this number of parts
 pub parts-kept : (count : ℕ) (es : Entries) → AreKept count es → All (λ g. length g.key ≡ count) (kept_groups es)
 parts-kept count es kept =
     All-map (λ (g : GroupModel). length g.key ≡ count) (λ (e : Key × Totals). record { key = e.0; totals = e.1 }) es
@@ -40,7 +40,7 @@ some-same : {A : Type 0} {a b : A} → Some a ≡ Some b → a ≡ b
 some-same {A} {a} {b} e = ap (λ (o : Option A). unwrap_or o a) e
 
 module _ (k : Key) (row : RowView) (small : AreSmall k) where
-  -- the key at the front has the code or not, as it is the key or not
+  -- the first key has the code if and only if it is the key
   at_front : (e : Key × Totals) (es : Entries) (b : Bool) → All AreSmall (keys_of (e ∷ es)) → same_code k e.0 ≡ b → same_key k e.0 ≡ b
   at_front e es b all is = sym (same_code-small k e.0 small (All-head AreSmall e.0 (keys_of es) all)) ∙ is
 
@@ -48,7 +48,7 @@ module _ (k : Key) (row : RowView) (small : AreSmall k) where
       → lookup (same_code k) (e ∷ es) ≡ cond b (Some e.1) (lookup (same_code k) es)
   looked_up e es b is = ap (λ c. cond c (Some e.1) (lookup (same_code k) es)) is
 
-  -- where no key has the code, no group grows
+  -- if no key has the code, no group grows
   none_grown : (es : Entries) → All AreSmall (keys_of es) → lookup (same_code k) es ≡ None → map (grown k row) (kept_groups es) ≡ kept_groups es
   none_grown [] all none = refl
   none_grown (e ∷ es) all none = by (same_code k e.0) refl (none_grown es (All-tail AreSmall e.0 (keys_of es) all))
@@ -60,7 +60,7 @@ module _ (k : Key) (row : RowView) (small : AreSmall k) where
           let rest : map (grown k row) (kept_groups es) ≡ kept_groups es = ih (sym (looked_up e es false is) ∙ none) in
           (λ i. record { key = e.0; totals = if at_front e es false all is i then with_row e.1 row else e.1 } ∷ rest i)
 
-  -- where one has it, its group grows alone
+  -- if a key has it, its group alone grows
   one_grown : (es : Entries) (t : Totals) → All AreSmall (keys_of es) → IsDistinct same_code (keys_of es) → lookup (same_code k) es ≡ Some t
       → kept_groups (set_value (same_code k) es (with_row t row)) ≡ map (grown k row) (kept_groups es)
   one_grown [] t all once found = refl
@@ -102,20 +102,20 @@ bounded-grown : (t : Totals) (row : RowView) → IsBounded t → row.packets ≤
 bounded-grown t row h p o =
     (one_bound (2 ^ 64 - 1) t.records t.packets row.packets h.0 p, one_bound (2 ^ 64 - 1) t.records t.octets row.octets h.1 o)
 
--- how many rows there are together
+-- the number of all rows
 record_count-kept : (es : Entries) → record_count (kept_groups es) ≡ sum_by (λ t. t.records) (values_of es)
 record_count-kept [] = refl
 record_count-kept (e ∷ es) =
     sum_by-cons (λ (g : GroupModel). g.totals.records) (record { key = e.0; totals = e.1 }) (kept_groups es)
     ∙ ap (λ (n : ℕ). e.1.records + n) (record_count-kept es) ∙ sym (sum_by-cons (λ (t : Totals). t.records) e.1 (values_of es))
 
--- no totals are of more rows than all are
+-- the totals of one group are of no more rows than there are
 pub few_records : (test : Key → Bool) (es : Entries) (t : Totals) → lookup test es ≡ Some t → record_count (kept_groups es) < 2 ^ 64 - 1
     → t.records < 2 ^ 64 - 1
 few_records test es t found few =
     omega (arith, few, record_count-kept es, sum_by-set_value (λ (x : Totals). x.records) test es t (record { records = 0; packets = 0; octets = 0 }) found)
 
--- what a row with this key makes of the entries
+-- facts about the entries after a row with this key
 pub record AfterRow (n : ℕ) (k : Key) (row : RowView) (es new : Entries) : Type 0 where
   pub kept : length k ≡ n → AreKept n new
   pub groups : kept_groups new ≡ entered k row (kept_groups es)
@@ -123,7 +123,7 @@ pub record AfterRow (n : ℕ) (k : Key) (row : RowView) (es new : Entries) : Typ
 
 module _ {S : Type 0} (m : IndexMap Key Totals S) (n : ℕ) (k : Key) (row : RowView) (kept : AreKept n m.entries) (small : AreSmall k)
     (p : row.packets ≤ 2 ^ 64 - 1) (o : row.octets ≤ 2 ^ 64 - 1) where
-  -- where the key has a group
+  -- if the key has a group
   pub after_known : (new : Entries) (t w : Totals) → IsUnique same_code m → Some t ≡ get same_code m k → w ≡ with_row t row
       → new ≡ set_value (same_code k) m.entries w → AfterRow n k row m.entries new
   after_known new t w once found grew is =
@@ -148,7 +148,7 @@ module _ {S : Type 0} (m : IndexMap Key Totals S) (n : ℕ) (k : Key) (row : Row
         );
       })
 
-  -- where it has none
+  -- if it has none
   pub after_new : (new : Entries) (old : IndexMap Key Totals S) (code : Key) (t : Totals) → None ≡ get same_code m k → old ≡ m → code ≡ k
       → t ≡ first_totals row → new ≡ insert_entry same_code old.entries code t → AfterRow n k row m.entries new
   after_new new old code t none same copied first is =

@@ -1,4 +1,4 @@
--- The groups of rows followed by one more.
+-- The groups of some rows followed by one more.
 use Rattle.std.proofs.Common.{◌≡◌, ℕ, ◌+◌, ◌<◌, Bool, true, false, not, ◌||◌, cond, if◌then◌else◌, List, [], ◌∷◌, ◌++◌, Option, map, filter, length, get_or, take, true≢false, arith, refl, sym, ap, ◌∙◌}
 use Rattle.std.proofs.Common.{zero-add}
 use Rattle.std.proofs.lemmas.Cmp.{lists_equiv, nat_list_eq_equiv, on_equiv}
@@ -37,7 +37,7 @@ entered k row groups = map (grown k row) groups ++ (if list_any (λ g. same_key 
 abbrev other_than : Key → Key → Bool
 other_than x o = not (same_key x o)
 
--- the distinct keys have each key
+-- the distinct keys contain each key
 stands-distinct : (k : Key) (ks : List Key) → list_any (same_key k) (distinct_keys ks) ≡ list_any (same_key k) ks
 stands-distinct k [] = refl
 stands-distinct k (x ∷ ks) = by (same_key k x) refl (stands-distinct k ks)
@@ -94,7 +94,7 @@ module _ (rows : List KeyedRow) (k : Key) (row : RowView) where
   group-more d false e =
       ap (λ (l : List KeyedRow). record { key = d; totals = totals_of l }) (with-more d false e ∙ append-nil (rows_with d rows))
 
-  -- where no row has the key, no row is with it
+  -- if no row has the key, there are no rows with it
   with-none : (rs : List KeyedRow) → list_any (same_key k) (map (λ r. r.0) rs) ≡ false → rows_with k rs ≡ []
   with-none [] h = refl
   with-none (r ∷ rs) h = by (same_key k r.0) h (with-none rs)
@@ -128,7 +128,8 @@ take_more : (all : List Row) (i : ℕ) (row : Row) → row ≡ get_or all i row 
     → map row_view (take (i + 1) all) ≡ map row_view (take i all) ++ row_view row ∷ []
 take_more all i row is within = grind (arith, common_steps)
 
--- the groups of earlier rows and of the rows before an index are, after the row there, those of the rows before the next one
+-- the groups of earlier rows and of the rows before an index, with the row there, are those of the rows before the next
+-- index
 pub then_row : (fields given : List KeyField) (label : AddressOf → Option Label) (all : List Row) (i : ℕ) (row : Row) (old new : List GroupModel)
     → given ≡ fields → row ≡ get_or all i row → i < length all
     → ((before : List KeyedRow) → old ≡ groups_of_keyed before → new ≡ groups_of_keyed (before ++ (key_of label given (row_view row), row_view row) ∷ []))

@@ -1,4 +1,4 @@
--- What a text that names fields is read as.
+-- The result of reading a text that names fields.
 use Rattle.std.proofs.Common.{◌≡◌, ℕ, ◌+◌, Bool, true, false, true≢false, cond, ◌||◌, if◌then◌else◌, List, [], ◌∷◌, Option, Some, None, Result, Ok, Err, map, arith, refl, sym, ap, ◌∙◌}
 use Rattle.std.proofs.lemmas.Bool.Decides.{nat_tests}
 use Rattle.std.specs.Prelude.{IfErr, count_by, find, is_none, is_some, nat_lt, option_map, filter, length, unwrap_or}
@@ -16,14 +16,14 @@ use Rattle.flow_uniq.specs.Field.{all_fields, field_name, field_named, has_repea
 count_by-map : {X Y : Type 0} (f : X → Y) (p : Y → Bool) (xs : List X) → count_by p (map f xs) ≡ count_by (λ x. p (f x)) xs
 count_by-map f p xs = fold-map (λ n y. n + cond (p y) 1 0) f 0 xs
 
--- a field stands more than once exactly where its name does
+-- a field occurs more than once if and only if its name does
 repetition_is : (fields : List KeyField) → has_repetition fields ≡ has_repeated (map field_name fields)
 repetition_is fields =
     ap (λ (p : KeyField → Bool). list_any p fields)
     (λ i field. nat_lt 1 (sym (count_by-map field_name (λ other. bytes_eq other (field_name field)) fields) i))
     ∙ sym (list_any-map field_name (is_repeated (map field_name fields)) fields)
 
--- a field that is found by a text has it as its name
+-- a field that is found by a text has this name
 has_name : (text : List ℕ) (fields : List KeyField) (found : KeyField) → find (λ field. bytes_eq (field_name field) text) fields ≡ Some found
     → field_name found ≡ text
 has_name text [] found is = absurd (true≢false (sym (ap (λ (o : Option KeyField). is_some o) is)))
@@ -39,7 +39,7 @@ has_name text (field ∷ fields) found is = by (bytes_eq (field_name field) text
         ap field_name (ap (λ (o : Option KeyField). unwrap_or o field) (sym (left true e))) ∙ (bytes_eq-Decides (field_name field) text).0 e
     by false e rest = rest (left false e)
 
--- items that all name fields are the names of these
+-- if items all name fields, they are the names of these fields
 names_are : (items : List (List ℕ)) → has_unnamed items ≡ false → map field_name (named_fields items) ≡ items
 names_are [] all = refl
 names_are (item ∷ items) all = by (field_named item) refl (names_are items)
@@ -69,13 +69,13 @@ module _ (text : List ℕ) where
     pub names_each_once : has_repeated (items_of text) ≡ false → has_repetition (named_fields (items_of text)) ≡ false
     names_each_once is = repeats ∙ is
 
--- of a text that is read any fault may say so
+-- a text that is read has fields, whatever the fault
 pub had_fields : {A : Type 0} (text : List ℕ) (r : Result A KeyFault) → keys_reading text ≡ Ok (named_fields (items_of text))
     → IfErr r (λ fault. fault ≡ NoMemory → (fields : List KeyField) × (keys_reading text ≡ Ok fields))
 had_fields text (Ok done) is = tt
 had_fields text (Err fault) is = λ _. (named_fields (items_of text), is)
 
--- there is a second element exactly where there is more than one
+-- there is a second element if and only if there is more than one
 second_of : {X : Type 0} (xs : List X) → is_some (slice_get xs 1) ≡ nat_lt 1 (length xs)
 second_of [] = refl
 second_of (x ∷ []) = refl
@@ -85,7 +85,7 @@ is_some-map : {X Y : Type 0} (f : X → Y) (o : Option X) → is_some o ≡ is_s
 is_some-map f None = refl
 is_some-map f (Some x) = refl
 
--- the second of the elements that pass is there exactly where more than one passes
+-- the second of the elements that pass exists if and only if more than one passes
 pub second_passes : {X Y : Type 0} (f : X → Y) (p : Y → Bool) (ys : List Y) (o : Option X) → option_map f o ≡ slice_get (filter p ys) 1
     → is_some o ≡ nat_lt 1 (count_by p ys)
 second_passes f p ys o is =

@@ -1,4 +1,4 @@
--- A list in order is the one list that rises and has elements that tie as they stood.
+-- A list in order is the only list that rises and keeps the order of elements that tie.
 use Rattle.std.proofs.Common.{◌≡◌, suc, ◌+◌, ◌<◌, Bool, true, false, not, ◌&&◌, cond, if◌then◌else◌, List, [], ◌∷◌, length, map, filter, All, true≢false, refl, sym, ap, subst, ◌∙◌, arith}
 use Rattle.std.proofs.lemmas.List.{get_or-map, length-map}
 use Rattle.std.proofs.lemmas.List.Elements.{All-cons, All-filter, All-from_get_or, All-head, All-nil, All-tail, All-weaker}
@@ -13,7 +13,7 @@ both_not true b e = absurd (true≢false (sym e))
 both_not false true e = absurd (true≢false (sym e))
 both_not false false e = (refl, refl)
 
--- two elements at the front of a list change places where not both are kept
+-- two elements at the start of a list are swapped if not both are kept
 swapped : {X : Type 0} (x y : X) (xs : List X) (a b : Bool) → (a ≡ true → b ≡ true → ⊥)
     → cond b (y ∷ cond a (x ∷ xs) xs) (cond a (x ∷ xs) xs) ≡ cond a (x ∷ cond b (y ∷ xs) xs) (cond b (y ∷ xs) xs)
 swapped x y xs true true h = absurd (h refl refl)
@@ -40,11 +40,11 @@ module _ {X : Type 0} (lt : X → X → Bool) (o : IsStrictWeakOrder lt) where
   Rises [] = Unit {0}
   Rises (x ∷ xs) = All (λ y. lt y x ≡ false) xs × Rises xs
 
-  -- what is kept of a list with one more in front
+  -- the elements that are kept of a list with one more element before it
   kept : (p : X → Bool) (x : X) (xs : List X) (b : Bool) → p x ≡ b → filter p (x ∷ xs) ≡ cond b (x ∷ filter p xs) (filter p xs)
   kept p x xs b e = ap (λ c. cond c (x ∷ filter p xs) (filter p xs)) e
 
-  -- an element that stands in front of what is kept has what all have
+  -- the first element that is kept has what all elements have
   front_has : (P : X → Type 0) (p : X → Bool) (x : X) (xs ys : List X) → filter p xs ≡ x ∷ ys → All P xs → P x
   front_has P p x xs ys e all = All-head P x ys (subst (All P) e (All-filter p P xs all))
 
@@ -141,13 +141,13 @@ module _ {X : Type 0} (lt : X → X → Bool) (o : IsStrictWeakOrder lt) where
   stable-in_order z (x ∷ xs) =
       stable-with_in_order z x (in_order lt xs) ∙ ap (λ (l : List X). cond (ties lt z x) (x ∷ l) l) (stable-in_order z xs)
 
-  -- what a stable sort leaves
+  -- the result of a stable sort
   pub sorted_is : (xs ys : List X) → IsSortedBy lt ys → IsStableBy lt xs ys → ys ≡ in_order lt xs
   sorted_is xs ys up stable =
       same_rising ys (in_order lt xs) (rises_from_sorted ys up) (rises-in_order xs)
       (λ z. stable z ∙ sym (stable-in_order z xs))
 
--- elements in order by what a function gives of them
+-- elements ordered by a function of them
 module _ {X Y : Type 0} (f : X → Y) (lt : Y → Y → Bool) where
   map-with_in_order : (x : X) (ys : List X) → map f (with_in_order (λ a b. lt (f a) (f b)) x ys) ≡ with_in_order lt (f x) (map f ys)
   map-with_in_order x [] = refl
@@ -164,7 +164,7 @@ module _ {X Y : Type 0} (f : X → Y) (lt : Y → Y → Bool) where
   map-in_order (x ∷ xs) =
       map-with_in_order x (in_order (λ a b. lt (f a) (f b)) xs) ∙ ap (λ (l : List Y). with_in_order lt (f x) l) (map-in_order xs)
 
--- what rises by what a function gives of it, rises when that is taken
+-- a list that rises by a function of its elements rises after the function is applied
 pub IsSortedBy-map : {X Y : Type 0} (f : X → Y) (lt : Y → Y → Bool) (xs : List X) → IsSortedBy (λ a b. lt (f a) (f b)) xs → IsSortedBy lt (map f xs)
 IsSortedBy-map f lt [] up = λ k d low h. absurd (omega arith)
 IsSortedBy-map f lt (x ∷ xs) up = λ k d low h.

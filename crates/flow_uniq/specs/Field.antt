@@ -7,7 +7,7 @@ use Rattle.flow_uniq.specs.declared.field.KeyField.TheVariants.{SourceAddress, D
 use Rattle.flow_uniq.specs.declared.fault.KeyFault.{KeyFault}
 use Rattle.flow_uniq.specs.declared.fault.KeyFault.TheVariants.{BadField, FieldRepeated}
 
--- a field's name
+-- the name of a field
 abbrev pub field_name : KeyField → List ℕ
 field_name SourceAddress = codes "sip"
 field_name DestinationAddress = codes "dip"
@@ -23,13 +23,13 @@ all_fields =
     SourceAddress ∷ DestinationAddress ∷ SourcePort ∷ DestinationPort ∷ Protocol ∷ Flags ∷ SourceLabel ∷ DestinationLabel
     ∷ []
 
--- the field is a label
+-- whether the field is a label
 abbrev pub is_label_field : KeyField → Bool
 is_label_field SourceLabel = true
 is_label_field DestinationLabel = true
 is_label_field _ = false
 
--- some field is a label, so that the key of a row can't be told without a map
+-- whether some field is a label, so that rows have no keys without a map
 abbrev pub need_map : List KeyField → Bool
 need_map fields = list_any is_label_field fields
 
@@ -37,34 +37,34 @@ need_map fields = list_any is_label_field fields
 abbrev pub field_named : List ℕ → Option KeyField
 field_named text = find (λ field. bytes_eq (field_name field) text) all_fields
 
--- the items of a text, which have commas between
+-- the items of a text, separated by commas
 abbrev pub items_of : List ℕ → List (List ℕ)
 items_of text = slice_split (λ b. b == 44) text
 
--- an item names no field
+-- whether an item is not the name of a field
 abbrev pub has_unnamed : List (List ℕ) → Bool
 has_unnamed items = list_any (λ item. is_none (field_named item)) items
 
--- the fields that items name
+-- the fields that the items name
 abbrev pub named_fields : List (List ℕ) → List KeyField
 named_fields items = filter_map field_named items
 
--- how often a field stands among others
+-- the number of times that a field occurs in a list
 abbrev pub times_named : List KeyField → KeyField → ℕ
 times_named fields field = count_by (λ other. bytes_eq (field_name other) (field_name field)) fields
 
--- a field stands more than once
+-- whether a field occurs more than once
 abbrev pub has_repetition : List KeyField → Bool
 has_repetition fields = list_any (λ field. nat_lt 1 (times_named fields field)) fields
 
--- an item stands more than once, and some item does
+-- whether an item occurs more than once, and whether some item does
 abbrev pub is_repeated : List (List ℕ) → List ℕ → Bool
 is_repeated items item = nat_lt 1 (count_by (λ other. bytes_eq other item) items)
 
 abbrev pub has_repeated : List (List ℕ) → Bool
 has_repeated items = list_any (is_repeated items) items
 
--- what a text is read as: the fields that its items name, or its fault
+-- the result of reading a text: the fields that its items name, or its fault
 abbrev pub keys_reading : List ℕ → Result (List KeyField) KeyFault
 keys_reading text =
     if has_unnamed (items_of text) then Err BadField

@@ -12,7 +12,7 @@ pub record GroupModel : Type 0 where
   pub key : Key
   pub totals : Totals
 
--- groups with the fields that their keys have
+-- groups with the fields of their keys
 pub record GroupsModel : Type 0 where
   pub fields : List KeyField
   pub groups : List GroupModel
@@ -21,7 +21,7 @@ pub record GroupsModel : Type 0 where
 abbrev pub KeyedRow : Type 0
 KeyedRow = Key × RowView
 
--- how many rows there are, and how many packets and octets they have together
+-- the number of rows, and the sums of their packets and octets
 abbrev pub totals_of : List KeyedRow → Totals
 totals_of rows = record {
   records = length rows;
@@ -33,17 +33,17 @@ totals_of rows = record {
 abbrev pub rows_with : Key → List KeyedRow → List KeyedRow
 rows_with key rows = filter (λ r. same_key key r.0) rows
 
--- each key once, in the order in which they first stand
+-- each key once, in the order of the first occurrences
 abbrev pub distinct_keys : List Key → List Key
 distinct_keys [] = []
 distinct_keys (key ∷ keys) = key ∷ filter (λ other. not (same_key key other)) (distinct_keys keys)
 
--- the groups of rows: their keys in the order of the first rows with them, each with the totals of all rows with it
+-- the groups of rows: their keys in the order of the first rows with them, each with the totals of all its rows
 abbrev pub groups_of_keyed : List KeyedRow → List GroupModel
 groups_of_keyed rows =
     map (λ key. record { key = key; totals = totals_of (rows_with key rows) }) (distinct_keys (map (λ r. r.0) rows))
 
--- the rows with the keys that these fields of them make, where each address has this label
+-- the rows with their keys by these fields, if each address has this label
 abbrev pub keyed : List KeyField → (AddressOf → Option Label) → List RowView → List KeyedRow
 keyed fields label rows = map (λ row. (key_of label fields row, row)) rows
 
@@ -51,7 +51,7 @@ keyed fields label rows = map (λ row. (key_of label fields row, row)) rows
 abbrev pub groups_of : List KeyField → (AddressOf → Option Label) → List RowView → List GroupModel
 groups_of fields label rows = groups_of_keyed (keyed fields label rows)
 
--- how many rows groups have together
+-- the number of rows in all groups
 abbrev pub record_count : List GroupModel → ℕ
 record_count groups = sum_by (λ g. g.totals.records) groups
 

@@ -1,4 +1,4 @@
--- How groups are kept.
+-- How groups are stored.
 use Rattle.std.specs.Prelude.{◌≡◌, ℕ, ◌+◌, ◌-◌, ◌*◌, ◌^◌, ◌≤◌, List, length, map, All}
 use Rattle.std.specs.Map.{keys_of, values_of}
 use Rattle.flow_rows.specs.Row.{RowView}
@@ -9,14 +9,14 @@ use Rattle.flow_uniq.specs.Key.{Key}
 use Rattle.flow_uniq.specs.Groups.{GroupModel}
 use Rattle.flow_uniq.specs.Parts.{AreSmall, key_in}
 
--- the parts of a key that is lent, and a group
+-- the parts of a borrowed key, and a group
 abbrev pub key_model : lent.Key → Key
 key_model k = key_in k.code.now
 
 abbrev pub group_model : Group → GroupModel
 group_model g = record { key = key_model g.key; totals = g.totals }
 
--- the groups of keys and the totals beside them
+-- the groups of keys that are paired with totals
 abbrev pub kept_groups : List (Key × Totals) → List GroupModel
 kept_groups entries = map (λ e. record { key = e.0; totals = e.1 }) entries
 
@@ -35,7 +35,7 @@ with_row t row = record {
   octets = t.octets + row.octets;
 }
 
--- keys of so many parts that fit in their bytes stand beside bounded totals
+-- the keys have `count` parts, which fit in their bytes, and are paired with bounded totals
 pub record AreKept (count : ℕ) (entries : List (Key × Totals)) : Type 0 where
   pub long : All (λ key. length key ≡ count) (keys_of entries)
   pub small : All AreSmall (keys_of entries)

@@ -20,7 +20,7 @@ abbrev pub Key : Type 0
 Key = List KeyPartModel
 
 module _ (label : AddressOf → Option Label) where
-  -- what a field of a row is, where each address has this label
+  -- the part for a field of a row, if each address has this label
   abbrev pub key_part : RowView → KeyField → KeyPartModel
   key_part row SourceAddress = AddressPart (row.version, row.src)
   key_part row DestinationAddress = AddressPart (row.version, row.dst)
@@ -31,12 +31,12 @@ module _ (label : AddressOf → Option Label) where
   key_part row SourceLabel = LabelPart (label (row.version, row.src))
   key_part row DestinationLabel = LabelPart (label (row.version, row.dst))
 
-  -- the key of a row: its fields in the order given
+  -- the key of a row: the parts for these fields, in order
   abbrev pub key_of : List KeyField → RowView → Key
   key_of fields row = map (key_part row) fields
 
--- the numbers by which parts are told apart and put in order, one after the other: behind the number of the kind those of
--- an address are its version and its value, and those of a label are none, or its bytes behind one number more
+-- the numbers by which parts are distinguished and ordered: the number of the kind, followed by the version and the
+-- value of an address, by the number itself, by nothing for a missing label, or by a zero and the bytes of a label
 abbrev pub version_number : Version → ℕ
 version_number V4 = 4
 version_number V6 = 6
@@ -50,7 +50,7 @@ part_numbers (AddressPart address) = 0 ∷ version_number address.0 ∷ address.
 part_numbers (NumberPart number) = 1 ∷ number ∷ []
 part_numbers (LabelPart label) = 2 ∷ label_numbers label
 
--- the parts are equal, and the keys are
+-- whether the parts are equal, and whether the keys are
 abbrev pub same_part : KeyPartModel → KeyPartModel → Bool
 same_part p q = bytes_eq (part_numbers p) (part_numbers q)
 

@@ -1,4 +1,4 @@
--- How keys lie in memory.
+-- How keys are stored.
 use Rattle.std.specs.Prelude.{◌≡◌, ℕ, zero, suc, ◌^◌, ◌<◌, ◌==◌, ◌++◌, Bool, List, [], ◌∷◌, Option, Some, None, length, take, drop, nat_lt, slice_index, option_copied, replicate, if◌then◌else◌}
 use Rattle.std.specs.Int.{w16, w32, w64, w128, from_be_bytes, to_be_bytes}
 use Rattle.std.specs.List.{flat_map}
@@ -20,7 +20,8 @@ part_model (part.Label label) = LabelPart (option_copied label)
 abbrev pub length_code : ℕ → List ℕ
 length_code len = if nat_lt len 256 then 2 ∷ len ∷ [] else 3 ∷ to_be_bytes w64 len
 
--- a part as bytes, which begin with its kind: numbers have their highest byte first, and a label has its length before its text
+-- a part as bytes, which begin with its kind: numbers have their highest byte first, and a label has its length before
+-- its text
 abbrev pub part_code : KeyPartModel → List ℕ
 part_code (NumberPart number) = 0 ∷ to_be_bytes w16 number
 part_code (LabelPart None) = 1 ∷ []
@@ -34,7 +35,7 @@ key_code key = flat_map part_code key
 abbrev pub same_code : Key → Key → Bool
 same_code a b = bytes_eq (key_code a) (key_code b)
 
--- the numbers of parts have room in these bytes
+-- the numbers of parts fit in these bytes
 abbrev pub IsSmall : KeyPartModel → Type 0
 IsSmall (NumberPart number) = number < 2 ^ 16
 IsSmall (LabelPart None) = Unit {0}
@@ -45,11 +46,11 @@ abbrev pub AreSmall : Key → Type 0
 AreSmall [] = Unit {0}
 AreSmall (p ∷ key) = IsSmall p × AreSmall key
 
--- so many bytes at the front and those after them, or zeros if there are too few
+-- the given number of bytes at the start and those after them, or zeros if there are too few
 abbrev pub front_bytes : ℕ → List ℕ → List ℕ × List ℕ
 front_bytes count code = if nat_lt (length code) count then (replicate count 0, code) else (take count code, drop count code)
 
--- the text of so many bytes at the front and the bytes after it, or none if there are too few
+-- the text of the given number of bytes at the start and the bytes after it, or none if there are too few
 abbrev pub text_front : ℕ → List ℕ → Option Label × List ℕ
 text_front len code = if nat_lt (length code) len then (None, code) else (Some (take len code), drop len code)
 
@@ -65,7 +66,7 @@ part_after kind code =
     else if kind == 4 then (AddressPart (V4, from_be_bytes w32 (front_bytes 4 code).0), (front_bytes 4 code).1)
     else (AddressPart (V6, from_be_bytes w128 (front_bytes 16 code).0), (front_bytes 16 code).1)
 
--- the parts in bytes, at most so many
+-- the parts that the bytes encode, up to a maximum number
 abbrev pub parts_in : ℕ → List ℕ → Key
 parts_in zero code = []
 parts_in (suc most) [] = []
@@ -75,7 +76,7 @@ parts_in (suc most) (kind ∷ code) = (part_after kind code).0 ∷ parts_in most
 abbrev pub key_in : List ℕ → Key
 key_in code = parts_in (length code) code
 
--- the bytes are those of the key in them
+-- the bytes are those of the key that they encode
 pub record IsCode (code : List ℕ) : Type 0 where
   pub small : AreSmall (key_in code)
   pub same : code ≡ key_code (key_in code)

@@ -20,12 +20,12 @@ module _ {X : Type 0} (is_less : X → X → Bool) where
   with_in_order x [] = x ∷ []
   with_in_order x (y ∷ ys) = if is_less y x then y ∷ with_in_order x ys else x ∷ y ∷ ys
 
-  -- the list in order: no element is less than the one before it, and elements that tie stay as they stood
+  -- the list in order: no element is less than the one before it, and elements that tie keep their order
   abbrev pub in_order : List X → List X
   in_order [] = []
   in_order (x ∷ xs) = with_in_order x (in_order xs)
 
--- the group's key is before that of the other
+-- whether the group's key is before that of the other
 abbrev pub is_before : GroupModel → GroupModel → Bool
 is_before g h = is_lt (key_order g.key h.key)
 
@@ -33,6 +33,6 @@ is_before g h = is_lt (key_order g.key h.key)
 abbrev pub sorted_groups : List GroupModel → List GroupModel
 sorted_groups groups = in_order is_before groups
 
--- the groups as they are shown: in the order of their first rows, or sorted
+-- the groups in the order of output: in the order of their first rows, or sorted
 abbrev pub shown_groups : Bool → List GroupModel → List GroupModel
 shown_groups sorted groups = if sorted then sorted_groups groups else groups

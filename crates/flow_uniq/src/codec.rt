@@ -1,4 +1,4 @@
-//! Keys as bytes: what is written for the key of a row is read as this key, part by part.
+//! Keys as bytes: the bytes that are written for the key of a row are read back as this key, part by part.
 ghost use Rattle.std.specs.Prelude.{◌≡◌, ◌++◌, ◌∷◌, ◌<◌, ◌^◌, ◌↔◌, [], IfNone, IfOk, IfSome, OnOk, Some, length, option_copied};
 ghost use Rattle.flow_rows.specs.Row.{row_view};
 ghost use Rattle.label_lookup.specs.Labelling.{label_where, labelling_lent};
@@ -14,7 +14,7 @@ use std::alloc::{AllocError, Global};
 use std::hash::{Hash, Hasher};
 use std::marker::Model;
 
-/// A part of a key: what one field of a row is.
+/// A part of a key: the value of one field of a row.
 #[derive(Clone, Copy, Debug)]
 pub enum KeyPart<'a> {
     /// An address.
@@ -25,13 +25,14 @@ pub enum KeyPart<'a> {
     Label(Option<&'a [u8]>),
 }
 
-/// The key of a group, borrowed: its parts in the order of the fields, each read from the key's bytes when asked for.
+/// The key of a group, borrowed: its parts in the order of the fields. Each part is read from the key's bytes when
+/// requested.
 #[derive(Clone, Copy, Debug)]
 pub struct Key<'a> {
     code: &'a [u8],
 }
 
-// The bytes of a key. Those of most keys are few, and are held in the value itself.
+// The bytes of a key. Most keys have few bytes, which are stored inline.
 type Bytes = SmallVec<u8, 24>;
 
 /// A key as bytes, which are hashed and compared in one piece.
@@ -90,7 +91,7 @@ impl Hash for Code {
     }
 }
 
-// What this field of the row is.
+// Returns the part for this field of the row.
 fn part_of<'a, L: Labeller>(field: KeyField, row: &Row, labeller: Option<&'a L>) -> KeyPart<'a>
     ensures { let label = label_where (labelling_lent L.version_of L.label labeller.entry) in
         part_model result ≡ key_part label (row_view row.now) field }
@@ -107,7 +108,7 @@ fn part_of<'a, L: Labeller>(field: KeyField, row: &Row, labeller: Option<&'a L>)
     }
 }
 
-// Appends the bytes of an address.
+// Appends the bytes of an address. If an allocation fails, some of them may have been appended.
 fn append_address(out: &mut Bytes, addr: Addr) -> Result<(), AllocError>
     ensures { OnOk result (out.new.items ≡ out.old.items ++ part_code (AddressPart (addr.version, addr.value))) }
 {
@@ -124,7 +125,8 @@ fn append_address(out: &mut Bytes, addr: Addr) -> Result<(), AllocError>
     Ok(())
 }
 
-// Appends the kind of a label and the length of its text, in one byte if it fits.
+// Appends the kind of a label and the length of its text, in one byte if it fits. If an allocation fails, the kind may
+// have been appended.
 fn append_length(out: &mut Bytes, len: usize) -> Result<(), AllocError>
     ensures { OnOk result (out.new.items ≡ out.old.items ++ length_code len) }
 {
@@ -135,7 +137,8 @@ fn append_length(out: &mut Bytes, len: usize) -> Result<(), AllocError>
     out.extend_from_slice(&(len as u64).to_be_bytes())
 }
 
-// Appends the bytes of a part. Inlined into its one caller, so that no part is copied.
+// Appends the bytes of a part. If an allocation fails, some of them may have been appended. Inlined into its one
+// caller, so that no part is copied.
 #[inline(always)]
 fn append_part(out: &mut Bytes, part: KeyPart<'_>) -> Result<(), AllocError>
     ensures bytes { OnOk result (out.new.items ≡ out.old.items ++ part_code (part_model part.entry)) }
@@ -156,7 +159,7 @@ fn append_part(out: &mut Bytes, part: KeyPart<'_>) -> Result<(), AllocError>
     Ok(())
 }
 
-// Appends the bytes of the key of a row.
+// Appends the bytes of the key of a row. If an allocation fails, some of them may have been appended.
 fn append_key<L: Labeller>(
     out: &mut Bytes,
     fields: &[KeyField],
@@ -175,7 +178,7 @@ fn append_key<L: Labeller>(
 }
 
 impl Code {
-    /// The key without parts.
+    /// Returns a key without parts.
     pub fn new(alloc: Global) -> Code
         ensures { result ≡ [] }
     {
@@ -184,7 +187,7 @@ impl Code {
         }
     }
 
-    /// Writes the key of a row over the one that was here. If an allocation fails, the key has no parts.
+    /// Replaces this key with that of a row. If an allocation fails, the key has no parts.
     pub fn write<L: Labeller>(
         &mut self,
         fields: &[KeyField],
@@ -203,7 +206,7 @@ impl Code {
         written
     }
 
-    /// The same key in memory of its own.
+    /// Returns a copy of the key.
     pub fn copy(&self, alloc: Global) -> Result<Code, AllocError>
         ensures { IfOk result (λ code. code ≡ self.now) }
     {
@@ -213,7 +216,7 @@ impl Code {
     }
 }
 
-// The first bytes and those after them, or zeros if there are too few.
+// Returns the first `N` bytes and those after them, or zeros if there are too few.
 fn front_bytes<const N: usize>(code: &[u8]) -> ([u8; N], &[u8])
     ensures { (result.0, result.1.now) ≡ front_bytes N code.now }
 {
@@ -223,7 +226,7 @@ fn front_bytes<const N: usize>(code: &[u8]) -> ([u8; N], &[u8])
     }
 }
 
-// The text of so many bytes at the front and the bytes after it, or none if there are too few.
+// Returns the text of the first `len` bytes and the bytes after it, or `None` if there are too few.
 fn text_front(len: u64, code: &[u8]) -> (Option<&[u8]>, &[u8])
     ensures { (option_copied result.0, result.1.now) ≡ text_front len code.now }
 {
@@ -233,7 +236,7 @@ fn text_front(len: u64, code: &[u8]) -> (Option<&[u8]>, &[u8])
     }
 }
 
-// The part of this kind, and the bytes after it.
+// Returns the part of this kind, and the bytes after it.
 fn part_after(kind: u8, code: &[u8]) -> (KeyPart<'_>, &[u8])
     ensures { (part_model result.0, result.1.now) ≡ part_after kind code.now }
 {
@@ -271,7 +274,7 @@ fn part_after(kind: u8, code: &[u8]) -> (KeyPart<'_>, &[u8])
 impl<'a> Key<'a> {
     ghost use Rattle.flow_uniq.specs.Kept.{key_model};
 
-    /// The key with this code.
+    /// Returns the key with this code.
     pub(crate) fn of_code(code: &'a Code) -> Key<'a>
         ensures { key_model result ≡ code.now }
     {
@@ -280,7 +283,7 @@ impl<'a> Key<'a> {
         }
     }
 
-    /// The first part and the key of those after it, or `None` if there is no part.
+    /// Returns the first part and the key of the other parts, or `None` if there is no part.
     pub fn split_first(self) -> Option<(KeyPart<'a>, Key<'a>)>
         ensures some { IfSome result (λ r. key_model self.entry ≡ part_model r.0 ∷ key_model r.1) }
         ensures none { IfNone result (key_model self.entry ≡ []) }
@@ -291,7 +294,7 @@ impl<'a> Key<'a> {
     }
 }
 
-/// Keys whose parts fit in their bytes are equal if they have equal codes, and only then.
+/// Keys whose parts fit in their bytes are equal if and only if their codes are equal.
 pub fn equal_codes_are_equal_keys()
     ensures { (a b : Parts) → AreSmall a → AreSmall b → (key_code a ≡ key_code b) ↔ (a ≡ b) }
 {}

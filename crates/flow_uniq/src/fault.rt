@@ -4,16 +4,16 @@ ghost use Rattle.flow_uniq.specs.declared.fault.KeyFault.TheVariants.{NoMemory};
 use std::alloc::AllocError;
 use thiserror::Error;
 
-/// Why a text names no fields for keys.
+/// The reason why a text does not name the fields of keys.
 #[derive(Clone, Copy, Debug, PartialEq, Eq, Hash, Error)]
 pub enum KeyFault {
-    /// An item is no field's name.
+    /// An item is not the name of a field.
     #[error("not a field")]
     BadField,
-    /// Each item is a field's name, and one stands twice.
+    /// Each item is the name of a field, and one occurs twice.
     #[error("a field that was named before")]
     FieldRepeated,
-    /// Memory was refused.
+    /// An allocation failed.
     #[error("out of memory")]
     NoMemory,
 }

@@ -3,21 +3,21 @@ ghost use Rattle.std.specs.Prelude.{◌≡◌};
 /// A field of a row that a key may have.
 #[derive(Clone, Copy, Debug, PartialEq, Eq)]
 pub enum KeyField {
-    /// `sip`: where the packets come from.
+    /// `sip`: the source address.
     SourceAddress,
-    /// `dip`: where the packets go.
+    /// `dip`: the destination address.
     DestinationAddress,
-    /// `sport`: the port at the source.
+    /// `sport`: the source port.
     SourcePort,
-    /// `dport`: the port at the destination.
+    /// `dport`: the destination port.
     DestinationPort,
     /// `proto`: the number of the protocol above IP.
     Protocol,
-    /// `flags`: the TCP flags of all packets together.
+    /// `flags`: the union of the TCP flags of all packets.
     Flags,
-    /// `src-label`: the label of the source.
+    /// `src-label`: the label of the source address.
     SourceLabel,
-    /// `dst-label`: the label of the destination.
+    /// `dst-label`: the label of the destination address.
     DestinationLabel,
 }
 
@@ -36,7 +36,7 @@ pub const ALL_FIELDS: [KeyField; 8] = [
 impl KeyField {
     ghost use Rattle.flow_uniq.specs.Field.{field_name, is_label_field};
 
-    /// The field's name.
+    /// Returns the name of the field.
     pub fn name(self) -> &'static str
         ensures { result.now ≡ field_name self }
     {
@@ -52,7 +52,7 @@ impl KeyField {
         }
     }
 
-    /// Whether it is a label.
+    /// Returns `true` if the field is a label.
     pub fn is_label(self) -> bool
         ensures { result ≡ is_label_field self }
     {

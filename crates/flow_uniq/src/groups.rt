@@ -42,7 +42,8 @@ impl Model for Groups {
     ghost invariant = { λ g. AreKept (length g.fields.items) g.totals.entries };
 }
 
-// The groups in the order of their first rows. Memory for all is asked for once: where it is refused, `collect` asks for less.
+// Returns the groups in the order of their first rows. Memory for all groups is allocated once: if that fails,
+// `collect` would try a smaller allocation.
 fn listed(alloc: Global, groups: &Groups) -> Result<Vec<Group<'_>>, AllocError>
     ensures { IfOk result (λ listed. map group_model listed.items ≡ groups.now.groups) }
 {
@@ -55,7 +56,7 @@ fn listed(alloc: Global, groups: &Groups) -> Result<Vec<Group<'_>>, AllocError>
     Ok(listed)
 }
 
-// The groups in the order of their keys.
+// Returns the groups in the order of their keys.
 fn in_order(mut groups: Vec<Group<'_>>) -> Result<Vec<Group<'_>>, AllocError>
     ensures value { let given = map group_model groups.entry.items in
         IfOk result (λ sorted. map group_model sorted.items ≡ sorted_groups given) }
@@ -68,14 +69,14 @@ fn in_order(mut groups: Vec<Group<'_>>) -> Result<Vec<Group<'_>>, AllocError>
 }
 
 impl Groups {
-    /// No groups, by the fields of these keys, which are hashed by the fixed numbers.
+    /// Returns an empty set of groups by the fields of `keys`, whose keys are hashed with fixed numbers.
     pub fn new(alloc: Global, keys: &Keys) -> Result<Groups, AllocError>
         ensures { IfOk result (AreOfNoRows keys.now) }
     {
         Groups::with_hashing(alloc, keys, KeyHashing::known())
     }
 
-    /// No groups, by the fields of these keys, which are hashed by these numbers.
+    /// Returns an empty set of groups by the fields of `keys`, whose keys are hashed with these numbers.
     pub fn with_hashing(
         alloc: Global,
         keys: &Keys,
@@ -91,13 +92,13 @@ impl Groups {
         })
     }
 
-    /// Adds a row to the group with its key, or as a new group that goes last. The labels of its addresses are those of
-    /// the labeller; without one no address has a label. A row whose key is known takes no memory but for scratch, which
-    /// is kept. Where memory is refused, the groups stay as they were.
+    /// Adds a row to the group with its key, or to a new group, which comes last. The labels of its addresses are those
+    /// of the labeller. Without a labeller no address has a label. A row whose key is known allocates no memory except
+    /// scratch space, which is kept. If an allocation fails, the groups are unchanged.
     pub fn add<L: Labeller>(&mut self, row: &Row, labeller: Option<&L>) -> Result<(), AllocError>
         requires { record_count self.old.groups < 2 ^ 64 - 1 }
         ensures fields { self.new.fields ≡ self.old.fields }
-        // Where these were the groups of rows with their keys, they are those of the rows followed by this one.
+        // If these were the groups of some rows with their keys, they are now those of the rows followed by this one.
         ensures ok { let label = label_where (labelling_lent L.version_of L.label labeller.entry) in
             let added = row_view row.now in
             OnOk result ((rows : List KeyedRow) → self.old.groups ≡ groups_of_keyed rows → self.new.groups
@@ -116,7 +117,7 @@ impl Groups {
         Ok(())
     }
 
-    /// Adds rows one after the other, each as `add` does. Where memory is refused at one of them, those before it are added.
+    /// Adds rows in order, each as `add` does. If an allocation fails at one of them, those before it have been added.
     pub fn add_rows<L: Labeller>(
         &mut self,
         rows: &[Row],
@@ -124,12 +125,13 @@ impl Groups {
     ) -> Result<(), AllocError>
         requires { record_count self.old.groups + length rows.now < 2 ^ 64 }
         ensures fields { self.new.fields ≡ self.old.fields }
-        // Where these were the groups of rows with their keys, they are those of these rows followed by the added ones.
+        // If these were the groups of some rows with their keys, they are now those of the rows followed by the added
+        // ones.
         ensures ok { let label = label_where (labelling_lent L.version_of L.label labeller.entry) in
             OnOk result ((earlier : List KeyedRow) → self.old.groups ≡ groups_of_keyed earlier
             → self.new.groups ≡ groups_of_keyed (earlier ++ keyed self.old.fields label (map row_view rows.now))) }
         ensures count { OnOk result (record_count self.new.groups ≡ record_count self.old.groups + length rows.now) }
-        // Where memory was refused at one of them, the added ones are those before it.
+        // If an allocation failed at one of them, the added ones are those before it.
         ensures err { let label = label_where (labelling_lent L.version_of L.label labeller.entry) in
             OnErr result ((count : ℕ) × (count < length rows.now) × ((earlier : List KeyedRow) → self.old.groups ≡ groups_of_keyed earlier
             → self.new.groups ≡ groups_of_keyed (earlier ++ keyed self.old.fields label (map row_view (take count rows.now))))) }
@@ -140,7 +142,7 @@ impl Groups {
         Ok(())
     }
 
-    /// The fields of the keys. Each key has a part for each field.
+    /// Returns the fields of the keys. Each key has a part for each field.
     pub fn fields(&self) -> &[KeyField]
         ensures value { result.now ≡ self.now.fields }
         ensures parts { All (λ g. length g.key ≡ length self.now.fields) self.now.groups }
@@ -148,14 +150,14 @@ impl Groups {
         self.fields.as_slice()
     }
 
-    /// How many groups there are.
+    /// Returns the number of groups.
     pub fn group_count(&self) -> usize
         ensures { result ≡ length self.now.groups }
     {
         self.totals.len()
     }
 
-    /// The group at a place, from 0 in the order of the first rows.
+    /// Returns the group at an index, in the order of the first rows.
     pub fn group(&self, place: usize) -> Option<Group<'_>>
         ensures { option_map group_model result ≡ slice_get self.now.groups place }
     {
@@ -166,10 +168,10 @@ impl Groups {
         })
     }
 
-    /// The groups in the order of their keys.
+    /// Returns the groups in the order of their keys.
     pub fn sorted(&self) -> Result<Vec<Group<'_>>, AllocError>
         ensures value { IfOk result (λ groups. map group_model groups.items ≡ sorted_groups self.now.groups) }
-        // They are the groups in another order, in which none stands before the one in front of it.
+        // They are a permutation of the groups, in which no group is less than the one before it.
         ensures permutation { IfOk result (λ groups. IsPermutation self.now.groups (map group_model groups.items)) }
         ensures rises { IfOk result (λ groups. IsSortedBy is_before (map group_model groups.items)) }
     {

@@ -26,7 +26,7 @@ impl Model for Keys {
     ghost invariant = { λ k. has_repetition k.fields.items ≡ false };
 }
 
-// The field with this name.
+// Returns the field with this name.
 fn field_named(text: &[u8]) -> Option<KeyField>
     ensures { result ≡ field_named text.now }
 {
@@ -36,7 +36,7 @@ fn field_named(text: &[u8]) -> Option<KeyField>
         .find(|field| field.name().as_bytes() == text)
 }
 
-// Whether an item of a text names no field.
+// Returns `true` if an item of the text is not the name of a field.
 fn has_unnamed(text: &[u8]) -> bool
     ensures { result ≡ has_unnamed (items_of text.now) }
 {
@@ -44,7 +44,7 @@ fn has_unnamed(text: &[u8]) -> bool
         .any(|item| field_named(item).is_none())
 }
 
-// Whether an item stands more than once in a text.
+// Returns `true` if the item occurs more than once in the text.
 fn is_repeated(text: &[u8], item: &[u8]) -> bool
     ensures { result ≡ is_repeated (items_of text.now) item.now }
 {
@@ -54,7 +54,8 @@ fn is_repeated(text: &[u8], item: &[u8]) -> bool
         .is_some()
 }
 
-// Whether some item does. Of nine items that name fields two are the same, so of such a text no more are looked for.
+// Returns `true` if some item occurs more than once. Any nine items that name fields have two that are the same, so at
+// most nine items are searched for.
 fn has_repeated(text: &[u8]) -> bool
     ensures { result ≡ has_repeated (items_of text.now) }
 {
@@ -62,8 +63,8 @@ fn has_repeated(text: &[u8]) -> bool
         .any(|item| is_repeated(text, item))
 }
 
-// The fields that the items of a text name. Memory for all fields is asked for once: where it is refused, `collect` asks
-// for less.
+// Returns the fields that the items of a text name. Memory for all fields is allocated once: if that fails, `collect`
+// would try a smaller allocation.
 fn named_fields(alloc: Global, text: &[u8]) -> Result<Vec<KeyField>, AllocError>
     ensures { IfOk result (λ fields. fields.items ≡ named_fields (items_of text.now)) }
 {
@@ -76,17 +77,17 @@ fn named_fields(alloc: Global, text: &[u8]) -> Result<Vec<KeyField>, AllocError>
 }
 
 impl Keys {
-    /// The fields that the items of a text name, in their order. Items have commas between.
+    /// Reads the fields that the items of a text name, in order. Items are separated by commas.
     ///
     /// # Errors
     ///
-    /// `BadField` where an item is no field's name; else `FieldRepeated` where a field stands twice; else `NoMemory` where
-    /// memory is refused.
+    /// Returns `BadField` if an item is not the name of a field, otherwise `FieldRepeated` if a field occurs twice,
+    /// otherwise `NoMemory` if an allocation fails.
     pub fn read(alloc: Global, text: &str) -> Result<Keys, KeyFault>
         ensures ok { IfOk result (λ keys. keys_reading text.now ≡ Ok keys) }
         ensures fault { IfErr result (λ fault. fault ≢ NoMemory → keys_reading text.now ≡ Err fault) }
 
-        // Memory is wanted only for a text without a fault.
+        // An allocation fails only for a text without a fault.
         ensures memory { IfErr result (λ fault. fault ≡ NoMemory → (fields : List KeyField) × (keys_reading text.now ≡ Ok fields)) }
     {
         let items = text.as_bytes();
@@ -100,14 +101,14 @@ impl Keys {
         Ok(Keys { fields })
     }
 
-    /// Whether a field is a label, so that rows have no keys without a map or a list.
+    /// Returns `true` if a field is a label, so that rows have no keys without a map or a list.
     pub fn needs_map(&self) -> bool
         ensures { result ≡ need_map self.now }
     {
         self.fields().iter().any(|field| field.is_label())
     }
 
-    /// The fields.
+    /// Returns the fields.
     pub fn fields(&self) -> &[KeyField]
         ensures { result.now ≡ self.now }
     {

@@ -1,21 +1,22 @@
-//! Groups of flow rows by fields of them, with totals.
+//! Groups of flow rows by their fields, with totals.
 //!
 //! ```rust
 //! use flow_uniq::{Groups, Keys};
 //! use label_lookup::Scan;
 //!
-//! // `row` is a row of flow_rows, and no label is asked for.
+//! // `row` is a row of flow_rows, and no label is needed.
 //! let keys = Keys::read(alloc, "sip,proto")?;
 //! let mut groups = Groups::new(alloc, &keys)?;
 //! groups.add(&row, None::<&Scan<'_>>)?;
 //! assert!(rt; groups.group_count() == 1);
 //! ```
 //!
-//! It stands on flow_rows, whose rows it takes, and on label_lookup, for the labels of their addresses. `Keys` are the
-//! fields by which rows are grouped, and `Groups` has a group for each key, with its totals; a `Key` is kept as bytes and
-//! borrowed as the list of its parts. The layer above may rely on this: a text is read exactly if its items name distinct
-//! fields; after one more row the groups are those of all rows so far; if an allocation fails, the groups are unchanged;
-//! and sorted groups are in the order of their keys. A row whose key is known needs no memory but scratch, which is kept.
+//! This crate uses flow_rows (rows) and label_lookup (the labels of their addresses). `Keys` are the fields by which
+//! rows are grouped. `Groups` has a group for each key, with its totals. A `Key` is stored as bytes, and borrowed as
+//! the list of its parts. Callers may rely on this: a text is read if and only if its items name distinct fields. After
+//! one more row the groups are those of all rows so far. If an allocation fails, the groups are unchanged. Sorted
+//! groups are in the order of their keys. A row whose key is known allocates no memory except scratch space, which is
+//! kept.
 #![tactic(auto)]
 
 mod codec;

@@ -11,7 +11,7 @@ use crate::codec::{Key, KeyPart};
 use prefix_keys::{Addr, Version};
 use std::cmp::Ordering;
 
-// How two labels compare: none before any, and texts by their bytes.
+// Compares two labels: no label is before any label, and labels compare by their bytes.
 fn compare_labels(a: Option<&[u8]>, b: Option<&[u8]>) -> Ordering
     ensures { result ≡ slice_cmp nat_cmp (label_numbers (option_copied a.entry)) (label_numbers (option_copied b.entry)) }
 {
@@ -23,7 +23,7 @@ fn compare_labels(a: Option<&[u8]>, b: Option<&[u8]>) -> Ordering
     }
 }
 
-// The number by which a version is put in order.
+// Returns the number by which a version is ordered.
 fn version_number(version: Version) -> u128
     ensures { result ≡ version_number version }
 {
@@ -33,7 +33,7 @@ fn version_number(version: Version) -> u128
     }
 }
 
-// How two addresses compare: those of IPv4 before those of IPv6, and then by their values.
+// Compares two addresses: those of IPv4 are before those of IPv6, and addresses of one version compare by value.
 fn compare_addresses(a: Addr, b: Addr) -> Ordering
     ensures { result ≡ part_order (AddressPart (a.version, a.value)) (AddressPart (b.version, b.value)) }
 {
@@ -43,7 +43,7 @@ fn compare_addresses(a: Addr, b: Addr) -> Ordering
     }
 }
 
-// How two parts compare.
+// Compares two parts: addresses are before numbers, and numbers before labels.
 fn compare_parts(a: KeyPart<'_>, b: KeyPart<'_>) -> Ordering
     ensures { result ≡ part_order (part_model a.entry) (part_model b.entry) }
 {
@@ -60,7 +60,7 @@ fn compare_parts(a: KeyPart<'_>, b: KeyPart<'_>) -> Ordering
     }
 }
 
-/// How two keys compare: by their parts from the left.
+/// Compares two keys by their parts from the left.
 pub fn compare_keys(a: Key<'_>, b: Key<'_>) -> Ordering
     ensures { result ≡ key_order (key_model a.entry) (key_model b.entry) }
 {

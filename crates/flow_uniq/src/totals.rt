@@ -5,11 +5,11 @@ use flow_rows::Row;
 /// The totals of the rows of a group.
 #[derive(Clone, Copy, Debug, PartialEq, Eq)]
 pub struct Totals {
-    /// How many rows there are.
+    /// The number of rows.
     pub records: u64,
-    /// How many packets they have together.
+    /// The number of packets of all rows.
     pub packets: u128,
-    /// How many bytes these have, IP headers included.
+    /// The number of bytes of these packets, including IP headers.
     pub octets: u128,
 }
 
@@ -17,7 +17,7 @@ impl Totals {
     ghost use Rattle.flow_rows.specs.Row.{row_view};
     ghost use Rattle.flow_uniq.specs.Kept.{IsBounded, first_totals, with_row};
 
-    /// The totals of one row.
+    /// Returns the totals of one row.
     pub fn of_row(row: &Row) -> Totals
         ensures value { result ≡ first_totals (row_view row.now) }
         ensures packets { row.now.packets ≤ 2 ^ 64 - 1 }
@@ -30,7 +30,7 @@ impl Totals {
         }
     }
 
-    /// Adds one more row.
+    /// Adds a row to the totals.
     pub fn add(&mut self, row: &Row)
         requires bounded { IsBounded self.old }
         requires few { self.old.records < 2 ^ 64 - 1 }
