@@ -1,8 +1,8 @@
-"""Times `recert`, and `check` of a certificate and of the same with chains: certificate_times.py PROGRAM PLAIN MAP..
+"""Times `recert`, and `check` of a certificate without and with chains: certificate_times.py PROGRAM PLAIN MAP..
 
-Each map is ORDER-LINES.txt; its shortest list and both certificates are written beside it. What `recert` writes must be
-what `shrink --certificate --compact` does, and what plain Rust does, where that is there, and so must the answers of
-`check`. The seconds are those of the fastest of three runs; a chain counts as one line. A table of that is printed.
+Each map is ORDER-LINES.txt. Its shortest list and both certificates are written beside it. The output of `recert` must
+be that of `shrink --certificate --compact`, and that of plain Rust if it is available. So must the output of `check`.
+The seconds are those of the fastest of three runs. A chain counts as one line. The results are printed as a table.
 """
 
 import filecmp

@@ -1,9 +1,9 @@
 """Times `info` and `rows` on IPFIX Files, and prints a table: flow_times.py PROGRAM PLAIN FILE..
 
-Each File is KIND-COUNT.ipfix. The seconds are those of the fastest of three runs whose output goes to /dev/null, the
-memory is the most that a run had at a time, and that of a row is what is left of it without the output. Where plain
-Rust is there, it runs on the same words, and must write the same bytes. Reading is its own, of each byte of the File
-once.
+Each File is KIND-COUNT.ipfix. The seconds are those of the fastest of three runs whose output goes to /dev/null. The
+memory is the maximum of a run, and the memory of a row is computed without the output. If plain Rust is available, it
+runs with the same words, and must write the same bytes. The last column is the time of plain Rust for reading each byte
+of the File once.
 """
 
 import os
@@ -16,7 +16,7 @@ COMMANDS = (("info",), ("rows",), ("rows", "--columns"))
 
 
 def memory_of_a_row(memory, written):
-    """Bytes of memory for each row, as text, where there are rows to speak of."""
+    """Returns the bytes of memory for each row, as text, if there are enough rows."""
     count = lines_of(written) - 1
     spent = memory * 1e6 - os.path.getsize(written)
     return f"{spent / count:.0f}" if count >= 10_000 else "-"

@@ -1,9 +1,9 @@
 """Times jobs beside plain Rust, and prints a table: job_times.py PROGRAM PLAIN FLOWS BIFLOWS MAP..
 
-Both run in turns on the same words, five times each; the time is that of the fastest run, and the memory the most
-that a run had at a time. What they write must be the same bytes. The maps are ORDER-LINES.txt, those of countries and
-of routes among them, and each is shrunk, certified and checked; FLOWS is reported on by itself and under the two, and
-BIFLOWS, whose records have both directions, by itself.
+Both run in turns with the same words, five times each. The time is that of the fastest run, and the memory is the
+maximum of a run. Both must write the same bytes. The maps are ORDER-LINES.txt, including those of countries and of
+routes. Each is shrunk, certified and checked. FLOWS is reported on by itself and under the two maps. BIFLOWS, whose
+records have both directions, is reported on by itself.
 """
 
 import os
@@ -16,7 +16,7 @@ ADDRESSES = {"countries": "128.9.160.23", "countries6": "2001:db8::1", "routes":
 
 
 def jobs_of_map(name):
-    """The jobs over a map: the words of each, and the file that keeps its output for those behind it."""
+    """Returns the jobs over a map: the words of each, and the file that holds its output for the jobs after it."""
     stem = name.removesuffix(".txt")
     order = os.path.basename(stem).split("-")[0]
     of_map = ("--pmap", name)
@@ -36,7 +36,7 @@ def jobs_of_map(name):
 
 
 def jobs_of_flows(name, countries, routes):
-    """The jobs over a File, alike."""
+    """Returns the jobs over a File, in the same form."""
     by_labels = ("uniq", "--fields", "src-label,dst-label", "--pmap", routes, name)
     return (
         ("info", ("info", name), None),
@@ -51,7 +51,7 @@ def jobs_of_flows(name, countries, routes):
 
 
 def jobs_of_biflows(name):
-    """The jobs over a File of records of both directions, alike."""
+    """Returns the jobs over a File of records of both directions, in the same form."""
     return tuple((f"{' '.join(words)}, biflows", (*words, name), None)
                  for words in (("info",), ("rows",), ("uniq", "--fields", "sip")))
 

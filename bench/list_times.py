@@ -1,4 +1,4 @@
-"""Runs the bench of prefix lists on each, and prints what it tells with its memory: list_times.py PROGRAM LIST.."""
+"""Runs the bench of prefix lists on each list, and prints its output with its memory: list_times.py PROGRAM LIST.."""
 
 import subprocess
 import sys

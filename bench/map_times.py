@@ -1,8 +1,8 @@
 """Times `label` on map texts, and prints a table: map_times.py PROGRAM PLAIN MAP..
 
-Each map is ORDER-LINES.txt. The seconds are those of the fastest of three runs, and the memory is the most that a run
-had at a time. Where plain Rust is there, it runs on the same words, and another answer of the program to one of three
-addresses is a failure, as is a run that does not end well.
+Each map is ORDER-LINES.txt. The seconds are those of the fastest of three runs, and the memory is the maximum of a run.
+If plain Rust is available, it runs with the same words. The bench fails if the program prints another label for one of
+three addresses, or if a run fails.
 """
 
 import os

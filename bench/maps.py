@@ -2,36 +2,37 @@
 
 The orders sorted and shuffled are like a dump of a routing table. Prefixes have the lengths of a table of the whole
 Internet: most are /24, then come /16 to /23, and few are shorter. A sorted text has them by address and then by length,
-so that the longer of two nested prefixes stands later and counts. A shuffled one has the same lines in no order.
+so that the longer of two nested prefixes comes later and decides. A shuffled text has the same lines in random order.
 
-So are those with labels as neighbours share them, for which a shorter list is worth while:
+The following are similar, but neighbours share labels, so that a shorter list is worthwhile:
 
-- countries: ranges in rising order, most of which lie side by side, each of one of 250 countries;
-- routes: sorted, with some thousand labels, of which a prefix mostly has that of the one before;
-- regions: the same with 250 labels;
-- single: the same with one label;
+- countries: ranges in rising order, most of which are adjacent, each of one of 250 countries;
+- routes: sorted, with some thousand labels; a prefix mostly has the label of the one before;
+- regions: like routes with 250 labels;
+- single: like routes with one label;
 - distinct: sorted, each prefix with a label of its own;
 - striped: neighbouring ranges of 1 to 64 addresses with two labels in turn.
 
 These have single addresses in rising order, each with a label of its own, of ten letters:
 
 - labels: random ones;
-- fold_labels: labels that lie close together in a table under the hash of the kit's `FoldHasher`;
-- known_labels: labels that do so under the fixed numbers of `KeyHashing`.
+- fold_labels: labels that are close together in a table under the hash of the kit's `FoldHasher`;
+- known_labels: labels that are close together in a table under the fixed numbers of `KeyHashing`.
 
 The others are over IPv6:
 
-- countries6: the same as countries;
-- hosts: single addresses in no order, with four labels;
-- chains: round each of some random addresses blocks of 100 lengths, one inside the other, with three labels in turn;
+- countries6: like countries;
+- hosts: single addresses in random order, with four labels;
+- chains: around each of some random addresses, blocks of 100 lengths, nested, with three labels in turn;
 
-- ranges: each line has the first and the last address of some neighbouring /48 prefixes out of 2000::/3, in no order;
+- ranges: each line has the first and the last address of some neighbouring /48 prefixes out of 2000::/3, in random
+  order;
 - equal: each line has the same address;
-- nested: each range lies strictly inside the one before it;
+- nested: each range is strictly inside the one before it;
 - alternating: ranges from one low address to about the middle, in turn with ranges from about the middle to one high
   address;
 - list: no two lines have the same block, a random address of 2000::/3;
-- colliding: the same, of addresses that all have one value under the standard library's hash, whose seed is fixed.
+- colliding: like list, with addresses that all have one value under the standard library's hash, whose seed is fixed.
 """
 
 import functools
@@ -43,43 +44,44 @@ import sys
 SEED = 20260101
 LABELS = 400
 COUNTRIES = "AR AT AU BE BR CA CH CN CZ DE DK ES FI FR GB IN IT JP KR MX NL NO PL RU SE SG TR UA US ZA".split()
-# How many of a thousand prefixes have each length.
+# The number of prefixes of each length among a thousand.
 SHARES = {
     8: 1, 9: 1, 10: 1, 11: 1, 12: 1, 13: 1, 14: 2, 15: 2,
     16: 14, 17: 9, 18: 15, 19: 26, 20: 45, 21: 52, 22: 110, 23: 103, 24: 616,
 }
-# How many labels the orders have whose neighbours share labels.
+# The number of labels of the orders whose neighbours share labels.
 SHARED_LABELS = {"routes": 4000, "regions": 250, "single": 1}
-# How many of a hundred prefixes have the label of the one before.
+# The number of prefixes among a hundred that have the label of the one before.
 SHARING = 70
-# The orders of countries: the first address, and the bits that the sizes of ranges have.
+# The orders of countries: the first address, and the numbers of bits of the sizes of ranges.
 COUNTRY_RANGES = {"countries": (1 << 24, range(8, 17)), "countries6": (0x2001 << 112, range(80, 97))}
-# The lengths of the blocks round one address.
+# The lengths of the blocks around one address.
 CHAIN = range(29, 129)
-# 2001:db8:0:0:8000::, of the block that is kept for documents (RFC 3849).
+# 2001:db8:0:0:8000::, in the block that is reserved for documentation (RFC 3849).
 MIDDLE = 0x2001_0DB8_0000_0000_8000_0000_0000_0000
-# The hash multiplies the exclusive or of a key's first 64 bits and this number, which here is 0.
+# The hash multiplies the exclusive or of a key's first 64 bits and this number. Here the exclusive or is 0.
 COLLIDING = 0x9E37_79B9_7F4A_7C15
 # The fixed numbers of both hashes.
 SEED_NUMBER, MULTIPLIER = 0x243F_6A88_85A3_08D3, 0x9E37_79B9_7F4A_7C15
-# The letters of chosen labels, how many letters a label has, and how many of them vary most.
+# The letters of chosen labels, the number of letters of a label, and the number of those that vary most.
 LETTERS, LABEL_LENGTH, VARYING = "abcdefghijklmnopqrstuvwxyz", 10, 2
-# The places of a table of 65,535 labels are so many, and chosen labels lie in the first sixteenth of them.
+# The number of slots of a table of 65,535 labels. Chosen labels are in the first sixteenth of them.
 PLACES, NEAR = 8192, 512
 
 
 def text_of(value):
-    """The text of an IPv6 address."""
+    """Returns the text of an IPv6 address."""
     return str(ipaddress.IPv6Address(value))
 
 
 def labels(rng, count=LABELS):
-    """Names of networks. Of some hundred each has a number that is kept for private use (RFC 6996)."""
+    """Returns names of networks. Some hundred names have distinct numbers, which are reserved for private use (RFC
+    6996)."""
     return [f"{rng.choice(COUNTRIES)} AS{64512 + number}" for number in range(count)]
 
 
 def prefixes(rng, count):
-    """So many distinct prefixes, each with its value and its length."""
+    """Returns `count` distinct prefixes, each with its value and its length."""
     lengths, shares = list(SHARES), list(SHARES.values())
     found = set()
     while len(found) < count:
@@ -93,7 +95,7 @@ def prefixes(rng, count):
 
 
 def ranges(rng, names, count):
-    """The lines of so many ranges of 1 to 64 networks of /48."""
+    """Yields the lines of `count` ranges of 1 to 64 networks of /48."""
     for _ in range(count):
         low = 1 << 125 | rng.getrandbits(45) << 80
         high = min(low + (rng.randrange(1, 65) << 80), 1 << 126) - 1
@@ -101,13 +103,13 @@ def ranges(rng, names, count):
 
 
 def nested(names, count):
-    """The lines of so many ranges round one middle, each inside the one before."""
+    """Yields the lines of `count` ranges around one middle, each inside the one before."""
     for number in range(count, 0, -1):
         yield f"{text_of(MIDDLE - number)} {text_of(MIDDLE + number)} {names[number % LABELS]}"
 
 
 def alternating(names, count):
-    """The lines of so many ranges that end or begin about one middle, in turn."""
+    """Yields the lines of `count` ranges that end or begin near one middle, in turn."""
     low, high = text_of(MIDDLE - (1 << 64)), text_of(MIDDLE + (1 << 64))
     for number in range(count):
         name = names[number % LABELS]
@@ -115,13 +117,13 @@ def alternating(names, count):
 
 
 def addresses(rng, names, first_half):
-    """Endless lines of random addresses; `first_half` gives the first 64 bits of one."""
+    """Yields endless lines of random addresses. `first_half` returns the first 64 bits of one."""
     while True:
         yield f"{text_of(first_half() << 64 | rng.getrandbits(64))}/128 {rng.choice(names)}"
 
 
 def chains(rng, names, count):
-    """The lines of so many blocks, many of them round one address, the longer ones later."""
+    """Yields the lines of `count` blocks, many of them around one address, the longer ones later."""
     while True:
         address = 1 << 125 | rng.getrandbits(125)
         for length in CHAIN:
@@ -133,12 +135,12 @@ def chains(rng, names, count):
 
 
 def dotted(value):
-    """The text of an IPv4 address."""
+    """Returns the text of an IPv4 address."""
     return f"{value >> 24}.{value >> 16 & 255}.{value >> 8 & 255}.{value & 255}"
 
 
 def shared(rng, names, count):
-    """The lines of so many prefixes, each mostly with the label of the one before."""
+    """Yields the lines of `count` prefixes, each mostly with the label of the one before."""
     name = names[0]
     for value, length in prefixes(rng, count):
         if rng.randrange(100) >= SHARING:
@@ -147,7 +149,7 @@ def shared(rng, names, count):
 
 
 def countries(rng, count, order):
-    """The lines of so many ranges, a tenth of them behind a gap. Few countries have most of them."""
+    """Yields the lines of `count` ranges, a tenth of them after a gap. Few countries have most of them."""
     pairs = itertools.product("ABCDEFGHIJ", "ABCDEFGHIJKLMNOPQRSTUVWXY")
     names = ["".join(pair) for pair in pairs]
     low, bits = COUNTRY_RANGES[order]
@@ -160,13 +162,13 @@ def countries(rng, count, order):
 
 
 def hosts(rng):
-    """Endless lines of single addresses."""
+    """Yields endless lines of single addresses."""
     while True:
         yield f"{text_of(1 << 125 | rng.getrandbits(125))} feed-{rng.randrange(4)}"
 
 
 def striped(rng, names, count):
-    """The lines of so many neighbouring ranges with two labels in turn."""
+    """Yields the lines of `count` neighbouring ranges with two labels in turn."""
     low = 1 << 24
     for number in range(count):
         high = low + rng.randrange(64)
@@ -175,18 +177,18 @@ def striped(rng, names, count):
 
 
 def distinct(rng, count):
-    """The lines of so many prefixes, each with a label of its own."""
+    """Yields the lines of `count` prefixes, each with a label of its own."""
     for number, (value, length) in enumerate(prefixes(rng, count)):
         yield f"{dotted(value)}/{length} network {number}"
 
 
 def folded(state, number):
-    """The halves of a product of 128 bits, joined by exclusive or."""
+    """Returns the two halves of a product of 128 bits, combined by exclusive or."""
     product = state * number
     return (product ^ product >> 64) % 2**64
 
 
-# A hash of labels: the state behind the label's length, the state behind one letter more, and the hash at the end.
+# A hash of labels: the state after the label's length, the state after one more letter, and the hash at the end.
 HASHES = {
     "fold_labels": (folded(SEED_NUMBER ^ LABEL_LENGTH, MULTIPLIER ^ 16),
                     lambda state, letter: folded(state ^ 0x01_0101 * ord(letter), MULTIPLIER ^ 2),
@@ -198,7 +200,7 @@ HASHES = {
 
 
 def near_labels(rng, order):
-    """Endless distinct labels that lie close together in a table."""
+    """Yields endless distinct labels that are close together in a table."""
     start, step, end = HASHES[order]
     for front in random_labels(rng, LABEL_LENGTH - VARYING):
         front_state = functools.reduce(step, front, start)
@@ -209,7 +211,7 @@ def near_labels(rng, order):
 
 
 def random_labels(rng, length=LABEL_LENGTH):
-    """Endless distinct labels."""
+    """Yields endless distinct labels."""
     made = set()
     while True:
         label = "".join(rng.choices(LETTERS, k=length))
@@ -219,14 +221,14 @@ def random_labels(rng, length=LABEL_LENGTH):
 
 
 def own_labels(rng, count, order):
-    """The lines of so many single addresses, each with a label of its own."""
+    """Yields the lines of `count` single addresses, each with a label of its own."""
     names = random_labels(rng) if order == "labels" else near_labels(rng, order)
     for number, name in enumerate(itertools.islice(names, count)):
         yield f"{dotted((10 << 24) + number)} {name}"
 
 
 def lines_with_labels(rng, count, order):
-    """The lines of a text over IPv4 for a shorter list."""
+    """Returns the lines of a text over IPv4 for a shorter list."""
     if order == "striped":
         return striped(rng, labels(rng), count)
     if order == "countries":
@@ -235,7 +237,7 @@ def lines_with_labels(rng, count, order):
 
 
 def ipv6_lines(rng, names, count, order):
-    """The lines of a text over IPv6 below its mode."""
+    """Returns the lines of a text over IPv6 after its mode."""
     match order:
         case "countries6":
             return countries(rng, count, order)
@@ -259,8 +261,8 @@ def ipv6_lines(rng, names, count, order):
 
 
 def ipv4_lines(rng, names, count, order):
-    """The lines of a text over IPv4."""
-    # Of fewer lines the lengths are those of more, and there are only so many short prefixes.
+    """Yields the lines of a text over IPv4."""
+    # A text of fewer lines has the lengths of one with more lines, and there are only so many short prefixes.
     found = prefixes(rng, count)
     if order == "shuffled":
         rng.shuffle(found)
@@ -269,10 +271,10 @@ def ipv4_lines(rng, names, count, order):
 
 
 def lines(count, order):
-    """The lines of a text."""
+    """Yields the lines of a text."""
     rng = random.Random(SEED)
     if order == "distinct":
-        # With a default there would be a label more than a text may have.
+        # With a default there would be one more label than the maximum of a text.
         yield "# made by bench/maps.py"
         yield from distinct(rng, count - 1)
         return

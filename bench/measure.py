@@ -1,16 +1,16 @@
-"""What the benches share: a program's seconds and memory, the yardstick beside it, and the printing of tables."""
+"""Functions that the benches share: a program's seconds and memory, the yardstick beside it, and printing tables."""
 
 import filecmp
 import os
 import subprocess
 import sys
 
-# It adds less to the memory that it measures than this interpreter does.
+# It adds less to the memory that it measures than this interpreter would.
 METER = "/usr/bin/time"
 
 
 def run(words, output=subprocess.DEVNULL):
-    """Runs a program to its end, and gives what it wrote to a pipe and the processor seconds that it took."""
+    """Runs a program, and returns what it wrote to a pipe and the processor seconds that it took."""
     with subprocess.Popen(words, stdout=output) as started:
         text = started.stdout.read() if started.stdout else None
         _, status, usage = os.wait4(started.pid, 0)
@@ -21,25 +21,25 @@ def run(words, output=subprocess.DEVNULL):
 
 
 def fastest(words, times=3):
-    """The seconds of the fastest of some runs."""
+    """Returns the seconds of the fastest of some runs."""
     return min(run(words)[1] for _ in range(times))
 
 
 def written(words, name):
-    """The file of this name with what a program writes."""
+    """Returns the file of this name with the output of a program."""
     with open(name, "wb") as out:
         run(words, out)
     return name
 
 
 def lines_of(name):
-    """How many lines a file has."""
+    """Returns the number of lines of a file."""
     with open(name, "rb") as text:
         return sum(chunk.count(b"\n") for chunk in iter(lambda: text.read(1 << 20), b""))
 
 
 def peak(words):
-    """The most memory that a program has at a time, in MB of 10^6 bytes."""
+    """Returns the maximum memory of a program, in MB of 10^6 bytes."""
     if os.access(METER, os.X_OK):
         metered = [METER, "-f", "%M", *words]
         ended = subprocess.run(metered, stdout=subprocess.DEVNULL, stderr=subprocess.PIPE, check=True)
@@ -51,7 +51,7 @@ def peak(words):
 
 
 class Yardstick:
-    """The program, and beside it the one in plain Rust that takes the same words, where that is there."""
+    """The program, and the one in plain Rust that takes the same words, if it is available."""
 
     def __init__(self, program, plain):
         self.programs = [program, plain] if os.path.exists(plain) else [program]
@@ -59,7 +59,7 @@ class Yardstick:
         self.heads = ["plain Rust", "MB", "times that", "MB by that"][:4 * len(self.programs) - 4]
 
     def output(self, words):
-        """The file with what the program writes. Where plain Rust writes other bytes, the bench ends."""
+        """Returns the file with the output of the program. If plain Rust writes other bytes, the bench ends."""
         numbered = enumerate(self.programs)
         files = [written([program, *words], f"{self.folder}/written-{number}") for number, program in numbered]
         if not filecmp.cmp(files[0], files[-1], shallow=False):
@@ -67,7 +67,8 @@ class Yardstick:
         return files[0]
 
     def measure(self, words, times=3):
-        """The seconds of the program's fastest run, its memory, and the cells of plain Rust. The two run in turns."""
+        """Returns the seconds of the program's fastest run, its memory, and the cells of plain Rust. The two run in
+        turns."""
         commands = [[program, *words] for program in self.programs]
         turns = [[run(command)[1] for command in commands] for _ in range(times)]
         seconds = [min(runs) for runs in zip(*turns)]
@@ -78,7 +79,7 @@ class Yardstick:
 
 
 class Growth:
-    """How many times a value is the last one of its kind."""
+    """The growth of values: the factor from the last value of a kind to the next one."""
 
     def __init__(self):
         self.last = {}
@@ -90,7 +91,7 @@ class Growth:
 
 
 def print_table(rows):
-    """Prints rows of cells, the heads first, each column as wide as its widest cell."""
+    """Prints rows of cells, the headers first, each column as wide as its widest cell."""
     widths = [max(map(len, column)) for column in zip(*rows)]
     for row in rows:
         print("  ".join(cell.rjust(width) for cell, width in zip(row, widths)))

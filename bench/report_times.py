@@ -1,10 +1,10 @@
 """Times reports on IPFIX Files, and prints a table: report_times.py PROGRAM PLAIN MAP FLOWS..
 
-The reports are `rows` under a map, `rows` with filters, some of them with thousands of items, and `uniq`; over a File
-of IPv6 with random or colliding sources `uniq` by them alone. The seconds are those of the fastest of three runs whose output goes to
-/dev/null, and the memory is the most that a run had at a time. Where plain Rust is there, it makes those that it can
-too, and must write the same bytes. Each report under the map is also made under `--list` where a list stands beside
-the map, and must be the same.
+The reports are `rows` under a map, `rows` with filters, some of them with thousands of items, and `uniq`. For a File of
+IPv6 with random or colliding sources the only report is `uniq` by source. The seconds are those of the fastest of three
+runs whose output goes to /dev/null, and the memory is the maximum of a run. If plain Rust is available, it makes the
+reports that it supports, and must write the same bytes. Each report under the map is also made under `--list` if there
+is a list beside the map, and must be the same.
 """
 
 import filecmp
@@ -17,22 +17,22 @@ from measure import Growth, Yardstick, fastest, peak, print_table, written
 
 SEED = 20260101
 ITEMS = 3000
-# The kinds of Files of which only the sources matter.
+# The kinds of Files in which only the sources matter.
 SOURCES = ("sources", "colliding", "known")
 
 
 def many_numbers(rng):
-    """A number list of some thousand items, in no order."""
+    """Returns a number list of some thousand items, in random order."""
     return ",".join(str(rng.randrange(65536)) for _ in range(ITEMS))
 
 
 def many_blocks(rng):
-    """An address list of some thousand items, in no order."""
+    """Returns an address list of some thousand items, in random order."""
     return ",".join(f"{rng.randrange(1, 224)}.{rng.randrange(256)}.{rng.randrange(256)}.0/24" for _ in range(ITEMS))
 
 
 def reports(map_name):
-    """Each report's name, its words, and whether plain Rust makes it too."""
+    """Returns each report's name, its words, and whether plain Rust makes it too."""
     rng = random.Random(SEED)
     labels = ("--pmap", map_name)
     filters = ("--protocol", "6,17", "--sport", "1024-65535", "--saddress", "0.0.0.0/1,2000::/4", "--packets", "2-")
@@ -48,7 +48,7 @@ def reports(map_name):
 
 
 def compare_with_list(program, words, map_name, folder):
-    """Ends the bench where a report under the map and that under its list differ."""
+    """Ends the bench if a report under the map and that under its list differ."""
     list_name = map_name.removesuffix(".txt") + "-list.txt"
     if map_name not in words or not os.path.exists(list_name):
         return

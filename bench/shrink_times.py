@@ -1,10 +1,9 @@
 """Times `shrink`, its certificate, `cat` and `check` on map texts: shrink_times.py PROGRAM PLAIN MAP..
 
-Each map is ORDER-LINES.txt; its shortest list and the certificate are written beside it, for `check`, whose answer
-must be the number of the list's entries. The seconds are those of the fastest of two runs whose output goes to
-/dev/null, and the memory is the most that a run had at a time. Where plain Rust is there, it runs on the same words
-and must write the same bytes. A list with more entries than a text may have is not checked. A table of that is
-printed.
+Each map is ORDER-LINES.txt. Its shortest list and the certificate are written beside it for `check`, which must print
+the number of the list's entries. The seconds are those of the fastest of two runs whose output goes to /dev/null, and
+the memory is the maximum of a run. If plain Rust is available, it runs with the same words and must write the same
+bytes. A list with more entries than the maximum of a text is not checked. The results are printed as a table.
 """
 
 import os
@@ -14,18 +13,19 @@ import sys
 from measure import Growth, Yardstick, lines_of, print_table
 
 TIMES = 2
-# How many entries the text of a list may have that is read.
+# The maximum number of entries of a list text that is read.
 MOST_ENTRIES = 1_000_000
 
 
 def entries_of(name):
-    """How many entries a list's text has: all its lines but those before the first entry."""
+    """Returns the number of entries of a list's text: the number of its lines from the first entry on."""
     with open(name, "rb") as text:
         return sum(not line.startswith((b"map-name ", b"mode ")) for line in text)
 
 
 def commands(yardstick, name):
-    """The commands for a map, each with its words and what it gives; the list and the certificate are made first."""
+    """Returns the commands for a map, each with its words and its output. The list and the certificate are made
+    first."""
     stem = name.removesuffix(".txt")
     listed, certificate = f"{stem}-list.txt", f"{stem}-certificate.txt"
     shrink = ("shrink", "--pmap", name)

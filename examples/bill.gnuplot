@@ -1,7 +1,7 @@
 # Draws the table of a bill as bars: gnuplot -e "bill = 'FILE'; picture = 'FILE.svg'" examples/bill.gnuplot
 #
-# The bill is a table of `flowlabel uniq` with one field, as dst-label: a title, and lines of a label, records, packets and
-# bytes. Each line is a bar as high as its bytes, in the order of the lines.
+# The bill is a table of `flowlabel uniq` with one field, such as dst-label: a header, and lines of a label, records,
+# packets and bytes. Each line is a bar whose height is its bytes, in the order of the lines.
 set terminal svg size 640,360 font "sans,12" background "white"
 set output picture
 set datafile separator "|"

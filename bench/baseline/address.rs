@@ -25,12 +25,12 @@ pub trait Address:
     /// The number of its first 16 bits.
     fn top(self) -> usize;
 
-    /// The address at the front of a text, and its length there.
+    /// Reads the address at the start of a text, and returns it with its length in bytes.
     fn read(text: &[u8]) -> Option<(Self, usize)>;
 
     fn print(self, line: &mut Line);
 
-    /// The last address of the block of this length that begins with 0.
+    /// Returns the last address of the block of this length that begins with 0.
     #[inline(always)]
     fn hosts(length: u32) -> Self {
         if length >= Self::WIDTH {
@@ -40,7 +40,7 @@ pub trait Address:
         }
     }
 
-    /// Half the number of addresses of a block of this length, which is less than the width.
+    /// Returns half the number of addresses of a block of this length, which is less than the width.
     #[inline(always)]
     fn half(length: u32) -> Self {
         Self::ONE << (Self::WIDTH - 1 - length)
@@ -112,7 +112,7 @@ impl Address for u128 {
         (self >> 112) as usize
     }
 
-    /// Of the forms of RFC 4291 all but the one with a dotted part.
+    /// Reads all forms of RFC 4291 except the one with a dotted part.
     fn read(text: &[u8]) -> Option<(u128, usize)> {
         let mut groups = [0; 8];
         let mut gap = text.starts_with(b"::").then_some(0);
@@ -166,7 +166,7 @@ impl Address for u128 {
     }
 }
 
-/// The decimal number at the front of a text, and how many digits it has there, at most ten of which are read.
+/// Returns the decimal number at the start of a text, and the number of its digits. At most ten digits are read.
 #[inline(always)]
 pub fn decimal(text: &[u8]) -> (u64, usize) {
     let (mut number, mut digits) = (0, 0);
@@ -181,7 +181,7 @@ pub fn decimal(text: &[u8]) -> (u64, usize) {
     (number, digits)
 }
 
-/// The hexadecimal number at the front of a text, and its length, at most four digits.
+/// Returns the hexadecimal number at the start of a text, and its length, at most four digits.
 #[inline(always)]
 fn hexadecimal(text: &[u8]) -> (u16, usize) {
     let (mut number, mut digits) = (0, 0);
@@ -198,7 +198,7 @@ fn hexadecimal(text: &[u8]) -> (u16, usize) {
     (number, digits)
 }
 
-/// The longest run of two or more groups of zeros, the first of equal ones: its start and its end.
+/// Returns the start and the end of the longest run of two or more groups of zeros, the first of equal runs.
 fn zero_run(groups: &[u16; 8]) -> (usize, usize) {
     let mut longest = (8, 8);
     let mut start = 0;

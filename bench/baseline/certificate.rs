@@ -2,7 +2,7 @@ use crate::address::decimal;
 use crate::labels::Labels;
 use crate::Fault;
 
-/// What a node claims: its cost, and where its labels lie among those of the nodes that are at hand.
+/// The claim of a node: its cost, and the range of its labels among those of the current nodes.
 #[derive(Clone, Copy)]
 pub struct Claim {
     pub cost: u64,
@@ -14,14 +14,14 @@ pub struct Claim {
 pub enum NodeLine<'a> {
     Leaf(u16),
     Inner(Claim),
-    /// With its bits and the label aside.
+    /// A chain with its bits and its side label.
     Chain(Claim, &'a [u8], u16),
 }
 
 /// The text of a certificate, read line by line.
 pub struct Certificate<'a> {
     pub text: &'a [u8],
-    /// Where the next node line begins.
+    /// The offset at which the next node line begins.
     pub place: usize,
     pub format: u8,
     pub is_ipv6: bool,
@@ -53,7 +53,7 @@ impl<'a> Certificate<'a> {
         Ok(Certificate { text, place, format: format.parse()?, is_ipv6: version == "ipv6", labels, sets: Vec::new() })
     }
 
-    /// Takes the next byte if it is this one.
+    /// Takes the next byte if it is this one, and returns whether it is.
     #[inline(always)]
     fn take(&mut self, byte: u8) -> bool {
         let is_next = self.text.get(self.place) == Some(&byte);
@@ -81,7 +81,7 @@ impl<'a> Certificate<'a> {
         Ok(number as u16)
     }
 
-    /// The next node line, whose labels come behind those of the sets.
+    /// Reads the next node line. Its labels are appended to those of the sets.
     #[inline(always)]
     pub fn line(&mut self) -> Result<NodeLine<'a>, Fault> {
         let letter = *self.text.get(self.place).ok_or("too few nodes")?;

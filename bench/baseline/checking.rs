@@ -10,7 +10,7 @@ use crate::Fault;
 
 struct Checker<'a, A> {
     certificate: Certificate<'a>,
-    /// With the labels' numbers in the certificate, as are those of the entries.
+    /// The stretches. Their labels, like those of the entries, are numbered as in the certificate.
     stretches: Stretches<A>,
     entries: Vec<Statement<A>>,
     stretch: usize,
@@ -18,7 +18,7 @@ struct Checker<'a, A> {
     pair: Vec<u16>,
 }
 
-/// The number of a list's entries, where the certificate shows that it is a shortest one for the map.
+/// Returns the number of a list's entries if the certificate shows that the list is a shortest one for the map.
 pub fn check<A: Address>(map: Map<A>, list: Map<A>, certificate: Certificate) -> Result<usize, Fault> {
     let mut stretches = Stretches::new(&map.statements, map.default.unwrap_or(NO_LABEL), false);
     let known = |labels: &Labels| -> Vec<u32> {
@@ -38,7 +38,7 @@ pub fn check<A: Address>(map: Map<A>, list: Map<A>, certificate: Certificate) ->
 }
 
 impl<A: Address> Checker<'_, A> {
-    /// The label of the longest entry that covers a block, given the one above the block.
+    /// Returns the label of the longest entry that covers a block, given the one above the block.
     #[inline(always)]
     fn covering(&mut self, low: A, length: u32, above: u32) -> u32 {
         match self.entries.get(self.entry) {
@@ -65,7 +65,7 @@ impl<A: Address> Checker<'_, A> {
         Err("a leaf isn't settled, or the list differs".into())
     }
 
-    /// What the next node claims, which is for this block.
+    /// Reads the next node, which is for this block, and returns its claim.
     fn node(&mut self, low: A, length: u32, above: u32) -> Result<Claim, Fault> {
         let covering = self.covering(low, length, above);
         match self.certificate.line()? {
@@ -97,7 +97,7 @@ impl<A: Address> Checker<'_, A> {
         }
     }
 
-    /// Goes down the bits of a chain to its end, and gives what that claims.
+    /// Descends the bits of a chain to its end, and returns the claim there.
     fn path(&mut self, low: A, length: u32, covering: u32, bits: &[u8], side: u16) -> Result<Claim, Fault> {
         let Some((bit, rest)) = bits.split_first() else {
             return Err("too few bits".into());
@@ -128,7 +128,7 @@ impl<A: Address> Checker<'_, A> {
         self.leaf(low, length, side, covering)
     }
 
-    /// Makes the set of two halves' exact pair, and gives what the pair costs more than they do.
+    /// Builds the set of two halves' exact pair, and returns the cost of the pair beyond that of the halves.
     #[inline(always)]
     fn join(&mut self, lower: Claim, upper: Claim) -> u64 {
         let sets = &self.certificate.sets;
@@ -148,8 +148,7 @@ impl<A: Address> Checker<'_, A> {
         0
     }
 
-    /// Gives a claim back where it claims no more than the pair at hand, of this cost, and forgets the sets of its
-    /// nodes.
+    /// Returns a claim if it claims no more than the pair, which has this cost, and drops the sets of its nodes.
     #[inline(always)]
     fn accept(&mut self, claim: Claim, cost: u64) -> Result<Claim, Fault> {
         let sets = &self.certificate.sets[claim.start..claim.end];

@@ -4,15 +4,15 @@ use crate::certificate::{Certificate, NodeLine};
 use crate::line::Line;
 use crate::Fault;
 
-/// A node line: where it begins, the label of a leaf, and the number of an inner node's upper half; its lower half is
-/// the next.
+/// A node line: its offset, the label of a leaf, and the number of an inner node's upper half. The lower half is the
+/// next node.
 struct Node {
     start: usize,
     label: Option<u16>,
     upper: u32,
 }
 
-/// The text of the same certificate in format 2.
+/// Returns the text of the same certificate in format 2.
 pub fn compact(mut certificate: Certificate) -> Result<Vec<u8>, Fault> {
     let text = certificate.text;
     if certificate.format == 2 {
@@ -33,7 +33,7 @@ pub fn compact(mut certificate: Certificate) -> Result<Vec<u8>, Fault> {
     Ok(out)
 }
 
-/// Reads a node and those below it, of a block of so many bits.
+/// Reads a node and those below it, for a block of this many bits.
 fn read_nodes(certificate: &mut Certificate, bits: u32, nodes: &mut Vec<Node>) -> Result<(), Fault> {
     let number = nodes.len();
     let start = certificate.place;
@@ -52,8 +52,8 @@ fn read_nodes(certificate: &mut Certificate, bits: u32, nodes: &mut Vec<Node>) -
     read_nodes(certificate, bits - 1, nodes)
 }
 
-/// Of an inner node with a leaf of this label, or of any where none is given: the label, the bit that leaves it
-/// aside, and the other node. The lower half is preferred.
+/// Returns for an inner node with a leaf of this label, or with any leaf if no label is given, the label, the bit of
+/// the other half, and the other node. A leaf in the lower half is preferred.
 fn step(nodes: &[Node], number: usize, wanted: Option<u16>) -> Option<(u16, u8, usize)> {
     if nodes[number].label.is_some() {
         return None;

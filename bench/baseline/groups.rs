@@ -30,11 +30,11 @@ impl Field {
     }
 }
 
-/// The parts of a key as numbers, and 0 in place of a part that it has not.
+/// The parts of a key as numbers, with 0 for a part that the key does not have.
 #[derive(Clone, Copy, Default, PartialEq)]
 struct Key {
     addresses: [u128; 2],
-    /// Whether the addresses are of IPv6, both ports, protocol and flags, a byte or two each.
+    /// Whether the addresses are of IPv6, both ports, the protocol and the flags, in one or two bytes each.
     numbers: u64,
     labels: [u32; 2],
 }
@@ -51,7 +51,7 @@ pub struct Groups {
     fields: Vec<Field>,
     keys: Vec<Key>,
     totals: Vec<Totals>,
-    /// A hash table of the groups' numbers and one; 0 is an empty slot.
+    /// A hash table of the groups' numbers plus one. 0 is an empty slot.
     slots: Vec<u32>,
     latest: usize,
 }
@@ -116,7 +116,7 @@ impl Groups {
         totals.octets += u128::from(row.octets);
     }
 
-    /// The number of a key's group, which is a new one where it didn't come before.
+    /// Returns the number of a key's group, which is new if the key is.
     #[inline(always)]
     fn place_of(&mut self, key: &Key) -> usize {
         let mask = self.slots.len() - 1;

@@ -1,4 +1,4 @@
-//! Reading of an IPFIX File, message by message.
+//! Reading an IPFIX File, message by message.
 
 use crate::row::{fits, Place, Places, Row, ELEMENTS, REVERSE};
 use crate::Fault;
@@ -6,24 +6,24 @@ use std::collections::HashMap;
 use std::fs::File;
 use std::io::{BufRead, BufReader, Read};
 
-/// The length in a template that says that each record tells its own.
+/// The length in a template that means that each value has its own length.
 const VARIABLE: usize = 65535;
 
 struct Template {
     is_options: bool,
-    /// The version of its rows, where it has them.
+    /// Whether its rows are of IPv6, if it has rows.
     is_v6: Option<bool>,
-    /// The least length of a record.
+    /// The minimum length of a record.
     least: usize,
     /// Whether a record may have a row of the reverse direction.
     has_back: bool,
-    /// Where all fields have fixed lengths: of both directions.
+    /// The places of both directions, if all fields have fixed lengths.
     places: Option<[Places; 2]>,
-    /// The direction of each field and its number among the elements, and its length.
+    /// The direction of each field and its index among the elements, and its length.
     fields: Vec<(Option<(usize, usize)>, usize)>,
 }
 
-/// A field specifier: the number of its enterprise, if it has one, that of its element, and its length.
+/// A field specifier: the enterprise number, if there is one, the number of the element, and the length.
 type Field = (Option<u32>, u16, usize);
 
 #[derive(Default)]
@@ -37,10 +37,10 @@ pub struct Counts {
     pub rows: u64,
 }
 
-/// A File while it is read.
+/// The state while a File is read.
 #[derive(Default)]
 pub struct Decoder {
-    /// By domain and ID.
+    /// The templates by domain and ID.
     templates: HashMap<(u32, u16), Template>,
     pub counts: Counts,
 }
@@ -49,7 +49,7 @@ fn u16_at(bytes: &[u8], place: usize) -> u16 {
     u16::from_be_bytes([bytes[place], bytes[place + 1]])
 }
 
-/// Takes so many bytes from the front.
+/// Takes the first `length` bytes.
 fn take<'a>(rest: &mut &'a [u8], length: usize) -> Result<&'a [u8], Fault> {
     if length > rest.len() {
         return Err("a part passes the end".into());
@@ -88,7 +88,7 @@ impl Template {
         template
     }
 
-    /// Takes a record with fields of variable length from the front, and gives it with its places.
+    /// Takes a record with fields of variable length from the start, and returns it with its places.
     fn take_record<'a>(&self, rest: &mut &'a [u8]) -> Result<(&'a [u8], [Places; 2]), Fault> {
         let record = *rest;
         let mut places = [Places::default(); 2];
@@ -107,7 +107,7 @@ impl Template {
         Ok((record, places))
     }
 
-    /// Calls back with each row of a record, and gives how many there are.
+    /// Calls back with each row of a record, and returns the number of rows.
     #[inline(always)]
     fn rows(&self, record: &[u8], is_v6: bool, places: &[Places; 2], each: &mut impl FnMut(&Row)) -> u64 {
         let row = Row::new(record, is_v6, &places[0]);
@@ -117,7 +117,7 @@ impl Template {
         1 + u64::from(back.is_some())
     }
 
-    /// Calls back with each row of a data set where rows are wanted, and gives the numbers of its records and rows.
+    /// Calls back with each row of a data set if rows are wanted, and returns the numbers of its records and rows.
     #[inline(always)]
     fn records(&self, set: &[u8], wants_rows: bool, each: &mut impl FnMut(&Row)) -> Result<(u64, u64), Fault> {
         if self.least == 0 {
@@ -147,7 +147,7 @@ impl Template {
 }
 
 impl Decoder {
-    /// Reads a whole File, and calls back with each row where rows are wanted.
+    /// Reads a whole File, and calls back with each row if rows are wanted.
     pub fn read(&mut self, file: &File, wants_rows: bool, mut each: impl FnMut(&Row)) -> Result<(), Fault> {
         let mut reader = BufReader::with_capacity(1 << 18, file);
         let mut message = vec![0; 1 << 16];

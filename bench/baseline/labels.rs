@@ -1,8 +1,8 @@
-/// Texts of labels, each once, numbered in the order in which they came.
+/// Texts of labels, each once, numbered in the order in which they were added.
 pub struct Labels {
     bytes: Vec<u8>,
     ends: Vec<u32>,
-    /// A hash table of the numbers and one; 0 is an empty slot.
+    /// A hash table of the numbers plus one. 0 is an empty slot.
     slots: Vec<u32>,
     latest: u32,
 }
@@ -31,7 +31,7 @@ impl Labels {
         &self.bytes[start as usize..self.ends[number as usize] as usize]
     }
 
-    /// The slot of a text, or the empty one where it belongs.
+    /// Returns the slot of a text, or the empty slot where it belongs.
     fn slot_of(&self, text: &[u8]) -> usize {
         let mask = self.slots.len() - 1;
         let mut slot = hash(text) & mask;
@@ -45,7 +45,7 @@ impl Labels {
         self.slots[self.slot_of(text)].checked_sub(1)
     }
 
-    /// The number of a text, which is a new one where it didn't come before.
+    /// Returns the number of a text, which is new if the text is.
     #[inline(always)]
     pub fn enter(&mut self, text: &[u8]) -> u32 {
         if self.latest < self.len() && self.text(self.latest) == text {

@@ -1,12 +1,12 @@
-//! The type of lines, and tables for the printing of numbers.
+//! The type of lines, and tables for printing numbers.
 
-/// The text of one line while it is made. No line of the bench is longer than its room.
+/// The text of one line while it is built. No line of the bench exceeds its capacity.
 pub struct Line {
     bytes: [u8; 1024],
     length: usize,
 }
 
-/// The digits of each number below 1,000 and how many they are; with zeros in front they are three.
+/// The digits of each number below 1,000 and their number, which is three with leading zeros.
 const fn groups(has_zeros: bool) -> [[u8; 4]; 1000] {
     let mut groups = [[0; 4]; 1000];
     let mut group = 0;
@@ -39,7 +39,7 @@ impl Line {
         self.length
     }
 
-    /// Hands the text on, and begins anew.
+    /// Appends the text to the output, and begins a new line.
     #[inline(always)]
     pub fn end(&mut self, out: &mut Vec<u8>) {
         out.extend_from_slice(self.as_bytes());

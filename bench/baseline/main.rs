@@ -1,7 +1,7 @@
-//! The yardstick of the bench: commands of flowlabel in plain Rust, without a proof, as quick as they plainly get. It
-//! takes the program's words and prints what the program prints, for inputs that the bench makes: without declared
-//! labels, elements of enterprises and faults. With `read FILE` it looks at each byte of a file once and prints their
-//! exclusive or.
+//! The yardstick of the bench: commands of flowlabel in plain, straightforward Rust, without a proof, for speed. It
+//! takes the program's words and prints what the program prints, for inputs of the bench: without declared labels,
+//! elements of enterprises and faults. With `read FILE` it reads each byte of a file once and prints their exclusive
+//! or.
 mod address;
 mod certificate;
 mod checking;
@@ -63,12 +63,12 @@ impl Words {
     }
 }
 
-/// The bytes of a file that must be named.
+/// Returns the bytes of a file that must be named.
 fn bytes(name: &Option<String>) -> Result<Vec<u8>, Fault> {
     Ok(fs::read(name.as_ref().ok_or("a file is missing")?)?)
 }
 
-/// The text of the label that an address has under a map, looked for while the map is read.
+/// Returns the text of the label of an address under a map, which is searched for while the map is read.
 fn label<A: Address>(text: &[u8], address: &str) -> Result<Vec<u8>, Fault> {
     let (address, _) = A::read(address.as_bytes()).ok_or("no address of the map's version")?;
     let mut found = None;
@@ -112,7 +112,7 @@ fn shrink<A: Address>(map: Map<A>, words: &Words) -> Vec<u8> {
     }
 }
 
-/// What a command over maps of one version prints.
+/// Returns the output of a command over maps of one version.
 fn of_map<A: Address>(text: Vec<u8>, words: &Words) -> Result<Vec<u8>, Fault> {
     if words.command == "label" {
         return label::<A>(&text, &words.last);
@@ -137,7 +137,7 @@ fn index<A: Address>(map: Map<A>) -> (labels::Labels, Index<A>) {
     (map.labels, Index::new(stretches))
 }
 
-/// The labels of the map or the list that the words name, if they name one.
+/// Returns the labels of the map or the list that the words name, if they name one.
 fn labeller(words: &Words) -> Result<Option<Labeller>, Fault> {
     let (text, is_list) = match (&words.map, &words.list) {
         (None, None) => return Ok(None),

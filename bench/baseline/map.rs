@@ -10,7 +10,7 @@ pub struct Statement<A> {
     pub label: u32,
 }
 
-/// What a map text says, or a list text, which has no default.
+/// The content of a map text, or of a list text, which has no default.
 pub struct Map<A> {
     pub name: Option<Vec<u8>>,
     pub labels: Labels,
@@ -18,7 +18,7 @@ pub struct Map<A> {
     pub statements: Vec<Statement<A>>,
 }
 
-/// Whether a text is over IPv6. In those of the bench a mode stands at the top.
+/// Returns whether a text is over IPv6. The texts of the bench begin with a mode.
 pub fn is_ipv6(text: &[u8]) -> bool {
     text.split(|byte| *byte == b'\n').take(3).any(|line| line == b"mode ipv6")
 }
@@ -32,7 +32,7 @@ impl<A: Address> Map<A> {
         Ok(map)
     }
 
-    /// The entries by rising first address, of one address the longer block first.
+    /// Returns the entries in the order of their first addresses, and of equal first addresses the longer block first.
     pub fn read_list(text: &[u8]) -> Result<Map<A>, Fault> {
         let mut entries = Vec::with_capacity(text.len() / 32);
         let mut list = Map::read(text, |_, entry: Statement<A>| entries.push(entry))?;
@@ -45,7 +45,7 @@ impl<A: Address> Map<A> {
     }
 
     /// Reads a text with blocks, ranges and addresses of its own version and without declared labels, calls back with
-    /// each statement, and gives the rest.
+    /// each statement, and returns the rest.
     pub fn read(text: &[u8], mut each: impl FnMut(&Labels, Statement<A>)) -> Result<Map<A>, Fault> {
         let mut map = Map { name: None, labels: Labels::new(), default: None, statements: Vec::new() };
         let mut rest = text;
@@ -62,7 +62,7 @@ impl<A: Address> Map<A> {
         Ok(map)
     }
 
-    /// Reads a line that is no statement, and gives what stands behind it.
+    /// Reads a line that is not a statement, and returns the text after it.
     fn read_other<'a>(&mut self, text: &'a [u8]) -> Result<&'a [u8], Fault> {
         let end = text.iter().position(|byte| *byte == b'\n').ok_or("a line without an end")?;
         let (line, behind) = (&text[..end], &text[end + 1..]);
@@ -77,8 +77,8 @@ impl<A: Address> Map<A> {
     }
 }
 
-/// The statement at the front of a text: its first address and its last one, its label, and what stands behind its
-/// line.
+/// Reads the statement at the start of a text. Returns its first and its last address, its label, and the text after
+/// its line.
 #[inline(always)]
 fn statement<A: Address>(text: &[u8]) -> Option<(A, A, &[u8], &[u8])> {
     let (first, used) = A::read(text)?;
@@ -102,7 +102,7 @@ fn statement<A: Address>(text: &[u8]) -> Option<(A, A, &[u8], &[u8])> {
     Some((first, first, label, behind))
 }
 
-/// The label at the front of a text, behind blanks, and what stands behind its line.
+/// Reads the label at the start of a text, after blanks. Returns it and the text after its line.
 #[inline(always)]
 fn label(text: &[u8]) -> Option<(&[u8], &[u8])> {
     let start = text.iter().position(|byte| *byte != b' ')?;

@@ -21,7 +21,7 @@ pub enum AnyIndex {
     V6(Index<u128>),
 }
 
-/// Where the addresses of IPv4 lie among those of IPv6.
+/// The IPv6 address of the IPv4 address 0.0.0.0.
 const MAPPED: u128 = 0xffff_0000_0000;
 
 impl Labeller {
@@ -57,7 +57,7 @@ pub fn info(file: &File, out: &mut impl Write) -> Result<(), Fault> {
     Ok(())
 }
 
-/// Prints a row with its labels, a bar behind each cell, and tells the length of each.
+/// Prints a row with its labels, a bar after each cell, and calls back with the length of each.
 #[inline(always)]
 fn print_row(row: &Row, labeller: Option<&Labeller>, line: &mut Line, mut cell: impl FnMut(usize, usize)) {
     row.print(line, &mut cell);
@@ -70,8 +70,8 @@ fn print_row(row: &Row, labeller: Option<&Labeller>, line: &mut Line, mut cell: 
     }
 }
 
-/// Hands on the cells of a line, each filled with spaces on its left, with a bar between and a line feed behind the
-/// last.
+/// Writes the cells of a line, each padded with spaces on the left, separated by bars and with a line feed after the
+/// last one.
 pub fn fill(cells: &[u8], widths: &[usize], out: &mut Vec<u8>) {
     for (cell, width) in cells.split(|byte| *byte == b'|').zip(widths) {
         out.resize(out.len() + width - cell.len(), b' ');
@@ -82,7 +82,7 @@ pub fn fill(cells: &[u8], widths: &[usize], out: &mut Vec<u8>) {
     out.push(b'\n');
 }
 
-/// Reads the File twice, since nothing is written before it is whole and the widths are known.
+/// Prints the rows. The File is read twice, since nothing is written before all of it is read and the widths are known.
 pub fn rows(mut file: File, labeller: Option<&Labeller>, has_columns: bool, out: &mut impl Write) -> Result<(), Fault> {
     let title = format!("{TITLE}{}|", if labeller.is_some() { "|src-label|dst-label" } else { "" });
     let mut widths: Vec<usize> = title.trim_end_matches('|').split('|').map(str::len).collect();

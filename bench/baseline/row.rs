@@ -1,14 +1,14 @@
 use crate::address::Address;
 use crate::line::Line;
 
-/// Where a field lies in a record, and its length; 0 where the record has none.
+/// The offset and the length of a field in a record. Both are 0 if the record does not have the field.
 #[derive(Clone, Copy, Default)]
 pub struct Place {
     pub offset: usize,
     pub length: usize,
 }
 
-/// The elements of a row, and those that take the place of packets and octets where a record has not these.
+/// The elements of a row, and those that replace packets and octets in a record without these.
 pub const ELEMENTS: [u16; 14] = [8, 12, 27, 28, 7, 11, 4, 6, 2, 1, 86, 85, 152, 153];
 
 /// The places of the elements in a record, in their order.
@@ -17,7 +17,7 @@ pub type Places = [Place; ELEMENTS.len()];
 /// The enterprise number of the elements of the reverse direction.
 pub const REVERSE: u32 = 29305;
 
-/// Whether an element may have this length.
+/// Returns whether an element may have this length.
 pub fn fits(element: u16, length: usize) -> bool {
     match element {
         1 | 2 | 85 | 86 => (1..=8).contains(&length),
@@ -47,7 +47,7 @@ pub struct Row {
 
 pub const TITLE: &str = "sip|dip|sport|dport|proto|flags|packets|bytes|stime|etime";
 
-/// A field as a number, and 0 where there is none.
+/// Returns a field as a number, or 0 if there is no field.
 #[inline(always)]
 fn number(record: &[u8], place: Place) -> u64 {
     let field = &record[place.offset..place.offset + place.length];
@@ -66,7 +66,7 @@ fn number_128(record: &[u8], place: Place) -> u128 {
 }
 
 impl Row {
-    /// Of a record that has the addresses of the version.
+    /// Returns the row of a record that has the addresses of the version.
     #[inline(always)]
     pub fn new(record: &[u8], is_v6: bool, places: &Places) -> Row {
         let [source_4, destination_4, source_6, destination_6, rest @ ..] = *places;
@@ -92,7 +92,8 @@ impl Row {
         }
     }
 
-    /// The row of the reverse direction, by the places of its elements, if a packet went back.
+    /// Returns the row of the reverse direction, from the places of its elements, if there were packets in that
+    /// direction.
     pub fn back(&self, record: &[u8], places: &Places) -> Option<Row> {
         let [.., flags, packets, octets, all_packets, all_octets, start, end] = *places;
         let or = |place: Place, other| if place.length > 0 { number(record, place) } else { other };
@@ -111,7 +112,7 @@ impl Row {
         })
     }
 
-    /// Prints the cells with a bar behind each, and tells the length of each.
+    /// Prints the cells with a bar after each, and calls back with the length of each.
     #[inline(always)]
     pub fn print(&self, line: &mut Line, mut cell: impl FnMut(usize, usize)) {
         let mut start = line.len();

@@ -5,7 +5,7 @@ use crate::labels::Labels;
 use crate::line::Line;
 use crate::tree::{Kind, Path, Tree};
 
-/// Makes the text of a list or of a certificate by going down a tree.
+/// Writes the text of a list or of a certificate while descending a tree.
 struct Printer<'a, A> {
     tree: &'a Tree<A>,
     labels: &'a Labels,
@@ -14,7 +14,7 @@ struct Printer<'a, A> {
     out: Vec<u8>,
 }
 
-/// The text of the shortest list.
+/// Returns the text of the shortest list.
 pub fn list<A: Address>(tree: &Tree<A>, labels: &Labels, name: Option<&[u8]>) -> Vec<u8> {
     let mut out = Vec::with_capacity(24 * (tree.cost(0) as usize + 2));
     if let Some(name) = name {
@@ -26,7 +26,7 @@ pub fn list<A: Address>(tree: &Tree<A>, labels: &Labels, name: Option<&[u8]>) ->
     printer.out
 }
 
-/// The text of the certificate.
+/// Returns the text of the certificate.
 pub fn certificate<A: Address>(tree: &Tree<A>, labels: &Labels, is_compact: bool) -> Vec<u8> {
     let format = if is_compact { 2 } else { 1 };
     let mut out = format!("flowlabel-cert {format} {} {}\n", A::VERSION, labels.len()).into_bytes();
@@ -50,7 +50,7 @@ impl<A: Address> Printer<'_, A> {
         self.line.end(&mut self.out);
     }
 
-    /// The entries of a node's block and of those in it, where it gets this label from above.
+    /// Prints the entries of a node's block and of the blocks in it, under this label from above.
     fn entries(&mut self, number: usize, low: A, length: u32, above: Option<u16>) {
         let label = match above {
             Some(label) if self.tree.has(number, label) => label,
@@ -67,7 +67,7 @@ impl<A: Address> Printer<'_, A> {
                 self.entries(upper, low + A::half(length), length + 1, Some(label));
             }
             Kind::Path(path, end) if label == path.side => self.entries(end, path.low, length + path.bits, Some(label)),
-            // Only a path of one bit hands on another label.
+            // Only a path of one bit passes on another label.
             Kind::Path(path, end) => {
                 let middle = low + A::half(length);
                 if path.low == middle {
@@ -81,12 +81,12 @@ impl<A: Address> Printer<'_, A> {
         }
     }
 
-    /// The labels of a node, and the end of its line.
+    /// Prints the labels of a node, and the end of its line.
     fn set(&mut self, number: usize) {
         self.tree.labels_of(number, |labels| print_set(labels, &mut self.line, &mut self.out));
     }
 
-    /// The lines of a node and of those below it.
+    /// Prints the lines of a node and of those below it.
     fn nodes(&mut self, number: usize, low: A, length: u32) {
         let kind = self.tree.kind(number);
         match kind {
@@ -123,7 +123,8 @@ impl<A: Address> Printer<'_, A> {
         self.nodes(end, path.low, length + path.bits);
     }
 
-    /// A path bit by bit: an inner node for each bit, all with the same line but for the last one, and the leaf aside.
+    /// Prints a path bit by bit: an inner node for each bit, all but the last with the same line, and the leaf beside
+    /// it.
     fn path(&mut self, number: usize, path: &Path<A>, end: usize, length: u32) {
         let (mut inner, mut side) = (Line::new(), Line::new());
         inner.text(b"n ");
@@ -155,7 +156,7 @@ impl<A: Address> Printer<'_, A> {
         }
     }
 
-    /// The labels of a node and one that isn't among them, and the end of the line.
+    /// Prints the labels of a node and one that isn't among them, and the end of the line.
     fn set_with(&mut self, number: usize, other: u16) {
         let mut labels = self.tree.labels_of(number, <[u16]>::to_vec);
         labels.insert(labels.partition_point(|label| *label < other), other);
@@ -175,7 +176,7 @@ fn print_set(labels: &[u16], line: &mut Line, out: &mut Vec<u8>) {
     line.end(out);
 }
 
-/// Whether an address is in the upper half of its block of this length.
+/// Returns whether an address is in the upper half of its block of this length.
 fn is_upper<A: Address>(address: A, length: u32) -> bool {
     address & A::half(length) != A::default()
 }

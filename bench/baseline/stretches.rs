@@ -2,26 +2,26 @@ use crate::address::Address;
 use crate::map::Statement;
 use std::collections::BinaryHeap;
 
-/// The stand-in for a label where an address has none.
+/// The value that represents a missing label.
 pub const NO_LABEL: u32 = u32::MAX;
 
-/// The stretches of addresses in which one statement is the last that covers, or none is, in rising order: where each
-/// begins, and its label. The first begins at 0, and each ends where the next one begins.
+/// The stretches of addresses in which one statement is the last that covers, or no statement covers, in rising order:
+/// the start and the label of each. The first begins at 0, and each ends where the next one begins.
 pub struct Stretches<A> {
     pub starts: Vec<A>,
     pub labels: Vec<u32>,
 }
 
 impl<A: Address> Stretches<A> {
-    /// Where no statement covers, the label is the default. Neighbours of one label are one stretch where they are to
-    /// be joined.
+    /// Returns the stretches of the statements. Where no statement covers, the label is the default. Neighbours with
+    /// one label are one stretch if they are to be joined.
     pub fn new(statements: &[Statement<A>], default: u32, are_joined: bool) -> Stretches<A> {
         let order = by_first(statements);
         let number_at = |place: usize| order.get(place).copied().unwrap_or(place as u32);
         let room = 2 * statements.len() + 1;
         let mut stretches = Stretches { starts: Vec::with_capacity(room), labels: Vec::with_capacity(room) };
-        // The statements that begin at or before the place, with the last one on top. Those below that have ended
-        // wait there.
+        // The statements that begin at or before the current address, with the last one on top. Those below the top
+        // that have ended are removed later.
         let mut open: BinaryHeap<(u32, A)> = BinaryHeap::new();
         let (mut place, mut begun, mut latest) = (A::default(), 0, None);
         loop {
@@ -56,13 +56,13 @@ impl<A: Address> Stretches<A> {
         }
     }
 
-    /// The last address of a stretch.
+    /// Returns the last address of a stretch.
     pub fn last(&self, number: usize) -> A {
         self.starts.get(number + 1).map_or(A::MAX, |start| *start - A::ONE)
     }
 }
 
-/// The numbers of the statements by rising first address, and none where they lie so.
+/// Returns the numbers of the statements by rising first address, or none if they are in this order.
 fn by_first<A: Address>(statements: &[Statement<A>]) -> Vec<u32> {
     if statements.windows(2).all(|pair| pair[0].first <= pair[1].first) {
         return Vec::new();
@@ -72,10 +72,10 @@ fn by_first<A: Address>(statements: &[Statement<A>]) -> Vec<u32> {
     order.into_iter().map(|(_, number)| number).collect()
 }
 
-/// Stretches with a place for each of the 65,536 blocks of 16 bits, where look-ups begin.
+/// Stretches with an entry for each of the 65,536 blocks of 16 bits, from which look-ups start.
 pub struct Index<A> {
     stretches: Stretches<A>,
-    /// How many stretches begin before the block.
+    /// For each block, the number of stretches that begin before it.
     before: Vec<u32>,
 }
 

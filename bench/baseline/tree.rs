@@ -1,7 +1,7 @@
 use crate::address::Address;
 use crate::stretches::Stretches;
 
-/// A set of labels: of one label that label, of more the place of its labels among those of the tree.
+/// A set of labels: a single label, or the position of several labels among those of the tree.
 #[derive(Clone, Copy)]
 struct Set {
     start: u32,
@@ -11,7 +11,7 @@ struct Set {
 /// A block with the cost and the labels of its exact pair.
 #[derive(Clone, Copy)]
 struct Node {
-    /// 0 is a leaf. With the bit PATH it is a path, whose end is the next node. Else it is the number of the upper
+    /// 0 is a leaf. With the bit PATH it is a path, whose end is the next node. Otherwise it is the number of the upper
     /// half, and the lower half is the next node.
     behind: u32,
     cost: u32,
@@ -20,7 +20,7 @@ struct Node {
 
 const PATH: u32 = 1 << 31;
 
-/// Some bits down from a block to one in it, where all that is left aside has one label.
+/// Some bits from a block to one inside it, if all other halves on the way have one label.
 #[derive(Clone, Copy)]
 pub struct Path<A> {
     /// The first address of the block at the end.
@@ -29,16 +29,17 @@ pub struct Path<A> {
     pub side: u16,
 }
 
-/// What is in a block.
+/// The content of a block.
 pub enum Kind<A> {
     Leaf,
-    /// With the numbers of both halves.
+    /// The numbers of both halves.
     Fork(usize, usize),
-    /// With the number of the node at its end.
+    /// A path, and the number of the node at its end.
     Path(Path<A>, usize),
 }
 
-/// The binary tree of stretches with the exact pair of each node, in preorder, and nodes with one leaf taken together.
+/// The binary tree of stretches with the exact pair of each node, in preorder, in which consecutive nodes with one leaf
+/// are joined.
 pub struct Tree<A> {
     nodes: Vec<Node>,
     paths: Vec<Path<A>>,
@@ -46,7 +47,7 @@ pub struct Tree<A> {
     common: Vec<u16>,
 }
 
-/// A block and the stretches that it meets, from the one to the other.
+/// A block and the range of stretches that it meets.
 #[derive(Clone, Copy)]
 struct Block<A> {
     low: A,
@@ -56,12 +57,12 @@ struct Block<A> {
 }
 
 impl<A: Address> Block<A> {
-    /// Without the first stretch, if the next one begins where the block does.
+    /// Returns the block without the first stretch if the next one begins where the block does.
     fn without_lower(self, next: A) -> Block<A> {
         Block { from: self.from + usize::from(next == self.low), ..self }
     }
 
-    /// Without the last stretch, if the one before it ends where the block does.
+    /// Returns the block without the last stretch if the one before it ends where the block does.
     fn without_upper(self, end: A) -> Block<A> {
         Block { to: self.to - usize::from(end == self.low + A::hosts(self.length)), ..self }
     }
@@ -87,7 +88,7 @@ impl<A: Address> Tree<A> {
         self.nodes[number].cost
     }
 
-    /// The label of a set of one label, or the least one of another set.
+    /// Returns the label of a set of one label, or the least label of another set.
     pub fn least(&self, number: usize) -> u16 {
         let set = self.nodes[number].set;
         if set.length == 1 {
@@ -106,7 +107,7 @@ impl<A: Address> Tree<A> {
         }
     }
 
-    /// Calls with the labels of a node's set, in rising order.
+    /// Calls the function with the labels of a node's set, in rising order.
     #[inline(always)]
     pub fn labels_of<T>(&self, number: usize, call: impl FnOnce(&[u16]) -> T) -> T {
         let set = self.nodes[number].set;
@@ -126,7 +127,7 @@ impl<A: Address> Tree<A> {
         self.nodes.len() - 1
     }
 
-    /// The number of the node that it makes for a block.
+    /// Builds the node of a block, and returns its number.
     fn build(&mut self, stretches: &Stretches<A>, block: Block<A>) -> usize {
         if block.from == block.to {
             let number = self.push(0);
@@ -157,7 +158,7 @@ impl<A: Address> Tree<A> {
     fn build_path(&mut self, stretches: &Stretches<A>, block: Block<A>, side: u32, end: Block<A>) -> usize {
         let mut end = furthest(stretches, side, end);
         let is_leaf = end.from == end.to && stretches.labels[end.from] == side;
-        // Of two leaves with the label the lower one is aside.
+        // Of two leaves with the label the lower one is beside the path.
         end.low = if is_leaf { end.low | A::half(end.length - 1) } else { end.low };
         let bits = end.length - block.length;
         let number = self.push(PATH | self.paths.len() as u32);
@@ -170,8 +171,7 @@ impl<A: Address> Tree<A> {
         number
     }
 
-    /// What two sets have in common, or, if that is nothing, all that they have; and whether they have anything in
-    /// common.
+    /// Returns the labels that two sets share, or all their labels if they share none, and whether they share any.
     fn join(&mut self, one: Set, other: Set) -> (bool, Set) {
         if one.length == 1 && other.length == 1 && one.start == other.start {
             return (true, one);
@@ -199,7 +199,7 @@ impl<A: Address> Tree<A> {
     }
 }
 
-/// What two rising lists of labels have in common.
+/// Appends the labels that two rising lists share.
 pub fn intersect(one: &[u16], other: &[u16], out: &mut Vec<u16>) {
     let (mut i, mut j) = (0, 0);
     while i < one.len() && j < other.len() {
@@ -212,7 +212,7 @@ pub fn intersect(one: &[u16], other: &[u16], out: &mut Vec<u16>) {
     }
 }
 
-/// All labels of two rising lists that have nothing in common.
+/// Appends all labels of two rising lists that share none.
 pub fn unite(one: &[u16], other: &[u16], out: &mut Vec<u16>) {
     let (mut i, mut j) = (0, 0);
     while i < one.len() && j < other.len() {
@@ -228,11 +228,11 @@ pub fn unite(one: &[u16], other: &[u16], out: &mut Vec<u16>) {
     out.extend_from_slice(&other[j..]);
 }
 
-/// Where a half of the block lies in one stretch: the label of what is left aside, the lower half first, and the
-/// block to which one comes by leaving aside only that.
+/// If a half of the block is in one stretch, returns the label of that half, the lower half first, and the block that
+/// is reached by leaving out halves with this label only.
 fn path_from<A: Address>(stretches: &Stretches<A>, block: Block<A>) -> Option<(u32, Block<A>)> {
     let Block { low, length, from, to } = block;
-    // What is between the first stretch and the last one goes from `first` to `last`.
+    // The stretches between the first and the last one cover the addresses from `first` to `last`.
     let (first, last) = (stretches.starts[from + 1], stretches.starts[to] - A::ONE);
     let (side, other_side) = (stretches.labels[from], stretches.labels[to]);
     if side == other_side {
@@ -253,7 +253,7 @@ fn path_from<A: Address>(stretches: &Stretches<A>, block: Block<A>) -> Option<(u
     (zeros > 0).then(|| (other_side, Block { length: length + zeros, ..block }.without_upper(last)))
 }
 
-/// The block to which one comes from a path's end by going on with the same label aside.
+/// Returns the block that is reached from a path's end by leaving out more halves with the same label.
 fn furthest<A: Address>(stretches: &Stretches<A>, side: u32, end: Block<A>) -> Block<A> {
     if end.from == end.to {
         return end;

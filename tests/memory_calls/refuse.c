@@ -1,11 +1,13 @@
-/* Refuses one request for memory of a program, for tests/memory: the dynamic linker loads it before the C library (LD_PRELOAD).
+/* Fails one allocation of a program, for tests/memory: the dynamic linker loads this library before the C library
+ * (LD_PRELOAD).
  *
- * The toolchain's heap makes each request by one call of `malloc` or `realloc`, and these stand before the library's. In the
- * environment REFUSED is the number of the request that is refused, from 1. Where MARKED is there too, only the requests
- * between the program's first write to standard output and its second are numbered. A refusal is told by the line
- * `refused` on standard error, so that a run which meets none can be told from one whose refusal is covered up.
+ * The toolchain's heap makes each allocation with one call of `malloc` or `realloc`, and these functions precede those of
+ * the C library. The environment variable REFUSED is the number of the allocation that fails, from 1. If MARKED is also
+ * set, only the allocations between the program's first write to standard output and its second one are numbered. When
+ * the allocation fails, the line `refused` is written to standard error, so that a run in which none failed can be
+ * distinguished from a run that conceals the failure.
  *
- * The names that it takes of the C library are declared here, so that no header is needed.
+ * The functions of the C library are declared here, so that no header is needed.
  */
 
 typedef unsigned long size;
@@ -31,7 +33,7 @@ __attribute__((constructor)) static void read_environment(void) {
     is_marked = getenv("MARKED") != 0;
 }
 
-/* Whether the request that is being made is the one that is refused. */
+/* Returns 1 if the current allocation is the one that fails. */
 static int is_refused(void) {
     if (refused == 0 || (is_marked && writes != 1)) {
         return 0;
