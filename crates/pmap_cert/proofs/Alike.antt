@@ -35,7 +35,7 @@ same-claim (InnerNode p' l r) (ChainNode p bits side end) e = absurd e
 same-claim (ChainNode p bits side end) t e = absurd e
 same-claim (InnerNode p l r) (InnerNode p' l' r') e = e.0
 
--- two nodes that stand for one block are alike
+-- two nodes that represent one block are alike
 pub alike : (m : MapModel) (t t' : Tree) (n q : ℕ) → StandsFor m t n q → StandsFor m t' n q → IsSameTree t t'
 alike m (LeafNode x) (LeafNode y) n q h h' = same_Some x y (sym h ∙ h')
 alike m (LeafNode x) (InnerNode p l r) n q h h' = none-some x (sym h'.0 ∙ h)
@@ -52,7 +52,7 @@ alike m (InnerNode p l r) (InnerNode p' l' r') n q h h' =
       upper,
     )
 
--- of sets that are the same the least label is the same, where the table has one of theirs
+-- equal sets have the same least label, if the table has a label of theirs
 find-some : (test : Label → Bool) (xs : List Label) (x : Label) → has xs x ≡ true → test x ≡ true →
     (y : Label) × (find test xs ≡ Some y)
 find-some test [] x h passes = absurd (false≢true h)
@@ -123,7 +123,7 @@ table-node m inside (InnerNode p l r) n q stands x h =
     (exact_pair_by-labels (claim_of l) (claim_of r) x (common_labels (claim_of l) (claim_of r))
     (λ y. has-filter (claim_of r).labels (claim_of l).labels y) (sym (same.labels x) ∙ h))
 
--- sets that are the same make the same entry and hand on the same label
+-- equal sets give the same entry and pass on the same label
 own_entry-same : (W : ℕ) (table s s' : List Label) (h : Option Label) (n q : ℕ) → has_inherited s h ≡ has_inherited s' h →
     least_label table s ≡ least_label table s' → own_entry W table s h n q ≡ own_entry W table s' h n q
 own_entry-same W table s s' h n q e f =

@@ -109,7 +109,7 @@ chain-found format most count word (cost ∷ bits ∷ side ∷ numbers) line is 
       are_numbers.1,
     )
 
--- the words of a line, which are a chain's or none
+-- the words of a line, which are those of a chain or of no chain
 pub due_words-found : (format most count : ℕ) (words : List (List ℕ)) (line : DueLine) → due_words format most count words ≡ Some line →
     SaysDue format most count line words
 due_words-found format most count [] line e = absurd (none-some line e)

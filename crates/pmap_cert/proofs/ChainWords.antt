@@ -5,7 +5,7 @@ use Rattle.prefix_keys.proofs.Printed.{Lacks}
 use Rattle.pmap_cert.specs.CertificateForm.{HasRoomBelow}
 use Rattle.pmap_cert.specs.CertificateText.{bit_digits}
 
--- a byte that is neither digit stands in no chain's bits
+-- a byte that is neither digit is not among a chain's bits
 pub Lacks-bits : (c : ℕ) (bits : List Bool) → (48 == c) ≡ false → (49 == c) ≡ false → Lacks c (bit_digits bits)
 Lacks-bits c [] zero_apart one_apart = λ k d h. absurd (omega arith)
 Lacks-bits c (true ∷ bits) zero_apart one_apart =

@@ -17,7 +17,7 @@ use Rattle.pmap_cert.proofs.Sets.{bytes_eq-same, has-own, has-single}
 abbrev side_pair : Label → Pair
 side_pair side = claim_of (LeafNode side)
 
--- pairs that are the same, one after the other
+-- equality of pairs is transitive
 same-then : (a b c : Pair) → IsSamePair a b → IsSamePair b c → IsSamePair a c
 same-then a b c e f = record { cost = e.cost ∙ f.cost; labels = λ x. e.labels x ∙ f.labels x }
 
@@ -81,7 +81,7 @@ link-lacks false side p known =
       labels = λ x. or-either-after (bytes_eq x side) (has p.labels x) ∙ sym (h.labels x);
     }
 
--- links of pairs that are the same are the same
+-- links of equal pairs are equal
 same-link : (bit : Bool) (side : Label) (p r : Pair) → IsSamePair p r → IsSamePair (link_pair bit side p) (link_pair bit side r)
 same-link true side p r same = same-exact_pair (side_pair side) p (side_pair side) r (same-itself (side_pair side)) same
 same-link false side p r same = same-exact_pair p (side_pair side) r (side_pair side) same (same-itself (side_pair side))
@@ -144,7 +144,7 @@ claim-opened m ps (LeafNode x) n q h = refl
 claim-opened m ps (InnerNode claim lower upper) n q h = refl
 claim-opened m ps (ChainNode claim bits side end) n q h = claim-chain_opened claim bits side (opened end) h.0
 
--- a claim within a pair is within one that is the same
+-- a claim within a pair is within an equal one
 pub within-same_pair : (claim e e' : Pair) → IsSamePair e e' → IsWithinExact claim e → IsWithinExact claim e'
 within-same_pair claim e e' same within = record {
   cost = omega (arith, same.cost, within.cost);
@@ -154,7 +154,7 @@ within-same_pair claim e e' same within = record {
 pub within-itself : (e : Pair) → IsWithinExact e e
 within-itself e = record { cost = omega arith; labels = λ cost x h. h }
 
--- the pair of a link by what stands at its end: the end itself or a link more
+-- the pair of a link, by its end: the end itself or one more link
 pair-links : (bit : Bool) (bits : List Bool) (side : Label) (t : Tree) →
     IsSamePair (chain_pair (suc (length bits)) side (claim_of t)) (link_pair bit side (claim_of (links bits side t)))
 pair-links bit [] side t = pair-first bit side (claim_of t)
@@ -164,7 +164,7 @@ pair-links bit (next ∷ bits) side t =
     (pair-more bit (length bits) side (claim_of t))
 
 module _ (m : MapModel) (ps : List Prefix) (side : Label) where
-  -- a link is accepted where its leaf, its other node and its claim are
+  -- a link is accepted if its leaf, its other node and its claim are
   link-accepted : (claim : Pair) (bit : Bool) (t : Tree) (n q : ℕ) → n < width_of m.version →
       IsLeafAccepted m ps side (suc n) (side_half bit q) → IsNodeAccepted m ps t (suc n) (chosen_half bit q) →
       IsWithinExact claim (link_pair bit side (claim_of t)) → IsNodeAccepted m ps (link claim bit side t) n q
@@ -200,7 +200,7 @@ module _ (m : MapModel) (ps : List Prefix) (side : Label) where
   bits-end IsEnd IsOther other (bit ∷ bits) n q h =
       (h.0, h.1, bits-end IsEnd IsOther other bits (suc n) (chosen_half bit q) h.2)
 
-  -- some block stands at the end of the way
+  -- the way ends at some block
   at-end : (IsEnd : ℕ → ℕ → Type 0) (bits : List Bool) (n q : ℕ) → AreBitsAccepted m ps side IsEnd bits n q →
       (n' : ℕ) × (q' : ℕ) × IsEnd n' q'
   at-end IsEnd [] n q h = (n, q, h)

@@ -14,7 +14,7 @@ use Rattle.pmap_cert.proofs.Compacts.{by_format}
 use Rattle.pmap_cert.proofs.Runs.{by_run, plain-run}
 
 module _ (table : List Label) where
-  -- below a run's bits its end has its form
+  -- the end of a run is well formed in the room that the run's bits leave
   form-run : (side : Label) (t : Tree) (room : ℕ) → HasNodeForm table t room →
       HasRoomBelow (HasNodeForm table (run_end side t)) (run_bits side t) room
   form-run side (LeafNode x) room h = h
@@ -31,7 +31,7 @@ module _ (table : List Label) where
       by_test false true low up = low
       by_test false false low up = h
 
-  -- the side label is that of a leaf
+  -- the side label is the label of a leaf
   side-known : (lower upper : Tree) (room : ℕ) (side : Label) → HasNodeForm table lower room → HasNodeForm table upper room →
       side_of lower upper ≡ Some side → place_of table side < length table
   side-known (LeafNode x) upper room side low up e =

@@ -27,7 +27,7 @@ use Rattle.pmap_cert.proofs.Runs.{compacted-inner, compacted-leaf}
 use Rattle.pmap_cert.proofs.Sets.{bytes_eq-same}
 use Rattle.pmap_cert.proofs.Tables.{place_of-text_at}
 
--- labels of a table are equal where their numbers are
+-- labels of a table are equal if their numbers are
 pub label-same : (table : List Label) (a b : ℕ) → IsLabelTable table → a < length table → b < length table → bytes_eq (text_at table a) (text_at table b) ≡ (a == b)
 label-same table a b ok first second = by (a == b) (bytes_eq (text_at table a) (text_at table b)) refl refl
   where
@@ -43,7 +43,7 @@ label-same table a b ok first second = by (a == b) (bytes_eq (text_at table a) (
         ne-self e is = grind (arith, e, is)
     by false false e f = f ∙ sym e
 
--- the run of a tree is that of its node
+-- the run of a tree is the run of its node
 module _ (table : List Label) (ok : IsLabelTable table) (side : ℕ) (known : side < length table) where
   side-same : (node : Node) (room : ℕ) → HasChainForm (length table) node room → is_side (text_at table side) (tree_of table node) ≡ is_leaf side node
   side-same (Leaf number) room form = label-same table number side ok form known
@@ -86,7 +86,7 @@ sides-same : (table : List Label) (lower upper : Node) → side_of (tree_of tabl
 sides-same table lower upper =
     (λ i. option_or (label-leaf table lower i) (label-leaf table upper i)) ∙ either-map (text_at table) (label_of lower) (label_of upper)
 
--- below a run's bits its end has its form
+-- the end of a run is well formed in the room that the run's bits leave
 form-down : (count side : ℕ) (node : Node) (room : ℕ) → HasChainForm count node room → HasRoomBelow (HasChainForm count (end_down side node)) (bits_down side node) room
 form-down count side (Leaf number) room h = h
 form-down count side (Chain cost set bits s end) room h = h
@@ -102,7 +102,7 @@ form-down count side (Inner cost set lower upper) (suc room) h =
     by false true low up = low
     by false false low up = h
 
--- the side label is that of a leaf
+-- the side label is the label of a leaf
 side-known : (count : ℕ) (lower upper : Node) (room side : ℕ) → HasChainForm count lower room → HasChainForm count upper room
     → option_or (label_of lower) (label_of upper) ≡ Some side → side < count
 side-known count (Leaf n) upper room side low up e = subst (λ (k : ℕ). k < count) (same_Some n side e) low
@@ -208,7 +208,7 @@ module _ (cost : ℕ) (set : List ℕ) (lower upper : Node) where
             (bits_down side whole) (suc room) (form-down count side whole (suc room) h)),
       )
 
--- the lines of a node compacted behind the old ones
+-- the lines of a compacted node follow the old ones
 pub leaf-lines : (node : Node) (number : ℕ) (old new : List DueLine) → node ≡ Leaf number → new ≡ old ++ PlainLine (LeafLine number) ∷ [] → IsCompacted node old new
 leaf-lines node number old new is pushed =
     subst (λ (n : Node). IsCompacted n old new) (sym is) (record { compact = Leaf number; is = compact-leaf number; lines = pushed })

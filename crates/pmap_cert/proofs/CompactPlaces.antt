@@ -1,4 +1,4 @@
--- Where nodes without chains stand among their lines.
+-- Where the lines of nodes without chains begin and end.
 use Rattle.std.proofs.Common.{◌≡◌, ℕ, zero, suc, ◌+◌, ◌<◌, ◌≤◌, ◌∙◌, ◌==◌, Bool, true, false, List, [], ◌∷◌, ◌++◌, All, Option, Some, None, cond, drop, get_or, length, option_map, refl, sym, ap, subst, arith, slice_index}
 use Rattle.pmap_text.specs.declared.label.LabelId.{LabelId}
 use Rattle.std.proofs.lemmas.Option.{none-some, same_Some}
@@ -9,7 +9,7 @@ use Rattle.pmap_cert.specs.Node.{AreWhole, Inner, IsPlainNode, Chain, Leaf, Node
 use Rattle.pmap_cert.specs.Placing.{AreEndsFrom, ArePlain, EndsAt, HasHalves, HasPlace, IsPlainLine, IsRunEnd, IsStep, bits_down, end_down, is_leaf, node_from}
 use Rattle.pmap_cert.proofs.NodeWalk.{IsLineOf, line-here, root-of, whole-lines, whole-next, within}
 
--- the lines of a node without chains are of none
+-- a node without chains has no line of a chain
 pub plain-lines : (node : Node) → IsPlainNode node → All IsPlainLine (lines_of node)
 plain-lines (Leaf number) plain = All-cons IsPlainLine (PlainLine (LeafLine number)) [] tt (All-nil IsPlainLine)
 plain-lines (Inner cost set lower upper) plain =
@@ -21,7 +21,7 @@ pub whole-drop : (lines : List DueLine) (k : ℕ) → AreWhole lines → AreWhol
 whole-drop lines zero whole = whole
 whole-drop lines (suc k) whole = whole-next lines k (whole-drop lines k whole)
 
--- What stands at a line: a leaf, behind which comes what comes behind it, or an inner node, behind whose line come its halves.
+-- What begins at a line: a leaf followed by the rest, or an inner node whose line is followed by its halves.
 pub data Here (lines : List DueLine) (k : ℕ) : Type 0 where
   leaf-here : (number : ℕ) (rest : List Node) (is : nodes_of (drop k lines) ≡ Leaf number ∷ rest) (next : nodes_of (drop (suc k) lines) ≡ rest) → Here lines k
   inner-here : (cost : ℕ) (set : List ℕ) (lower upper : Node) (rest : List Node) (is : nodes_of (drop k lines) ≡ Inner cost set lower upper ∷ rest)

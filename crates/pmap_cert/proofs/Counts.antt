@@ -4,7 +4,7 @@ use Rattle.prefix_keys.specs.Block.{block_number}
 use Rattle.pmap_text.specs.ListModel.{Prefix}
 use Rattle.pmap_text.proofs.Blocks.{block_number-half}
 
--- How many entries of a prefix list pass a test, as that of lying at or inside a block.
+-- How many entries of a prefix list pass a test, such as lying at or inside a block.
 
 -- the entry's block is the block of n bits with the number q; and is that block or lies inside it
 abbrev pub is_at : ℕ → ℕ → ℕ → Prefix → Bool
@@ -13,7 +13,7 @@ is_at W n q p = p.bits == n && block_number W n p.start == q
 abbrev pub is_within : ℕ → ℕ → ℕ → Prefix → Bool
 is_within W n q p = nat_le n p.bits && block_number W n p.start == q
 
--- one where the test passes
+-- 1 if the test passes
 abbrev pub one_if : Bool → ℕ
 one_if b = cond b 1 0
 
@@ -26,7 +26,7 @@ pub count_of-le : (test : Prefix → Bool) (ps : List Prefix) → count_of test 
 count_of-le test [] = omega arith
 count_of-le test (p ∷ ps) = let ih = count_of-le test ps in grind arith
 
--- none passes where the filter keeps none
+-- no entry passes if the filter keeps none
 filter-step : (b : Bool) (p : Prefix) (ps : List Prefix) → cond b (p ∷ ps) ps ≡ [] → (b ≡ false) × (ps ≡ [])
 filter-step true p ps e = cc
 filter-step false p ps e = (refl, e)
@@ -41,7 +41,7 @@ count_of-filter test (p ∷ ps) none =
 not-stronger : (a b : Bool) → (a ≡ true → b ≡ true) → one_if b ≡ 0 → a ≡ false
 not-stronger a b h e = grind arith
 
--- where no entry passes a test, none is found by a stronger one
+-- if no entry passes a test, none passes a stronger one
 pub find-none : (weak strong : Prefix → Bool) → ((p : Prefix) → strong p ≡ true → weak p ≡ true) → (ps : List Prefix) →
     count_of weak ps ≡ 0 → find strong ps ≡ None
 find-none weak strong weaker [] none = refl

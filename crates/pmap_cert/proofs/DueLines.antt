@@ -42,7 +42,7 @@ module _ (format most count : ℕ) where
   fits (ChainLine cost bits side numbers) words says = (says.0, (says.1, says.2, says.3, says.4, says.5, says.6))
 
   module _ (few : count ≤ 2 ^ 32) where
-    -- no byte below the digits stands in a word
+    -- no byte below the digits is in a word
     module _ (c : ℕ) (low : c < 48) where
       other : (b : ℕ) → 48 ≤ b → (b == c) ≡ false
       other b high = ne_eqb b c (λ e. omega (arith, e, low, high))

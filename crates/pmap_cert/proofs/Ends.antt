@@ -46,7 +46,7 @@ ends-split first middle last (m ∷ ms) le le' =
     let rest = ends-split first middle last ms le le' in
     omega arith
 
--- the same with the addresses named otherwise
+-- the ends of three runs of addresses that are named by equations
 ends-parted : (first first' middle middle' last last' : ℕ) (ms : List Mapping) → first' ≡ first → middle' ≡ middle + 1 → last' ≡ last
     → first ≤ middle → middle + 1 ≤ last → ends first' middle ms + ends middle' last' ms ≤ ends first last ms
 ends-parted first first' middle middle' last last' ms e f g le le' = rw (e, f, g) (ends-split first middle last ms le le')

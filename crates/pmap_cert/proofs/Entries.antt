@@ -15,9 +15,9 @@ use Rattle.pmap_cert.proofs.Handed.{IsInhabited, exact_pair-cost_of, handed_on-h
 use Rattle.pmap_cert.proofs.Sets.{miss}
 use Rattle.pmap_text.proofs.Settled.{unsettled-halves}
 
--- The entries of a node that stands for a block: how many they are, and that they lie within the block.
+-- The entries of a node that represents a block: how many there are, and that they lie within the block.
 
--- a node has an entry of its own where its set lacks what is inherited
+-- a node has an entry of its own if its set lacks the inherited label
 length-own_entry : (W : ℕ) (table s : List Label) (h : Option Label) (n q : ℕ) →
     length (own_entry W table s h n q) ≡ miss h s
 length-own_entry W table s h n q = by_test (has_inherited s h) (record { start = first_of W n q; bits = n; label = least_label table s })
@@ -26,7 +26,7 @@ length-own_entry W table s h n q = by_test (has_inherited s h) (record { start =
     by_test true p = refl
     by_test false p = refl
 
--- below a node that hands on a label of its set, its halves' entries number its cost
+-- below a node that passes on a label of its set, the halves have as many entries as its cost
 halves-cost : (table : List Label) (claim p r : Pair) (h : Option Label) → IsInhabited claim.labels →
     IsSamePair claim (exact_pair p r) →
     claim.cost ≡ p.cost + miss (handed_on table claim.labels h) p.labels + (r.cost + miss (handed_on table claim.labels h) r.labels)
@@ -35,7 +35,7 @@ halves-cost table claim p r h some same =
     let cost = exact_pair-cost_of p r handed.0 (sym (same.labels handed.0) ∙ handed.2) in
     rw handed.1 (same.cost ∙ cost)
 
--- the entries number the claimed cost, and one more where the set lacks what is inherited
+-- there are as many entries as the claimed cost, and one more if the set lacks the inherited label
 pub length-entries_of : (m : MapModel) (table : List Label) (t : Tree) (h : Option Label) (n q : ℕ) → StandsFor m t n q →
     length (entries_of (width_of m.version) table t h n q) ≡ (claim_of t).cost + miss h (claim_of t).labels
 length-entries_of m table (LeafNode x) h n q stands = length-own_entry (width_of m.version) table (x ∷ []) h n q ∙ omega arith
@@ -69,7 +69,7 @@ is_within-half W n q i below e p h =
     let half : block_number W n p.start ≡ block_number W (suc n) p.start / 2 = block_number-half W n p.start below in
     rw half (within-half n p.bits (block_number W (suc n) p.start) q i e h)
 
--- a test that answers alike for all entries within the block keeps all of a node's entries, or none
+-- a test with one result for all entries within the block keeps all of a node's entries, or none
 filter-own : (test : Prefix → Bool) (b k : Bool) (p : Prefix) → test p ≡ b →
     filter test (cond k [] (p ∷ [])) ≡ cond b (cond k [] (p ∷ [])) []
 filter-own test true true p e = refl

@@ -11,7 +11,7 @@ use Rattle.pmap_cert.proofs.Sets.{bytes_eq-same, has-append, has-filter}
 none-common : (y : Label) (ys : List Label) → has [] y ≡ has (y ∷ ys) y → ⊥
 none-common y ys e = both_ways (has (y ∷ ys) y) (sym e) (or_left (bytes_eq y y) (has ys y) (bytes_eq-same y))
 
--- the exact pairs of pairs that are the same are the same
+-- equal pairs have equal exact pairs
 same-exact_by : (p r p' r' : Pair) (common common' : List Label) →
     ((x : Label) → has common x ≡ (has p.labels x && has r.labels x)) →
     ((x : Label) → has common' x ≡ (has p'.labels x && has r'.labels x)) →

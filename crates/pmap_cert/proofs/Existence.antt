@@ -9,11 +9,11 @@ use Rattle.pmap_text.proofs.Settled.{unsettled-halves}
 
 -- Each map has a minimal pair: blocks are halved until they are settled, and one of full length is.
 
--- a node that stands for the block
+-- a node that represents the block
 abbrev pub NodeFor : MapModel → ℕ → ℕ → Type 0
 NodeFor m n q = (t : Tree) × StandsFor m t n q
 
--- the inner node over two nodes that stand for the halves
+-- the inner node over two nodes that represent the halves
 node_over : (m : MapModel) (n q : ℕ) → settled_label m n q ≡ None → NodeFor m (suc n) (2 * q) → NodeFor m (suc n) (2 * q + 1) →
     NodeFor m n q
 node_over m n q unsettled lower upper = (

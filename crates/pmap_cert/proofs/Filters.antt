@@ -13,7 +13,7 @@ find-filter test (x ∷ xs) = step (test x) x (filter test xs) (find test xs) (f
     step true x ys o e = refl
     step false x ys o e = e
 
--- a filter by a stronger test keeps the same of what a weaker test keeps
+-- filtering by a weaker test first changes nothing for a stronger one
 pub filter-filter : {X : Type 0} (weak strong : X → Bool) → ((x : X) → strong x ≡ true → weak x ≡ true) →
     (xs : List X) → filter strong (filter weak xs) ≡ filter strong xs
 filter-filter weak strong weaker [] = refl

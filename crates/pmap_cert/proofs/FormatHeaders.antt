@@ -127,7 +127,7 @@ format_header_by-found place number (line ∷ piece ∷ pieces) x e =
 pub format_header_at-found : (place : Place) (x : Said × Place) → format_header_at place ≡ Ok x → IsHeader place.pieces x
 format_header_at-found place x e = format_header_by-found place place.number place.pieces x e
 
--- neither a space nor a line feed stands in a word of a header
+-- no word of a header has a space or a line feed
 version-lacks : (c : ℕ) (version : Version) → Lacks c (codes "ipv4") → Lacks c (codes "ipv6") → Lacks c (version_word version)
 version-lacks c V4 four six = four
 version-lacks c V6 four six = six

@@ -38,7 +38,7 @@ pub line_due-found : (format most count : ℕ) (place : Place) (x : DueLine × P
     (text : List ℕ) × (place.pieces ≡ text ∷ x.1.pieces) × SaysDue format most count x.0 (words_of text)
 line_due-found format most count place x e = line_due_by-found format most count place place.number place.pieces x e
 
--- what was read is the lines of the tree, which has its form, and no chain in format 1
+-- the lines read are those of the tree, which is well formed and has no chain in format 1
 abbrev pub IsReadIn : List Label → ℕ → ℕ → Place → Tree × Place → Type 0
 IsReadIn table format room place x =
     (place.pieces ≡ node_lines table x.0 ++ x.1.pieces) × HasNodeForm table x.0 room × (format ≡ 1 → IsPlain x.0)
@@ -56,7 +56,7 @@ either-same false y = refl
 not-ok : (fault : CertFault) (x : Tree × Place) → ◌≡◌ {A = Result (Tree × Place) CertFault} (Err fault) (Ok x) → ⊥
 not-ok fault x e = cc
 
--- down a way of bits so many fewer can stand below one another
+-- each bit of a way leaves room for one node less below
 pub nodes_at-down : (due : Place → Result (DueLine × Place) CertFault) (table : List Label) (room down left : ℕ) (place : Place) → room ≡ down + left →
     nodes_at due table room down place ≡ nodes_at due table left zero place
 unfolding nodes_at

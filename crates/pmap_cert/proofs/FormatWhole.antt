@@ -1,4 +1,4 @@
--- A text of either format is read exactly where it is the text of a certificate.
+-- A text of either format is read exactly if it is the text of a certificate.
 use Rattle.std.proofs.Common.{◌≡◌, ◌≢◌, ℕ, true, false, ◌+◌, ◌<◌, ◌≤◌, ◌∙◌, ◌⊎◌, ◌↔◌, inl, inr, List, [], ◌∷◌, ◌++◌, Result, Ok, Err, length, refl, sym, ap, subst, arith, zero, suc, Bool, map, codes}
 use Rattle.std.specs.Result.{IfErr, IfOk}
 use Rattle.std.proofs.lemmas.Bool.{cond-false, cond-true}
@@ -74,7 +74,7 @@ nodes-lack table (InnerNode claim lower upper) (suc room) ok form =
       lacks-append 10 (node_lines table lower) (node_lines table upper) (nodes-lack table lower room ok form.2) (nodes-lack table upper room ok form.3),
     )
 
--- the steps behind the header, the labels and the nodes
+-- the steps after the header, the labels and the nodes
 abbrev Said : Type 0
 Said = ℕ × (Version × ℕ)
 
@@ -98,7 +98,7 @@ reading-steps : (text : List ℕ) → format_reading text ≡ header_then (forma
 unfolding format_reading
 reading-steps text = λ i. header_then (format_header_at (start_of text))
 
--- the pieces that each step leaves are those of the lines of a certificate
+-- the pieces that each step leaves are the lines of a certificate
 joined-pieces : (all behind_header behind_labels behind_nodes : List (List ℕ)) (format : ℕ) (version : Version) (count : ℕ) (table : List Label)
     (lines : List (List ℕ)) → all ≡ format_header format version count ∷ behind_header → behind_header ≡ table ++ behind_labels →
     behind_labels ≡ lines ++ behind_nodes → behind_nodes ≡ [] ∷ [] → count ≡ length table →
@@ -112,7 +112,7 @@ of-format : (c : CertificateModel) → IsNumbered c.format → (c.format ≡ 1 �
 of-format c (inl first) plain = inl (first, plain first)
 of-format c (inr second) plain = inr second
 
--- what is read is the text of the certificate, which has its form
+-- a text that is read is the text of the certificate, which is well formed
 pub format-found : (text : List ℕ) (c : CertificateModel) → format_reading text ≡ Ok c → HasFormatText c × (text ≡ certificate_text c)
 format-found text c e =
     let header = bind_ok (format_header_at (start_of text)) (λ (header : Said × Place). labels_then header.0.0 header.0.1.0 (labels_at header.0.1.1 [] header.1)) c
@@ -191,8 +191,7 @@ format-apart text fault c failed form e = both_results (sym failed ∙ ap format
     both_results : ◌≡◌ {A = Result CertificateModel CertFault} (Err fault) (Ok c) → ⊥
     both_results e = cc
 
--- what is read as format 1 alone is read so
--- so for what a call answers: what is read is the text of its certificate
+-- for the result of a call: a text that is read is the text of its certificate
 pub is_text : (text : List ℕ) (r : Result Certificate CertFault) → IfOk r (λ c. format_reading text ≡ Ok (certificate_of c)) → IfOk r (λ c. text ≡ certificate_text (certificate_of c))
 is_text text (Ok c) read = (format-found text (certificate_of c) read).1
 is_text text (Err fault) read = tt

@@ -7,8 +7,8 @@ use Rattle.pmap_cert.specs.ExactPair.{common_labels, exact_pair, exact_pair_by}
 use Rattle.pmap_cert.specs.MinimalPair.{StandsFor, first_label, handed_on, least_label}
 use Rattle.pmap_cert.proofs.Sets.{bytes_eq-same, has-append, has-filter, has-own, has-single, miss}
 
--- What a node of a minimal certificate hands on is a label of its set, and so its halves' entries number what its exact
--- pair says.
+-- A node of a minimal certificate passes on a label of its set, so its halves have as many entries as its exact pair
+-- says.
 
 -- the set has some label
 abbrev pub IsInhabited : List Label → Type 0
@@ -26,7 +26,7 @@ has-least_label table s some = by_find (find (has s) table) refl
     by_find None e = has-first_label s some
     by_find (Some x) e = (find_passes (has s) table x e).1
 
--- a node whose set has a label hands on one of its set
+-- a node with a nonempty set passes on a label of the set
 pub handed_on-has : (table s : List Label) (h : Option Label) → IsInhabited s →
     (x : Label) × (handed_on table s h ≡ Some x) × (has s x ≡ true)
 handed_on-has table s None some = (least_label table s, refl, has-least_label table s some)
@@ -36,7 +36,7 @@ handed_on-has table s (Some y) some = by_test (has s y) refl
     by_test true e = (y, refl, e)
     by_test false e = (least_label table s, refl, has-least_label table s some)
 
--- a leaf hands on its label
+-- a leaf passes on its label
 pub handed_on-leaf : (table : List Label) (x : Label) (h : Option Label) → handed_on table (x ∷ []) h ≡ Some x
 handed_on-leaf table x h =
     let handed = handed_on-has table (x ∷ []) h (x, has-own x) in

@@ -36,7 +36,7 @@ in_order-append P Q before (x ∷ xs) ys ordered more all rest = (
   in_order-append P Q before xs ys ordered.1 more all.1 rest,
 )
 
--- a lower start comes before, and so does a shorter block with the same start
+-- a lower start comes first, and so does a shorter block with the same start
 before-lower : (p r : Prefix) → p.start < r.start → is_before p r ≡ true
 before-lower p r h = or_left (nat_lt p.start r.start) (p.start == r.start && nat_lt p.bits r.bits) (lt-ltb _ _ h)
 

@@ -13,8 +13,8 @@ use Rattle.pmap_cert.proofs.Longest.{label_at-none, label_below-same, label_belo
 use Rattle.pmap_cert.proofs.Sets.{exact_pair-cost, has-own, miss, miss-le}
 use Rattle.pmap_text.proofs.Settled.{map_label-settled}
 
--- The bound: a list that labels a block's addresses as the map does has at least the entries there that an accepted
--- node claims, and one more where the label handed down from above isn't in the claim's set or none is.
+-- The bound: a list that labels a block's addresses as the map does has at least as many entries there as an accepted
+-- node claims, and one more if no label is passed down from above or that label isn't in the claim's set.
 
 -- a claim that holds no more than the exact pair costs no more
 claim-miss : (k k' : ℕ) (a b : Bool) → k ≤ k' → (k ≡ k' → b ≡ true → a ≡ true) → k + cond a 0 1 ≤ k' + cond b 0 1
@@ -26,7 +26,7 @@ claim-cost claim e None within = omega (arith, within.cost)
 claim-cost claim e (Some x) within =
     claim-miss claim.cost e.cost (has claim.labels x) (has e.labels x) within.cost (λ same. within.labels same x)
 
--- what is handed on by the entries of a block's own length: an entry more pays for each change
+-- what the entries of a block's own length pass on: one more entry pays for each change
 own-miss : (W : ℕ) (ps : List Prefix) (n q a : ℕ) (s : List Label) → block_number W n a ≡ q →
     miss (label_below W ps n a) s ≤ count_of (is_at W n q) ps + miss (label_below W ps (suc n) a) s
 own-miss W ps n q a s e = by_count (count_of (is_at W n q) ps) refl
@@ -52,7 +52,7 @@ first_of-upper W n q below =
     let g : block_number W (suc n) (first_of W (suc n) (2 * q + 1)) / 2 ≡ (2 * q + 1) / 2 = ap (λ (i : ℕ). i / 2) f in
     omega arith
 
--- where no entry lies within a block, what is handed down is the label of its first address
+-- if no entry lies within a block, the label of its first address is passed down
 label_below-alone : (W : ℕ) (ps : List Prefix) (n q : ℕ) → n ≤ W → count_of (is_within W n q) ps ≡ 0 →
     label_below W ps (suc W) (first_of W n q) ≡ label_below W ps n (first_of W n q)
 label_below-alone W ps n q le none =
@@ -60,7 +60,7 @@ label_below-alone W ps n q le none =
     ap (λ (j : ℕ). label_below W ps j (first_of W n q)) e
     ∙ label_below-within W ps n (suc W - n) q (first_of W n q) (omega arith) (block_number-first_of W n q) none
 
--- what is handed down to the halves is alike
+-- both halves inherit the same label
 pub label_below-lower : (W : ℕ) (ps : List Prefix) (n q : ℕ) → n < W →
     label_below W ps (suc n) (first_of W (suc n) (2 * q)) ≡ label_below W ps (suc n) (first_of W n q)
 label_below-lower W ps n q below = ap (label_below W ps (suc n)) (first_of-lower W n q below)
@@ -96,7 +96,7 @@ halves-bound W ps n q claim p r below within lower upper =
 module _ (m : MapModel) (es ps : List Prefix)
     (right : (a : ℕ) → a < 2 ^ width_of m.version →
     label_below (width_of m.version) ps (suc (width_of m.version)) a ≡ Some (map_label m a)) where
-  -- the bound at a leaf: where no entry lies within the block, its label is handed down
+  -- the bound at a leaf: if no entry lies within the block, its label is passed down
   leaf-miss : (x : Label) (n q : ℕ) → n ≤ width_of m.version → q < 2 ^ n → IsSettled m n q x →
       count_of (is_within (width_of m.version) n q) ps ≡ 0 →
       miss (label_below (width_of m.version) ps n (first_of (width_of m.version) n q)) (x ∷ []) ≡ 0

@@ -25,7 +25,7 @@ use Rattle.pmap_cert.proofs.Numbers.{decimal-digits, decimal_value-decimal, is_d
 pub reads_none : {A : Type 0} (Begins : A → List ℕ → Type 0) → ((x : A) (rest : List ℕ) → Begins x rest → ⊥) → Reads Begins None
 reads_none Begins never = record { right = tt; only = λ x rest begins. absurd (never x rest begins) }
 
--- two readings of one text read the same
+-- two readings of one text have one result
 pub read_same : {A : Type 0} (x y : A) (xs ys : List ℕ) → ◌≡◌ {A = Option (A × List ℕ)} (Some (x, xs)) (Some (y, ys)) → (x ≡ y) × (xs ≡ ys)
 read_same x y xs ys e = let same = same_Some _ _ e in (ap (λ p. p.0) same, ap (λ p. p.1) same)
 
@@ -111,7 +111,7 @@ grows-take ds zero n = grows ds n
 grows-take [] (suc at) n = omega arith
 grows-take (d ∷ ds) (suc at) n = grows-take ds at (step n d)
 
--- digits that are one alone, or the first of which is no 0, are the decimal text of their value
+-- digits of which there is one, or the first is not 0, are the decimal text of their value
 no_zero : (word : List ℕ) → (length word ≡ 1) ⊎ (get_or word 0 0 ≢ 48) → not (not (length word == 1) && (get_or word 0 0 == 48)) ≡ true
 no_zero word (inl one) = rw (eq-eqb (length word) 1 one) refl
 no_zero word (inr other) = rw (ne_eqb (get_or word 0 0) 48 other) (by (not (length word == 1)))
@@ -134,7 +134,7 @@ decimal-plain zero small long first = omega (arith, long, ap (λ (t : List ℕ).
 decimal-plain (suc n) small long first =
     let front = first_decimal (suc n) (omega arith) (omega (arith, small)) in omega (arith, front, first)
 
--- A number after a space, of which so many digits were read.
+-- A number after a space.
 module _ (bound : ℕ) (few : bound ≤ 2 ^ 32) (text digits : List ℕ) (space : text ≡ 32 ∷ digits) where
   abbrev Number : ℕ → List ℕ → Type 0
   Number = BeginsWithNumber bound text
@@ -198,7 +198,7 @@ module _ (bound : ℕ) (few : bound ≤ 2 ^ 32) (text digits : List ℕ) (space 
                     (sym (ap (λ (t : List ℕ). get_or t 0 0) (begins m rest number) ∙ get_or_append_left (decimal m) rest 0 0 some) ∙ first)
               ]
 
--- Bits after a space, of which so many were read.
+-- Bits after a space.
 module _ (most : ℕ) (text digits : List ℕ) (space : text ≡ 32 ∷ digits) where
   abbrev Bits : List Bool → List ℕ → Type 0
   Bits = BeginsWithBits most text
@@ -271,7 +271,7 @@ words-ended (n ∷ ns) rest = subst (GoesOnWithout is_digit) (sym (words-more n 
 first-apart : (a b : ℕ) (xs ys text : List ℕ) → text ≡ a ∷ xs → text ≡ b ∷ ys → a ≢ b → ⊥
 first-apart a b xs ys text e f apart = apart (ap (λ (t : List ℕ). get_or t 0 0) (sym e ∙ f))
 
--- A set of which these numbers were read: the whole is these and what the rest begins with.
+-- A set that is read in part: the whole is the numbers so far and those that the rest begins with.
 pub record IsReadTo (bound low : ℕ) (text ns rest : List ℕ) : Type 0 where
   pub into : (tail r : List ℕ) → BeginsWithSet bound low rest tail r → BeginsWithSet bound 0 text (ns ++ tail) r
   pub only :

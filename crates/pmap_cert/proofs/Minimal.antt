@@ -103,7 +103,7 @@ module _ (m : MapModel) (table : List Label) (ps : List Prefix) where
         ∙ handed_on-leaf table x h;
   }
 
-  -- an inner node's own entry and those of its halves, told apart
+  -- an inner node's own entry and those of its halves, separately
   inner-own : (claim : Pair) (lower upper : Tree) (h : Option Label) (n q : ℕ) → n < width_of m.version →
       StandsFor m (InnerNode claim lower upper) n q →
       filter (is_within (width_of m.version) n q) ps ≡ entries_of (width_of m.version) table (InnerNode claim lower upper) h n q →
@@ -160,7 +160,7 @@ module _ (m : MapModel) (table : List Label) (ps : List Prefix) where
       (filter-entries_of m table (is_within (width_of m.version) (suc n) (2 * q + 1)) true upper
       (handed_on table claim.labels h) (suc n) (2 * q + 1) below stands.3 (λ p w. w))
 
-  -- a list whose entries within a block are those of a node that stands for it
+  -- a list whose entries within a block are those of a node that represents it
   pub accepted-node : (t : Tree) (h : Option Label) (n q : ℕ) → n ≤ width_of m.version → StandsFor m t n q →
       filter (is_within (width_of m.version) n q) ps ≡ entries_of (width_of m.version) table t h n q →
       label_below (width_of m.version) ps n (first_of (width_of m.version) n q) ≡ h →

@@ -16,7 +16,7 @@ SaysNode count (LeafLine number) words = (words ≡ codes "l" ∷ decimal number
 SaysNode count (InnerLine cost numbers) words =
     (words ≡ codes "n" ∷ decimal cost ∷ map decimal numbers) × (cost < 2 ^ 32) × IsRising count 0 numbers
 
--- where both are some
+-- both are some
 pub both_some : {A B : Type 0} (p : Option A) (q : Option B) (z : A × B) → both p q ≡ Some z → (p ≡ Some z.0) × (q ≡ Some z.1)
 both_some None q z e = absurd (none-some z e)
 both_some (Some x) None z e = absurd (none-some z e)

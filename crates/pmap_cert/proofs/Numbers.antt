@@ -15,7 +15,7 @@ use Rattle.prefix_keys.specs.Text.{decimal_number, decimal_value, is_digit}
 use Rattle.pmap_cert.specs.CertificateForm.{IsRising}
 use Rattle.pmap_cert.specs.FormatReading.{number_below, onto_numbers, rising_numbers}
 
--- a digit is no byte below the digits, and stands for its number
+-- a digit is no byte below the digits, and has its number as its value
 digit-other : (c d : ℕ) → c < 48 → d < 10 → (digit_glyph false d == c) ≡ false
 digit-other c d low h = rw (lt-ltb d 10 h) (ne_eqb (48 + d) c (λ e. omega arith))
 
@@ -28,7 +28,7 @@ Lacks-decimal c n low small = All-digits 10 (omega arith) (λ b. (b == c) ≡ fa
 pub decimal_value-decimal : (n : ℕ) → n < 2 ^ 63 → decimal_value (decimal n) ≡ n
 decimal_value-decimal n small = fold-digits 10 (omega arith) (λ b. b - 48) digit-value n small
 
--- a number is read where its decimal text is written, and nowhere else
+-- a number is read from its decimal text, and from no other
 pub number_below-decimal : (bound n : ℕ) → n < bound → n < 2 ^ 63 → number_below bound (decimal n) ≡ Some n
 number_below-decimal bound n h small =
     let text : List ℕ = decimal n in
@@ -49,7 +49,7 @@ pub option_map_some : {A B : Type 0} (f : A → B) (o : Option A) (y : B) → op
 option_map_some f None y e = absurd (none-some y e)
 option_map_some f (Some x) y e = (x, refl, cc)
 
--- the first of rising numbers and those behind it
+-- the first of rising numbers and those after it
 onto-found : (low : ℕ) (o : Option ℕ) (others : ℕ → Option (List ℕ)) (ns : List ℕ) → onto_numbers low o others ≡ Some ns
     → (n : ℕ) × (rest : List ℕ) × (o ≡ Some n) × (low ≤ n) × (others (n + 1) ≡ Some rest) × (n ∷ rest ≡ ns)
 onto-found low None others ns e = absurd (none-some ns e)
@@ -95,7 +95,7 @@ own = numerals_by_fold _ (search rules) (λ n ds. fold (λ m b. m * 10 + (b - 48
 pub decimal-digits : (n : ℕ) → n < 2 ^ 32 → list_all is_digit (decimal n) ≡ true
 decimal-digits n small = digits_decimal own n (omega (arith, small))
 
--- a word is the decimal text of its value exactly where it is of digits without a leading zero
+-- a word is the decimal text of its value exactly if it has digits alone and no leading zero
 or-side : (a b : Bool) → (a || not b) ≡ true → b ≡ true → a ≡ true
 or-side true b h e = refl
 or-side false true h e = h
@@ -174,7 +174,7 @@ decimal_number-found word n e =
     let same : decimal_value word ≡ n = found.1 in
     (leb-true _ _ some.0, digits.0, same, omega (arith, small, same))
 
--- it is below the bound where it is less and no 0 begins a longer word
+-- a word is a number below the bound if its value is, and no 0 begins a longer word
 pub number_below-read : (bound n : ℕ) (word : List ℕ) → decimal_number 10 4294967295 word ≡ Some n
     → number_below bound word ≡ cond (not (not (length word == 1) && (get_or word 0 0 == 48)) && ltb n bound) (Some n) None
 number_below-read bound n word e =

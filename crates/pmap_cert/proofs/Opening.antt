@@ -11,7 +11,7 @@ use Rattle.pmap_cert.proofs.Chains.{bits-end, pair-by_bits, within-itself, withi
 use Rattle.pmap_cert.proofs.Sets.{bytes_eq-same, has-append, has-filter}
 
 -- What holds no more than exact pairs along a chain's way holds no more than the chain's pair, so a node with chains is
--- accepted where the one that it opens to is.
+-- accepted if the one that it opens to is.
 
 -- holding no more carries over
 within-then : (a b c : Pair) → IsWithinExact a b → IsWithinExact b c → IsWithinExact a c
@@ -32,7 +32,7 @@ less-apart k l k' l' h h' e = (omega arith, omega arith)
 less-common : (k l k' l' : ℕ) → k ≤ k' → l ≤ l' → k + l ≡ k' + l' → (k ≡ k') × (l ≡ l')
 less-common k l k' l' h h' e = (omega arith, omega arith)
 
--- where the lower pairs have no common label, but the upper ones have one, one of the lower costs is less
+-- if the lower pairs have no common label and the upper ones have one, one of the lower costs is less
 within-either : (k l k' l' : ℕ) (a b c d : Bool) → k ≤ k' → l ≤ l' → k + l + 1 ≡ k' + l' → (k ≡ k' → c ≡ true → a ≡ true) →
     (l ≡ l' → d ≡ true → b ≡ true) → (c && d) ≡ true → (a || b) ≡ true
 within-either k l k' l' a b c d h h' e f g known = grind arith
@@ -150,7 +150,7 @@ within-chain claim (bit ∷ bits) side e some within =
     within-same_pair claim (pair_by_bits (bit ∷ bits) side e) (chain_pair (length (bit ∷ bits)) side e)
     (same-back (chain_pair (length (bit ∷ bits)) side e) (pair_by_bits (bit ∷ bits) side e) (pair-by_bits bit bits side e)) within
 
--- where what a node opens to is accepted, so is the node
+-- a node is accepted if the node that it opens to is
 pub opening-accepted : (m : MapModel) (ps : List Prefix) (c : Tree) (t : Tree) (n q : ℕ) → OpensTo c t →
     IsNodeAccepted m ps t n q → IsNodeAccepted m ps c n q
 opening-accepted m ps (LeafNode x) (LeafNode y) n q is h = subst (λ (z : Label). IsNodeAccepted m ps (LeafNode z) n q) (sym is) h

@@ -12,13 +12,13 @@ use Rattle.pmap_cert.specs.declared.nodes.Packed.TheVariants.{Chain, Inner, Leaf
 use Rattle.pmap_cert.specs.declared.nodes.PackedChain.{PackedChain}
 use Rattle.pmap_cert.specs.declared.pool.SetId.{SetId}
 
--- a piece of a list stays where more comes after it
+-- a piece of a list stays if more is appended
 same-piece : {A : Type 0} (xs more : List A) (from end : ℕ) → from ≤ end → end ≤ length xs → slice_range (xs ++ more) from end ≡ slice_range xs from end
 same-piece xs more from end le within =
     ap (take (end - from)) (drop-append-le from xs more (omega arith))
     ∙ take-append-le (end - from) (drop from xs) more (omega (arith, length-drop from xs))
 
--- a set that is kept stays where more is kept
+-- a set in the pool stays if more is appended
 module _ (pool more : List LabelId) where
   same-count : (place : ℕ) → place < length pool → count_at (pool ++ more) place ≡ count_at pool place
   same-count place inside = ap (λ (id : LabelId). id.0) (get_or_append_left pool more (record { 0 = 0 }) place inside)
@@ -97,13 +97,13 @@ module _ (s s' : Store) (m : IsMore s s') where
       let rest = same-lines ps (All-tail (IsPacked s) p ps has) in
       λ i. first i ∷ rest i
 
--- the lines, of which some may have come behind others, are those of the code
+-- the lines are those of the code, some of which may have been appended
 pub record ArePackedAs (s : Store) (ps : List Packed) (lines : List DueLine) : Type 0 where
   pub packed : All (IsPacked s) ps
   pub are : map (line_in s) ps ≡ lines
 
 module _ (s s' : Store) (ps : List Packed) (lines : List DueLine) (m : IsMore s s') (packed : All (IsPacked s) ps) (view : map (line_in s) ps ≡ lines) where
-  -- where more is kept, the lines stay
+  -- the lines stay if more is appended to the store
   pub more-kept : (ps' : List Packed) → ps' ≡ ps → ArePackedAs s' ps' lines
   more-kept ps' same =
       subst (λ (l : List Packed). ArePackedAs s' l lines) (sym same)

@@ -12,7 +12,7 @@ use Rattle.pmap_cert.specs.FormatReading.{is_ended, line_from, pieces_of, words_
 use Rattle.pmap_cert.specs.CertificateText.{line_of, text_of_lines}
 use Rattle.pmap_cert.specs.Words.{words_behind}
 
--- where a byte was found, and where it was not
+-- a byte that is found, and one that is not
 pub found_at : {X : Type 0} (p : X → Bool) (text : List X) (end : ℕ) → position p text ≡ Some end → (position_or_len p text < length text) × (position_or_len p text ≡ end)
 found_at p text end e =
     let found = cond_some (ltb (position_or_len p text) (length text)) (position_or_len p text) end e in
@@ -25,16 +25,16 @@ found_nowhere p text e = by (ltb (position_or_len p text) (length text)) refl
     by true h = absurd (none-some _ (sym e ∙ ap (λ b. cond b (Some (position_or_len p text)) None) h))
     by false h = ltb-false _ _ h
 
--- there is a first piece
+-- a text has a first piece
 pub split_some : (p : ℕ → Bool) (text : List ℕ) → 0 < length (slice_split p text)
 split_some p text = omega (arith, length-slice_split p text)
 
--- a line has a piece behind it
+-- a line is followed by a piece
 pub line_from-cons : (number : ℕ) (line : List ℕ) (rest : List (List ℕ)) → 0 < length rest → line_from number (line ∷ rest) ≡ Some (line, record { number = number + 1; pieces = rest })
 line_from-cons number line [] h = absurd (omega arith)
 line_from-cons number line (piece ∷ pieces) h = refl
 
--- the next line of a text, where it has a line feed
+-- the next line of a text with a line feed
 pub line_from-feed : (number : ℕ) (text : List ℕ) (end : ℕ) → position (λ b. b == 10) text ≡ Some end → line_from number (pieces_of text) ≡ Some (take end text, record { number = number + 1; pieces = pieces_of (drop (end + 1) text) })
 line_from-feed number text end e =
     let p : ℕ → Bool = λ b. b == 10 in
@@ -43,7 +43,7 @@ line_from-feed number text end e =
     (ap (line_from number) (slice_split_first p text 0 found.0)
     ∙ line_from-cons number (before_first p text) (slice_split p (after_first p text)) (split_some p (after_first p text)))
 
--- and where it has none
+-- and of a text without one
 pub line_from-whole : (number : ℕ) (text : List ℕ) → position (λ b. b == 10) text ≡ None → line_from number (pieces_of text) ≡ None
 line_from-whole number text e = ap (line_from number) (split-whole (λ b. b == 10) text (found_nowhere (λ b. b == 10) text e))
 
@@ -68,7 +68,7 @@ is_ended-pieces (b ∷ bs) = by (b == 10) refl ∙ sym (ne_eqb (length (b ∷ bs
     by true e = rw e (is_ended-two ([] ∷ pieces_of bs) (omega (arith, split_some (λ b. b == 10) bs)))
     by false e = rw e (is_ended-begun b (pieces_of bs) (split_some (λ b. b == 10) bs))
 
--- the lines of a text that ends behind a line feed
+-- the lines of a text that ends with a line feed
 joined-lines : (lines : List (List ℕ)) → join_with_byte 10 (lines ++ [] ∷ []) ≡ text_of_lines lines
 joined-lines [] = refl
 joined-lines (line ∷ []) = sym (append_assoc line (10 ∷ []) [])
@@ -94,11 +94,11 @@ words-line word (next ∷ words) first rest =
     slice_split_at (λ b. b == 32) word 32 (line_of (next ∷ words)) first (eq-eqb 32 32 refl)
     ∙ ap (λ words. word ∷ words) (words-line next words rest.0 rest.1)
 
--- a line is that of its words
+-- a line is its words with spaces between
 pub line-words : (line : List ℕ) (words : List (List ℕ)) → words_of line ≡ words → line ≡ line_of words
 line-words line words e = sym (join_with_byte-slice_split 32 line) ∙ ap line_of e
 
--- the first word of a line, and those behind its first space
+-- the first word of a line, and those after its first space
 pub words_of-space : (text : List ℕ) (end : ℕ) → position (λ b. b == 32) text ≡ Some end → words_of text ≡ take end text ∷ words_behind (Some (drop (end + 1) text))
 words_of-space text end e =
     let p : ℕ → Bool = λ b. b == 32 in

@@ -10,7 +10,7 @@ use Rattle.pmap_cert.specs.Node.{Chain, HasChainForm, HasNumberForm, Inner, IsPl
 use Rattle.pmap_cert.specs.declared.format.Format.{Format}
 use Rattle.pmap_cert.specs.declared.format.Format.TheVariants.{One, Two}
 
--- a node that stands for a block has no chain
+-- a node that represents a block has no chain
 pub plain-stands : (m : MapModel) (t : Tree) (n q : ℕ) → StandsFor m t n q → IsPlain t
 plain-stands m (LeafNode x) n q h = tt
 plain-stands m (InnerNode claim lower upper) n q h =

@@ -143,7 +143,7 @@ module _ (format : Format) (most : ℕ) (table : List Label) where
   chain-bits place after cost bits side numbers is =
       let said = line_due-found (format_number format) most (length table) place (ChainLine cost bits side numbers, after) is in said.2.3
 
-  -- a node and its lines behind the old ones
+  -- a node whose lines follow the old ones
   pub read-leaf : (room : ℕ) (place after : Place) (number : ℕ) (old new : List DueLine) → due_in place ≡ Ok (PlainLine (LeafLine number), after)
       → new ≡ old ++ PlainLine (LeafLine number) ∷ [] → IsReadNode format most table room place old new after
   read-leaf room place after number old new due is =

@@ -223,7 +223,7 @@ side-less x (suc steps) (InnerNode claim lower upper) h has =
     (side_of lower upper) (λ side e long known. absurd (false≢true known))
     (λ short known. ap₂ ◌||◌ (sym (side-same x steps lower h.0)) (sym (side-same x steps upper h.1)) ∙ known) has
 
--- where a node has a leaf with the label in a half, a run of that label has a bit
+-- if a half of a node is a leaf with the label, the run of that label has a bit
 run-some : (x : Label) (t : Tree) → has_side x t ≡ true → 0 < length (run_bits x t)
 run-some x (LeafNode y) h = absurd (false≢true h)
 run-some x (ChainNode claim bits side end) h = absurd (false≢true h)
@@ -234,7 +234,7 @@ run-some x (InnerNode claim lower upper) h = by_test (is_side x lower) (is_side 
     by_test false true h = omega arith
     by_test false false h = absurd (false≢true h)
 
--- so beside a leaf no inner node with a leaf of the same label stands where the run is short
+-- so if the run is short, no half is an inner node with a leaf of the same label beside it
 abbrev IsLong : Pair → Tree → Tree → Type 0
 IsLong claim lower upper =
     (side : Label) × (side_of lower upper ≡ Some side) × (nat_le 2 (length (run_bits side (InnerNode claim lower upper))) ≡ true)

@@ -42,7 +42,7 @@ has-filter s (y ∷ xs) x =
     (has-filter s xs x)
     (has-cond (has s y) (y ∷ filter (has s) xs) (filter (has s) xs) x)
 
--- what a label costs that is handed down to a block whose set is s: nothing where the set has it, else one entry
+-- what a label costs that a block whose set is s inherits: nothing if the set has it, otherwise one entry
 abbrev pub miss : Option Label → List Label → ℕ
 miss h s = cond (has_inherited s h) 0 1
 

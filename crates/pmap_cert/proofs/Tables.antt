@@ -89,7 +89,7 @@ labels_at-found (suc left) table place x e ok few =
       omega (arith, rest.4),
     )
 
--- a label behind others is none of them
+-- a label that is appended differs from the earlier ones
 place-before : {X : Type 0} (p : X → Bool) (xs ys : List X) → position_or_len p xs < length xs → position_or_len p (xs ++ ys) ≡ position_or_len p xs
 place-before p [] ys h = absurd (omega arith)
 place-before p (x ∷ xs) ys h = by (p x) refl (λ less. place-before p xs ys less)

@@ -16,7 +16,7 @@ use Rattle.pmap_cert.specs.Node.{Chain, HasChainForm, Inner, Leaf, Node, line_te
 use Rattle.pmap_cert.proofs.ChainWords.{end-room, other-room}
 use Rattle.pmap_cert.proofs.Tables.{place_of-text_at, places-texts}
 
--- numbers behind a word, each with the space before it
+-- numbers after a word, each with the space before it
 pub joined-numbers : (word : List ℕ) (ns : List ℕ) → join_with_byte 32 (word ∷ map decimal ns) ≡ word ++ flat_map (λ n. 32 ∷ decimal n) ns
 joined-numbers word [] = sym (append-nil word)
 joined-numbers word (n ∷ ns) = ap (λ text. word ++ 32 ∷ text) (joined-numbers (decimal n) ns)

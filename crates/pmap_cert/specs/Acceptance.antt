@@ -33,11 +33,11 @@ AreBitsAccepted m ps side IsEnd (bit ∷ bits) n q =
     (n < width_of m.version) × IsLeafAccepted m ps side (suc n) (side_half bit q)
     × AreBitsAccepted m ps side IsEnd bits (suc n) (chosen_half bit q)
 
--- The node is accepted for the block of n bits with the number q: a leaf where the map settles the block with its label
--- and the list decides it alike by that label; an inner node where the block has halves, its nodes are accepted for
--- them, and its claim holds no more than the exact pair of their claims; a chain where it has a bit, the blocks beside
--- its way are accepted as leaves with its side label, its end is accepted for the block at the way's end, and its claim
--- holds no more than the chain's exact pair.
+-- The node is accepted for the block of n bits with the number q: a leaf if the map settles the block with its label
+-- and the list decides it alike by that label; an inner node if the block has halves, its nodes are accepted for them,
+-- and its claim holds no more than the exact pair of their claims; a chain if it has a bit, the blocks beside its way
+-- are accepted as leaves with its side label, its end is accepted for the block at the way's end, and its claim holds
+-- no more than the chain's exact pair.
 abbrev pub IsNodeAccepted : MapModel → List Prefix → Tree → ℕ → ℕ → Type 0
 IsNodeAccepted m ps (LeafNode x) n q = IsLeafAccepted m ps x n q
 IsNodeAccepted m ps (InnerNode claim lower upper) n q =

@@ -10,7 +10,7 @@ use Rattle.pmap_cert.specs.Chain.{IsOfFormat}
 -- The certificates that have a text: each label is in the table, sets are listed by rising numbers, costs are below
 -- 2 ^ 32, and no inner node is as deep as an address has bits, nor does a chain go deeper.
 
--- the numbers rise, none equal to another; all are below the bound, and none is below low
+-- the numbers strictly rise, are below the bound, and not below low
 abbrev pub IsRising : ℕ → ℕ → List ℕ → Type 0
 IsRising bound low [] = Unit {0}
 IsRising bound low (n ∷ ns) = (low ≤ n) × (n < bound) × IsRising bound (n + 1) ns
@@ -19,8 +19,7 @@ pub IsRising-prop : (bound low : ℕ) (ns : List ℕ) → IsProp (IsRising bound
 IsRising-prop bound low [] = Unit-prop
 IsRising-prop bound low (n ∷ ns) = λ x y i. (le_prop x.0 y.0 i, le_prop x.1 y.1 i, IsRising-prop bound (n + 1) ns x.2 y.2 i)
 
--- Where at most so many nodes stand one inside the other from a chain on, each of its bits counting as one, the node at
--- the end of its bits has as much room below it as it has to have.
+-- A chain in a room of so many nested nodes leaves enough room for the node at its end: each of its bits counts as one.
 abbrev pub HasRoomBelow : (ℕ → Type 0) → List Bool → ℕ → Type 0
 HasRoomBelow Fits [] room = Fits room
 HasRoomBelow Fits (bit ∷ bits) zero = ⊥

@@ -5,7 +5,7 @@ use Rattle.pmap_text.specs.MapModel.{Label}
 
 -- A certificate as contracts see it: a binary tree over the address space, with label texts.
 
--- a cost and a set of labels; the set is a list of which only what it has counts
+-- a cost and a set of labels; the order of the set's list doesn't count
 pub record Pair : Type 0 where
   pub cost : ℕ
   pub labels : List Label
@@ -15,9 +15,9 @@ abbrev pub has : List Label → Label → Bool
 has s x = has_label s x
 
 -- A node: a leaf with a label, an inner node with what it claims of its block and the nodes of the block's halves, or a
--- chain. A chain stands for inner nodes one inside the other, each with a leaf in one half and the way on in the other:
--- it has what the first of them claims, for each from there down whether the way goes on in the upper half, the one
--- label of all the leaves beside the way, and the node at the way's end.
+-- chain. A chain represents nested inner nodes, each with a leaf in one half and the next node in the other. It has
+-- the claim of the first of them, a bit for each of them that is 1 if the way continues in the upper half, the one
+-- label of all leaves beside the way, and the node at the way's end.
 pub data Tree : Type 0 where
   LeafNode : (x : Label) → Tree
   InnerNode : (claim : Pair) (lower upper : Tree) → Tree
@@ -29,8 +29,8 @@ claim_of (LeafNode x) = record { cost = 0; labels = x ∷ [] }
 claim_of (InnerNode claim lower upper) = claim
 claim_of (ChainNode claim bits side end) = claim
 
--- a certificate: its format, 1 or 2, of which 1 never has chains, the version of its addresses, its label table and its
--- root, which stands for the address space
+-- a certificate: its format, 1 or 2 (1 has no chains), the version of its addresses, its label table and its root,
+-- which represents the address space
 pub record CertificateModel : Type 0 where
   pub format : ℕ
   pub version : Version

@@ -7,10 +7,10 @@ use Rattle.prefix_keys.specs.declared.version.Version.TheVariants.{V4, V6}
 use Rattle.pmap_text.specs.MapModel.{Label}
 use Rattle.pmap_cert.specs.CertificateModel.{CertificateModel, ChainNode, InnerNode, LeafNode, Tree}
 
--- The text of a certificate of either format: lines of words with a space between each two, and a line feed behind each
--- line.
+-- The text of a certificate of either format: lines of words with one space between two, each line ended by a line
+-- feed.
 
--- the number of a label: its place in the table, from 0, or the table's length where the table hasn't got it
+-- the number of a label: its index in the table, or the table's length if the table lacks it
 abbrev pub place_of : List Label → Label → ℕ
 place_of table x = position_or_len (bytes_eq x) table
 
@@ -31,7 +31,7 @@ abbrev pub format_header : ℕ → Version → ℕ → List ℕ
 format_header format version count =
     line_of (codes "flowlabel-cert" ∷ format_word format ∷ version_word version ∷ decimal count ∷ [])
 
--- that of format 1
+-- the header of format 1
 abbrev pub header_line : Version → ℕ → List ℕ
 header_line version count = format_header 1 version count
 
@@ -43,7 +43,7 @@ leaf_line number = line_of (codes "l" ∷ decimal number ∷ [])
 abbrev pub inner_line : ℕ → List ℕ → List ℕ
 inner_line cost numbers = line_of (codes "n" ∷ decimal cost ∷ map decimal numbers)
 
--- the digits of a chain's bits: 1 where the way goes on in the upper half
+-- the digits of a chain's bits: 1 if the way continues in the upper half
 abbrev pub bit_digits : List Bool → List ℕ
 bit_digits bits = map (λ bit. if bit then 49 else 48) bits
 

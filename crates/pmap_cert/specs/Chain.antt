@@ -3,7 +3,7 @@ use Rattle.pmap_text.specs.MapModel.{Label}
 use Rattle.pmap_cert.specs.CertificateModel.{CertificateModel, ChainNode, InnerNode, LeafNode, Pair, Tree, claim_of, has}
 use Rattle.pmap_cert.specs.ExactPair.{exact_pair}
 
--- Chains: their exact pair, and the inner nodes and leaves that they stand for.
+-- Chains: their exact pair, and the inner nodes and leaves that they represent.
 
 -- the set of a chain of so many bits whose end's set lacks the side label: for one bit the end's set and the side
 -- label, for more the side label alone
@@ -35,7 +35,7 @@ abbrev pub links : List Bool → Label → Tree → Tree
 links [] side end = end
 links (bit ∷ bits) side end = link (chain_pair (suc (length bits)) side (claim_of end)) bit side (links bits side end)
 
--- the same with the top's own claim in place of the pair
+-- a chain opened, with the top's own claim in place of the exact pair
 abbrev pub chain_opened : Pair → List Bool → Label → Tree → Tree
 chain_opened claim [] side end = end
 chain_opened claim (bit ∷ bits) side end = link claim bit side (links bits side end)

@@ -23,7 +23,7 @@ is_side side (LeafNode x) = bytes_eq x side
 is_side side _ = false
 
 -- The longest run of a side label from a node down: the halves that are chosen as long as the other half is a leaf with
--- the side label (where both are, the upper one is chosen) ..
+-- the side label (if both are, the upper one is chosen) ..
 abbrev pub run_bits : Label → Tree → List Bool
 run_bits side (InnerNode claim lower upper) =
     if is_side side lower then true ∷ run_bits side upper
@@ -37,12 +37,12 @@ run_end side (InnerNode claim lower upper) =
     else (if is_side side upper then run_end side lower else InnerNode claim lower upper)
 run_end side node = node
 
--- the side label of an inner node's run: that of its lower half where that is a leaf, else that of its upper half
+-- the side label of an inner node's run: that of its lower half if it is a leaf, otherwise that of its upper half
 abbrev pub side_of : Tree → Tree → Option Label
 side_of lower upper = option_or (leaf_label lower) (leaf_label upper)
 
--- An inner node compacted, where `inside` compacts what is below: where its run has two bits or more, a chain with its
--- claim and those bits, whose end is that of the run compacted, else the node itself with its halves compacted.
+-- An inner node compacted, `inside` compacting what is below: if its run has two bits or more, a chain with its claim
+-- and those bits, whose end is that of the run compacted, otherwise the node itself with its halves compacted.
 abbrev pub run_compacted : (Tree → Tree) → Pair → Tree → Tree → Option Label → Tree
 run_compacted inside claim lower upper None = InnerNode claim (inside lower) (inside upper)
 run_compacted inside claim lower upper (Some side) =
@@ -62,24 +62,23 @@ compacted_in (suc steps) (ChainNode claim bits side end) = ChainNode claim bits 
 abbrev pub compacted : Tree → Tree
 compacted node = compacted_in (line_count node) node
 
--- a certificate compacted: one of format 1 has its root compacted and is of format 2, one of format 2 is given back
--- equal
+-- a certificate compacted: one of format 1 has its root compacted and gets format 2, one of format 2 is unchanged
 abbrev pub compact : CertificateModel → CertificateModel
 compact c =
     if c.format == 1
     then record { format = 2; version = c.version; table = c.table; root = compacted c.root }
     else c
 
--- The way of a chain's bits down a tree: at each inner node the leaf beside the way has the side label, and what stands
--- at the way's end is as it has to be.
+-- The way of a chain's bits down a tree: at each inner node the leaf beside the way has the side label, and the node
+-- at the way's end meets the condition.
 abbrev pub IsWay : (Tree → Type 0) → Label → List Bool → Tree → Type 0
 IsWay IsEnd side [] t = IsEnd t
 IsWay IsEnd side (true ∷ bits) (InnerNode claim (LeafNode x) upper) = (x ≡ side) × IsWay IsEnd side bits upper
 IsWay IsEnd side (false ∷ bits) (InnerNode claim lower (LeafNode x)) = (x ≡ side) × IsWay IsEnd side bits lower
 IsWay IsEnd side _ _ = ⊥
 
--- The first tree with its chains opened is the second, with the same labels and, but for the inner nodes that a chain
--- takes in below its top, the same claims.
+-- The second tree is the first with its chains opened: the labels are the same, and so are the claims, except those of
+-- the inner nodes that a chain takes in below its top.
 abbrev pub OpensTo : Tree → Tree → Type 0
 OpensTo (LeafNode x) (LeafNode y) = x ≡ y
 OpensTo (InnerNode claim lower upper) (InnerNode claim' lower' upper') =
@@ -99,8 +98,8 @@ abbrev pub has_side : Label → Tree → Bool
 has_side side (InnerNode claim lower upper) = is_side side lower || is_side side upper
 has_side side _ = false
 
--- Nowhere in it is there a chance for a chain left: no inner node has a leaf in one half and in the other an inner node
--- that has a leaf of the same label.
+-- No run is left in the tree: no inner node has a leaf in one half and, in the other, an inner node that has a leaf of
+-- the same label.
 abbrev pub HasNoRun : Tree → Type 0
 HasNoRun (LeafNode x) = Unit {0}
 HasNoRun (InnerNode claim lower upper) =

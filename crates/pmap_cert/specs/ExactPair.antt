@@ -8,8 +8,8 @@ use Rattle.pmap_cert.specs.CertificateModel.{Pair, has}
 abbrev pub common_labels : Pair → Pair → List Label
 common_labels p r = filter (has r.labels) p.labels
 
--- with the common labels in the third place: the sum of the costs and the common labels, or where there are none, one
--- more and the labels of either set
+-- by the labels in common: the sum of the costs and the common labels, or, if there are none, one more and the labels
+-- of either set
 abbrev pub exact_pair_by : Pair → Pair → List Label → Pair
 exact_pair_by p r [] = record { cost = p.cost + r.cost + 1; labels = p.labels ++ r.labels }
 exact_pair_by p r (x ∷ xs) = record { cost = p.cost + r.cost; labels = x ∷ xs }

@@ -14,10 +14,10 @@ use Rattle.pmap_cert.specs.declared.fault.CertFault.{CertFault}
 use Rattle.pmap_cert.specs.declared.fault.CertFaultKind.{CertFaultKind}
 use Rattle.pmap_cert.specs.declared.fault.CertFaultKind.TheVariants.{BadHeader, BadLabelTable, BadNode, NodesLeft, NodesMissing, TooDeep}
 
--- The reading of a certificate's text of either format, line by line, and the first fault of a text that is none.
+-- The reading of a certificate's text of either format, line by line, and the first fault of any other text.
 
--- what is left of a text: how many lines were read, and the pieces of the rest between its line feeds, of which each but
--- the last is a line
+-- what is left of a text: how many lines were read, and the pieces of the rest between its line feeds, each of which
+-- except the last is a line
 pub record Place : Type 0 where
   pub number : ℕ
   pub pieces : List (List ℕ)
@@ -28,7 +28,7 @@ pieces_of text = slice_split (λ b. b == 10) text
 abbrev pub start_of : List ℕ → Place
 start_of text = record { number = 0; pieces = pieces_of text }
 
--- the next line and what comes behind its line feed
+-- the next line and what follows its line feed
 abbrev pub line_from : ℕ → List (List ℕ) → Option (List ℕ × Place)
 line_from number (line ∷ piece ∷ pieces) = Some (line, record { number = number + 1; pieces = piece ∷ pieces })
 line_from number _ = None
@@ -45,13 +45,13 @@ is_ended _ = false
 abbrev pub fault_at : Place → CertFaultKind → CertFault
 fault_at place kind = record { kind = kind; line = place.number + 1 }
 
--- what a step gives is handed to the next, and the first fault is the answer
+-- the result of a step is passed to the next, and the first fault is the result
 infixl 10 ◌>>=◌
 abbrev pub ◌>>=◌ : {A B : Type 0} → Result A CertFault → (A → Result B CertFault) → Result B CertFault
 (Ok x) >>= f = f x
 (Err e) >>= f = Err e
 
--- what the next line is, with what comes behind it, or the fault where it is nothing of the kind
+-- what the next line says, with what follows it, or the fault if it says nothing of the kind
 abbrev pub or_fault : {A : Type 0} → CertFault → Place → Option A → Result (A × Place) CertFault
 or_fault fault after (Some x) = Ok (x, after)
 or_fault fault after None = Err fault
@@ -90,7 +90,7 @@ abbrev pub labels_at : ℕ → List Label → Place → Result (List Label × Pl
 labels_at zero table place = Ok (table, place)
 labels_at (suc left) table place = label_at table place >>= (λ label. labels_at left (table ++ label.0 ∷ []) label.1)
 
--- the numbers below the bound that words stand for, where they rise and the first is not below low
+-- the numbers below the bound that words are, if they rise and the first is not below low
 abbrev pub onto_numbers : ℕ → Option ℕ → (ℕ → Option (List ℕ)) → Option (List ℕ)
 onto_numbers low (Some n) others = if nat_le low n then option_map (λ ns. n ∷ ns) (others (n + 1)) else None
 onto_numbers low None others = None
@@ -105,12 +105,12 @@ pub data NodeLine : Type 0 where
   LeafLine : (number : ℕ) → NodeLine
   InnerLine : (cost : ℕ) (numbers : List ℕ) → NodeLine
 
--- a leaf's words behind the first
+-- a leaf's words after the first
 abbrev pub leaf_by : ℕ → List (List ℕ) → Option NodeLine
 leaf_by count (number ∷ []) = option_map LeafLine (number_below count number)
 leaf_by count _ = None
 
--- an inner node's words behind the first
+-- an inner node's words after the first
 abbrev pub inner_by : ℕ → List (List ℕ) → Option NodeLine
 inner_by count (cost ∷ numbers) =
     option_map (λ claim. InnerLine claim.0 claim.1) (both (number_below (2 ^ 32) cost) (rising_numbers count 0 numbers))
@@ -157,7 +157,7 @@ bits_of most (digit ∷ digits) =
     then Some (map (λ d. d == 49) (digit ∷ digits))
     else None
 
--- a chain's words behind the first, in a certificate of so many labels for addresses of so many bits
+-- a chain's words after the first, in a certificate with so many labels, for addresses of so many bits
 abbrev pub chain_by : ℕ → ℕ → List (List ℕ) → Option DueLine
 chain_by most count (cost ∷ bits ∷ side ∷ numbers) =
     option_map (λ chain. ChainLine chain.0.0 chain.0.1 chain.1.0 chain.1.1)
@@ -170,7 +170,7 @@ due_words format most count (word ∷ words) =
     if format == 2 && bytes_eq word (codes "c") then chain_by most count words else option_map PlainLine (node_words count (word ∷ words))
 due_words format most count [] = None
 
--- where a node is due and no line comes, the text has ended, or its last line has no line feed
+-- the fault if a node is due and no line follows: the text has ended, or its last line has no line feed
 abbrev pub line_due_by : ℕ → ℕ → ℕ → Place → Option (List ℕ × Place) → Result (DueLine × Place) CertFault
 line_due_by format most count place (Some (line, after)) = or_fault (fault_at place BadNode) after (due_words format most count (words_of line))
 line_due_by format most count place None = Err (fault_at place (if is_ended place.pieces then NodesMissing else BadNode))
@@ -179,8 +179,8 @@ line_due_by format most count place None = Err (fault_at place (if is_ended plac
 abbrev pub line_due_at : ℕ → ℕ → ℕ → Place → Result (DueLine × Place) CertFault
 line_due_at format most count place = line_due_by format most count place (next_line place)
 
--- The node of a line, where so many nodes can still stand below one another: `inside d` reads a node below which there
--- are d and one fewer, so below a chain as many fewer as it has bits.
+-- The node of a line, if so many nodes may be nested from here: `inside d` reads a node with room for d more below it,
+-- which is one less below an inner node, and as many less below a chain as it has bits.
 abbrev pub due_node : List Label → ℕ → Place → (ℕ → Place → Result (Tree × Place) CertFault) → DueLine → Place → Result (Tree × Place) CertFault
 due_node table room place inside (PlainLine (LeafLine number)) after = Ok (LeafNode (text_at table number), after)
 due_node table room place inside (PlainLine (InnerLine cost numbers)) after =
@@ -193,8 +193,8 @@ due_node table room place inside (ChainLine cost (bit ∷ bits) side numbers) af
     Ok (ChainNode (record { cost = cost; labels = map (text_at table) numbers }) (bit ∷ bits) (text_at table side) end.0, end.1))
     else Err (fault_at place TooDeep)
 
--- The node that is due and those below it, with `due` for its line: it stands so many bits below a node below which so
--- many nodes can stand.
+-- The node that is due and those below it, with `due` for its line: it is so many bits below a node below which so
+-- many nodes may be nested.
 unfoldable pub nodes_at : (Place → Result (DueLine × Place) CertFault) → List Label → ℕ → ℕ → Place → Result (Tree × Place) CertFault
 nodes_at due table zero down place =
     due place >>= (λ line. due_node table zero place (λ deeper after. Err (fault_at place TooDeep)) line.0 line.1)
@@ -202,7 +202,7 @@ nodes_at due table (suc room) zero place =
     due place >>= (λ line. due_node table (suc room) place (nodes_at due table room) line.0 line.1)
 nodes_at due table (suc room) (suc down) place = nodes_at due table room down place
 
--- behind the last node nothing is left
+-- nothing follows the last node
 abbrev pub ended_by : CertificateModel → Place → Result CertificateModel CertFault
 ended_by c place = if is_ended place.pieces then Ok c else Err (fault_at place NodesLeft)
 

@@ -8,7 +8,7 @@ use Rattle.pmap_cert.specs.CertificateModel.{CertificateModel, InnerNode, LeafNo
 --   0.0.0.0/2 A   64.0.0.0/2 B   128.0.0.0/2 A   192.0.0.0/2 C
 -- whose shortest prefix lists have three entries.
 
--- its label table, of which UNKNOWN is the unstated default
+-- its label table, whose UNKNOWN is the unstated default
 abbrev pub four_quarters_table : List Label
 four_quarters_table = codes "A" ∷ codes "B" ∷ codes "C" ∷ codes "UNKNOWN" ∷ []
 

@@ -24,7 +24,7 @@ last_address_chain =
 abbrev pub last_address_certificate : CertificateModel
 last_address_certificate = record { format = 2; version = V4; table = last_address_table; root = last_address_chain }
 
--- and the same with the chain opened, in format 1
+-- and with the chain opened, in format 1
 abbrev pub last_address_opened : CertificateModel
 last_address_opened = record { format = 1; version = V4; table = last_address_table; root = opened last_address_chain }
 

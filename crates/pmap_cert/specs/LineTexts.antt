@@ -19,7 +19,7 @@ abbrev pub after_byte : ℕ → List ℕ → Option (List ℕ)
 after_byte byte [] = None
 after_byte byte (b ∷ rest) = if b == byte then Some rest else None
 
--- a text goes on with a byte that is none of these
+-- a text is empty or continues with a byte that is none of these
 abbrev pub GoesOnWithout : (ℕ → Bool) → List ℕ → Type 0
 GoesOnWithout known [] = ⊥
 GoesOnWithout known (b ∷ rest) = known b ≡ false

@@ -10,7 +10,7 @@ use Rattle.pmap_cert.specs.CertificateModel.{has}
 abbrev pub is_before : Prefix → Prefix → Bool
 is_before p r = nat_lt p.start r.start || (p.start == r.start && nat_lt p.bits r.bits)
 
--- each entry stands before all that follow it, so that no two have one block
+-- each entry precedes all later ones in this order, so no two have one block
 abbrev pub IsInOrder : List Prefix → Type 0
 IsInOrder [] = Unit {0}
 IsInOrder (p ∷ ps) = AllByRecursion (λ r. IsTrue (is_before p r)) ps × IsInOrder ps

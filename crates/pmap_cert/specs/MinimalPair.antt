@@ -8,8 +8,8 @@ use Rattle.pmap_cert.specs.ExactPair.{IsSamePair, exact_pair}
 
 -- The minimal pair of a map: its certificate of exact pairs and the prefix list read off that.
 
--- The node stands for the block of n bits with the number q: a leaf with the label that the map settles the block with,
--- or for an unsettled block an inner node with the exact pair of its nodes, which stand for the halves.
+-- The node represents the block of n bits with the number q: a leaf with the label that the map settles the block with,
+-- or for an unsettled block an inner node with the exact pair of its nodes, which represent the halves.
 abbrev pub StandsFor : MapModel → Tree → ℕ → ℕ → Type 0
 StandsFor m (LeafNode x) n q = IsSettled m n q x
 StandsFor m (InnerNode claim lower upper) n q =
@@ -22,7 +22,7 @@ abbrev pub first_label : List Label → Label
 first_label [] = []
 first_label (x ∷ xs) = x
 
--- the label of the set that stands first in the table, or where the table has none of them the first of its list
+-- the label of the set that is first in the table, or, if the table has none of them, the first of the set's list
 abbrev pub least_label : List Label → List Label → Label
 least_label table s = unwrap_or (find (has s) table) (first_label s)
 
@@ -31,18 +31,18 @@ abbrev pub has_inherited : List Label → Option Label → Bool
 has_inherited s None = false
 has_inherited s (Some x) = has s x
 
--- what a node with the set s hands on: the inherited label where its set has that, else the least of its set
+-- what a node with the set s passes on: the inherited label if its set has it, otherwise the least label of its set
 abbrev pub handed_on : List Label → List Label → Option Label → Option Label
 handed_on table s inherited = if has_inherited s inherited then inherited else Some (least_label table s)
 
--- its own entry at its block: none where it hands on what it inherits
+-- its own entry at its block: none if it passes on the label that it inherits
 abbrev pub own_entry : ℕ → List Label → List Label → Option Label → ℕ → ℕ → List Prefix
 own_entry W table s inherited n q =
     if has_inherited s inherited
     then []
     else record { start = first_of W n q; bits = n; label = least_label table s } ∷ []
 
--- the entries of a node that stands for the block of n bits with the number q, and of the nodes below it
+-- the entries of a node that represents the block of n bits with the number q, and of the nodes below it
 abbrev pub entries_of : ℕ → List Label → Tree → Option Label → ℕ → ℕ → List Prefix
 entries_of W table (LeafNode x) inherited n q = own_entry W table (x ∷ []) inherited n q
 entries_of W table (InnerNode claim lower upper) inherited n q =
@@ -51,9 +51,9 @@ entries_of W table (InnerNode claim lower upper) inherited n q =
     ++ entries_of W table upper (handed_on table claim.labels inherited) (suc n) (2 * q + 1))
 entries_of W table (ChainNode claim bits side end) inherited n q = []
 
--- the list and the certificate are a minimal pair of the map: the certificate's root stands for the address space, the
--- list has its entries from the root down, at which nothing is inherited, both have the map's version and label table,
--- and the certificate is of format 1
+-- the list and the certificate are a minimal pair of the map: the certificate's root represents the address space, the
+-- list has its entries from the root down, where nothing is inherited, both have the map's version and label table, and
+-- the certificate has format 1
 pub record IsMinimalPair (m : MapModel) (l : ListModel) (c : CertificateModel) : Type 0 where
   pub certificate_format : c.format ≡ 1
   pub certificate_version : c.version ≡ m.version
@@ -70,7 +70,7 @@ IsSameTree (LeafNode x) (LeafNode y) = x ≡ y
 IsSameTree (InnerNode p l r) (InnerNode p' l' r') = IsSamePair p p' × IsSameTree l l' × IsSameTree r r'
 IsSameTree _ _ = ⊥
 
--- two certificates are the same but for the order in which their sets are listed
+-- two certificates are equal except for the order in which their sets are listed
 pub record IsSameCertificate (c c' : CertificateModel) : Type 0 where
   pub format : c.format ≡ c'.format
   pub version : c.version ≡ c'.version

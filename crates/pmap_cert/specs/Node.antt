@@ -10,9 +10,9 @@ use Rattle.pmap_cert.specs.FormatReading.{ChainLine, DueLine, InnerLine, LeafLin
 
 -- Nodes with label numbers, as the code has them.
 
--- a leaf with the number of its label, an inner node with the cost and the set of label numbers that it claims, and the
--- nodes of the halves of its block, or a chain with the same claim, its bits, the number of its side label and the node
--- at its end
+-- a leaf with the number of its label, an inner node with the cost and the set of label numbers that it claims and the
+-- nodes of the halves of its block, or a chain with its claim, its bits, the number of its side label and the node at
+-- its end
 pub data Node : Type 0 where
   Leaf : (number : ℕ) → Node
   Inner : (cost : ℕ) (set : List ℕ) (lower upper : Node) → Node
@@ -35,7 +35,7 @@ set_of (Leaf number) = number ∷ []
 set_of (Inner cost set lower upper) = set
 set_of (Chain cost set bits side end) = set
 
--- the bits of a chain, of which it has one at least, and its side label
+-- the bits of a chain, which has at least one, and its side label
 abbrev pub bits_of : Node → List Bool
 bits_of (Leaf number) = []
 bits_of (Inner cost set lower upper) = []
@@ -46,7 +46,7 @@ side_of (Leaf number) = None
 side_of (Inner cost set lower upper) = None
 side_of (Chain cost set bits side end) = Some side
 
--- the node with the label texts that its numbers stand for
+-- the node with the texts of its label numbers
 abbrev pub tree_of : List Label → Node → Tree
 tree_of table (Leaf number) = LeafNode (text_at table number)
 tree_of table (Inner cost set lower upper) =
@@ -60,8 +60,8 @@ IsPlainNode (Leaf number) = Unit {0}
 IsPlainNode (Inner cost set lower upper) = IsPlainNode lower × IsPlainNode upper
 IsPlainNode (Chain cost set bits side end) = ⊥
 
--- It has no chain, its numbers are below count, those of each set rise, costs are below 2 ^ 32, and at most so many inner
--- nodes stand one inside the other.
+-- The node has no chain, its numbers are below count, those of each set rise, costs are below 2 ^ 32, and at most so
+-- many inner nodes are nested.
 abbrev pub HasNumberForm : ℕ → Node → ℕ → Type 0
 HasNumberForm count (Leaf number) room = number < count
 HasNumberForm count (Inner cost set lower upper) zero = ⊥
@@ -69,7 +69,7 @@ HasNumberForm count (Inner cost set lower upper) (suc room) =
     (cost < 2 ^ 32) × IsRising count 0 set × HasNumberForm count lower room × HasNumberForm count upper room
 HasNumberForm count (Chain cost set bits side end) room = ⊥
 
--- The same of a node that may have chains: each of those has a bit at least, and each bit counts as an inner node.
+-- Like `HasNumberForm`, for a node that may have chains: each has a bit at least, and each bit counts as an inner node.
 abbrev pub HasChainForm : ℕ → Node → ℕ → Type 0
 HasChainForm count (Leaf number) room = number < count
 HasChainForm count (Inner cost set lower upper) zero = ⊥
@@ -140,13 +140,13 @@ abbrev pub line_side : DueLine → Option ℕ
 line_side (PlainLine line) = None
 line_side (ChainLine cost bits side numbers) = Some side
 
--- the lines are those of one node and of those below it
+-- the lines are those of one node and of the nodes below it
 pub record IsTree (lines : List DueLine) : Type 0 where
   pub node : Node
   pub is : lines ≡ lines_of node
 
--- the nodes that lines are those of, one behind the other: an inner node takes the next two as its halves, and a chain
--- the next as its end
+-- the nodes of a list of lines, one after the other: an inner node takes the next two as its halves, and a chain the
+-- next as its end
 abbrev pub joined : ℕ → List ℕ → List Node → List Node
 joined cost set (lower ∷ upper ∷ nodes) = Inner cost set lower upper ∷ nodes
 joined cost set nodes = nodes
@@ -161,27 +161,27 @@ nodes_of (PlainLine (LeafLine number) ∷ lines) = Leaf number ∷ nodes_of line
 nodes_of (PlainLine (InnerLine cost numbers) ∷ lines) = joined cost numbers (nodes_of lines)
 nodes_of (ChainLine cost bits side numbers ∷ lines) = chained cost numbers bits side (nodes_of lines)
 
--- behind each line of an inner node come the nodes of its halves, and behind that of a chain its end
+-- each line of an inner node is followed by the nodes of its halves, and each line of a chain by its end
 abbrev pub AreWhole : List DueLine → Type 0
 AreWhole [] = Unit {0}
 AreWhole (PlainLine (LeafLine number) ∷ lines) = AreWhole lines
 AreWhole (PlainLine (InnerLine cost numbers) ∷ lines) = (2 ≤ length (nodes_of lines)) × AreWhole lines
 AreWhole (ChainLine cost bits side numbers ∷ lines) = (1 ≤ length (nodes_of lines)) × AreWhole lines
 
--- the first of the nodes, where there is one
+-- the first of the nodes, if there is one
 abbrev pub first_node : List Node → Node
 first_node [] = Leaf 0
 first_node (node ∷ nodes) = node
 
--- the nodes from the next line on: behind that of an inner node come its halves, the lower one first, behind that of
--- a chain its end, and then what came behind the node
+-- the nodes from the next line on: after that of an inner node its halves, the lower one first, after that of a chain
+-- its end, and then what followed the node
 abbrev pub from_next_line : List Node → List Node
 from_next_line [] = []
 from_next_line (Leaf number ∷ nodes) = nodes
 from_next_line (Inner cost set lower upper ∷ nodes) = lower ∷ upper ∷ nodes
 from_next_line (Chain cost set bits side end ∷ nodes) = end ∷ nodes
 
--- the nodes behind the first with all below it
+-- the nodes after the first one and all below it
 abbrev pub behind : List Node → List Node
 behind [] = []
 behind (node ∷ nodes) = nodes

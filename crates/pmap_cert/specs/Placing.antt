@@ -10,7 +10,7 @@ use Rattle.pmap_cert.specs.Node.{AreWhole, Chain, HasChainForm, Inner, Leaf, Nod
 
 -- What the code keeps while it compacts: no user need read it.
 
--- the line is none of a chain
+-- the line isn't that of a chain
 abbrev pub IsPlainLine : DueLine → Type 0
 IsPlainLine (PlainLine line) = Unit {0}
 IsPlainLine (ChainLine cost bits side numbers) = ⊥
@@ -119,7 +119,7 @@ pub record IsCompactNode (node compact : Node) : Type 0 where
       tree_of table compact ≡ compacted (tree_of table node)
   pub form : (count room : ℕ) → HasChainForm count node room → HasChainForm count compact room
 
--- a node compacted, whose lines come behind the old ones
+-- a compacted node, whose lines follow the old ones
 pub record IsCompacted (node : Node) (old new : List DueLine) : Type 0 where
   pub compact : Node
   pub is : IsCompactNode node compact

@@ -7,12 +7,12 @@ use Rattle.pmap_cert.specs.CertificateModel.{Tree}
 use Rattle.pmap_cert.specs.declared.fault.CertFault.{CertFault}
 use Rattle.pmap_cert.specs.declared.format.Format.{Format}
 
--- the reading of a node in a text of the format, for addresses of so many bits, below which so many can stand
+-- the reading of a node in a text of the format, for addresses of so many bits, with room for so many nested nodes
 abbrev pub node_due_at : Format → ℕ → List Label → ℕ → Place → Result (Tree × Place) CertFault
 node_due_at format most table room place =
     nodes_at (line_due_at (format_number format) most (length table)) table room 0 place
 
--- a node is read, and its lines and those of the nodes below it come behind the old ones
+-- a node is read, and its lines and those of the nodes below it follow the old ones
 pub record IsReadNode (format : Format) (most : ℕ) (table : List Label) (room : ℕ) (place : Place) (old new : List DueLine) (after : Place) : Type 0 where
   pub node : Node
   pub read : node_due_at format most table room place ≡ Ok (tree_of table node, after)

@@ -11,7 +11,7 @@ use Rattle.pmap_cert.specs.declared.node_line.NodeLine.TheVariants.{Chain, Inner
 
 -- What the code keeps of a line while it reads it.
 
--- the words of what stands behind a space, none where there is no space
+-- the words of what follows a space, none if there is no space
 abbrev pub words_behind : Option (List ℕ) → List (List ℕ)
 words_behind None = []
 words_behind (Some rest) = words_of rest
@@ -26,7 +26,7 @@ line_model set bits (Leaf id) = PlainLine (LeafLine id.0)
 line_model set bits (Inner cost) = PlainLine (InnerLine cost (map (λ id. id.0) set))
 line_model set bits (Chain cost side) = ChainLine cost bits side.0 (map (λ id. id.0) set)
 
--- the line that was read, or the fault where no node's line comes next: the text has ended, or there is no such line
+-- the line that was read, or the fault if no node's line follows: the text has ended, or the line is malformed
 abbrev pub due_or_missing : Place → Option (DueLine × Place) → Result (DueLine × Place) CertFault
 due_or_missing place (Some found) = Ok found
 due_or_missing place None = Err (fault_at place (if is_ended place.pieces then NodesMissing else BadNode))

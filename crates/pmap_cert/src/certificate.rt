@@ -11,9 +11,9 @@ use crate::root::Root;
 use pmap_text::Labels;
 use prefix_keys::Version;
 
-/// A certificate: its format, the version of its addresses, its label table, and its root, which stands for the address
-/// space. Labels are in the table, sets rise, no inner node is as deep as an address has bits, nor does a chain go
-/// deeper, and in format 1 there is no chain.
+/// A certificate: its format, the version of its addresses, its label table, and its root, which represents the address
+/// space. Labels are in the table, sets rise, no inner node is as deep as an address has bits, no chain goes deeper,
+/// and in format 1 there is no chain.
 #[derive(Drop)]
 pub struct Certificate {
     pub format: Format,
@@ -61,7 +61,7 @@ impl Certificate {
         }
     }
 
-    /// The node that stands for the address space. With the label table, the version and the format it has a text.
+    /// The node of the address space. With the label table, the version and the format it determines the text.
     pub fn root(&self) -> Cursor<'_>
         ensures value { result ≡ self.now.root ∷ [] }
         ensures numbers { HasChainForm (length self.now.labels) self.now.root (width_of self.now.version) }

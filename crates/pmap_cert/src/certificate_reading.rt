@@ -69,8 +69,8 @@ fn read_labels<'a>(
     Ok((labels, lines))
 }
 
-// The line of the node that is due, behind which the lines go on. The set of an inner node or a chain is kept, and the
-// bits of a chain.
+// Reads the line of the node that is due, and leaves the lines after it. The set of an inner node or a chain is kept,
+// and the bits of a chain.
 fn read_due(kept: &mut Kept, frame: &Frame, lines: &mut Lines) -> Result<NodeLine, CertFault>
     ensures ok { IfOk result (λ line. line_due_at (format_number frame.now.format) frame.now.width
         (length frame.now.labels.now) lines.old
@@ -88,7 +88,7 @@ fn read_due(kept: &mut Kept, frame: &Frame, lines: &mut Lines) -> Result<NodeLin
     }
 }
 
-// What is wrong where a node is due and no line comes.
+// What is wrong if a node is due and no line follows.
 fn missing_kind(lines: &Lines) -> CertFaultKind
     ensures { result ≡ (if is_ended lines.now.pieces then NodesMissing else BadNode) }
 {
@@ -99,7 +99,7 @@ fn missing_kind(lines: &Lines) -> CertFaultKind
     }
 }
 
-// Adds the node that is due and those below it, with at most so many one below the other. The lines go on behind them.
+// Adds the node that is due and those below it, at most so many nested, and leaves the lines after them.
 fn read_node(
     nodes: &mut Nodes,
     kept: &mut Kept,
@@ -141,7 +141,7 @@ fn read_node(
     }
 }
 
-// The root with all nodes below it, with at most so many one below the other. The lines go on behind them.
+// Reads the root with all nodes below it, at most so many nested, and leaves the lines after them.
 fn read_root(alloc: Global, frame: &Frame, lines: &mut Lines) -> Result<Root, CertFault>
     ensures ok { IfOk result (λ root.
         node_due_at frame.now.format frame.now.width frame.now.labels.now frame.now.width lines.old
@@ -182,24 +182,24 @@ fn read_all(alloc: Global, text: &[u8], hashing: KeyHashing) -> Result<Certifica
     }
 }
 
-/// Reads the text of a certificate of either format. A text is read exactly where it is the text of a certificate
-/// (`write_cert`), and then that certificate is the answer.
+/// Reads the text of a certificate of either format. Exactly the texts that `write_cert` writes are read, each as the
+/// certificate that it is written from.
 ///
 /// # Errors
 ///
 /// The first faulty line, counted from 1, with the first of its faults in this order, or `NoMemory` with the line 0.
 ///
-/// - `BadHeader`: line 1 is not `flowlabel-cert FORMAT VERSION COUNT` with `1` or `2`, `ipv4` or `ipv6` and a count of at
-///   most 65536.
-/// - `BadLabelTable`: a label line is no label, or one that stands above, or it is missing.
+/// - `BadHeader`: line 1 is not `flowlabel-cert FORMAT VERSION COUNT` with `1` or `2`, `ipv4` or `ipv6` and a count of
+///   at most 65536.
+/// - `BadLabelTable`: a label line is missing, is no label, or repeats one.
 /// - `BadNode`: the line of a node is neither `l NUMBER` nor `n COST NUMBER ..` nor, in format 2, `c COST BITS NUMBER
 ///   NUMBER ..` with at most as many bits as an address has, or the numbers of its set don't rise.
-/// - `TooDeep`: an inner node stands for a block of one address, or a chain goes deeper than one.
-/// - `NodesMissing`: the text ends where a node is due; the line is the one behind the last.
-/// - `NodesLeft`: something stands behind the last node.
+/// - `TooDeep`: an inner node has a block of one address, or a chain goes deeper than one.
+/// - `NodesMissing`: the text ends although a node is due; the line is the one after the last.
+/// - `NodesLeft`: something follows the last node.
 ///
-/// A line without its line feed is not of its form. Numbers are decimal without leading zeros, words have one space
-/// between, a label's number is below the count, and a cost is at most 4294967295.
+/// A line without its line feed is malformed. Numbers are decimal without leading zeros, words are separated by one
+/// space, a label's number is below the count, and a cost is at most 4294967295.
 pub fn read_cert(alloc: Global, text: &[u8]) -> Result<Certificate, CertFault>
     ensures { ReturnsCertificate text.now result }
 {

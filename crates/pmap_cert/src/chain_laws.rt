@@ -22,7 +22,7 @@ pub fn chain_pair_is_bit_by_bit()
 {}
 
 /// An accepted certificate is accepted with each chain opened into its inner nodes and leaves, and claims the same at
-/// its root. Opened it has no chain, so that what holds of certificates without chains carries over.
+/// its root. Opened it has no chain, so what holds of certificates without chains carries over.
 pub fn opened_is_accepted()
     ensures accepted { (m : MapModel) (l : ListModel) (c : CertificateModel) → IsAccepted m l c →
         IsAccepted m l (opened_certificate c) }
@@ -31,7 +31,7 @@ pub fn opened_is_accepted()
     ensures plain { (c : CertificateModel) → IsPlain (opened_certificate c).root }
 {}
 
-/// Where a certificate is accepted for a map and a list, it is accepted for them compacted. Not the other way: a claim
+/// A certificate that is accepted for a map and a list is accepted for them compacted. The converse is false: a claim
 /// that is too high, at an inner node that a chain takes in, is gone.
 pub fn compact_keeps_acceptance()
     ensures { (m : MapModel) (l : ListModel) (c : CertificateModel) → IsOfFormat c → IsAccepted m l c →
@@ -47,7 +47,7 @@ pub fn compact_has_no_more_lines()
 {}
 
 /// A certificate of format 1 compacted has, with its chains opened, the same tree with the same labels, and the same
-/// claims but for the inner nodes that a chain takes in below its top; and it has no chance for a chain left.
+/// claims except at the inner nodes that a chain takes in below its top; and no run is left in it.
 pub fn compact_opens_to_the_same()
     ensures shape { (c : CertificateModel) → c.format ≡ 1 → IsPlain c.root →
         IsSameShape (opened (compact c).root) c.root }
@@ -79,8 +79,8 @@ pub fn compact_has_a_text()
     ensures first { (c : CertificateModel) → HasTextForm c → HasFormatText c }
 {}
 
-/// A text of either format is read as a certificate exactly where that has the form of its text, and this text. So each
-/// text is that of such a certificate or has a first fault, and never both.
+/// A text of either format is read as a certificate exactly if it is the text of that certificate, which is well
+/// formed. So each text is that of such a certificate or has a first fault, and never both.
 pub fn text_of_format_is_read_or_has_a_fault()
     ensures read { (text : List ℕ) (c : CertificateModel) →
         format_reading text ≡ Ok c ↔ (HasFormatText c × (text ≡ certificate_text c)) }

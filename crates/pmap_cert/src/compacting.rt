@@ -31,7 +31,7 @@ fn look_below(nodes: &Nodes, ends: &[usize], number: usize) -> Below
     }
 }
 
-// Where the lines of the node whose line has this number and of those below it end, by the ends of those after it.
+// The line after the node with this line number and the nodes below it, by the ends of the nodes after it.
 fn end_at(nodes: &Nodes, ends: &[usize], number: usize) -> usize
     requires { HasPlace nodes.now ends.now number }
     ensures { EndsAt nodes.now number result }
@@ -42,7 +42,7 @@ fn end_at(nodes: &Nodes, ends: &[usize], number: usize) -> usize
     }
 }
 
-// Where the lines of each node and of those below it end.
+// For each line the first one after its node and the nodes below it.
 fn ends_of(alloc: Global, nodes: &Nodes) -> Result<Vec<usize>, AllocError>
     requires { ArePlain nodes.now }
     ensures { IfOk result (λ ends. AreEndsFrom nodes.now ends.items 0) }
@@ -69,8 +69,8 @@ fn is_leaf(nodes: &Nodes, number: usize, label: LabelId) -> bool
     }
 }
 
-// The step of a run of the side label from the node whose line has this number: the bit and the line of the half that
-// is chosen, none where the run ends.
+// The step of a run of the side label from the node with this line: the bit and the line of the chosen half, or `None`
+// if the run ends.
 fn step(nodes: &Nodes, ends: &[usize], number: usize, side: LabelId) -> Option<(bool, usize)>
     requires { HasPlace nodes.now ends.now number }
     ensures { MatchOption result (IsRunEnd nodes.now side.0 number)
@@ -90,7 +90,7 @@ fn step(nodes: &Nodes, ends: &[usize], number: usize, side: LabelId) -> Option<(
     }
 }
 
-// Goes down a run of the side label, whose bits are kept, and answers the line of the node at its end.
+// Follows a run of the side label, keeps its bits, and returns the line of the node at its end.
 fn go_down(
     bits: &mut Vec<bool>,
     nodes: &Nodes,
@@ -124,8 +124,8 @@ fn side_of(nodes: &Nodes, lower: usize, upper: usize) -> Option<LabelId>
     }
 }
 
-// The side label and the line of the end of the run from the inner node whose line has this number, where that has two
-// bits or more, which are kept. The node's halves have these lines.
+// The side label and the line of the end of the run from the inner node with this line, if it has two bits or more,
+// which are kept. The node's halves have these lines.
 fn run_of(
     bits: &mut Vec<bool>,
     nodes: &Nodes,
@@ -193,8 +193,8 @@ fn compact_root(alloc: Global, root: &Root) -> Result<Root, AllocError>
     Ok(Root::new(out))
 }
 
-/// A certificate compacted: that of format 1 with a chain in the place of each run of two inner nodes or more that have
-/// each a leaf of one label in one half, from the root down. One of format 2 is given back equal.
+/// Compacts a certificate: one of format 1 gets, from the root down, a chain for each run of two or more inner nodes
+/// that each have a leaf of one label in one half. One of format 2 is copied unchanged.
 pub fn compact(alloc: Global, certificate: &Certificate) -> Result<Certificate, AllocError>
     ensures { IfOk result (λ found. certificate_of found ≡ compact (certificate_of certificate.now)) }
 {

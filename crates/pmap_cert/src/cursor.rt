@@ -6,8 +6,8 @@ use crate::root::Root;
 use pmap_text::LabelId;
 use std::marker::Model;
 
-/// A place in a certificate's nodes, or behind the last: the nodes from there on, each with those below it. A walk
-/// begins at `Certificate::root` and goes from line to line.
+/// A position in a certificate's nodes, or the end: the nodes from there on, each with those below it. A walk begins at
+/// `Certificate::root` and goes from line to line.
 #[derive(Drop)]
 pub struct Cursor<'a> {
     nodes: &'a Nodes,
@@ -63,7 +63,7 @@ impl<'a> Cursor<'a> {
         self.nodes.set(self.number)
     }
 
-    /// The bits of the node, if it is a chain: of that there is one at least, of others none.
+    /// The bits of the node, at least one if it is a chain, otherwise none.
     pub fn bits(&self) -> &'a [bool]
         requires { 0 < length self.now }
         ensures { result.now ≡ bits_of (first_node self.now) }
@@ -79,8 +79,8 @@ impl<'a> Cursor<'a> {
         self.nodes.side(self.number)
     }
 
-    /// The place of the next line: behind that of an inner node stands its lower half, and behind all lines of that its
-    /// upper half; behind that of a chain stands its end.
+    /// The position of the next line: that of an inner node is followed by its lower half, and after all lines of that
+    /// by its upper half; that of a chain is followed by its end.
     pub fn next(&self) -> Cursor<'a>
         requires { 0 < length self.now }
         ensures { result ≡ from_next_line self.now }

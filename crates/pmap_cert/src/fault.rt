@@ -23,7 +23,7 @@ pub enum CertFaultKind {
     NoMemory,
 }
 
-/// The first fault of a text: what is wrong, and the line, counted from 1. Want of memory has the line 0.
+/// The first fault of a text: what is wrong, and the line, counted from 1. Out of memory has the line 0.
 #[derive(Clone, Copy, Debug, PartialEq, Eq, Hash, Error)]
 #[error("line {line}: {kind}")]
 pub struct CertFault {

@@ -43,8 +43,8 @@ pub fn minimal_pair_is_accepted()
         IsLeast m l }
 {}
 
-/// A map has one minimal pair: its certificates have one version, table and shape, and the same labels, costs and sets,
-/// so that where the map's table has the map's labels, its lists are one list.
+/// A map has one minimal pair: its certificates have one version, table and shape, and the same labels, costs and sets.
+/// So its lists are one list, if the map's table has the map's labels.
 pub fn minimal_pair_is_unique()
     ensures certificates { (m : MapModel) (l l' : ListModel) (c c' : CertificateModel) →
         IsMinimalPair m l c → IsMinimalPair m l' c' → IsSameCertificate c c' }
@@ -78,8 +78,8 @@ pub fn minimal_list_is_in_order()
         IsMinimalPair m l c → HasItsLabels m → HasListForm l }
 {}
 
-/// The exact pair of two pairs is one of their costs and sets: where a label is common, the sum of the costs with the
-/// common labels, else one more with the labels of either. The order in which the sets are listed doesn't count.
+/// The exact pair depends on costs and sets alone: if a label is common, the sum of the costs with the common labels,
+/// otherwise one more with the labels of either. The order in which the sets are listed doesn't count.
 pub fn exact_pair_is_of_sets()
     ensures common { (p r : Pair) (x : Label) → IsTrue (has p.labels x) → IsTrue (has r.labels x) →
         IsPairOf (exact_pair p r) (p.cost + r.cost) (λ y. has p.labels y && has r.labels y) }

@@ -3,7 +3,7 @@
 //! ```rust
 //! use pmap_cert::{read_cert, write_cert};
 //!
-//! // That of the map without a mapping: one leaf, whose label is UNKNOWN.
+//! // The certificate of the map without a mapping: one leaf, whose label is UNKNOWN.
 //! let text = b"flowlabel-cert 1 ipv4 1\nUNKNOWN\nl 0\n".as_slice();
 //! let certificate = read_cert(alloc, text)?;
 //! let written = write_cert(alloc, &certificate)?;
@@ -11,15 +11,16 @@
 //! ```
 //!
 //! A certificate is a binary tree over the address space. Each inner node claims a cost and a set of labels, from which
-//! a checker sees that no list that labels every address as the map does is shorter than the one at hand. The crate
-//! stands on prefix_keys (blocks) and pmap_text (maps, prefix lists and their labels). The layers above, the minimiser
-//! and the checker, may rely on the laws: an accepted certificate shows that its list is equivalent and least, each map
-//! has a minimal pair of a list and a certificate that is accepted, all minimal pairs of a map are alike, and that of a
-//! map text has a certificate with a text. Each `Certificate` keeps in its type that its labels are in its table, that
-//! its sets rise, that no node lies deeper than an address has bits, and that in format 1 there is no chain.
-//! `write_cert` gives the one text of a certificate of either format; `read_cert` reads a text exactly where it is the
-//! text of a certificate, and else names its first fault: each text is the one or has the other. `compact` makes of a
-//! certificate the one that the definitions compact it to, which is accepted where the first is.
+//! a checker sees that no list that labels every address as the map does is shorter than the given one. The crate
+//! depends on prefix_keys (blocks) and pmap_text (maps, prefix lists and their labels).
+//!
+//! The layers above, the minimiser and the checker, may rely on these laws: an accepted certificate shows that its list
+//! is equivalent and least; each map has a minimal pair of a list and a certificate that is accepted; all minimal pairs
+//! of a map are alike; and that of a map text has a certificate with a text. The type `Certificate` ensures that labels
+//! are in the table, that sets rise, that no node lies deeper than an address has bits, and that format 1 has no chain.
+//! `write_cert` writes the one text of a certificate of either format. `read_cert` reads exactly these texts, and
+//! reports the first fault of any other. `compact` compacts a certificate by definition; if the first is accepted, so is
+//! the result.
 #![tactic(auto)]
 
 mod certificate;

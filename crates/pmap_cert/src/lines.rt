@@ -38,7 +38,7 @@ impl<'a> Lines<'a> {
         }
     }
 
-    /// The next line and what comes behind its line feed.
+    /// The next line and what follows its line feed.
     pub fn next(&self) -> Option<(&'a [u8], Lines<'a>)>
         ensures { option_map (λ x. (x.0.now, x.1)) result ≡ next_line self.now }
     {

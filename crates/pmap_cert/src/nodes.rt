@@ -16,7 +16,7 @@ enum Packed {
     Chain(u32, u32),
 }
 
-// A chain: what it claims, its side label, and where its bits begin and end.
+// A chain: its claim, its side label, and where its bits begin and end.
 #[derive(Clone, Copy)]
 struct PackedChain {
     cost: u32,
@@ -125,7 +125,7 @@ impl Nodes {
         Ok(())
     }
 
-    /// The label of the leaf whose line has this number, none where it is that of another node.
+    /// The label of the leaf with this line, or `None` for the line of another node.
     pub fn label(&self, number: usize) -> Option<LabelId>
         requires { number < length self.now }
         ensures { option_map (λ id. id.0) result
@@ -165,7 +165,7 @@ impl Nodes {
         }
     }
 
-    /// The bits of the chain whose line has this number, none where it is that of another node.
+    /// The bits of the chain with this line, none for the line of another node.
     pub fn bits(&self, number: usize) -> &[bool]
         requires { number < length self.now }
         ensures { result.now ≡ line_bits (slice_index_or self.now number (PlainLine (LeafLine 0))) }
@@ -180,7 +180,7 @@ impl Nodes {
         }
     }
 
-    /// The side label of the chain whose line has this number, none where it is that of another node.
+    /// The side label of the chain with this line, or `None` for the line of another node.
     pub fn side(&self, number: usize) -> Option<LabelId>
         requires { number < length self.now }
         ensures { option_map (λ id. id.0) result
@@ -193,7 +193,7 @@ impl Nodes {
         }
     }
 
-    /// The same nodes once more.
+    /// Copies the nodes.
     pub fn copy(&self, alloc: Global) -> Result<Nodes, AllocError>
         ensures { IfOk result (λ copy. copy ≡ self.now) }
     {

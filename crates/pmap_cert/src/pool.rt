@@ -83,7 +83,7 @@ impl Sets {
         &self.labels[start..end]
     }
 
-    /// The same sets once more.
+    /// Copies the sets.
     pub fn copy(&self, alloc: Global) -> Result<Sets, AllocError>
         ensures { IfOk result (λ copy. copy.labels.items ≡ self.now.labels.items) }
     {

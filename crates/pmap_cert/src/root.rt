@@ -26,7 +26,7 @@ impl Model for Root {
 }
 
 impl Root {
-    /// The tree of nodes whose lines are those of one node and of those below it.
+    /// The tree of nodes whose lines are those of one node and of the nodes below it.
     pub fn new(nodes: Nodes) -> Root
         requires { IsTree nodes }
         ensures { (node : Node) → nodes ≡ lines_of node → result ≡ node }
@@ -41,7 +41,7 @@ impl Root {
         &self.nodes
     }
 
-    /// The same tree once more.
+    /// Copies the tree.
     pub fn copy(&self, alloc: Global) -> Result<Root, AllocError>
         ensures { IfOk result (λ copy. copy ≡ self.now) }
     {

@@ -5,7 +5,7 @@ ghost use Rattle.pmap_cert.specs.Words.{words_behind};
 
 use prefix_keys::{find_byte, read_decimal};
 
-/// The first word, and what stands behind the space after it, where there is one.
+/// The first word, and what follows the space after it, if there is one.
 pub fn split_word(text: &[u8]) -> (&[u8], Option<&[u8]>)
     ensures words { words_of text.now ≡ result.0.now ∷ words_behind (option_map (λ rest. rest.now) result.1) }
     ensures shorter { IfSome result.1 (λ rest. length rest.now < length text.now) }
