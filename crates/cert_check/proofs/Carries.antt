@@ -67,7 +67,7 @@ greatest-push test (x ∷ es) e =
     ap (λ g. cond (test x && nat_lt g x.block.len) x.block.len g) (greatest-push test es e)
     ∙ greatest-step (test x) (test e) (greatest test es) x.block.len e.block.len
 
--- some entry that passes is longer exactly where the greatest length is greater
+-- some entry that passes is longer exactly if the greatest length is greater
 longer-step : (t : Bool) (k n g : ℕ) → ((t && nat_lt k n) || nat_lt k g) ≡ nat_lt k (cond (t && nat_lt g n) n g)
 longer-step true k n g = grind (arith, nat_tests)
 longer-step false k n g = refl

@@ -42,7 +42,7 @@ pub half-below : (b half : Block) (q : ℕ) → IsHalf b half q → b.len < widt
 half-below b half q h = let width : width_of half.version ≡ width_of b.version = ap width_of h.version in omega (arith, width, h.len, half.len_in_range)
 
 module _ (b low high : Block) (are : AreHalves b low high) where
-  -- the upper half begins where the lower one ends, behind the block's first address, and ends where the block does
+  -- the upper half begins right after the lower one, not at the block's first address, and ends with the block
   pub behind-low : last_in low + 1 ≡ high.value
   behind-low =
       let low_last = half-last b low (2 * number_of b) are.lower in

@@ -1,4 +1,4 @@
--- What a list says of a block, by the entries inside it and the label that is handed down to it.
+-- What a list says of a block, by the entries inside it and the label that it inherits.
 use Rattle.std.proofs.Common.{◌≡◌, ◌∙◌, ℕ, suc, ◌-◌, ◌*◌, ◌^◌, ◌<◌, ◌≤◌, ◌==◌, ◌&&◌, ◌||◌, Bool, true, false, cond, not, List, [], ◌∷◌, Option, Some, None, Contains, find, length, map, nat_lt, option_map, refl, sym, ap, ap₂, subst, arith}
 use Rattle.std.specs.List.{list_any}
 use Rattle.std.specs.Option.{option_or}
@@ -50,7 +50,7 @@ module _ (l : PrefixList) (b : Block) (version : b.version ≡ l.version) where
   pub entry-version : (e : Entry) → Contains l.entries e → e.block.version ≡ b.version
   entry-version e has = All-contains (λ (d : Entry). d.block.version ≡ l.version) l.entries e l.one_version has ∙ sym version
 
-  -- an entry lies strictly inside the block, or none does
+  -- some entry lies strictly inside the block, or none does
   pub some-inside : (e : Entry) → Contains l.entries e → LiesIn b (suc b.len) e
       → list_any (lies_inside (width_of b.version) b.len (number_of b)) (list_of l).prefixes ≡ true
   some-inside e has lies =
@@ -92,7 +92,7 @@ module _ (l : PrefixList) (b : Block) (version : b.version ≡ l.version) where
     text = sym (ap (λ (o : Option Label). option_or o (label_below (width_of l.version) (list_of l).prefixes b.len b.value)) (own-label e has own));
   }
 
-  -- where there is none
+  -- if the block has no entry of its own
   no-label : ((e : Entry) → Contains l.entries e → IsOwn b e → ⊥)
       → label_at (width_of l.version) (list_of l).prefixes b.len b.value ≡ None
   no-label none =
@@ -117,7 +117,7 @@ module _ (l : PrefixList) (b : Block) (version : b.version ≡ l.version) where
         ∙ sym (ap (λ (o : Option Label). option_or o (label_below (width_of l.version) (list_of l).prefixes b.len b.value)) (no-label none));
   }
 
-  -- the part inside, where the first entry is the block's own, and where none is
+  -- the part inside, if the first entry is the block's own, and if none is
   pub part-own : (c : Entry) (rest : List Entry) (above : Option LabelId) → IsOwn b c → IsListPart l b b.len (c ∷ rest) above
       → IsListPart l b (suc b.len) rest (Some c.label)
   part-own c rest above own h = record {
@@ -158,7 +158,7 @@ module _ (l : PrefixList) (b : Block) (version : b.version ≡ l.version) where
             ∙ ap (λ (k : ℕ). label_below W (list_of l).prefixes k half.value) (sym len);
       }
 
-  -- so the list decides the block by what is handed down, where no entry lies inside
+  -- so the list decides the block by the inherited label, if no entry lies inside
   pub decided-by : (x : Label) (label : Option LabelId) → IsListPart l b (suc b.len) [] label
       → is_label_of (text_of l.labels label) x ≡ is_decided (width_of b.version) (list_of l).prefixes b.len (number_of b) x
   decided-by x label h =

@@ -7,7 +7,7 @@ use Rattle.std.specs.List.{list_any}
 use Rattle.std.proofs.lemmas.Bool.{false≢true}
 use Rattle.pmap_text.specs.Carried.{from_last}
 
--- whether an element passes is the same among those that pass
+-- some element passes exactly if some element of those that pass does
 pub any-filtered : {X : Type 0} (p : X → Bool) (xs : List X) → list_any p (filter p xs) ≡ list_any p xs
 any-filtered p [] = refl
 any-filtered {X} p (x ∷ xs) = step (p x) refl (any-filtered p xs)
@@ -16,7 +16,7 @@ any-filtered {X} p (x ∷ xs) = step (p x) refl (any-filtered p xs)
     step true e rest = ap (λ c. c || list_any p (filter p xs)) e
     step false e rest = rest
 
--- none is kept where none passes
+-- no element is kept if none passes
 pub none_kept : {X : Type 0} (p : X → Bool) (xs : List X) → list_any p xs ≡ false → filter p xs ≡ []
 none_kept p [] e = refl
 none_kept {X} p (x ∷ xs) e = step (p x) (none_kept p xs) e
@@ -45,7 +45,7 @@ any-kept {X} p r (x ∷ xs) = step (r x) (any-kept p r xs)
     step true rest = ap (λ c. p x || c) rest
     step false rest = rest
 
--- from the last that passes on: all where none passes
+-- from the last that passes on: all if none passes
 pub from_last-none : {X : Type 0} (p : X → Bool) (xs : List X) → list_any p xs ≡ false → from_last p xs ≡ xs
 from_last-none p [] e = refl
 from_last-none {X} p (x ∷ xs) e = step (p x) (list_any p xs) e

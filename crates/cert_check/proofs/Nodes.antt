@@ -35,14 +35,14 @@ or-first a b x e = ap (λ o. option_or o b) e
 pub or-second : {X : Type 0} (a b c : Option X) → a ≡ None → b ≡ c → option_or a b ≡ c
 or-second a b c e f = ap (λ o. option_or o b) e ∙ f
 
--- the answer where nothing is wrong with the nodes below
+-- the result if nothing is wrong with the nodes below
 pub own-answer : (fault : ℕ → Option CheckFault) (number count : ℕ) (after : List Node) (o : Option CheckFaultKind) (next : NodeLine) → next.node ≡ after
     → ((k : ℕ) → told k ≡ number → (fault k ≡ option_map (fault_at k) o) × (next.number ≡ told (k + count)))
     → IsAnswer fault number count after (answer_of o number next)
 own-answer fault number count after None next is holds = (is, holds)
 own-answer fault number count after (Some kind) next is holds = λ k told_is. (holds k told_is).0 ∙ (λ i. Some (record { kind = kind; node = told_is i }))
 
--- the answer to a check of a node that comes next, by the number before
+-- the result of a check of a node that comes next, by the number before
 pub later-answer : (fault below : ℕ → Option CheckFault) (number next count : ℕ) (after : List Node) (r : Result NodeLine CheckFault)
     → ((k : ℕ) → told k ≡ number → told (k + 1) ≡ next) → ((k : ℕ) → fault k ≡ below (k + 1))
     → IsAnswer below next count after r → IsAnswer fault number (1 + count) after r

@@ -35,7 +35,7 @@ numbers-more from to i text items new o so_far listed found pushed =
     ∙ (λ j. so_far j ++ found j ∷ [])
     ∙ sym (ap (map (number_of to)) taken ∙ map-append (number_of to) (take i from) (text ∷ []))
 
--- the labels are the same where the number is
+-- labels are equal if their numbers are
 module _ (numbers : List (Option LabelId)) (from to : List Label) (are : AreNumbers numbers from to) (own id : ℕ) (known : id < length to) (o : Option LabelId)
     (listed : slice_get numbers own ≡ Some o) where
   number : option_map (λ i. i.0) o ≡ number_of to (text_at from own)

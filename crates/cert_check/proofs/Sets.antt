@@ -295,7 +295,7 @@ module _ (table : List Label) (ok : IsLabelTable table) (claim left right : Node
       → fault_by cost below full ≡ claim_fault (claim_of (tree_of table claim)) (exact_pair (claim_of (tree_of table left)) (claim_of (tree_of table right)))
   node-common some fulls = common-by both refl some fulls
 
--- those of a list that pass a test, and what holds of each that doesn't
+-- the elements of a list that pass a test, and what holds of each that doesn't
 pub apart-none : (p : LabelId → Bool) (ids : List LabelId) → list_all (λ i. not (p i)) ids ≡ true → length (filter p ids) ≡ 0
 apart-none p [] h = refl
 apart-none p (x ∷ ids) h = by (p x) (list_all (λ (i : LabelId). not (p i)) ids) (apart-none p ids) h

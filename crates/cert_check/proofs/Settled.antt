@@ -61,7 +61,7 @@ module _ (s : StretchesModel) (every : HasEveryAddress s) where
       let down = held-order a a j i at' at (omega arith) in
       omega (arith, up, down)
 
-  -- the address before one, where the stretch that has that begins with it or doesn't
+  -- the address before one, whose stretch begins with this address or earlier
   pub held-before : (a i : ℕ) → 0 < a → HoldsAddress s a i → first_at s i ≡ a → (0 < i) × HoldsAddress s (a - 1) (i - 1)
   held-before a i some at begins = by i some at begins
     where

@@ -1,4 +1,4 @@
--- Where one look shows that nothing is wrong with the blocks beside a chain's way.
+-- When one look shows that nothing is wrong with the blocks beside a chain's way.
 use Rattle.std.proofs.Common.{◌≡◌, ◌∙◌, ◌⊎◌, inl, inr, ℕ, zero, suc, ◌+◌, ◌-◌, ◌*◌, ◌<◌, ◌≤◌, ◌==◌, ◌&&◌, Bool, true, false, cond, not, List, [], ◌∷◌, ◌++◌, get_or, length, take, Option, Some, None, Contains, nat_lt, option_map, refl, sym, ap, ap₂, subst, arith}
 use Rattle.std.specs.List.{list_any}
 use Rattle.std.specs.Option.{option_or}
@@ -65,8 +65,8 @@ or-none : {X : Type 0} (a : Option X) → option_or a None ≡ a
 or-none None = refl
 or-none (Some x) = refl
 
--- Where nothing is wrong with the blocks of an outer block that lie apart from an inner one, the first fault along the bits from
--- the one to the other is that of the inner one.
+-- If nothing is wrong with the blocks of an outer block that lie apart from an inner one, the first fault along the
+-- bits from the outer to the inner block is that of the inner one.
 module _ (m : MapModel) (ps : List Prefix) (x : Label) (W from first last begin end : ℕ)
     (clear : (j r : ℕ) → from < j → j ≤ W → first ≤ first_of W j r → last_of W j r ≤ last
     → (last_of W j r < begin) ⊎ (end < first_of W j r) → leaf_fault m ps j r x ≡ None) where
@@ -120,7 +120,7 @@ way-within b end bits way some =
       last = omega (arith, ends, last);
     }
 
--- where the first bits lead to
+-- the block after the first bits
 pub record IsOnWay (b at : Block) (bits : List Bool) (i : ℕ) : Type 0 where
   pub version : at.version ≡ b.version
   pub len : at.len ≡ b.len + i
@@ -145,7 +145,7 @@ way-on b at half next bits bit i is less one on version len number =
     more : take (i + 1) bits ≡ take i bits ++ bit ∷ []
     more = take_more bits i false less ∙ ap (λ (d : Bool). take i bits ++ d ∷ []) one
 
--- where the entries inside a block all lie in an inner one
+-- the entries inside a block all lie in an inner one
 module _ (l : PrefixList) (b : Block) (version : b.version ≡ l.version) (end : Block) (w : IsWithin b end) (within : List Entry) (above : Option LabelId)
     (part : IsListPart l b (suc b.len) within above) (all : (e : Entry) → Contains within e → LiesIn end end.len e) where
   -- an entry of more bits than the block that covers an address of it lies in the inner one
@@ -163,7 +163,7 @@ module _ (l : PrefixList) (b : Block) (version : b.version ≡ l.version) (end :
             ∙ address-between W b.len (number_of b) a (omega (arith, first, from)) to;
       }))
 
-  -- so the label that is handed down is the one at each address that no entry up to some length covers
+  -- so each address that no entry up to some length covers has the inherited label
   none-at : (n a : ℕ) → b.len < n → ((e : Entry) → Contains l.entries e → e.block.len ≡ n
       → block_number (width_of b.version) n e.block.value ≡ block_number (width_of b.version) n a → ⊥)
       → label_at (width_of b.version) (list_of l).prefixes n a ≡ None
@@ -252,7 +252,7 @@ module _ (l : PrefixList) (b : Block) (version : b.version ≡ l.version) (end :
         let inside = lies e has (omega (arith, longer, deep)) e.block.value (omega (arith, from, low)) (omega (arith, to, high)) refl in
         absurd (apart-from e.block.value low high (inner-number e has inside))))
 
-    -- so nothing is wrong with it where the map settles it with the label
+    -- so nothing is wrong with it if the map settles it with the label
     pub clear-leaf : (m : MapModel) (x : Label) → m.version ≡ b.version → is_label_of (text_of l.labels above) x ≡ true
         → is_label_of (settled_label m j r) x ≡ true → leaf_fault m (list_of l).prefixes j r x ≡ None
     clear-leaf m x same is settled =
@@ -271,7 +271,7 @@ module _ (l : PrefixList) (b : Block) (version : b.version ≡ l.version) (end :
         ∙ ap₂ (λ (i : Bool) (o : Option Label). not i && is_label_of o x) none-in label ∙ is in
         ap₂ (λ (s d : Bool). cond s (cond d None (Some ListDiffers)) (Some LeafNotUniform)) settled decided
 
-  -- so the first fault along the bits to the inner block is that of this
+  -- so the first fault along the bits to the inner block is that of the inner block
   pub clear-way : (bits : List Bool) → IsWay b end bits → (m : MapModel) (x : Label) → m.version ≡ b.version → is_label_of (text_of l.labels above) x ≡ true
       → IsSettledBetween m b.value end.value x → IsSettledBetween m (last_in end + 1) (last_in b + 1) x
       → (k : ℕ) (below : ℕ → ℕ → Option CheckFault) → bits_fault m (list_of l).prefixes x k below bits b.len (number_of b) ≡ below end.len (number_of end)

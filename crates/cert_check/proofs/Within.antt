@@ -105,7 +105,7 @@ module _ (es : List Entry) (b : Block) (same : (e : Entry) → Contains es e →
         len,
       )
 
-  -- those strictly inside are the same where none is the block's own
+  -- the entries strictly inside are the same if none is the block's own
   pub strict : (within : List Entry) → AreWithin es b b.len within → ((e : Entry) → Contains within e → IsOwn b e → ⊥) → AreWithin es b (suc b.len) within
   strict within are none = record {
     rising = are.rising;
@@ -123,7 +123,7 @@ module _ (es : List Entry) (b : Block) (same : (e : Entry) → Contains es e →
     every = λ e has lies. are.every e has (record { long = omega (arith, lies.long); number = lies.number });
   }
 
-  -- so it is where the first is not
+  -- none is the block's own if the first isn't
   pub first-other : (c : Entry) (rest : List Entry) → AreWithin es b b.len (c ∷ rest) → (IsOwn b c → ⊥) → (e : Entry) → Contains (c ∷ rest) e → IsOwn b e → ⊥
   first-other c rest are other e has own =
       let lies = (are.inside c (Contains-first c rest)).1 in
@@ -133,7 +133,7 @@ module _ (es : List Entry) (b : Block) (same : (e : Entry) → Contains es e →
       let le = rank-first c rest are.rising e has in
       other (omega (arith, from, few, few', le, own.0, own.1, lies.long), omega (arith, from, few, few', le, own.0, own.1, lies.long))
 
-  -- and they are the others where it is
+  -- and they are the others if the first is
   pub strict-rest : (c : Entry) (rest : List Entry) → AreWithin es b b.len (c ∷ rest) → IsOwn b c → AreWithin es b (suc b.len) rest
   strict-rest c rest are own = record {
     rising = λ i j d less below. are.rising (suc i) (suc j) d (omega (arith, less)) (omega (arith, below));
@@ -223,7 +223,7 @@ module _ (within : List Entry) (k mid : ℕ) (rising : AreRising within)
             (has.0 - k, most, get_or-drop k within (has.0 - k) e ∙ ap (λ (i : ℕ). get_or within i e) at ∙ has.2)
       ]
 
--- where a block begins, each longer block that has its first address begins
+-- at the first address of a block each longer block with that address begins too
 pub begins-longer : (W k n a : ℕ) → k ≤ n → n ≤ W → a % 2 ^ (W - k) ≡ 0 → first_of W n (block_number W n a) ≡ a
 begins-longer W k n a le fits free =
     let d : ℕ = 2 ^ (W - n) in

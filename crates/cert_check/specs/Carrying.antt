@@ -13,14 +13,14 @@ use Rattle.cert_check.specs.Versions.{is_same_version}
 abbrev pub number_of : Block → ℕ
 number_of block = block_number (width_of block.version) block.len block.value
 
--- of the statements of the block's version those that meet the block, from the last that covers it whole (all of them where
--- none does), in the order given
+-- of the statements of the block's version those that meet the block, from the last that covers it whole (all of them
+-- if none does), in the order given
 abbrev pub carried_to : Block → List Statement → List Statement
 carried_to block ss =
     carried (width_of block.version) block.len (number_of block) (filter (λ s. is_same_version s.span.low.version block.version) ss)
 
--- of the entries of the block's version the longest that covers the block, if there is one, and those strictly inside it, in
--- the order given
+-- of the entries of the block's version the longest that covers the block, if there is one, and those strictly inside
+-- it, in the order given
 abbrev pub entries_carried_to : Block → List Entry → List Entry
 entries_carried_to block es =
     carried_entries (width_of block.version) block.len (number_of block) (filter (λ e. is_same_version e.block.version block.version) es)

@@ -33,12 +33,12 @@ abbrev pub is_inside : Block → Entry → Bool
 is_inside b e =
     is_same_version e.block.version b.version && lies_inside (width_of b.version) b.len (number_of b) (prefix_of [] e)
 
--- the greatest length of an entry that passes the test, 0 where none does
+-- the greatest length of an entry that passes the test, 0 if none does
 abbrev pub greatest : (Entry → Bool) → List Entry → ℕ
 greatest test [] = 0
 greatest test (e ∷ es) = if test e && nat_lt (greatest test es) e.block.len then e.block.len else greatest test es
 
--- the numbers that the labels of one table have in another, none for a label that the other hasn't got
+-- the numbers of one table's labels in another table, none for a label that the other lacks
 pub record AreNumbers (numbers : List (Option LabelId)) (from to : List Label) : Type 0 where
   pub each : map (option_map (λ id. id.0)) numbers ≡ map (number_of_label to) from
   pub table : IsLabelTable to

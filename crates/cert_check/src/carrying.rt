@@ -58,8 +58,8 @@ fn add_statement(
     Ok(())
 }
 
-/// The statements that meet the block, from the last that covers it whole, or all of them where none does, in the order
-/// given. No other statement has a say in the block. One of another version than the block's does not meet it.
+/// Returns the statements that meet the block, from the last that covers it whole, or all of them if none does, in the
+/// order given. No other statement affects the block. A statement of another version doesn't meet it.
 pub fn carried(
     alloc: Global,
     statements: &[Statement],
@@ -74,7 +74,7 @@ pub fn carried(
     Ok(kept)
 }
 
-// The greater of a length and that of the entry, where this covers the block.
+// The greater of a length and that of the entry, if the entry covers the block.
 fn longer(longest: u32, entry: &Entry, block: &Block) -> u32
     ensures { result ≡ (if covers_whole_of block.now entry.now && nat_lt longest entry.now.block.len
         then entry.now.block.len else longest) }
@@ -86,7 +86,7 @@ fn longer(longest: u32, entry: &Entry, block: &Block) -> u32
     }
 }
 
-// The greatest length of an entry that covers the block, 0 where none does.
+// The greatest length of an entry that covers the block, 0 if none does.
 fn longest_covering(entries: &[Entry], block: &Block) -> u32
     ensures { result ≡ greatest (covers_whole_of block.now) entries.now }
 {
@@ -105,9 +105,9 @@ fn has_say(entry: &Entry, block: &Block, longest: u32) -> bool
     (longest <= entry.block.len && covers_whole(entry, block)) || is_inside(entry, block)
 }
 
-/// The longest entry that covers the block, if there is one, and those strictly inside it, in the order given. Of equal
-/// blocks that cover it all are given; the entries of a `PrefixList` have none. No other entry has a say in the block.
-/// One of another version than the block's has no address of it.
+/// Returns the longest entry that covers the block, if there is one, and those strictly inside it, in the order given.
+/// Of equal blocks that cover it all are returned; the entries of a `PrefixList` have none. No other entry affects the
+/// block. An entry of another version has no address of it.
 pub fn carried_entries(
     alloc: Global,
     entries: &[Entry],

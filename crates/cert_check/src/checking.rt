@@ -57,7 +57,7 @@ fn unless_fault<'a>(
     }
 }
 
-// Checks the node at a line, which stands for the part's block, and those below it.
+// Checks the node at a line, which represents the part's block, and those below it.
 #[cycle(nodes)]
 fn check_node<'a>(
     sources: &Sources,
@@ -137,8 +137,8 @@ fn check_below<'a>(
     }
 }
 
-// Checks the rest of a chain's way from the part's block on: the node at its end, and then the blocks beside the way from the
-// deepest up.
+// Checks the rest of a chain's way from the part's block on: the node at its end, and then the blocks beside the way
+// from the deepest up.
 #[cycle(nodes)]
 fn check_way<'a>(
     sources: &Sources,
@@ -159,7 +159,7 @@ fn check_way<'a>(
     unless_fault(beside.leaf_fault(sources, side), number, next)
 }
 
-// Checks the nodes by these entries, which are those of the list in order.
+// Checks the nodes by these entries, the list's entries in order.
 fn check_nodes_by(sources: &Sources, entries: &[Entry]) -> Result<(), CheckFault>
     requires sources { AreSources sources.now }
     requires entries { AreInOrder sources.now.list.now.entries entries.now }
@@ -181,7 +181,7 @@ fn check_nodes_by(sources: &Sources, entries: &[Entry]) -> Result<(), CheckFault
     Ok(())
 }
 
-// Checks the nodes of a certificate of the same version as the map and the list.
+// Checks the nodes of a certificate whose version is that of the map and the list.
 fn check_nodes(
     alloc: Global,
     map: &MapText,
@@ -242,7 +242,7 @@ fn count_entries(
     Ok(count)
 }
 
-/// Checks that the certificate shows the list to be equivalent to the map and a shortest one, and answers how many
+/// Checks that the certificate shows the list to be equivalent to the map and a shortest one, and returns how many
 /// entries the list has. Whoever made them, the list then labels every address as the map does, and no list that does
 /// so has fewer entries. Labels are compared by their texts.
 ///
@@ -251,15 +251,15 @@ fn count_entries(
 /// The first fault, with the number of its node in the order of the certificate's node lines, from 1; a fault of no
 /// single node has the number 0.
 ///
-/// - `VersionDiffers`: the three are not of one version.
+/// - `VersionDiffers`: the three don't have one version.
 /// - Then the nodes, those of a lower half before those of the upper half and both before their node. `LeafNotUniform`:
 ///   the map doesn't settle the leaf's block with its label. `ListDiffers`: an entry lies strictly inside the leaf's
 ///   block, or the longest that covers it is absent or has another label. `CostTooHigh`: a cost above that of the exact
-///   pair of the claims of its halves. `SetTooSmall`: the same cost, and a set that lacks a label of that pair. A chain has
-///   one number: its end comes first, then the blocks beside its way from the deepest up, each as a leaf with the side
-///   label, then the claim against the chain's own pair.
+///   pair of the claims of its halves. `SetTooSmall`: the same cost, and a set that lacks a label of that pair. A chain
+///   has one number: its end comes first, then the blocks beside its way from the deepest up, each as a leaf with the
+///   side label, then the claim against the chain's own pair.
 /// - `BoundNotMet`: the list has more entries than the root's cost and one.
-/// - `NoMemory`: memory ran out.
+/// - `NoMemory`: an allocation failed.
 ///
 /// A fault doesn't say that the list is wrong or not a shortest one, only that this certificate doesn't show it.
 pub fn check(

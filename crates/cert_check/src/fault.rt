@@ -24,7 +24,7 @@ pub enum CheckFaultKind {
 }
 
 /// The first fault of a certificate: what is wrong, and the number of the node, from 1 in the order of the
-/// certificate's node lines. A fault of no single node, as want of memory, has the number 0.
+/// certificate's node lines. A fault of no single node, such as out of memory, has the number 0.
 #[derive(Clone, Copy, Debug, PartialEq, Eq, Hash, Error)]
 #[error("node {node}: {kind}")]
 pub struct CheckFault {

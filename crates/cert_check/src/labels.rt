@@ -10,7 +10,7 @@ ghost use Rattle.cert_check.specs.Sources.{AreNumbers};
 use pmap_text::{LabelId, Labels};
 use std::alloc::{AllocError, Global};
 
-/// For each label of a table its number in another table, none where that hasn't got it.
+/// Returns for each label of a table its number in another table, or `None` if that lacks it.
 pub fn numbers_in(
     alloc: Global,
     from: &Labels,

@@ -8,8 +8,8 @@ ghost use Rattle.pmap_cert.specs.CertificateForm.{HasFormatText, HasTextForm};
 ghost use Rattle.pmap_cert.specs.CertificateModel.{CertificateModel};
 ghost use Rattle.cert_check.specs.Checking.{first_fault};
 
-/// A certificate that has a text, of either format, has no fault exactly where it is accepted. Each `Certificate` has a text, and an
-/// accepted certificate has no fault whether it has a text or not.
+/// A certificate that has a text, of either format, has no fault exactly if it is accepted. Each `Certificate` has a
+/// text, and an accepted certificate has no fault even if it has no text.
 pub fn no_fault_is_acceptance()
     ensures accepted { (m : MapModel) (l : ListModel) (c : CertificateModel) → HasTextForm c →
         first_fault m l c ≡ None → IsAccepted m l c }

@@ -11,12 +11,12 @@
 //! assert!(rt; check(alloc, &map, &list, &certificate)? == 2);
 //! ```
 //!
-//! It stands on prefix_keys (blocks), pmap_text (maps, their stretches and prefix lists) and pmap_cert (certificates and
-//! the law that an accepted one is enough), and knows neither the trie nor the minimiser. The layer above may rely on
-//! this: `check` answers the number of entries exactly where the certificate is accepted for the map and the list, and
-//! then the list labels every address as the map does and no list that does so has fewer entries; else it answers the
-//! first fault with the number of its node. `carried` and `carried_entries` give the statements and entries that have a
-//! say in a block.
+//! It depends on prefix_keys (blocks), pmap_text (maps, their stretches and prefix lists) and pmap_cert (certificates
+//! and the law that an accepted one is enough), and knows neither the trie nor the minimiser. The layer above may rely
+//! on this: `check` returns the number of entries exactly if the certificate is accepted for the map and the list, and
+//! then the list labels every address as the map does and no list that does so has fewer entries. Otherwise it returns
+//! the first fault with the number of its node. `carried` and `carried_entries` return the statements and entries that
+//! affect a block.
 #![tactic(auto)]
 
 mod carrying;

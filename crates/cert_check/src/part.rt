@@ -81,7 +81,8 @@ impl<'a> Part<'a> {
         (&entries[1..], Some(first.label))
     }
 
-    // Whether the map settles the block with the certificate's label: one stretch has all of it, and that has the label.
+    // Whether the map settles the block with the certificate's label: one stretch has all of it, and that has the
+    // label.
     fn is_settled(&self, sources: &Sources, id: LabelId) -> bool
         requires sources { AreSources sources.now }
         requires part { IsPart sources.now self.now }
@@ -154,7 +155,7 @@ impl<'a> Part<'a> {
         (lower, upper)
     }
 
-    /// The part of the half that the bit chooses, and that of the half beside it.
+    /// The part of the half that the bit chooses, and the part of the other half.
     pub fn step(&self, sources: &Sources, bit: bool) -> (Part<'a>, Part<'a>)
         requires sources { AreSources sources.now }
         requires part { IsPart sources.now self.now }
@@ -229,8 +230,8 @@ impl<'a> Part<'a> {
         }
     }
 
-    /// The part of the block that the bits lead to, if one look shows that nothing is wrong with the blocks beside the way, as
-    /// leaves with the certificate's label `side`. If it doesn't, they must be checked one by one.
+    /// The part of the block that the bits lead to, if one look shows that nothing is wrong with the blocks beside the
+    /// way, as leaves with the certificate's label `side`. If it doesn't, they must be checked one by one.
     pub fn clear_end(&self, sources: &Sources, bits: &[bool], side: LabelId) -> Option<Part<'a>>
         requires sources { AreSources sources.now }
         requires part { IsPart sources.now self.now }
