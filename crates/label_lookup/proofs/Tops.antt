@@ -18,10 +18,6 @@ pub all_blocks : (v : Version) → 2 ^ width_of v ≡ 65536 * 2 ^ (width_of v - 
 all_blocks V4 = refl
 all_blocks V6 = refl
 
-pub width_small : (v : Version) → width_of v ≤ 128
-width_small V4 = omega arith
-width_small V6 = omega arith
-
 -- the stretch that has the first address of a block
 pub top_held : (s : StretchesModel) (block index first : ℕ) → HoldsAddress s first index → first ≡ block * block_size s → IsTopAt s block index
 top_held s block index first holds is = record { below = holds.index; from = omega (arith, holds.from, is); to = omega (arith, holds.to, is) }

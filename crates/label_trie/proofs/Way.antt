@@ -1,9 +1,8 @@
 -- The way from the root of a trie to the leaf that has an address.
 use Rattle.std.proofs.Common.{◌≡◌, ℕ, ◌+◌, ◌-◌, ◌/◌, ◌%◌, ◌^◌, ◌<◌, ◌≤◌, List, Option, length, option_map, slice_index_or, refl, sym, ◌∙◌, arith}
 use Rattle.std.proofs.lemmas.Bool.{eq-eqb}
-use Rattle.std.proofs.lemmas.Nat.{pow_pos, div_below}
 use Rattle.pmap_text.specs.declared.label.LabelId.{LabelId}
-use Rattle.label_trie.specs.Nodes.{IsAt, IsTrie, leaf_node, tree_at, tree_of}
+use Rattle.label_trie.specs.Nodes.{IsAt, leaf_node, tree_at, tree_of}
 use Rattle.label_trie.specs.Tree.{HasRoom, Tip, leaves_of, size}
 use Rattle.label_trie.specs.TrieModel.{label_among}
 use Rattle.label_trie.specs.declared.node.Node.{Node}
@@ -64,21 +63,6 @@ way_next W a nodes at high h way inner = omega (arith, at_within nodes (at + 1) 
 -- there are halves only if there is a host bit
 pub way_room : (W a : ℕ) (nodes : List Node) (at high h : ℕ) → IsOnWay W a nodes at h → IsInner nodes at high → 0 < h
 way_room W a nodes at high h way inner = let tree = inner.tree in let room = rw tree at way.room in room.0
-
--- the root is on the way of each address
-pub way_root : (W a : ℕ) (nodes : List Node) → IsTrie W nodes → a < 2 ^ W → IsOnWay W a nodes 0 W
-way_root W a nodes trie below =
-    let none : W - W ≡ 0 = omega arith in
-    let first : a / 2 ^ W < 1 = div_below a (2 ^ W) 1 (pow_pos W) (omega (arith, below)) in
-    let whole : a / 2 ^ W ≡ 0 = omega (arith, first) in
-    record {
-      here = trie.here;
-      small = omega (arith, trie.all);
-      room = trie.room;
-      few = trie.few;
-      within = omega arith;
-      label = rw (none, whole) refl;
-    }
 
 -- a leaf has its label for each address of its block, however many of the block's bits are counted
 tip_label : (W a h : ℕ) (label : Option LabelId) → h ≤ W

@@ -14,13 +14,18 @@ use Rattle.std.specs.Ordering.{is_eq, nat_cmp, ordering_then}
 use Rattle.std.specs.Prelude.{nat_lt}
 use Rattle.std.specs.declared.cmp.Ordering.{Ordering}
 use Rattle.std.specs.declared.cmp.Ordering.TheVariants.{Equal, Greater, Less}
-use Rattle.pmap_text.specs.Filed.{AreFiled, HasDistinctKeys, IsFirstRepeat, has_key, key_cmp, same_key}
+use Rattle.pmap_text.specs.Filed.{HasDistinctKeys, IsFirstRepeat, has_key, key_cmp, same_key}
 use Rattle.pmap_text.specs.ListEntries.{HasDistinctBlocks, rank_of, same_block}
 use Rattle.pmap_text.specs.ListModel.{Prefix}
 use Rattle.pmap_text.specs.MapModel.{Label}
 use Rattle.pmap_text.specs.PrefixList.{prefix_of}
 use Rattle.pmap_text.specs.Reading.{has_prefix}
 use Rattle.pmap_text.specs.declared.entry.Entry.{Entry}
+
+-- the keys are the starts and lengths of the entries' blocks, no two of which are equal
+pub record AreFiled (prefixes : List Prefix) (keys : List (ℕ × ℕ)) : Type 0 where
+  pub blocks : (start bits : ℕ) → list_any (λ k. k.0 == start && k.1 == bits) keys ≡ has_prefix prefixes start bits
+  pub distinct : HasDistinctKeys prefixes
 
 module _ {X Y : Type 0} (f : X → Y) where
   all_from_map : (P : Y → Type 0) (xs : List X) → AllByRecursion P (map f xs) → AllByRecursion (λ x. P (f x)) xs

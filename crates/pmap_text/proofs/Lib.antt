@@ -1,6 +1,5 @@
 pub mod LineEntries
 pub mod LeadingWords
-pub mod LeadingSpans
 pub mod Filed
 pub mod Pairs
 pub mod PackedStatements
@@ -17,6 +16,7 @@ pub mod ListBlocks
 pub mod Entering
 pub mod Orders
 pub mod StartLists
+pub mod OpenNumbers
 pub mod Swept
 pub mod Ranges
 pub mod Seen

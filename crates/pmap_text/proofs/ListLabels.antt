@@ -106,8 +106,8 @@ longest-below W ps (suc n) a fits =
           ih.2,
         )
 
--- the label is that of the longest entry that covers the address, and of equal blocks the first; it is none if none
--- covers it
+-- the label is that of the longest entry that covers the address, and of equal blocks the first; if none covers it,
+-- there is no label
 pub longest-match : (W : ℕ) (ps : List Prefix) (a : ℕ) →
     MatchOption (label_below W ps (suc W) a) (All (λ p. CoversAddress W a p → ⊥) ps)
     (λ x. (p : Prefix) × IsLongestMatch W ps a p × (p.label ≡ x))

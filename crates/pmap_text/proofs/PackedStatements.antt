@@ -1,7 +1,7 @@
 -- Packed mappings.
 use Rattle.std.proofs.Common.{◌≡◌, ℕ, ◌+◌, ◌-◌, ◌<◌, ◌≤◌, ◌^◌, List, [], ◌∷◌, ◌++◌, Some, length, map, get_or, slice_get, ap, sym, ◌∙◌, arith}
 use Rattle.std.proofs.Props.{props}
-use Rattle.std.proofs.lemmas.List.{append-nil, append_assoc, get_or-map, get_or_append_left, get_or-append_right, length-append, length-map, map-append, nil_from_length}
+use Rattle.std.proofs.lemmas.List.{append-nil, append_assoc, get_or-map, get_or-append_right, length-append, length-map, map-append, nil_from_length}
 use Rattle.std.proofs.lemmas.Option.{slice_get-get_or}
 use mathlib.Core.HLevel.{is_prop→PathP}
 use Rattle.prefix_keys.specs.Version.{width_of}

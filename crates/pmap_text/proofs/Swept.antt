@@ -1,24 +1,15 @@
--- The invariants of the steps of a sweep.
-use Rattle.std.proofs.Common.{◌≡◌, ℕ, ◌+◌, ◌<◌, ◌≤◌, ◌⊎◌, inl, inr, false, List, [], ◌∷◌, Option, Some, None, All, Contains, drop, get_or, length, option_map, slice_get, unwrap_or, refl, sym, ap, ◌∙◌, subst, arith, length-drop}
-use Rattle.std.specs.BinaryHeap.{IsHeap, IsUpperBound}
+-- What the steps of a sweep keep.
+use Rattle.std.proofs.Common.{◌≡◌, ℕ, ◌+◌, ◌<◌, ◌≤◌, ◌⊎◌, inl, inr, List, ◌∷◌, Option, Some, None, All, Contains, drop, get_or, length, slice_get, refl, sym, ap, ◌∙◌, subst, arith, length-drop}
 use Rattle.std.specs.List.Sorted.{IsNonDecreasingBy, IsPermutation}
-use Rattle.std.specs.Ordering.{is_lt, nat_cmp}
-use Rattle.std.proofs.lemmas.Bool.{both_ways, cases_lt, lt-ltb}
 use Rattle.std.proofs.lemmas.List.{drop_more, get_or-drop, get_or_read}
-use Rattle.std.proofs.lemmas.List.Elements.{All-contains, All-from_recursion, All-head, All-tail, All-weaker}
-use Rattle.std.proofs.lemmas.List.Sorted.{Contains-permutation, IsPermutation-sym}
+use Rattle.std.proofs.lemmas.List.Elements.{All-contains, All-head, All-tail, All-weaker}
+use Rattle.std.proofs.lemmas.List.Sorted.{Contains-permutation, IsNonDecreasingBy-drop, IsPermutation-sym}
 use Rattle.std.proofs.lemmas.Option.{same_Some, slice_get_within}
 use Rattle.pmap_text.specs.declared.statement.Statement.{Statement}
 use Rattle.pmap_text.specs.Starting.{start_of, IsStart, AreStarts}
-use Rattle.pmap_text.specs.Sweep.{AreBehind, Closes, HasBegun, IsSwept, IsTop, IsWinner, Opens, high_won, statement_won}
+use Rattle.pmap_text.specs.Sweep.{AreBehind, Closes, HasBegun, IsSwept, IsTop, IsWinner, Opens, high_won}
 use Rattle.pmap_text.specs.declared.start.Start.{Start}
-use Rattle.pmap_text.proofs.Finds.{Contains-cases, Contains-first, Contains-later, Contains-nil}
-
--- rising lists
-rising_drop : (starts : List Start) (n : ℕ) → IsNonDecreasingBy (λ start. start.low) starts → IsNonDecreasingBy (λ start. start.low) (drop n starts)
-rising_drop starts n up i j d le below =
-    let long = length-drop n starts in
-    rw (get_or-drop n starts i d, get_or-drop n starts j d) (up (n + i) (n + j) d (omega (arith, le)) (omega (arith, below, long)))
+use Rattle.pmap_text.proofs.Finds.{Contains-cases, Contains-first, Contains-later}
 
 -- if the first of a rising list is after an address, all are
 behind_first : (coming : List Start) (first : ℕ) (e : Start) → IsNonDecreasingBy (λ start. start.low) coming → 0 < length coming
@@ -34,19 +25,7 @@ pub behind_coming : (ss : List Statement) (starts : List Start) (next first : �
 behind_coming ss starts next first e are within is behind =
     let long = length-drop next starts in
     let here : get_or (drop next starts) 0 e ≡ get_or starts next e = get_or-drop next starts 0 e ∙ ap (λ (k : ℕ). get_or starts k e) (let z : next + 0 ≡ next = omega arith in z) in
-    behind_first (drop next starts) first e (rising_drop starts next are.rising) (omega (arith, within, long)) (is ∙ sym here) behind
-
--- the top of a heap is the maximum
-not_less : (x y : ℕ) → is_lt (nat_cmp x y) ≡ false → y ≤ x
-not_less x y e =
-    elim (cases_lt x y) [
-      | inl less ↦ let test = lt-ltb x y less in absurd (both_ways (is_lt (nat_cmp x y)) e (rw test))
-      | inr more ↦ more
-    ]
-
-pub greatest : (x : ℕ) (xs : List ℕ) → IsUpperBound nat_cmp x xs → All (λ y. y ≤ x) xs
-greatest x xs bound =
-    All-weaker (λ y. is_lt (nat_cmp x y) ≡ false) (λ y. y ≤ x) (λ y e. not_less x y e) xs (All-from_recursion (λ y. is_lt (nat_cmp x y) ≡ false) xs bound)
+    behind_first (drop next starts) first e (IsNonDecreasingBy-drop (λ start. start.low) next starts are.rising) (omega (arith, within, long)) (is ∙ sym here) behind
 
 -- the elements of a list with one more number
 module _ (x : ℕ) (xs ys : List ℕ) (moved : IsPermutation (x ∷ xs) ys) where
@@ -61,20 +40,18 @@ module _ (x : ℕ) (xs ys : List ℕ) (moved : IsPermutation (x ∷ xs) ys) wher
 
 -- the open statements that end before the address were dropped
 pub record IsClosing (ss : List Statement) (first : ℕ) (old opened : List ℕ) : Type 0 where
-  pub ordered : IsHeap nat_cmp opened
   pub fewer : (j : ℕ) → Contains opened j → Contains old j
   pub closed : (j : ℕ) (s : Statement) → slice_get ss j ≡ Some s → first ≤ s.span.high.value → Contains old j → Contains opened j
 
 -- the last open statement was removed, and is this one
 module _ (ss : List Statement) (first : ℕ) (old opened opened' : List ℕ) (top : ℕ) (t : Statement) (before : IsClosing ss first old opened)
-    (listed : slice_get ss top ≡ Some t) (moved : IsPermutation opened (top ∷ opened')) (ordered : IsHeap nat_cmp opened') where
+    (listed : slice_get ss top ≡ Some t) (moved : IsPermutation opened (top ∷ opened')) where
   back : IsPermutation (top ∷ opened') opened
   back = IsPermutation-sym opened (top ∷ opened') moved
 
-  pub closes_top : first ≤ t.span.high.value → IsUpperBound nat_cmp top opened' → Closes ss first old (Some top) opened'
+  pub closes_top : first ≤ t.span.high.value → All (λ i. i ≤ top) opened' → Closes ss first old (Some top) opened'
   closes_top goes_on bound = record {
-    ordered = ordered;
-    top = λ j has. All-contains (λ i. i ≤ top) opened' j (greatest top opened' bound) has;
+    top = λ j has. All-contains (λ i. i ≤ top) opened' j bound has;
     fewer = λ j active. before.fewer j (elim active [
       | inl same ↦ subst (Contains opened) (same_Some top j same) (pushed_here top opened' opened back)
       | inr has ↦ pushed_later top opened' opened back j has
@@ -88,7 +65,6 @@ module _ (ss : List Statement) (first : ℕ) (old opened opened' : List ℕ) (to
 
   pub closing_more : t.span.high.value < first → IsClosing ss first old opened'
   closing_more ends = record {
-    ordered = ordered;
     fewer = λ j has. before.fewer j (pushed_later top opened' opened back j has);
     closed = λ j s is to has. elim (pushed_cases top opened' opened back j (before.closed j s is to has)) [
       | inl same ↦
@@ -102,7 +78,6 @@ module _ (ss : List Statement) (first : ℕ) (old opened opened' : List ℕ) (to
 -- the first statement that is opened wins
 pub opens_first : (old : List ℕ) (number : ℕ) → IsTop None old → Opens None old number number old
 opens_first old number top = record {
-  ordered = λ heap. heap;
   top = λ j has. absurd (top j has);
   which = inl refl;
   kept = λ j active. elim active [
@@ -118,10 +93,8 @@ opens_first old number top = record {
 
 -- of two statements the later one wins, and the other one is added
 module _ (old new : List ℕ) (won number : ℕ) (top : IsTop (Some won) old) where
-  pub opens_earlier : number < won → IsPermutation (number ∷ old) new → (IsHeap nat_cmp old → IsHeap nat_cmp new)
-      → Opens (Some won) old number won new
-  opens_earlier less moved heap = record {
-    ordered = heap;
+  pub opens_earlier : number < won → IsPermutation (number ∷ old) new → Opens (Some won) old number won new
+  opens_earlier less moved = record {
     top = λ j has. elim (pushed_cases number old new moved j has) [
       | inl same ↦ omega (arith, same, less)
       | inr before ↦ top j before
@@ -138,10 +111,8 @@ module _ (old new : List ℕ) (won number : ℕ) (top : IsTop (Some won) old) wh
     ];
   }
 
-  pub opens_later : won ≤ number → IsPermutation (won ∷ old) new → (IsHeap nat_cmp old → IsHeap nat_cmp new)
-      → Opens (Some won) old number number new
-  opens_later less moved heap = record {
-    ordered = heap;
+  pub opens_later : won ≤ number → IsPermutation (won ∷ old) new → Opens (Some won) old number number new
+  opens_later less moved = record {
     top = λ j has. elim (pushed_cases won old new moved j has) [
       | inl same ↦ omega (arith, same, less)
       | inr before ↦ let below : j ≤ won = top j before in omega (arith, below, less)
@@ -161,31 +132,12 @@ module _ (old new : List ℕ) (won number : ℕ) (top : IsTop (Some won) old) wh
     ];
   }
 
--- nothing is open at first
-pub swept_start : (ss : List Statement) (starts : List Start) (opened : List ℕ) → AreStarts ss starts → opened ≡ [] → IsHeap nat_cmp opened
-    → IsSwept ss starts 0 None opened 0
-swept_start ss starts opened are nothing heap = record {
-  within = omega arith;
-  ordered = heap;
-  top = λ j has. absurd (Contains-nil j (rw nothing at has));
-  begun = λ j active. elim active [
-    | inl same ↦ absurd (let h : None ≡ Some j = same in cc)
-    | inr has ↦ absurd (Contains-nil j (rw nothing at has))
-  ];
-  pending = λ j a covers from. inr (are.every j covers.statement covers.listed);
-  later = λ k d below. omega arith;
-}
-
 -- the last address of the winner
 pub high_is : (ss : List Statement) (end : ℕ) (won : Option ℕ) (j : ℕ) (s : Statement) → won ≡ Some j → slice_get ss j ≡ Some s
     → high_won ss end won ≡ s.span.high.value
 high_is ss end won j s is listed = rw (is, listed) refl
 
-high_after : (o : Option ℕ) (first end : ℕ) → first ≤ end → first ≤ unwrap_or o first → first ≤ unwrap_or o end
-high_after None first end fits goes_on = fits
-high_after (Some high) first end fits goes_on = goes_on
-
--- the numbers of open statements are numbers of statements
+-- those that are open have numbers of statements
 pub open_known : (ss : List Statement) (first j : ℕ) → HasBegun ss first j → j < length ss
 open_known ss first j begun = slice_get_within ss j begun.statement begun.listed
 
@@ -196,7 +148,6 @@ module _ (ss : List Statement) (starts : List Start) (next : ℕ) (won : Option 
       → IsSwept ss starts next won' opened' first
   swept_closed end won' opened' ended closes = record {
     within = swept.within;
-    ordered = closes.ordered;
     top = closes.top;
     begun = λ j active. swept.begun j (inr (closes.fewer j active));
     pending = λ j a covers from. elim (swept.pending j a covers from) [
@@ -206,11 +157,6 @@ module _ (ss : List Statement) (starts : List Start) (next : ℕ) (won : Option 
     ];
     later = swept.later;
   }
-
-  pub goes_on_closed : (end : ℕ) (won' : Option ℕ) (opened' : List ℕ) → first ≤ end → Closes ss first opened won' opened'
-      → first ≤ high_won ss end won'
-  goes_on_closed end won' opened' fits closes =
-      high_after (option_map (λ s. s.span.high.value) (statement_won ss won')) first end fits closes.goes_on
 
   -- the next start is opened
   module _ (are : AreStarts ss starts) (e : Start) (latest : ℕ) (opened' : List ℕ) (within : next < length starts)
@@ -224,7 +170,6 @@ module _ (ss : List Statement) (starts : List Start) (next : ℕ) (won : Option 
     pub swept_opened : IsSwept ss starts (next + 1) (Some latest) opened' first
     swept_opened = record {
       within = omega (arith, within);
-      ordered = opens.ordered swept.ordered;
       top = opens.top;
       begun = λ j active. elim (opens.fewer j active) [
         | inl same ↦ subst (HasBegun ss first) (sym same)
@@ -272,7 +217,6 @@ module _ (ss : List Statement) (starts : List Start) (next : ℕ) (won : Option 
     pub swept_later : first ≤ last → IsSwept ss starts next won opened (last + 1)
     swept_later from = record {
       within = swept.within;
-      ordered = swept.ordered;
       top = swept.top;
       begun = λ j active. let begun = swept.begun j active in
           record { statement = begun.statement; listed = begun.listed; low = omega (arith, begun.low, from) };

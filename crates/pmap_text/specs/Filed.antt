@@ -23,12 +23,7 @@ key_cmp x y = ordering_then (nat_cmp x.0 y.0) (nat_cmp x.1 y.1)
 abbrev pub has_key : List (ℕ × ℕ) → ℕ × ℕ → Bool
 has_key keys k = list_any (λ q. is_eq (key_cmp k q)) keys
 
--- the keys are the starts and lengths of the entries' blocks, and no two of them are equal
-pub record AreFiled (prefixes : List Prefix) (keys : List (ℕ × ℕ)) : Type 0 where
-  pub blocks : (start bits : ℕ) → list_any (λ k. k.0 == start && k.1 == bits) keys ≡ has_prefix prefixes start bits
-  pub distinct : HasDistinctKeys prefixes
-
--- no entry has the block of an earlier one, or the entry at this index is the first that has
+-- no entry has the block of an earlier one, or the one at this index is the first that has
 abbrev pub IsFirstRepeat : List Prefix → Option ℕ → Type 0
 IsFirstRepeat ps None = HasDistinctKeys ps
 IsFirstRepeat ps (Some i) =

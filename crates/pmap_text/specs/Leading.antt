@@ -2,10 +2,7 @@ use Rattle.std.specs.Prelude.{◌≡◌, ℕ, ◌<◌, ◌≤◌, ◌||◌, ◌=
 use Rattle.std.specs.List.{list_all, list_any}
 use Rattle.prefix_keys.specs.Text.{address_of, block_of_text, decimal_value, dotted_address, is_digit, is_hex_digit, short_number}
 use Rattle.prefix_keys.specs.declared.addr.Addr.{Addr}
-use Rattle.prefix_keys.specs.declared.version.Version.TheVariants.{V4}
 use Rattle.pmap_text.specs.Label.{is_blank}
-use Rattle.pmap_text.specs.Reading.{Earlier, content_line, span_line}
-use Rattle.pmap_text.specs.declared.form.Form.TheVariants.{Map}
 use Rattle.pmap_text.specs.declared.leading.Word.{Word}
 use Rattle.pmap_text.specs.declared.leading.Word.TheVariants.{Address, Block as block_word}
 
@@ -56,9 +53,3 @@ IsWord word (Address addr) =
     (address_of word ≡ Some (addr.version, addr.value)) × (list_any (λ b. b == 47) word ≡ false)
 IsWord word (block_word block) =
     (block_of_text word ≡ Ok (block.version, block.value, block.len)) × (list_any (λ b. b == 47) word ≡ true)
-
--- in a map text of IPv4 a line with this content is a mapping of the addresses from low to high to the label in the
--- rest
-abbrev pub SaysSpan : List ℕ → ℕ → ℕ → List ℕ → Type 0
-SaysSpan content low high rest =
-    (earlier : Earlier) → earlier.version ≡ Some V4 → content_line Map earlier content ≡ span_line earlier V4 low high rest

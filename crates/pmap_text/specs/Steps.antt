@@ -1,11 +1,11 @@
-use Rattle.std.specs.Prelude.{◌≡◌, ◌≢◌, ℕ, ◌&&◌, Bool, true, false, length, nat_lt, slice_get, List, [], ◌∷◌, ◌++◌, Some, Result, Ok, Err, IfErr, OnErr, OnOk}
+use Rattle.std.specs.Prelude.{◌≡◌, ◌≢◌, ℕ, ◌&&◌, Bool, true, false, slice_get, List, [], ◌∷◌, ◌++◌, Some, Result, Ok, Err, IfErr, OnErr, OnOk}
 use Rattle.std.specs.Option.{option_or}
-use Rattle.pmap_text.specs.Declarations.{with_declared}
+use Rattle.pmap_text.specs.Declarations.{meant_text, with_declared}
 use Rattle.pmap_text.specs.Filed.{HasDistinctKeys, IsFirstRepeat}
 use Rattle.pmap_text.specs.Label.{with_label}
 use Rattle.pmap_text.specs.ListModel.{Prefix}
 use Rattle.pmap_text.specs.MapModel.{Label}
-use Rattle.pmap_text.specs.Reading.{Decides, Declares, Defaults, Earlier, Entry, Lists, Maps, Names, Nothing, earlier_of, entries_from, has_prefix, has_room, mapping_limit}
+use Rattle.pmap_text.specs.Reading.{Decides, Declares, Defaults, Earlier, Entry, Lists, Maps, Names, Nothing, earlier_of, entries_from, has_prefix, has_room}
 use Rattle.pmap_text.specs.declared.fault.MapFault.{MapFault}
 use Rattle.pmap_text.specs.declared.fault.MapFaultKind.{MapFaultKind}
 use Rattle.pmap_text.specs.declared.fault.MapFaultKind.TheVariants.{DuplicateBlock, NoMemory}
@@ -64,9 +64,9 @@ pub record Reads (old new : Earlier) (line : Result Entry MapFaultKind) (result 
   pub err : IfErr result (λ kind. kind ≡ refusal_of line)
   pub kept : OnErr result (new.prefixes ≡ old.prefixes)
 
--- there is room for one more entry with this label text
-abbrev pub has_prefix_room : Earlier → Label → Bool
-has_prefix_room earlier text = nat_lt (length earlier.prefixes) mapping_limit && has_room earlier.table text
+-- there is room for one more mapping or entry, and for the text that this label means
+abbrev pub has_label_room : Earlier → Bool → Label → Bool
+has_label_room earlier room label = room && has_room earlier.table (meant_text earlier.declared label)
 
 -- the first entry with the block of an earlier one is the first fault of the text, at the line noted for it
 abbrev pub NotesRepeats : Form → List (List ℕ) → List Prefix → List ℕ → Type 0

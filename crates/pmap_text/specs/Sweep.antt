@@ -1,7 +1,5 @@
 use Rattle.std.specs.Prelude.{◌≡◌, ℕ, ◌+◌, ◌<◌, ◌≤◌, ◌⊎◌, List, Option, Some, All, Contains, IsSomeAnd, drop, length, option_and_then, option_map, slice_get, unwrap_or}
-use Rattle.std.specs.BinaryHeap.{IsHeap, heap_items}
 use Rattle.std.specs.Option.{ForSome}
-use Rattle.std.specs.Ordering.{nat_cmp}
 use Rattle.pmap_text.specs.declared.statement.Statement.{Statement}
 use Rattle.pmap_text.specs.declared.start.Start.{Start}
 use Rattle.pmap_text.specs.declared.sweep.Sweep.{Sweep}
@@ -48,7 +46,6 @@ IsTop won opened = (j : ℕ) → Contains opened j → IsSomeAnd won (λ k. j �
 -- those that will be opened don't begin before `first`.
 pub record IsSwept (ss : List Statement) (starts : List Start) (next : ℕ) (won : Option ℕ) (opened : List ℕ) (first : ℕ) : Type 0 where
   pub within : next ≤ length starts
-  pub ordered : IsHeap nat_cmp opened
   pub top : IsTop won opened
   pub begun : (j : ℕ) → IsOpen won opened j → HasBegun ss first j
   pub pending : (j a : ℕ) (covers : Covers ss a j) → first ≤ a
@@ -61,7 +58,6 @@ AreBehind a coming = All (λ start. a < start.low) coming
 
 -- the last open statement that extends to `first` was removed, together with those that are later
 pub record Closes (ss : List Statement) (first : ℕ) (old : List ℕ) (won : Option ℕ) (new : List ℕ) : Type 0 where
-  pub ordered : IsHeap nat_cmp new
   pub top : IsTop won new
   pub fewer : (j : ℕ) → IsOpen won new j → Contains old j
   pub goes_on : first ≤ high_won ss first won
@@ -69,7 +65,6 @@ pub record Closes (ss : List Statement) (first : ℕ) (old : List ℕ) (won : Op
 
 -- the statement with the number was opened
 pub record Opens (won : Option ℕ) (old : List ℕ) (number latest : ℕ) (new : List ℕ) : Type 0 where
-  pub ordered : IsHeap nat_cmp old → IsHeap nat_cmp new
   pub top : IsTop (Some latest) new
   pub which : (latest ≡ number) ⊎ (won ≡ Some latest)
   pub kept : (j : ℕ) → (j ≡ number) ⊎ IsOpen won old j → IsOpen (Some latest) new j
@@ -78,7 +73,7 @@ pub record Opens (won : Option ℕ) (old : List ℕ) (number latest : ℕ) (new 
 -- a sweep knows which statements decide from the address on
 pub record IsReady (ss : List Statement) (first : ℕ) (s : Sweep) : Type 0 where
   pub starts : AreStarts ss s.starts
-  pub swept : IsSwept ss s.starts s.next s.won (heap_items s.opened) first
+  pub swept : IsSwept ss s.starts s.next s.won s.opened first
 
 -- from the address to the sweep's last one, which is at most `end`, its winner wins
 pub record IsSweeping (ss : List Statement) (end first : ℕ) (s : Sweep) : Type 0 where

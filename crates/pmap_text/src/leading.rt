@@ -1,8 +1,7 @@
 //! Addresses and blocks at the start of a text, read in one pass over its bytes. If a function here returns `None`,
 //! only the functions that read whole words can decide what the text is.
 ghost use Rattle.std.specs.Prelude.{◌≡◌, ◌≤◌, ◌∷◌, ℕ, List, IfSome};
-ghost use Rattle.prefix_keys.specs.declared.version.Version.TheVariants.{V4};
-ghost use Rattle.pmap_text.specs.Leading.{BeginsWithAddress, BeginsWithBlank, BeginsWithDigits, BeginsWithDotted, BeginsWithNumber, IsWord, SaysSpan};
+ghost use Rattle.pmap_text.specs.Leading.{BeginsWithAddress, BeginsWithBlank, BeginsWithDigits, BeginsWithDotted, BeginsWithNumber, IsWord};
 ghost use Rattle.pmap_text.specs.Lines.{behind_word, first_word, trim_start};
 
 use crate::label::is_blank;
@@ -111,8 +110,7 @@ fn leading_dotted(text: &[u8]) -> Option<(u32, &[u8])>
 // Returns the IPv4 address at the start of a text, and the rest of the text.
 #[inline(always)]
 fn leading_narrow(text: &[u8]) -> Option<(Addr, &[u8])>
-    ensures address { IfSome result (λ r. BeginsWithAddress text.now r.1.now r.0) }
-    ensures version { IfSome result (λ r. r.0.version ≡ V4) }
+    ensures { IfSome result (λ r. BeginsWithAddress text.now r.1.now r.0) }
 {
     let (value, rest) = leading_dotted(text)?;
     let addr = Addr {
@@ -171,32 +169,5 @@ pub fn leading_word(text: &[u8]) -> Option<(Word, &[u8])>
             Some((Word::Block(block_of(addr, len)), behind_blanks(rest)?))
         }
         None => Some((Word::Address(addr), behind_blanks(rest)?)),
-    }
-}
-
-/// Reads an IPv4 block or range, followed by blanks, at the start of a text. Returns its first and its last address,
-/// and the text after the blanks.
-#[inline(always)]
-pub fn leading_span(text: &[u8]) -> Option<(u32, u32, &[u8])>
-    ensures ordered { IfSome result (λ r. r.0 ≤ r.1) }
-    ensures says { IfSome result (λ r. SaysSpan text.now r.0 r.1 r.2.now) }
-{
-    let (first, rest) = leading_narrow(text)?;
-    match behind_byte(rest, b'/') {
-        Some(length) => {
-            let (len, rest) = leading_number(length, 32)?;
-            let behind = behind_blanks(rest)?;
-            let block = block_of(first, len);
-            Some((block.value as u32, block.high().value as u32, behind))
-        }
-        None => {
-            let (second, rest) = leading_narrow(behind_blanks(rest)?)?;
-            let behind = behind_blanks(rest)?;
-            if first.value <= second.value {
-                Some((first.value as u32, second.value as u32, behind))
-            } else {
-                None
-            }
-        }
     }
 }

@@ -33,6 +33,7 @@ mod lines;
 mod list_statements;
 mod map_text;
 mod name;
+mod opened;
 mod order;
 mod packed;
 mod prefix_list;

@@ -2,8 +2,8 @@ ghost use Rattle.std.specs.Prelude.{◌<◌};
 
 use crate::label::LabelId;
 
-// The number of labels that are remembered.
-const PLACES: usize = 1024;
+// How many labels are remembered.
+const PLACES: usize = 4096;
 
 /// The labels that were last found. The end of a label's text selects its slot, so that most labels are found again
 /// without a look-up in a table. A slot may have the number of another text, or of no text.
@@ -32,14 +32,15 @@ impl Recent {
     }
 }
 
-// Returns the slot of a text, from its last three bytes: names that end in different numbers have different slots.
+// The place of a text, by its last four bytes. Short names have different places, and so have most names that end in
+// different numbers.
 #[inline(always)]
 fn place_of(text: &[u8]) -> usize
-    ensures { result < 1024 }
+    ensures { result < 4096 }
 {
     let mut place = 0;
-    for byte in &text[text.len().saturating_sub(3)..] {
-        place = (place * 10 + usize::from(*byte)) % PLACES;
+    for byte in &text[text.len().saturating_sub(4)..] {
+        place = (place * 29 + usize::from(*byte)) % PLACES;
     }
     place
 }

@@ -1,15 +1,13 @@
 ghost use Rattle.std.specs.Prelude.{◌≡◌, ◌+◌, ◌<◌, ◌≤◌, ◌^◌, All, IfOk, OnOk, drop, length};
-ghost use Rattle.std.specs.BinaryHeap.{IsHeap, heap_items};
 ghost use Rattle.std.specs.Option.{ForSome};
-ghost use Rattle.std.specs.Ordering.{nat_cmp};
 ghost use Rattle.prefix_keys.specs.Version.{width_of};
 ghost use Rattle.pmap_text.specs.Sweep.{AreBehind, Closes, IsReady, IsSweeping, IsTop, Opens, high_won};
 
+use crate::opened::Opened;
 use crate::starts::Starts;
 use crate::statements::Statements;
 use prefix_keys::Version;
 use std::alloc::{AllocError, Global};
-use std::collections::BinaryHeap;
 
 /// A sweep over the addresses from the first to the last: the number of the statement that wins at the addresses up to
 /// `last`, if one does, and the state that is needed to continue.
@@ -20,11 +18,12 @@ pub struct Sweep<'a> {
     /// The starts of the statements, in rising order. Those before `next` have been opened.
     pub starts: Starts<'a>,
     pub next: usize,
-    /// The numbers of the other statements that have been opened and not yet been found to end.
-    pub opened: BinaryHeap<usize>,
+    /// The numbers of the others that have been opened and not yet been found to end.
+    pub opened: Opened,
 }
 
-// Returns the last address of the statement with the number, or the end if there is no number.
+// The last address of the statement with the number, or else the end.
+#[inline(always)]
 fn high_won(statements: &Statements, won: Option<usize>, end: u128) -> u128
     requires { ForSome won (λ number. number < length statements.now) }
     ensures { result ≡ high_won statements.now end won }
@@ -35,11 +34,11 @@ fn high_won(statements: &Statements, won: Option<usize>, end: u128) -> u128
     }
 }
 
-// Removes and returns the last statement that extends to the address, and drops those that are later.
-fn last_open(opened: &mut BinaryHeap<usize>, statements: &Statements, first: u128) -> Option<usize>
-    requires ordered { IsHeap nat_cmp (heap_items opened.old) }
-    requires known { All (λ j. j < length statements.now) (heap_items opened.old) }
-    ensures { Closes statements.now first (heap_items opened.old) result (heap_items opened.new) }
+// Takes out the last statement that goes on to the address, and drops those that are later.
+#[inline(always)]
+fn last_open(opened: &mut Opened, statements: &Statements, first: u128) -> Option<usize>
+    requires { All (λ j. j < length statements.now) opened.old }
+    ensures { Closes statements.now first opened.old result opened.new }
 {
     while let Some(number) = opened.pop() {
         if first <= statements.at(number).span.high.value {
@@ -50,13 +49,14 @@ fn last_open(opened: &mut BinaryHeap<usize>, statements: &Statements, first: u12
 }
 
 // Opens the statement with the number, and returns the later one of it and the winner. The other one is added.
+#[inline(always)]
 fn open_statement(
-    opened: &mut BinaryHeap<usize>,
+    opened: &mut Opened,
     won: Option<usize>,
     number: usize,
 ) -> Result<usize, AllocError>
-    requires { IsTop won (heap_items opened.old) }
-    ensures { IfOk result (λ latest. Opens won (heap_items opened.old) number latest (heap_items opened.new)) }
+    requires { IsTop won opened.old }
+    ensures { IfOk result (λ latest. Opens won opened.old number latest opened.new) }
 {
     let Some(won) = won else {
         return Ok(number);
@@ -93,7 +93,7 @@ impl<'a> Sweep<'a> {
             last: 0,
             starts: Starts::new(alloc, statements)?,
             next: 0,
-            opened: BinaryHeap::new(alloc),
+            opened: Opened::new(alloc),
         };
         sweep.move_to(statements, end, 0)?;
         Ok(sweep)
@@ -101,7 +101,8 @@ impl<'a> Sweep<'a> {
 }
 
 impl Sweep<'_> {
-    /// Advances to the address. After a failed allocation the sweep must not be continued.
+    /// Goes on to the address.
+    #[inline(always)]
     pub fn move_to(
         &mut self,
         statements: &Statements,
@@ -123,6 +124,7 @@ impl Sweep<'_> {
 
 // Opens the statements that begin at the address or before it, and returns the address before the next one begins, at
 // most `end`.
+#[inline(always)]
 fn open_begun(
     sweep: &mut Sweep,
     statements: &Statements,

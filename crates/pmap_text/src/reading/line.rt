@@ -1,38 +1,36 @@
-//! Reading one line of a text.
-ghost use Rattle.std.specs.Prelude.{◌≡◌, ◌<◌, ◌≤◌, ◌==◌, ◌⊎◌, Some, Ok, Err, true, false, length, slice_index, IsTrue, IfOk, IfErr, OnOk, OnErr};
+//! The reading of one line of a text.
+ghost use Rattle.std.specs.Prelude.{◌≡◌, ◌<◌, ◌≤◌, ◌==◌, ◌⊎◌, Some, Ok, Err, true, false, length, slice_get, slice_index, IsTrue, IfOk, IfErr, OnOk, OnErr};
 ghost use Rattle.std.specs.List.{list_any};
 ghost use Rattle.prefix_keys.specs.Text.{address_of, block_of_text, is_digit};
-ghost use Rattle.prefix_keys.specs.declared.version.Version.TheVariants.{V4};
 ghost use Rattle.pmap_text.specs.Declarations.{label_number as number_of_label, meant_text};
-ghost use Rattle.pmap_text.specs.Label.{is_label as is_label_text};
+ghost use Rattle.pmap_text.specs.Label.{is_label as is_label_text, with_label};
 ghost use Rattle.pmap_text.specs.Lines.{first_word};
 ghost use Rattle.pmap_text.specs.Reading.{Lists, address_line, block_line, content_line, decided, declared_line, default_line, label_line, label_of, mode_line, mode_version, name_line, one_or_two, other_fault, placed_line, prefix_line, range_line, single_line, span_line, statement_line, version_at as version_at_of};
-ghost use Rattle.pmap_text.specs.Steps.{Reads, added, has_prefix_room};
+ghost use Rattle.pmap_text.specs.Steps.{Reads, has_label_room};
 ghost use Rattle.pmap_text.specs.declared.fault.MapFaultKind.TheVariants.{NoMemory, TooMany};
-ghost use Rattle.pmap_text.specs.declared.form.Form.TheVariants.{Map};
 
 use crate::declarations::label_number;
 use crate::fault::MapFaultKind;
 use crate::form::Form;
 use crate::in_version::{addr_in, block_in};
-use crate::label::is_label;
-use crate::leading::{Word, leading_span, leading_word};
+use crate::label::{LabelId, is_label};
+use crate::leading::{Word, leading_word};
 use crate::lines::split_word;
 use crate::reading::{MAPPING_LIMIT, Reading};
 use prefix_keys::{
     Addr, Block, BlockFault, Span, Version, are_digits, block_of, read_addr, read_block,
 };
 
-// Returns the rest of a line as a label.
-fn label_text(rest: &[u8]) -> Result<&[u8], MapFaultKind>
-    ensures ok { IfOk result (λ text. label_of rest.now ≡ Ok text.now) }
-    ensures label { IfOk result (λ text. IsTrue (is_label_text text.now)) }
+// Checks that the rest of a line is a label.
+fn check_label(rest: &[u8]) -> Result<(), MapFaultKind>
+    ensures ok { OnOk result (label_of rest.now ≡ Ok rest.now) }
+    ensures label { OnOk result (IsTrue (is_label_text rest.now)) }
     ensures err { IfErr result (λ kind. label_of rest.now ≡ Err kind) }
 {
     if rest.is_empty() {
         Err(MapFaultKind::MissingLabel)
     } else if is_label(rest) {
-        Ok(rest)
+        Ok(())
     } else {
         Err(MapFaultKind::BadLabel)
     }
@@ -84,8 +82,8 @@ impl Reading {
     fn read_name(&mut self, rest: &[u8]) -> Result<(), MapFaultKind>
         ensures { Reads self.old self.new (name_line rest.now) result }
     {
-        let name = label_text(rest)?;
-        self.set_name(name)
+        check_label(rest)?;
+        self.set_name(rest)
     }
 
     // Reads `mode WORD`, given the text after the first word.
@@ -109,14 +107,14 @@ impl Reading {
     fn read_declared(&mut self, number: u32, rest: &[u8]) -> Result<(), MapFaultKind>
         ensures { Reads self.old self.new (declared_line self.old (Some number) rest.now) result }
     {
-        let text = label_text(rest)?;
-        if are_digits(text) {
+        check_label(rest)?;
+        if are_digits(rest) {
             return Err(MapFaultKind::BadLabel);
         }
-        if self.conflicts(number, text) {
+        if self.conflicts(number, rest) {
             return Err(MapFaultKind::LabelConflict);
         }
-        self.declare(number, text)
+        self.declare(number, rest)
     }
 
     // Reads `label NUMBER TEXT`, given the text after the first word.
@@ -137,88 +135,66 @@ impl Reading {
         if form == Form::List {
             return Err(MapFaultKind::NotAList);
         }
-        let text = label_text(rest)?;
-        let label = self.label_id(text)?;
+        let label = self.line_label(rest, true)?;
         self.set_default(label);
         Ok(())
     }
 
-    // Reads a label for a span in the text's version, given the text after the span.
+    // Returns the number of the label in the rest of a line. `has_room` says whether there is room for one more mapping
+    // or entry.
+    #[inline(always)]
+    fn line_label(&mut self, rest: &[u8], has_room: bool) -> Result<LabelId, MapFaultKind>
+        ensures said { OnOk result (label_of rest.now ≡ Ok rest.now) }
+        ensures room { OnOk result (has_label_room self.old has_room rest.now ≡ true) }
+        ensures ok { OnOk result (self.new
+            ≡ record self.old { table = with_label self.old.table (meant_text self.old.declared rest.now) }) }
+        ensures text { IfOk result (λ id. slice_get self.new.table id.0
+            ≡ Some (meant_text self.old.declared rest.now)) }
+        ensures err { IfErr result (λ kind. (label_of rest.now ≡ Err kind)
+            ⊎ ((label_of rest.now ≡ Ok rest.now) × (kind ≡ NoMemory)
+            × (has_label_room self.old has_room rest.now ≡ true))
+            ⊎ ((label_of rest.now ≡ Ok rest.now) × (kind ≡ TooMany)
+            × (has_label_room self.old has_room rest.now ≡ false))) }
+        ensures kept { OnErr result (self.new.prefixes ≡ self.old.prefixes) }
+    {
+        match self.recent_label(rest) {
+            Some(label) if has_room => Ok(label),
+            _ => {
+                check_label(rest)?;
+                if !has_room {
+                    return Err(MapFaultKind::TooMany);
+                }
+                self.label_id(rest)
+            }
+        }
+    }
+
+    // Reads a span in the text's version followed by a label, given the text after the span.
     #[inline(always)]
     fn read_span(&mut self, span: Span, rest: &[u8]) -> Result<(), MapFaultKind>
         requires { version_at_of self.old span.low.version ≡ span.low.version }
         ensures { Reads self.old self.new
             (span_line self.old span.low.version span.low.value span.high.value rest.now) result }
     {
-        match self.recent_label(rest) {
-            Some(label) if self.mapping_count() < MAPPING_LIMIT => self.add_statement(span, label),
-            _ => self.read_labelled(span, rest),
-        }
-    }
-
-    // Reads any label for a span in the text's version, given the text after the span.
-    fn read_labelled(&mut self, span: Span, rest: &[u8]) -> Result<(), MapFaultKind>
-        requires { version_at_of self.old span.low.version ≡ span.low.version }
-        ensures { Reads self.old self.new
-            (span_line self.old span.low.version span.low.value span.high.value rest.now) result }
-    {
-        let text = label_text(rest)?;
-        if self.mapping_count() >= MAPPING_LIMIT {
-            return Err(MapFaultKind::TooMany);
-        }
-        let label = self.label_id(text)?;
+        let has_room = self.mapping_count() < MAPPING_LIMIT;
+        let label = self.line_label(rest, has_room)?;
         self.add_statement(span, label)
     }
 
-    // Reads a label for the IPv4 addresses from `low` to `high` in a map text of IPv4, given the text after the
-    // addresses.
-    #[inline(always)]
-    fn read_narrow(&mut self, low: u32, high: u32, rest: &[u8]) -> Result<(), MapFaultKind>
-        requires version { self.old.version ≡ Some V4 }
-        requires ordered { low ≤ high }
-        ensures { Reads self.old self.new (span_line self.old V4 low high rest.now) result }
-    {
-        let low = Addr {
-            version: Version::V4,
-            value: u128::from(low),
-        };
-        let high = Addr {
-            version: Version::V4,
-            value: u128::from(high),
-        };
-        self.read_span(Span { low, high }, rest)
-    }
-
-    // Adds an entry for a block with this label. An earlier entry may have the same block.
-    fn take_prefix(&mut self, block: Block, label: &[u8]) -> Result<(), MapFaultKind>
-        requires version { version_at_of self.old block.version ≡ block.version }
-        requires label { IsTrue (is_label_text label.now) }
-        ensures room { OnOk result (has_prefix_room self.old (meant_text self.old.declared label.now) ≡ true) }
-        ensures ok { OnOk result (self.new ≡ added self.old (Lists block.version
-            (record { start = block.value; bits = block.len; label = meant_text self.old.declared label.now }))) }
-        ensures err { IfErr result (λ kind.
-            ((kind ≡ NoMemory) × (has_prefix_room self.old (meant_text self.old.declared label.now) ≡ true))
-            ⊎ ((kind ≡ TooMany) × (has_prefix_room self.old (meant_text self.old.declared label.now) ≡ false))) }
-        ensures kept { OnErr result (self.new.prefixes ≡ self.old.prefixes) }
-    {
-        if self.entry_count() >= MAPPING_LIMIT {
-            return Err(MapFaultKind::TooMany);
-        }
-        let label = self.label_id(label)?;
-        self.add_entry(block, label)
-    }
-
-    // Reads a label for a block in the text's version, as an entry, given the text after the block. A repeated block is
-    // detected here if the line has another fault, otherwise after the last line.
+    // Reads a block in the text's version followed by a label, as an entry, given the text after the block. A repeated
+    // block is found here if the line has another fault, and otherwise after the last line.
     fn read_prefix(&mut self, block: Block, rest: &[u8]) -> Result<(), MapFaultKind>
         requires { version_at_of self.old block.version ≡ block.version }
         ensures { Reads self.old self.new (prefix_line self.old block.version block.value block.len rest.now) result }
     {
-        let text = label_text(rest)?;
-        match self.take_prefix(block, text) {
-            Ok(()) => Ok(()),
-            Err(_) if self.has_block(&block) => Err(MapFaultKind::DuplicateBlock),
+        let has_room = self.entry_count() < MAPPING_LIMIT;
+        let taken = match self.line_label(rest, has_room) {
+            Ok(label) => self.add_entry(block, label),
             Err(kind) => Err(kind),
+        };
+        match taken {
+            Err(_) if is_label(rest) && self.has_block(&block) => Err(MapFaultKind::DuplicateBlock),
+            taken => taken,
         }
     }
 
@@ -365,8 +341,9 @@ impl Reading {
         self.read_statement(form, word, rest)
     }
 
-    // Reads a line that begins with an address or a block of either version, or with any other word.
-    fn read_line(&mut self, form: Form, content: &[u8]) -> Result<(), MapFaultKind>
+    /// Reads the content of one more line. An entry for a block that has one already is added too. After a fault
+    /// nothing is known of the lines so far.
+    pub fn read_content(&mut self, form: Form, content: &[u8]) -> Result<(), MapFaultKind>
         ensures { Reads self.old self.new (content_line form self.old content.now) result }
     {
         match leading_word(content) {
@@ -374,26 +351,5 @@ impl Reading {
             Some((Word::Address(first), rest)) => self.read_behind_address(form, first, rest),
             None => self.read_words(form, content),
         }
-    }
-
-    // Returns `true` if the text is a map of IPv4, as decided by the lines so far.
-    fn is_narrow(&self, form: Form) -> bool
-        ensures form { IsTrue result → form ≡ Map }
-        ensures version { IsTrue result → self.now.version ≡ Some V4 }
-    {
-        form == Form::Map && self.version_at(Version::V6) == Version::V4
-    }
-
-    /// Reads the content of one more line. An entry with the block of an earlier one is added too. After a fault the
-    /// lines so far are unspecified.
-    pub fn read_content(&mut self, form: Form, content: &[u8]) -> Result<(), MapFaultKind>
-        ensures { Reads self.old self.new (content_line form self.old content.now) result }
-    {
-        if self.is_narrow(form) {
-            if let Some((low, high, rest)) = leading_span(content) {
-                return self.read_narrow(low, high, rest);
-            }
-        }
-        self.read_line(form, content)
     }
 }

@@ -1,5 +1,5 @@
 use Rattle.std.proofs.Common.{◌≡◌, List, map, take}
-use Rattle.pmap_text.specs.Filed.{AreFiled}
+use Rattle.pmap_text.proofs.Filed.{AreFiled}
 use Rattle.pmap_text.specs.MapModel.{Label}
 use Rattle.pmap_text.specs.PrefixList.{prefix_of}
 use Rattle.pmap_text.proofs.repeats.find_repeat.Given as goal

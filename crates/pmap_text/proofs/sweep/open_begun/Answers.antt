@@ -1,6 +1,5 @@
 use Rattle.std.proofs.Common.{◌≡◌, ◌<◌, arith, get_or, length, sym}
 use Rattle.std.proofs.lemmas.Option.{get_or_from_slice_get}
-use Rattle.std.specs.BinaryHeap.{heap_items}
 use Rattle.pmap_text.proofs.Swept.{behind_coming, goes_on_opened, swept_opened}
 use Rattle.pmap_text.proofs.sweep.open_begun.Goals as goal
 
@@ -20,14 +19,14 @@ loop-sweep-preserved c =
     let within : sweep.next < length sweep.starts = omega (arith, c.loop-sweep-test.true, c.len.ensures) in
     let start = c.at-start.result in
     let is : start ≡ get_or sweep.starts sweep.next start = sym (get_or_from_slice_get sweep.starts sweep.next start start c.at-start.ensures) in
-    let opened = heap_items c.open_statement.new.opened in
+    let opened = c.open_statement.new.opened in
     let latest = c.in_ok-open_statement.field-0 in
     record {
       ready = record {
         starts = ready.starts;
-        swept = swept_opened c.args.statements.now sweep.starts sweep.next sweep.won (heap_items sweep.opened) c.args.first ready.swept ready.starts start
+        swept = swept_opened c.args.statements.now sweep.starts sweep.next sweep.won sweep.opened c.args.first ready.swept ready.starts start
             latest opened within is c.if-first-start.false c.in_ok-open_statement.ensures;
       };
-      goes_on = goes_on_opened c.args.statements.now sweep.starts sweep.next sweep.won (heap_items sweep.opened) c.args.first ready.swept ready.starts start
+      goes_on = goes_on_opened c.args.statements.now sweep.starts sweep.next sweep.won sweep.opened c.args.first ready.swept ready.starts start
           latest opened within is c.if-first-start.false c.in_ok-open_statement.ensures c.args.end c.loop-sweep.invariant.goes_on;
     }

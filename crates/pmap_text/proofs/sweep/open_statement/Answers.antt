@@ -6,13 +6,13 @@ pub returns-then-number-won : goal.returns-then-number-won
 returns-then-number-won c =
     let is = c.in-Some.is in
     let top = rw is at c.requires in
-    rw is (opens_earlier _ _ c.in-Some.won c.args.number top c.if-number-won.true c.in_ok-push.ensures.permutation c.in_ok-push.ensures.heap_order)
+    rw is (opens_earlier _ _ c.in-Some.won c.args.number top c.if-number-won.true c.in_ok-push.ensures)
 
 pub returns : goal.returns
 returns c =
     let is = c.in-Some.is in
     let top = rw is at c.requires in
-    rw is (opens_later _ _ c.in-Some.won c.args.number top c.if-number-won.false c.in_ok-push-2.ensures.permutation c.in_ok-push-2.ensures.heap_order)
+    rw is (opens_later _ _ c.in-Some.won c.args.number top c.if-number-won.false c.in_ok-push-2.ensures)
 
 pub returns-in_default : goal.returns-in_default
 returns-in_default c =

@@ -1,5 +1,4 @@
 use Rattle.std.proofs.Common.{◌≡◌, ◌<◌, ◌≤◌, inl, inr, arith, drop, get_or}
-use Rattle.std.specs.BinaryHeap.{heap_items}
 use Rattle.std.proofs.lemmas.List.Elements.{All-weaker, Contains-get_or}
 use Rattle.pmap_text.specs.Sweep.{high_won}
 use Rattle.pmap_text.specs.declared.start.Start.{Start}
@@ -10,9 +9,9 @@ use Rattle.pmap_text.proofs.sweep.Sweep.move_to.Goals.{then-high_won-first, else
 pub high_won-requires : goal.high_won-requires
 high_won-requires c = λ j is. open_known c.args.statements.now c.args.first j (c.requires.ready.swept.begun j (inl is))
 
-pub last_open-self-requires-clause-known : goal.last_open-self-requires-clause-known
-last_open-self-requires-clause-known c = λ k d below.
-    let opened = heap_items c.args.self.now.opened in
+pub last_open-self-requires : goal.last_open-self-requires
+last_open-self-requires c = λ k d below.
+    let opened = c.args.self.now.opened in
     let j = get_or opened k d in
     open_known c.args.statements.now c.args.first j (c.requires.ready.swept.begun j (inr (Contains-get_or opened k d below)))
 
@@ -25,7 +24,7 @@ open_begun-requires-clause-ready c =
           let ended = w.if-high_won-first.true in
           rw self (record {
             starts = c.requires.ready.starts;
-            swept = swept_closed c.args.statements.now c.args.self.now.starts c.args.self.now.next c.args.self.now.won (heap_items c.args.self.now.opened)
+            swept = swept_closed c.args.statements.now c.args.self.now.starts c.args.self.now.next c.args.self.now.won c.args.self.now.opened
                 c.args.first c.requires.ready.swept c.args.end _ _ (omega (arith, high, ended)) w.last_open-self.ensures;
           })
       | else-high_won-first w ↦ let self = w.self-is in rw self c.requires.ready
@@ -39,7 +38,7 @@ returns c =
     let ss = c.args.statements.now in
     let sweep = c.open_begun.new.sweep in
     let ready = c.in_ok-before.ensures.ready in
-    let opened = heap_items sweep.opened in
+    let opened = sweep.opened in
     let before = c.in_ok-before.before in
     let last = c.min-self.result in
     let high : c.high_won-2.result ≡ high_won ss c.args.end sweep.won = c.high_won-2.ensures in

@@ -4,7 +4,7 @@ use Rattle.pmap_text.specs.Lines.{first_word}
 use Rattle.pmap_text.specs.declared.leading.Word.{Word}
 use Rattle.pmap_text.specs.declared.leading.Word.TheVariants.{Address, Block as block_word}
 use Rattle.pmap_text.proofs.LeadingWords.{content-address, content-block}
-use Rattle.pmap_text.proofs.reading.Reading.read_line.Goals as goal
+use Rattle.pmap_text.proofs.reading.Reading.read_content.Goals as goal
 
 pub returns-in-Some-Block-default : goal.returns-in-Some-Block-default
 returns-in-Some-Block-default c =
