@@ -1,6 +1,5 @@
 -- The first fault of the options, in their order.
 use Rattle.std.proofs.Common.{◌≡◌, inl, inr, ℕ, ◌+◌, List, [], ◌∷◌, ◌++◌, Option, Some, None, Err, length, take, refl, sym, ap, subst, ◌∙◌}
-use Rattle.std.specs.Option.{option_or}
 use lib.Seq.{take-append-add}
 use Rattle.flow_filter.specs.Given.{IsRefused}
 use Rattle.flow_filter.specs.Words.{IsFault, Words, condition_of, fault_in, fault_of, fault_unless, faults, filter_of_words, first_some, place_of, text_of, unless_fault}

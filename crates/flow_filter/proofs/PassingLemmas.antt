@@ -1,8 +1,7 @@
--- The rows of a message that pass, and rows to which others are added.
-use Rattle.std.proofs.Common.{◌≡◌, ◌∙◌, ◌+◌, ◌*◌, ◌≤◌, Bool, false, List, [], ◌∷◌, ◌++◌, Option, Some, None, Result, Ok, Err, OnOk, arith, filter, length, map, take, true≢false, sym, ap}
-use Rattle.std.proofs.lemmas.List.{append-nil, append_assoc, length-append, length-map, length-take, take-take}
+-- The rows that pass of a message, and rows that others are added to.
+use Rattle.std.proofs.Common.{◌≡◌, ◌∙◌, ◌+◌, ◌*◌, ◌≤◌, Bool, false, true, List, [], ◌∷◌, ◌++◌, Option, Some, None, Result, Ok, Err, OnOk, arith, filter, length, map, take, true≢false, refl, sym, ap}
+use Rattle.std.proofs.lemmas.List.{length-append, length-map, length-take, take-take}
 use Rattle.std.proofs.lemmas.List.Concat.{length-flat_map}
-use Rattle.std.proofs.lemmas.List.Elements.{filter-append}
 use Rattle.std.proofs.lemmas.List.Sums.{count_by-le-length, length-filter, sum_by-le-sum_by}
 use Rattle.std.specs.List.{flat_map}
 use Rattle.std.specs.Option.{option_to_list}
@@ -23,22 +22,10 @@ front_within a b h = omega (arith, length-take (length a) b, ap length h)
 pub front_stays : {X : Type 0} (a b c : List X) → take (length a) b ≡ a → take (length b) c ≡ b → take (length a) c ≡ a
 front_stays a b c h k = sym (take-take (length a) (length b) c (front_within a b h)) ∙ ap (take (length a)) k ∙ h
 
--- the rows of one more record that pass, followed by those of the records after it
-pub pass_one : (p : RowView → Bool) (rows : Record → List RowView) (before all whole : List RowView) (left more : List Record) (r : Record)
-    → left ≡ r ∷ more → all ≡ before ++ filter p (rows r)
-    → before ++ filter p (flat_map rows left) ≡ whole → all ++ filter p (flat_map rows more) ≡ whole
-pass_one p rows before all whole left more r begins added so_far =
-    ap (λ (those : List RowView). those ++ filter p (flat_map rows more)) added
-    ∙ append_assoc before (filter p (rows r)) (filter p (flat_map rows more))
-    ∙ ap (λ (those : List RowView). before ++ those) (sym (filter-append p (rows r) (flat_map rows more)))
-    ∙ ap (λ (those : List Record). before ++ filter p (flat_map rows those)) (sym begins)
-    ∙ so_far
-
--- the rows after the last record
-pub pass_all : (p : RowView → Bool) (rows : Record → List RowView) (before whole : List RowView) (left : List Record)
-    → left ≡ [] → before ++ filter p (flat_map rows left) ≡ whole → before ≡ whole
-pass_all p rows before whole left none so_far =
-    sym (append-nil before) ∙ ap (λ (those : List Record). before ++ filter p (flat_map rows those)) (sym none) ∙ so_far
+-- where each row passes, all do
+pub all_pass : (p : RowView → Bool) → ((row : RowView) → p row ≡ true) → (rows : List RowView) → filter p rows ≡ rows
+all_pass p each [] = refl
+all_pass p each (row ∷ rows) = rw (each row) (ap (λ (rest : List RowView). row ∷ rest) (all_pass p each rows))
 
 -- a message has at most twice as many rows that pass as sets and records
 one_at_most : (o : Option RowView) → length (option_to_list o) ≤ 1
@@ -87,7 +74,7 @@ few_more p sets old new size added =
       size,
     )
 
-pub few_added : {E : Type 0} (r : Result (Unit {0}) E) (p : RowView → Bool) (sets : List Set) (old new : List Row) → is_err r ≡ false
-    → message_size sets ≤ 65535 → OnOk r (map row_view new ≡ map row_view old ++ filter p (rows_of sets)) → length new ≤ length old + 131070
-few_added (Ok x) p sets old new is size added = few_more p sets old new size added
-few_added (Err e) p sets old new is size added = absurd (true≢false is)
+pub few_added : {E A : Type 0} (r : Result (Unit {0}) E) (p : RowView → Bool) (sets : List Set) (old new : List Row) → is_err r ≡ false
+    → message_size sets ≤ 65535 → OnOk r A → (A → map row_view new ≡ map row_view old ++ filter p (rows_of sets)) → length new ≤ length old + 131070
+few_added (Ok x) p sets old new is size added keeps = few_more p sets old new size (keeps added)
+few_added (Err e) p sets old new is size added keeps = absurd (true≢false is)

@@ -1,5 +1,6 @@
-ghost use Rattle.std.specs.Prelude.{◌≡◌, IfErr, IfOk, Ok, option_map};
-ghost use Rattle.flow_rows.specs.Row.{row_view};
+ghost use Rattle.std.specs.Prelude.{◌≡◌, ℕ, IfErr, IfOk, List, Ok, Option, option_map, true};
+ghost use Rattle.flow_rows.specs.Row.{RowView, row_view};
+ghost use Rattle.prefix_keys.specs.Text.{AddressOf};
 ghost use Rattle.flow_filter.specs.Condition.{allows, needs_map, row_passes};
 ghost use Rattle.label_lookup.specs.Labelling.{label_where, labelling_lent};
 ghost use Rattle.flow_filter.specs.Filters.{condition_in};
@@ -114,7 +115,22 @@ impl<'a> Filter<'a> {
             && is_either_allowed(self.any_label, labeller, row.src, row.dst)
     }
 
-    /// Returns `true` if a condition on labels is given, which needs a map or a list.
+    /// Whether no condition is given, so that each row passes.
+    pub(crate) fn passes_all(&self) -> bool
+        ensures { result ≡ true → (label : AddressOf → Option (List ℕ)) (row : RowView)
+            → row_passes (condition_in self.now) label row ≡ true }
+    {
+        self.protocol.is_none()
+            && self.sport.is_none()
+            && self.dport.is_none()
+            && self.saddress.is_none()
+            && self.daddress.is_none()
+            && self.packets.is_none()
+            && self.bytes.is_none()
+            && !self.needs_map()
+    }
+
+    /// Whether a condition on labels is given, which needs a map or a list.
     pub fn needs_map(&self) -> bool
         ensures { result ≡ needs_map (condition_in self.now) }
     {

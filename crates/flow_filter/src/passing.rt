@@ -1,9 +1,9 @@
 //! The rows of a message that pass a filter.
-ghost use Rattle.std.specs.Prelude.{◌≡◌, ◌+◌, ◌≤◌, ◌++◌, ◌∷◌, [], OnErr, OnOk, length, map, take};
+ghost use Rattle.std.specs.Prelude.{◌≡◌, ◌+◌, ◌≤◌, ◌++◌, List, OnErr, OnOk, length, map, take};
 ghost use Rattle.std.specs.List.{flat_map};
 ghost use Rattle.flow_rows.specs.Content.{rows_of};
 ghost use Rattle.flow_rows.specs.Elements.{rows_of_record};
-ghost use Rattle.flow_rows.specs.Row.{row_view};
+ghost use Rattle.flow_rows.specs.Row.{RowView, row_view};
 ghost use Rattle.label_lookup.specs.Labelling.{labelling_lent};
 ghost use Rattle.flow_filter.specs.Filters.{condition_in};
 ghost use Rattle.flow_filter.specs.Passing.{passing};
@@ -14,65 +14,39 @@ use ipfix_read::{Message, Record, RecordList, Set};
 use label_lookup::Labeller;
 use std::alloc::AllocError;
 
-// Appends the row if it passes.
-#[inline(always)]
-fn add_row<L: Labeller>(
-    filter: &Filter<'_>,
-    row: &Row,
-    labeller: Option<&L>,
-    rows: &mut Vec<Row>,
-) -> Result<(), AllocError>
-    ensures ok { let labelling = labelling_lent L.version_of L.label labeller.entry in
-        OnOk result (map row_view rows.new.items
-        ≡ map row_view rows.old.items
-        ++ passing (condition_in filter.now) labelling (row_view row.now ∷ [])) }
-    ensures front { take (length rows.old.items) rows.new.items ≡ rows.old.items }
-{
-    if filter.passes(row, labeller) {
-        rows.push(*row)?;
-    }
-    Ok(())
-}
-
-// Appends the rows of a record that pass, found by the plan of its fields, the second row right after the first.
+// Adds the rows of a record, found by the plan of its fields, the second right after the first.
 #[inline(always)]
 #[tactic(auto, using(crate::proofs::PassingLemmas::front_stays))]
-fn add_rows_of_record<L: Labeller>(
-    filter: &Filter<'_>,
+fn add_rows_of_record(
     plan: &Plan<'_>,
     data_record: &Record<'_, '_>,
-    labeller: Option<&L>,
     rows: &mut Vec<Row>,
 ) -> Result<(), AllocError>
     requires { map (λ v. v.field) data_record.now.fields ≡ plan.now }
-    ensures ok { let labelling = labelling_lent L.version_of L.label labeller.entry in
-        OnOk result (map row_view rows.new.items
-        ≡ map row_view rows.old.items ++ passing (condition_in filter.now) labelling (rows_of_record data_record.now)) }
+    ensures ok { OnOk result (map row_view rows.new.items
+        ≡ map row_view rows.old.items ++ rows_of_record data_record.now) }
     ensures front { take (length rows.old.items) rows.new.items ≡ rows.old.items }
 {
     let Some(first) = plan.row_of(data_record) else {
         return Ok(());
     };
-    add_row(filter, &first, labeller, rows)?;
-    match plan.row_back_of(data_record, &first) {
-        Some(second) => add_row(filter, &second, labeller, rows),
-        None => Ok(()),
+    let at = rows.len();
+    // The first row is read where it is kept, so that it isn't built on the stack too.
+    rows.push(first)?;
+    if plan.counts_back() {
+        if let Some(second) = plan.row_back_of(data_record, &rows[at]) {
+            rows.push(second)?;
+        }
     }
+    Ok(())
 }
 
-// Appends the rows of records that pass. Not inlined, so that a set without records doesn't pay for the plan's stack
-// frame.
+// Adds the rows of records. Out of line, so that a set without records doesn't pay for the plan's frame.
 #[inline(never)]
 #[tactic(auto, using(crate::proofs::PassingLemmas::front_stays))]
-fn add_rows_of_records<L: Labeller>(
-    filter: &Filter<'_>,
-    records: &RecordList<'_>,
-    labeller: Option<&L>,
-    rows: &mut Vec<Row>,
-) -> Result<(), AllocError>
-    ensures ok { let labelling = labelling_lent L.version_of L.label labeller.entry in
-        OnOk result (map row_view rows.new.items
-        ≡ map row_view rows.old.items ++ passing (condition_in filter.now) labelling (flat_map rows_of_record records.now)) }
+fn add_rows_of_records(records: &RecordList<'_>, rows: &mut Vec<Row>) -> Result<(), AllocError>
+    ensures ok { OnOk result (map row_view rows.new.items
+        ≡ map row_view rows.old.items ++ flat_map rows_of_record records.now) }
     ensures front { take (length rows.old.items) rows.new.items ≡ rows.old.items }
 {
     let Some(fields) = records.fields() else {
@@ -80,32 +54,51 @@ fn add_rows_of_records<L: Labeller>(
     };
     let plan = Plan::new(fields);
     for record in records.iter() {
-        add_rows_of_record(filter, &plan, &record, labeller, rows)?;
+        add_rows_of_record(&plan, &record, rows)?;
     }
     Ok(())
 }
 
-// Appends the rows of sets that pass.
+// Adds the rows of sets.
 #[tactic(auto, using(crate::proofs::PassingLemmas::front_stays))]
-fn add_rows_of_sets<L: Labeller>(
-    filter: &Filter<'_>,
-    sets: &[Set<'_>],
-    labeller: Option<&L>,
-    rows: &mut Vec<Row>,
-) -> Result<(), AllocError>
-    ensures ok { let labelling = labelling_lent L.version_of L.label labeller.entry in
-        OnOk result (map row_view rows.new.items
-        ≡ map row_view rows.old.items ++ passing (condition_in filter.now) labelling (rows_of sets.now)) }
+fn add_rows_of_sets(sets: &[Set<'_>], rows: &mut Vec<Row>) -> Result<(), AllocError>
+    ensures ok { OnOk result (map row_view rows.new.items ≡ map row_view rows.old.items ++ rows_of sets.now) }
     ensures front { take (length rows.old.items) rows.new.items ≡ rows.old.items }
 {
     for set in sets {
         if let Set::Values(_, records) = set {
             if records.len() > 0 {
-                add_rows_of_records(filter, records, labeller, rows)?;
+                add_rows_of_records(records, rows)?;
             }
         }
     }
     Ok(())
+}
+
+// Keeps those of the rows from this index on that pass.
+fn keep_passing<L: Labeller>(
+    filter: &Filter<'_>,
+    labeller: Option<&L>,
+    rows: &mut Vec<Row>,
+    before: usize,
+)
+    requires { before ≤ length rows.old.items }
+    ensures { let labelling = labelling_lent L.version_of L.label labeller.entry in (earlier added : List RowView)
+        → length earlier ≡ before → map row_view rows.old.items ≡ earlier ++ added
+        → map row_view rows.new.items ≡ earlier ++ passing (condition_in filter.now) labelling added }
+{
+    if filter.passes_all() {
+        return;
+    }
+    let mut kept = before;
+    for at in before..rows.len() {
+        let row = rows[at];
+        if filter.passes(&row, labeller) {
+            rows[kept] = row;
+            kept += 1;
+        }
+    }
+    rows.truncate(kept);
 }
 
 impl<'a> Filter<'a> {
@@ -129,9 +122,11 @@ impl<'a> Filter<'a> {
         ensures err { OnErr result (rows.new.items ≡ rows.old.items) }
     {
         let before = rows.len();
-        let added = add_rows_of_sets(self, message.sets().as_slice(), labeller, rows);
+        let added = add_rows_of_sets(message.sets().as_slice(), rows);
         if added.is_err() {
             rows.truncate(before);
+        } else {
+            keep_passing(self, labeller, rows, before);
         }
         added
     }

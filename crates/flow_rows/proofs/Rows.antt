@@ -4,7 +4,6 @@ use Rattle.std.proofs.Common.{◌≡◌, get_or, suc, ◌∙◌, ℕ, ◌+◌, A
 use Rattle.std.specs.Prelude.{◌&&◌, ◌||◌, ◌==◌, count_by, filter, option_and_then}
 use Rattle.std.specs.List.{flat_map}
 use Rattle.std.specs.Option.{option_or, option_to_list}
-use Rattle.std.proofs.lemmas.Bool.{or_parts}
 use Rattle.std.proofs.lemmas.List.{length-append}
 use Rattle.std.proofs.lemmas.List.Elements.{All-head, All-tail}
 use Rattle.std.proofs.lemmas.List.Sums.{sum_by-cons}
@@ -19,7 +18,7 @@ use Rattle.ipfix_read.specs.Value.{FieldValueView}
 use Rattle.ipfix_read.specs.declared.record.Record.{Record}
 use Rattle.flow_rows.specs.Counts.{is_of_kind}
 use Rattle.flow_rows.specs.Element.{back, element, forward, is_usable}
-use Rattle.flow_rows.specs.Elements.{first_row, first_row_of, packets_of, row_back, row_between, row_of_elements, rows_of_record}
+use Rattle.flow_rows.specs.Elements.{first_row, first_row_of, packets_of, row_back, row_between, row_of_elements, rows_of_record, second_row}
 use Rattle.flow_rows.specs.Places.{elements_at, place}
 use Rattle.flow_rows.specs.Row.{RowView}
 use Rattle.flow_rows.specs.declared.elements.Elements.{Elements}
@@ -99,20 +98,23 @@ absent (Some x) e = cc
 
 -- if no field counts packets in the reverse direction, there are none
 pub none_back : (e : Elements) (fields : List Field) (values : List FieldValueView) → fields_of values ≡ fields
-    → e ≡ elements_at (place back 0 (filter has_bytes fields)) → (is_some e.packets || is_some e.total_packets) ≡ false
+    → e ≡ elements_at (place back 0 (filter has_bytes fields)) → is_some e.packets ≡ false → is_some e.total_packets ≡ false
     → packets_of (element back values) ≡ 0
-none_back e fields values same is none =
-    let parts = or_parts (is_some e.packets) (is_some e.total_packets) none in
+none_back e fields values same is none no_total =
     let placed : elements_at (place back 0 (filter has_bytes (fields_of values))) ≡ e =
     ap (λ (fs : List Field). elements_at (place back 0 (filter has_bytes fs))) same ∙ sym is in
     let packets : element back values 2 ≡ None =
-    absent (element back values 2) (sym (placed-said back 2 0 values) ∙ ap (λ (e : Elements). is_some e.packets) placed ∙ parts.0) in
+    absent (element back values 2) (sym (placed-said back 2 0 values) ∙ ap (λ (e : Elements). is_some e.packets) placed ∙ none) in
     let total_packets : element back values 86 ≡ None =
-    absent (element back values 86) (sym (placed-said back 86 0 values) ∙ ap (λ (e : Elements). is_some e.total_packets) placed ∙ parts.1) in
+    absent (element back values 86) (sym (placed-said back 86 0 values) ∙ ap (λ (e : Elements). is_some e.total_packets) placed ∙ no_total) in
     rw (packets, total_packets) refl
 
-pub no_row_back : (said : ℕ → Option ℕ) (row : RowView) → packets_of said ≡ 0 → row_back said row ≡ None
-no_row_back said row none = rw none refl
+no_row_back : (said : ℕ → Option ℕ) (first : Option RowView) → packets_of said ≡ 0 → option_and_then (row_back said) first ≡ None
+no_row_back said None none = refl
+no_row_back said (Some row) none = rw none refl
+
+pub no_second_row : (r : Record) → packets_of (element back r.fields) ≡ 0 → second_row r ≡ None
+no_second_row r none = no_row_back (element back r.fields) (first_row r) none
 
 -- ---- the number of rows
 
@@ -185,9 +187,6 @@ module _ (fields : List Field) (records : List Record) (of_fields : All (λ r. f
       && have_addresses (elements_at (place forward 0 (filter has_bytes (of_fields k d within i)))))
       ∙ ap (λ (e : Elements). same_kind kind Flow && have_addresses e) (sym is)
 
-  pub none_went_back : (e : Elements) → e ≡ elements_at (place back 0 (filter has_bytes fields))
-      → (is_some e.packets || is_some e.total_packets) ≡ false → count_by went_back records ≡ 0
-  none_went_back e is none =
-      count_alike went_back false records
-      (λ k d within.
-      rw (none_back e fields (get_or records k d).fields (of_fields k d within) is none) refl)
+  pub none_went_back : ((r : Record) → fields_of r.fields ≡ fields → packets_of (element back r.fields) ≡ 0) → count_by went_back records ≡ 0
+  none_went_back none =
+      count_alike went_back false records (λ k d within. rw (none (get_or records k d) (of_fields k d within)) refl)

@@ -1,13 +1,13 @@
--- The offsets of the values of a row's elements in a record, and the numbers that are read there. This is private, and
--- callers of the crate need not read it.
-use Rattle.std.specs.Prelude.{◌≡◌, ℕ, ◌+◌, List, [], ◌∷◌, length, slice_range, filter, Bool, true, Option, Some, None, option_and_then, option_map, nat_le, ◌==◌, ◌&&◌, if◌then◌else◌}
+-- The offsets of the values of a row's elements in a record, and what is read there. This is private, and callers of
+-- the crate need not read it.
+use Rattle.std.specs.Prelude.{◌≡◌, ℕ, ◌+◌, ◌≤◌, List, [], ◌∷◌, slice_range, filter, Bool, true, Option, Some, None, option_and_then, option_map, ◌==◌, if◌then◌else◌}
 use Rattle.std.specs.Map.{lookup}
 use Rattle.ipfix_templates.specs.declared.field.Field.{Field}
 use Rattle.ipfix_templates.specs.Field.{has_bytes}
 use Rattle.ipfix_templates.specs.Runs.{runs_behind}
 use Rattle.flow_rows.specs.declared.elements.Elements.{Elements}
 use Rattle.flow_rows.specs.declared.place.Place.{Place}
-use Rattle.flow_rows.specs.Element.{back, big_endian, element_lengths, forward, is_usable}
+use Rattle.flow_rows.specs.Element.{back, big_endian, forward, is_usable}
 
 -- the offsets of the value of a field, after so many bytes
 abbrev pub place_of : ℕ → Field → Place
@@ -57,21 +57,35 @@ elements_at place = record {
   end_ms = place 153;
 }
 
--- the bytes at the offsets, if the record has them and their number is between the minimum and the maximum
-abbrev pub bytes_there : ℕ × ℕ → Option Place → List ℕ → Option (List ℕ)
-bytes_there range None bytes = None
-bytes_there range (Some p) bytes =
-    if (nat_le p.begin p.end && nat_le p.end (length bytes)) && (nat_le (p.begin + range.0) p.end && nat_le p.end (p.begin + range.1))
-    then Some (slice_range bytes p.begin p.end) else None
-
--- the number of these bytes
-abbrev pub number_there : ℕ × ℕ → Option Place → List ℕ → Option ℕ
-number_there range p bytes = option_map big_endian (bytes_there range p bytes)
+-- the number of the bytes at a place
+abbrev pub number_there : Option Place → List ℕ → Option ℕ
+number_there p bytes = option_map (λ p. big_endian (slice_range bytes p.begin p.end)) p
 
 -- the number of each element in a record with these bytes, given these offsets
 abbrev pub said_there : Elements → List ℕ → ℕ → Option ℕ
-said_there e bytes number =
-    option_and_then (λ range. number_there range (place_in e number) bytes) (lookup (λ n. n == number) element_lengths)
+said_there e bytes number = number_there (place_in e number) bytes
+
+-- among so many bytes there are so many, at least and at most, at a place that is known
+abbrev pub IsThere : ℕ × ℕ → ℕ → Option Place → Type 0
+IsThere range len None = Unit {0}
+IsThere range len (Some p) = (p.begin + range.0 ≤ p.end) × (p.end ≤ p.begin + range.1) × (p.end ≤ len)
+
+-- at each place that is known there are as many bytes as its element may have
+pub record AreThere (e : Elements) (len : ℕ) : Type 0 where
+  pub octets : IsThere (1, 8) len e.octets
+  pub packets : IsThere (1, 8) len e.packets
+  pub protocol : IsThere (1, 1) len e.protocol
+  pub flags : IsThere (1, 2) len e.flags
+  pub sport : IsThere (1, 2) len e.sport
+  pub src_v4 : IsThere (4, 4) len e.src_v4
+  pub dport : IsThere (1, 2) len e.dport
+  pub dst_v4 : IsThere (4, 4) len e.dst_v4
+  pub src_v6 : IsThere (16, 16) len e.src_v6
+  pub dst_v6 : IsThere (16, 16) len e.dst_v6
+  pub total_octets : IsThere (1, 8) len e.total_octets
+  pub total_packets : IsThere (1, 8) len e.total_packets
+  pub start_ms : IsThere (8, 8) len e.start_ms
+  pub end_ms : IsThere (8, 8) len e.end_ms
 
 -- the offsets are those of both directions among the fields that take bytes, and if `is_fixed` is true, no field is
 -- variable

@@ -1,11 +1,12 @@
-ghost use Rattle.std.specs.Prelude.{◌≡◌, ◌+◌, ◌<◌, ◌^◌, ◌&&◌, ◌||◌, ℕ, None, Some, if◌then◌else◌, is_some, nat_le, option_map};
+ghost use Rattle.std.specs.Prelude.{◌≡◌, ◌+◌, ◌<◌, ◌^◌, ◌&&◌, ◌||◌, ℕ, None, Some, if◌then◌else◌, is_some, length, nat_le, option_map};
+ghost use Rattle.prefix_keys.specs.Version.{width_of};
 ghost use Rattle.ipfix_read.specs.Value.{whole_values};
 ghost use Rattle.flow_rows.specs.Element.{element};
 ghost use Rattle.flow_rows.specs.Elements.{octets_of, packets_of, row_back, row_between, row_of_elements};
-ghost use Rattle.flow_rows.specs.Places.{elements_at, given, kept, place_in, place_of, said_there};
+ghost use Rattle.flow_rows.specs.Places.{AreThere, elements_at, given, kept, place_in, place_of, said_there};
 ghost use Rattle.flow_rows.specs.Row.{row_view};
 
-use crate::place::{Place, u8_there, u16_there, u32_there, u64_there, u128_there};
+use crate::place::{Place, time_there, u8_there, u16_there, u32_there, u64_there, u128_there};
 use crate::row::Row;
 use ipfix_read::read_value;
 use ipfix_templates::Field;
@@ -59,28 +60,6 @@ fn keep(slot: &mut Option<Place>, field: Field, at: usize, least: u16, most: u16
             begin: at,
             end: at + usize::from(size),
         });
-    }
-}
-
-// Returns the IPv4 address with this number.
-fn ipv4(number: u32) -> Addr
-    ensures version { result.version ≡ Version.V4 }
-    ensures value { result.value ≡ number }
-{
-    Addr {
-        version: Version::V4,
-        value: u128::from(number),
-    }
-}
-
-// Returns the IPv6 address with this number.
-fn ipv6(number: u128) -> Addr
-    ensures version { result.version ≡ Version.V6 }
-    ensures value { result.value ≡ number }
-{
-    Addr {
-        version: Version::V6,
-        value: number,
     }
 }
 
@@ -141,17 +120,19 @@ impl Elements {
     /// Returns the offsets of the elements of a direction in a record with these bytes, reading each value as long as
     /// it is complete.
     #[inline(never)]
+    #[tactic(auto, using(crate::proofs::Reading::are_there))]
     pub fn of_record(direction: Option<u32>, fields: &[Field], bytes: &[u8]) -> Elements
-        ensures { (number : ℕ) → said_there result bytes.now number
+        ensures there { AreThere result (length bytes.now) }
+        ensures said { (number : ℕ) → said_there result bytes.now number
             ≡ element direction (whole_values fields.now bytes.now) number }
     {
         let mut elements = Elements::new();
         let mut rest = bytes;
         for field in fields {
-            elements.keep(direction, *field, bytes.len() - rest.len());
             let Some((_value, after)) = read_value(*field, rest) else {
                 break;
             };
+            elements.keep(direction, *field, bytes.len() - rest.len());
             rest = after;
         }
         elements
@@ -166,53 +147,54 @@ impl Elements {
             || (self.src_v6.is_some() && self.dst_v6.is_some())
     }
 
-    /// Returns `true` if packets are counted.
-    #[inline]
-    pub fn have_packets(&self) -> bool
-        ensures { result ≡ (is_some self.now.packets || is_some self.now.total_packets) }
-    {
-        self.packets.is_some() || self.total_packets.is_some()
-    }
-
-    /// Returns the number of packets in a record with these bytes, or 0 if they are not counted.
+    /// The packets in a record with these bytes, 0 if they are not counted.
     #[inline(always)]
     pub fn packets(&self, bytes: &[u8]) -> u64
+        requires { AreThere self.now (length bytes.now) }
         ensures { result ≡ packets_of (said_there self.now bytes.now) }
     {
-        u64_there(self.packets, 1, bytes)
-            .or(u64_there(self.total_packets, 1, bytes))
+        u64_there(self.packets, bytes)
+            .or(u64_there(self.total_packets, bytes))
             .unwrap_or(0)
     }
 
     // Returns the number of bytes of the packets, or 0 if they are not counted.
     #[inline(always)]
     fn octets(&self, bytes: &[u8]) -> u64
+        requires { AreThere self.now (length bytes.now) }
         ensures { result ≡ octets_of (said_there self.now bytes.now) }
     {
-        u64_there(self.octets, 1, bytes)
-            .or(u64_there(self.total_octets, 1, bytes))
+        u64_there(self.octets, bytes)
+            .or(u64_there(self.total_octets, bytes))
             .unwrap_or(0)
     }
 
-    // Returns the row between two addresses of this version.
+    // The row between the addresses of this version with these numbers.
     #[inline(always)]
-    fn row_between(&self, version: Version, src: Addr, dst: Addr, bytes: &[u8]) -> Row
-        requires src_version { src.version ≡ version }
-        requires dst_version { dst.version ≡ version }
-        ensures { Some (row_view result) ≡ row_between version (Some src.value) (Some dst.value) (said_there self.now bytes.now) }
+    fn row_between(&self, version: Version, src: u128, dst: u128, bytes: &[u8]) -> Row
+        requires src { src < 2 ^ width_of version }
+        requires dst { dst < 2 ^ width_of version }
+        requires there { AreThere self.now (length bytes.now) }
+        ensures { Some (row_view result) ≡ row_between version (Some src) (Some dst) (said_there self.now bytes.now) }
     {
         Row {
             version,
-            src,
-            dst,
+            src: Addr {
+                version,
+                value: src,
+            },
+            dst: Addr {
+                version,
+                value: dst,
+            },
             sport: u16_there(self.sport, bytes).unwrap_or(0),
             dport: u16_there(self.dport, bytes).unwrap_or(0),
             protocol: u8_there(self.protocol, bytes).unwrap_or(0),
             flags: u16_there(self.flags, bytes).unwrap_or(0),
             packets: self.packets(bytes),
             octets: self.octets(bytes),
-            start_ms: u64_there(self.start_ms, 8, bytes).unwrap_or(0),
-            end_ms: u64_there(self.end_ms, 8, bytes).unwrap_or(0),
+            start_ms: time_there(self.start_ms, bytes).unwrap_or(0),
+            end_ms: time_there(self.end_ms, bytes).unwrap_or(0),
         }
     }
 
@@ -220,23 +202,25 @@ impl Elements {
     /// precedence.
     #[inline(always)]
     pub fn row(&self, bytes: &[u8]) -> Option<Row>
+        requires { AreThere self.now (length bytes.now) }
         ensures { option_map row_view result ≡ row_of_elements (said_there self.now bytes.now) }
     {
         if let (Some(src), Some(dst)) = (
             u32_there(self.src_v4, bytes),
             u32_there(self.dst_v4, bytes),
         ) {
-            return Some(self.row_between(Version::V4, ipv4(src), ipv4(dst), bytes));
+            return Some(self.row_between(Version::V4, u128::from(src), u128::from(dst), bytes));
         }
         let src = u128_there(self.src_v6, bytes)?;
         let dst = u128_there(self.dst_v6, bytes)?;
-        Some(self.row_between(Version::V6, ipv6(src), ipv6(dst), bytes))
+        Some(self.row_between(Version::V6, src, dst, bytes))
     }
 
     /// Returns the row of the reverse direction of a row, in a record with these bytes, if there are packets in that
     /// direction.
     #[inline(always)]
     pub fn row_back(&self, row: &Row, bytes: &[u8]) -> Option<Row>
+        requires { AreThere self.now (length bytes.now) }
         ensures { option_map row_view result ≡ row_back (said_there self.now bytes.now) (row_view row.now) }
     {
         let packets = self.packets(bytes);
@@ -253,8 +237,8 @@ impl Elements {
             flags: u16_there(self.flags, bytes).unwrap_or(0),
             packets,
             octets: self.octets(bytes),
-            start_ms: u64_there(self.start_ms, 8, bytes).unwrap_or(row.start_ms),
-            end_ms: u64_there(self.end_ms, 8, bytes).unwrap_or(row.end_ms),
+            start_ms: time_there(self.start_ms, bytes).unwrap_or(row.start_ms),
+            end_ms: time_there(self.end_ms, bytes).unwrap_or(row.end_ms),
         })
     }
 }

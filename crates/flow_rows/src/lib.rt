@@ -26,7 +26,6 @@
 mod counting;
 mod counts;
 mod elements;
-mod number;
 mod place;
 mod plan;
 mod record;

@@ -1,8 +1,8 @@
-//! Offsets of values in the bytes of records.
-ghost use Rattle.std.specs.Prelude.{◌≡◌, ◌≤◌, IfSome, length, option_map};
-ghost use Rattle.flow_rows.specs.Places.{bytes_there, number_there};
+//! Places of values in the bytes of records.
+ghost use Rattle.std.specs.Prelude.{◌≡◌, ◌≤◌, length};
+ghost use Rattle.flow_rows.specs.Element.{big_endian};
+ghost use Rattle.flow_rows.specs.Places.{IsThere, number_there};
 
-use crate::number::{number_u16, number_u64};
 use byteorder::{BigEndian, ByteOrder};
 
 /// The offsets of a value in the bytes of a record.
@@ -14,61 +14,77 @@ pub struct Place {
     pub end: usize,
 }
 
-// Returns the bytes at the offsets, if the record has them and their number is between `least` and `most`.
+// The number of 1 byte to 8, by one read if there is one of their width.
 #[inline]
-fn bytes_there(place: Option<Place>, least: usize, most: usize, bytes: &[u8]) -> Option<&[u8]>
-    ensures value { option_map (λ x. x.now) result ≡ bytes_there (least, most) place bytes.now }
-    ensures least { IfSome result (λ value. least ≤ length value.now) }
-    ensures most { IfSome result (λ value. length value.now ≤ most) }
+fn number_u64(bytes: &[u8]) -> u64
+    requires least { 1 ≤ length bytes.now }
+    requires most { length bytes.now ≤ 8 }
+    ensures { result ≡ big_endian bytes.now }
+{
+    match bytes.len() {
+        1 => u64::from(bytes[0]),
+        2 => u64::from(BigEndian::read_u16(bytes)),
+        4 => u64::from(BigEndian::read_u32(bytes)),
+        8 => BigEndian::read_u64(bytes),
+        length => BigEndian::read_uint(bytes, length),
+    }
+}
+
+/// The number of 1 byte to 8.
+#[inline(always)]
+pub fn u64_there(place: Option<Place>, bytes: &[u8]) -> Option<u64>
+    requires { IsThere (1, 8) (length bytes.now) place }
+    ensures { result ≡ number_there place bytes.now }
 {
     let Place { begin, end } = place?;
-    if end < begin || bytes.len() < end {
-        return None;
-    }
-    let size = end - begin;
-    if size < least || most < size {
-        return None;
-    }
-    Some(&bytes[begin..end])
+    Some(number_u64(&bytes[begin..end]))
 }
 
-/// Returns the number of `least` to 8 bytes.
-#[inline]
-pub fn u64_there(place: Option<Place>, least: usize, bytes: &[u8]) -> Option<u64>
-    requires { 1 ≤ least }
-    ensures { result ≡ number_there (least, 8) place bytes.now }
-{
-    Some(number_u64(bytes_there(place, least, 8, bytes)?))
-}
-
-/// Returns the number of 1 or 2 bytes.
-#[inline]
+/// The number of 1 byte or 2.
+#[inline(always)]
 pub fn u16_there(place: Option<Place>, bytes: &[u8]) -> Option<u16>
-    ensures { result ≡ number_there (1, 2) place bytes.now }
+    requires { IsThere (1, 2) (length bytes.now) place }
+    ensures { result ≡ number_there place bytes.now }
 {
-    Some(number_u16(bytes_there(place, 1, 2, bytes)?))
+    let Place { begin, end } = place?;
+    if end - begin == 1 {
+        return Some(u16::from(bytes[begin]));
+    }
+    Some(BigEndian::read_u16(&bytes[begin..]))
 }
 
-/// Returns the number of 1 byte.
-#[inline]
+/// The number of 1 byte.
+#[inline(always)]
 pub fn u8_there(place: Option<Place>, bytes: &[u8]) -> Option<u8>
-    ensures { result ≡ number_there (1, 1) place bytes.now }
+    requires { IsThere (1, 1) (length bytes.now) place }
+    ensures { result ≡ number_there place bytes.now }
 {
-    Some(bytes_there(place, 1, 1, bytes)?[0])
+    Some(bytes[place?.begin])
 }
 
-/// Returns the number of 4 bytes.
-#[inline]
+/// The number of 4 bytes.
+#[inline(always)]
 pub fn u32_there(place: Option<Place>, bytes: &[u8]) -> Option<u32>
-    ensures { result ≡ number_there (4, 4) place bytes.now }
+    requires { IsThere (4, 4) (length bytes.now) place }
+    ensures { result ≡ number_there place bytes.now }
 {
-    Some(BigEndian::read_u32(bytes_there(place, 4, 4, bytes)?))
+    Some(BigEndian::read_u32(&bytes[place?.begin..]))
 }
 
-/// Returns the number of 16 bytes.
-#[inline]
-pub fn u128_there(place: Option<Place>, bytes: &[u8]) -> Option<u128>
-    ensures { result ≡ number_there (16, 16) place bytes.now }
+/// The number of 8 bytes.
+#[inline(always)]
+pub fn time_there(place: Option<Place>, bytes: &[u8]) -> Option<u64>
+    requires { IsThere (8, 8) (length bytes.now) place }
+    ensures { result ≡ number_there place bytes.now }
 {
-    Some(BigEndian::read_u128(bytes_there(place, 16, 16, bytes)?))
+    Some(BigEndian::read_u64(&bytes[place?.begin..]))
+}
+
+/// The number of 16 bytes.
+#[inline(always)]
+pub fn u128_there(place: Option<Place>, bytes: &[u8]) -> Option<u128>
+    requires { IsThere (16, 16) (length bytes.now) place }
+    ensures { result ≡ number_there place bytes.now }
+{
+    Some(BigEndian::read_u128(&bytes[place?.begin..]))
 }

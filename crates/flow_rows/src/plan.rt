@@ -1,6 +1,7 @@
-ghost use Rattle.std.specs.Prelude.{◌≡◌, ◌+◌, ◌<◌, ◌≤◌, ◌^◌, All, Some, length, map, option_map};
+ghost use Rattle.std.specs.Prelude.{◌≡◌, ◌+◌, ◌<◌, ◌≤◌, ◌^◌, All, None, Some, false, length, map, option_map};
 ghost use Rattle.std.specs.List.{flat_map};
 ghost use Rattle.ipfix_read.specs.Value.{whole_values};
+ghost use Rattle.ipfix_read.specs.declared.record.Record.{Record as RecordView};
 ghost use Rattle.flow_rows.specs.Element.{back, element, forward};
 ghost use Rattle.flow_rows.specs.Elements.{first_row, packets_of, row_of_elements, rows_of_record, second_row};
 ghost use Rattle.flow_rows.specs.Row.{row_view};
@@ -86,6 +87,7 @@ impl<'f> Plan<'f> {
     /// 7012). A field is usable if it has no enterprise number and the template's length fits its element. Returns
     /// `None` for an options record, and for a record with neither both IPv4 addresses nor both IPv6 addresses.
     #[inline(always)]
+    #[tactic(auto, using(crate::proofs::Reading::fixed_are_there))]
     pub fn row_of(&self, source: &Record<'_, '_>) -> Option<Row>
         requires { map (λ v. v.field) source.now.fields ≡ self.now }
         ensures { option_map row_view result ≡ first_row source.now }
@@ -110,13 +112,23 @@ impl<'f> Plan<'f> {
         requires first { first_row source.now ≡ Some (row_view first.now) }
         ensures { option_map row_view result ≡ second_row source.now }
     {
-        if !self.back.have_packets() {
+        if !self.counts_back() {
             return None;
         }
         self.counted_row_back_of(source, first)
     }
 
-    // Returns the second row like `row_back_of`. A field must count the packets in the reverse direction.
+    /// Whether a field counts packets that went back. If not, no record with the plan's fields has a second row.
+    #[inline(always)]
+    pub fn counts_back(&self) -> bool
+        ensures packets { result ≡ false → (r : RecordView) → map (λ v. v.field) r.fields ≡ self.now
+            → packets_of (element back r.fields) ≡ 0 }
+        ensures second { result ≡ false → (r : RecordView) → map (λ v. v.field) r.fields ≡ self.now → second_row r ≡ None }
+    {
+        self.back.packets.is_some() || self.back.total_packets.is_some()
+    }
+
+    // Like `row_back_of`, if a field counts the packets that went back.
     #[inline(never)]
     fn counted_row_back_of(&self, source: &Record<'_, '_>, first: &Row) -> Option<Row>
         requires fields { map (λ v. v.field) source.now.fields ≡ self.now }
@@ -132,6 +144,7 @@ impl<'f> Plan<'f> {
 
     // Returns the number of packets in the reverse direction in a record with the plan's fields.
     #[inline(always)]
+    #[tactic(auto, using(crate::proofs::Reading::fixed_are_there))]
     fn packets_back(&self, source: &Record<'_, '_>) -> u64
         requires { map (λ v. v.field) source.now.fields ≡ self.now }
         ensures { result ≡ packets_of (element back source.now.fields) }
@@ -155,7 +168,7 @@ impl<'f> Plan<'f> {
             return 0;
         }
         let mut count = records.len() as u64;
-        if !self.back.have_packets() {
+        if !self.counts_back() {
             return count;
         }
         for source in records.iter() {

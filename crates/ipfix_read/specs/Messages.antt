@@ -27,10 +27,10 @@ abbrev pub at_start : ProgressView
 at_start = record { table = []; offset = 0; count = 0; state = Going }
 
 -- The result of a call in the state Going if the reader will still return these bytes, and the state after the call.
--- The result is the first message of the File that begins here, and the reader has then returned exactly its bytes. It
--- is none if no bytes remain. It is the first fault of the File if that fault is in this message, or the fault of a
--- failed allocation or reader. Here means with the table, the offset and the number of messages, for each history that
--- the table follows.
+-- The result is the first message of the File that begins here, and the reader has then returned exactly its bytes. If
+-- no bytes remain, there is no message. It is the first fault of the File if that fault is in this message, or the
+-- fault of a failed allocation or reader. Here means with the table, the offset and the number of messages, for each
+-- history that the table follows.
 abbrev pub AnswersNext : ProgressView → List ℕ → Result (Option MessageView) ReadFault → ProgressView → Option (List ℕ) → Type 0
 AnswersNext old left (Ok (Some m)) new gives =
     (front : List ℕ) × (after : List ℕ) × (left ≡ front ++ after) × (header_fault old.count left ≡ None)

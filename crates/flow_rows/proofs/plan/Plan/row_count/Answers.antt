@@ -37,14 +37,12 @@ counted c =
     ∙ and_from (same_kind c.kind.result Flow) (have_addresses p.forward) (sym c.is.ensures ∙ c.if-not-is.false)
     (sym c.have_addresses.ensures ∙ c.if-not-have_addresses.false))
 
-pub returns-then-not-have_packets-clause-value : goal.returns-then-not-have_packets-clause-value
-returns-then-not-have_packets-clause-value c =
-    let p = c.self.inside in
+pub returns-then-not-counts_back-clause-value : goal.returns-then-not-counts_back-clause-value
+returns-then-not-counts_back-clause-value c =
     omega (
       arith,
-      counted (goal.at.returns-then-not-have_packets-clause-value c).Else-not-have_addresses,
-      none_went_back p.fields.now c.args.records.now (λ k d within. c.requires.fields k d within ∙ sym c.self.view_is) p.back c.self.invariant.back_is
-          (sym c.have_packets.ensures ∙ c.if-not-have_packets.true),
+      counted (goal.at.returns-then-not-counts_back-clause-value c).Else-not-have_addresses,
+      none_went_back c.args.self.now c.args.records.now c.requires.fields (c.counts_back.ensures.packets c.if-not-counts_back.true),
       c.len-count.ensures,
     )
 

@@ -1,10 +1,6 @@
-use Rattle.std.proofs.Common.{◌≡◌, ◌∙◌, ℕ, ap, sym}
-use Rattle.std.specs.Prelude.{option_and_then}
-use Rattle.ipfix_read.specs.Value.{whole_values}
-use Rattle.flow_rows.specs.Element.{back, element, forward}
-use Rattle.flow_rows.specs.Elements.{packets_of, row_back, row_of_elements}
-use Rattle.flow_rows.specs.Places.{said_there}
-use Rattle.flow_rows.specs.Row.{row_view}
+use Rattle.std.proofs.Common.{◌∙◌, sym}
+use Rattle.flow_rows.specs.Element.{forward}
+use Rattle.flow_rows.specs.Elements.{row_of_elements}
 use Rattle.flow_rows.proofs.Reading.{filled_said, fixed_said}
 use Rattle.flow_rows.proofs.Rows.{first_row_of-flow}
 use Rattle.flow_rows.proofs.plan.Plan.row_of.Goals as goal

@@ -1,0 +1,17 @@
+-- The rows that are kept, with those that are left and pass, are all that pass.
+use Rattle.std.proofs.Common.{◌≡◌, ◌≤◌, ◌++◌, List, drop, length, map, take}
+use Rattle.flow_rows.specs.Row.{RowView, row_view}
+use Rattle.label_lookup.specs.Labelling.{labelling_lent}
+use Rattle.flow_filter.specs.Filters.{condition_in}
+use Rattle.flow_filter.specs.Passing.{passing}
+use Rattle.flow_filter.proofs.passing.keep_passing.Given as goal
+
+abbrev pub invariant-loop-at : goal.invariant-loop-at
+invariant-loop-at g l =
+    let those = passing (condition_in l.filter) (labelling_lent g.L.Labeller.version_of g.L.Labeller.label l.fn.labeller) in
+    record {
+      within : l.kept ≤ l.at;
+      long : length l.rows.items ≡ length l.initial.rows.items;
+      kept : (earlier added : List RowView) → length earlier ≡ l.before → map row_view l.initial.rows.items ≡ earlier ++ added
+          → map row_view (take l.kept l.rows.items) ++ those (map row_view (drop l.at l.rows.items)) ≡ earlier ++ those added;
+    }
