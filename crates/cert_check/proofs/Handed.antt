@@ -27,7 +27,7 @@ use Rattle.cert_check.specs.Parts.{AreWithin, IsHandedDown, IsListPart, LiesIn, 
 use Rattle.cert_check.proofs.HalfBlocks.{block-first}
 use Rattle.cert_check.proofs.Within.{IsOwn, first-other, strict, strict-rest}
 
--- lists whose elements are made of others
+-- lists mapped from other lists
 Contains-mapped : {X Y : Type 0} (f : X → Y) (xs : List X) (x : X) → Contains xs x → Contains (map f xs) (f x)
 Contains-mapped f xs x has =
     (has.0, subst (λ n. has.0 < n) (sym (length-map xs f)) has.1, get_or-map f xs has.0 x (f x) has.1 ∙ ap f has.2)

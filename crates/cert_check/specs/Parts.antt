@@ -22,8 +22,8 @@ use Rattle.cert_check.specs.declared.sources.Sources.{Sources}
 abbrev pub last_in : Block → ℕ
 last_in b = last_of (width_of b.version) b.len (number_of b)
 
--- A number by which blocks are put in order: by the first address, of one address the shorter block first. Lengths are below
--- 256.
+-- A number by which blocks are put in order: by the first address, of one address the shorter block first. Lengths are
+-- below 256.
 abbrev pub rank_of : Block → ℕ
 rank_of b = b.value * 256 + b.len
 
@@ -51,7 +51,8 @@ pub record IsHandedDown (l : PrefixList) (n a : ℕ) (label : Option LabelId) : 
   pub known : ForSome label (λ id. id.0 < length l.labels)
   pub text : text_of l.labels label ≡ label_below (width_of l.version) (list_of l).prefixes n a
 
--- what a list has in a block: the entries of n bits or more in it, and the label of the longest entry of fewer that covers it
+-- what a list has in a block: the entries of n bits or more in it, and the label of the longest entry of fewer that
+-- covers it
 pub record IsListPart (l : PrefixList) (b : Block) (n : ℕ) (es : List Entry) (label : Option LabelId) : Type 0 where
   pub version : b.version ≡ l.version
   pub within : AreWithin l.entries b n es

@@ -282,7 +282,7 @@ pub fn check(
     ensures memory { IfErr result (λ fault. fault.kind ≡ NoMemory → fault.node ≡ 0) }
 {
     let count = count_entries(alloc, map, list, certificate)?;
-    // For their laws: a certificate has a text, so without a fault it is accepted, and acceptance is enough.
+    // Provides the laws that a certificate has a text, so without a fault it is accepted, and that acceptance is enough.
     let _root = certificate.root();
     no_fault_is_acceptance();
     acceptance_is_enough();

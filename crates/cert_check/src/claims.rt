@@ -1,5 +1,5 @@
-//! The check of what an inner node or a chain claims. Sets are listed by rising numbers, so that two are compared in one walk over
-//! both.
+//! The check of what an inner node or a chain claims. Sets are listed by rising numbers, so that two are compared in
+//! one walk over both.
 ghost use Rattle.std.specs.Prelude.{◌≡◌, ℕ, ◌+◌, ◌^◌, ◌<◌, ◌≤◌, ◌&&◌, ◌||◌, ◌==◌, Some, None, length, map, nat_lt, not, if◌then◌else◌};
 ghost use Rattle.std.specs.List.{list_all};
 ghost use Rattle.pmap_text.specs.Label.{IsLabelTable};
@@ -156,7 +156,7 @@ pub fn claim_fault(
         (exact_pair (claim_of (tree_of labels.now (first_node left.now)))
         (claim_of (tree_of labels.now (first_node right.now)))) }
 {
-    // For its law: a table has at most 65536 labels.
+    // Provides the law that a table has at most 65536 labels.
     let _count = labels.len();
     let cost = u64::from(claim.cost());
     let set = claim.set();
@@ -186,7 +186,7 @@ pub fn chain_fault(
         (chain_pair (length (bits_of (first_node chain.now))) (text_at labels.now side.0)
         (claim_of (tree_of labels.now (first_node end.now)))) }
 {
-    // For its law: a table has at most 65536 labels.
+    // Provides the law that a table has at most 65536 labels.
     let _count = labels.len();
     let cost = u64::from(chain.cost());
     let below = u64::from(end.cost());

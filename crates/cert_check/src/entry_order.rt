@@ -1,5 +1,5 @@
-//! The order in which a list's entries are kept while a certificate is checked: by rising first addresses, of one address
-//! the shorter block first.
+//! The order in which a list's entries are kept while a certificate is checked: by rising first addresses, of one
+//! address the shorter block first.
 ghost use Rattle.std.specs.Prelude.{◌≡◌, IfOk, IsTrue};
 ghost use Rattle.std.specs.List.Sorted.{IsNonDecreasingBy, IsPermutation};
 ghost use Rattle.std.specs.Ordering.{nat_cmp};

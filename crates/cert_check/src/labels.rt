@@ -18,7 +18,7 @@ pub fn numbers_in(
 ) -> Result<Vec<Option<LabelId>>, AllocError>
     ensures { IfOk result (λ numbers. AreNumbers numbers.items from.now to.now) }
 {
-    // For its law: the table's labels are distinct.
+    // Provides the law that the table's labels are distinct.
     let _count = to.len();
     let mut numbers = Vec::with_capacity(alloc, from.len())?;
     for number in 0..from.len() {

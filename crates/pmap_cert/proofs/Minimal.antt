@@ -20,7 +20,7 @@ use Rattle.pmap_text.proofs.Settled.{unsettled-halves}
 
 -- A minimal pair is accepted.
 
--- what the entries of a node's block hand on: with its own entry alone at the block
+-- what the entries of a node's block pass on: with its own entry alone at the block
 label_below-own : (W : ℕ) (ps : List Prefix) (table s : List Label) (h : Option Label) (n q : ℕ) →
     filter (covers W n (first_of W n q)) ps ≡ own_entry W table s h n q → label_below W ps n (first_of W n q) ≡ h →
     label_below W ps (suc n) (first_of W n q) ≡ handed_on table s h

@@ -36,6 +36,11 @@ module _ (pool more : List LabelId) where
       let count = same-count (joined_halves low high) (omega arith) in
       omega (arith, length-append pool more)
 
+pub held-more : (old new : List LabelId) (id : SetId) (numbers : List ℕ) → IsGrown old new → IsHeld old id numbers → IsHeld new id numbers
+held-more old new id numbers grown is =
+    subst (λ (pool : List LabelId). IsHeld pool id numbers) (sym grown.1)
+    (record { whole = still-set_by old grown.0 id.low.0 id.high is.whole; set = same-set_by old grown.0 id.low.0 id.high is.whole ∙ is.set })
+
 -- more is kept: sets, chains and bits
 pub record IsMore (s s' : Store) : Type 0 where
   pub labels : IsGrown s.labels s'.labels

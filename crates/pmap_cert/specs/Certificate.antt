@@ -14,8 +14,8 @@ abbrev pub certificate_of : Certificate → CertificateModel
 certificate_of c =
     record { format = format_number c.format; version = c.version; table = c.labels; root = tree_of c.labels c.root }
 
--- What reading a text as a certificate returns: the certificate whose text it is, or the text's first fault. The text of a
--- certificate is read as that certificate, unless memory runs out, which is reported with the line 0.
+-- What reading a text as a certificate returns: the certificate whose text it is, or the text's first fault. The text
+-- of a certificate is read as that certificate, unless memory runs out, which is reported with the line 0.
 pub record ReturnsCertificate (text : List ℕ) (result : Result Certificate CertFault) : Type 0 where
   pub ok : IfOk result (λ c. text ≡ certificate_text (certificate_of c))
   pub only : (c : CertificateModel) → HasFormatText c → text ≡ certificate_text c

@@ -68,7 +68,7 @@ impl Certificate {
         ensures form { HasFormatText (certificate_of self.now) }
         ensures first { self.now.format ≡ One → HasTextForm (certificate_of self.now) }
     {
-        // For its law: the table has at most 65536 labels, no two equal.
+        // Provides the law that the table has at most 65536 labels, no two equal.
         let _count = self.labels.len();
         cursor_of(&self.root)
     }

@@ -198,7 +198,7 @@ fn compact_root(alloc: Global, root: &Root) -> Result<Root, AllocError>
 pub fn compact(alloc: Global, certificate: &Certificate) -> Result<Certificate, AllocError>
     ensures { IfOk result (λ found. certificate_of found ≡ compact (certificate_of certificate.now)) }
 {
-    // For its law: the table has at most 65536 labels, no two equal.
+    // Provides the law that the table has at most 65536 labels, no two equal.
     let _count = certificate.labels.len();
     let labels = certificate.labels.copy()?;
     let root = match certificate.format {

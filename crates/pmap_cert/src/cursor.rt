@@ -85,7 +85,7 @@ impl<'a> Cursor<'a> {
         requires { 0 < length self.now }
         ensures { result ≡ from_next_line self.now }
     {
-        // For its bound: the nodes are below 2 ^ 64.
+        // Provides the bound on the number of nodes.
         let _count = self.nodes.len();
         Cursor {
             nodes: self.nodes,

@@ -19,8 +19,8 @@
 //! of a map are alike; and that of a map text has a certificate with a text. The type `Certificate` ensures that labels
 //! are in the table, that sets rise, that no node lies deeper than an address has bits, and that format 1 has no chain.
 //! `write_cert` writes the one text of a certificate of either format. `read_cert` reads exactly these texts, and
-//! reports the first fault of any other. `compact` compacts a certificate by definition; if the first is accepted, so is
-//! the result.
+//! reports the first fault of any other. `compact` compacts a certificate by definition; if the first is accepted, so
+//! is the result.
 #![tactic(auto)]
 
 mod certificate;
@@ -58,5 +58,6 @@ pub use laws::{
     minimal_pair_is_unique,
 };
 pub use nodes::Nodes;
+pub use pool::{SetId, SetPool};
 pub use root::Root;
 pub use writing::{push_head, push_inner_line, push_leaf_line, write_cert};

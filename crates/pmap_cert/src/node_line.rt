@@ -191,8 +191,9 @@ fn chain<'a>(
     }
 }
 
-/// Reads the line of a node that a text begins with. Returns what it says and what follows its line feed, or `None` if the
-/// text begins with no such line in a certificate of so many labels. The set of an inner node or a chain is kept, and the bits of a chain.
+/// Reads the line of a node that a text begins with. Returns what it says and what follows its line feed, or `None` if
+/// the text begins with no such line in a certificate of so many labels. The set of an inner node or a chain is kept,
+/// and the bits of a chain.
 pub fn node_line<'a>(
     kept: &mut Kept,
     frame: &Frame,

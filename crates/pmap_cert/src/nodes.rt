@@ -2,7 +2,7 @@ ghost use Rattle.std.specs.Prelude.{◌≡◌, ◌<◌, ◌++◌, ◌∷◌, [],
 ghost use Rattle.pmap_cert.specs.FormatReading.{ChainLine, InnerLine, LeafLine, PlainLine};
 ghost use Rattle.pmap_cert.specs.Node.{line_bits, line_cost, line_label, line_set, line_side};
 
-use crate::pool::{SetId, Sets, halves, joined_halves};
+use crate::pool::{SetId, SetPool, halves, joined_halves};
 use pmap_text::LabelId;
 use std::alloc::{AllocError, Global};
 use std::marker::Model;
@@ -32,7 +32,7 @@ struct PackedChain {
 pub struct Nodes {
     lines: Vec<Packed>,
     chains: Vec<PackedChain>,
-    sets: Sets,
+    sets: SetPool,
     bits: Vec<bool>,
 }
 
@@ -45,13 +45,13 @@ impl Model for Nodes {
     ghost Value = { List DueLine };
 
     ghost view = { λ n. map (line_in (record {
-      labels = n.sets.labels.items;
+      labels = n.sets;
       chains = n.chains.items;
       bits = n.bits.items;
     })) n.lines.items };
 
     ghost invariant = { λ n. All (IsPacked (record {
-      labels = n.sets.labels.items;
+      labels = n.sets;
       chains = n.chains.items;
       bits = n.bits.items;
     })) n.lines.items };
@@ -65,7 +65,7 @@ impl Nodes {
         Nodes {
             lines: Vec::new(alloc),
             chains: Vec::new(alloc),
-            sets: Sets::new(alloc),
+            sets: SetPool::new(alloc),
             bits: Vec::new(alloc),
         }
     }

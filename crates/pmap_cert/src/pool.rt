@@ -4,23 +4,35 @@ ghost use Rattle.pmap_cert.specs.Packed.{HasSet, IsGrown, IsHeld, joined_halves,
 
 use pmap_text::LabelId;
 use std::alloc::{AllocError, Global};
+use std::marker::Model;
 use std::slice;
 
 // How many numbers 32 bits have.
 const HALF: usize = 1 << 32;
 
-/// A set of labels in a pool. If `high` is 0, it has the label `low` alone. Otherwise the two are the halves of its
-/// place in the pool, and `high` is one more.
+/// A set of labels in a pool.
 #[derive(Clone, Copy)]
 pub struct SetId {
+    // If `high` is 0, the set has the label `low` alone. Otherwise the two are the halves of its offset in the pool,
+    // and `high` is one more.
     low: LabelId,
     high: u32,
 }
 
-/// A pool of sets of labels: of each larger one how many labels it has, and then these.
+/// A pool of sets of labels. A set of one label takes no memory there.
 #[derive(Drop)]
-pub struct Sets {
+pub struct SetPool {
+    // Of each larger set how many labels it has, and then these.
     labels: Vec<LabelId>,
+}
+
+impl Model for SetPool {
+    ghost use Rattle.std.specs.Prelude.{List};
+    ghost use Rattle.pmap_text.specs.declared.label.LabelId.{LabelId};
+
+    ghost Value = { List LabelId };
+
+    ghost view = { λ s. s.labels.items };
 }
 
 /// The number with these lower and upper 32 bits.
@@ -37,18 +49,18 @@ pub fn halves(number: usize) -> (u32, u32)
     ((number % HALF) as u32, (number / HALF) as u32)
 }
 
-impl Sets {
-    /// No larger sets.
-    pub fn new(alloc: Global) -> Sets {
-        Sets {
+impl SetPool {
+    /// A pool without sets.
+    pub fn new(alloc: Global) -> SetPool {
+        SetPool {
             labels: Vec::new(alloc),
         }
     }
 
-    /// Keeps a set. If an allocation fails, the sets kept before stay as they are.
+    /// Keeps a set, and returns its id. If an allocation fails, the sets kept before stay as they are.
     pub fn hold(&mut self, set: &[LabelId]) -> Result<SetId, AllocError>
-        ensures grown { IsGrown self.old.labels.items self.new.labels.items }
-        ensures ok { IfOk result (λ id. IsHeld self.new.labels.items id (map (λ id. id.0) set.now)) }
+        ensures grown { IsGrown self.old self.new }
+        ensures ok { IfOk result (λ id. IsHeld self.new id (map (λ id. id.0) set.now)) }
     {
         if set.len() == 1 {
             return Ok(SetId {
@@ -68,11 +80,11 @@ impl Sets {
         })
     }
 
-    /// The labels of a set that is kept.
+    /// The labels of a set that the pool has.
     #[inline(always)]
     pub fn labels<'a>(&'a self, id: &'a SetId) -> &'a [LabelId]
-        requires { HasSet self.now.labels.items id.now }
-        ensures { map (λ id. id.0) result.now ≡ set_in self.now.labels.items id.now }
+        requires { HasSet self.now id.now }
+        ensures { map (λ id. id.0) result.now ≡ set_in self.now id.now }
     {
         if id.high == 0 {
             return slice::from_ref(&id.low);
@@ -83,11 +95,11 @@ impl Sets {
         &self.labels[start..end]
     }
 
-    /// Copies the sets.
-    pub fn copy(&self, alloc: Global) -> Result<Sets, AllocError>
-        ensures { IfOk result (λ copy. copy.labels.items ≡ self.now.labels.items) }
+    /// A copy of the pool.
+    pub fn copy(&self, alloc: Global) -> Result<SetPool, AllocError>
+        ensures { IfOk result (λ copy. copy ≡ self.now) }
     {
-        Ok(Sets {
+        Ok(SetPool {
             labels: Vec::from_slice(alloc, self.labels.as_slice())?,
         })
     }

@@ -5,8 +5,8 @@ use crate::nodes::Nodes;
 use std::alloc::{AllocError, Global};
 use std::marker::Model;
 
-/// A node of a certificate with those below it: a leaf with the number of its label, an inner node with the cost and the
-/// set of labels that it claims, and the nodes of the lower and the upper half of its block, or a chain with such a
+/// A node of a certificate with those below it: a leaf with the number of its label, an inner node with the cost and
+/// the set of labels that it claims, and the nodes of the lower and the upper half of its block, or a chain with such a
 /// claim, its bits, its side label and the node at its end. `Certificate::root` shows it.
 #[derive(Drop)]
 pub struct Root {

@@ -195,7 +195,7 @@ pub fn push_head(
 pub fn write_cert(alloc: Global, certificate: &Certificate) -> Result<Vec<u8>, AllocError>
     ensures { IfOk result (λ text. text.items ≡ certificate_text (certificate_of certificate.now)) }
 {
-    // For its law: the table's labels are distinct.
+    // Provides the law that the table's labels are distinct.
     let _labels = certificate.labels.len();
     let mut out = Vec::new(alloc);
     push_head(

@@ -1,6 +1,6 @@
 -- Blocks of addresses with the stretches that have their ends, and the certificate's node for one.
 use Rattle.std.proofs.Common.{◌≡◌, ℕ, zero, suc, ◌+◌, ◌-◌, ◌*◌, ◌/◌, ◌^◌, ◌<◌, ◌≤◌, inl, inr, ◌∙◌, ◌==◌, List, [], ◌∷◌, Option, Some, None, option_map, length, refl, sym, ap, subst, arith}
-use Rattle.std.proofs.lemmas.Bool.{cases_lt, cond-false, cond-true, cond_above, cond_below, eq-eqb, ne_eqb}
+use Rattle.std.proofs.lemmas.Bool.{cases_lt, cond-false, cond-true, eq-eqb, ne_eqb}
 use Rattle.std.proofs.Math.Nat.{pow-suc}
 use Rattle.std.proofs.lemmas.Nat.{pow_pos}
 use Rattle.std.proofs.lemmas.Option.{none-some, same_Some}
@@ -13,6 +13,7 @@ use Rattle.prefix_keys.proofs.Quotients.{above_first, below_end, quotient_is}
 use Rattle.pmap_text.specs.Stretches.{AreStretches, HasEveryAddress, HasStretch, HoldsAddress, StretchesModel, first_at, label_at, last_at}
 use Rattle.pmap_text.specs.declared.label.LabelId.{LabelId}
 use Rattle.pmap_text.specs.declared.statement.Statement.{Statement}
+use Rattle.pmap_text.proofs.Ranges.{ends_before, held_index, last_end, next_first, ordered_at}
 use Rattle.pmap_cert.specs.CertificateForm.{IsRising}
 use Rattle.pmap_cert.specs.Node.{Inner, Leaf, Node, label_of, set_of}
 use Rattle.pmap_cert.specs.Placing.{bits_down, end_down, side_below}
@@ -23,72 +24,25 @@ use Rattle.label_trie.proofs.Grown.{IsSplit, block_some, is_split, leaf_added}
 use Rattle.pmap_minimise.specs.Areas.{AreFew, AreHalvesOf, IsArea, IsMade, IsRun, IsStep, IsStop, StepsHigh, StepsLow, IsTreeOf, number_at, own_label}
 use Rattle.pmap_minimise.specs.Built.{cost_above, digit, node_over, set_above, way_node, way_to}
 use Rattle.pmap_minimise.specs.Numbers.{IsExact}
-use Rattle.pmap_minimise.specs.Outline.{plan_of}
 use Rattle.pmap_minimise.specs.declared.area.Area.{Area}
 use Rattle.pmap_minimise.proofs.Ways.{above-rising, down-high, down-low, down-none, way-high, way-low, way-set}
 
 -- The stretches in their order.
 module _ (s : StretchesModel) (every : HasEveryAddress s) where
-  pub last-next : (i : ℕ) → i + 1 < length s.firsts → last_at s i + 1 ≡ first_at s (i + 1)
-  last-next i more =
-      let last : last_at s i ≡ first_at s (i + 1) - 1 = sym (cond_below (i + 1) (length s.firsts) (first_at s (i + 1) - 1) (2 ^ width_of s.version - 1) more) in
-      let rises = every.rising i (i + 1) (omega arith) more in
-      omega arith
-
-  first-most : (i j : ℕ) → i ≤ j → j < length s.firsts → first_at s i ≤ first_at s j
-  first-most i j most inside =
-      elim (cases_lt i j) [
-        | inl less ↦ let rises = every.rising i j less inside in omega arith
-        | inr least ↦ let same : i ≡ j = omega arith in subst (λ (k : ℕ). first_at s i ≤ first_at s k) same (omega arith)
-      ]
-
-  -- a later stretch begins after an earlier one
-  pub after-last : (i j : ℕ) → i < j → j < length s.firsts → last_at s i < first_at s j
-  after-last i j less inside =
-      let next = last-next i (omega arith) in
-      let most = first-most (i + 1) j (omega arith) inside in
-      omega arith
-
   -- one stretch alone has an address
   pub one-index : (a i j : ℕ) → HoldsAddress s a i → HoldsAddress s a j → i ≡ j
-  one-index a i j first second =
-      elim (cases_lt i j) [
-        | inl less ↦ let after = after-last i j less second.index in absurd (omega (arith, first.to, second.from))
-        | inr least ↦
-            elim (cases_lt j i) [
-              | inl less ↦ let after = after-last j i less first.index in absurd (omega (arith, second.to, first.from))
-              | inr most ↦ omega arith
-            ]
-      ]
-
-  pub stretch-some : (i : ℕ) → i < length s.firsts → first_at s i ≤ last_at s i
-  stretch-some i inside =
-      elim (cases_lt (i + 1) (length s.firsts)) [
-        | inl more ↦ let next = last-next i more in let rises = every.rising i (i + 1) (omega arith) more in omega arith
-        | inr end ↦
-            let last : last_at s i ≡ 2 ^ width_of s.version - 1 = sym (cond_above (i + 1) (length s.firsts) (first_at s (i + 1) - 1) (2 ^ width_of s.version - 1) (2 ^ width_of s.version - 1) end refl) in
-            let within = every.within i inside in
-            omega arith
-      ]
-
-  -- a later address is in no earlier stretch
-  pub index-most : (a b i j : ℕ) → a ≤ b → HoldsAddress s a i → HoldsAddress s b j → i ≤ j
-  index-most a b i j most first second =
-      elim (cases_lt j i) [
-        | inl less ↦ let after = after-last j i less first.index in absurd (omega (arith, second.to, first.from))
-        | inr least ↦ least
-      ]
+  one-index a i j first second = sym (held_index s every a i first) ∙ held_index s every a j second
 
   -- the stretch of the next address
   pub next-stretch : (a i : ℕ) → HoldsAddress s a i → a + 1 < 2 ^ width_of s.version → last_at s i ≡ a → HoldsAddress s (a + 1) (i + 1)
   next-stretch a i holds below last =
       elim (cases_lt (i + 1) (length s.firsts)) [
         | inl more ↦
-            let next = last-next i more in
-            let some = stretch-some (i + 1) more in
+            let next = next_first s every i more in
+            let some = ordered_at s every (i + 1) more in
             record { index = more; from = omega arith; to = omega arith }
         | inr end ↦
-            let most : last_at s i ≡ 2 ^ width_of s.version - 1 = sym (cond_above (i + 1) (length s.firsts) (first_at s (i + 1) - 1) (2 ^ width_of s.version - 1) (2 ^ width_of s.version - 1) end refl) in
+            let most = last_end s i end in
             absurd (omega arith)
       ]
 
@@ -99,7 +53,7 @@ module _ (s : StretchesModel) (every : HasEveryAddress s) where
       record { index = holds.index; from = omega arith; to = omega (arith, other) }
 
 -- the halves of a block are determined
-same-area : (a b : Area) → a.first ≡ b.first → a.last ≡ b.last → a.len ≡ b.len → a.from ≡ b.from → a.to ≡ b.to → a ≡ b
+pub same-area : (a b : Area) → a.first ≡ b.first → a.last ≡ b.last → a.len ≡ b.len → a.from ≡ b.from → a.to ≡ b.to → a ≡ b
 same-area a b first last len from to = λ i. record { first = first i; last = last i; len = len i; from = from i; to = to i }
 
 same-ends : (s : StretchesModel) (every : HasEveryAddress s) (a b : Area) → IsArea s a → IsArea s b → a.first ≡ b.first → a.last ≡ b.last → a.len ≡ b.len → a ≡ b
@@ -146,7 +100,7 @@ module _ (s : StretchesModel) (a : Area) (is : IsArea s a) where
   module _ (divided : a.from < a.to) where
     beyond : last_at s a.from < a.last
     beyond =
-        let after = after-last s is.few.stretches.every a.from a.to divided is.end.index in
+        let after = ends_before s is.few.stretches.every a.from a.to divided is.end.index in
         let from = is.end.from in
         omega arith
 
@@ -244,7 +198,7 @@ leaf-tree v ss default n q first last label has within from to =
     let tree_is : added.tree ≡ Tip label = one-leaf added.tree label (sym added.nodes) in
     subst (IsTreeOf v ss default n q) tree_is (record { fits = added.fits; labelled = added.labelled; few = added.few })
 
--- and one that goes on beyond a stretch that of its halves' trees
+-- and the tree of a block beyond one stretch has the trees of its halves
 fork-tree : (v : Version) (ss : List Statement) (default : Option LabelId) (n first last : ℕ) (low high : Tree) → IsSplit (width_of v) n first last ss
     → IsTreeOf v ss default (suc n) (2 * block_number (width_of v) n first) low → IsTreeOf v ss default (suc n) (2 * block_number (width_of v) n first + 1) high
     → IsTreeOf v ss default n (block_number (width_of v) n first) (Fork low high)
@@ -273,7 +227,6 @@ own-label-is (Some id) n is = ap (λ (k : ℕ). Some (id_of k)) (same_Some id.0 
 
 -- the node for a block in one stretch
 pub leaf-made : (s : StretchesModel) (a : Area) (n : ℕ) → IsArea s a → own_label s a ≡ Some n → n < 2 ^ 32 → IsMade s a (Tip (Some (id_of n))) (Leaf n)
-unfolding plan_of
 leaf-made s a n is own fits =
     let single = own-single s a n is.ordered own in
     let label : label_at s a.from ≡ Some (id_of n) = own-label-is (label_at s a.from) n (sym (own-is s a single) ∙ own) in
@@ -297,7 +250,6 @@ leaf-made s a n is own fits =
 pub halves-made : (s : StretchesModel) (a low high : Area) (low_tree high_tree : Tree) (lower upper : Node) (cost : ℕ) (set : List ℕ) → IsArea s a → AreHalvesOf s a low high
     → IsMade s low low_tree lower → IsMade s high high_tree upper → IsExact lower upper cost set → IsRising (2 ^ 32) 0 set
     → IsMade s a (Fork low_tree high_tree) (Inner cost set lower upper)
-unfolding plan_of
 halves-made s a low high low_tree high_tree lower upper cost set is are low_made high_made exact rising = record {
   tree_of = λ ss default stretches.
       let next : a.len + 1 ≡ suc a.len = omega arith in
@@ -332,7 +284,7 @@ halves-made s a low high low_tree high_tree lower upper cost set is are low_made
   };
 }
 
--- where no step goes on from a block, no run goes down its node
+-- if no step leads on from a block, its node has no run
 pub made-stop : (s : StretchesModel) (side : ℕ) (a : Area) (tree : Tree) (node : Node) → IsMade s a tree node → IsStop s side a
     → (bits_down side node ≡ []) × (end_down side node ≡ node)
 made-stop s side a tree node made (inl single) =
@@ -456,14 +408,14 @@ run-below s side (suc count) a end is run =
       smaller = omega arith;
     }
 
--- the last digits of the end's number are those of the steps
+-- the last digits of the end's number are the steps
 step-digit : (s : StretchesModel) (side count : ℕ) (a chosen end : Area) → (step : IsStepBy s side a chosen) → IsBelow s count chosen end → digit (number_at s end) count ≡ step.digit
 step-digit s side count a chosen end step below =
     let number : number_at s end / 2 ^ count ≡ 2 * number_at s a + step.digit = below.number ∙ step.number in
     let small = step.small in
     omega arith
 
--- the node from which a run leads to that of its end
+-- the node from which a run leads to the node of its end
 module _ (s : StretchesModel) (side : ℕ) (fits : side < 2 ^ 32) (end : Area) (tree : Tree) (node : Node) (made : IsMade s end tree node) where
   abbrev value : ℕ
   value = number_at s end
@@ -540,7 +492,7 @@ module _ (s : StretchesModel) (side : ℕ) (fits : side < 2 ^ 32) (end : Area) (
       }
   over-down count (suc (suc d)) same small other down = absurd (omega arith)
 
-  -- where it doesn't go on from the end
+  -- if the run doesn't continue from the end
   module _ (stop : IsStop s side end) where
     stop-down : GoesDown zero
     stop-down = let none = made-stop s side end tree node made stop in record { bits = none.0; last = none.1 }

@@ -1,5 +1,5 @@
 -- What a block adds to the compact certificate that is built.
-use Rattle.std.proofs.Common.{◌≡◌, ℕ, zero, suc, ◌+◌, ◌-◌, ◌*◌, ◌/◌, ◌^◌, ◌<◌, ◌≤◌, ◌∙◌, inl, inr, cond, List, [], ◌∷◌, ◌++◌, Option, Some, None, IsSome, length, slice_get, get_or, refl, sym, ap, subst, arith, length-append}
+use Rattle.std.proofs.Common.{◌≡◌, ℕ, zero, suc, ◌+◌, ◌-◌, ◌*◌, ◌/◌, ◌^◌, ◌<◌, ◌≤◌, ◌∙◌, inl, inr, cond, Bool, List, [], ◌∷◌, ◌++◌, Option, Some, None, IsSome, length, slice_get, get_or, refl, sym, ap, subst, arith, length-append}
 use Rattle.std.specs.Option.{option_or}
 use Rattle.std.specs.Prelude.{◌⊎◌}
 use Rattle.std.proofs.Math.Seq.{get_or-append_seam}
@@ -10,44 +10,38 @@ use Rattle.std.proofs.lemmas.Bool.{cond_above}
 use Rattle.prefix_keys.specs.Block.{block_number, first_of, last_of}
 use Rattle.prefix_keys.specs.Version.{width_of}
 use Rattle.prefix_keys.specs.declared.version.Version.{Version}
-use Rattle.prefix_keys.specs.declared.version.Version.TheVariants.{V4, V6}
 use Rattle.pmap_text.specs.MapText.{map_of}
 use Rattle.pmap_text.specs.Stretches.{AreStretches, StretchesModel, first_at, label_at, label_seen, last_at}
 use Rattle.pmap_text.specs.declared.statement.Statement.{Statement}
 use Rattle.pmap_text.specs.declared.label.LabelId.{LabelId}
 use Rattle.pmap_text.specs.declared.map_text.MapText.{MapText}
 use Rattle.pmap_cert.specs.Node.{Chain, Inner, Leaf, Node, cost_of, label_of, set_of}
+use Rattle.pmap_cert.specs.CertificateForm.{IsRising}
+use Rattle.pmap_cert.specs.declared.pool.SetId.{SetId}
+use Rattle.pmap_cert.specs.Packed.{IsGrown, IsHeld, set_in}
 use Rattle.pmap_cert.specs.Placing.{IsCompactNode, bits_down, end_down, side_below}
+use Rattle.pmap_cert.proofs.PackedLines.{held-more}
 use Rattle.pmap_cert.proofs.CompactNodes.{compact-chain, compact-leaf, compact-none, compact-short}
 use Rattle.label_trie.specs.Layers.{parted_sum}
-use Rattle.label_trie.specs.Tree.{Fork, Tip, Tree, leaf_count, leaves_of}
+use Rattle.label_trie.specs.Tree.{Fork, Tip, Tree, leaves_of}
 use Rattle.label_trie.proofs.Built.{map_layers, parted_most}
 use Rattle.label_trie.proofs.NodeLeaves.{fits_HasRoom, leaves_settled, leaves_undivided, length_leaves}
 use Rattle.pmap_minimise.specs.Areas.{AreHalvesOf, IsArea, IsMade, IsRun, IsLongRun, IsRunTo, IsShortRun, IsStop, IsTreeOf, StepsHigh, StepsLow, number_at, own_label}
-use Rattle.pmap_minimise.specs.Building.{AddsChain, AddsInner, AddsLeaf}
+use Rattle.pmap_minimise.specs.Building.{AddsChain, AddsInner, AddsLeaf, HasRisingSet, exact_cost}
 use Rattle.pmap_minimise.specs.Built.{HasGrown, IsAt, IsBuilt, IsBuiltFor, cost_above, way_node, way_to}
-use Rattle.pmap_minimise.specs.Claiming.{exact_cost}
-use Rattle.pmap_minimise.specs.Kept.{AreSetsKept, HaveGrown, IsSetOf, larger_in, set_by}
-use Rattle.pmap_minimise.specs.Numbers.{IsExact, IsExactSet, common_numbers, has_number}
-use Rattle.pmap_minimise.specs.Outline.{plan_of, tips}
+use Rattle.pmap_minimise.specs.Numbers.{IsExact, IsExactBy, IsExactSet, IsExactSetBy, common_numbers, has_number}
 use Rattle.pmap_minimise.specs.declared.area.Area.{Area}
 use Rattle.pmap_minimise.specs.declared.built.Built.{Built}
 use Rattle.pmap_minimise.specs.declared.built.Chain.{Chain as ChainParts}
 use Rattle.pmap_minimise.specs.declared.built.Claim.{Claim}
 use Rattle.pmap_minimise.specs.declared.built.Line.{Line}
 use Rattle.pmap_minimise.specs.declared.built.Line.TheVariants.{Chain as ChainLine, Inner as InnerLine, Leaf as LeafLine}
-use Rattle.pmap_minimise.specs.declared.set_list.SetId.{SetId}
-use Rattle.pmap_minimise.specs.declared.set_list.Sets.{Sets}
-use Rattle.pmap_minimise.proofs.Areas.{AreSameHalves, area-split, halves-made, leaf-made, made-side, made-stop, run-below, run-down, run-made, same-halves, stretch-some, way_tree}
-use Rattle.pmap_minimise.proofs.Claimed.{exact-by, half-grown}
-use Rattle.pmap_minimise.proofs.Outlined.{node-cost}
-use Rattle.pmap_minimise.proofs.Planned.{tree-certified}
+use Rattle.pmap_text.proofs.Ranges.{ordered_at}
+use Rattle.pmap_minimise.proofs.Areas.{AreSameHalves, area-split, halves-made, leaf-made, made-side, made-stop, run-below, run-down, run-made, same-halves, way_tree}
+use Rattle.pmap_minimise.proofs.TreeNodes.{node-cost, tree-certified}
 use Rattle.pmap_minimise.proofs.Texts.{exact-rising}
+use Rattle.pmap_minimise.proofs.Halves.{width-most}
 use Rattle.pmap_minimise.proofs.Ways.{down-high, down-low, way-cost, way-set}
-
-width-most : (v : Version) → width_of v ≤ 128
-width-most V4 = omega arith
-width-most V6 = omega arith
 
 -- what is listed goes on to be
 listed-on : {X : Type 0} (xs more : List X) (n : ℕ) (x : X) → slice_get xs n ≡ Some x → slice_get (xs ++ more) n ≡ Some x
@@ -66,30 +60,24 @@ listed-last {X} front whole x is =
     slice_get-get_or whole (length front) x long
     ∙ ap (λ (y : X). Some y) (ap (λ (l : List X). get_or l (length front) x) is ∙ get_or-append_seam front x [] x)
 
-set-on : (old new : Sets) (id : SetId) (labels : List ℕ) → HaveGrown old new → IsSetOf (larger_in old) id labels → IsSetOf (larger_in new) id labels
-set-on old new id labels grown is = subst (λ (l : List (List ℕ)). IsSetOf l id labels) (sym grown.larger) (half-grown (larger_in old) grown.more id labels is)
+pub rising-held : (pool : List LabelId) (id : SetId) (set : List ℕ) → IsHeld pool id set → IsRising (2 ^ 32) 0 set → HasRisingSet pool id
+rising-held pool id set is rising = record { has = is.whole; rising = subst (IsRising (2 ^ 32) 0) (sym is.set) rising }
 
-sets-again : (old middle new : Sets) → HaveGrown old middle → HaveGrown middle new → HaveGrown old new
-sets-again old middle new first second = record {
-  kept = second.kept;
-  more = first.more ++ second.more;
-  larger = second.larger ∙ ap (λ (l : List (List ℕ)). l ++ second.more) first.larger ∙ append_assoc (larger_in old) first.more second.more;
-}
-
-sets-same : (old : Sets) → AreSetsKept old → HaveGrown old old
-sets-same old kept = record { kept = kept; more = []; larger = sym (append-nil (larger_in old)) }
+pool-again : (old middle new : List LabelId) → IsGrown old middle → IsGrown middle new → IsGrown old new
+pool-again old middle new first second =
+    (first.0 ++ second.0, second.1 ∙ ap (λ (l : List LabelId). l ++ second.0) first.1 ∙ append_assoc old first.0 second.0)
 
 grown-again : (old middle new : Built) → HasGrown old middle → HasGrown middle new → HasGrown old new
 grown-again old middle new first second = record {
-  sets = sets-again old.sets middle.sets new.sets first.sets second.sets;
+  sets = pool-again old.sets middle.sets new.sets first.sets second.sets;
   lines = first.lines ++ second.lines;
   lines_are = second.lines_are ∙ ap (λ (l : List Line). l ++ second.lines) first.lines_are ∙ append_assoc old.lines.items first.lines second.lines;
   chains = first.chains ++ second.chains;
   chains_are = second.chains_are ∙ ap (λ (l : List ChainParts). l ++ second.chains) first.chains_are ∙ append_assoc old.chains.items first.chains second.chains;
 }
 
--- the lines are those of a node when others have come
-at-grown : (old new : Built) (compact node : Node) (from to : ℕ) → HasGrown old new → IsAt old compact node from to → IsAt new compact node from to
+-- the lines of a node stay when others are appended
+pub at-grown : (old new : Built) (compact node : Node) (from to : ℕ) → HasGrown old new → IsAt old compact node from to → IsAt new compact node from to
 at-grown old new (Leaf label) node from to grown is = record {
   line_is = listed-grown old.lines.items grown.lines new.lines.items from _ grown.lines_are is.line_is;
   to_is = is.to_is;
@@ -105,7 +93,7 @@ at-grown old new (Inner cost set lower upper) node from to grown is = record {
   low = at-grown old new lower is.lower is.middle is.last grown is.low;
   line_is = listed-grown old.lines.items grown.lines new.lines.items is.last _ grown.lines_are is.line_is;
   to_is = is.to_is;
-  set_is = set-on old.sets new.sets is.id set grown.sets is.set_is;
+  set_is = held-more old.sets new.sets is.id set grown.sets is.set_is;
   node_is = is.node_is;
 }
 at-grown old new (Chain cost set bits side end) node from to grown is = record {
@@ -130,20 +118,13 @@ at-grown old new (Chain cost set bits side end) node from to grown is = record {
 pushed-length : {X : Type 0} (front whole : List X) (x : X) → whole ≡ front ++ x ∷ [] → length whole ≡ length front + 1
 pushed-length front whole x is = omega (arith, ap length is, length-append front (x ∷ []))
 
--- a block in one stretch
-pub leaf-built : (s : StretchesModel) (a : Area) (id : LabelId) (old new : Built) (claim : Claim) → IsArea s a → own_label s a ≡ Some id.0 → AddsLeaf id old new claim
-    → IsBuilt s a old new claim
-leaf-built s a id old new claim is own adds = record {
-  tree = Tip (Some (record { 0 = id.0 }));
-  node = Leaf id.0;
-  compact = Leaf id.0;
-  made = leaf-made s a id.0 is own adds.fits;
-  compact_is = compact-leaf id.0;
-  at = record {
-    line_is = listed-last old.lines.items new.lines.items (LeafLine id) adds.lines_are;
-    to_is = pushed-length old.lines.items new.lines.items (LeafLine id) adds.lines_are;
-    node_is = refl;
-  };
+-- a leaf is added
+pub record IsLeafAdded (id : LabelId) (old new : Built) : Type 0 where
+  pub grown : HasGrown old new
+  pub at : IsAt new (Leaf id.0) (Leaf id.0) (length old.lines.items) (length new.lines.items)
+
+pub leaf-added : (id : LabelId) (old new : Built) (claim : Claim) → AddsLeaf id old new claim → IsLeafAdded id old new
+leaf-added id old new claim adds = record {
   grown = record {
     sets = adds.held.grown;
     lines = LeafLine id ∷ [];
@@ -151,22 +132,82 @@ leaf-built s a id old new claim is own adds = record {
     chains = [];
     chains_are = adds.chains_are ∙ sym (append-nil old.chains.items);
   };
-  cost_is = adds.cost_is;
-  set_is = adds.held.stands;
+  at = record {
+    line_is = listed-last old.lines.items new.lines.items (LeafLine id) adds.lines_are;
+    to_is = pushed-length old.lines.items new.lines.items (LeafLine id) adds.lines_are;
+    node_is = refl;
+  };
 }
 
--- what the node of a block costs is below its leaves
-tips-leaves : (tree : Tree) → tips (plan_of tree) ≡ leaf_count tree
-unfolding plan_of
-tips-leaves (Tip None) = refl
-tips-leaves (Tip (Some id)) = refl
-tips-leaves (Fork low high) = omega (arith, tips-leaves low, tips-leaves high)
+-- so is the node of two halves
+pub record IsInnerAdded (old new : Built) (claim : Claim) (set : List ℕ) (low lower high upper : Node) (from : ℕ) : Type 0 where
+  pub grown : HasGrown old new
+  pub exact : IsExact lower upper claim.cost set
+  pub at : IsAt new (Inner claim.cost set low high) (Inner claim.cost set lower upper) from (length new.lines.items)
 
+exact-by : (low_cost high_cost : ℕ) (low high shared set : List ℕ) (apart : Bool) → IsExactSetBy low high apart shared set
+    → IsExactBy low_cost high_cost low high shared (exact_cost low_cost high_cost apart) set
+exact-by low_cost high_cost low high [] set apart exact = (ap (exact_cost low_cost high_cost) exact.0, exact.1, exact.2)
+exact-by low_cost high_cost low high (n ∷ ns) set apart exact = (ap (exact_cost low_cost high_cost) exact.0, exact.1)
+
+pub inner-added : (old new : Built) (below above claim : Claim) (low lower high upper : Node) (from middle : ℕ) → IsAt old high upper from middle → IsAt old low lower middle (length old.lines.items)
+    → below.cost ≡ cost_of lower → above.cost ≡ cost_of upper → IsHeld old.sets below.set (set_of lower) → IsHeld old.sets above.set (set_of upper)
+    → (adds : AddsInner below above old new claim) → IsInnerAdded old new claim adds.held.set low lower high upper from
+inner-added old new below above claim low lower high upper from middle high_at low_at low_cost high_cost low_set high_set adds =
+    let grown : HasGrown old new = record {
+      sets = adds.held.held.grown;
+      lines = InnerLine claim.cost claim.set ∷ [];
+      lines_are = adds.lines_are;
+      chains = [];
+      chains_are = adds.chains_are ∙ sym (append-nil old.chains.items);
+    } in
+    let exact : IsExactSet (set_of lower) (set_of upper) adds.apart adds.held.set =
+    subst (λ (l : List ℕ). IsExactSet l (set_of upper) adds.apart adds.held.set) low_set.set
+    (subst (λ (l : List ℕ). IsExactSet (set_in old.sets below.set) l adds.apart adds.held.set) high_set.set adds.held.exact) in
+    let cost : claim.cost ≡ exact_cost (cost_of lower) (cost_of upper) adds.apart =
+    adds.cost_is ∙ (λ i. exact_cost (low_cost i) (high_cost i) adds.apart) in
+    record {
+      grown = grown;
+      exact = subst (λ (k : ℕ). IsExact lower upper k adds.held.set) (sym cost)
+          (exact-by (cost_of lower) (cost_of upper) (set_of lower) (set_of upper) (common_numbers (set_of lower) (set_of upper)) adds.held.set adds.apart exact);
+      at = record {
+        id = claim.set;
+        middle = middle;
+        last = length old.lines.items;
+        lower = lower;
+        upper = upper;
+        high = at-grown old new high upper from middle grown high_at;
+        low = at-grown old new low lower middle (length old.lines.items) grown low_at;
+        line_is = listed-last old.lines.items new.lines.items (InnerLine claim.cost claim.set) adds.lines_are;
+        to_is = pushed-length old.lines.items new.lines.items (InnerLine claim.cost claim.set) adds.lines_are;
+        set_is = adds.held.held.stands;
+        node_is = refl;
+      };
+    }
+
+-- a block in one stretch
+pub leaf-built : (s : StretchesModel) (a : Area) (id : LabelId) (old new : Built) (claim : Claim) → IsArea s a → own_label s a ≡ Some id.0 → AddsLeaf id old new claim
+    → IsBuilt s a old new claim
+leaf-built s a id old new claim is own adds =
+    let added = leaf-added id old new claim adds in
+    record {
+      tree = Tip (Some (record { 0 = id.0 }));
+      node = Leaf id.0;
+      compact = Leaf id.0;
+      made = leaf-made s a id.0 is own adds.fits;
+      compact_is = compact-leaf id.0;
+      at = added.at;
+      grown = added.grown;
+      cost_is = adds.cost_is;
+      set_is = adds.held.stands;
+    }
+
+-- what the node of a block costs is below its leaves
 pub made-cost : (s : StretchesModel) (a : Area) (tree : Tree) (node : Node) (is : IsArea s a) → IsMade s a tree node
     → cost_of node ≤ parted_sum (width_of s.version) (width_of s.version - a.len) a.len (number_at s a) is.few.statements
 made-cost s a tree node is made =
     let few = (made.tree_of is.few.statements is.few.default is.few.stretches).few in
-    omega (arith, few, node-cost (plan_of tree) node made.node_is, tips-leaves tree)
+    omega (arith, few, node-cost tree node made.node_is)
 
 -- a node with a label is a leaf
 leaf-of : (node : Node) (n : ℕ) → label_of node ≡ Some n → node ≡ Leaf n
@@ -177,7 +218,7 @@ leaf-of (Chain cost set bits side end) n is = absurd (none-some n is)
 -- The node of two halves.
 module _ (s : StretchesModel) (a low high : Area) (low_tree high_tree : Tree) (lower upper : Node) (are : AreHalvesOf s a low high)
     (low_made : IsMade s low low_tree lower) (high_made : IsMade s high high_tree upper) where
-  -- its run has no more than one bit where that of its block has
+  -- its run has at most one bit if that of its block has
   short-run : (tree : Tree) (cost : ℕ) (set : List ℕ) (side : ℕ) (end : Area) → IsMade s a tree (Inner cost set lower upper) → (run : IsRunTo s side a end) → run.count < 2
       → length (bits_down side (Inner cost set lower upper)) < 2
   short-run tree cost set side end made run few = by run.count few run.run
@@ -225,25 +266,12 @@ pub halves-built : (s : StretchesModel) (a low high : Area) (old middle after ne
     → IsShortRun s a (option_or (own_label s low) (own_label s high)) → IsBuilt s high old middle above → IsBuilt s low middle after below → AddsInner below above after new claim
     → IsBuilt s a old new claim
 halves-built s a low high old middle after new above below claim is are short upper lower adds =
-    let grown : HasGrown after new = record {
-      sets = adds.held.held.grown;
-      lines = InnerLine claim.cost claim.set ∷ [];
-      lines_are = adds.lines_are;
-      chains = [];
-      chains_are = adds.chains_are ∙ sym (append-nil after.chains.items);
-    } in
-    let before : HasGrown middle new = grown-again middle after new lower.grown grown in
-    let low_is = lower.set_is.set_is in
-    let high_is = (set-on middle.sets after.sets above.set (set_of upper.node) lower.grown.sets upper.set_is).set_is in
-    let exact : IsExactSet (set_of lower.node) (set_of upper.node) adds.apart adds.held.set =
-    subst (λ (l : List ℕ). IsExactSet l (set_of upper.node) adds.apart adds.held.set) low_is
-    (subst (λ (l : List ℕ). IsExactSet (set_by (larger_in after.sets) below.set) l adds.apart adds.held.set) high_is adds.held.exact) in
-    let by = exact-by (cost_of lower.node) (cost_of upper.node) (set_of lower.node) (set_of upper.node) (common_numbers (set_of lower.node) (set_of upper.node)) adds.held.set adds.apart exact in
-    let cost : claim.cost ≡ exact_cost (cost_of lower.node) (cost_of upper.node) adds.apart =
-    adds.cost_is ∙ (λ i. exact_cost (lower.cost_is i) (upper.cost_is i) adds.apart) in
-    let exact' : IsExact lower.node upper.node claim.cost adds.held.set = subst (λ (k : ℕ). IsExact lower.node upper.node k adds.held.set) (sym cost) by in
-    let made = halves-made s a low high lower.tree upper.tree lower.node upper.node claim.cost adds.held.set is are lower.made upper.made exact'
-    (exact-rising (2 ^ 32) (cost_of lower.node) (cost_of upper.node) (set_of lower.node) (set_of upper.node) claim.cost adds.held.set lower.made.rising upper.made.rising exact') in
+    let high_set = held-more middle.sets after.sets above.set (set_of upper.node) lower.grown.sets upper.set_is in
+    let high_at = at-grown middle after upper.compact upper.node (length old.lines.items) (length middle.lines.items) lower.grown upper.at in
+    let added = inner-added after new below above claim lower.compact lower.node upper.compact upper.node (length old.lines.items) (length middle.lines.items)
+    high_at lower.at lower.cost_is upper.cost_is lower.set_is high_set adds in
+    let made = halves-made s a low high lower.tree upper.tree lower.node upper.node claim.cost adds.held.set is are lower.made upper.made added.exact
+    (exact-rising (2 ^ 32) (cost_of lower.node) (cost_of upper.node) (set_of lower.node) (set_of upper.node) claim.cost adds.held.set lower.made.rising upper.made.rising added.exact) in
     let labels : option_or (label_of lower.node) (label_of upper.node) ≡ option_or (own_label s low) (own_label s high) =
     (λ i. option_or (lower.made.own i) (upper.made.own i)) in
     record {
@@ -252,20 +280,8 @@ halves-built s a low high old middle after new above below claim is are short up
       compact = Inner claim.cost adds.held.set lower.compact upper.compact;
       made = made;
       compact_is = go made adds.held.set (option_or (own_label s low) (own_label s high)) labels short;
-      at = record {
-        id = claim.set;
-        middle = length middle.lines.items;
-        last = length after.lines.items;
-        lower = lower.node;
-        upper = upper.node;
-        high = at-grown middle new upper.compact upper.node (length old.lines.items) (length middle.lines.items) before upper.at;
-        low = at-grown after new lower.compact lower.node (length middle.lines.items) (length after.lines.items) grown lower.at;
-        line_is = listed-last after.lines.items new.lines.items (InnerLine claim.cost claim.set) adds.lines_are;
-        to_is = pushed-length after.lines.items new.lines.items (InnerLine claim.cost claim.set) adds.lines_are;
-        set_is = adds.held.held.stands;
-        node_is = refl;
-      };
-      grown = grown-again old middle new upper.grown before;
+      at = added.at;
+      grown = grown-again old middle new upper.grown (grown-again middle after new lower.grown added.grown);
       cost_is = refl;
       set_is = adds.held.held.stands;
     }
@@ -304,7 +320,7 @@ chain-built s a low high end old middle new below claim side number bits_are is 
     let down = run-down s side.0 adds.fits end built.tree built.node built.made run.stop count a is run.run in
     let parts = made.halves are.divided in
     let some : 1 ≤ count = omega arith in
-    let below_set = built.set_is.set_is in
+    let below_set = built.set_is.set in
     let cost : claim.cost ≡ cost_of node =
     adds.cost_is ∙ (λ i. cond (has_number (below_set i) side.0) (built.cost_is i) (built.cost_is i + 1)) ∙ sym (first-cost count some) in
     let set : set_of node ≡ side.0 ∷ [] = first-set count (omega arith) in
@@ -340,7 +356,7 @@ chain-built s a low high end old middle new below claim side number bits_are is 
       };
       grown = grown-again old middle new built.grown grown;
       cost_is = cost;
-      set_is = subst (IsSetOf (larger_in new.sets) claim.set) (sym set) adds.held.stands;
+      set_is = subst (IsHeld new.sets claim.set) (sym set) adds.held.stands;
     }
   where
     first-cost : (count : ℕ) → 1 ≤ count → cost_of (way_node side.0 (number_at s end) count built.node) ≡ cost_above side.0 built.node
@@ -377,9 +393,8 @@ whole-built m s a old new claim version are first len none built =
       undivided = leaves_undivided (map_of m) built.tree fits labelled;
       built = record {
         certified =
-            tree-certified built.tree 0 0 W built.node labelled (fits_HasRoom (map_of m) built.tree 0 0 W (omega arith) fits) built.made.node_is
+            tree-certified built.tree 0 0 W built.node (fits_HasRoom (map_of m) built.tree 0 0 W (omega arith) fits) built.made.node_is
             (omega (arith, length_leaves built.tree 0 0, few, parted_most W m.statements, most, m.within_limit));
-        kept = built.grown.sets.kept;
         compact = built.compact;
         compact_is = built.compact_is;
         at = subst (λ (k : ℕ). IsAt new built.compact built.node k (length new.lines.items)) (ap length none) built.at;
@@ -441,10 +456,8 @@ both-cost s a low high low_tree high_tree lower upper low_cost high_cost is are 
       few,
       low_is,
       high_is,
-      node-cost (plan_of low_tree) lower low_made.node_is,
-      tips-leaves low_tree,
-      node-cost (plan_of high_tree) upper high_made.node_is,
-      tips-leaves high_tree,
+      node-cost low_tree lower low_made.node_is,
+      node-cost high_tree upper high_made.node_is,
     )
 
 -- the whole address space as a block
@@ -464,8 +477,8 @@ whole-area m s a version are first len from to last =
     let finish : Q - 1 ≡ (0 + 1) * Q - 1 = omega arith in
     let begins : first_at s a.from ≡ 0 = ap (first_at s) from ∙ zero in
     let inside : a.to < length s.firsts = omega arith in
-    let end = stretch-some s every a.to inside in
-    let start = stretch-some s every a.from (omega arith) in
+    let end = ordered_at s every a.to inside in
+    let start = ordered_at s every a.from (omega arith) in
     let few : parted_sum W (W - a.len) a.len (number_at s a) m.statements + 1 < 2 ^ 32 =
     subst (λ (k : ℕ). k + 1 < 2 ^ 32)
     (sym ((λ i. parted_sum W (W - len i) (len i) (number i) m.statements) ∙ (λ i. parted_sum (width_of (version i)) (width_of (version i) - 0) 0 0 m.statements)))

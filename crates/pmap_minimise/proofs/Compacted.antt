@@ -5,13 +5,13 @@ use Rattle.std.proofs.lemmas.Option.{same_Some, slice_get-get_or, slice_get_with
 use Rattle.std.proofs.lemmas.Result.{IfOk-weaker}
 use Rattle.pmap_text.specs.declared.label.LabelId.{LabelId}
 use Rattle.pmap_cert.specs.Node.{Chain, Inner, Leaf, Node}
+use Rattle.pmap_cert.specs.declared.pool.SetId.{SetId}
 use Rattle.pmap_minimise.specs.Built.{IsAt, IsChainAt, IsInnerAt}
 use Rattle.pmap_minimise.specs.declared.built.Built.{Built}
 use Rattle.pmap_minimise.specs.declared.built.Line.{Line}
 use Rattle.pmap_minimise.specs.declared.built.Line.TheVariants.{Chain as ChainLine, Inner as InnerLine, Leaf as LeafLine}
-use Rattle.pmap_minimise.specs.declared.set_list.SetId.{SetId}
 
--- what holds where a call went well holds in another form too
+-- a property of a successful result may be replaced by one that follows from it
 pub if_ok : {T E : Type 0} (r : Result T E) (P Q : T → Type 0) → IfOk r P → ((x : T) → P x → Q x) → IfOk r Q
 if_ok r P Q holds so = IfOk-weaker r P Q so holds
 
@@ -42,7 +42,7 @@ at-last b (Chain cost set bits side end) node from to is =
     let a' = below.after in
     record { last = is.last; to_is = is.to_is; after = omega arith; inside = slice_get_within b.lines.items is.last _ is.line_is }
 
--- what stands there is a node's own line
+-- the line there is a node's own line
 pub record IsLeafNode (b : Built) (compact node : Node) (label from to : ℕ) : Type 0 where
   pub compact_is : compact ≡ Leaf label
   pub node_is : node ≡ Leaf label

@@ -12,14 +12,14 @@ pub numbers-append : (xs ys : List LabelId) → numbers_of (xs ++ ys) ≡ number
 numbers-append [] ys = refl
 numbers-append (x ∷ xs) ys = ap (λ (ns : List ℕ). x.0 ∷ ns) (numbers-append xs ys)
 
--- rising numbers from k on have none below k
+-- rising numbers from k on are not below k
 pub lacks : (b k : ℕ) (ns : List ℕ) (n : ℕ) → IsRising b k ns → n < k → has_number ns n ≡ false
 lacks b k [] n rising less = refl
 lacks b k (m ∷ ns) n rising less =
     let least = rising.0 in
     ap (λ (t : Bool). t || has_number ns n) (ne_eqb n m (λ e. omega arith)) ∙ lacks b (m + 1) ns n rising.2 (omega arith)
 
--- a number below all of a list is none of its common ones with another
+-- a number below all of a list isn't common to it and another list
 common-above : (b k : ℕ) (ns : List ℕ) (y : ℕ) (s : List ℕ) → IsRising b k ns → y < k → common_numbers ns (y ∷ s) ≡ common_numbers ns s
 common-above b k [] y s rising less = refl
 common-above b k (n ∷ ns) y s rising less =
@@ -43,7 +43,7 @@ pub common-none : (ns : List ℕ) → common_numbers ns [] ≡ []
 common-none [] = refl
 common-none (n ∷ ns) = common-none ns
 
--- the common numbers so far and those of what is left are those of both sets
+-- the common numbers so far and those of the rest are those of both sets
 pub record IsMerging (low high : List ℕ) (set : List ℕ) (lower higher : List LabelId) : Type 0 where
   pub low_from : ℕ
   pub high_from : ℕ
@@ -107,7 +107,7 @@ rising-append b k low (n ∷ ns) ms le top rising more =
     let below = rising.1 in
     (rising.0, omega arith, rising-append b k (n + 1) ns ms (omega arith) top rising.2 more)
 
--- the set has the numbers so far, and with what is left those of both sets
+-- the set has the numbers so far, and with the rest those of both sets
 pub record IsUniting (low high : List ℕ) (set : List ℕ) (lower higher : List LabelId) : Type 0 where
   pub next : ℕ
   pub top : next ≤ 2 ^ 32
@@ -180,7 +180,7 @@ module _ (low high : List ℕ) (set new : List ℕ) (x y : LabelId) (lower highe
         (subst (λ (n : ℕ). (list_any p set || ((p x.0 || list_any p (numbers_of lower_rest)) || (p n || list_any p (numbers_of higher_rest)))) ≡ (list_any p low || list_any p high)) (sym same) (any p));
   }
 
--- one of the sets is used up, and the rest of the other goes behind
+-- one of the sets is used up, and the rest of the other is appended
 rest-lower : (s n l b : Bool) → n ≡ (s || l) → (s || (l || false)) ≡ b → n ≡ b
 rest-lower s n l b is old = grind arith
 
@@ -221,7 +221,7 @@ rising-filter b low p (n ∷ ns) rising =
     by true rest = (rising.0, rising.1, rest)
     by false rest = let least = rising.0 in rising-weaker b (n + 1) low (filter p ns) (omega arith) rest
 
--- where one of two sets is gone through, their common numbers are found
+-- once one of two sets is used up, their common numbers are found
 pub merged-lower : (low high set : List ℕ) (lower higher : List LabelId) → higher ≡ [] → IsMerging low high set lower higher → set ≡ common_numbers low high
 merged-lower low high set lower higher none merging =
     sym (append-nil set) ∙ ap (λ (ns : List ℕ). set ++ ns) (sym (common-none (numbers_of lower)))

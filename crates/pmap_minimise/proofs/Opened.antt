@@ -6,9 +6,10 @@ use Rattle.pmap_cert.proofs.Written.{text_of_lines-append}
 use Rattle.pmap_cert.specs.CertificateText.{inner_line, leaf_line, text_of_lines}
 use Rattle.pmap_cert.specs.FormatReading.{DueLine}
 use Rattle.pmap_cert.specs.Node.{Inner, Leaf, Node, line_text, lines_of, set_of}
+use Rattle.pmap_minimise.specs.declared.built.Chain.{Chain}
 use Rattle.pmap_minimise.specs.Built.{cost_above, digit, node_over, set_above, way_node, with_number}
 use Rattle.pmap_minimise.specs.Numbers.{has_number}
-use Rattle.pmap_minimise.specs.Opening.{node_text}
+use Rattle.pmap_minimise.specs.Opening.{node_text, side_after, side_before, text_down, text_up}
 
 -- a line with its end
 abbrev ended : List ℕ → List ℕ
@@ -27,7 +28,7 @@ inner-text cost set lower upper = ap (λ (t : List ℕ). ended (inner_line cost 
 pub leaf-added : (n : ℕ) (old new : List ℕ) → new ≡ old ++ ended (leaf_line n) → new ≡ old ++ node_text (Leaf n)
 leaf-added n old new is = is ∙ ap (λ (t : List ℕ). old ++ t) (sym (leaf-text n))
 
--- and that of an inner node, line after line
+-- and those of an inner node, line after line
 pub inner-added : (cost : ℕ) (set : List ℕ) (lower upper : Node) (old own middle new : List ℕ) → own ≡ old ++ ended (inner_line cost set) → middle ≡ own ++ node_text lower → new ≡ middle ++ node_text upper
     → new ≡ old ++ node_text (Inner cost set lower upper)
 inner-added cost set lower upper old own middle new first second third =
@@ -36,27 +37,59 @@ inner-added cost set lower upper old own middle new first second third =
     ∙ append_assoc old (ended (inner_line cost set)) (node_text lower ++ node_text upper)
     ∙ ap (λ (t : List ℕ). old ++ t) (sym (inner-text cost set lower upper))
 
--- the node one bit further up a way
-module _ (side value more cost : ℕ) (end : Node) (cost_is : cost ≡ cost_above side end) (old own middle new : List ℕ)
-    (line : own ≡ old ++ ended (inner_line cost (set_above side (set_of end) more))) where
-  abbrev set : List ℕ
-  set = set_above side (set_of end) more
+-- a chain's node has the lines on its way down, those of its end, and those of the side blocks after it
+module _ (chain : Chain) (end : Node) (price : chain.cost ≡ cost_above chain.side.0 end) where
+  abbrev side : ℕ
+  side = chain.side.0
 
-  abbrev below : Node
-  below = way_node side value more end
+  abbrev way : ℕ → Node
+  way bits = way_node side chain.end bits end
 
-  line' : own ≡ old ++ ended (inner_line (cost_above side end) set)
-  line' = line ∙ ap (λ (c : ℕ). old ++ ended (inner_line c set)) cost_is
+  abbrev down : ℕ → List ℕ
+  down bits = text_down chain (set_of end) bits
 
-  pub way-high : digit value more ≡ 1 → middle ≡ own ++ ended (leaf_line side) → new ≡ middle ++ node_text below → new ≡ old ++ node_text (way_node side value (suc more) end)
-  way-high same second third =
-      inner-added (cost_above side end) set (Leaf side) below old own middle new line' (leaf-added side own middle second) third
-      ∙ ap (λ (d : ℕ). old ++ node_text (node_over d (cost_above side end) set below (Leaf side))) (sym same)
+  abbrev set : ℕ → List ℕ
+  set bits = set_above side (set_of end) bits
 
-  pub way-low : digit value more ≡ 0 → middle ≡ own ++ node_text below → new ≡ middle ++ ended (leaf_line side) → new ≡ old ++ node_text (way_node side value (suc more) end)
-  way-low same second third =
-      inner-added (cost_above side end) set below (Leaf side) old own middle new line' second (leaf-added side middle new third)
-      ∙ ap (λ (d : ℕ). old ++ node_text (node_over d (cost_above side end) set below (Leaf side))) (sym same)
+  way-step : (bits d : ℕ) (D E U : List ℕ) → node_text (way bits) ≡ D ++ (E ++ U)
+      → node_text (node_over d (cost_above side end) (set bits) (way bits) (Leaf side))
+      ≡ (ended (inner_line chain.cost (set bits)) ++ (side_before side d ++ D)) ++ (E ++ (U ++ side_after side d))
+  way-step bits d D E U rest = by d
+    where
+      own : ended (inner_line (cost_above side end) (set bits)) ≡ ended (inner_line chain.cost (set bits))
+      own = ap (λ (c : ℕ). ended (inner_line c (set bits))) (sym price)
+
+      by : (d : ℕ) → node_text (node_over d (cost_above side end) (set bits) (way bits) (Leaf side))
+          ≡ (ended (inner_line chain.cost (set bits)) ++ (side_before side d ++ D)) ++ (E ++ (U ++ side_after side d))
+      by zero =
+          inner-text (cost_above side end) (set bits) (way bits) (Leaf side) ∙ (λ i. own i ++ (rest i ++ leaf-text side i))
+          ∙ ap (λ (t : List ℕ). ended (inner_line chain.cost (set bits)) ++ t)
+          (append_assoc D (E ++ U) (ended (leaf_line side)) ∙ ap (λ (t : List ℕ). D ++ t) (append_assoc E U (ended (leaf_line side))))
+          ∙ sym (append_assoc (ended (inner_line chain.cost (set bits))) D (E ++ (U ++ ended (leaf_line side))))
+      by (suc d) =
+          inner-text (cost_above side end) (set bits) (Leaf side) (way bits) ∙ (λ i. own i ++ (leaf-text side i ++ rest i))
+          ∙ ap (λ (t : List ℕ). ended (inner_line chain.cost (set bits)) ++ t) (sym (append_assoc (ended (leaf_line side)) D (E ++ U)))
+          ∙ sym (append_assoc (ended (inner_line chain.cost (set bits))) (ended (leaf_line side) ++ D) (E ++ U))
+          ∙ ap (λ (t : List ℕ). (ended (inner_line chain.cost (set bits)) ++ (ended (leaf_line side) ++ D)) ++ (E ++ t)) (sym (append-nil U))
+
+  pub way-text : (bits : ℕ) → node_text (way bits) ≡ down bits ++ (node_text end ++ text_up chain bits)
+  way-text zero = sym (append-nil (node_text end))
+  way-text (suc bits) = way-step bits (digit chain.end bits) (down bits) (node_text end) (text_up chain bits) (way-text bits)
+
+  pub chain-added : (bits : ℕ) (old own middle new : List ℕ) → own ≡ old ++ down bits → middle ≡ own ++ node_text end → new ≡ middle ++ text_up chain bits → new ≡ old ++ node_text (way bits)
+  chain-added bits old own middle new first second third =
+      third ∙ ap (λ (t : List ℕ). t ++ text_up chain bits) (second ∙ ap (λ (t : List ℕ). t ++ node_text end) first)
+      ∙ append_assoc (old ++ down bits) (node_text end) (text_up chain bits) ∙ append_assoc old (down bits) (node_text end ++ text_up chain bits)
+      ∙ ap (λ (t : List ℕ). old ++ t) (sym (way-text bits))
+
+-- the next line on the way down, with that of the side block if it comes before the end
+pub down-added : (chain : Chain) (set : List ℕ) (place d : ℕ) (out own new all : List ℕ) → digit chain.end place ≡ d → own ≡ out ++ ended (inner_line chain.cost (set_above chain.side.0 set place))
+    → new ≡ own ++ side_before chain.side.0 d → out ++ text_down chain set (suc place) ≡ all → new ++ text_down chain set place ≡ all
+down-added chain set place d out own new all same first second is =
+    let line : List ℕ = ended (inner_line chain.cost (set_above chain.side.0 set place)) in
+    let before : List ℕ = side_before chain.side.0 (digit chain.end place) in
+    ap (λ (t : List ℕ). t ++ text_down chain set place) (second ∙ (λ i. first i ++ side_before chain.side.0 (sym same i)))
+    ∙ append_assoc (out ++ line) before (text_down chain set place) ∙ append_assoc out line (before ++ text_down chain set place) ∙ is
 
 -- the set of a chain's node
 over-set : (d cost : ℕ) (own : List ℕ) (x y : Node) → set_of (node_over d cost own x y) ≡ own

@@ -85,7 +85,7 @@ find-first p (x ∷ xs) (suc n) inside below here =
     cond-false (p x) (Some x) (find p xs) (below 0 (omega arith)) ∙ find-first p xs n (omega arith) (λ i h. below (suc i) (omega arith)) here
 
 module _ (table : List Label) (ok : IsLabelTable table) where
-  -- labels of the table are told apart by their numbers
+  -- labels of the table differ exactly if their numbers do
   text-same : (n m : ℕ) → n < length table → m < length table → bytes_eq (text_at table n) (text_at table m) ≡ (n == m)
   text-same n m known also = by (n == m) refl
     where

@@ -1,24 +1,141 @@
 -- The entries of a block from which a run leads down.
-use Rattle.std.proofs.Common.{◌≡◌, ℕ, zero, suc, ◌+◌, ◌-◌, ◌<◌, ◌≤◌, ◌==◌, ◌||◌, ◌∙◌, Bool, true, false, cond, List, [], ◌∷◌, Option, Some, None, map, get_or, slice_get, refl, sym, ap, subst, arith}
+use Rattle.std.proofs.Common.{◌≡◌, ℕ, zero, suc, ◌+◌, ◌-◌, ◌*◌, ◌/◌, ◌%◌, ◌^◌, ◌<◌, ◌≤◌, ◌==◌, ◌||◌, ◌∙◌, Bool, true, false, cond, List, [], ◌∷◌, ◌++◌, Option, Some, None, length, map, get_or, slice_get, refl, sym, ap, subst, arith}
 use Rattle.std.proofs.lemmas.Bool.{eq-eqb, eqb-true}
+use Rattle.std.proofs.Math.Nat.{mod-lt, mul-le-mul_right, mul-mod_left, pow-suc}
+use Rattle.std.proofs.lemmas.List.Elements.{All-weaker}
+use Rattle.std.proofs.lemmas.Nat.{mod-pow-add, pow-add, pow_pos, shl-shr}
 use Rattle.std.proofs.lemmas.Option.{get_or_from_slice_get, same_Some}
 use Rattle.prefix_keys.specs.Version.{width_of}
 use Rattle.prefix_keys.specs.declared.block.Block.{Block}
+use Rattle.prefix_keys.proofs.Quotients.{block_end, whole}
 use Rattle.pmap_text.specs.declared.entry.Entry.{Entry}
 use Rattle.pmap_text.specs.declared.label.LabelId.{LabelId}
+use Rattle.pmap_text.specs.PrefixList.{prefix_of}
 use Rattle.pmap_cert.specs.FormatReading.{ChainLine}
-use Rattle.pmap_cert.specs.Node.{Inner, Leaf, Node, lines_of, set_of}
+use Rattle.pmap_cert.specs.MinimalPair.{entries_of}
+use Rattle.pmap_cert.specs.Node.{HasNumberForm, Inner, Leaf, Node, lines_of, set_of, tree_of}
+use Rattle.label_trie.specs.Leaf.{number_of}
 use Rattle.label_trie.specs.Parts.{IsHalf}
 use Rattle.pmap_minimise.specs.Built.{cost_above, digit, node_over, set_above, way_node, way_to, with_number}
-use Rattle.pmap_minimise.specs.Entered.{AddsEntries}
+use Rattle.pmap_minimise.specs.Entered.{AddsEntries, IsEntryOf, text_of}
 use Rattle.pmap_minimise.specs.Listing.{IsDown}
 use Rattle.pmap_minimise.specs.Numbers.{IsOwn, IsOwnBy, IsSound, has_number, keeps, numbers_of}
 use Rattle.pmap_minimise.specs.declared.built.Built.{Built}
 use Rattle.pmap_minimise.specs.declared.built.Chain.{Chain as ChainParts}
 use Rattle.pmap_minimise.proofs.Compacted.{IsChainNode}
 use Rattle.pmap_minimise.proofs.Entered.{inner-adds, leaf-adds}
-use Rattle.pmap_minimise.proofs.Halves.{has-halves}
+use Rattle.pmap_minimise.proofs.Halves.{HasHalves, has-halves, width-most}
 use Rattle.pmap_minimise.proofs.Ways.{with-has}
+
+-- the entries of a node for a block are those for an equal one
+same-adds : (node : Node) (block end : Block) (inherited : Option LabelId) (old new : List Entry) → end.version ≡ block.version → end.len ≡ block.len → number_of end ≡ number_of block
+    → AddsEntries node end inherited old new → AddsEntries node block inherited old new
+same-adds node block end inherited old new version len number adds =
+    let room : width_of end.version - end.len ≡ width_of block.version - block.len = λ i. width_of (version i) - len i in
+    record {
+      texts = λ table ok known form. adds.texts table ok known (subst (HasNumberForm (length table) node) (sym room) form)
+          ∙ (λ i. map (prefix_of table) old ++ entries_of (width_of (version i)) table (tree_of table node) (text_of table inherited) (len i) (number i));
+      fit = λ count known form entries. All-weaker (IsEntryOf end count) (IsEntryOf block count) (λ e is. record { version = is.version ∙ version; known = is.known }) new
+          (adds.fit count known (subst (HasNumberForm count node) (sym room) form)
+          (All-weaker (IsEntryOf block count) (IsEntryOf end count) (λ e is. record { version = is.version ∙ sym version; known = is.known }) old entries));
+    }
+
+-- a way's first bit leads to a half
+record IsDownBy (value bits : ℕ) (block end : Block) : Type 0 where
+  half : Block
+  is : IsHalf (digit value bits) block half
+  rest : IsDown value bits half end
+
+down-step : (value bits : ℕ) (block end : Block) → IsDown value (suc bits) block end → IsDownBy value bits block end
+down-step value bits block end down = by (digit value bits) refl (omega arith)
+  where
+    halves : HasHalves block
+    halves =
+        let inside = end.len_in_range in
+        let len = down.len in
+        let width : width_of end.version ≡ width_of block.version = ap width_of down.version in
+        has-halves block (omega arith)
+
+    rest : (d : ℕ) (half : Block) → digit value bits ≡ d → IsHalf d block half → IsDownBy value bits block end
+    rest d half same is =
+        let len = down.len in
+        let len' = is.len in
+        let number = down.number in
+        let number' = is.number in
+        let twice : 2 ^ suc bits ≡ 2 ^ bits * 2 = pow-suc 2 bits in
+        let next : 1 + bits ≡ suc bits = omega arith in
+        let digits : value % 2 ^ suc bits ≡ digit value bits * 2 ^ bits + value % 2 ^ bits = ap (λ (n : ℕ). value % 2 ^ n) (sym next) ∙ mod-pow-add value 1 bits in
+        record {
+          half = half;
+          is = subst (λ (e : ℕ). IsHalf e block half) (sym same) is;
+          rest = record {
+            version = down.version ∙ sym is.version;
+            len = omega arith;
+            number = joined (number_of end) (number_of half) (number_of block) (2 ^ bits) (2 ^ suc bits) (value % 2 ^ bits) (value % 2 ^ suc bits) d twice number number'
+                (digits ∙ ap (λ (e : ℕ). e * 2 ^ bits + value % 2 ^ bits) same);
+          };
+        }
+      where
+        joined : (end half whole size double low all d : ℕ) → double ≡ size * 2 → end ≡ whole * double + all → half ≡ 2 * whole + d → all ≡ d * size + low → end ≡ half * size + low
+        joined end half whole size double low all d twice number number' digits = rw (number, number', digits, twice) (omega arith)
+
+    by : (d : ℕ) → digit value bits ≡ d → d < 2 → IsDownBy value bits block end
+    by zero same small = rest 0 halves.low same halves.low_half
+    by (suc zero) same small = rest 1 halves.high same halves.high_half
+    by (suc (suc d)) same small = absurd (omega arith)
+
+-- the address begins a block at the end of a way of so many bits, which are the last digits of the number
+pub record IsEnd (W n value number bits end : ℕ) : Type 0 where
+  pub fits : end < 2 ^ W
+  pub free : end % 2 ^ (W - (n + bits)) ≡ 0
+  pub number_is : end / 2 ^ (W - (n + bits)) ≡ value / 2 ^ (W - n) * 2 ^ bits + number % 2 ^ bits
+
+-- The block at a way's end, whose bits are first moved to the front of 128 and then to their places.
+module _ (W n value number bits : ℕ) (wide : W ≤ 128) (deep : n + bits ≤ W) where
+  abbrev low : ℕ
+  low = number % 2 ^ bits
+
+  moved : number * 2 ^ (128 - bits) % 2 ^ 128 / 2 ^ (128 - W + n) ≡ low * 2 ^ (W - (n + bits))
+  moved =
+      let all : bits + (128 - bits) ≡ 128 = omega arith in
+      let up : number * 2 ^ (128 - bits) % 2 ^ 128 ≡ low * 2 ^ (128 - bits) =
+      ap (λ (k : ℕ). number * 2 ^ (128 - bits) % 2 ^ k) (sym all) ∙ mod-pow-add (number * 2 ^ (128 - bits)) bits (128 - bits)
+      ∙ (λ i. (shl-shr number (128 - bits) i % 2 ^ bits) * 2 ^ (128 - bits) + mul-mod_left number (2 ^ (128 - bits)) i) ∙ omega arith in
+      let split : 128 - bits ≡ W - (n + bits) + (128 - W + n) = omega arith in
+      let size : 2 ^ (128 - bits) ≡ 2 ^ (W - (n + bits)) * 2 ^ (128 - W + n) = ap (λ (k : ℕ). 2 ^ k) split ∙ pow-add 2 (W - (n + bits)) (128 - W + n) in
+      ap (λ (m : ℕ). m / 2 ^ (128 - W + n)) (up ∙ ap (λ (m : ℕ). low * m) size ∙ omega arith) ∙ shl-shr (low * 2 ^ (W - (n + bits))) (128 - W + n)
+
+  is-end : value < 2 ^ W → value % 2 ^ (W - n) ≡ 0 → IsEnd W n value number bits (value + low * 2 ^ (W - (n + bits)))
+  is-end fits free =
+      let q : ℕ = value / 2 ^ (W - n) in
+      let size : ℕ = 2 ^ (W - (n + bits)) in
+      let some : 0 < size = pow_pos (W - (n + bits)) in
+      let split : W - n ≡ bits + (W - (n + bits)) = omega arith in
+      let all : 2 ^ (W - n) ≡ 2 ^ bits * size = ap (λ (k : ℕ). 2 ^ k) split ∙ pow-add 2 bits (W - (n + bits)) in
+      let sum : value + low * size ≡ (q * 2 ^ bits + low) * size = joined value q (2 ^ (W - n)) (2 ^ bits) size low (sym (whole value (2 ^ (W - n)) (pow_pos (W - n)) free)) all in
+      let small : low + 1 ≤ 2 ^ bits = let less = mod-lt number (pow_pos bits) in omega arith in
+      let most = mul-le-mul_right size small in
+      let end = block_end W n value (omega arith) fits free in
+      record {
+        fits = omega (arith, most, end, all, some);
+        free = ap (λ (m : ℕ). m % size) sum ∙ mul-mod_left (q * 2 ^ bits + low) size;
+        number_is = ap (λ (m : ℕ). m / size) sum ∙ shl-shr (q * 2 ^ bits + low) (W - (n + bits));
+      }
+    where
+      joined : (value q all times size low : ℕ) → value ≡ q * all → all ≡ times * size → value + low * size ≡ (q * times + low) * size
+      joined value q all times size low is product = is_product (ap (λ (m : ℕ). q * m) product)
+        where
+          is_product : q * all ≡ q * (times * size) → value + low * size ≡ (q * times + low) * size
+          is_product same = omega (arith, is, same)
+
+-- .. as the code finds it
+pub at-end : (block : Block) (number bits width : ℕ) → block.len + bits ≤ width_of block.version → width ≡ width_of block.version
+    → IsEnd (width_of block.version) block.len block.value number bits (block.value + number * 2 ^ (128 - bits) % 2 ^ 128 / 2 ^ (128 - width + block.len))
+at-end block number bits width deep is =
+    let wide = width-most block.version in
+    let offset = ap (λ (w : ℕ). number * 2 ^ (128 - bits) % 2 ^ 128 / 2 ^ (128 - w + block.len)) is ∙ moved (width_of block.version) block.len block.value number bits wide deep in
+    subst (λ (n : ℕ). IsEnd (width_of block.version) block.len block.value number bits (block.value + n)) (sym offset)
+    (is-end (width_of block.version) block.len block.value number bits wide deep block.in_range block.no_host_bit)
 
 -- a set that has the label that is inherited adds nothing and hands that on
 keeps-own : (ids : List LabelId) (block : Block) (side : LabelId) (entries : List Entry) → keeps ids (Some side) ≡ true → IsOwn ids block (Some side) entries entries side
@@ -84,12 +201,16 @@ module _ (side : LabelId) (last : Node) (value : ℕ) where
   digit-small : (bits : ℕ) → digit value bits < 2
   digit-small bits = omega arith
 
-  -- where the side's label is inherited, the entries are those of the end
+  -- if the side's label is inherited, the entries are those of the end
   way-adds : (bits : ℕ) (block end : Block) (old new : List Entry) → IsDown value bits block end → AddsEntries last end (Some side) old new → AddsEntries (way bits) block (Some side) old new
-  way-adds zero block end old new down adds = subst (λ (b : Block). AddsEntries last b (Some side) old new) down adds
+  way-adds zero block end old new down adds =
+      let len = down.len in
+      let number = down.number in
+      same-adds last block end (Some side) old new down.version (omega arith) (omega arith) adds
   way-adds (suc bits) block end old new down adds =
-      over-adds bits (digit value bits) block down.half (Some side) old old new (ids_of (set_over bits)) refl (digit-small bits) down.is
-      (way-adds bits down.half end old new down.rest adds) (ids-numbers (set_over bits))
+      let step = down-step value bits block end down in
+      over-adds bits (digit value bits) block step.half (Some side) old old new (ids_of (set_over bits)) refl (digit-small bits) step.is
+      (way-adds bits step.half end old new step.rest adds) (ids-numbers (set_over bits))
       (keeps-own (ids_of (set_over bits)) block side old (ids-keep (set_over bits) side ∙ above-side side.0 (set_of last) bits))
 
   -- a node with one label alone hands that on
@@ -108,8 +229,9 @@ module _ (side : LabelId) (last : Node) (value : ℕ) where
   chain-adds (suc zero) block end inherited old middle new handed long own down adds = absurd (omega arith)
   chain-adds (suc (suc bits)) block end inherited old middle new handed long own down adds =
       let same = one-own block inherited old middle handed own in
-      over-adds (suc bits) (digit value (suc bits)) block down.half inherited old middle new (side ∷ []) refl (digit-small (suc bits)) down.is
-      (way-adds (suc bits) down.half end middle new down.rest (subst (λ (i : LabelId). AddsEntries last end (Some i) middle new) same adds)) refl
+      let step = down-step value (suc bits) block end down in
+      over-adds (suc bits) (digit value (suc bits)) block step.half inherited old middle new (side ∷ []) refl (digit-small (suc bits)) step.is
+      (way-adds (suc bits) step.half end middle new step.rest (subst (λ (i : LabelId). AddsEntries last end (Some i) middle new) same adds)) refl
       (subst (λ (i : LabelId). IsOwn (side ∷ []) block inherited old middle i) same own)
 
 -- what is left of a sound node's room at the end of a way
@@ -133,16 +255,7 @@ way-sound side value (suc bits) last room sound =
     let more = rest.room_is in
     record { left = rest.left; room_is = omega arith; sound = rest.sound }
 
--- the block of a chain's end has host bits for the node there
-pub down-len : (value bits : ℕ) (block end : Block) → IsDown value bits block end → (end.version ≡ block.version) × (end.len ≡ block.len + bits)
-down-len value zero block end down = (ap (λ (b : Block). b.version) down, ap (λ (b : Block). b.len) down ∙ omega arith)
-down-len value (suc bits) block end down =
-    let rest = down-len value bits down.half end down.rest in
-    let len = rest.1 in
-    let len' = down.is.len in
-    (rest.0 ∙ down.is.version, omega arith)
-
--- a chain's node where its number was read
+-- a chain's node, its number being read
 module _ (b : Built) (compact node : Node) (number from to : ℕ) (is : IsChainNode b compact node number from to) (read : ChainParts) (read_is : read ≡ get_or b.chains.items number read) where
   pub read-chain : read ≡ is.chain.chain
   read-chain =
@@ -178,11 +291,6 @@ module _ (b : Built) (compact node : Node) (number from to : ℕ) (is : IsChainN
       ap lines_of is.compact_is
       ∙ (λ i. ChainLine (is.chain.cost_is i) (is.chain.bits_are i) (is.chain.side_is i) ((is.chain.set_is ∙ ap (λ (side : ℕ). side ∷ []) is.chain.side_is) i) ∷ lines_of is.end)
       ∙ ap (λ (c : ChainParts). ChainLine c.cost (way_to c.end c.bits) c.side.0 (c.side.0 ∷ []) ∷ lines_of is.end) (sym read-chain)
-
--- a step down to a half
-pub down-step : (value bits n d : ℕ) (block half end : Block) → n ≡ suc bits → digit value bits ≡ d → IsHalf d block half → IsDown value bits half end → IsDown value n block end
-down-step value bits n d block half end same digit_is is rest =
-    subst (λ (k : ℕ). IsDown value k block end) (sym same) (record { half = half; is = subst (λ (e : ℕ). IsHalf e block half) (sym digit_is) is; rest = rest })
 
 -- a block without host bits has no inner node
 pub no-room : (block : Block) (node : Node) (cost : ℕ) (set : List ℕ) (lower upper : Node) → node ≡ Inner cost set lower upper → block.len ≡ width_of block.version

@@ -24,7 +24,6 @@ use Rattle.pmap_cert.specs.declared.format.Format.TheVariants.{One}
 use Rattle.label_trie.specs.Leaf.{number_of}
 use Rattle.label_trie.specs.TrieModel.{IsSettledLeaf, IsUndivided, LeafModel}
 use Rattle.pmap_cert.specs.CertificateForm.{HasTextForm}
-use Rattle.pmap_cert.proofs.Alike.{list-unique}
 use Rattle.pmap_cert.proofs.CompactNodes.{compact-one}
 use Rattle.pmap_cert.proofs.Plain.{number-form, number-plain, plain-tree_of}
 use Rattle.pmap_cert.proofs.Written.{node_form, whole_text}
@@ -38,6 +37,8 @@ use Rattle.pmap_minimise.proofs.Distinct.{order-distinct}
 use Rattle.pmap_minimise.proofs.Entered.{half-entries}
 use Rattle.pmap_minimise.specs.Certified.{IsCertified, IsKnownLeaf}
 use Rattle.pmap_minimise.specs.Listing.{IsListedBy}
+use Rattle.pmap_minimise.specs.Walks.{IsClaimed}
+use Rattle.pmap_minimise.specs.declared.built.Built.{Built}
 use Rattle.pmap_minimise.proofs.Joined.{settled-known, whole-number}
 
 table-has : (table : List Label) (n : ℕ) → n < length table → IsTrue (has table (text_at table n))
@@ -54,7 +55,7 @@ own-labels m = record {
       m.statements m.numbers_known);
 }
 
--- the list of a root that stands for the address space, with a certificate of that root, is the map's minimal one
+-- the list of a root that represents the address space, with a certificate of that root, is the map's minimal one
 pub minimal : (m : MapModel) (l : ListModel) (c : CertificateModel) (root : Tree) → StandsFor m root 0 0 → l ≡ shortest_list m root
     → c ≡ record { format = 1; version = m.version; table = m.table; root = root } → IsMinimalPair m l c
 minimal m l c root stands list certificate =
@@ -112,15 +113,6 @@ certified-form m version leaves root certified same settled =
     let known = All-weaker (IsSettledLeaf (map_of m)) (IsKnownLeaf (length m.labels)) (settled-known (map_of m)) leaves settled in
     subst (λ (v : Version). HasNumberForm (length m.labels) root (width_of v)) same (certified.form (length m.labels) known)
 
--- a root's certificate is part of the map's minimal pair with the list of any other
-pub certificate-pair : (m : MapText) (version : Version) (leaves : List LeafModel) (root : Node) (l : ListModel) (d c : CertificateModel) → IsCertified 0 0 (width_of version) leaves root
-    → version ≡ m.version → IsLabelTable m.labels → All (IsSettledLeaf (map_of m)) leaves → All (IsUndivided (map_of m)) leaves → c ≡ root_certificate m root → IsMinimalPair (map_of m) l d
-    → IsMinimalPair (map_of m) l c
-certificate-pair m version leaves root l d c certified same ok settled undivided c_is pair =
-    let tree = tree_of m.labels root in
-    let own = minimal (map_of m) (shortest_list (map_of m) tree) c tree (certified.stands (map_of m) ok settled undivided) refl c_is in
-    subst (λ (k : ListModel). IsMinimalPair (map_of m) k c) (sym (list-unique (map_of m) l (shortest_list (map_of m) tree) d c pair own (own-labels m))) own
-
 -- the text of a root's certificate that is part of the map's minimal pair
 pub certified-text : (m : MapText) (version : Version) (leaves : List LeafModel) (root : Node) (head text : List ℕ) → IsCertified 0 0 (width_of version) leaves root
     → version ≡ m.version → IsLabelTable m.labels → All (IsSettledLeaf (map_of m)) leaves → All (IsUndivided (map_of m)) leaves
@@ -135,13 +127,13 @@ certified-text m version leaves root head text certified same ok settled undivid
       whole_text 1 m.version m.labels root (width_of m.version) (lines_of root) head text ok (number-form (length m.labels) root (width_of m.version) form) refl head_is text_is,
     )
 
--- .. and those of the root compacted
+-- .. and those of the compacted root
 pub compacted-form : (m : MapText) (version : Version) (leaves : List LeafModel) (root compacted : Node) → IsCertified 0 0 (width_of version) leaves root → IsCompactNode root compacted
     → version ≡ m.version → All (IsSettledLeaf (map_of m)) leaves → HasChainForm (length m.labels) compacted (width_of m.version)
 compacted-form m version leaves root compacted certified is same settled =
     is.form (length m.labels) (width_of m.version) (number-form (length m.labels) root (width_of m.version) (certified-form m version leaves root certified same settled))
 
--- the text of a root's certificate compacted, where that certificate is part of the map's minimal pair
+-- the text of a root's compacted certificate, if that certificate is part of the map's minimal pair
 pub compacted-text : (m : MapText) (version : Version) (leaves : List LeafModel) (root compacted : Node) (c : CertificateModel) (text : List ℕ) → IsCertified 0 0 (width_of version) leaves root
     → IsCompactNode root compacted → version ≡ m.version → IsLabelTable m.labels → All (IsSettledLeaf (map_of m)) leaves → All (IsUndivided (map_of m)) leaves
     → c ≡ record { format = 2; version = m.version; table = m.labels; root = tree_of m.labels compacted } → text ≡ certificate_text c
@@ -155,7 +147,7 @@ compacted-text m version leaves root compacted c text certified is same ok settl
       text_is ∙ ap certificate_text (c_is ∙ compact-one One m.version m.labels root compacted ok (number-form (length m.labels) root (width_of m.version) form) refl is),
     )
 
--- the entries are those of a certificate's root, which stands for the address space
+-- the entries are those of a certificate's root, which represents the address space
 pub record IsShortestBy (m : MapText) (root : Node) (items : List Entry) : Type 0 where
   pub versions : All (λ e. e.block.version ≡ m.version) items
   pub known : All (λ e. e.label.0 < length m.labels) items
@@ -183,6 +175,14 @@ listed-shortest m version leaves root items listed same ok settled undivided =
       form = form;
       entries = whole-entries m root block [] items whole ok form refl listed.adds;
     }
+
+-- so are those that are chosen by a trie, and the certificate's root is that
+pub chosen-shortest : (m : MapText) (version : Version) (leaves : List LeafModel) (b : Built) (root : Node) (items : List Entry) (top : Node) → IsClaimed version leaves b root → version ≡ m.version
+    → IsLabelTable m.labels → All (IsSettledLeaf (map_of m)) leaves → All (IsUndivided (map_of m)) leaves
+    → ((leaves : List LeafModel) (node : Node) → IsClaimed m.version leaves b node → IsListedBy m.version leaves node items × (top ≡ node)) → IsShortestBy m root items × (top ≡ root)
+chosen-shortest m version leaves b root items top claimed same ok settled undivided chosen =
+    let done = chosen leaves root (subst (λ (v : Version). IsClaimed v leaves b root) same claimed) in
+    (listed-shortest m m.version leaves root items done.0 refl ok settled undivided, done.1)
 
 module _ (m : MapText) (root : Node) (items : List Entry) (shortest : IsShortestBy m root items) where
   -- their blocks are distinct

@@ -11,7 +11,7 @@ use Rattle.pmap_cert.specs.CertificateForm.{IsRising}
 use Rattle.pmap_cert.specs.Node.{Inner, Leaf, Node, label_of, set_of}
 use Rattle.label_trie.specs.Layers.{IsBlock, IsMapOf, parted_sum}
 use Rattle.label_trie.specs.Tree.{Fits, IsLabelled, Tree, leaf_count}
-use Rattle.pmap_minimise.specs.Outline.{IsNodeFor, plan_of}
+use Rattle.pmap_minimise.specs.Certified.{IsNodeFor}
 use Rattle.pmap_minimise.specs.declared.area.Area.{Area}
 
 -- Blocks of addresses with the stretches that have their ends, and how a run leads from a block down.
@@ -20,7 +20,7 @@ use Rattle.pmap_minimise.specs.declared.area.Area.{Area}
 abbrev pub number_at : StretchesModel → Area → ℕ
 number_at s a = block_number (width_of s.version) a.len a.first
 
--- The stretches are those of statements with a default, of which so few part the area's block that its leaves can be counted.
+-- The stretches are those of statements with a default, few enough in the area's block that its leaves can be counted.
 pub record AreFew (s : StretchesModel) (a : Area) : Type 0 where
   pub statements : List Statement
   pub default : Option LabelId
@@ -28,7 +28,7 @@ pub record AreFew (s : StretchesModel) (a : Area) : Type 0 where
   pub stretches : AreStretches statements default s
   pub few : parted_sum (width_of s.version) (width_of s.version - a.len) a.len (number_at s a) statements + 1 < 2 ^ 32
 
--- the addresses are those of the block, and the first and the last of them are in these stretches
+-- the addresses are those of the block, and its first and last address are in these stretches
 pub record IsArea (s : StretchesModel) (a : Area) : Type 0 where
   pub within : a.len ≤ width_of s.version
   pub block : IsBlock (width_of s.version) a.first a.last a.len (number_at s a)
@@ -55,8 +55,12 @@ pub record AreHalvesOf (s : StretchesModel) (a low high : Area) : Type 0 where
 abbrev pub own_label : StretchesModel → Area → Option ℕ
 own_label s a = if a.from == a.to then option_map (λ id. id.0) (label_at s a.from) else None
 
--- The step of a run: to the higher half where the lower one has the side label alone, else to the lower one where the higher
--- one has.
+-- the stretch has the label with this number
+abbrev pub HasLabel : StretchesModel → ℕ → ℕ → Type 0
+HasLabel s label i = option_map (λ id. id.0) (label_at s i) ≡ Some label
+
+-- The step of a run: to the higher half if the lower one has the side label alone, otherwise to the lower one if the
+-- higher one has it alone.
 pub record StepsHigh (s : StretchesModel) (side : ℕ) (low high chosen : Area) : Type 0 where
   pub chosen_is : chosen ≡ high
   pub side_is : own_label s low ≡ Some side
@@ -82,7 +86,7 @@ abbrev pub IsRun : StretchesModel → ℕ → ℕ → Area → Area → Type 0
 IsRun s side zero a end = end ≡ a
 IsRun s side (suc count) a end = IsRunOver (IsStep s side a) (λ chosen. IsRun s side count chosen end)
 
--- there is no step from the block
+-- no step leads on from the block
 pub record HasNoSide (s : StretchesModel) (side : ℕ) (a : Area) : Type 0 where
   pub low : Area
   pub high : Area
@@ -112,13 +116,13 @@ pub record IsLongRun (s : StretchesModel) (a low high : Area) (side : ℕ) (end 
   pub run : IsRunTo s side a end
   pub long : 2 ≤ run.count
 
--- the tree is that of the statements for the block of n bits with the number q
+-- the tree of the statements for the block of n bits with the number q
 pub record IsTreeOf (v : Version) (ss : List Statement) (default : Option LabelId) (n q : ℕ) (tree : Tree) : Type 0 where
   pub fits : (m : MapModel) → IsMapOf (width_of v) ss default m → Fits m tree n q
   pub labelled : IsSome default → IsLabelled tree
   pub few : leaf_count tree ≤ 1 + parted_sum (width_of v) (width_of v - n) n q ss
 
--- the node is an inner one, and where it has leaves as halves, these have the labels of the block's halves
+-- the node is an inner one, and if its halves are leaves, they have the labels of the block's halves
 pub record HasLabelledHalves (s : StretchesModel) (a : Area) (node : Node) : Type 0 where
   pub cost : ℕ
   pub set : List ℕ
@@ -135,7 +139,7 @@ pub record HasLabelledHalves (s : StretchesModel) (a : Area) (node : Node) : Typ
 pub record IsMade (s : StretchesModel) (a : Area) (tree : Tree) (node : Node) : Type 0 where
   pub tree_of : (ss : List Statement) (default : Option LabelId) → AreStretches ss default s
       → IsTreeOf s.version ss default a.len (number_at s a) tree
-  pub node_is : IsNodeFor (plan_of tree) node
+  pub node_is : IsNodeFor tree node
   pub rising : IsRising (2 ^ 32) 0 (set_of node)
   pub own : label_of node ≡ own_label s a
   pub single : a.from ≡ a.to → (n : ℕ) × (node ≡ Leaf n)

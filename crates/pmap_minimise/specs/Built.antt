@@ -5,22 +5,23 @@ use Rattle.pmap_text.specs.MapText.{map_of}
 use Rattle.pmap_text.specs.declared.map_text.MapText.{MapText}
 use Rattle.pmap_text.specs.Stretches.{StretchesModel}
 use Rattle.pmap_cert.specs.Node.{Chain as ChainNode, Inner, Leaf, Node, cost_of, set_of}
+use Rattle.pmap_cert.specs.Packed.{IsGrown, IsHeld}
 use Rattle.pmap_cert.specs.Placing.{IsCompactNode}
+use Rattle.pmap_cert.specs.declared.pool.SetId.{SetId}
 use Rattle.label_trie.specs.Tree.{Tree}
 use Rattle.label_trie.specs.TrieModel.{IsSettledLeaf, IsUndivided, LeafModel}
 use Rattle.pmap_minimise.specs.Areas.{IsMade}
 use Rattle.pmap_minimise.specs.Certified.{IsCertified}
-use Rattle.pmap_minimise.specs.Kept.{AreSetsKept, HaveGrown, IsSetOf, larger_in}
 use Rattle.pmap_minimise.specs.Numbers.{has_number}
 use Rattle.pmap_minimise.specs.declared.area.Area.{Area}
 use Rattle.pmap_minimise.specs.declared.built.Built.{Built}
 use Rattle.pmap_minimise.specs.declared.built.Chain.{Chain}
 use Rattle.pmap_minimise.specs.declared.built.Claim.{Claim}
 use Rattle.pmap_minimise.specs.declared.built.Line.{Line}
-use Rattle.pmap_minimise.specs.declared.set_list.SetId.{SetId}
 use Rattle.pmap_minimise.specs.declared.built.Line.TheVariants.{Chain as ChainLine, Inner as InnerLine, Leaf as LeafLine}
 
--- The compact certificate as the code builds it: the lines of a node come after those of its halves, the higher half first.
+-- The compact certificate as the code builds it: the lines of a node come after those of its halves, the higher half
+-- first.
 
 -- the binary digit of a number at a place, from 0 at the end, and the bits of its last places
 abbrev pub digit : ℕ → ℕ → ℕ
@@ -30,13 +31,13 @@ abbrev pub way_to : ℕ → ℕ → List Bool
 way_to value zero = []
 way_to value (suc bits) = (digit value bits == 1) ∷ way_to value bits
 
--- the set with one number more, where it has its place
+-- the set with one more number, in rising order
 abbrev pub with_number : ℕ → List ℕ → List ℕ
 with_number n [] = n ∷ []
 with_number n (m ∷ ms) = if nat_lt n m then n ∷ m ∷ ms else m ∷ with_number n ms
 
--- The set of the node right above a run's end, and of those further up, by the side label and the set of the end; and what
--- each of them costs.
+-- The set of the node right above a run's end, and of those further up, by the side label and the set of the end; and
+-- what each of them costs.
 abbrev pub set_above : ℕ → List ℕ → ℕ → List ℕ
 set_above side set zero = if has_number set side then side ∷ [] else with_number side set
 set_above side set (suc more) = side ∷ []
@@ -44,7 +45,7 @@ set_above side set (suc more) = side ∷ []
 abbrev pub cost_above : ℕ → Node → ℕ
 cost_above side end = if has_number (set_of end) side then cost_of end else cost_of end + 1
 
--- the node over the half that a run chooses, which is the lower one where the digit is 0, and the side's
+-- the node over the half that a run chooses, which is the lower one if the digit is 0, and the side's leaf
 abbrev pub node_over : ℕ → ℕ → List ℕ → Node → Node → Node
 node_over zero cost set way side = Inner cost set way side
 node_over (suc digit) cost set way side = Inner cost set side way
@@ -55,7 +56,7 @@ way_node side value zero end = end
 way_node side value (suc bits) end =
     node_over (digit value bits) (cost_above side end) (set_above side (set_of end) bits) (way_node side value bits end) (Leaf side)
 
--- the line before `to` is that of a leaf, and the first of the node's
+-- the line before `to` is a leaf's, and the first of the node's
 pub record IsLeafAt (b : Built) (label : ℕ) (node : Node) (from to : ℕ) : Type 0 where
   pub line_is : slice_get b.lines.items from ≡ Some (LeafLine (record { 0 = label }))
   pub to_is : to ≡ from + 1
@@ -71,7 +72,7 @@ pub record IsInnerAt (b : Built) (cost : ℕ) (set : List ℕ) (Low High : Node 
   pub low : Low lower middle last
   pub line_is : slice_get b.lines.items last ≡ Some (InnerLine cost id)
   pub to_is : to ≡ last + 1
-  pub set_is : IsSetOf (larger_in b.sets) id set
+  pub set_is : IsHeld b.sets id set
   pub node_is : node ≡ Inner cost set lower upper
 
 pub record IsChainAt (b : Built) (cost : ℕ) (set : List ℕ) (bits : List Bool) (side : ℕ) (End : Node → ℕ → ℕ → Type 0) (node : Node) (from to : ℕ) : Type 0 where
@@ -92,15 +93,15 @@ pub record IsChainAt (b : Built) (cost : ℕ) (set : List ℕ) (bits : List Bool
   pub few : chain.bits ≤ 128
   pub node_is : node ≡ way_node side chain.end chain.bits end
 
--- The lines from `from` on and before `to` are those of the compact node, and the node is that with each chain opened.
+-- The lines from `from` on and before `to` are those of the compact node, and the node is it with each chain opened.
 abbrev pub IsAt : Built → Node → Node → ℕ → ℕ → Type 0
 IsAt b (Leaf label) = IsLeafAt b label
 IsAt b (Inner cost set lower upper) = IsInnerAt b cost set (IsAt b lower) (IsAt b upper)
 IsAt b (ChainNode cost set bits side end) = IsChainAt b cost set bits side (IsAt b end)
 
--- lines and chains may have come, after those that were there, and larger sets
+-- lines and chains may have come, after those that were there, and sets
 pub record HasGrown (old new : Built) : Type 0 where
-  pub sets : HaveGrown old.sets new.sets
+  pub sets : IsGrown old.sets new.sets
   pub lines : List Line
   pub lines_are : new.lines.items ≡ old.lines.items ++ lines
   pub chains : List Chain
@@ -116,12 +117,11 @@ pub record IsBuilt (s : StretchesModel) (a : Area) (old new : Built) (claim : Cl
   pub at : IsAt new compact node (length old.lines.items) (length new.lines.items)
   pub grown : HasGrown old new
   pub cost_is : claim.cost ≡ cost_of node
-  pub set_is : IsSetOf (larger_in new.sets) claim.set (set_of node)
+  pub set_is : IsHeld new.sets claim.set (set_of node)
 
 -- what was built is the certificate's node for the address space with these leaves, compacted
 pub record IsBuiltOf (version : Version) (leaves : List LeafModel) (b : Built) (node : Node) : Type 0 where
   pub certified : IsCertified 0 0 (width_of version) leaves node
-  pub kept : AreSetsKept b.sets
   pub compact : Node
   pub compact_is : IsCompactNode node compact
   pub at : IsAt b compact node 0 (length b.lines.items)

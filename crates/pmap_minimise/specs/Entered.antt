@@ -21,8 +21,8 @@ pub record IsEntryOf (block : Block) (count : ℕ) (e : Entry) : Type 0 where
   pub version : e.block.version ≡ block.version
   pub known : e.label.0 < count
 
--- The new entries are the old ones and those of the node for this block and what it inherits, in each table that has the
--- numbers of the node and of the inherited label.
+-- The new entries are the old ones and those of the node for this block and its inherited label, in each table that has
+-- the numbers of the node and of the inherited label.
 pub record AddsEntries (node : Node) (block : Block) (inherited : Option LabelId) (old new : List Entry) : Type 0 where
   pub texts : (table : List Label) → IsLabelTable table → ForSome inherited (λ id. id.0 < length table)
       → HasNumberForm (length table) node (width_of block.version - block.len)

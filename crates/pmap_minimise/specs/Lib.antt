@@ -2,13 +2,10 @@ pub mod Numbers
 pub mod Certified
 pub mod Entered
 pub mod Shortest
-pub mod Outline
-pub mod Kept
-pub mod Claiming
 pub mod Listing
-pub mod MadeLines
 pub mod Compacting
 pub mod Areas
 pub mod Built
 pub mod Building
 pub mod Opening
+pub mod Walks

@@ -23,8 +23,8 @@ common_numbers low high = filter (has_number high) low
 abbrev pub IsUnion : List ℕ → List ℕ → List ℕ → Type 0
 IsUnion low high set = (p : ℕ → Bool) → list_any p set ≡ (list_any p low || list_any p high)
 
--- The set is the exact one of two sets with the common numbers in the fourth place: just these where there are some, else
--- the numbers of either, and then it is true that the two are apart.
+-- The set is the exact one of two sets, by their common numbers: just these if there are some, otherwise the numbers of
+-- either, and then the two sets are apart.
 abbrev pub IsExactSetBy : List ℕ → List ℕ → Bool → List ℕ → List ℕ → Type 0
 IsExactSetBy low high apart [] set = (apart ≡ true) × IsUnion low high set × IsRising (2 ^ 32) 0 set
 IsExactSetBy low high apart (n ∷ ns) set = (apart ≡ false) × (set ≡ n ∷ ns)
@@ -32,19 +32,8 @@ IsExactSetBy low high apart (n ∷ ns) set = (apart ≡ false) × (set ≡ n ∷
 abbrev pub IsExactSet : List ℕ → List ℕ → Bool → List ℕ → Type 0
 IsExactSet low high apart set = IsExactSetBy low high apart (common_numbers low high) set
 
--- a cost and the numbers of a set, as an inner node claims them
-pub record Claim : Type 0 where
-  pub cost : ℕ
-  pub set : List ℕ
-
-abbrev pub no_claim : Claim
-no_claim = record { cost = 0; set = [] }
-
-abbrev pub node_claim : Node → Claim
-node_claim node = record { cost = cost_of node; set = set_of node }
-
--- The cost and the set are the exact ones of two costs and sets with the common numbers in the fifth place: where some are
--- common the sum of the costs and just these, else one more and the numbers of either.
+-- The cost and the set are the exact ones of two costs and sets, by their common numbers: if there are some, the sum of
+-- the costs and just these, otherwise one more and the numbers of either.
 abbrev pub IsExactBy : ℕ → ℕ → List ℕ → List ℕ → List ℕ → ℕ → List ℕ → Type 0
 IsExactBy low_cost high_cost low high [] cost set =
     (cost ≡ low_cost + high_cost + 1) × IsUnion low high set × IsRising (2 ^ 32) 0 set
@@ -67,7 +56,7 @@ HasHalves (Leaf id) low high = ⊥
 HasHalves (Inner cost set left right) low high = (left ≡ low) × (right ≡ high)
 HasHalves (Chain cost set bits side end) low high = ⊥
 
--- there is no chain, each set has a number, and at most so many inner nodes stand one inside the other
+-- there is no chain, each set has a number, and at most so many inner nodes are nested
 abbrev pub IsSound : Node → ℕ → Type 0
 IsSound (Leaf id) room = Unit {0}
 IsSound (Inner cost set left right) zero = ⊥
@@ -79,8 +68,8 @@ abbrev pub keeps : List LabelId → Option LabelId → Bool
 keeps ids None = false
 keeps ids (Some id) = list_any (λ label. id.0 == label.0) ids
 
--- A node with these labels hands on the label: the inherited one where it keeps that, and then the entries stay the same,
--- else the first of its own, and then its block's entry with that label is added.
+-- A node with these labels passes on the label: the inherited one if it keeps it, and then the entries stay the same,
+-- otherwise the first of its own, and then its block's entry with that label is added.
 abbrev pub IsOwnBy : Bool → List LabelId → Block → Option LabelId → List Entry → List Entry → LabelId → Type 0
 IsOwnBy true ids block inherited old new id = (new ≡ old) × (inherited ≡ Some id)
 IsOwnBy false ids block inherited old new id =

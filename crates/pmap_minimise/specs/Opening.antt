@@ -1,19 +1,34 @@
-use Rattle.std.specs.Prelude.{◌≡◌, ℕ, ◌++◌, List, map}
-use Rattle.pmap_cert.specs.CertificateText.{text_of_lines}
+use Rattle.std.specs.Prelude.{◌≡◌, ℕ, zero, suc, ◌++◌, ◌∷◌, [], List, map}
+use Rattle.pmap_cert.specs.CertificateText.{inner_line, leaf_line, text_of_lines}
 use Rattle.pmap_cert.specs.Node.{Node, line_text, lines_of}
-use Rattle.pmap_minimise.specs.Built.{cost_above, way_node}
+use Rattle.pmap_minimise.specs.Built.{digit, set_above}
 use Rattle.pmap_minimise.specs.declared.built.Chain.{Chain}
 
 -- the text of a node's lines
 abbrev pub node_text : Node → List ℕ
 node_text node = text_of_lines (map line_text (lines_of node))
 
--- it is appended, and where the node was built its lines begin there
+-- the text of the node is appended, and its built lines begin there
 pub record AddsText (node : Node) (old new : List ℕ) (start from : ℕ) : Type 0 where
   pub start_is : from ≡ start
   pub text_is : new ≡ old ++ node_text node
 
--- so is that of the node so many bits above a chain's end, if the chain costs what a node there does
-pub record AddsWay (chain : Chain) (bits : ℕ) (end : Node) (old new : List ℕ) (start from : ℕ) : Type 0 where
-  pub start_is : from ≡ start
-  pub text_is : chain.cost ≡ cost_above chain.side.0 end → new ≡ old ++ node_text (way_node chain.side.0 chain.end bits end)
+-- a side block's line, where it comes before the chain's end, and where it comes after it
+abbrev pub side_before : ℕ → ℕ → List ℕ
+side_before side zero = []
+side_before side (suc digit) = leaf_line side ++ 10 ∷ []
+
+abbrev pub side_after : ℕ → ℕ → List ℕ
+side_after side zero = leaf_line side ++ 10 ∷ []
+side_after side (suc digit) = []
+
+-- the text of the nodes on the way down so many bits of a chain and of the side blocks before its end, by the end's set
+abbrev pub text_down : Chain → List ℕ → ℕ → List ℕ
+text_down chain set zero = []
+text_down chain set (suc bits) =
+    (inner_line chain.cost (set_above chain.side.0 set bits) ++ 10 ∷ []) ++ (side_before chain.side.0 (digit chain.end bits) ++ text_down chain set bits)
+
+-- that of the side blocks after its end
+abbrev pub text_up : Chain → ℕ → List ℕ
+text_up chain zero = []
+text_up chain (suc bits) = text_up chain bits ++ side_after chain.side.0 (digit chain.end bits)

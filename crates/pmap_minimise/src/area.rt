@@ -1,10 +1,11 @@
 //! Blocks of addresses with the stretches that have their ends, and the runs down from them.
-ghost use Rattle.std.specs.Prelude.{◌≡◌, ◌+◌, ◌^◌, ◌<◌, ◌≤◌, ◌↔◌, IsTrue, MatchOption, Some, option_map};
+ghost use Rattle.std.specs.Prelude.{◌≡◌, ◌+◌, ◌^◌, ◌<◌, ◌≤◌, ◌↔◌, IfSome, IsTrue, MatchOption, Some, length, option_map};
 ghost use Rattle.prefix_keys.specs.Version.{width_of};
-ghost use Rattle.pmap_minimise.specs.Areas.{AreHalvesOf, IsArea, IsRunTo, IsStep, IsStop, own_label};
+ghost use Rattle.pmap_minimise.specs.Areas.{AreHalvesOf, HasLabel, IsArea, IsRunTo, IsStep, IsStop, own_label};
 ghost use Rattle.pmap_text.specs.Stretches.{HoldsAddress};
 
 use pmap_text::{LabelId, Stretches};
+use prefix_keys::{Addr, block_of};
 
 /// A block of addresses, and the indices of the stretches that have its first and its last address.
 #[derive(Clone, Copy)]
@@ -17,6 +18,7 @@ pub struct Area {
 }
 
 /// The label of a block in one stretch.
+#[inline(always)]
 pub fn own_label(stretches: &Stretches, area: &Area) -> Option<LabelId>
     requires { IsArea stretches.now area.now }
     ensures { option_map (λ id. id.0) result ≡ own_label stretches.now area.now }
@@ -28,24 +30,34 @@ pub fn own_label(stretches: &Stretches, area: &Area) -> Option<LabelId>
     }
 }
 
-// Whether a block is in one stretch, and has this label.
-fn has_side(stretches: &Stretches, area: &Area, side: LabelId) -> bool
-    requires { IsArea stretches.now area.now }
-    ensures { IsTrue result ↔ (own_label stretches.now area.now ≡ Some side.0) }
+// Whether a stretch has this label.
+#[inline(always)]
+fn is_side(stretches: &Stretches, at: usize, side: LabelId) -> bool
+    requires { at < length stretches.now.firsts }
+    ensures { IsTrue result ↔ HasLabel stretches.now side.0 at }
 {
-    match own_label(stretches, area) {
+    match stretches.label(at) {
         Some(id) => id.0 == side.0,
         None => false,
     }
 }
 
+// Whether a block is in one stretch, and has this label.
+fn has_side(stretches: &Stretches, area: &Area, side: LabelId) -> bool
+    requires { IsArea stretches.now area.now }
+    ensures { IsTrue result ↔ (own_label stretches.now area.now ≡ Some side.0) }
+{
+    area.from == area.to && is_side(stretches, area.from, side)
+}
+
 // The index of the stretch that has the next address.
+#[inline(always)]
 fn next_index(stretches: &Stretches, at: usize, address: u128) -> usize
     requires holds { HoldsAddress stretches.now address at }
     requires below { address + 1 < 2 ^ width_of stretches.now.version }
     ensures { HoldsAddress stretches.now (address + 1) result }
 {
-    // For its law: it has a number for each stretch, and these have every address.
+    // Provides the law that the stretches cover every address.
     let _count = stretches.len();
     if stretches.last(at) == address {
         at + 1
@@ -55,6 +67,7 @@ fn next_index(stretches: &Stretches, at: usize, address: u128) -> usize
 }
 
 // The index of the stretch that has an address of a block: most often the first or the last one.
+#[inline(always)]
 fn index_of(stretches: &Stretches, area: &Area, address: u128) -> usize
     requires area { IsArea stretches.now area.now }
     requires from { area.now.first ≤ address }
@@ -73,6 +86,7 @@ fn index_of(stretches: &Stretches, area: &Area, address: u128) -> usize
 }
 
 /// The halves of a block that has addresses of two stretches or more.
+#[inline(always)]
 pub fn halves(stretches: &Stretches, area: &Area) -> (Area, Area)
     requires area { IsArea stretches.now area.now }
     requires divided { area.now.from < area.now.to }
@@ -98,7 +112,7 @@ pub fn halves(stretches: &Stretches, area: &Area) -> (Area, Area)
     (low, high)
 }
 
-// The step of a run of the side label: the half that is chosen, none where the run ends.
+// The step of a run of the side label: the chosen half, or `None` if the run ends.
 fn step(stretches: &Stretches, area: &Area, side: LabelId) -> Option<Area>
     requires { IsArea stretches.now area.now }
     ensures { MatchOption result (IsStop stretches.now side.0 area.now)
@@ -117,13 +131,63 @@ fn step(stretches: &Stretches, area: &Area, side: LabelId) -> Option<Area>
     }
 }
 
-/// The block at the end of the run of the side label.
-pub fn run_end(stretches: &Stretches, area: &Area, side: LabelId) -> Area
+// The block at the end of the run of the side label, found bit by bit.
+#[inline(never)]
+fn stepwise_end(stretches: &Stretches, area: &Area, side: LabelId) -> Area
     requires { IsArea stretches.now area.now }
     ensures { IsRunTo stretches.now side.0 area.now result }
 {
     match step(stretches, area, side) {
-        Some(chosen) => run_end(stretches, &chosen, side),
+        Some(chosen) => stepwise_end(stretches, &chosen, side),
         None => *area,
+    }
+}
+
+// The block at the end of the run of the side label, found in one step: the smallest block with all addresses that are
+// not in the first or last stretch of this block if that stretch has the side label. Returns `None` if the addresses
+// inside begin or end with one more stretch that has it.
+#[inline(always)]
+fn direct_end(stretches: &Stretches, area: &Area, side: LabelId) -> Option<Area>
+    requires { IsArea stretches.now area.now }
+    ensures { IfSome result (IsRunTo stretches.now side.0 area.now) }
+{
+    if area.from == area.to {
+        return None;
+    }
+    let from = area.from + usize::from(is_side(stretches, area.from, side));
+    let to = area.to - usize::from(is_side(stretches, area.to, side));
+    if is_side(stretches, from, side) || is_side(stretches, to, side) {
+        return None;
+    }
+    let low = area.first.max(stretches.first(from));
+    let high = area.last.min(stretches.last(to));
+    let version = stretches.version();
+    let len = version.width() - (128 - (low ^ high).leading_zeros());
+    let block = block_of(
+        Addr {
+            version,
+            value: low,
+        },
+        len,
+    );
+    let (first, last) = (block.value, block.high().value);
+    Some(Area {
+        first,
+        last,
+        len,
+        from: if first == low { from } else { area.from },
+        to: if last == high { to } else { area.to },
+    })
+}
+
+/// The block at the end of the run of the side label.
+#[inline(always)]
+pub fn run_end(stretches: &Stretches, area: &Area, side: LabelId) -> Area
+    requires { IsArea stretches.now area.now }
+    ensures { IsRunTo stretches.now side.0 area.now result }
+{
+    match direct_end(stretches, area, side) {
+        Some(end) => end,
+        None => stepwise_end(stretches, area, side),
     }
 }

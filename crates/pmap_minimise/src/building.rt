@@ -1,51 +1,43 @@
 //! The nodes of the compact certificate of a map's minimal pair, from the map's stretches.
 ghost use Rattle.std.specs.Prelude.{◌≡◌, ◌+◌, ◌^◌, ◌<◌, IfOk, MatchOption, if◌then◌else◌, option_map};
 ghost use Rattle.std.specs.Option.{option_or};
+ghost use Rattle.pmap_cert.specs.Packed.{HasSet};
 ghost use Rattle.pmap_minimise.specs.Areas.{AreHalvesOf, IsArea, IsLongRun, IsShortRun, number_at, own_label};
-ghost use Rattle.pmap_minimise.specs.Building.{AddsChain, AddsInner, AddsLeaf};
+ghost use Rattle.pmap_minimise.specs.Building.{AddsChain, AddsInner, AddsLeaf, HasRisingSet};
 ghost use Rattle.pmap_minimise.specs.Built.{IsBuilt, IsBuiltFor};
-ghost use Rattle.pmap_minimise.specs.Kept.{AreSetsKept, IsHeldIn, larger_in};
 ghost use Rattle.pmap_minimise.specs.Numbers.{has_number, numbers_of};
 
 use crate::area::{Area, halves, own_label, run_end};
 use crate::built::{Built, Chain, Claim, Line};
-use crate::claiming::joined;
 use crate::entering::has_label;
-use crate::set_list::{Sets, are_one_label};
+use crate::sets::joined;
+use pmap_cert::SetPool;
 use pmap_text::{LabelId, MapText, Stretches};
 use std::alloc::{AllocError, Global};
+use std::slice;
 
-// Adds the line of a leaf.
-fn push_leaf(built: &mut Built, id: LabelId) -> Result<Claim, AllocError>
-    requires { AreSetsKept built.old.sets }
+/// Adds the line of a leaf.
+pub fn push_leaf(built: &mut Built, id: LabelId) -> Result<Claim, AllocError>
     ensures { IfOk result (AddsLeaf id built.old built.new) }
 {
     built.lines.push(Line::Leaf(id))?;
-    let set = built.sets.hold_label(id)?;
+    let set = built.sets.hold(slice::from_ref(&id))?;
     Ok(Claim { cost: 0, set })
 }
 
-// Adds the line of an inner node, whose halves claim these: it claims their exact pair.
-fn push_inner(
+/// Adds the line of an inner node, whose halves claim these: it claims their exact pair.
+pub fn push_inner(
     alloc: Global,
     built: &mut Built,
     low: Claim,
     high: Claim,
 ) -> Result<Claim, AllocError>
-    requires kept { AreSetsKept built.old.sets }
-    requires low { IsHeldIn (larger_in built.old.sets) low.set }
-    requires high { IsHeldIn (larger_in built.old.sets) high.set }
+    requires low { HasRisingSet built.old.sets low.set }
+    requires high { HasRisingSet built.old.sets high.set }
     requires few { low.cost + high.cost + 1 < 2 ^ 32 }
     ensures { IfOk result (AddsInner low high built.old built.new) }
 {
     let sum = low.cost + high.cost;
-    if are_one_label(low.set, high.set) {
-        built.lines.push(Line::Inner(sum, low.set))?;
-        return Ok(Claim {
-            cost: sum,
-            set: low.set,
-        });
-    }
     let (set, apart) = joined(alloc, &mut built.sets, low.set, high.set)?;
     let cost = if apart { sum + 1 } else { sum };
     built.lines.push(Line::Inner(cost, set))?;
@@ -68,8 +60,7 @@ fn push_chain(
     end: u128,
     bits: u32,
 ) -> Result<Claim, AllocError>
-    requires kept { AreSetsKept built.old.sets }
-    requires held { IsHeldIn (larger_in built.old.sets) below.set }
+    requires held { HasSet built.old.sets below.set }
     requires few { below.cost + 1 < 2 ^ 32 }
     ensures { IfOk result (AddsChain below side end bits built.old built.new) }
 {
@@ -85,21 +76,21 @@ fn push_chain(
         bits,
     })?;
     built.lines.push(Line::Chain(number as u32))?;
-    let set = built.sets.hold_label(side)?;
+    let set = built.sets.hold(slice::from_ref(&side))?;
     Ok(Claim { cost, set })
 }
 
 // Adds the lines of a block.
 #[cycle(area)]
+#[inline(always)]
 fn push_area(
     alloc: Global,
     built: &mut Built,
     stretches: &Stretches,
-    area: Area,
+    area: &Area,
 ) -> Result<Claim, AllocError>
-    requires kept { AreSetsKept built.old.sets }
-    requires area { IsArea stretches.now area }
-    ensures { IfOk result (IsBuilt stretches.now area built.old built.new) }
+    requires { IsArea stretches.now area.now }
+    ensures { IfOk result (IsBuilt stretches.now area.now built.old built.new) }
 {
     if area.from < area.to {
         return push_divided(alloc, built, stretches, area);
@@ -116,17 +107,16 @@ fn push_divided(
     alloc: Global,
     built: &mut Built,
     stretches: &Stretches,
-    area: Area,
+    area: &Area,
 ) -> Result<Claim, AllocError>
-    requires kept { AreSetsKept built.old.sets }
-    requires area { IsArea stretches.now area }
-    requires divided { area.from < area.to }
-    ensures { IfOk result (IsBuilt stretches.now area built.old built.new) }
+    requires area { IsArea stretches.now area.now }
+    requires divided { area.now.from < area.now.to }
+    ensures { IfOk result (IsBuilt stretches.now area.now built.old built.new) }
 {
-    let (low, high) = halves(stretches, &area);
-    match run_of(stretches, &area, &low, &high) {
+    let (low, high) = halves(stretches, area);
+    match run_of(stretches, area, &low, &high) {
         Some((side, end)) => {
-            let below = push_area(alloc, built, stretches, end)?;
+            let below = push_area(alloc, built, stretches, &end)?;
             push_chain(
                 built,
                 below,
@@ -136,14 +126,14 @@ fn push_divided(
             )
         }
         None => {
-            let above = push_area(alloc, built, stretches, high)?;
-            let below = push_area(alloc, built, stretches, low)?;
+            let above = push_area(alloc, built, stretches, &high)?;
+            let below = push_area(alloc, built, stretches, &low)?;
             push_inner(alloc, built, below, above)
         }
     }
 }
 
-// The number of a block among those with as many bits, of which it has some.
+// The number of a block among those with as many bits, of which there is at least one.
 fn number_of(stretches: &Stretches, area: &Area) -> u128
     requires area { IsArea stretches.now area.now }
     requires some { 0 < area.now.len }
@@ -152,7 +142,8 @@ fn number_of(stretches: &Stretches, area: &Area) -> u128
     area.first >> (stretches.version().width() - area.len)
 }
 
-// The side label and the end of the run from the block with these halves, where it has two bits or more.
+// The side label and the end of the run from the block with these halves, if it has two bits or more.
+#[inline(always)]
 fn run_of(stretches: &Stretches, area: &Area, low: &Area, high: &Area) -> Option<(LabelId, Area)>
     requires area { IsArea stretches.now area.now }
     requires halves { AreHalvesOf stretches.now area.now low.now high.now }
@@ -172,6 +163,7 @@ fn run_of(stretches: &Stretches, area: &Area, low: &Area, high: &Area) -> Option
 }
 
 // The side label of the run from the block with these halves.
+#[inline(always)]
 fn side_of(stretches: &Stretches, low: &Area, high: &Area) -> Option<LabelId>
     requires low { IsArea stretches.now low.now }
     requires high { IsArea stretches.now high.now }
@@ -193,7 +185,7 @@ pub fn built(alloc: Global, map: &MapText) -> Result<Built, AllocError>
     let mut built = Built {
         lines: Vec::with_capacity(alloc, 2 * to + 1)?,
         chains: Vec::new(alloc),
-        sets: Sets::with_capacity(alloc, 0)?,
+        sets: SetPool::new(alloc),
     };
     let whole = Area {
         first: 0,
@@ -202,6 +194,6 @@ pub fn built(alloc: Global, map: &MapText) -> Result<Built, AllocError>
         from: 0,
         to,
     };
-    push_area(alloc, &mut built, &stretches, whole)?;
+    push_area(alloc, &mut built, &stretches, &whole)?;
     Ok(built)
 }

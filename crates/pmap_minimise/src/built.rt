@@ -1,4 +1,4 @@
-use crate::set_list::{SetId, Sets};
+use pmap_cert::{SetId, SetPool};
 use pmap_text::LabelId;
 
 /// What a node claims.
@@ -27,11 +27,11 @@ pub enum Line {
     Chain(u32),
 }
 
-/// The nodes of a compact certificate. A node's line comes after those of its halves, the higher half's first, so the
+/// The nodes of a compact certificate. A node's line follows those of its halves, the higher half's first, so the
 /// root's is the last.
 #[derive(Drop)]
 pub struct Built {
     pub lines: Vec<Line>,
     pub chains: Vec<Chain>,
-    pub sets: Sets,
+    pub sets: SetPool,
 }

@@ -6,7 +6,6 @@ ghost use Rattle.pmap_cert.specs.Placing.{IsCompactNode};
 ghost use Rattle.label_trie.specs.TrieModel.{LeafModel};
 ghost use Rattle.pmap_minimise.specs.Built.{HasLinesTo, IsAt, IsBuiltOf, way_to};
 ghost use Rattle.pmap_minimise.specs.Compacting.{AddsLines};
-ghost use Rattle.pmap_minimise.specs.Kept.{AreSetsKept};
 
 use crate::built::{Built, Chain, Line};
 use pmap_cert::{Nodes, Root};
@@ -31,8 +30,7 @@ fn push_node(
     built: &Built,
     to: usize,
 ) -> Result<usize, AllocError>
-    requires kept { AreSetsKept built.now.sets }
-    requires stands { HasLinesTo built.now to }
+    requires { HasLinesTo built.now to }
     ensures { IfOk result (λ from. (compact node : Node) (start : ℕ) → IsAt built.now compact node start to
         → AddsLines compact out.old out.new start from) }
 {

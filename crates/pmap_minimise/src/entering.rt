@@ -1,4 +1,4 @@
-//! The own entry of a certificate's node, and the label that it hands on.
+//! The own entry of a certificate's node, and the label that it passes on.
 ghost use Rattle.std.specs.Prelude.{◌≡◌, ◌<◌, ◌==◌, IfOk, length};
 ghost use Rattle.std.specs.List.{list_any};
 ghost use Rattle.pmap_minimise.specs.Numbers.{IsOwn, keeps};
@@ -14,7 +14,7 @@ pub fn has_label(labels: &[LabelId], id: LabelId) -> bool
     labels.iter().any(|label| id.0 == label.0)
 }
 
-// Whether the label that is inherited, if there is one, is one of these.
+// Whether the inherited label, if there is one, is one of these.
 fn has_inherited(labels: &[LabelId], inherited: Option<LabelId>) -> bool
     ensures { result ≡ keeps labels.now inherited }
 {
@@ -24,7 +24,7 @@ fn has_inherited(labels: &[LabelId], inherited: Option<LabelId>) -> bool
     }
 }
 
-/// Adds the own entry of a node with these labels, if it has one, and answers the label that the node hands on.
+/// Adds the own entry of a node with these labels, if it has one, and returns the label that the node passes on.
 pub fn push_own(
     entries: &mut Vec<Entry>,
     labels: &[LabelId],

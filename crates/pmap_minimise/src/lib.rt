@@ -12,27 +12,22 @@
 //! assert!(rt; minimal.list.entries.len() == 3);
 //! ```
 //!
-//! It stands on label_trie (the map's trie), pmap_cert (certificates, and the laws on minimal pairs), pmap_text (maps
+//! It depends on label_trie (the map's trie), pmap_cert (certificates, and the laws on minimal pairs), pmap_text (maps
 //! and lists) and `smallvec` for small sets of labels. The layer above may rely on `minimise`: the list and the
-//! certificate are the map's minimal pair, so the list is equivalent to the map, has the root's cost and one entries,
-//! no equivalent list has fewer, and the certificate is accepted for the two. `shortest` makes the list
-//! alone, `certificate_text` the text of the certificate, and `compact_text` that of the certificate compacted.
+//! certificate are the map's minimal pair, so the list is equivalent to the map, has one entry more than the root's
+//! cost, no equivalent list has fewer, and the certificate is accepted for the two. `shortest` returns the list alone,
+//! `certificate_text` the text of the certificate, and `compact_text` that of the certificate compacted.
 #![tactic(auto)]
 
 mod area;
 mod building;
 mod built;
-mod certifying;
-mod claim_list;
-mod claiming;
 mod compacting;
 mod entering;
 mod listing;
 mod minimal;
 mod opening;
-mod outline;
-mod set_list;
 mod sets;
-mod stack;
+mod walks;
 
 pub use minimal::{Minimal, certificate_text, compact_text, minimise, shortest};

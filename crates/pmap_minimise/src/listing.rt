@@ -4,7 +4,6 @@ ghost use Rattle.prefix_keys.specs.Version.{width_of};
 ghost use Rattle.pmap_cert.specs.Node.{Node};
 ghost use Rattle.label_trie.specs.TrieModel.{LeafModel};
 ghost use Rattle.pmap_minimise.specs.Built.{HasLinesTo, IsAt, IsBuiltOf};
-ghost use Rattle.pmap_minimise.specs.Kept.{AreSetsKept};
 ghost use Rattle.pmap_minimise.specs.Listing.{AddsAt, IsDown, IsListedBy};
 ghost use Rattle.pmap_minimise.specs.Numbers.{IsSound};
 
@@ -23,49 +22,46 @@ fn end_block(block: Block, number: u128, bits: u32) -> Block
     if bits == 0 {
         return block;
     }
-    let Some((low, high)) = block.halves() else {
-        unreachable!()
-    };
-    let half = if (number >> (bits - 1)) % 2 == 1 {
-        high
-    } else {
-        low
-    };
-    end_block(half, number, bits - 1)
+    let (version, len) = (block.version, block.len);
+    let offset = (number << (128 - bits)) >> (128 - version.width() + len);
+    Block {
+        version,
+        value: block.value + offset,
+        len: len + bits,
+    }
 }
 
-// Adds the entries of the node whose lines end here and which stands for the block, and returns where they begin.
+// Adds the entries of the node whose lines end here and which represents the block, and returns where they begin.
 fn push_entries(
     entries: &mut Vec<Entry>,
     built: &Built,
     to: usize,
-    here: Block,
+    here: &Block,
     inherited: Option<LabelId>,
 ) -> Result<usize, AllocError>
-    requires kept { AreSetsKept built.now.sets }
-    requires stands { (lines : HasLinesTo built.now to)
-        × IsSound lines.node (width_of here.version - here.len) }
+    requires { (lines : HasLinesTo built.now to)
+        × IsSound lines.node (width_of here.now.version - here.now.len) }
     ensures { IfOk result (λ from. (compact node : Node) (start : ℕ) → IsAt built.now compact node start to
-        → AddsAt node here inherited entries.old.items entries.new.items start from) }
+        → AddsAt node here.now inherited entries.old.items entries.new.items start from) }
 {
     match built.lines[to - 1] {
         Line::Leaf(id) => {
-            push_own(entries, slice::from_ref(&id), here, inherited)?;
+            push_own(entries, slice::from_ref(&id), *here, inherited)?;
             Ok(to - 1)
         }
         Line::Inner(_, set) => {
-            let label = push_own(entries, built.sets.labels(&set), here, inherited)?;
+            let label = push_own(entries, built.sets.labels(&set), *here, inherited)?;
             let Some((low, high)) = here.halves() else {
                 unreachable!()
             };
-            let middle = push_entries(entries, built, to - 1, low, Some(label))?;
-            push_entries(entries, built, middle, high, Some(label))
+            let middle = push_entries(entries, built, to - 1, &low, Some(label))?;
+            push_entries(entries, built, middle, &high, Some(label))
         }
         Line::Chain(number) => {
             let chain = built.chains[number as usize];
-            let side = push_own(entries, slice::from_ref(&chain.side), here, inherited)?;
-            let end = end_block(here, chain.end, chain.bits);
-            push_entries(entries, built, to - 1, end, Some(side))
+            let side = push_own(entries, slice::from_ref(&chain.side), *here, inherited)?;
+            let end = end_block(*here, chain.end, chain.bits);
+            push_entries(entries, built, to - 1, &end, Some(side))
         }
     }
 }
@@ -78,6 +74,6 @@ pub fn listed(alloc: Global, built: &Built, version: Version) -> Result<Vec<Entr
 {
     let mut entries = Vec::new(alloc);
     let whole = whole_space(version);
-    push_entries(&mut entries, built, built.lines.len(), whole, None)?;
+    push_entries(&mut entries, built, built.lines.len(), &whole, None)?;
     Ok(entries)
 }

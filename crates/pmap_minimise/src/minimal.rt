@@ -15,11 +15,10 @@ ghost use Rattle.label_trie.specs.TrieModel.{IsSettledLeaf, IsUndivided};
 ghost use Rattle.pmap_minimise.specs.Shortest.{list_with};
 
 use crate::building::built;
-use crate::certifying::certified;
-use crate::claiming::claimed;
 use crate::compacting::compacted;
 use crate::listing::listed;
 use crate::opening::push_text;
+use crate::walks::{chosen, claimed};
 use label_trie::Trie;
 use pmap_cert::{Certificate, Format, minimal_pair_is_accepted, push_head, write_cert};
 use pmap_text::{Entries, Entry, MapText, Name, PrefixList};
@@ -52,12 +51,12 @@ pub fn minimise(alloc: Global, map: &MapText, trie: &Trie) -> Result<Minimal, Al
     // The entries are blocks by rising first address, of one address the shorter first.
     ensures order { IfOk result (λ m. HasListForm (list_of m.list)) }
 {
-    // For their laws: a minimal pair is accepted, and the table's labels are distinct.
+    // Provides the laws that a minimal pair is accepted, and that the table's labels are distinct.
     minimal_pair_is_accepted();
     let _labels = map.labels.len();
-    let list = shortest(alloc, map)?;
     let claims = claimed(alloc, trie)?;
-    let root = certified(alloc, trie, &claims)?;
+    let (entries, root) = chosen(alloc, &claims, map.version)?;
+    let list = list_with(alloc, map, entries)?;
     let labels = map.labels.copy()?;
     let certificate = Certificate::new(map.version, labels, root);
     let top = certificate.root();
@@ -81,12 +80,13 @@ pub fn shortest(alloc: Global, map: &MapText) -> Result<PrefixList, AllocError>
     // The entries are blocks by rising first address, of one address the shorter first.
     ensures order { IfOk result (λ list. HasListForm (list_of list)) }
 {
-    // For their laws: a minimal pair is accepted, and the table's labels are distinct.
+    // Provides the laws that a minimal pair is accepted, and that the table's labels are distinct.
     minimal_pair_is_accepted();
     let _labels = map.labels.len();
     let built = built(alloc, map)?;
     let items = listed(alloc, &built, map.version)?;
-    list_with(alloc, map, items)
+    let list = list_with(alloc, map, items)?;
+    Ok(list)
 }
 
 /// The text of the certificate of `minimise` alone, which is made without the list and without a node for each line of
@@ -96,7 +96,7 @@ pub fn certificate_text(alloc: Global, map: &MapText) -> Result<Vec<u8>, AllocEr
     ensures { IfOk result (λ text. (l : ListModel) × (c : CertificateModel) × IsMinimalPair (map_of map.now) l c
         × HasTextForm c × (text.items ≡ certificate_text c)) }
 {
-    // For its law: the table's labels are distinct.
+    // Provides the law that the table's labels are distinct.
     let _labels = map.labels.len();
     let built = built(alloc, map)?;
     let mut out = Vec::new(alloc);
@@ -112,7 +112,7 @@ pub fn compact_text(alloc: Global, map: &MapText) -> Result<Vec<u8>, AllocError>
     ensures { IfOk result (λ text. (l : ListModel) × (c : CertificateModel) × IsMinimalPair (map_of map.now) l c
         × HasTextForm c × (text.items ≡ certificate_text (compact c))) }
 {
-    // For its law: the table's labels are distinct.
+    // Provides the law that the table's labels are distinct.
     let _labels = map.labels.len();
     let built = built(alloc, map)?;
     let root = compacted(alloc, &built)?;
@@ -128,7 +128,7 @@ fn list_with(alloc: Global, map: &MapText, items: Vec<Entry>) -> Result<PrefixLi
     requires distinct { HasDistinctBlocks items.items }
     ensures { IfOk result (λ list. list_of list ≡ list_with map.now items.items) }
 {
-    // For its law: the table's labels are distinct.
+    // Provides the law that the table's labels are distinct.
     let _labels = map.labels.len();
     Ok(PrefixList {
         version: map.version,
@@ -138,7 +138,7 @@ fn list_with(alloc: Global, map: &MapText, items: Vec<Entry>) -> Result<PrefixLi
     })
 }
 
-// The same name.
+// Copies a name.
 fn copy_name(alloc: Global, name: &Option<Name>) -> Result<Option<Name>, AllocError>
     ensures { IfOk result (λ copy. copy ≡ name.now) }
 {

@@ -3,9 +3,8 @@ ghost use Rattle.std.specs.Prelude.{◌≡◌, ℕ, ◌+◌, ◌++◌, ◌∷◌
 ghost use Rattle.pmap_cert.specs.CertificateText.{inner_line};
 ghost use Rattle.pmap_cert.specs.Node.{Node, set_of};
 ghost use Rattle.pmap_minimise.specs.Built.{HasLinesTo, IsAt, set_above, with_number};
-ghost use Rattle.pmap_minimise.specs.Kept.{AreSetsKept};
 ghost use Rattle.pmap_minimise.specs.Numbers.{numbers_of};
-ghost use Rattle.pmap_minimise.specs.Opening.{AddsText, AddsWay};
+ghost use Rattle.pmap_minimise.specs.Opening.{AddsText, text_down, text_up};
 
 use crate::built::{Built, Chain, Line};
 use crate::entering::has_label;
@@ -14,7 +13,7 @@ use pmap_text::LabelId;
 use std::alloc::{AllocError, Global};
 use std::slice;
 
-// Adds the labels of a set with one label more, where it has its place.
+// Adds the labels of a set with one more label, in rising order.
 fn push_with(all: &mut Vec<LabelId>, set: &[LabelId], side: LabelId) -> Result<(), AllocError>
     ensures { OnOk result (numbers_of all.new.items
         ≡ numbers_of all.old.items ++ with_number side.0 (numbers_of set.now)) }
@@ -34,10 +33,11 @@ fn push_with(all: &mut Vec<LabelId>, set: &[LabelId], side: LabelId) -> Result<(
 }
 
 // Appends the line of a node on the way down a chain, by the set of the chain's end and how many nodes follow on the
-// way.
+// way. The labels in `all` are replaced.
+#[inline(always)]
 fn push_way_line(
     out: &mut Vec<u8>,
-    alloc: Global,
+    all: &mut Vec<LabelId>,
     chain: &Chain,
     end: &[LabelId],
     more: u32,
@@ -45,21 +45,50 @@ fn push_way_line(
     ensures { OnOk result (out.new.items ≡ out.old.items
         ++ (inner_line chain.now.cost (set_above chain.now.side.0 (numbers_of end.now) more) ++ 10 ∷ [])) }
 {
-    if more > 0 {
+    if more > 0 || has_label(end, chain.side) {
         return push_inner_line(out, chain.cost, slice::from_ref(&chain.side));
     }
-    if has_label(end, chain.side) {
-        return push_inner_line(out, chain.cost, slice::from_ref(&chain.side));
-    }
-    let mut all = Vec::new(alloc);
-    push_with(&mut all, end, chain.side)?;
+    all.clear();
+    push_with(all, end, chain.side)?;
     push_inner_line(out, chain.cost, all.as_slice())
+}
+
+// Appends the lines on the way down a chain, of its nodes and of the side blocks before its end, by the set of the end.
+fn push_down(
+    out: &mut Vec<u8>,
+    all: &mut Vec<LabelId>,
+    chain: &Chain,
+    end: &[LabelId],
+) -> Result<(), AllocError>
+    requires { chain.now.bits ≤ 128 }
+    ensures { OnOk result (out.new.items
+        ≡ out.old.items ++ text_down chain.now (numbers_of end.now) chain.now.bits) }
+{
+    for place in (0..chain.bits).rev() {
+        push_way_line(out, all, chain, end, place)?;
+        if (chain.end >> place) % 2 == 1 {
+            push_leaf_line(out, chain.side)?;
+        }
+    }
+    Ok(())
+}
+
+// Appends the lines of the side blocks after the end of a chain.
+fn push_up(out: &mut Vec<u8>, chain: &Chain) -> Result<(), AllocError>
+    requires { chain.now.bits ≤ 128 }
+    ensures { OnOk result (out.new.items ≡ out.old.items ++ text_up chain.now chain.now.bits) }
+{
+    for place in 0..chain.bits {
+        if (chain.end >> place) % 2 == 0 {
+            push_leaf_line(out, chain.side)?;
+        }
+    }
+    Ok(())
 }
 
 // The set of the node whose lines end here.
 fn set_to(built: &Built, to: usize) -> &[LabelId]
-    requires kept { AreSetsKept built.now.sets }
-    requires stands { HasLinesTo built.now to }
+    requires { HasLinesTo built.now to }
     ensures { (compact node : Node) (start : ℕ) → IsAt built.now compact node start to
         → numbers_of result.now ≡ set_of node }
 {
@@ -70,16 +99,15 @@ fn set_to(built: &Built, to: usize) -> &[LabelId]
     }
 }
 
-// Appends the lines of the node whose lines end here, opened, and returns where they begin.
-#[cycle(text)]
-pub fn push_text(
+// Appends the lines of the node whose lines end here, opened, and returns where they begin. The labels in `all` are
+// replaced.
+fn push_node(
     out: &mut Vec<u8>,
-    alloc: Global,
+    all: &mut Vec<LabelId>,
     built: &Built,
     to: usize,
 ) -> Result<usize, AllocError>
-    requires kept { AreSetsKept built.now.sets }
-    requires stands { HasLinesTo built.now to }
+    requires { HasLinesTo built.now to }
     ensures { IfOk result (λ from. (compact node : Node) (start : ℕ) → IsAt built.now compact node start to
         → AddsText node out.old.items out.new.items start from) }
 {
@@ -90,43 +118,30 @@ pub fn push_text(
         }
         Line::Inner(cost, set) => {
             push_inner_line(out, cost, built.sets.labels(&set))?;
-            let middle = push_text(out, alloc, built, to - 1)?;
-            push_text(out, alloc, built, middle)
+            let middle = push_node(out, all, built, to - 1)?;
+            push_node(out, all, built, middle)
         }
         Line::Chain(number) => {
             let chain = built.chains[number as usize];
-            push_way(out, alloc, built, to - 1, chain, chain.bits)
+            push_down(out, all, &chain, set_to(built, to - 1))?;
+            let from = push_node(out, all, built, to - 1)?;
+            push_up(out, &chain)?;
+            Ok(from)
         }
     }
 }
 
-// Appends the lines of the nodes down a chain, from that with so many bits below it on, and of the chain's end, whose
-// lines end here. It returns where these begin.
-#[cycle(text)]
-fn push_way(
+/// Appends the lines of the node whose lines end here, opened, and returns where they begin.
+pub fn push_text(
     out: &mut Vec<u8>,
     alloc: Global,
     built: &Built,
     to: usize,
-    chain: Chain,
-    bits: u32,
 ) -> Result<usize, AllocError>
-    requires kept { AreSetsKept built.now.sets }
-    requires stands { HasLinesTo built.now to }
-    requires few { bits ≤ 128 }
+    requires { HasLinesTo built.now to }
     ensures { IfOk result (λ from. (compact node : Node) (start : ℕ) → IsAt built.now compact node start to
-        → AddsWay chain bits node out.old.items out.new.items start from) }
+        → AddsText node out.old.items out.new.items start from) }
 {
-    if bits == 0 {
-        return push_text(out, alloc, built, to);
-    }
-    push_way_line(out, alloc, &chain, set_to(built, to), bits - 1)?;
-    if (chain.end >> (bits - 1)) % 2 == 1 {
-        push_leaf_line(out, chain.side)?;
-        push_way(out, alloc, built, to, chain, bits - 1)
-    } else {
-        let from = push_way(out, alloc, built, to, chain, bits - 1)?;
-        push_leaf_line(out, chain.side)?;
-        Ok(from)
-    }
+    let mut all = Vec::new(alloc);
+    push_node(out, &mut all, built, to)
 }

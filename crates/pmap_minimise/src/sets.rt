@@ -1,21 +1,24 @@
 //! Sets of labels, as slices with their numbers in rising order.
-ghost use Rattle.std.specs.Prelude.{◌≡◌, ◌^◌, ◌++◌, IfOk, OnOk};
+ghost use Rattle.std.specs.Prelude.{◌≡◌, ◌^◌, IfOk};
 ghost use Rattle.pmap_cert.specs.CertificateForm.{IsRising};
+ghost use Rattle.pmap_cert.specs.Packed.{set_in};
+ghost use Rattle.pmap_minimise.specs.Building.{HasRisingSet, IsHalfHeld};
 ghost use Rattle.pmap_minimise.specs.Numbers.{IsExactSet, IsUnion, common_numbers, numbers_of};
 
+use pmap_cert::{SetId, SetPool};
 use pmap_text::LabelId;
 use smallvec::SmallVec;
 use std::alloc::{AllocError, Global};
 
-/// The numbers of a set of labels that is being made. Most sets have few labels, and are made without an allocation.
-pub type SmallSet = SmallVec<u32, 8>;
+// A set of labels that is being made. Most sets have few labels, and are made without an allocation.
+type SmallSet = SmallVec<LabelId, 8>;
 
-/// The labels that both sets have.
-pub fn common(alloc: Global, low: &[LabelId], high: &[LabelId]) -> Result<SmallSet, AllocError>
+// Returns the labels that both sets have.
+fn common(alloc: Global, low: &[LabelId], high: &[LabelId]) -> Result<SmallSet, AllocError>
     requires low { IsRising (2 ^ 32) 0 (numbers_of low.now) }
     requires high { IsRising (2 ^ 32) 0 (numbers_of high.now) }
-    ensures common { IfOk result (λ set. set.items ≡ common_numbers (numbers_of low.now) (numbers_of high.now)) }
-    ensures rising { IfOk result (λ set. IsRising (2 ^ 32) 0 set.items) }
+    ensures common { IfOk result (λ set. numbers_of set.items ≡ common_numbers (numbers_of low.now) (numbers_of high.now)) }
+    ensures rising { IfOk result (λ set. IsRising (2 ^ 32) 0 (numbers_of set.items)) }
 {
     let mut set = SmallVec::new(alloc);
     let mut lower = low;
@@ -29,7 +32,7 @@ pub fn common(alloc: Global, low: &[LabelId], high: &[LabelId]) -> Result<SmallS
         } else if y.0 < x.0 {
             higher = higher_rest;
         } else {
-            set.push(x.0)?;
+            set.push(*x)?;
             lower = lower_rest;
             higher = higher_rest;
         }
@@ -37,63 +40,73 @@ pub fn common(alloc: Global, low: &[LabelId], high: &[LabelId]) -> Result<SmallS
     Ok(set)
 }
 
-// Adds the numbers of labels at the end.
-fn push_all(set: &mut SmallSet, ids: &[LabelId]) -> Result<(), AllocError>
-    ensures { OnOk result (set.new.items ≡ set.old.items ++ numbers_of ids.now) }
-{
-    for id in ids {
-        set.push(id.0)?;
-    }
-    Ok(())
-}
-
-/// The labels that one of the sets has, or both.
-pub fn either(alloc: Global, low: &[LabelId], high: &[LabelId]) -> Result<SmallSet, AllocError>
+// Returns the labels that one of the sets has, or both.
+fn either(alloc: Global, low: &[LabelId], high: &[LabelId]) -> Result<SmallSet, AllocError>
     requires low { IsRising (2 ^ 32) 0 (numbers_of low.now) }
     requires high { IsRising (2 ^ 32) 0 (numbers_of high.now) }
-    ensures union { IfOk result (λ set. IsUnion (numbers_of low.now) (numbers_of high.now) set.items) }
-    ensures rising { IfOk result (λ set. IsRising (2 ^ 32) 0 set.items) }
+    ensures union { IfOk result (λ set. IsUnion (numbers_of low.now) (numbers_of high.now) (numbers_of set.items)) }
+    ensures rising { IfOk result (λ set. IsRising (2 ^ 32) 0 (numbers_of set.items)) }
 {
     let mut set = SmallVec::new(alloc);
     let mut lower = low;
     let mut higher = high;
     while let Some((x, lower_rest)) = lower.split_first() {
         let Some((y, higher_rest)) = higher.split_first() else {
-            push_all(&mut set, lower)?;
+            set.extend_from_slice(lower)?;
             return Ok(set);
         };
         if x.0 < y.0 {
-            set.push(x.0)?;
+            set.push(*x)?;
             lower = lower_rest;
         } else if y.0 < x.0 {
-            set.push(y.0)?;
+            set.push(*y)?;
             higher = higher_rest;
         } else {
-            set.push(x.0)?;
+            set.push(*x)?;
             lower = lower_rest;
             higher = higher_rest;
         }
     }
-    push_all(&mut set, higher)?;
+    set.extend_from_slice(higher)?;
     Ok(set)
 }
 
-/// The exact set of two halves that claim these: the labels that both have, or where there is none those that one of
-/// them has. With it comes whether both have none.
-pub fn exact_set(
+// Returns the exact set of two halves that claim these: the labels that both have, or, if there are none, those that
+// one of them has. With it comes whether they have none in common.
+fn exact_set(
     alloc: Global,
-    low: &[LabelId],
-    high: &[LabelId],
+    sets: &SetPool,
+    low: &SetId,
+    high: &SetId,
 ) -> Result<(SmallSet, bool), AllocError>
-    requires low { IsRising (2 ^ 32) 0 (numbers_of low.now) }
-    requires high { IsRising (2 ^ 32) 0 (numbers_of high.now) }
-    ensures exact { IfOk result (λ exact. IsExactSet (numbers_of low.now) (numbers_of high.now) exact.1 exact.0.items) }
-    ensures rising { IfOk result (λ exact. IsRising (2 ^ 32) 0 exact.0.items) }
+    requires low { HasRisingSet sets.now low.now }
+    requires high { HasRisingSet sets.now high.now }
+    ensures exact { IfOk result (λ exact. IsExactSet (set_in sets.now low.now)
+        (set_in sets.now high.now) exact.1 (numbers_of exact.0.items)) }
+    ensures rising { IfOk result (λ exact. IsRising (2 ^ 32) 0 (numbers_of exact.0.items)) }
 {
+    let low = sets.labels(low);
+    let high = sets.labels(high);
     let shared = common(alloc, low, high)?;
     if shared.is_empty() {
         let all = either(alloc, low, high)?;
         return Ok((all, true));
     }
     Ok((shared, false))
+}
+
+/// Keeps the exact set of two halves, and returns its id, and whether the halves' sets are apart.
+pub fn joined(
+    alloc: Global,
+    sets: &mut SetPool,
+    low: SetId,
+    high: SetId,
+) -> Result<(SetId, bool), AllocError>
+    requires low { HasRisingSet sets.old low }
+    requires high { HasRisingSet sets.old high }
+    ensures { IfOk result (λ half. IsHalfHeld low high sets.old sets.new half.0 half.1) }
+{
+    let (set, apart) = exact_set(alloc, sets, &low, &high)?;
+    let half = sets.hold(set.as_slice())?;
+    Ok((half, apart))
 }

@@ -1,5 +1,6 @@
 use Rattle.std.proofs.Common.{◌+◌, ◌-◌, ◌/◌, ℕ, arith, refl}
-use Rattle.pmap_minimise.proofs.Areas.{are-halves, area-split, block-order, index-most}
+use Rattle.pmap_text.proofs.Ranges.{held_order}
+use Rattle.pmap_minimise.proofs.Areas.{are-halves, area-split, block-order}
 use Rattle.pmap_minimise.proofs.area.halves.Goals as goal
 
 pub index_of-at-requires : goal.index_of-at-requires
@@ -25,4 +26,4 @@ returns c =
     let some = split.some in
     let middle : ℕ = a.first + (a.last - a.first) / 2 in
     are-halves s a is c.requires.divided _ _ refl refl refl refl refl refl refl refl c.index_of-at.ensures.holds c.next_index-next.ensures c.index_of-at.ensures.from
-    (index-most s is.few.stretches.every (middle + 1) a.last c.next_index-next.result a.to (omega arith) c.next_index-next.ensures is.end)
+    (held_order s is.few.stretches.every (middle + 1) a.last c.next_index-next.result a.to c.next_index-next.ensures is.end (omega arith))

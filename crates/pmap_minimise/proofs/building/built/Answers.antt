@@ -2,8 +2,8 @@ use Rattle.std.proofs.Common.{arith, refl}
 use Rattle.pmap_minimise.proofs.BuiltNodes.{whole-area, whole-built}
 use Rattle.pmap_minimise.proofs.building.built.Goals as goal
 
-pub push_area-requires-clause-area : goal.push_area-requires-clause-area
-push_area-requires-clause-area c =
+pub push_area-requires : goal.push_area-requires
+push_area-requires c =
     let every = c.len-to.ensures.every in
     let some = every.some in
     let count = c.len-to.ensures.value in

@@ -5,59 +5,59 @@ use Rattle.pmap_text.specs.declared.label.LabelId.{LabelId}
 use Rattle.pmap_cert.specs.FormatReading.{ChainLine, DueLine, InnerLine, PlainLine}
 use Rattle.pmap_cert.specs.Node.{lines_of}
 use Rattle.pmap_minimise.specs.Built.{IsAt, way_to}
-use Rattle.pmap_minimise.specs.Kept.{IsHeldIn, larger_in, set_by}
+use Rattle.pmap_cert.specs.Packed.{HasSet, set_in}
 use Rattle.pmap_minimise.specs.Numbers.{numbers_of}
-use Rattle.pmap_minimise.specs.declared.set_list.SetId.{SetId}
+use Rattle.pmap_cert.specs.declared.pool.SetId.{SetId}
 use Rattle.pmap_minimise.proofs.Compacted.{at-last, if_ok, line-inside, read-chained, read-inner, read-leaf, to-some}
 use Rattle.pmap_minimise.proofs.WayEntries.{read-few, read-lines}
 use Rattle.pmap_minimise.proofs.compacting.+push_node.Goals as goal
 
 pub overflow_sub-to : goal.overflow_sub-to
 overflow_sub-to t c =
-    let lines = c.requires.stands in
+    let lines = c.requires in
     to-some c.args.built.now lines.compact lines.node lines.from c.args.to lines.at
 
 pub overflow_sub-result : goal.overflow_sub-result
 overflow_sub-result t c =
-    let lines = c.requires.stands in
+    let lines = c.requires in
     to-some c.args.built.now lines.compact lines.node lines.from c.args.to lines.at
 
 pub overflow_sub-to-in-Inner : goal.overflow_sub-to-in-Inner
 overflow_sub-to-in-Inner t c =
-    let lines = c.requires.stands in
+    let lines = c.requires in
     to-some c.args.built.now lines.compact lines.node lines.from c.args.to lines.at
 
 pub overflow_sub-to-in-Chain : goal.overflow_sub-to-in-Chain
 overflow_sub-to-in-Chain t c =
-    let lines = c.requires.stands in
+    let lines = c.requires in
     to-some c.args.built.now lines.compact lines.node lines.from c.args.to lines.at
 
 pub index-requires : goal.index-requires
 index-requires t c =
-    let lines = c.requires.stands in
+    let lines = c.requires in
     let inside = line-inside c.args.built.now lines.compact lines.node lines.from c.args.to lines.at in
     omega arith
 
-pub labels-requires-clause-held : goal.labels-requires-clause-held
-labels-requires-clause-held t c =
-    let lines = c.requires.stands in
+pub labels-requires : goal.labels-requires
+labels-requires t c =
+    let lines = c.requires in
     let b = c.args.built.now in
     let inner = read-inner b lines.compact lines.node lines.from c.args.to lines.at c.index.result.now c.in-Inner.cost c.in-Inner.set c.index.ensures c.in-Inner.is in
-    subst (λ (id : SetId). IsHeldIn (larger_in b.sets) id) inner.id_is inner.inner.set_is.held
+    subst (λ (id : SetId). HasSet b.sets id) inner.id_is inner.inner.set_is.whole
 
 pub push_node-requires : goal.push_node-requires
 push_node-requires t c =
-    let lines = c.requires.stands in
+    let lines = c.requires in
     let b = c.args.built.now in
     let inner = read-inner b lines.compact lines.node lines.from c.args.to lines.at c.index.result.now c.in-Inner.cost c.in-Inner.set c.index.ensures c.in-Inner.is in
     let less = c.decreases in
     let last : inner.inner.last ≡ c.args.to - 1 = let e = inner.inner.to_is in omega arith in
     let some = to-some b lines.compact lines.node lines.from c.args.to lines.at in
-    (omega arith, (c.requires.kept, record { compact = inner.low; node = inner.inner.lower; from = inner.inner.middle; at = subst (IsAt b inner.low inner.inner.lower inner.inner.middle) last inner.inner.low }))
+    (omega arith, record { compact = inner.low; node = inner.inner.lower; from = inner.inner.middle; at = subst (IsAt b inner.low inner.inner.lower inner.inner.middle) last inner.inner.low })
 
 pub push_node-requires-in-Inner : goal.push_node-requires-in-Inner
 push_node-requires-in-Inner t c =
-    let lines = c.requires.stands in
+    let lines = c.requires in
     let b = c.args.built.now in
     let inner = read-inner b lines.compact lines.node lines.from c.args.to lines.at c.index.result.now c.in-Inner.cost c.in-Inner.set c.index.ensures c.in-Inner.is in
     let last : inner.inner.last ≡ c.args.to - 1 = let e = inner.inner.to_is in omega arith in
@@ -68,11 +68,11 @@ push_node-requires-in-Inner t c =
     let after' = own.to_is in
     let start = first.start_is in
     let some = to-some b lines.compact lines.node lines.from c.args.to lines.at in
-    (omega arith, (c.requires.kept, record { compact = inner.high; node = inner.inner.upper; from = lines.from; at = subst (IsAt b inner.high inner.inner.upper lines.from) (sym first.start_is) inner.inner.high }))
+    (omega arith, record { compact = inner.high; node = inner.inner.upper; from = lines.from; at = subst (IsAt b inner.high inner.inner.upper lines.from) (sym first.start_is) inner.inner.high })
 
 pub index-requires-in-Chain : goal.index-requires-in-Chain
 index-requires-in-Chain t c =
-    let lines = c.requires.stands in
+    let lines = c.requires in
     let b = c.args.built.now in
     let chain = read-chained b lines.compact lines.node lines.from c.args.to lines.at c.index.result.now c.in-Chain.number c.index.ensures c.in-Chain.is in
     let inside = slice_get_within b.chains.items chain.chain.number chain.chain.chain chain.chain.listed in
@@ -81,20 +81,20 @@ index-requires-in-Chain t c =
 
 pub push_way-requires : goal.push_way-requires
 push_way-requires t c =
-    let lines = c.requires.stands in
+    let lines = c.requires in
     let b = c.args.built.now in
     let chain = read-chained b lines.compact lines.node lines.from c.args.to lines.at c.index.result.now c.in-Chain.number c.index.ensures c.in-Chain.is in
     read-few b lines.compact lines.node c.in-Chain.number lines.from c.args.to chain c.index-in-Chain.result.now c.index-in-Chain.ensures
 
 pub push_node-requires-in-Chain : goal.push_node-requires-in-Chain
 push_node-requires-in-Chain t c =
-    let lines = c.requires.stands in
+    let lines = c.requires in
     let b = c.args.built.now in
     let chain = read-chained b lines.compact lines.node lines.from c.args.to lines.at c.index.result.now c.in-Chain.number c.index.ensures c.in-Chain.is in
     let less = c.decreases in
     let last : chain.chain.last ≡ c.args.to - 1 = let e = chain.chain.to_is in omega arith in
     let some = to-some b lines.compact lines.node lines.from c.args.to lines.at in
-    (omega arith, (c.requires.kept, record { compact = chain.end; node = chain.chain.end; from = lines.from; at = subst (IsAt b chain.end chain.chain.end lines.from) last chain.chain.below }))
+    (omega arith, record { compact = chain.end; node = chain.chain.end; from = lines.from; at = subst (IsAt b chain.end chain.chain.end lines.from) last chain.chain.below })
 
 pub returns-in_ok-push_leaf-in-Leaf : goal.returns-in_ok-push_leaf-in-Leaf
 returns-in_ok-push_leaf-in-Leaf t c compact node start is =
@@ -115,7 +115,7 @@ returns-in_ok-middle-in-Inner t c =
     let last : inner.inner.last ≡ c.args.to - 1 = let e = inner.inner.to_is in omega arith in
     let first = c.in_ok-middle-in-Inner.ensures inner.low inner.inner.lower inner.inner.middle (subst (IsAt b inner.low inner.inner.lower inner.inner.middle) last inner.inner.low) in
     let second = done inner.high inner.inner.upper start (subst (IsAt b inner.high inner.inner.upper start) (sym first.start_is) inner.inner.high) in
-    let set : numbers_of c.labels.result.now ≡ inner.set = c.labels.ensures.value ∙ ap (set_by (larger_in b.sets)) (sym inner.id_is) ∙ inner.inner.set_is.set_is in
+    let set : numbers_of c.labels.result.now ≡ inner.set = c.labels.ensures ∙ ap (set_in b.sets) (sym inner.id_is) ∙ inner.inner.set_is.set in
     let line : List ℕ → DueLine = λ s. PlainLine (InnerLine c.in-Inner.cost s) in
     record {
       start_is = second.start_is;

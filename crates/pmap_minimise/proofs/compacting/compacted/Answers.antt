@@ -5,11 +5,8 @@ use Rattle.pmap_cert.specs.Placing.{IsCompactNode}
 use Rattle.pmap_minimise.specs.Built.{IsAt}
 use Rattle.pmap_minimise.proofs.compacting.compacted.Goals as goal
 
-pub push_node-requires-clause-kept : goal.push_node-requires-clause-kept
-push_node-requires-clause-kept c = c.requires.3.kept
-
-pub push_node-requires-clause-stands : goal.push_node-requires-clause-stands
-push_node-requires-clause-stands c =
+pub push_node-requires : goal.push_node-requires
+push_node-requires c =
     let b = c.args.built.now in
     let is = c.requires.3 in
     let same_len : length b.lines.items ≡ c.len.result = omega (arith, c.len.ensures, b.lines.ok) in

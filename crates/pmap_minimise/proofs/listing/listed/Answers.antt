@@ -6,8 +6,8 @@ use Rattle.pmap_minimise.specs.Entered.{AddsEntries}
 use Rattle.pmap_minimise.specs.Numbers.{IsSound}
 use Rattle.pmap_minimise.proofs.listing.listed.Goals as goal
 
-pub push_entries-requires-clause-stands : goal.push_entries-requires-clause-stands
-push_entries-requires-clause-stands c =
+pub push_entries-requires : goal.push_entries-requires
+push_entries-requires c =
     let b = c.args.built.now in
     let is = c.requires.2 in
     let same_len : length b.lines.items ≡ c.len.result = omega (arith, c.len.ensures, b.lines.ok) in

@@ -4,11 +4,8 @@ use Rattle.pmap_minimise.specs.Built.{IsAt}
 use Rattle.pmap_minimise.proofs.Whole.{certified-text}
 use Rattle.pmap_minimise.proofs.minimal.certificate_text.Goals as goal
 
-pub push_text-requires-clause-kept : goal.push_text-requires-clause-kept
-push_text-requires-clause-kept c = c.in_ok-built.ensures.built.kept
-
-pub push_text-requires-clause-stands : goal.push_text-requires-clause-stands
-push_text-requires-clause-stands c =
+pub push_text-requires : goal.push_text-requires
+push_text-requires c =
     let b = c.in_ok-built.built in
     let built = c.in_ok-built.ensures in
     let same_len : length b.lines.items ≡ c.len.result = omega (arith, c.len.ensures, b.lines.ok) in

@@ -1,10 +1,10 @@
 use Rattle.std.proofs.Common.{◌∙◌, ap, arith, subst, sym}
 use Rattle.std.proofs.lemmas.Option.{slice_get_within}
 use Rattle.pmap_cert.specs.Node.{set_of}
-use Rattle.pmap_minimise.specs.Kept.{IsHeldIn, larger_in, set_by}
+use Rattle.pmap_cert.specs.Packed.{HasSet, set_in}
 use Rattle.pmap_minimise.specs.Numbers.{numbers_of}
 use Rattle.pmap_minimise.specs.declared.built.Chain.{Chain}
-use Rattle.pmap_minimise.specs.declared.set_list.SetId.{SetId}
+use Rattle.pmap_cert.specs.declared.pool.SetId.{SetId}
 use Rattle.pmap_minimise.proofs.Compacted.{line-inside, read-chained, read-inner, read-leaf, to-some}
 use Rattle.pmap_minimise.proofs.Opened.{long-set}
 use Rattle.pmap_minimise.proofs.WayEntries.{read-long, read-node}
@@ -12,25 +12,25 @@ use Rattle.pmap_minimise.proofs.opening.set_to.Goals as goal
 
 pub overflow_sub-to : goal.overflow_sub-to
 overflow_sub-to c =
-    let lines = c.requires.stands in
+    let lines = c.requires in
     to-some c.args.built.now lines.compact lines.node lines.from c.args.to lines.at
 
 pub index-requires : goal.index-requires
 index-requires c =
-    let lines = c.requires.stands in
+    let lines = c.requires in
     let inside = line-inside c.args.built.now lines.compact lines.node lines.from c.args.to lines.at in
     omega arith
 
-pub labels-requires-clause-held : goal.labels-requires-clause-held
-labels-requires-clause-held c =
-    let lines = c.requires.stands in
+pub labels-requires : goal.labels-requires
+labels-requires c =
+    let lines = c.requires in
     let b = c.args.built.now in
     let inner = read-inner b lines.compact lines.node lines.from c.args.to lines.at c.index.result.now _ c.in-Inner.set c.index.ensures c.in-Inner.is in
-    subst (λ (id : SetId). IsHeldIn (larger_in b.sets) id) inner.id_is inner.inner.set_is.held
+    subst (λ (id : SetId). HasSet b.sets id) inner.id_is inner.inner.set_is.whole
 
 pub index-requires-in-Chain : goal.index-requires-in-Chain
 index-requires-in-Chain c =
-    let lines = c.requires.stands in
+    let lines = c.requires in
     let b = c.args.built.now in
     let chain = read-chained b lines.compact lines.node lines.from c.args.to lines.at c.index.result.now c.in-Chain.number c.index.ensures c.in-Chain.is in
     let inside = slice_get_within b.chains.items chain.chain.number chain.chain.chain chain.chain.listed in
@@ -46,7 +46,7 @@ pub returns-in-Inner : goal.returns-in-Inner
 returns-in-Inner c compact node start is =
     let b = c.args.built.now in
     let inner = read-inner b compact node start c.args.to is c.index.result.now _ c.in-Inner.set c.index.ensures c.in-Inner.is in
-    c.labels.ensures.value ∙ ap (set_by (larger_in b.sets)) (sym inner.id_is) ∙ inner.inner.set_is.set_is ∙ sym (ap set_of inner.inner.node_is)
+    c.labels.ensures ∙ ap (set_in b.sets) (sym inner.id_is) ∙ inner.inner.set_is.set ∙ sym (ap set_of inner.inner.node_is)
 
 pub returns-in-Chain : goal.returns-in-Chain
 returns-in-Chain c compact node start is =

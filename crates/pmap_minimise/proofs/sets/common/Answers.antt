@@ -1,6 +1,6 @@
-use Rattle.std.proofs.Common.{◌^◌, arith}
+use Rattle.std.proofs.Common.{◌^◌, ◌∙◌, ◌∷◌, [], ap, arith}
 use Rattle.pmap_minimise.specs.Numbers.{has_number, numbers_of}
-use Rattle.pmap_minimise.proofs.Merged.{merged-higher, merged-lower, merging-both, merging-higher, merging-lower, no_items, rising-filter}
+use Rattle.pmap_minimise.proofs.Merged.{merged-higher, merged-lower, merging-both, merging-higher, merging-lower, no_items, numbers-append, rising-filter}
 use Rattle.pmap_minimise.proofs.sets.common.Goals as goal
 
 pub returns-in_default-split_first-clause-common : goal.returns-in_default-split_first-clause-common
@@ -25,7 +25,7 @@ loop-x-preserved-then-y-x c =
 pub loop-x-preserved : goal.loop-x-preserved
 loop-x-preserved c =
     merging-both _ _ _ c.in-Some.x.now c.in-Some-split_first.y.now _ _ _ _ c.in-Some.ensures.cases.0 c.in-Some-split_first.ensures.cases.0 c.loop-x.invariant
-    _ (omega arith) c.in_ok-push.ensures.ok
+    _ (omega arith) (ap numbers_of c.in_ok-push.ensures.ok ∙ numbers-append c.loop-x.set.items (c.in-Some.x.now ∷ []))
 
 pub returns-clause-rising : goal.returns-clause-rising
 returns-clause-rising c =

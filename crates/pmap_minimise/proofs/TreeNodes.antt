@@ -1,0 +1,62 @@
+-- The certificate's node of a trie's tree.
+use Rattle.std.proofs.Common.{◌≡◌, ℕ, suc, ◌+◌, ◌-◌, ◌*◌, ◌^◌, ◌<◌, ◌≤◌, ◌++◌, List, [], Option, Some, None, All, IsSome, length, refl, sym, subst, arith, length-append, true≢false}
+use Rattle.std.proofs.lemmas.List.Elements.{All-head}
+use Rattle.pmap_text.specs.declared.label.LabelId.{LabelId}
+use Rattle.pmap_cert.specs.Node.{Chain, Inner, Leaf, Node, cost_of, set_of}
+use Rattle.label_trie.specs.Kind.{IsOfTree}
+use Rattle.label_trie.specs.Tree.{Fork, HasRoom, IsLabelled, Tip, Tree, leaf_count, leaves_of}
+use Rattle.label_trie.specs.TrieModel.{LeafModel, TrieModel}
+use Rattle.label_trie.proofs.NodeLeaves.{inner_unsettled}
+use Rattle.pmap_minimise.specs.Certified.{IsCertified, IsNodeFor}
+use Rattle.pmap_minimise.specs.Numbers.{IsJoined}
+use Rattle.pmap_minimise.proofs.Joined.{all-left, all-right, joined-certified, leaf-certified}
+use Rattle.pmap_minimise.proofs.Texts.{exact-cost}
+
+-- the node of a tree costs less than its leaves
+joined-cost : (low high node : Node) → IsJoined low high node → cost_of node ≤ cost_of low + cost_of high + 1
+joined-cost low high (Leaf id) joined = absurd joined
+joined-cost low high (Chain cost set bits side end) joined = absurd joined
+joined-cost low high (Inner cost set left right) joined = exact-cost (cost_of low) (cost_of high) (set_of low) (set_of high) cost set joined.2
+
+pub node-cost : (tree : Tree) (node : Node) → IsNodeFor tree node → cost_of node < leaf_count tree
+node-cost (Tip None) node is = absurd is
+node-cost (Tip (Some id)) node is = subst (λ (n : Node). cost_of n < 1) (sym is) (omega arith)
+node-cost (Fork low high) node is =
+    let a = node-cost low is.low is.low_is in
+    let b = node-cost high is.high is.high_is in
+    let c = joined-cost is.low is.high node is.joined in
+    omega arith
+
+-- each leaf has a label
+abbrev HasLabel : LeafModel → Type 0
+HasLabel leaf = IsSome leaf.label
+
+tip-labelled : (label : Option LabelId) (n q : ℕ) → All HasLabel (leaves_of (Tip label) n q) → IsLabelled (Tip label)
+tip-labelled (Some id) n q all = refl
+tip-labelled None n q all = absurd (true≢false (sym (All-head HasLabel (record { bits = n; number = q; label = None }) [] all)))
+
+tree-labelled : (t : Tree) (n q : ℕ) → All HasLabel (leaves_of t n q) → IsLabelled t
+tree-labelled (Tip label) n q all = tip-labelled label n q all
+tree-labelled (Fork low high) n q all = (
+  tree-labelled low (suc n) (2 * q) (all-left HasLabel (leaves_of (Fork low high) n q) (leaves_of low (suc n) (2 * q)) (leaves_of high (suc n) (2 * q + 1)) refl all),
+  tree-labelled high (suc n) (2 * q + 1) (all-right HasLabel (leaves_of (Fork low high) n q) (leaves_of low (suc n) (2 * q)) (leaves_of high (suc n) (2 * q + 1)) refl all),
+)
+
+pub trie-labelled : (t : TrieModel) (of : IsOfTree t) → All HasLabel t.leaves → IsLabelled of.tree
+trie-labelled t of labelled = tree-labelled of.tree 0 0 (subst (λ (l : List LeafModel). All HasLabel l) of.leaves labelled)
+
+-- the node of a trie's tree is the certificate's
+pub tree-certified : (t : Tree) (n q h : ℕ) (node : Node) → HasRoom t h → IsNodeFor t node → length (leaves_of t n q) < 2 ^ 32
+    → IsCertified n q h (leaves_of t n q) node
+tree-certified (Tip None) n q h node room is few = absurd is
+tree-certified (Tip (Some id)) n q h node room is few = subst (λ (k : Node). IsCertified n q h (leaves_of (Tip (Some id)) n q) k) (sym is) (leaf-certified n q h id)
+tree-certified (Fork low high) n q h node room is few =
+    let some = room.0 in
+    let low_leaves = leaves_of low (suc n) (2 * q) in
+    let high_leaves = leaves_of high (suc n) (2 * q + 1) in
+    let count = length-append low_leaves high_leaves in
+    let one : suc (h - 1) ≡ h = omega arith in
+    subst (λ (k : ℕ). IsCertified n q k (low_leaves ++ high_leaves) node) one
+    (joined-certified n q (h - 1) low_leaves high_leaves is.low is.high (λ m undivided. inner_unsettled m low high n q undivided) few
+    (tree-certified low (suc n) (2 * q) (h - 1) is.low room.1 is.low_is (omega arith))
+    (tree-certified high (suc n) (2 * q + 1) (h - 1) is.high room.2 is.high_is (omega arith)) node is.joined)

@@ -1,0 +1,23 @@
+use Rattle.std.proofs.Common.{suc, arith}
+use Rattle.pmap_minimise.proofs.Areas.{step-by}
+use Rattle.pmap_minimise.proofs.area.+stepwise_end.Goals as goal
+
+pub stepwise_end-requires : goal.stepwise_end-requires
+stepwise_end-requires t c =
+    let step = step-by c.args.stretches.now c.args.side.0 c.args.area.now c.in-Some.chosen c.in-Some.ensures in
+    let smaller = step.smaller in
+    let less = c.decreases in
+    (omega arith, step.area)
+
+pub returns-in-Some : goal.returns-in-Some
+returns-in-Some t c =
+    let step = step-by c.args.stretches.now c.args.side.0 c.args.area.now c.in-Some.chosen c.in-Some.ensures in
+    let len = step.len in
+    let len' = c.stepwise_end.ensures.len in
+    record {
+      count = suc c.stepwise_end.ensures.count;
+      run = record { chosen = c.in-Some.chosen; step = c.in-Some.ensures; rest = c.stepwise_end.ensures.run };
+      stop = c.stepwise_end.ensures.stop;
+      area = c.stepwise_end.ensures.area;
+      len = omega arith;
+    }
