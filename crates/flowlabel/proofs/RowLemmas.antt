@@ -1,49 +1,80 @@
--- The text of rows, one by one.
-use Rattle.std.proofs.Common.{◌≡◌, ◌∙◌, ◌+◌, ◌<◌, ℕ, List, [], ◌∷◌, ◌++◌, Option, Some, None, false, length, map, take, get_or, refl, sym, ap}
+-- The lines of rows, one by one.
+use Rattle.std.proofs.Common.{◌≡◌, ◌∙◌, ◌+◌, ◌<◌, ℕ, List, [], ◌∷◌, ◌++◌, Option, Some, None, is_some, length, map, take, get_or, refl, sym, ap}
 use Rattle.std.specs.Prelude.{option_map}
+use Rattle.std.specs.Borrow.{Bor}
 use Rattle.std.specs.List.{flat_map, zip}
 use Rattle.std.proofs.lemmas.Grind.{flat_map-append}
 use Rattle.std.proofs.lemmas.List.{append-nil, append_assoc, map-append, map_more}
+use Rattle.std.proofs.lemmas.List.Elements.{filter-append}
+use Rattle.prefix_keys.specs.declared.version.Version.{Version}
+use Rattle.pmap_text.specs.MapModel.{Label}
+use Rattle.ipfix_read.specs.Message.{MessageView}
+use Rattle.ipfix_read.specs.declared.record.Record.{Record}
+use Rattle.ipfix_read.specs.declared.set.Set.{Set}
+use Rattle.flow_rows.specs.Content.{records_in, records_of, rows_of, rows_of_messages, sets_of}
+use Rattle.flow_rows.specs.Elements.{rows_of_record}
+use Rattle.flow_filter.specs.Condition.{Condition}
+use Rattle.flow_filter.specs.Passing.{passes, passing, passing_rows}
 use Rattle.flow_rows.specs.Row.{RowView, row_view}
 use Rattle.flow_rows.specs.declared.row.Row.{Row}
-use Rattle.pmap_print.specs.Rows.{LabelTexts, label_fields, label_titles, row_fields, row_line, row_titles}
-use Rattle.pmap_print.specs.Table.{Line, line_text}
-use Rattle.label_lookup.specs.Labelling.{Labelling}
-use Rattle.flowlabel.specs.Output.{labelled_rows_text, row_labels}
+use Rattle.pmap_print.specs.declared.labels.RowLabels.{RowLabels}
+use Rattle.pmap_print.specs.Rows.{LabelTexts, label_fields, label_texts, label_titles, row_fields, row_line, row_titles, title_line}
+use Rattle.pmap_print.specs.Table.{Line}
+use Rattle.label_lookup.specs.Labelling.{Labelling, labelling_lent}
+use Rattle.flowlabel.specs.Output.{labelled_row_lines, row_labels}
 
 zip_more : {X Y : Type 0} (f : X → Y) (xs : List X) (x : X) → zip (xs ++ x ∷ []) (map f (xs ++ x ∷ [])) ≡ zip xs (map f xs) ++ (x, f x) ∷ []
 zip_more f [] x = refl
 zip_more f (y ∷ ys) x = ap (λ (pairs : List (_ × _)). (y, f y) ∷ pairs) (zip_more f ys x)
 
-lines_more : (lines : List Line) (line : Line) → flat_map line_text (lines ++ line ∷ []) ≡ flat_map line_text lines ++ line_text line
-lines_more lines line =
-    flat_map-append line_text lines (line ∷ []) ∙ ap (λ (text : List ℕ). flat_map line_text lines ++ text) (append-nil (line_text line))
-
--- the text of one row more
-text_more : (labels : Option Labelling) (shown : List RowView) (row : RowView)
-    → labelled_rows_text labels false (shown ++ row ∷ [])
-    ≡ labelled_rows_text labels false shown ++ line_text (row_line row (option_map (λ l. row_labels l row) labels))
-text_more None shown row =
-    ap (λ (lines : List Line). flat_map line_text (row_titles ∷ lines)) (map-append row_fields shown (row ∷ []))
-    ∙ lines_more (row_titles ∷ map row_fields shown) (row_fields row)
-text_more (Some l) shown row =
-    let titles : Line = row_titles ++ label_titles in
+-- the lines of one row more
+lines_more : (labels : Option Labelling) (shown : List RowView) (row : RowView)
+    → labelled_row_lines labels (shown ++ row ∷ [])
+    ≡ labelled_row_lines labels shown ++ row_line row (option_map (λ l. row_labels l row) labels) ∷ []
+lines_more None shown row = ap (λ (lines : List Line). row_titles ∷ lines) (map-append row_fields shown (row ∷ []))
+lines_more (Some l) shown row =
     let fields : RowView × LabelTexts → Line = λ p. row_fields p.0 ++ label_fields p.1 in
-    let pairs : List (RowView × LabelTexts) = zip shown (map (row_labels l) shown) in
-    ap (λ (ps : List (RowView × LabelTexts)). flat_map line_text (titles ∷ map fields ps)) (zip_more (row_labels l) shown row)
-    ∙ ap (λ (lines : List Line). flat_map line_text (titles ∷ lines)) (map-append fields pairs ((row, row_labels l row) ∷ []))
-    ∙ lines_more (titles ∷ map fields pairs) (fields (row, row_labels l row))
+    ap (λ (ps : List (RowView × LabelTexts)). (row_titles ++ label_titles) ∷ map fields ps) (zip_more (row_labels l) shown row)
+    ∙ ap (λ (lines : List Line). (row_titles ++ label_titles) ∷ lines) (map-append fields (zip shown (map (row_labels l) shown)) ((row, row_labels l row) ∷ []))
 
--- behind other rows, the text of the rows up to one more
-pub rows_more : (labels : Option Labelling) (earlier : List RowView) (rows : List Row) (i : ℕ) (row : Row) (own : Option LabelTexts) (old new : List ℕ)
+-- after other rows, the lines of the rows up to one more
+pub rows_more : (labels : Option Labelling) (earlier : List RowView) (rows : List Row) (i : ℕ) (row : Row) (own : Option LabelTexts)
     → row ≡ get_or rows i row → i < length rows → own ≡ option_map (λ l. row_labels l (row_view row)) labels
-    → new ≡ old ++ line_text (row_line (row_view row) own)
-    → old ≡ labelled_rows_text labels false (earlier ++ map row_view (take i rows))
-    → new ≡ labelled_rows_text labels false (earlier ++ map row_view (take (i + 1) rows))
-rows_more labels earlier rows i row own old new is within same added so_far =
+    → labelled_row_lines labels (earlier ++ map row_view (take i rows)) ++ row_line (row_view row) own ∷ []
+    ≡ labelled_row_lines labels (earlier ++ map row_view (take (i + 1) rows))
+rows_more labels earlier rows i row own is within same =
     let before = map row_view (take i rows) in
-    added ∙ (λ j. so_far j ++ line_text (row_line (row_view row) (same j)))
-    ∙ sym (text_more labels (earlier ++ before) (row_view row))
-    ∙ ap (labelled_rows_text labels false)
+    (λ j. labelled_row_lines labels (earlier ++ before) ++ row_line (row_view row) (same j) ∷ [])
+    ∙ sym (lines_more labels (earlier ++ before) (row_view row))
+    ∙ ap (labelled_row_lines labels)
     (append_assoc earlier before (row_view row ∷ [])
     ∙ ap (λ (xs : List RowView). earlier ++ xs) (ap (λ (r : Row). before ++ row_view r ∷ []) is ∙ sym (map_more row_view rows i row within)))
+
+-- rows have labels just when there is a labelling
+pub same_labelled : (labels : Option Labelling) (own : Option RowLabels) (row : RowView)
+    → option_map label_texts own ≡ option_map (λ l. row_labels l row) labels → is_some own ≡ is_some labels
+same_labelled None None row same = refl
+same_labelled None (Some l) row same = ap is_some same
+same_labelled (Some l) None row same = ap is_some same
+same_labelled (Some l) (Some own) row same = refl
+
+-- no rows have the header alone, with labels where there is a labelling
+pub no_rows : (labels : Option Labelling) → title_line (is_some labels) ∷ [] ≡ labelled_row_lines labels []
+no_rows None = refl
+no_rows (Some l) = refl
+
+pub is_some-lent : {L : Type 0} (version : L → Version) (label : L → ℕ → Option Label) (labels : Option (Bor L))
+    → is_some labels ≡ is_some (labelling_lent version label labels)
+is_some-lent version label None = refl
+is_some-lent version label (Some l) = refl
+
+-- the rows of one message more that pass
+pub passing_more : (condition : Condition) (labels : Option Labelling) (messages : List MessageView) (message : MessageView)
+    → passing_rows condition labels (messages ++ message ∷ [])
+    ≡ passing_rows condition labels messages ++ passing condition labels (rows_of message.sets)
+passing_more condition labels messages message =
+    ap (λ (sets : List Set). passing condition labels (rows_of sets))
+    (flat_map-append (λ (m : MessageView). m.sets) messages (message ∷ []) ∙ ap (λ (sets : List Set). sets_of messages ++ sets) (append-nil message.sets))
+    ∙ ap (λ (records : List Record). passing condition labels (flat_map rows_of_record records)) (flat_map-append records_in (sets_of messages) message.sets)
+    ∙ ap (passing condition labels) (flat_map-append rows_of_record (records_of (sets_of messages)) (records_of message.sets))
+    ∙ filter-append (passes condition labels) (rows_of_messages messages) (rows_of message.sets)

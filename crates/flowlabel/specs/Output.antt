@@ -25,8 +25,9 @@ use Rattle.pmap_print.specs.Groups.{groups_text}
 use Rattle.pmap_print.specs.Info.{info_text}
 use Rattle.pmap_print.specs.List.{list_text}
 use Rattle.pmap_print.specs.ReadBack.{labels_of}
-use Rattle.pmap_print.specs.Rows.{LabelTexts, rows_text}
+use Rattle.pmap_print.specs.Rows.{LabelTexts, row_lines, rows_text}
 use Rattle.pmap_print.specs.Runs.{IsRunsText}
+use Rattle.pmap_print.specs.Table.{Line}
 use Rattle.label_lookup.specs.Labelling.{Labelling, label_by, label_where, labelling_of_list, labelling_of_map}
 use Rattle.flowlabel.specs.declared.bytes_fault.BytesFault.{BytesFault}
 use Rattle.flowlabel.specs.declared.bytes_fault.BytesFault.TheVariants.{Map as InMap, List as InList, Flows as InFlows, Certificate as InCertificate, Check as InCheck}
@@ -36,7 +37,7 @@ use Rattle.flowlabel.specs.Request.{FromList, FromMap, LabelSource, Request, lab
 
 -- The output of a request: the text that it prints, or the first fault of its files' bytes.
 
--- the bytes of the files that a command reads; an input that it doesn't read has none
+-- the bytes of the files that a command reads; an input that it doesn't read has no bytes
 pub record FileTexts : Type 0 where
   pub map : List ℕ
   pub list : List ℕ
@@ -78,7 +79,7 @@ abbrev pub LabelsThen : LabelSource → (Labelling → Outcome → Type 0) → F
 LabelsThen (FromMap file) rest texts = MapThen (λ m. rest (labelling_of_map m)) texts.map
 LabelsThen (FromList file) rest texts = ListThen (λ l. rest (labelling_of_list l)) texts.list
 
--- the same where there may be no source: then there is no labelling
+-- what follows for the labelling of a source, or without a labelling if there is no source
 abbrev pub SourceThen : Option LabelSource → (Option Labelling → Outcome → Type 0) → FileTexts → Outcome → Type 0
 SourceThen None rest texts = rest None
 SourceThen (Some source) rest texts = LabelsThen source (λ labels. rest (Some labels)) texts
@@ -87,11 +88,11 @@ SourceThen (Some source) rest texts = LabelsThen source (λ labels. rest (Some l
 abbrev pub line_of : List ℕ → List ℕ
 line_of text = text ++ 10 ∷ []
 
--- the line of the label that a labelling gives an address: the line feed alone where there is none
+-- the line of the label that a labelling gives an address: the line feed alone if there is none
 abbrev pub label_text : AddressOf → Labelling → List ℕ
 label_text address labels = line_of (unwrap_or (label_by labels address) [])
 
--- the text is that of the runs of a labelling's addresses
+-- the text of the runs of a labelling
 abbrev pub HasRunsText : Labelling → List ℕ → Type 0
 HasRunsText labels text = IsRunsText labels.version labels.label text
 
@@ -118,11 +119,14 @@ PrintsMinimal printed m outcome =
 abbrev pub row_labels : Labelling → RowView → LabelTexts
 row_labels l row = (label_by l (row.version, row.src), label_by l (row.version, row.dst))
 
--- the text of rows, with the labels of their addresses where there is a labelling
+-- the lines of rows, with the labels of their addresses where there is a labelling, and the text of these lines
+abbrev pub labelled_row_lines : Option Labelling → List RowView → List Line
+labelled_row_lines labels shown = row_lines shown (option_map (λ l. map (row_labels l) shown) labels)
+
 abbrev pub labelled_rows_text : Option Labelling → Bool → List RowView → List ℕ
 labelled_rows_text labels columns shown = rows_text shown (option_map (λ l. map (row_labels l) shown) labels) columns
 
--- that of the rows that meet a condition
+-- the text of the rows that meet a condition
 abbrev pub report_of_rows : Condition → Bool → Option Labelling → List MessageView → List ℕ
 report_of_rows condition columns labels messages = labelled_rows_text labels columns (passing_rows condition labels messages)
 
@@ -136,7 +140,7 @@ report_of_groups fields condition sorted columns labels messages =
 abbrev pub ReportsOf : (Option Labelling → List MessageView → List ℕ) → Option Labelling → List ℕ → Outcome → Type 0
 ReportsOf text labels = FlowsThen (λ messages. Prints (text labels messages))
 
--- the same under the labels of a source, or without one
+-- the report on a File under the labels of a source, or without one
 abbrev pub ReportsThen : (Option Labelling → List MessageView → List ℕ) → Option LabelSource → FileTexts → Outcome → Type 0
 ReportsThen text source texts =
     SourceThen source (λ labels. ReportsOf text labels texts.flows) texts
@@ -145,14 +149,14 @@ ReportsThen text source texts =
 abbrev pub minimal_text : ℕ → List ℕ
 minimal_text count = codes "minimal " ++ decimal count ++ codes "\n"
 
--- what comes of a map, a list and a certificate: the number of the list's entries where the certificate is accepted for the
--- two, else the first fault
+-- the outcome of a map, a list and a certificate: the number of the list's entries if the certificate is accepted for
+-- the two, otherwise the first fault
 abbrev pub Checks : MapModel → ListModel → CertificateModel → Outcome → Type 0
 Checks m l c outcome =
     (IsAccepted m l c × Prints (minimal_text (length l.prefixes)) outcome)
     ⊎ ((fault : CheckFault) × (first_fault m l c ≡ Some fault) × (outcome ≡ Err (InCheck fault)))
 
--- the same over the texts of the three
+-- the outcome of the texts of the three
 abbrev pub ChecksThen : FileTexts → Outcome → Type 0
 ChecksThen texts = MapThen (λ m. ListThen (λ l. CertificateThen (Checks m l) texts.certificate) texts.list) texts.map
 
@@ -175,7 +179,7 @@ OneOutput = (request : Request) (texts : FileTexts) (outcome other : Outcome) �
 abbrev pub HasOutput : Type 0
 HasOutput = (request : Request) (texts : FileTexts) → (outcome : Outcome) × IsOutput request texts outcome
 
--- the request with the labels of this source, where it has labels
+-- the request with the labels of this source, if it has labels
 abbrev pub under : LabelSource → Request → Request
 under source (label old address) = label source address
 under source (rows (Some old) condition columns flows) = rows (Some source) condition columns flows
@@ -190,14 +194,15 @@ TakesEither (check map list certificate) = ⊥
 TakesEither (recert certificate) = ⊥
 TakesEither request = Unit {0}
 
--- Over one File, a request that takes labels from either has the outputs under a map text that it has under each list text
--- whose list labels every address as the map does
+-- Over one File, a request that takes labels from either has the outputs under a map text that it has under each list
+-- text whose list labels every address as the map does
 abbrev pub SameUnderEquivalents : Type 0
 SameUnderEquivalents = (request : Request) (file other : List ℕ) (texts others : FileTexts) (m : MapModel) (l : ListModel) (outcome : Outcome)
     → TakesEither request → ReadsMap texts.map m → ReadsList others.list l → IsEquivalent l m → texts.flows ≡ others.flows
     → IsOutput (under (FromMap file) request) texts outcome ↔ IsOutput (under (FromList other) request) others outcome
 
--- the text is the number of entries of the list, which labels every address as the map does, and no list that does so has fewer
+-- the text is the number of entries of the list, which labels every address as the map does, and no list that does so
+-- has fewer
 abbrev pub IsCheckedLeast : FileTexts → List ℕ → Type 0
 IsCheckedLeast texts out = (m : MapModel) × (l : ListModel) × ReadsMap texts.map m × ReadsList texts.list l
     × IsEquivalent l m × IsLeast m l × (out ≡ minimal_text (length l.prefixes))
@@ -211,8 +216,8 @@ CheckIsEnough = (map list certificate : List ℕ) (texts : FileTexts) (out : Lis
 abbrev pub FitsText : ListModel → Type 0
 FitsText l = (length l.prefixes ≤ mapping_limit) × (length (labels_of l.prefixes) ≤ label_limit)
 
--- Over a map text, the printed list of its minimal pair, within the limits of a text, and the printed certificate, `check`
--- prints the number of the list's entries
+-- Over a map text, the printed list of its minimal pair, within the limits of a text, and the printed certificate,
+-- `check` prints the number of the list's entries
 abbrev pub CheckAcceptsMinimal : Type 0
 CheckAcceptsMinimal = (map list certificate : List ℕ) (texts : FileTexts) (m : MapModel) (l : ListModel) (c : CertificateModel)
     → ReadsMap texts.map m → IsMinimalPair m l c → HasTextForm c → FitsText l
@@ -226,8 +231,8 @@ CheckAcceptsCompact = (map list certificate : List ℕ) (texts : FileTexts) (m :
     → texts.list ≡ list_text l → texts.certificate ≡ certificate_text (compact c)
     → IsOutput (check map list certificate) texts (Ok (minimal_text (length l.prefixes)))
 
--- What `recert` prints of a certificate's text is the text of a certificate with no more node lines, of which `recert` prints the
--- same again. And where `check` prints the number of a list's entries by the one text, it does so by the other.
+-- What `recert` prints of a certificate's text is the text of a certificate with no more node lines, which `recert`
+-- prints unchanged. And if `check` prints the number of a list's entries by one of the texts, it does so by the other.
 pub record IsAsGood (before after : List ℕ) : Type 0 where
   pub old : CertificateModel
   pub new : CertificateModel

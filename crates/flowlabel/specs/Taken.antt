@@ -1,41 +1,42 @@
-use Rattle.std.specs.Prelude.{◌≡◌, ◌≤◌, ◌*◌, ◌⊎◌, ℕ, Bool, true, false, List, [], Option, IfSome, length, map, option_map}
+use Rattle.std.specs.Prelude.{◌≡◌, ◌≤◌, ◌*◌, ◌⊎◌, ℕ, Bool, true, false, List, [], Option, IfSome, is_some, length}
 use Rattle.std.specs.Borrow.{Bor}
 use Rattle.ipfix_read.specs.Fault.{is_of_calls, is_of_reader, out_of_memory}
 use Rattle.ipfix_read.specs.File.{HasFileFault, ReadsFile}
 use Rattle.ipfix_read.specs.Message.{MessageView}
 use Rattle.ipfix_read.specs.declared.fault.ReadFault.{ReadFault}
-use Rattle.flow_rows.specs.Row.{row_view}
-use Rattle.flow_rows.specs.declared.row.Row.{Row}
 use Rattle.flow_filter.specs.Condition.{Condition}
 use Rattle.flow_filter.specs.Passing.{passing_rows}
 use Rattle.flow_uniq.specs.Groups.{GroupsModel, groups_of, record_count}
 use Rattle.flow_uniq.specs.declared.field.KeyField.{KeyField}
 use Rattle.label_lookup.specs.Labelling.{Labelling, label_where}
 use Rattle.flowlabel.specs.Faults.{IsInFile}
-use Rattle.flowlabel.specs.Output.{report_of_rows}
+use Rattle.pmap_print.specs.Columns.{IsTable, has_columns}
+use Rattle.pmap_print.specs.Parts.{column_count}
+use Rattle.flowlabel.specs.Output.{labelled_row_lines}
 use Rattle.flowlabel.specs.declared.bytes_fault.BytesFault.TheVariants.{Flows}
 use Rattle.flowlabel.specs.declared.fault.RunFault.{RunFault}
 use Rattle.flowlabel.specs.declared.fault.RunFault.TheVariants.{CannotRead}
 use Rattle.flowlabel.specs.declared.run.rows.RowsTaken.{RowsTaken}
-use Rattle.flowlabel.specs.declared.run.rows.RowsTaken.TheVariants.{Lines, Kept}
 
 -- What a report has of the messages of a File that it has taken, for the program's own parts.
 
--- what is had is that of some messages, which are all those of the File that the reader gave, where it tells its bytes
+-- what is had is the report of some messages, which are all those of the File that the reader gave, if it reports its
+-- bytes
 abbrev pub HasTaken : {T : Type 0} → (List MessageView → T → Type 0) → Option (List ℕ) → T → Type 0
 HasTaken is_of given taken =
     (messages : List MessageView) × is_of messages taken × IfSome given (λ bytes. ReadsFile [] 0 bytes messages)
 
--- a fault of the calls for messages: memory ran out, the reader failed, or it is the first of the bytes that the reader gave
+-- a fault of the calls for messages: memory ran out, the reader failed, or it is the first of the bytes that the reader
+-- gave
 abbrev pub IsFaultOfMessages : Option (List ℕ) → ReadFault → Type 0
 IsFaultOfMessages given fault =
     (fault ≡ out_of_memory) ⊎ ((is_of_reader fault.kind ≡ true) ⊎ IfSome given (λ bytes. HasFileFault [] 0 0 bytes fault))
 
--- it is no answer that a call before had a fault, of a reader that doesn't tell its bytes neither
+-- the fault doesn't say that an earlier call had a fault, even if the reader doesn't report its bytes
 abbrev pub IsFirstAnswer : ReadFault → Type 0
 IsFirstAnswer fault = (is_of_reader fault.kind ≡ true) ⊎ (is_of_calls fault.kind ≡ false)
 
--- the fault of a run that it is: a file that can't be read, or a fault of its bytes, or want of memory
+-- the fault of a run: a file that can't be read, a fault of its bytes, or out of memory
 abbrev pub IsFaultOfReading : Bor (List ℕ) → ReadFault → RunFault → Type 0
 IsFaultOfReading file fault result =
     ((is_of_reader fault.kind ≡ true) × (result ≡ CannotRead file))
@@ -47,7 +48,7 @@ pub record HasGroups (keys : List KeyField) (condition : Condition) (labels : Op
   pub count : record_count had.groups ≤ 131070 * length messages
   pub groups : had.groups ≡ groups_of keys (label_where labels) (passing_rows condition labels messages)
 
--- the text of the rows that pass, or these rows where their lines wait for the widths of the columns
-abbrev pub HasRows : Condition → Bool → Option Labelling → List MessageView → RowsTaken → Type 0
-HasRows condition columns labels messages (Lines taken) = (columns ≡ false) × (taken.text.items ≡ report_of_rows condition false labels messages)
-HasRows condition columns labels messages (Kept rows) = (columns ≡ true) × (map row_view rows.items ≡ passing_rows condition labels messages)
+-- the table of the rows that pass
+pub record HasRows (condition : Condition) (columns : Bool) (labels : Option Labelling) (messages : List MessageView) (taken : RowsTaken) : Type 0 where
+  pub padded : has_columns taken.table ≡ columns
+  pub lines : IsTable (column_count (is_some labels)) (labelled_row_lines labels (passing_rows condition labels messages)) taken.table

@@ -173,7 +173,7 @@ module _ (l : ListModel) (can : CanBeReadAgain l) where
         },
       )
 
--- where the list labels each address as a map does, so do both readings of its text
+-- if the list labels each address as a map does, so do both readings of its text
 pub map-equivalent : (l : ListModel) (m : MapModel) → CanBeReadAgain l → IsEquivalent l m
     → (again : MapModel) × ReadsMap (list_text l) again × (again.version ≡ m.version)
     × ((a : ℕ) → a < 2 ^ width_of m.version → map_label again a ≡ map_label m a)

@@ -1,4 +1,4 @@
--- The label texts of a minimal pair's list are no more than those of the map's table.
+-- A minimal pair's list has no more label texts than the map's table.
 use Rattle.std.proofs.Common.{◌≡◌, ◌≤◌, ◌⊎◌, ◌∙◌, inl, inr, Bool, true, false, cond, List, [], ◌∷◌, ◌++◌, fold, length, map, refl, sym, ap, subst, bytes_eq}
 use Rattle.std.specs.Cmp.{IsEquivalence}
 use Rattle.std.specs.List.{AllByRecursion, IsDistinct}
@@ -16,7 +16,7 @@ use Rattle.pmap_text.specs.ListModel.{ListModel, Prefix}
 use Rattle.pmap_text.specs.MapModel.{Label, MapModel}
 use Rattle.pmap_print.specs.ReadBack.{labels_of}
 
--- texts are equal where they have the same bytes
+-- texts are equal if they have the same bytes
 same-flips : (x y : Label) → bytes_eq x y ≡ bytes_eq y x
 same-flips x y = by (bytes_eq x y) refl
   where

@@ -1,4 +1,4 @@
--- Where entries that enclose others come first, the last statement that covers an address is the longest match.
+-- If entries that enclose others come first, the last statement that covers an address is the longest match.
 use Rattle.std.proofs.Common.{◌≡◌, ℕ, ◌-◌, ◌^◌, ◌<◌, ◌≤◌, ◌⊎◌, ◌∙◌, inl, inr, Bool, true, false, List, [], ◌∷◌, All, Contains, Some, None, map, nat_le, refl, sym, ap, subst, arith, pow_pos}
 use Rattle.std.proofs.lemmas.Bool.{and_from, and_parts, both_ways, cases_lt, le-leb, leb-true}
 use Rattle.std.proofs.lemmas.List.Elements.{All-cons, All-contains, All-from_recursion, All-head, All-nil, All-tail, All-weaker, Contains-append_right}
@@ -14,7 +14,7 @@ use Rattle.pmap_print.specs.ReadBack.{mapping_of_prefix}
 use Rattle.pmap_print.proofs.Order.{before-start}
 
 module _ (W a : ℕ) where
-  -- the statement of an entry covers the address where the entry's block does
+  -- the statement of an entry covers the address if the entry's block does
   block-start : (p : Prefix) → HasBlock W p → first_of W p.bits (block_number W p.bits p.start) ≡ p.start
   block-start p has = whole p.start (2 ^ (W - p.bits)) (pow_pos (W - p.bits)) has.no_host_bit
 
@@ -33,7 +33,7 @@ module _ (W a : ℕ) where
       and_from (nat_le p.start a) (nat_le a (last_of W p.bits (block_number W p.bits p.start))) (le-leb p.start a low)
       (le-leb a (last_of W p.bits (block_number W p.bits p.start)) (address-last W p.bits (block_number W p.bits p.start) a (sym is.number)))
 
-  -- of two entries that cover the address, that which stands first is shorter
+  -- of two entries that cover the address, the first one is shorter
   first-shorter : (p r : Prefix) → HasBlock W p → HasBlock W r → is_before p r ≡ true → CoversAddress W a p → CoversAddress W a r → p.bits < r.bits
   first-shorter p r hp hr before cp cr = by (cases_lt p.bits r.bits) (before-start p r before)
     where

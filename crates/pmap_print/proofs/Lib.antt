@@ -1,5 +1,3 @@
-pub mod Filled
-pub mod Lines
 pub mod Stretches
 pub mod Order
 pub mod WordLines
@@ -12,3 +10,8 @@ pub mod FewLabels
 pub mod MinimalLists
 pub mod GroupLines
 pub mod GroupText
+pub mod Spreading
+pub mod NotedLines
+pub mod PaddedLines
+pub mod TableLines
+pub mod RowLines

@@ -27,7 +27,7 @@ IsText x = IsTrue (is_label x)
 abbrev IsDeclared : ℕ × Label → Type 0
 IsDeclared d = IsText d.1
 
--- of some lines: the name, the declared texts and those of the table have the form of labels
+-- of some lines: the name, the declared texts and those of the table are labels
 record IsSound (earlier : Earlier) : Type 0 where
   pub name : ForSome earlier.name IsText
   pub declared : All IsDeclared earlier.declared
@@ -43,7 +43,7 @@ Says (Defaults label) = IsText label
 Says (Maps version mapping) = IsText mapping.label
 Says (Lists version prefix) = IsText prefix.label
 
--- what holds of a step's answer holds of what is made of it, and of a choice where it holds of both
+-- a property of a step's result carries over to what follows from it, and a property of both cases to a choice
 onward : {A B E : Type 0} (P : A → Type 0) (Q : B → Type 0) (r : Result A E) (f : A → Result B E) → IfOk r P
     → ((x : A) → P x → IfOk (f x) Q) → IfOk (r >>= f) Q
 onward P Q (Ok x) f is each = each x is
@@ -62,7 +62,7 @@ label_of-text [] = tt
 label_of-text (b ∷ bs) = either IsText (is_label (b ∷ bs)) (Ok (b ∷ bs)) _ (λ is. is) tt
 
 module _ (earlier : Earlier) (declared : All IsDeclared earlier.declared) where
-  -- the text that a label stands for
+  -- the text that a label means
   meant-text : (label : Label) → IsText label → IsText (meant_text earlier.declared label)
   meant-text label is = by (label_number label)
     where

@@ -1,4 +1,4 @@
--- The order of a printed list: it is the one order in which each entry stands before all that follow it.
+-- The order of a printed list: it is the one order in which each entry precedes all that follow it.
 use Rattle.std.proofs.Common.{◌≡◌, ℕ, suc, ◌<◌, ◌≤◌, ◌==◌, ◌&&◌, ◌⊎◌, inl, inr, Bool, true, false, cond, List, [], ◌∷◌, Contains, map, nat_lt, refl, sym, ◌∙◌, ap, subst, arith}
 use Rattle.std.specs.List.{AllByRecursion, IsDistinct}
 use Rattle.std.specs.List.Sorted.{IsNonDecreasingBy, IsPermutation}
@@ -20,7 +20,7 @@ use Rattle.pmap_text.proofs.Finds.{Contains-cases, Contains-first, Contains-late
 use Rattle.pmap_print.specs.Order.{in_order, placed, starts_alike}
 use Rattle.pmap_print.specs.Sorting.{place_of}
 
--- what it is for one entry to stand before another
+-- one entry precedes another
 Before : Prefix → Prefix → Type 0
 Before p r = (p.start < r.start) ⊎ ((p.start ≡ r.start) × (p.bits < r.bits))
 
@@ -68,7 +68,7 @@ before-trans p r s a b = before-from p s (trans-parts p r s (before-is p r a) (b
 before-once : (p r : Prefix) → is_before p r ≡ true → is_before r p ≡ true → ⊥
 before-once p r a b = never-parts p r (before-is p r a) (before-is r p b)
 
--- of two entries with other starts or lengths one stands before the other
+-- of two entries with different starts or lengths one precedes the other
 other-parts : (p r : Prefix) → (p.start < r.start) ⊎ (r.start ≤ p.start) → (r.start < p.start) ⊎ (p.start ≤ r.start)
     → (p.bits < r.bits) ⊎ (r.bits ≤ p.bits) → (r.bits < p.bits) ⊎ (p.bits ≤ r.bits) → starts_alike p r ≡ false → Before p r ⊎ Before r p
 unfolding Before
@@ -89,7 +89,7 @@ before-other p r not ne =
     or-other p r not
     (other-parts p r (cases_lt p.start r.start) (cases_lt r.start p.start) (cases_lt p.bits r.bits) (cases_lt r.bits p.bits) ne)
 
--- two lists in order that have the same entries are one list
+-- two lists in order with the same entries are equal
 after-first : (p r : Prefix) (ps : List Prefix) → IsInOrder (p ∷ ps) → Contains ps r → is_before p r ≡ true
 after-first p r ps ordered in' =
     All-contains (λ s. is_before p s ≡ true) ps r (All-from_recursion (λ s. is_before p s ≡ true) ps ordered.0) in'

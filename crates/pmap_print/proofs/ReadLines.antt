@@ -43,7 +43,7 @@ word-line kind earlier word label some high is =
     ∙ ap (λ w. statement_line kind earlier w (behind_word (word ++ 32 ∷ label))) (line-first_word word label some high is)
     ∙ ap (statement_line kind earlier word) (line-behind_word word label some high is)
 
--- a label is read as itself where no number is declared
+-- a label is read as itself if no number is declared
 label_of-label : (label : Label) → is_label label ≡ true → label_of label ≡ Ok label
 label_of-label [] is = absurd (both_ways false refl is)
 label_of-label (b ∷ bs) is = rw is refl
@@ -129,7 +129,7 @@ own-block kind earlier version start bits rest decided =
     let same : bits + (width_of version - width_of version) ≡ bits = omega arith in
     rw (decided, own-number version start, same) refl
 
--- where there is room, the line of an entry is read as that entry
+-- if there is room, the line of an entry is read as that entry
 placed-list : (earlier : Earlier) (version : Version) (p : Prefix) → is_label p.label ≡ true → earlier.declared ≡ []
     → has_prefix earlier.prefixes p.start p.bits ≡ false → length earlier.prefixes < mapping_limit → has_room earlier.table p.label ≡ true
     → placed_line form.List earlier version p.start p.bits p.label ≡ Ok (Lists version p)

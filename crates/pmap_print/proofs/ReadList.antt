@@ -77,7 +77,7 @@ has_read-push kind version name es done p has =
     subst (λ (e : Earlier). HasRead kind version name e (done ++ p ∷ [])) (sym (earlier_of-push es (said kind version p)))
     (has_read-added kind version name (earlier_of es) done p has)
 
--- the block of an entry is none of those before it
+-- the block of an entry differs from those before it
 block-new : (done : List Prefix) (p : Prefix) (ps : List Prefix) → IsDistinct starts_alike (done ++ p ∷ ps)
     → list_any (λ (r : Prefix). r.start == p.start && r.bits == p.bits) done ≡ false
 block-new done p ps distinct =

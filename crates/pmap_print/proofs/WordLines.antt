@@ -29,7 +29,7 @@ lines-text (line ∷ lines) lacks =
     one-line line (text_of_lines lines) (All-head (Lacks 10) line lines lacks)
     ∙ ap (λ (ls : List Text). line ∷ ls) (lines-text lines (All-tail (Lacks 10) line lines lacks))
 
--- where the first byte that passes a test stands behind a text
+-- the first byte that passes a test follows a text
 first_behind : (test : ℕ → Bool) (front back : Text) (b : ℕ) → All (λ c. test c ≡ false) front → test b ≡ true
     → position_or_len test (front ++ b ∷ back) ≡ length front
 first_behind test front back b none is =
@@ -92,7 +92,7 @@ high-other c b low high = ne_eqb b c (λ e. omega (arith, low, high, e))
 high-blank : (b : ℕ) → 45 ≤ b → is_blank b ≡ false
 high-blank b high = rw (high-other 32 b (omega arith) high, high-other 9 b (omega arith) high, high-other 13 b (omega arith) high) refl
 
--- of a word, a space and a label the first word is the word, and the label stands behind it
+-- of a word, a space and a label the first word is the word, and the label follows it
 module _ (word label : Text) (some : 0 < length word) (high : All (λ b. 45 ≤ b) word) (is : is_label label ≡ true) where
   no_blank : All (λ b. is_blank b ≡ false) word
   no_blank = All-weaker (λ b. 45 ≤ b) (λ b. is_blank b ≡ false) high-blank word high

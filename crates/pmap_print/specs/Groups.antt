@@ -7,14 +7,14 @@ use Rattle.flow_uniq.specs.Groups.{GroupModel}
 use Rattle.flow_uniq.specs.Key.{KeyPartModel, AddressPart, NumberPart, LabelPart}
 use Rattle.pmap_print.specs.Table.{Text, Line, table_text}
 
--- the titles of the columns of groups: the names of the fields, and behind them those of the totals
+-- the column names of groups: the names of the fields, followed by those of the totals
 abbrev pub total_titles : Line
 total_titles = codes "records" ∷ codes "packets" ∷ codes "bytes" ∷ []
 
 abbrev pub group_titles : List KeyField → Line
 group_titles fields = map field_name fields ++ total_titles
 
--- a part of a key: without a label there is nothing in the field
+-- a part of a key: the field is empty if there is no label
 abbrev pub part_text : KeyPartModel → Text
 part_text (AddressPart address) = address_text address.0 address.1
 part_text (NumberPart number) = decimal number

@@ -1,7 +1,7 @@
 pub mod Table
+pub mod Columns
 pub mod Rows
 pub mod Info
-pub mod Cell
 pub mod Parts
 pub mod Runs
 pub mod Stretches

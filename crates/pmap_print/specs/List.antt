@@ -8,7 +8,7 @@ use Rattle.pmap_cert.specs.CertificateText.{text_of_lines, version_word}
 use Rattle.pmap_print.specs.Order.{in_order}
 use Rattle.pmap_print.specs.Table.{Text}
 
--- `map-name NAME`, where there is a name
+-- `map-name NAME`, if there is a name
 abbrev pub name_lines : Option Label → List Text
 name_lines None = []
 name_lines (Some name) = (codes "map-name" ++ 32 ∷ name) ∷ []

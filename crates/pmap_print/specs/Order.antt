@@ -3,7 +3,7 @@ use Rattle.std.specs.Prelude.{◌&&◌, ◌==◌, Bool, List, [], ◌∷◌, if�
 use Rattle.pmap_text.specs.ListModel.{Prefix}
 use Rattle.pmap_cert.specs.ListForm.{is_before}
 
--- an entry among entries in order: in front of the first that it stands before
+-- an entry among entries in order: in front of the first that it precedes
 abbrev pub placed : Prefix → List Prefix → List Prefix
 placed p [] = p ∷ []
 placed p (r ∷ rs) = if is_before p r then p ∷ r ∷ rs else r ∷ placed p rs

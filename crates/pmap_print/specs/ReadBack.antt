@@ -38,13 +38,15 @@ abbrev pub mapping_of_prefix : ℕ → Prefix → Mapping
 mapping_of_prefix W p =
     record { low = p.start; high = last_of W p.bits (block_number W p.bits p.start); label = p.label }
 
--- what the printed text of a list says, read as a list: the same name and version, and the entries in order with their labels
+-- what the printed text of a list says, read as a list: the same name and version, and the entries in order with their
+-- labels
 pub record IsListAgain (l r : ListModel) : Type 0 where
   pub version : r.version ≡ l.version
   pub name : r.name ≡ l.name
   pub prefixes : r.prefixes ≡ in_order l.prefixes
 
--- and read as a map: each address has the label that the list gives it, and without one the label of a map without a default
+-- and read as a map: each address has the label that the list gives it, and without one the label of a map without a
+-- default
 pub record IsMapAgain (l : ListModel) (m : MapModel) : Type 0 where
   pub version : m.version ≡ l.version
   pub name : m.name ≡ l.name

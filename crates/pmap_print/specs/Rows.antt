@@ -7,7 +7,7 @@ use Rattle.flow_rows.specs.Row.{RowView}
 use Rattle.pmap_print.specs.declared.labels.RowLabels.{RowLabels}
 use Rattle.pmap_print.specs.Table.{Text, Line, table_text}
 
--- the titles of the columns of rows, and of the columns of labels behind them
+-- the column names of rows, and of the columns of labels after them
 abbrev pub row_titles : Line
 row_titles =
     codes "sip" ∷ codes "dip" ∷ codes "sport" ∷ codes "dport" ∷ codes "proto" ∷ codes "flags" ∷ codes "packets"
@@ -22,27 +22,27 @@ row_fields r =
     address_text r.version r.src ∷ address_text r.version r.dst ∷ decimal r.sport ∷ decimal r.dport ∷ decimal r.protocol
     ∷ decimal r.flags ∷ decimal r.packets ∷ decimal r.octets ∷ decimal r.start_ms ∷ decimal r.end_ms ∷ []
 
--- the labels of a row's two addresses, where they have one
+-- the labels of a row's two addresses, if they have one
 abbrev pub LabelTexts : Type 0
 LabelTexts = Option Text × Option Text
 
 abbrev pub label_texts : RowLabels → LabelTexts
 label_texts labels = (option_copied labels.src, option_copied labels.dst)
 
--- the labels of rows, where labels are given
+-- the labels of rows, if labels are given
 abbrev pub given_labels : Option (Bor (List RowLabels)) → Option (List LabelTexts)
 given_labels labels = option_map (λ given. map label_texts given.now) labels
 
--- the fields of labels: without one there is nothing in the field
+-- the fields of labels: a field without a label is empty
 abbrev pub label_fields : LabelTexts → Line
 label_fields labels = unwrap_or labels.0 [] ∷ unwrap_or labels.1 [] ∷ []
 
--- the title of rows, without labels or with them
+-- the header of rows, without labels or with them
 abbrev pub title_line : Bool → Line
 title_line false = row_titles
 title_line true = row_titles ++ label_titles
 
--- the line of a row, with its labels where it is to have them
+-- the line of a row, with its labels if it has them
 abbrev pub row_line : RowView → Option LabelTexts → Line
 row_line row None = row_fields row
 row_line row (Some labels) = row_fields row ++ label_fields labels
@@ -53,6 +53,6 @@ row_lines rows None = row_titles ∷ map row_fields rows
 row_lines rows (Some labels) =
     (row_titles ++ label_titles) ∷ map (λ p. row_fields p.0 ++ label_fields p.1) (zip rows labels)
 
--- the text of rows, with the labels of each row's addresses where labels are given
+-- the text of rows, with the labels of each row's addresses if labels are given
 abbrev pub rows_text : List RowView → Option (List LabelTexts) → Bool → Text
 rows_text rows labels columns = table_text columns (row_lines rows labels)

@@ -11,7 +11,7 @@ use Rattle.pmap_print.specs.Table.{Line, Text, line_text}
 abbrev pub run_titles : Line
 run_titles = codes "low" ∷ codes "high" ∷ codes "label" ∷ []
 
--- the fields of a run: without a label there is nothing in the last
+-- the fields of a run: the last is empty if there is no label
 abbrev pub run_fields : Version → Run → Line
 run_fields version run =
     address_text version run.low ∷ address_text version run.high ∷ unwrap_or run.label [] ∷ []
@@ -24,7 +24,7 @@ run_text version run = line_text (run_fields version run)
 abbrev pub runs_text : Version → List Run → Text
 runs_text version runs = flat_map line_text (run_titles ∷ map (run_fields version) runs)
 
--- the text is that of the runs of a labelling of the version's addresses
+-- the text of the runs of a labelling of the version's addresses
 pub record IsRunsText (version : Version) (label_of : ℕ → Option Label) (text : Text) : Type 0 where
   pub runs : List Run
   pub are : AreRunsOf version label_of runs

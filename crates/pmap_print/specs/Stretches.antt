@@ -35,15 +35,15 @@ is_same_number (Some i) (Some j) = i == j
 abbrev pub run_of : List Label → Numbered → Run
 run_of table s = record { low = s.low; high = s.high; label = option_and_then (slice_get table) s.label }
 
--- Runs are printed as far as the stretch `s`, with which another begins, wherever it ends: it and those behind it are the
--- runs of the labelling up to `end` where they are so from the stretch on.
+-- Runs are printed up to the stretch `s`, with which another run begins, wherever it ends: it and the following ones
+-- are the runs of the labelling up to `end` if they are so from the stretch on.
 pub record IsPrinted (label_of : ℕ → Option Label) (table : List Label) (version : Version) (end : ℕ) (before out : Text) (s : Numbered) : Type 0 where
   pub runs : List Run
   pub text : out ≡ before ++ flat_map (run_text version) runs
   pub goes_on : (high : ℕ) (rest : List Run) → AreRuns label_of s.low end (run_of table (record s { high = high }) ∷ rest)
       → AreRuns label_of 0 end (runs ++ run_of table (record s { high = high }) ∷ rest)
 
--- The runs of so many stretches are printed, but for the last run, which goes on to where the next stretch begins.
+-- The runs of so many stretches are printed, except the last run, which lasts until the next stretch begins.
 pub record IsPrintedTo (table : List Label) (s : StretchesModel) (count : ℕ) (before out : Text) (run : Stretch) : Type 0 where
   pub low_version : run.low.version ≡ s.version
   pub high_version : run.high.version ≡ s.version

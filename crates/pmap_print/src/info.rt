@@ -3,7 +3,7 @@ ghost use Rattle.std.specs.Prelude.{◌≡◌, ◌++◌, IfOk, OnOk};
 ghost use Rattle.flow_rows.specs.Counts.{counts_view};
 ghost use Rattle.pmap_print.specs.Info.{count_text, info_text};
 
-use crate::cell::print_number;
+use crate::number::print_number;
 use flow_rows::Counts;
 use std::alloc::{AllocError, Global};
 

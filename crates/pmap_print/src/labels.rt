@@ -1,4 +1,4 @@
-/// The labels of a row's two addresses, each where the address has one.
+/// The labels of a row's two addresses, if they have one.
 #[derive(Clone, Copy, Debug)]
 pub struct RowLabels<'a> {
     /// The label of the source.

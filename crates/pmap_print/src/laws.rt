@@ -34,8 +34,7 @@ pub fn labelling_has_one_runs_text()
         IsRunsText m.version (λ a. Some (map_label m a)) other → text ≡ other }
 {}
 
-/// A list is printed in the one order in which each entry stands before all that follow it. Entries that are in order
-/// keep theirs.
+/// A list is printed in the one order in which each entry precedes all that follow it. Entries in order keep theirs.
 pub fn printed_order_is_one()
     ensures entries { (ps : List Prefix) → IsPermutation ps (in_order ps) }
     ensures order { (ps : List Prefix) → IsDistinct starts_alike ps → IsInOrder (in_order ps) }
@@ -45,8 +44,8 @@ pub fn printed_order_is_one()
 {}
 
 /// The printed text of a list is read back: as a list it has the same name, version and entries, and as a map the same
-/// label at each address that the list gives one. So it is for each list of blocks that no two are equal, of labels,
-/// and within the limits of a text.
+/// label at each address that the list gives one. This holds of each list of distinct blocks, with labels and within the
+/// limits of a text.
 pub fn printed_list_is_read_back()
     ensures list { (l : ListModel) → CanBeReadAgain l →
         (r : ListModel) × ReadsList (list_text l) r × IsListAgain l r }
@@ -54,7 +53,7 @@ pub fn printed_list_is_read_back()
         (m : MapModel) × ReadsMap (list_text l) m × IsMapAgain l m }
 {}
 
-/// Where a list labels each address as a map does, so do both readings of its printed text.
+/// If a list labels each address as a map does, so do both readings of its printed text.
 pub fn printed_list_is_equivalent()
     ensures list { (l : ListModel) (m : MapModel) → CanBeReadAgain l → IsEquivalent l m →
         (again : ListModel) × ReadsList (list_text l) again × IsEquivalent again m }
@@ -63,19 +62,18 @@ pub fn printed_list_is_equivalent()
         × ((a : ℕ) → a < 2 ^ width_of m.version → map_label again a ≡ map_label m a) }
 {}
 
-/// The printed text of a prefix list is within the limits of a text where the list has at most 1,000,000 entries and
-/// they have at most 65,535 label texts. That its table and its name are of labels is said by `Labels::len` and
-/// `Name::as_bytes`.
+/// The printed text of a prefix list is within the limits of a text if the list has at most 1,000,000 entries with at
+/// most 65,535 label texts. `Labels::len` and `Name::as_bytes` say that its table and its name are labels.
 pub fn prefix_list_can_be_read_again()
     ensures { (l : PrefixList) → IsLabelTable l.labels → ForSome l.name (λ name. IsTrue (is_label name)) →
         length l.entries ≤ mapping_limit → length (labels_of (in_order (list_of l).prefixes)) ≤ label_limit →
         CanBeReadAgain (list_of l) }
 {}
 
-/// The list of a minimal pair of a map text is well formed: its blocks are distinct, and its labels and its name have the
-/// form of labels. So it can be printed and read again if it has at most 1,000,000 entries with at most 65,535 label texts.
-/// The map text doesn't imply these limits: a range can take several blocks, and a text of 65,535 labels may leave
-/// `UNKNOWN` unstated.
+/// The list of a minimal pair of a map text is well formed: its blocks are distinct, and its labels and its name have
+/// the form of labels. So it can be printed and read again if it has at most 1,000,000 entries with at most 65,535
+/// label texts. The map text doesn't imply these limits: a range can take several blocks, and a text of 65,535 labels
+/// may leave `UNKNOWN` unstated.
 pub fn minimal_list_can_be_read_again()
     ensures form { (text : List ℕ) (m : MapModel) (l : ListModel) (c : CertificateModel) → ReadsMap text m →
         IsMinimalPair m l c → IsWellFormed l }
@@ -84,9 +82,9 @@ pub fn minimal_list_can_be_read_again()
         CanBeReadAgain l }
 {}
 
-/// The entries of a minimal pair's list have no more label texts than the map's table, where that has the map's labels,
-/// as that of a map text does. So a map text of at most 65,535 labels, `UNKNOWN` counted where it has no default, keeps
-/// that limit.
+/// The entries of a minimal pair's list have no more label texts than the map's table, if that has the map's labels, as
+/// that of a map text does. So a map text of at most 65,535 labels, `UNKNOWN` counted if it has no default, keeps that
+/// limit.
 pub fn minimal_list_has_few_labels()
     ensures { (m : MapModel) (l : ListModel) (c : CertificateModel) → IsMinimalPair m l c → HasItsLabels m →
         length (labels_of l.prefixes) ≤ length m.table }

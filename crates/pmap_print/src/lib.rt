@@ -10,20 +10,21 @@
 //! assert!(rt; text.as_slice() == b"mode ipv4\n10.0.0.0/8 A\n10.0.0.0/16 B\n".as_slice());
 //! ```
 //!
-//! It stands on the crates of what it prints. `print_rows` gives the text of flow rows, with labels or without, in
-//! columns or not, `print_groups` that of groups, `print_info` that of counts, `print_list` that of a prefix list, and
-//! `print_runs` that of the runs of stretches. The layer above may rely on this: the text is the function of the printed
-//! list that the definitions say, byte for byte. Nothing else is answered than that text or want of memory. By the laws
-//! the printed text of a list is read back, and that of a minimal pair's list as one for which the pair's certificate
-//! is accepted.
+//! It depends on the crates of what it prints. `print_rows` returns the text of flow rows, with labels or without, in
+//! columns or not, and a `Table` makes it row by row. `print_groups` returns the text of groups, `print_info` that of
+//! counts, `print_list` that of a prefix list, and `print_runs` that of the runs of stretches. The layer above may rely
+//! on this: the text is the function of the printed value that the definitions state, byte for byte, and the only error
+//! is out of memory. By the laws the printed text of a list is read back, and that of a minimal pair's list as one for
+//! which the pair's certificate is accepted.
 #![tactic(auto)]
 
-mod cell;
+mod columns;
 mod groups;
 mod info;
 mod labels;
 mod laws;
 mod list;
+mod number;
 mod rows;
 mod runs;
 mod table;
@@ -37,5 +38,6 @@ pub use laws::{
     printed_list_is_read_back, printed_order_is_one,
 };
 pub use list::print_list;
-pub use rows::{print_row, print_rows, print_title};
+pub use rows::print_rows;
 pub use runs::print_runs;
+pub use table::Table;

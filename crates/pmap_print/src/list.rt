@@ -60,7 +60,7 @@ fn print_entries(
     Ok(())
 }
 
-// Which of two entries is printed first: that with the lower first address, of one address that of the shorter block.
+// Which of two entries is printed first: the one with the lower first address, of one address the shorter block.
 fn by_place(entry: &Entry, other: &Entry) -> Ordering
     ensures { result ≡ nat_cmp (place_of entry.now) (place_of other.now) }
 {

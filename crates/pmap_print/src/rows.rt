@@ -1,16 +1,15 @@
 //! The text of flow rows.
-ghost use Rattle.std.specs.Prelude.{◌≡◌, ◌+◌, ◌<◌, ◌≤◌, [], ◌∷◌, ◌++◌, IfOk, OnOk, drop, length, map, option_map, slice_index};
+ghost use Rattle.std.specs.Prelude.{◌≡◌, ℕ, ◌+◌, ◌<◌, ◌≤◌, List, [], ◌∷◌, ◌++◌, IfOk, OnOk, drop, is_some, length, map, option_map, take, unwrap_or};
 ghost use Rattle.std.specs.Fmt.{decimal};
 ghost use Rattle.std.specs.Option.{ForSome};
 ghost use Rattle.flow_rows.specs.Row.{row_view};
-ghost use Rattle.pmap_print.specs.Cell.{cell_text};
+ghost use Rattle.pmap_print.specs.Columns.{has_columns, IsTable, sizes};
 ghost use Rattle.pmap_print.specs.Parts.{barred, column_count, labels_at, number_fields};
-ghost use Rattle.pmap_print.specs.Rows.{given_labels, label_fields, label_texts, label_titles, row_fields, row_line, row_lines, row_titles, rows_text, title_line};
-ghost use Rattle.pmap_print.specs.Table.{filled_line, line_text, table_lines};
+ghost use Rattle.pmap_print.specs.Rows.{given_labels, label_fields, label_texts, row_line, rows_text, title_line};
+ghost use Rattle.pmap_print.specs.Table.{Line, line_text};
 
-use crate::cell::Cell;
 use crate::labels::RowLabels;
-use crate::table::{print_line, print_plain_line, widen};
+use crate::table::Table;
 use flow_rows::Row;
 use itoa::write_digits;
 use prefix_keys::print_addr;
@@ -21,118 +20,31 @@ const COLUMNS: usize = 10;
 
 const COLUMNS_WITH_LABELS: usize = 12;
 
-// How many bytes the eight numbers of a row have at most, each behind a `|`, and one byte behind them.
+// The eight numbers of a row, each after a `|`, and the byte after them take at most so many bytes.
 const NUMBERS: usize = 169;
 
-// The cells of a title.
-fn title_cells() -> [Cell<'static>; COLUMNS_WITH_LABELS]
-    ensures { map cell_text result ≡ row_titles ++ label_titles }
-{
-    [
-        Cell::Bytes(b"sip"),
-        Cell::Bytes(b"dip"),
-        Cell::Bytes(b"sport"),
-        Cell::Bytes(b"dport"),
-        Cell::Bytes(b"proto"),
-        Cell::Bytes(b"flags"),
-        Cell::Bytes(b"packets"),
-        Cell::Bytes(b"bytes"),
-        Cell::Bytes(b"stime"),
-        Cell::Bytes(b"etime"),
-        Cell::Bytes(b"src-label"),
-        Cell::Bytes(b"dst-label"),
-    ]
-}
+// The lengths of the fields of the header, each with the byte that ends it.
+const TITLE_LENGTHS: [usize; COLUMNS_WITH_LABELS] = [4, 4, 6, 6, 6, 6, 8, 6, 6, 6, 10, 10];
 
-// The cells of a row, and those of its labels. Without a label there is nothing in the cell.
-fn row_cells<'a>(row: &Row, labels: RowLabels<'a>) -> [Cell<'a>; COLUMNS_WITH_LABELS]
-    ensures { map cell_text result ≡ row_fields (row_view row.now) ++ label_fields (label_texts labels.entry) }
-{
-    [
-        Cell::Address(row.src),
-        Cell::Address(row.dst),
-        Cell::Number(u64::from(row.sport)),
-        Cell::Number(u64::from(row.dport)),
-        Cell::Number(u64::from(row.protocol)),
-        Cell::Number(u64::from(row.flags)),
-        Cell::Number(row.packets),
-        Cell::Number(row.octets),
-        Cell::Number(row.start_ms),
-        Cell::Number(row.end_ms),
-        Cell::Bytes(labels.src.unwrap_or(b"")),
-        Cell::Bytes(labels.dst.unwrap_or(b"")),
-    ]
-}
-
-// The labels of the row at this place.
-fn labels_of<'a>(labels: Option<&[RowLabels<'a>]>, place: usize) -> RowLabels<'a>
-    requires { ForSome labels (λ given. place < length given.now) }
-    ensures { label_texts result ≡ labels_at (given_labels labels.entry) place }
-{
-    match labels {
-        Some(labels) => labels[place],
-        None => RowLabels {
-            src: None,
-            dst: None,
-        },
-    }
-}
-
-// How many columns there are.
-fn column_count(labels: Option<&[RowLabels<'_>]>) -> usize
-    ensures { result ≡ column_count (given_labels labels.entry) }
-{
-    if labels.is_some() {
-        COLUMNS_WITH_LABELS
-    } else {
-        COLUMNS
-    }
-}
-
-// The widths of the columns of rows with their title; 0 where the fields are to stand as they are.
-fn column_widths(
-    scratch: &mut Vec<u8>,
-    rows: &[Row],
-    labels: Option<&[RowLabels<'_>]>,
-    columns: bool,
-) -> Result<[usize; COLUMNS_WITH_LABELS], AllocError>
-    requires { ForSome labels (λ given. length given.now ≡ length rows.now) }
-    ensures { let lines = row_lines (map row_view rows.now) (given_labels labels.entry) in
-        IfOk result (λ widths. map (filled_line (slice_index widths)) lines ≡ table_lines columns lines) }
-{
-    let mut widths = [0; COLUMNS_WITH_LABELS];
-    if !columns {
-        return Ok(widths);
-    }
-    let count = column_count(labels);
-    let title = title_cells();
-    widen(&mut widths, scratch, &title[..count])?;
-    for (i, row) in rows.iter().enumerate() {
-        let cells = row_cells(row, labels_of(labels, i));
-        widen(&mut widths, scratch, &cells[..count])?;
-    }
-    Ok(widths)
-}
-
-/// Appends the title of rows, and of their labels where they have some.
-pub fn print_title(out: &mut Vec<u8>, labelled: bool) -> Result<(), AllocError>
+// Appends the header of rows, and of their labels if they have some.
+fn print_title(out: &mut Vec<u8>, labelled: bool) -> Result<(), AllocError>
     ensures { OnOk result (out.new.items ≡ out.old.items ++ line_text (title_line labelled)) }
 {
-    let title = title_cells();
-    let count = if labelled {
-        COLUMNS_WITH_LABELS
+    if labelled {
+        out.extend_from_slice(
+            b"sip|dip|sport|dport|proto|flags|packets|bytes|stime|etime|src-label|dst-label\n",
+        )
     } else {
-        COLUMNS
-    };
-    print_plain_line(out, &title[..count])
+        out.extend_from_slice(b"sip|dip|sport|dport|proto|flags|packets|bytes|stime|etime\n")
+    }
 }
 
-// Writes a number behind a `|` so that it ends at `end`, and returns where the `|` stands.
+// Writes a number after a `|` so that it ends at `end`, and returns the index of the `|`.
 #[inline(always)]
 fn write_number(number: u64, buf: &mut [u8], end: usize) -> usize
     requires room { 21 ≤ end }
     requires within { end ≤ length buf.old }
-    ensures start { result ≤ end }
+    ensures size { result + (length (decimal number) + 1) ≡ end }
     ensures room { end ≤ result + 21 }
     ensures written { drop result buf.new ≡ 124 ∷ decimal number ++ drop end buf.old }
 {
@@ -141,24 +53,38 @@ fn write_number(number: u64, buf: &mut [u8], end: usize) -> usize
     at
 }
 
-// Appends the numbers of a row, each behind a `|`, and a byte behind them.
-fn print_numbers(out: &mut Vec<u8>, row: &Row, last: u8) -> Result<(), AllocError>
-    ensures { OnOk result (out.new.items ≡ out.old.items ++ barred (number_fields (row_view row.now)) (last ∷ [])) }
+// Appends the numbers of a row, each after a `|`, and then a byte. Returns the lengths of the numbers, each with the
+// byte after it.
+#[inline(always)]
+fn print_numbers(out: &mut Vec<u8>, row: &Row, last: u8) -> Result<[usize; 8], AllocError>
+    ensures text { OnOk result (out.new.items ≡ out.old.items ++ barred (number_fields (row_view row.now)) (last ∷ [])) }
+    ensures lengths { IfOk result (λ lengths. lengths ≡ sizes (number_fields (row_view row.now))) }
 {
     let mut line = [0; NUMBERS];
-    line[NUMBERS - 1] = last;
-    let at = write_number(row.end_ms, &mut line, NUMBERS - 1);
-    let at = write_number(row.start_ms, &mut line, at);
-    let at = write_number(row.octets, &mut line, at);
-    let at = write_number(row.packets, &mut line, at);
-    let at = write_number(u64::from(row.flags), &mut line, at);
-    let at = write_number(u64::from(row.protocol), &mut line, at);
-    let at = write_number(u64::from(row.dport), &mut line, at);
-    let at = write_number(u64::from(row.sport), &mut line, at);
-    out.extend_from_slice(&line[at..])
+    let last_at = NUMBERS - 1;
+    line[last_at] = last;
+    let end = write_number(row.end_ms, &mut line, last_at);
+    let start = write_number(row.start_ms, &mut line, end);
+    let octets = write_number(row.octets, &mut line, start);
+    let packets = write_number(row.packets, &mut line, octets);
+    let flags = write_number(u64::from(row.flags), &mut line, packets);
+    let protocol = write_number(u64::from(row.protocol), &mut line, flags);
+    let dport = write_number(u64::from(row.dport), &mut line, protocol);
+    let sport = write_number(u64::from(row.sport), &mut line, dport);
+    out.extend_from_slice(&line[sport..])?;
+    Ok([
+        dport - sport,
+        protocol - dport,
+        flags - protocol,
+        packets - flags,
+        octets - packets,
+        start - octets,
+        end - start,
+        last_at - end,
+    ])
 }
 
-// Appends the labels of a row, and the end of its line. Without a label there is nothing in the field.
+// Appends the labels of a row, and the end of its line. A field without a label is empty.
 fn print_labels(out: &mut Vec<u8>, labels: RowLabels<'_>) -> Result<(), AllocError>
     ensures { OnOk result (out.new.items ≡ out.old.items ++ line_text (label_fields (label_texts labels.entry))) }
 {
@@ -169,30 +95,117 @@ fn print_labels(out: &mut Vec<u8>, labels: RowLabels<'_>) -> Result<(), AllocErr
     Ok(())
 }
 
-/// Appends the line of a row, and of its labels where it has some.
-pub fn print_row(
+// Returns the length of a label with the byte that ends its field.
+fn label_length(label: Option<&[u8]>) -> usize
+    ensures { result ≡ length (unwrap_or (option_map (λ text. text.now) label.entry) []) + 1 }
+{
+    label.unwrap_or(b"").len() + 1
+}
+
+// Appends the line of a row, and of its labels if it has some. Returns the lengths of its fields, each with the byte
+// that ends it.
+#[inline(always)]
+fn print_row(
     out: &mut Vec<u8>,
     row: &Row,
     labels: Option<RowLabels<'_>>,
-) -> Result<(), AllocError>
-    ensures { OnOk result (out.new.items
+) -> Result<[usize; COLUMNS_WITH_LABELS], AllocError>
+    ensures text { OnOk result (out.new.items
         ≡ out.old.items ++ line_text (row_line (row_view row.now) (option_map label_texts labels.entry))) }
+    ensures lengths { IfOk result (λ lengths. take (column_count (is_some labels.entry)) lengths
+        ≡ sizes (row_line (row_view row.now) (option_map label_texts labels.entry))) }
 {
+    let begin = out.len();
     print_addr(out, row.src)?;
     out.push(b'|')?;
+    let second = out.len();
     print_addr(out, row.dst)?;
+    let src = second - begin;
+    let dst = out.len() - second + 1;
     match labels {
-        None => print_numbers(out, row, b'\n'),
+        None => {
+            let n = print_numbers(out, row, b'\n')?;
+            Ok([
+                src, dst, n[0], n[1], n[2], n[3], n[4], n[5], n[6], n[7], 0, 0,
+            ])
+        }
         Some(labels) => {
-            print_numbers(out, row, b'|')?;
+            let n = print_numbers(out, row, b'|')?;
             print_labels(out, labels)?;
-            Ok(())
+            let (src_label, dst_label) = (label_length(labels.src), label_length(labels.dst));
+            Ok([
+                src, dst, n[0], n[1], n[2], n[3], n[4], n[5], n[6], n[7], src_label, dst_label,
+            ])
         }
     }
 }
 
-/// The text of rows: a title, and a line for each row. Where labels are given, each line ends in those of its row. With
-/// `columns` each field is filled with spaces on the left to the width of its column.
+// Returns the number of columns, with labels or without.
+fn column_count(labelled: bool) -> usize
+    ensures { result ≡ column_count labelled }
+{
+    if labelled {
+        COLUMNS_WITH_LABELS
+    } else {
+        COLUMNS
+    }
+}
+
+impl Table {
+    /// Returns a table of no rows, with labels or without.
+    ///
+    /// With `columns` each field is padded with spaces on the left to the width of its column.
+    ///
+    /// # Errors
+    /// If an allocation fails.
+    pub fn of_rows(alloc: Global, labelled: bool, columns: bool) -> Result<Table, AllocError>
+        ensures header { IfOk result (IsTable (column_count labelled) (title_line labelled ∷ [])) }
+        ensures columns { IfOk result (λ t. has_columns t ≡ columns) }
+    {
+        let count = column_count(labelled);
+        let mut table = Table::new(alloc, count, columns)?;
+        print_title(&mut table.text, labelled)?;
+        table.note(&TITLE_LENGTHS[..count])?;
+        Ok(table)
+    }
+
+    /// Adds the line of a row, and of its labels if it has some.
+    ///
+    /// # Errors
+    /// If an allocation fails. The table may then end with a part of the line, and must not be used any more.
+    pub fn add_row(&mut self, row: &Row, labels: Option<RowLabels<'_>>) -> Result<(), AllocError>
+        requires { (lines : List Line) × IsTable (column_count (is_some labels)) lines self.old }
+        ensures columns { has_columns self.new ≡ has_columns self.old }
+        ensures line { OnOk result ((lines : List Line) → IsTable (column_count (is_some labels.entry)) lines self.old
+            → IsTable (column_count (is_some labels.entry))
+            (lines ++ row_line (row_view row.now) (option_map label_texts labels.entry) ∷ []) self.new) }
+    {
+        let count = column_count(labels.is_some());
+        let lengths = print_row(&mut self.text, row, labels)?;
+        self.note(&lengths[..count])?;
+        Ok(())
+    }
+}
+
+// The labels of the row at an index, if labels are given.
+fn labels_at<'a>(labels: Option<&[RowLabels<'a>]>, index: usize) -> Option<RowLabels<'a>>
+    requires { ForSome labels (λ given. index < length given.now) }
+    ensures given { is_some result ≡ is_some labels.entry }
+    ensures texts { option_map label_texts result ≡ labels_at (given_labels labels.entry) index }
+{
+    match labels {
+        Some(labels) => Some(labels[index]),
+        None => None,
+    }
+}
+
+/// Returns the text of rows: a header, and a line for each row.
+///
+/// If labels are given, each line ends with the labels of its row. With `columns` each field is padded with spaces on
+/// the left to the width of its column.
+///
+/// # Errors
+/// If an allocation fails.
 pub fn print_rows(
     alloc: Global,
     rows: &[Row],
@@ -203,15 +216,9 @@ pub fn print_rows(
     ensures { IfOk result (λ out. out.items
         ≡ rows_text (map row_view rows.now) (given_labels labels.entry) columns) }
 {
-    let mut scratch = Vec::new(alloc);
-    let widths = column_widths(&mut scratch, rows, labels, columns)?;
-    let count = column_count(labels);
-    let mut out = Vec::new(alloc);
-    let title = title_cells();
-    print_line(&mut out, &mut scratch, &title[..count], &widths)?;
+    let mut table = Table::of_rows(alloc, labels.is_some(), columns)?;
     for (i, row) in rows.iter().enumerate() {
-        let cells = row_cells(row, labels_of(labels, i));
-        print_line(&mut out, &mut scratch, &cells[..count], &widths)?;
+        table.add_row(row, labels_at(labels, i))?;
     }
-    Ok(out)
+    table.into_text()
 }

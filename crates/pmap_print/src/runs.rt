@@ -24,7 +24,7 @@ fn stretch_at(stretches: &Stretches, index: usize) -> Stretch
     ensures view { stretch_view result ≡ view_at stretches.now index }
     ensures every { HasEveryAddress stretches.now }
 {
-    // For its law: the stretches have the addresses of the version.
+    // Provides the law that the stretches cover every address of the version.
     let _count = stretches.len();
     let version = stretches.version();
     Stretch {
@@ -40,8 +40,8 @@ fn stretch_at(stretches: &Stretches, index: usize) -> Stretch
     }
 }
 
-// Whether both are one number, or both are none. A label table has no text twice, so that the texts are equal just
-// then.
+// Returns `true` if both are the same number, or neither is a number. The texts of a label table are distinct, so the
+// texts are equal exactly in these cases.
 fn is_same(label: Option<LabelId>, other: Option<LabelId>) -> bool
     ensures { result ≡ is_same_number (option_map (λ id. id.0) label) (option_map (λ id. id.0) other) }
 {
@@ -75,7 +75,7 @@ fn push_runs(out: &mut Vec<u8>, stretches: &Stretches, labels: &Labels) -> Resul
     requires known { AreLabelsBelow (length labels.now) stretches.now }
     ensures { OnOk result (IsRunsText stretches.now.version (text_held labels.now stretches.now) out.new.items) }
 {
-    // For its law: no two texts of the table are equal.
+    // Provides the law that no two texts of the table are equal.
     let _count = labels.len();
     let count = stretches.len();
     let mut stretch = stretch_at(stretches, 0);

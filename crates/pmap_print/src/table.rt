@@ -1,126 +1,71 @@
-//! Lines of a table.
-ghost use Rattle.std.specs.Prelude.{◌≡◌, ◌≤◌, ◌<◌, ◌++◌, ℕ, max, length, map, replicate, slice_index, slice_index_or, [], IfOk, OnOk};
-ghost use Rattle.pmap_print.specs.Cell.{cell_text};
-ghost use Rattle.pmap_print.specs.Table.{filled, filled_line, line_text};
+//! The text of a table, line by line.
+ghost use Rattle.std.specs.Prelude.{◌≡◌, ℕ, ◌<◌, ◌≤◌, List, [], ◌∷◌, ◌++◌, IfOk, OnOk, length};
+ghost use Rattle.std.specs.Option.{ForSome};
+ghost use Rattle.pmap_print.specs.Columns.{has_columns, IsNoted, IsTable, sizes};
+ghost use Rattle.pmap_print.specs.Table.{Line, table_text};
 
-use crate::cell::{Cell, number_length, print_cell};
-use itoa::Buffer;
-use std::alloc::AllocError;
+use crate::columns::Columns;
+use std::alloc::{AllocError, Global};
 
-// Spaces to fill fields with.
-const SPACES: [u8; 64] = [b' '; 64];
-
-// Appends so many spaces.
-fn print_spaces(out: &mut Vec<u8>, count: usize) -> Result<(), AllocError>
-    ensures { OnOk result (out.new.items ≡ out.old.items ++ replicate count 32) }
-{
-    let mut left = count;
-    while left > SPACES.len() {
-        out.extend_from_slice(&SPACES)?;
-        left -= SPACES.len();
-    }
-    out.extend_from_slice(&SPACES[..left])?;
-    Ok(())
+/// The lines of a table, which are padded to columns or not.
+#[derive(Drop)]
+pub struct Table {
+    // The lines as they are.
+    pub(crate) text: Vec<u8>,
+    // What is noted of them, if they are to be padded.
+    pub(crate) columns: Option<Columns>,
 }
 
-// Appends a text, with spaces on the left that make it this wide.
-fn print_padded(out: &mut Vec<u8>, text: &[u8], width: usize) -> Result<(), AllocError>
-    ensures { OnOk result (out.new.items ≡ out.old.items ++ filled width text.now) }
-{
-    if text.len() < width {
-        print_spaces(out, width - text.len())?;
+impl Table {
+    // Returns a table of no lines, with `count` columns.
+    pub(crate) fn new(alloc: Global, count: usize, columns: bool) -> Result<Table, AllocError>
+        requires { 0 < count }
+        ensures none { IfOk result (IsTable count []) }
+        ensures columns { IfOk result (λ t. has_columns t ≡ columns) }
+    {
+        let noted = if columns {
+            Some(Columns::new(alloc, count)?)
+        } else {
+            None
+        };
+        Ok(Table {
+            text: Vec::new(alloc),
+            columns: noted,
+        })
     }
-    out.extend_from_slice(text)
-}
 
-// The length of the text of a cell. The scratch is for texts that are measured.
-#[inline]
-fn cell_length(scratch: &mut Vec<u8>, cell: &Cell<'_>) -> Result<usize, AllocError>
-    ensures { IfOk result (λ len. len ≡ length (cell_text cell.now)) }
-{
-    match cell {
-        Cell::Number(number) => Ok(number_length(*number)),
-        Cell::Bytes(bytes) => Ok(bytes.len()),
-        Cell::Address(_) | Cell::Total(_) => {
-            scratch.clear();
-            print_cell(scratch, cell)?;
-            Ok(scratch.len())
+    // Notes the lengths of the fields of a line, each with the byte that ends it.
+    #[inline(always)]
+    pub(crate) fn note(&mut self, lengths: &[usize]) -> Result<(), AllocError>
+        requires { ForSome self.old.columns (λ c. length lengths.now ≤ length c.widths.items) }
+        ensures text { self.new.text ≡ self.old.text }
+        ensures columns { has_columns self.new ≡ has_columns self.old }
+        ensures noted { OnOk result ((count : ℕ) → (lines : List Line) → (line : Line)
+            → ForSome self.old.columns (IsNoted count lines) → length line ≡ count → lengths.now ≡ sizes line
+            → ForSome self.new.columns (IsNoted count (lines ++ line ∷ []))) }
+    {
+        match &mut self.columns {
+            Some(columns) => {
+                columns.note(lengths)?;
+                Ok(())
+            }
+            None => Ok(()),
         }
     }
-}
 
-// Appends the text of a cell, with spaces on the left that make it this wide.
-#[inline]
-fn print_filled(
-    out: &mut Vec<u8>,
-    scratch: &mut Vec<u8>,
-    cell: &Cell<'_>,
-    width: usize,
-) -> Result<(), AllocError>
-    ensures { OnOk result (out.new.items ≡ out.old.items ++ filled width (cell_text cell.now)) }
-{
-    match cell {
-        Cell::Number(number) => {
-            let mut buffer = Buffer::new();
-            print_padded(out, buffer.format(*number).as_bytes(), width)
+    /// Returns the text of the table.
+    ///
+    /// # Errors
+    /// If an allocation fails.
+    pub fn into_text(self) -> Result<Vec<u8>, AllocError>
+        requires { (count : ℕ) × (lines : List Line) × IsTable count lines self }
+        ensures { (count : ℕ) → (lines : List Line) → IsTable count lines self
+            → IfOk result (λ out. out.items ≡ table_text (has_columns self) lines) }
+    {
+        let mut text = self.text;
+        if let Some(columns) = &self.columns {
+            columns.pad(&mut text)?;
         }
-        Cell::Bytes(bytes) => print_padded(out, bytes, width),
-        Cell::Address(_) | Cell::Total(_) => {
-            scratch.clear();
-            print_cell(scratch, cell)?;
-            print_padded(out, scratch.as_slice(), width)
-        }
+        Ok(text)
     }
-}
-
-/// Makes the width at each place at least the length of the cell there.
-pub fn widen(
-    widths: &mut [usize],
-    scratch: &mut Vec<u8>,
-    cells: &[Cell<'_>],
-) -> Result<(), AllocError>
-    requires { length cells.now ≤ length widths.old }
-    ensures { OnOk result ((k : ℕ) → k < length cells.now → slice_index widths.new k
-        ≡ max (slice_index widths.old k) (length (slice_index_or (map cell_text cells.now) k []))) }
-{
-    for (i, cell) in cells.iter().enumerate() {
-        let length = cell_length(scratch, cell)?;
-        widths[i] = widths[i].max(length);
-    }
-    Ok(())
-}
-
-/// Appends a line of a table, each field filled to the width at its place.
-pub fn print_line(
-    out: &mut Vec<u8>,
-    scratch: &mut Vec<u8>,
-    cells: &[Cell<'_>],
-    widths: &[usize],
-) -> Result<(), AllocError>
-    requires { length cells.now ≤ length widths.now }
-    ensures { OnOk result (out.new.items
-        ≡ out.old.items ++ line_text (filled_line (slice_index widths.now) (map cell_text cells.now))) }
-{
-    for (i, cell) in cells.iter().enumerate() {
-        if i > 0 {
-            out.push(b'|')?;
-        }
-        print_filled(out, scratch, cell, widths[i])?;
-    }
-    out.push(b'\n')?;
-    Ok(())
-}
-
-/// Appends a line of a table with its fields as they are.
-pub fn print_plain_line(out: &mut Vec<u8>, cells: &[Cell<'_>]) -> Result<(), AllocError>
-    ensures { OnOk result (out.new.items ≡ out.old.items ++ line_text (map cell_text cells.now)) }
-{
-    for (i, cell) in cells.iter().enumerate() {
-        if i > 0 {
-            out.push(b'|')?;
-        }
-        print_cell(out, cell)?;
-    }
-    out.push(b'\n')?;
-    Ok(())
 }

@@ -15,7 +15,7 @@ use std::alloc::{AllocError, Global};
 fn runs_of_map(alloc: Global, map: &MapText) -> Result<Vec<u8>, AllocError>
     ensures { IfOk result (λ out. HasRunsText (labelling_of_map (map_of map.now)) out.items) }
 {
-    // For its law: labellings that agree on each address have one text of their runs.
+    // Provides the law that labellings that agree on each address have one text of their runs.
     labelling_has_one_runs_text();
     let stretches = Stretches::of_map(alloc, map)?;
     print_runs(alloc, &stretches, &map.labels)
@@ -25,7 +25,7 @@ fn runs_of_map(alloc: Global, map: &MapText) -> Result<Vec<u8>, AllocError>
 fn runs_of_list(alloc: Global, list: &PrefixList) -> Result<Vec<u8>, AllocError>
     ensures { IfOk result (λ out. HasRunsText (labelling_of_list (list_of list.now)) out.items) }
 {
-    // For its law, as above.
+    // Provides the law above.
     labelling_has_one_runs_text();
     let statements = statements_of_list(alloc, list)?;
     let stretches = Stretches::new(alloc, list.version, None, &list.labels, &statements)?;

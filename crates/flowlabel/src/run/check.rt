@@ -27,7 +27,7 @@ fn minimal_line(alloc: Global, count: u64) -> Result<Vec<u8>, AllocError>
     Ok(format!(in alloc; "minimal {count}\n")?.into_bytes())
 }
 
-// The number of a list's entries, where a certificate shows that the list is a shortest one for a map.
+// The number of a list's entries, if a certificate shows that the list is a shortest one for a map.
 fn checked(
     alloc: Global,
     map: &MapText,
@@ -42,7 +42,7 @@ fn checked(
     Ok(minimal_line(alloc, count)?)
 }
 
-/// The same of the three files that are loaded. A fault of it names the certificate's file.
+/// Checks the three files that are loaded. A fault names the certificate's file.
 pub fn check_loaded<'a, R: Input>(
     alloc: Global,
     loaded: &Loaded,

@@ -9,7 +9,7 @@ use label_lookup::{Labeller, ListScan, Scan};
 use prefix_keys::{Addr, convert};
 use std::alloc::{AllocError, Global};
 
-// The line of a label: the line feed alone where there is none.
+// The line of a label: the line feed alone if there is none.
 fn line(alloc: Global, label: Option<&[u8]>) -> Result<Vec<u8>, AllocError>
     ensures { IfOk result (λ out. out.items ≡ line_of (unwrap_or (option_map (λ t. t.now) label.entry) [])) }
 {

@@ -38,13 +38,13 @@ pub fn has_output()
     no_fault_is_acceptance();
 }
 
-/// A request that takes labels from a map or a list alike has the same outputs under a map text and under each list text
+/// A request that takes labels from a map or a list has the same outputs under a map text and under each list text
 /// whose list labels every address as the map does. So reports are the same bytes under both.
 pub fn same_under_equivalents()
     ensures { SameUnderEquivalents }
 {}
 
-/// Where `check` prints a number for a map text, a list text and a certificate, whoever made them, it is the number of the
+/// If `check` prints a number for a map text, a list text and a certificate, whoever made them, it is the number of the
 /// list's entries, the list labels every address as the map does, and no list that does so has fewer entries.
 pub fn check_is_enough()
     ensures { CheckIsEnough }
@@ -52,8 +52,9 @@ pub fn check_is_enough()
     acceptance_is_enough();
 }
 
-/// `check` accepts what is minimal: over a map text, the printed list of the map's minimal pair and its printed certificate,
-/// compacted or not, it prints the number of the list's entries, where the list is within the limits of a text.
+/// `check` accepts what is minimal: over a map text, the printed list of the map's minimal pair and its printed
+/// certificate, compacted or not, it prints the number of the list's entries, if the list is within the limits of a
+/// text.
 pub fn check_accepts_minimal()
     ensures plain { CheckAcceptsMinimal }
     ensures compact { CheckAcceptsCompact }
@@ -63,9 +64,9 @@ pub fn check_accepts_minimal()
     compact_keeps_acceptance();
 }
 
-/// What `recert` prints of a certificate, whoever made it, is as good: it has no more node lines, `recert` prints it again of
-/// itself, and where `check` prints a number over a map text, a list text and the certificate, it prints the same over what
-/// `recert` printed.
+/// What `recert` prints of a certificate, whoever made it, is as good: it has no more node lines, `recert` prints it
+/// unchanged, and if `check` prints a number over a map text, a list text and the certificate, it prints the same over
+/// what `recert` printed.
 pub fn recert_is_as_good()
     ensures { RecertIsAsGood }
 {
@@ -76,8 +77,8 @@ pub fn recert_is_as_good()
     compact_keeps_acceptance();
 }
 
-/// The list of a map text's minimal pair labels every address as the map does, and no list that does so has fewer entries. It is
-/// well formed, and the certificate is accepted for the map and the list, compacted or not.
+/// The list of a map text's minimal pair labels every address as the map does, and no list that does so has fewer
+/// entries. It is well formed, and the certificate is accepted for the map and the list, compacted or not.
 pub fn minimal_pair_is_shortest()
     ensures { MinimalIsShortest }
 {
@@ -99,10 +100,10 @@ pub fn output_keeps_headline()
     same_under_equivalents();
 }
 
-/// What `shrink` prints for each map text is right and least: the list labels every address as the map does, no list that does so
-/// has fewer entries, and the certificate is accepted for the two, compacted or not. If the list is within the limits of a text,
-/// what is printed is read again as the same list, and `check` over the map text, that list and the certificate, compacted or not,
-/// gives the number of its entries.
+/// What `shrink` prints for each map text is right and least: the list labels every address as the map does, no list
+/// that does so has fewer entries, and the certificate is accepted for the two, compacted or not. If the list is within
+/// the limits of a text, what is printed is read again as the same list, and `check` over the map text, that list and
+/// the certificate, compacted or not, prints the number of its entries.
 pub fn shrunk_list_is_least()
     ensures { ShrunkIsLeast }
 {

@@ -20,7 +20,7 @@ pub enum LoadedLabels<'a> {
 }
 
 impl Loaded {
-    /// The labels of the map, or else of the list. No command reads both for its labels.
+    /// The labels of the map, or otherwise of the list. No command reads both for its labels.
     pub fn labels(&self) -> Option<LoadedLabels<'_>>
         ensures { option_map labelling_of_either result ≡ labelling_loaded self.now }
     {

@@ -75,7 +75,7 @@ impl Decode for Certificate {
     fn decode(alloc: Global, text: &[u8], hashing: KeyHashing) -> Result<Certificate, BytesFault> {
         match read_cert_with_hashing(alloc, text, hashing) {
             Ok(certificate) => {
-                // For its law: a certificate that is read has a text.
+                // Provides the law that a certificate that is read has a text.
                 let _root = certificate.root();
                 Ok(certificate)
             }
@@ -102,7 +102,7 @@ pub fn text_of_file<'a, R: Input>(
     }
 }
 
-// What the file of an input is decoded to, where the input is there.
+// The decoded file of an input, if the input is there.
 fn load_one<'a, R: Input, T: Decode>(
     alloc: Global,
     source: &mut Option<Source<'a, R>>,
@@ -125,8 +125,8 @@ fn load_one<'a, R: Input, T: Decode>(
     }
 }
 
-/// Reads and decodes the map, the list and the certificate that are there, in this order. The first fault ends it, and the
-/// files behind that one are not read.
+/// Reads and decodes the map, the list and the certificate that are there, in this order. The first fault ends it, and
+/// the files after that one are not read.
 pub fn load<'a, R: Input>(
     alloc: Global,
     inputs: &mut Inputs<'a, R>,

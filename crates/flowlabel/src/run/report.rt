@@ -27,10 +27,10 @@ pub trait Report {
     /// The text of messages under a labelling, or without one.
     ghost text: { Self → Option Labelling → List MessageView → List ℕ };
 
-    // What is had is that of these messages under the labelling.
+    // The report of these messages under the labelling.
     ghost is_of: { Self → Option Labelling → List MessageView → Self.Taken → Type 0 };
 
-    /// What is had of no message, with the labels of this labeller, if there is one.
+    /// The report of no message, with the labels of this labeller, if there is one.
     fn begin<L: Labeller>(
         &self,
         alloc: Global,
@@ -58,6 +58,7 @@ pub trait Report {
         taken: Self::Taken,
         labels: Option<&L>,
     ) -> Result<Vec<u8>, AllocError>
+        requires { (messages : List MessageView) × is_of self.now (labelling_lent L.version_of L.label labels) messages taken }
         ensures { (messages : List MessageView) → is_of self.now (labelling_lent L.version_of L.label labels.entry) messages taken
             → IfOk result (λ out. out.items ≡ text self.now (labelling_lent L.version_of L.label labels.entry) messages) };
 }
@@ -78,7 +79,7 @@ fn take_messages<R: Input, P: Report, L: Labeller>(
     ensures first { IfErr result IsFirstAnswer }
     ensures device { R.failed reader.new ≡ is_read_fault result }
 {
-    // For its law: the calls so far and the next one are the whole File.
+    // Provides the law that the calls so far and the next one are the whole File.
     ipfix_read::calls_join_file();
     let mut buffer = Buffer::new(alloc)?;
     let mut progress = Progress::new(alloc);
@@ -88,7 +89,7 @@ fn take_messages<R: Input, P: Report, L: Labeller>(
     Ok(())
 }
 
-// The fault of the file with this name where its messages can't be had.
+// The fault of the file with this name, if its messages can't be read.
 fn fault_of_messages(file: &str, fault: ReadFault) -> RunFault<'_>
     requires { IsFirstAnswer fault }
     ensures { IsFaultOfReading file.entry fault result }

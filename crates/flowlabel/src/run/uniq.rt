@@ -9,8 +9,8 @@ use pmap_print::print_groups;
 use pmap_text::KeyHashing;
 use std::alloc::{AllocError, Global};
 
-/// The groups of the rows of messages that pass a filter, by fields of them: sorted or in the order of their first rows, in
-/// columns of even width or not.
+/// The groups of the rows of messages that pass a filter, by fields of them: sorted or in the order of their first
+/// rows, in columns of even width or not.
 #[derive(Clone, Copy)]
 pub struct UniqReport<'a> {
     pub keys: &'a Keys,

@@ -1,15 +1,18 @@
--- The parts so far are printed, and behind them the others and the totals are to be.
-use Rattle.std.proofs.Common.{◌≡◌, ◌++◌, length, map}
+-- The parts so far are printed, and the others and the totals are to follow.
+use Rattle.std.proofs.Common.{◌≡◌, ◌++◌, length, map, true}
 use Rattle.flow_uniq.specs.Kept.{group_model, key_model}
+use Rattle.pmap_print.specs.Columns.{sizes}
 use Rattle.pmap_print.specs.Groups.{group_fields, part_text}
 use Rattle.pmap_print.specs.Parts.{total_fields}
 use Rattle.pmap_print.specs.Table.{line_text}
 use Rattle.pmap_print.proofs.groups.print_group.Given as goal
 
 abbrev pub invariant-loop-part : goal.invariant-loop-part
-invariant-loop-part l =
-    l.out.items ++ line_text (map part_text (key_model l.rest) ++ total_fields l.group.totals)
-    ≡ l.initial.out.items ++ line_text (group_fields (group_model l.group))
+invariant-loop-part l = record {
+  text : l.out.items ++ line_text (map part_text (key_model l.rest) ++ total_fields l.group.totals)
+      ≡ l.initial.out.items ++ line_text (group_fields (group_model l.group));
+  lengths : l.noted ≡ true → l.lengths.items ++ sizes (map part_text (key_model l.rest)) ≡ sizes (map part_text (key_model l.group.key));
+}
 
 abbrev pub decreases-loop-part : goal.decreases-loop-part
 decreases-loop-part l = length (key_model l.rest)

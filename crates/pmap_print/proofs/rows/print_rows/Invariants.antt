@@ -1,13 +1,12 @@
-use Rattle.std.proofs.Common.{◌≡◌, ◌+◌, map, take}
-use Rattle.std.specs.Prelude.{slice_index}
-use Rattle.std.specs.List.{flat_map}
-use Rattle.flow_rows.specs.Row.{row_view}
-use Rattle.pmap_print.specs.Rows.{given_labels, row_lines}
-use Rattle.pmap_print.specs.Table.{filled_line, line_text}
+-- The lines of the header and of the rows before the index are added.
+use Rattle.std.proofs.Common.{◌≡◌, ◌+◌, is_some, take}
+use Rattle.pmap_print.specs.Columns.{IsTable, has_columns}
+use Rattle.pmap_print.specs.Parts.{column_count}
+use Rattle.pmap_print.proofs.RowLines.{lines_of}
 use Rattle.pmap_print.proofs.rows.print_rows.Given as goal
 
--- the lines so far are printed
 abbrev pub invariant-loop-i : goal.invariant-loop-i
-invariant-loop-i l =
-    l.out.items
-    ≡ flat_map line_text (map (filled_line (slice_index l.widths)) (take (l.i + 1) (row_lines (map row_view l.rows) (given_labels l.fn.labels))))
+invariant-loop-i l = record {
+  lines : IsTable (column_count (is_some l.fn.labels)) (take (l.i + 1) (lines_of l.rows l.fn.labels)) l.table;
+  columns : has_columns l.table ≡ l.columns;
+}

@@ -27,3 +27,8 @@ returns-clause-written c =
     drop-set buf (at - 1) 124 (omega (arith, short, c.write_digits-at.ensures.start, c.requires.room, c.requires.within))
     ∙ ap (λ k. 124 ∷ drop k buf) next
     ∙ ap (λ (text : List ℕ). 124 ∷ text) c.write_digits-at.ensures.written
+
+pub returns-clause-size : goal.returns-clause-size
+returns-clause-size c =
+    let short = length-decimal-le 20 c.args.number (omega arith) (omega (arith, c.ranges.number.fits)) (omega (arith, c.ranges.number.fits)) in
+    omega (arith, short, c.write_digits-at.ensures.start, c.requires.room)

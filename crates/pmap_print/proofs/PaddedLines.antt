@@ -1,0 +1,239 @@
+-- Lines whose fields are spread are the lines of a table with columns.
+use Rattle.std.proofs.Common.{ℕ, zero, suc, ◌≡◌, ◌+◌, ◌-◌, ◌*◌, ◌<◌, ◌≤◌, ◌∙◌, max, All, List, [], ◌∷◌, ◌++◌, length, map, take, drop, get_or, replicate, add-zero, ap, sym, subst, refl, arith, append_assoc, drop-cons}
+use Rattle.std.specs.Prelude.{◌%◌, ◌/◌, fold, slice_index, sum, true}
+use Rattle.std.specs.List.{enumerate_from, flat_map, join_with_byte}
+use Rattle.std.proofs.Math.Nat.{add-mod_right, mul-div_cancel}
+use Rattle.std.proofs.lemmas.Grind.{flat_map-append}
+use Rattle.std.proofs.lemmas.Nat.{mod-mul-add}
+use Rattle.std.proofs.lemmas.List.{append-nil, drop_all, get_or-map, length-append, length-map, map-append, take_all, take_at}
+use Rattle.std.proofs.lemmas.List.Elements.{All-head, All-tail}
+use Rattle.pmap_print.specs.Columns.{AreNoted, CanSpread, IsNoted, joined, noted, sizes, spread}
+use Rattle.pmap_print.specs.declared.columns.Columns.{Columns}
+use Rattle.pmap_print.specs.Table.{Line, Text, column_width, filled, filled_line, line_text, table_text}
+use Rattle.pmap_print.proofs.Spreading.{joined-le, length-filled}
+
+-- a slice of all elements that was written
+pub whole_slice : (len : ℕ) (new given old : List ℕ) → length new ≡ length given → length given ≡ len → given ≡ old
+    → take len (new ++ drop (length new) old) ≡ new
+whole_slice len new given old n m e =
+    let short : length old ≤ length new = omega (arith, n, ap length e) in
+    let all : length new ≤ len = omega (arith, n, m) in
+    ap (λ (l : List ℕ). take len (new ++ l)) (drop_all (length new) old short)
+    ∙ ap (λ (l : List ℕ). take len l) (append-nil new) ∙ take_all len new all
+
+sum-from : (a b : ℕ) (ns : List ℕ) → fold (λ a x. a + x) (a + b) ns ≡ a + fold (λ a x. a + x) b ns
+sum-from a b [] = refl
+sum-from a b (n ∷ ns) = ap (λ m. fold (λ a x. a + x) m ns) (omega arith) ∙ sum-from a (b + n) ns
+
+sum-cons : (n : ℕ) (ns : List ℕ) → sum (n ∷ ns) ≡ n + sum ns
+sum-cons n ns = ap (λ m. fold (λ a x. a + x) m ns) (omega arith) ∙ sum-from n 0 ns
+
+-- the fields of a line, each with the byte that ends it
+abbrev pub pieces : Line → List Text
+pieces [] = []
+pieces (f ∷ []) = (f ++ 10 ∷ []) ∷ []
+pieces (f ∷ g ∷ fs) = (f ++ 124 ∷ []) ∷ pieces (g ∷ fs)
+
+-- a line whose first field has this place
+filled_from : (ℕ → ℕ) → ℕ → Line → Line
+filled_from width place fields = map (λ e. filled (width e.0) e.1) (enumerate_from place fields)
+
+length-pieces : (line : Line) → map length (pieces line) ≡ sizes line
+length-pieces [] = refl
+length-pieces (f ∷ []) = ap (λ n. n ∷ []) (length-append f (10 ∷ []))
+length-pieces (f ∷ g ∷ fs) =
+    ap (λ n. n ∷ map length (pieces (g ∷ fs))) (length-append f (124 ∷ [])) ∙ ap (λ (ns : List ℕ). (length f + 1) ∷ ns) (length-pieces (g ∷ fs))
+
+joined-pieces : (line : Line) → 0 < length line → joined (pieces line) ≡ line_text line
+joined-pieces [] some = absurd (omega (arith, some))
+joined-pieces (f ∷ []) some = append-nil (f ++ 10 ∷ [])
+joined-pieces (f ∷ g ∷ fs) some =
+    ap (λ (text : Text). (f ++ 124 ∷ []) ++ text) (joined-pieces (g ∷ fs) (omega arith))
+    ∙ append_assoc f (124 ∷ []) (line_text (g ∷ fs))
+    ∙ sym (append_assoc f (124 ∷ join_with_byte 124 (g ∷ fs)) (10 ∷ []))
+
+filled-piece : (width : ℕ) (f : Text) (end : ℕ) → filled (width + 1) (f ++ end ∷ []) ≡ filled width f ++ end ∷ []
+filled-piece width f end =
+    let same : (width + 1) - length (f ++ end ∷ []) ≡ width - length f = omega (arith, length-append f (end ∷ [])) in
+    ap (λ k. replicate k 32 ++ (f ++ end ∷ [])) same ∙ sym (append_assoc (replicate (width - length f) 32) f (end ∷ []))
+
+-- so many texts further the columns are the same
+period : (widths : List ℕ) (i : ℕ) (texts : List Text) → spread widths (i + length widths) texts ≡ spread widths i texts
+period widths i [] = refl
+period widths i (t ∷ texts) =
+    let next : (i + length widths) + 1 ≡ (i + 1) + length widths = omega arith in
+    ap (λ k. filled (slice_index widths k) t ++ spread widths ((i + length widths) + 1) texts) (add-mod_right i (length widths))
+    ∙ ap (λ k. filled (slice_index widths (i % length widths)) t ++ spread widths k texts) next
+    ∙ ap (λ (text : Text). filled (slice_index widths (i % length widths)) t ++ text) (period widths (i + 1) texts)
+
+below : (i n : ℕ) → i < n → i % n ≡ i
+below i n h = let same : i ≡ 0 * n + i = omega arith in ap (λ k. k % n) same ∙ mod-mul-add 0 n i h
+
+module _ (widths : List ℕ) (width : ℕ → ℕ) (same : (k : ℕ) → k < length widths → slice_index widths k ≡ width k + 1) where
+  -- a field in its column
+  here : (k : ℕ) (f : Text) (end : ℕ) → k < length widths
+      → filled (slice_index widths (k % length widths)) (f ++ end ∷ []) ≡ filled (width k) f ++ end ∷ []
+  here k f end inside =
+      ap (λ n. filled (slice_index widths n) (f ++ end ∷ [])) (below k (length widths) inside)
+      ∙ ap (λ n. filled n (f ++ end ∷ [])) (same k inside) ∙ filled-piece (width k) f end
+
+  spread-line : (k : ℕ) (line : Line) (more : List Text) → 0 < length line → k + length line ≡ length widths
+      → spread widths k (pieces line ++ more) ≡ line_text (filled_from width k line) ++ spread widths 0 more
+  unfolding filled_from
+  spread-line k [] more some all = absurd (omega (arith, some))
+  spread-line k (f ∷ []) more some all =
+      let next : k + 1 ≡ 0 + length widths = omega (arith, all) in
+      ap (λ (text : Text). text ++ spread widths (k + 1) more) (here k f 10 (omega (arith, all)))
+      ∙ ap (λ n. (filled (width k) f ++ 10 ∷ []) ++ spread widths n more) next
+      ∙ ap (λ (text : Text). (filled (width k) f ++ 10 ∷ []) ++ text) (period widths 0 more)
+  spread-line k (f ∷ g ∷ fs) more some all =
+      let first : Text = filled (width k) f in
+      let others : Line = filled_from width (k + 1) (g ∷ fs) in
+      ap (λ (text : Text). text ++ spread widths (k + 1) (pieces (g ∷ fs) ++ more)) (here k f 124 (omega (arith, all)))
+      ∙ ap (λ (text : Text). (first ++ 124 ∷ []) ++ text) (spread-line (k + 1) (g ∷ fs) more (omega arith) (omega (arith, all)))
+      ∙ sym (append_assoc (first ++ 124 ∷ []) (line_text others) (spread widths 0 more))
+      ∙ ap (λ (text : Text). text ++ spread widths 0 more)
+      (append_assoc first (124 ∷ []) (line_text others) ∙ sym (append_assoc first (124 ∷ join_with_byte 124 others) (10 ∷ [])))
+
+  pub spread-lines : (lines : List Line) → 0 < length widths → All (λ line. length line ≡ length widths) lines
+      → spread widths 0 (flat_map pieces lines) ≡ flat_map line_text (map (filled_line width) lines)
+  unfolding filled_from
+  spread-lines [] some even = refl
+  spread-lines (line ∷ lines) some even =
+      let all : length line ≡ length widths = All-head (λ (l : Line). length l ≡ length widths) line lines even in
+      spread-line 0 line (flat_map pieces lines) (omega (arith, all)) (omega (arith, all))
+      ∙ ap (λ (text : Text). line_text (filled_line width line) ++ text)
+      (spread-lines lines some (All-tail (λ (l : Line). length l ≡ length widths) line lines even))
+
+  -- no field of a line is wider than its column
+  length-line : (k : ℕ) (line : Line) → 0 < length line → k + length line ≡ length widths
+      → ((j : ℕ) → length (get_or line j []) ≤ width (k + j))
+      → length (line_text (filled_from width k line)) ≡ sum (drop k widths)
+  unfolding filled_from
+  length-line k [] some all narrow = absurd (omega (arith, some))
+  length-line k (f ∷ []) some all narrow =
+      let first : sum (drop k widths) ≡ slice_index widths k + sum (drop (suc k) widths) = ap sum (drop-cons widths k 0 (omega (arith, all))) ∙ sum-cons (slice_index widths k) (drop (suc k) widths) in
+      let none : sum (drop (suc k) widths) ≡ 0 = ap sum (drop_all (suc k) widths (omega (arith, all))) in
+      omega (arith, first, none, same k (omega (arith, all)), length-filled (width k) f, narrow 0, ap width (add-zero k), length-append (filled (width k) f) (10 ∷ []))
+  length-line k (f ∷ g ∷ fs) some all narrow =
+      let others : Line = filled_from width (k + 1) (g ∷ fs) in
+      let first : sum (drop k widths) ≡ slice_index widths k + sum (drop (suc k) widths) = ap sum (drop-cons widths k 0 (omega (arith, all))) ∙ sum-cons (slice_index widths k) (drop (suc k) widths) in
+      let here : suc k ≡ k + 1 = omega arith in
+      let next : sum (drop (suc k) widths) ≡ sum (drop (k + 1) widths) = ap (λ n. sum (drop n widths)) here in
+      let rest : length (line_text others) ≡ sum (drop (k + 1) widths) =
+      length-line (k + 1) (g ∷ fs) (omega arith) (omega (arith, all))
+      (λ j. let there : k + suc j ≡ (k + 1) + j = omega arith in omega (arith, narrow (suc j), ap width there)) in
+      omega (
+        arith,
+        first,
+        next,
+        rest,
+        same k (omega (arith, all)),
+        length-filled (width k) f,
+        narrow 0,
+        ap width (add-zero k),
+        length-append (filled (width k) f ++ 124 ∷ join_with_byte 124 others) (10 ∷ []),
+        length-append (filled (width k) f) (124 ∷ join_with_byte 124 others),
+        length-append (join_with_byte 124 others) (10 ∷ []),
+      )
+
+  pub length-lines : (lines : List Line) → 0 < length widths → All (λ line. length line ≡ length widths) lines
+      → All (λ line. (j : ℕ) → length (get_or line j []) ≤ width j) lines
+      → length (flat_map line_text (map (filled_line width) lines)) ≡ sum widths * length lines
+  unfolding filled_from
+  length-lines [] some even narrow = omega arith
+  length-lines (line ∷ lines) some even narrow =
+      let P : Line → Type 0 = λ l. (j : ℕ) → length (get_or l j []) ≤ width j in
+      let all : length line ≡ length widths = All-head (λ (l : Line). length l ≡ length widths) line lines even in
+      let first : length (line_text (filled_line width line)) ≡ sum widths =
+      length-line 0 line (omega (arith, all)) (omega (arith, all)) (λ j. let here : 0 + j ≡ j = omega arith in omega (arith, All-head P line lines narrow j, ap width here)) in
+      let rest = length-lines lines some (All-tail (λ (l : Line). length l ≡ length widths) line lines even) (All-tail P line lines narrow) in
+      omega (arith, first, rest, length-append (line_text (filled_line width line)) (flat_map line_text (map (filled_line width) lines)))
+
+-- the fields of lines with their ends are the text of the lines, and their lengths
+all_sizes : (lines : List Line) → map length (flat_map pieces lines) ≡ flat_map sizes lines
+all_sizes [] = refl
+all_sizes (line ∷ lines) =
+    map-append length (pieces line) (flat_map pieces lines)
+    ∙ ap (λ (ns : List ℕ). ns ++ map length (flat_map pieces lines)) (length-pieces line)
+    ∙ ap (λ (ns : List ℕ). sizes line ++ ns) (all_sizes lines)
+
+all_joined : (count : ℕ) (lines : List Line) → 0 < count → All (λ line. length line ≡ count) lines
+    → joined (flat_map pieces lines) ≡ flat_map line_text lines
+all_joined count [] some even = refl
+all_joined count (line ∷ lines) some even =
+    let all : length line ≡ count = All-head (λ (l : Line). length l ≡ count) line lines even in
+    flat_map-append (λ text. text) (pieces line) (flat_map pieces lines)
+    ∙ ap (λ (text : Text). text ++ joined (flat_map pieces lines)) (joined-pieces line (omega (arith, all)))
+    ∙ ap (λ (text : Text). line_text line ++ text) (all_joined count lines some (All-tail (λ (l : Line). length l ≡ count) line lines even))
+
+all_fields : (count : ℕ) (lines : List Line) → All (λ line. length line ≡ count) lines → length (flat_map sizes lines) ≡ length lines * count
+all_fields count [] even = omega arith
+all_fields count (line ∷ lines) even =
+    let all : length line ≡ count = All-head (λ (l : Line). length l ≡ count) line lines even in
+    omega (
+      arith,
+      all,
+      all_fields count lines (All-tail (λ (l : Line). length l ≡ count) line lines even),
+      length-append (sizes line) (flat_map sizes lines),
+      length-map line (λ f. length f + 1),
+    )
+
+-- no field is wider than its column
+fold-le : (a : ℕ) (ns : List ℕ) → a ≤ fold max a ns
+fold-le a [] = omega arith
+fold-le a (n ∷ ns) = omega (arith, fold-le (max a n) ns)
+
+fold-at : (a : ℕ) (ns : List ℕ) (i : ℕ) → i < length ns → get_or ns i 0 ≤ fold max a ns
+fold-at a [] i inside = absurd (omega (arith, inside))
+fold-at a (n ∷ ns) zero inside = omega (arith, fold-le (max a n) ns)
+fold-at a (n ∷ ns) (suc i) inside = fold-at (max a n) ns i (omega (arith, inside))
+
+narrow : (lines : List Line) → All (λ line. (j : ℕ) → length (get_or line j []) ≤ column_width lines j) lines
+narrow lines = λ i d inside j.
+    let size : Line → ℕ = λ fields. length (get_or fields j []) in
+    omega (arith, fold-at 0 (map size lines) i (omega (arith, length-map lines size, inside)), get_or-map size lines i d 0 inside)
+
+-- noted lines can be spread, and so are those of a table with columns
+pub spread-noted : (count : ℕ) (lines : List Line) (c : Columns) → IsNoted count lines c
+    → spread c.widths.items 0 (flat_map pieces lines) ≡ table_text true lines
+spread-noted count lines c is =
+    let even : All (λ (line : Line). length line ≡ length c.widths.items) lines = subst (λ n. All (λ (line : Line). length line ≡ n) lines) (sym is.columns) is.even in
+    spread-lines c.widths.items (column_width lines) (λ k inside. is.widths k (omega (arith, inside, is.columns))) lines (omega (arith, is.some, is.columns)) even
+
+noted-count : (count : ℕ) (lines : List Line) (c : Columns) → IsNoted count lines c → length c.short.items ≡ length lines * length c.widths.items
+noted-count count lines c is =
+    ap length is.lengths.bytes ∙ length-map (flat_map sizes lines) noted ∙ all_fields count lines is.even ∙ ap (λ n. length lines * n) (sym is.columns)
+
+padded-size : (count : ℕ) (lines : List Line) (c : Columns) → IsNoted count lines c
+    → length (spread c.widths.items 0 (flat_map pieces lines)) ≡ sum c.widths.items * (length c.short.items / length c.widths.items)
+padded-size count lines c is =
+    let even : All (λ (line : Line). length line ≡ length c.widths.items) lines = subst (λ n. All (λ (line : Line). length line ≡ n) lines) (sym is.columns) is.even in
+    let some : 0 < length c.widths.items = omega (arith, is.some, is.columns) in
+    let same : (k : ℕ) → k < length c.widths.items → slice_index c.widths.items k ≡ column_width lines k + 1 = λ k inside. is.widths k (omega (arith, inside, is.columns)) in
+    let lines_are : length c.short.items / length c.widths.items ≡ length lines =
+    ap (λ n. n / length c.widths.items) (noted-count count lines c is) ∙ mul-div_cancel (length lines) some in
+    ap length (spread-lines c.widths.items (column_width lines) same lines some even)
+    ∙ length-lines c.widths.items (column_width lines) same lines some even (narrow lines)
+    ∙ ap (λ n. sum c.widths.items * n) (sym lines_are)
+
+pub can_spread : (count : ℕ) (lines : List Line) (c : Columns) (text new : Text) (plain size spaces : ℕ) → IsNoted count lines c → text ≡ flat_map line_text lines
+    → plain ≡ length text → size ≡ sum c.widths.items * (length c.short.items / length c.widths.items)
+    → new ≡ take size text ++ replicate spaces 32 → length new ≡ size → CanSpread (flat_map pieces lines) c plain new
+can_spread count lines c text new plain size spaces is text_is plain_is size_is new_is len =
+    let some : 0 < length c.widths.items = omega (arith, is.some, is.columns) in
+    let fields : length (flat_map pieces lines) ≡ length lines * length c.widths.items =
+    sym (length-map (flat_map pieces lines) length) ∙ ap length (all_sizes lines) ∙ all_fields count lines is.even ∙ ap (λ n. length lines * n) (sym is.columns) in
+    let whole : joined (flat_map pieces lines) ≡ text = all_joined count lines is.some is.even ∙ sym text_is in
+    let longer : length text ≤ size =
+    omega (arith, joined-le c.widths.items 0 (flat_map pieces lines), ap length whole, padded-size count lines c is, size_is) in
+    record {
+      some = some;
+      even = ap (λ n. n % length c.widths.items) (fields ∙ sym (add-zero (length lines * length c.widths.items))) ∙ mod-mul-add (length lines) (length c.widths.items) 0 some;
+      lengths = subst (λ (ns : List ℕ). AreNoted ns c.short.items c.long.items) (sym (all_sizes lines)) is.lengths;
+      size = ap length whole ∙ sym plain_is;
+      front =
+          ap (take plain) (new_is ∙ ap (λ (l : Text). l ++ replicate spaces 32) (take_all size text longer))
+          ∙ take_at text (replicate spaces 32) plain (sym plain_is) ∙ sym whole;
+      fills = padded-size count lines c is ∙ sym size_is ∙ sym len;
+    }

@@ -1,0 +1,36 @@
+-- One more line of a table.
+use Rattle.std.proofs.Common.{ℕ, Bool, true, ◌≡◌, ◌∙◌, List, [], ◌∷◌, ◌++◌, Option, Some, None, is_some, option_map, unwrap_or, length, ap, sym, subst, refl}
+use Rattle.std.specs.List.{flat_map}
+use Rattle.std.specs.Option.{ForSome}
+use Rattle.std.proofs.lemmas.Grind.{flat_map-append}
+use Rattle.std.proofs.lemmas.List.{append-nil}
+use Rattle.flow_rows.specs.Row.{RowView}
+use Rattle.pmap_print.specs.declared.labels.RowLabels.{RowLabels}
+use Rattle.pmap_print.specs.declared.columns.Columns.{Columns}
+use Rattle.pmap_print.specs.declared.table.Table.{Table}
+use Rattle.pmap_print.specs.Columns.{IsNoted, IsTable}
+use Rattle.pmap_print.specs.Parts.{column_count}
+use Rattle.pmap_print.specs.Rows.{label_texts, row_line}
+use Rattle.pmap_print.specs.Table.{Line, Text, line_text}
+
+pub line_printed : (count : ℕ) (lines : List Line) (line : Line) (old new : Table) → IsTable count lines old
+    → new.text.items ≡ old.text.items ++ line_text line → ForSome new.columns (IsNoted count (lines ++ line ∷ []))
+    → IsTable count (lines ++ line ∷ []) new
+line_printed count lines line old new is text noted = record {
+  text =
+      text ∙ ap (λ (l : Text). l ++ line_text line) is.text
+      ∙ ap (λ (l : Text). flat_map line_text lines ++ l) (sym (append-nil (line_text line))) ∙ sym (flat_map-append line_text lines (line ∷ []));
+  noted = noted;
+}
+
+pub length-row_line : (row : RowView) (labels : Option RowLabels) → length (row_line row (option_map label_texts labels)) ≡ column_count (is_some labels)
+length-row_line row None = refl
+length-row_line row (Some labels) = refl
+
+-- what holds of noted columns, if a flag says that there are some
+pub noted-if : (P : Columns → Type 0) (F : Type 0) (columns : Option Columns) (flag : Bool) → is_some columns ≡ flag → (flag ≡ true → F) → (F → ForSome columns P)
+    → ForSome columns P
+noted-if P F columns flag same has given = λ x e. given (has (sym same ∙ ap is_some e)) x e
+
+pub some-noted : (P : Columns → Type 0) (c : Columns) → P c → ForSome (Some c) P
+some-noted P c holds = λ x e. subst P (ap (λ o. unwrap_or o c) e) holds

@@ -1,0 +1,13 @@
+-- The names of the fields before the index are printed, and the others and those of the totals are to follow.
+use Rattle.std.proofs.Common.{◌≡◌, ◌++◌, drop, map}
+use Rattle.flow_uniq.specs.Field.{field_name}
+use Rattle.pmap_print.specs.Columns.{sizes}
+use Rattle.pmap_print.specs.Groups.{group_titles, total_titles}
+use Rattle.pmap_print.specs.Table.{line_text}
+use Rattle.pmap_print.proofs.groups.print_title.Given as goal
+
+abbrev pub invariant-loop-field : goal.invariant-loop-field
+invariant-loop-field l = record {
+  text : l.out.items ++ line_text (map field_name (drop l.field-index l.fields) ++ total_titles) ≡ l.initial.out.items ++ line_text (group_titles l.fields);
+  lengths : l.lengths.items ++ sizes (map field_name (drop l.field-index l.fields)) ≡ sizes (map field_name l.fields);
+}

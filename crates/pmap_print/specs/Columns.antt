@@ -1,0 +1,57 @@
+-- How the lengths of a table's fields are noted, and its fields spread to columns.
+use Rattle.std.specs.Prelude.{◌≡◌, ℕ, ◌+◌, ◌<◌, ◌%◌, List, [], ◌∷◌, ◌++◌, All, Bool, filter, is_some, length, map, nat_le, slice_index, take, if◌then◌else◌}
+use Rattle.std.specs.List.{flat_map}
+use Rattle.std.specs.Option.{ForSome}
+use Rattle.pmap_print.specs.declared.columns.Columns.{Columns}
+use Rattle.pmap_print.specs.declared.table.Table.{Table}
+use Rattle.pmap_print.specs.Table.{Line, Text, column_width, filled, line_text}
+
+-- the lengths of the fields of a line, each with the byte that ends it
+abbrev pub sizes : Line → List ℕ
+sizes fields = map (λ f. length f + 1) fields
+
+-- whether a length is noted in full, and the byte that notes it
+abbrev pub is_long : ℕ → Bool
+is_long n = nat_le 255 n
+
+abbrev pub noted : ℕ → ℕ
+noted n = if is_long n then 255 else n
+
+-- these lengths are noted
+pub record AreNoted (lengths : List ℕ) (short long : List ℕ) : Type 0 where
+  pub bytes : short ≡ map noted lengths
+  pub others : long ≡ filter is_long lengths
+
+-- lines of so many fields are noted
+pub record IsNoted (count : ℕ) (lines : List Line) (c : Columns) : Type 0 where
+  pub some : 0 < count
+  pub even : All (λ line. length line ≡ count) lines
+  pub columns : length c.widths.items ≡ count
+  pub lengths : AreNoted (flat_map sizes lines) c.short.items c.long.items
+  pub widths : (k : ℕ) → k < count → slice_index c.widths.items k ≡ column_width lines k + 1
+
+-- whether the lines of a table are padded to columns
+abbrev pub has_columns : Table → Bool
+has_columns t = is_some t.columns
+
+-- the table has these lines, each of so many fields
+pub record IsTable (count : ℕ) (lines : List Line) (t : Table) : Type 0 where
+  pub text : t.text.items ≡ flat_map line_text lines
+  pub noted : ForSome t.columns (IsNoted count lines)
+
+-- texts one after the other, and so from an index on, each filled to the width of its column
+abbrev pub joined : List Text → Text
+joined texts = flat_map (λ text. text) texts
+
+abbrev pub spread : List ℕ → ℕ → List Text → Text
+spread widths index [] = []
+spread widths index (text ∷ texts) = filled (slice_index widths (index % length widths)) text ++ spread widths (index + 1) texts
+
+-- the texts at the beginning of a text are noted lines, and spread they fill the text
+pub record CanSpread (texts : List Text) (c : Columns) (plain : ℕ) (text : Text) : Type 0 where
+  pub some : 0 < length c.widths.items
+  pub even : length texts % length c.widths.items ≡ 0
+  pub lengths : AreNoted (map length texts) c.short.items c.long.items
+  pub size : length (joined texts) ≡ plain
+  pub front : take plain text ≡ joined texts
+  pub fills : length (spread c.widths.items 0 texts) ≡ length text

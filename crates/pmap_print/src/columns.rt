@@ -1,0 +1,170 @@
+//! The columns of a table.
+ghost use Rattle.std.specs.Prelude.{◌≡◌, ℕ, ◌+◌, ◌-◌, ◌*◌, ◌/◌, ◌%◌, ◌<◌, ◌≤◌, List, [], ◌∷◌, ◌++◌, IfOk, IfSome, OnOk, drop, filter, length, map, replicate, sum, take, true};
+ghost use Rattle.std.specs.List.{flat_map};
+ghost use Rattle.pmap_print.specs.Columns.{AreNoted, CanSpread, IsNoted, is_long, noted, sizes, spread};
+ghost use Rattle.pmap_print.specs.Table.{Line, Text, line_text, table_text};
+
+use std::alloc::{AllocError, Global};
+
+// The least length that doesn't fit in a byte beside this mark.
+const LONG: usize = 255;
+
+/// The lengths of the fields of a table's lines, each with the byte that ends the field.
+#[derive(Drop)]
+pub struct Columns {
+    // The length of each field, or `LONG` for one at least so long.
+    short: Vec<u8>,
+    // The lengths of the fields that are at least so long.
+    long: Vec<usize>,
+    // The greatest length in each column.
+    widths: Vec<usize>,
+}
+
+// Returns the length that the last byte notes, and the long lengths before it.
+#[inline(always)]
+fn last_length(byte: u8, long: &[usize]) -> (usize, &[usize])
+    ensures { (ns : List ℕ) → (n : ℕ) → byte ≡ noted n → long.now ≡ filter is_long (ns ++ n ∷ [])
+        → (result.0 ≡ n) × (result.1.now ≡ filter is_long ns) }
+{
+    let length = usize::from(byte);
+    if length < LONG {
+        return (length, long);
+    }
+    match long.split_last() {
+        Some((last, others)) => (*last, others),
+        None => (length, long),
+    }
+}
+
+// Returns the column before one of `count`. Before the first is the last one of the previous line.
+#[inline]
+fn column_before(column: usize, count: usize) -> usize
+    requires { 0 < count }
+    ensures { (i : ℕ) → column ≡ (i + 1) % count → result ≡ i % count }
+{
+    if column == 0 { count - 1 } else { column - 1 }
+}
+
+// Copies a part of a text to the right. Most often the two parts don't overlap, which is faster.
+#[inline(always)]
+fn copy_right(text: &mut [u8], from: usize, count: usize, to: usize)
+    requires right { from ≤ to }
+    requires within { to + count ≤ length text.old }
+    ensures { text.new ≡ take to text.old ++ (take count (drop from text.old) ++ drop (to + count) text.old) }
+{
+    if from + count <= to {
+        let (front, back) = text.split_at_mut(to);
+        back[..count].copy_from_slice(&front[from..from + count]);
+    } else {
+        text.copy_within(from..from + count, to);
+    }
+}
+
+// Moves a part of a text to the right, and puts spaces before it.
+#[inline(always)]
+fn move_right(text: &mut [u8], from: usize, count: usize, to: usize, spaces: usize)
+    requires right { from ≤ to }
+    requires within { to + spaces + count ≤ length text.old }
+    ensures len { length text.new ≡ length text.old }
+    ensures front { take from text.new ≡ take from text.old }
+    ensures back { drop to text.new
+        ≡ replicate spaces 32 ++ (take count (drop from text.old) ++ drop (to + spaces + count) text.old) }
+{
+    copy_right(text, from, count, to + spaces);
+    text[to..to + spaces].fill(b' ');
+}
+
+impl Columns {
+    /// Returns the lengths of no lines, with `count` columns.
+    pub fn new(alloc: Global, count: usize) -> Result<Columns, AllocError>
+        requires { 0 < count }
+        ensures { IfOk result (IsNoted count []) }
+    {
+        Ok(Columns {
+            short: Vec::new(alloc),
+            long: Vec::new(alloc),
+            // The byte that ends a field counts.
+            widths: vec![in alloc; 1usize; count]?,
+        })
+    }
+
+    // Notes a length.
+    #[inline(always)]
+    fn note_length(&mut self, size: usize) -> Result<(), AllocError>
+        ensures widths { self.new.widths ≡ self.old.widths }
+        ensures noted { OnOk result ((lengths : List ℕ) → AreNoted lengths self.old.short.items self.old.long.items
+            → AreNoted (lengths ++ size ∷ []) self.new.short.items self.new.long.items) }
+    {
+        if size < LONG {
+            self.short.push(size as u8)?;
+        } else {
+            self.short.push(LONG as u8)?;
+            self.long.push(size)?;
+        }
+        Ok(())
+    }
+
+    /// Notes the lengths of the fields of a line. If an allocation fails, some of them may have been noted.
+    #[inline(always)]
+    pub fn note(&mut self, lengths: &[usize]) -> Result<(), AllocError>
+        requires { length lengths.now ≤ length self.old.widths.items }
+        ensures { OnOk result ((count : ℕ) → (lines : List Line) → (line : Line) → IsNoted count lines self.old
+            → length line ≡ count → lengths.now ≡ sizes line → IsNoted count (lines ++ line ∷ []) self.new) }
+    {
+        for (i, length) in lengths.iter().enumerate() {
+            self.note_length(*length)?;
+            self.widths[i] = self.widths[i].max(*length);
+        }
+        Ok(())
+    }
+
+    // Returns the length of the lines in columns, or `None` if no text can be so long.
+    fn spread_length(&self) -> Option<usize>
+        requires { 0 < length self.now.widths.items }
+        ensures { IfSome result (λ n. n
+            ≡ sum self.now.widths.items * (length self.now.short.items / length self.now.widths.items)) }
+    {
+        let mut line: usize = 0;
+        for width in self.widths.as_slice() {
+            line = line.checked_add(*width)?;
+        }
+        line.checked_mul(self.short.len() / self.widths.len())
+    }
+
+    // Moves the fields, with which the text begins, each to its column, from the last to the first.
+    fn spread(&self, text: &mut [u8], plain: usize)
+        requires { (texts : List Text) × CanSpread texts self.now plain text.old }
+        ensures { (texts : List Text) → CanSpread texts self.now plain text.old
+            → text.new ≡ spread self.now.widths.items 0 texts }
+    {
+        let mut from = plain;
+        let mut to = text.len();
+        let mut column = 0;
+        let mut long = self.long.as_slice();
+        for i in (0..self.short.len()).rev() {
+            let (length, others) = last_length(self.short[i], long);
+            column = column_before(column, self.widths.len());
+            let spaces = self.widths[column].saturating_sub(length);
+            from -= length;
+            to -= spaces + length;
+            move_right(text, from, length, to, spaces);
+            long = others;
+        }
+    }
+
+    /// Pads the fields of the lines to the widths of their columns. If an allocation fails, the text is unchanged.
+    pub fn pad(&self, text: &mut Vec<u8>) -> Result<(), AllocError>
+        requires { (count : ℕ) × (lines : List Line) × IsNoted count lines self.now
+            × (text.old.items ≡ flat_map line_text lines) }
+        ensures { (count : ℕ) → (lines : List Line) → IsNoted count lines self.now
+            → text.old.items ≡ flat_map line_text lines → OnOk result (text.new.items ≡ table_text true lines) }
+    {
+        let Some(length) = self.spread_length() else {
+            return Err(AllocError);
+        };
+        let plain = text.len();
+        text.resize(length, b' ')?;
+        self.spread(text.as_mut_slice(), plain);
+        Ok(())
+    }
+}
