@@ -1,4 +1,4 @@
--- What the answer of `parse` follows from: the kind of clap's error, or the entries of its matches.
+-- How the answer of `parse` follows from the kind of clap's error, or from the entries of its matches.
 use Rattle.std.proofs.Common.{◌≡◌, ◌≢◌, ◌⊎◌, ◌∙◌, ◌||◌, Bool, true, false, List, [], ◌∷◌, Option, Some, None, Result, Ok, Err, refl, sym, ap, ap₂, inl, inr, codes}
 use Rattle.std.specs.Prelude.{IfErr, IfOk, option_map, unwrap_or, if◌then◌else◌}
 use Rattle.std.specs.List.{list_any}
@@ -56,7 +56,7 @@ fault_at words k (Help text) (inr among) h = among_passes is_help k _ among h
 fault_at words k NoMemory from h = tt
 fault_at words k fault from h = absurd h
 
--- a fault of the program's own that is the answer to the words comes of them
+-- a fault of the program's own that answers the words is a fault of theirs
 fault_of_answer : (words : List Text) (f : UsageFault) → IsOwnFault f → Answers words (Err f) → IsFaultAt words f
 fault_of_answer words (Refused text) own is = absurd own
 fault_of_answer words NotUtf8 own is = absurd own
@@ -64,7 +64,7 @@ fault_of_answer words (Help text) own is = absurd own
 fault_of_answer words NoMemory own is = tt
 fault_of_answer words fault own is = is
 
--- steps that answer by no refusal of clap's and no help do so one after the other
+-- two steps that give neither a refusal of clap's nor help give neither one after the other
 then_own : {A B : Type 0} (r : Result A UsageFault) (f : A → Result B UsageFault) → IsOwnAnswer r → ((x : A) → IsOwnAnswer (f x))
     → IsOwnAnswer (r >>= f)
 then_own (Ok x) f own all = all x
@@ -84,7 +84,7 @@ address_own : (source : LabelSource) (address : Option AddressOf) → IsOwnAnswe
 address_own source None = tt
 address_own source (Some address) = tt
 
--- the label command answers so
+-- the label command gives neither
 label_own : (rows : List Row) → IsOwnAnswer (answer_of_label rows)
 label_own rows =
     then_own (sources_in_rows rows) _ (source_own _ _)
@@ -135,7 +135,7 @@ either_own : (b : Bool) (answer other : Answer) → IsOwnAnswer answer → IsOwn
 either_own true answer other p q = p
 either_own false answer other p q = q
 
--- each command answers so
+-- no command gives either
 pub answer_own : (p : Text × List Row) → IsOwnAnswer (answer_of p)
 answer_own p =
     either_own (bytes_eq p.0 (codes "info")) (Ok (info (text_in_rows (codes "flows") p.1))) _ tt
@@ -147,7 +147,7 @@ answer_own p =
     (Ok (check (text_in_rows (codes "pmap") p.1) (text_in_rows (codes "list") p.1) (text_in_rows (codes "cert") p.1))) _ tt
     (either_own (bytes_eq p.0 (codes "recert")) (Ok (recert (text_in_rows (codes "cert") p.1))) _ tt (label_own p.1)))))))
 
--- memory aside, the result is that of the answer
+-- memory aside, the result is the answer
 fault_unless_memory : (answer : Answer) (fault : UsageFault) → (fault ≢ NoMemory → answer ≡ Err fault) → IsUnlessMemory answer (Err fault)
 fault_unless_memory answer NoMemory says = tt
 fault_unless_memory answer fault says = says (λ e. cc)
@@ -157,7 +157,7 @@ pub unless_memory : (answer : Answer) (r : Result Command UsageFault) → IfOk r
 unless_memory answer (Ok command) ok err = ok
 unless_memory answer (Err fault) ok err = fault_unless_memory answer fault err
 
--- and the answer's own, or want of memory
+-- and the answer's own, or out of memory
 said_or_memory : (answer : Answer) (fault : UsageFault) → IsUnlessMemory answer (Err fault) → (fault ≡ NoMemory) ⊎ (answer ≡ Err fault)
 said_or_memory answer NoMemory says = inl refl
 said_or_memory answer fault says = inr says
@@ -166,7 +166,7 @@ own_or_memory : (answer : Answer) (fault : UsageFault) → IsOwnAnswer answer �
 own_or_memory answer fault is (inl none) = rw none tt
 own_or_memory answer fault is (inr says) = rw says at is
 
--- and so does a result that says the same, memory aside
+-- and so is a result that is equal to it, memory aside
 pub own : (answer : Answer) (r : Result Command UsageFault) → IsOwnAnswer answer → IsUnlessMemory answer r → IsOwnAnswer r
 own answer (Ok command) is says = tt
 own answer (Err fault) is says = own_or_memory answer fault is (said_or_memory answer fault says)
@@ -185,7 +185,7 @@ pub subcommand_is : (m : ArgMatches) (name : Text) (rows : List Row) → subcomm
     → option_map (λ p. p.1) (subcommand_rows_of m) ≡ Some rows → subcommand_rows_of m ≡ Some (name, rows)
 subcommand_is m name rows e f = pair_is (subcommand_rows_of m) name rows (map_twice (λ p. p.0) _ _ ∙ e) f
 
--- the subcommand that clap found is that of its specification, so its answer is that of the words
+-- the subcommand that clap found is the one of its specification, so its answer is the answer to the words
 pub answers : (words : List Text) (p : Text × List Row) (r : Result Command UsageFault) → fault_of flowlabel_app words ≡ []
     → subcommand_of flowlabel_app words ≡ Some p → IsUnlessMemory (answer_of p) r → IsAnswer words r
 answers words p (Ok command) none found says = (none, ap (option_map answer_of) found ∙ ap Some says)
@@ -196,7 +196,7 @@ answers words p (Err fault) none found says = elim (said_or_memory (answer_of p)
       fault_of_answer words fault own_fault (none, ap (option_map answer_of) found ∙ ap Some said)
 ]
 
--- a fault that comes of want of memory is no refusal of clap's and no help
+-- the fault that reports out of memory is neither a refusal of clap's nor help
 pub own_of_memory : (k : ErrorKind) (f : UsageFault) → k ≡ kind.OutOfMemory → IsFaultOfKind k f → IsOwnFault f
 own_of_memory k (Refused text) e h =
     let bad : false ≡ true = rw e at h in

@@ -30,7 +30,7 @@ kept (Some bytes) = refl
 
 module _ {R W : Type 0} (answers : Text → Option R → Type 0) (left : R → Option (List ℕ)) (failed : R → Bool)
     (taken : W → Option (List ℕ)) (last : W → LastCall) (words : List Text) (old : W) where
-  -- where no file is read yet nothing is written
+  -- before a file is read nothing is written
   pub untouched : IsUntouched taken last old old
   untouched = (kept (taken old), refl)
 
@@ -40,7 +40,7 @@ module _ {R W : Type 0} (answers : Text → Option R → Type 0) (left : R → O
   end_of_open request (CannotOpen file) is first = (request, is, first, untouched)
   end_of_open request fault is (turn, cannot, before) = absurd cannot
 
-  -- a fault that a `?` hands on ends the program as it did
+  -- a fault that a `?` passes on ends the program in the same way
   pub passed_up : (r : Result (Unit {0}) RunFault) (fault : RunFault) → IsErrAnd r (λ y. y ≡ fault)
       → IsEndOf answers left failed taken last words old old (Err fault) → IsEndOf answers left failed taken last words old old r
   passed_up (Ok done) fault is end = absurd is
@@ -57,7 +57,7 @@ module _ {R W : Type 0} (answers : Text → Option R → Type 0) (left : R → O
   end_of_run request inputs inputs' new (Err (CannotOpen file)) asked ok err = absurd err
   end_of_run request inputs inputs' new (Err fault) asked ok err = (request, inputs, inputs', asked, err)
 
--- that fault is none of the writer's
+-- such a fault isn't a fault of the writer
 no_write_stop : (A : Type 0) {R : Type 0} (answers : Text → Option R → Type 0) (names : FileNames) (fault : RunFault)
     → CannotOpenFirst answers names fault → is_write_stop {A = A} (Err fault) ≡ false
 no_write_stop A answers names CannotWrite (turn, cannot, before) = absurd cannot

@@ -1,5 +1,5 @@
--- Under a map text and under a list text whose list labels as the map does, a request has the same outputs: the two labellings
--- are equal.
+-- A request has the same outputs under a map text and under a list text whose list labels as the map does: the two
+-- labellings are equal.
 use Rattle.std.proofs.Common.{◌≡◌, ◌⊎◌, ℕ, List, Some, None, sym, subst, inl, inr}
 use Rattle.std.specs.Prelude.{◌↔◌}
 use Rattle.pmap_text.specs.ListModel.{IsEquivalent, ListModel}

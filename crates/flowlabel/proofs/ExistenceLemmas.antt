@@ -1,4 +1,5 @@
--- A request has an output over any texts: each text is read or has a first fault, and what is read has what is printed of it.
+-- A request has an output over any texts: each text is read or has a first fault, and what is read has what is printed
+-- of it.
 use Rattle.std.proofs.Common.{◌≡◌, ◌⊎◌, ℕ, List, [], Option, Some, None, Result, Ok, Err, inl, inr, refl}
 use Rattle.std.specs.Prelude.{length}
 use Rattle.prefix_keys.specs.declared.version.Version.{Version}
@@ -31,7 +32,7 @@ use Rattle.flowlabel.specs.declared.bytes_fault.BytesFault.TheVariants.{Map as I
 use Rattle.flowlabel.specs.declared.command.Shrunk.{Shrunk}
 use Rattle.flowlabel.specs.Request.{FromList, FromMap, LabelSource, Request, label, info, rows, cat, shrink, check, uniq, recert}
 
--- there is an outcome of this kind
+-- some outcome meets the condition
 abbrev Has : (Outcome → Type 0) → Type 0
 Has P = (outcome : Outcome) × P outcome
 

@@ -32,12 +32,12 @@ use Rattle.flowlabel.specs.declared.inputs.Inputs.{Inputs}
 use Rattle.flowlabel.specs.declared.inputs.Source.{Source}
 use Rattle.flowlabel.specs.declared.run.loaded.Loaded.{Loaded}
 
--- what holds of a fault that a `?` hands on holds of the answer
+-- a fault that a `?` passes on keeps its properties
 pub passed_on : {A F : Type 0} (P : F → Type 0) (r : Result A F) (fault : F) → IsErrAnd r (λ y. y ≡ fault) → P fault → IfErr r P
 passed_on P (Ok done) fault is holds = absurd is
 passed_on P (Err other) fault is holds = subst P (sym is) holds
 
--- and it ends both for the same reason
+-- and it ends both results for the same reason
 same_stop : (A B : Type 0) (fault : RunFault) → is_read_stop {A = B} (Err fault) ≡ is_read_stop {A = A} (Err fault)
 same_stop A B (CannotRead file) = refl
 same_stop A B fault = refl
@@ -48,7 +48,7 @@ stop_handed_on A B (Ok done) fault is = absurd is
 stop_handed_on A B (Err other) fault is =
     subst (λ (f : RunFault). is_read_stop {A = B} (Err f) ≡ is_read_stop {A = A} (Err other)) is (same_stop A B other)
 
--- a fault of a File that isn't want of memory is the bytes' own
+-- a fault of a File other than out of memory is a fault of its bytes
 pub own_fault : (bytes text : List ℕ) (fault : ReadFault) → (fault ≡ out_of_memory) ⊎ HasFileFault [] 0 0 bytes fault → bytes ≡ text
     → is_want_of_memory (InFlows fault) ≡ false → HasFileFault [] 0 0 text fault
 own_fault bytes text fault (inl none) same other =
@@ -92,7 +92,7 @@ module _ {R : Type 0} (failed : R → Bool) (old : Inputs R) (none : any_failed 
   no_flows_failed : source_failed failed old.flows ≡ false
   no_flows_failed = or_back (source_failed failed old.certificate) _ (or_back (source_failed failed old.list) _ (or_back (source_failed failed old.map) _ none))
 
-  -- where no reader had failed, the one that has been read since tells whether one has
+  -- if no reader had failed, the reader that has been read since decides whether one has
   pub map_tells : (map : Option (Source R)) (b : Bool) → source_failed failed map ≡ b → any_failed failed (record old { map = map }) ≡ b
   map_tells map b is = rw (is, no_list_failed, no_certificate_failed, no_flows_failed) (or_last b)
 
@@ -133,7 +133,7 @@ module _ {R : Type 0} (left : R → Option (List ℕ)) where
   fault_joins failed old new over over' joins fault is = absurd is
 
   module _ (failed : R → Bool) (old new : Inputs R) (needs : Needs) (needed : AreNeeded needs old) where
-    -- a fault at a turn, where the inputs before it are read and those behind it are kept
+    -- a fault at a turn, if the inputs before it are read and those after it are unchanged
     pub at_turn : (turn : Turn) (input : Option (Source R)) → input_at turn new ≡ input → AreReadBefore left turn old → AreKeptBehind turn old new
         → ((texts : FileTexts) → HaveTexts left old texts → is_some (input_at turn old) ≡ true → (fault : BytesFault) → turn_of fault ≡ turn
         → ((text : List ℕ) → HasText left (input_at turn old) text → IsFaultOfText fault text) → IsFirstFault needs texts (Err fault))
@@ -354,7 +354,7 @@ parts_are_there (FromMap file) None None there there' is = cc
 parts_are_there (FromList file) None None there there' is = cc
 parts_are_there source map list there there' is = cc
 
--- labels are loaded where a source of them is needed
+-- labels are loaded if a source of them is needed
 pub labels_are_there : (source : LabelSource) (flows : Option Text) (loaded : Loaded)
     → ArePresent (needs_named (files_named (Some source) flows)) loaded → labelling_loaded loaded ≡ None → ⊥
 labels_are_there source flows loaded there is = parts_are_there source loaded.map loaded.list there.map there.list is

@@ -18,20 +18,21 @@ use Rattle.flowlabel.specs.Headline.{IsShortest, MinimalIsShortest, ShrunkIsLeas
 use Rattle.flowlabel.specs.Output.{CheckAcceptsCompact, CheckAcceptsMinimal, FileTexts, FitsText, IsOutput, minimal_text}
 use Rattle.flowlabel.specs.Request.{check}
 
--- the printed list of a map's minimal pair is read again as one of as many entries, for which the pair's certificate is accepted
+-- the printed list of a map's minimal pair is read again as one of as many entries, for which the pair's certificate is
+-- accepted
 abbrev AcceptedAgain : Type 0
 AcceptedAgain = (text : List ℕ) (m : MapModel) (l : ListModel) (c : CertificateModel) → ReadsMap text m → IsMinimalPair m l c
     → length l.prefixes ≤ mapping_limit → length (labels_of l.prefixes) ≤ label_limit
     → (again : ListModel) × ReadsList (list_text l) again × IsAccepted m again c × (length again.prefixes ≡ length l.prefixes)
 
--- a certificate compacted has a text, and is accepted where it was
+-- a compacted certificate has a text, and is accepted if the certificate is
 abbrev CompactHasText : Type 0
 CompactHasText = (c : CertificateModel) → HasFormatText c → HasFormatText (compact c)
 
 abbrev CompactIsAccepted : Type 0
 CompactIsAccepted = (m : MapModel) (l : ListModel) (c : CertificateModel) → IsOfFormat c → IsAccepted m l c → IsAccepted m l (compact c)
 
--- so `check` accepts by any certificate that is accepted where the pair's is
+-- so `check` accepts by any certificate that is accepted whenever the pair's is
 by_certificate : AcceptedAgain → (map list certificate : List ℕ) (texts : FileTexts) (m : MapModel) (l : ListModel) (c k : CertificateModel)
     → ReadsMap texts.map m → IsMinimalPair m l c → HasFormatText k → ((other : ListModel) → IsAccepted m other c → IsAccepted m other k)
     → FitsText l → texts.list ≡ list_text l → texts.certificate ≡ certificate_text k

@@ -1,5 +1,5 @@
--- A request has one output at most: a map text, a certificate's text and a File have one reading, and what comes of it is one
--- text or the first fault.
+-- A request has one output at most: a map text, a certificate's text and a File have one reading, and what comes of it
+-- is one text or the first fault.
 use Rattle.std.proofs.Common.{◌≡◌, ◌∙◌, ℕ, List, [], Option, Some, None, Ok, Err, ap, sym, subst, inl, inr, Result}
 use Rattle.std.specs.Prelude.{◌↔◌}
 use Rattle.prefix_keys.specs.declared.version.Version.{Version}
@@ -101,7 +101,7 @@ abbrev OneMinimalText : Type 0
 OneMinimalText = (printed : Shrunk) (text : List ℕ) (m : MapModel) → ReadsMap text m
     → (outcome other : Outcome) → PrintsMinimal printed m outcome → PrintsMinimal printed m other → outcome ≡ other
 
--- so it is where map texts have their labels, such a map has one minimal list, and a map one minimal certificate with a text
+-- if map texts have their labels, such a map has one minimal list, and a map one minimal certificate with a text
 pub minimal_one : ((text : List ℕ) (m : MapModel) → ReadsMap text m → HasItsLabels m)
     → ((m : MapModel) (l l' : ListModel) (c c' : CertificateModel) → IsMinimalPair m l c → IsMinimalPair m l' c' → HasItsLabels m → l ≡ l')
     → ((m : MapModel) (l l' : ListModel) (c c' : CertificateModel) → IsMinimalPair m l c → IsMinimalPair m l' c' → HasTextForm c → HasTextForm c' → c ≡ c')

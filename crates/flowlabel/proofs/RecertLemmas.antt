@@ -15,11 +15,11 @@ use Rattle.flowlabel.specs.Request.{check}
 use Rattle.flowlabel.proofs.CheckLemmas.{accepted_of, printed_of_certificate, printed_of_list, printed_of_map}
 use Rattle.flowlabel.proofs.OutputLemmas.{ReadsAsIs}
 
--- a certificate is accepted compacted where it was
+-- a compacted certificate is accepted if the certificate is
 abbrev KeepsAcceptance : Type 0
 KeepsAcceptance = (m : MapModel) (l : ListModel) (c : CertificateModel) → IsOfFormat c → IsAccepted m l c → IsAccepted m l (compact c)
 
--- where `check` prints by a certificate's text, it prints the same by the text of that compacted
+-- if `check` prints by a certificate's text, it prints the same by the text of the compacted one
 checks_again : ReadsAsIs → KeepsAcceptance → (c : CertificateModel) (before after : List ℕ) → ReadsCertificate before c → ReadsCertificate after (compact c)
     → (map list certificate : List ℕ) (texts : FileTexts) (out : List ℕ) → texts.certificate ≡ before
     → IsOutput (check map list certificate) texts (Ok out)

@@ -10,7 +10,7 @@ request_is_proper : (c : Command) → IsProper (request_of c)
 request_is_proper (Label labels addr) = addr.in_range
 request_is_proper c = tt
 
--- so are those of each answer
+-- so is the request of each answer
 pub answer_is_proper : (r : Result Command UsageFault) → IfOk r (λ c. IsProper (request_of c))
 answer_is_proper (Ok command) = request_is_proper command
 answer_is_proper (Err fault) = tt

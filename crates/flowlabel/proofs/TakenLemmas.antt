@@ -9,7 +9,7 @@ use Rattle.ipfix_read.specs.Messages.{AnswersNext, IsReadTo, ProgressView, at_st
 use Rattle.ipfix_read.specs.declared.fault.ReadFault.{ReadFault}
 use Rattle.flowlabel.specs.Taken.{HasTaken, IsFaultOfMessages}
 
--- these messages are read so far of the bytes that the reader gave, where it tells them, and it still gives the rest
+-- of the bytes that the reader gave, if it reports them, these messages are read so far, and it still gives the rest
 abbrev pub AreRead : Option (List ℕ) → Option (List ℕ) → List MessageView → ProgressView → Type 0
 AreRead given now messages p =
     IfSome given (λ bytes. (left : List ℕ) × (now ≡ Some left) × IsReadTo [] 0 0 bytes messages p left)
@@ -18,7 +18,7 @@ none_read : CallsStart → (given : Option (List ℕ)) → AreRead given given [
 none_read starts None = tt
 none_read starts (Some bytes) = (bytes, refl, starts bytes)
 
--- what the next call answers, joined to what is read so far
+-- the result of the next call, joined to what is read so far
 module _ (joins : CallsJoinFile) (now new : Option (List ℕ)) (p p' : ProgressView) (messages : List MessageView) where
   more_read : (given : Option (List ℕ)) (m : MessageView) → IfSome now (λ left. AnswersNext p left (Ok (Some m)) p' new)
       → AreRead given now messages p → AreRead given new (messages ++ m ∷ []) p'
@@ -45,7 +45,7 @@ module _ (joins : CallsJoinFile) (now new : Option (List ℕ)) (p p' : ProgressV
         | inr (inr is) ↦ inr (inr is)
       ]
 
--- what a report has taken so far is that of the messages that are read so far
+-- what a report has taken so far is the report of the messages that are read so far
 module _ {T : Type 0} (is_of : List MessageView → T → Type 0) where
   abbrev pub Held : Option (List ℕ) → Option (List ℕ) → ProgressView → T → Type 0
   Held given now p taken =

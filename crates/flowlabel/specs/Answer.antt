@@ -22,7 +22,7 @@ use Rattle.flowlabel.specs.declared.command.Shrunk.TheVariants as shrunk
 use Rattle.flowlabel.specs.declared.usage.UsageFault.{UsageFault}
 use Rattle.flowlabel.specs.declared.usage.UsageFault.TheVariants.{Refused, NotUtf8, Help, MapTwice, MapMissing, BadAddress, Filter, Key, LabelNeedsMap, CompactAlone, NoMemory}
 
--- What a command line is answered with.
+-- The answer to a command line.
 
 -- a request or a usage fault of the program's own
 abbrev pub Answer : Type 0
@@ -40,7 +40,7 @@ abbrev pub needed_source : Option LabelSource → Result LabelSource UsageFault
 needed_source None = Err MapMissing
 needed_source (Some source) = Ok source
 
--- `label` under a source, by what its address stands for
+-- `label` under a source, by the address that its word means
 abbrev pub address_answer : LabelSource → Option AddressOf → Answer
 address_answer source None = Err BadAddress
 address_answer source (Some address) = Ok (label source address)
@@ -49,7 +49,7 @@ address_answer source (Some address) = Ok (label source address)
 abbrev pub sources_in_rows : List Row → Result (Option LabelSource) UsageFault
 sources_in_rows entries = source_answer (first_of (codes "pmap") entries) (first_of (codes "list") entries)
 
--- what the word ADDR of an entry stands for
+-- the address that the word ADDR of an entry means
 abbrev pub address_in_rows : List Row → Option AddressOf
 address_in_rows entries = option_and_then address_of (first_of (codes "address") entries)
 
@@ -86,7 +86,7 @@ abbrev pub condition_answer : Result Condition FilterFault → Result Condition 
 condition_answer (Ok condition) = Ok condition
 condition_answer (Err fault) = Err (Filter fault)
 
--- the condition that the filters of entries state, or the fault of the first of them that has not its form
+-- the condition that the filters of entries state, or the fault of the first malformed one
 abbrev pub condition_in_rows : List Row → Result Condition UsageFault
 condition_in_rows entries = condition_answer (filter_of_words (words_in_rows entries))
 
@@ -98,7 +98,7 @@ fields_answer (Err fault) = Err (Key fault)
 abbrev pub fields_in_rows : List Row → Result (List KeyField) UsageFault
 fields_in_rows entries = fields_answer (keys_reading (text_in_rows (codes "fields") entries))
 
--- the request, where labels that it needs have a source
+-- the request, if the labels that it needs have a source
 abbrev pub with_labels : Bool → Option LabelSource → Request → Answer
 with_labels needed source request = if needed && is_none source then Err LabelNeedsMap else Ok request
 
@@ -146,7 +146,7 @@ answer_of found =
     else if bytes_eq found.0 (codes "recert") then Ok (recert (text_in_rows (codes "cert") found.1))
     else answer_of_label found.1
 
--- the answer to the words that clap takes, by the subcommand and the entries that it finds in them
+-- the answer to words that clap takes, by the subcommand and the entries that it finds in them
 abbrev pub own_answer : List Text → Option Answer
 own_answer words = option_map answer_of (subcommand_of flowlabel_app words)
 
@@ -171,8 +171,8 @@ SaysOnly answer (Err fault) = answer ≡ Err fault
 abbrev pub Answers : List Text → Answer → Type 0
 Answers words answer = (fault_of flowlabel_app words ≡ []) × (own_answer words ≡ Some answer)
 
--- what a fault says of the words: a refusal of clap's and its help come where it refuses the words so, and a
--- fault of the program's own where clap takes them; the words are texts
+-- what a fault says of the words: clap refuses them, or they ask for help, or clap takes them and they have a fault of
+-- the program's own; the words are texts
 abbrev pub IsFaultAt : List Text → UsageFault → Type 0
 IsFaultAt words (Refused text) = list_any is_mistake (fault_of flowlabel_app words) ≡ true
 IsFaultAt words NotUtf8 = ⊥
@@ -207,7 +207,7 @@ abbrev pub is_plain_word : Text → Bool
 is_plain_word [] = true
 is_plain_word (x ∷ xs) = not (x == 45)
 
--- words with an answer of the program's own have no other: a result that is what they ask for is that answer, memory aside
+-- words have at most one answer of the program's own: a result that is what they ask for is that answer, memory aside
 abbrev pub HaveOneAnswer : Type 0
 HaveOneAnswer = (words : List Text) (answer : Answer) (result : Result Command UsageFault)
     → Answers words answer → IsAnswer words result → IsUnlessMemory answer result
@@ -227,8 +227,8 @@ no_condition = record {
   any_label = None;
 }
 
--- Three lines as examples: `label --pmap MAP ADDRESS` is answered by its map and its address, `rows --columns FILE` asks for columns,
--- and `shrink --pmap FILE --compact` misses the certificate.
+-- Three lines as examples: the answer to `label --pmap MAP ADDRESS` is its map and its address, `rows --columns FILE`
+-- asks for columns, and `shrink --pmap FILE --compact` lacks `--certificate`.
 pub record LinesHaveAnswers (program : Text) : Type 0 where
   pub label_line : (map address : Text) → is_plain_word map ≡ true → is_plain_word address ≡ true
       → Answers (program ∷ codes "label" ∷ codes "--pmap" ∷ map ∷ address ∷ []) (address_answer (FromMap map) (address_of address))

@@ -119,7 +119,8 @@ is_want_of_memory (InFlows fault) = is_flows_want fault.kind
 is_want_of_memory (InCertificate fault) = is_certificate_want fault.kind
 is_want_of_memory (InCheck fault) = is_check_want fault.kind
 
--- the fault is no first one of a file's bytes: only calls for messages answer it, where a reader failed or a call before had a fault
+-- the fault isn't the first one of a file's bytes: only calls for messages return it, if a reader failed or after a
+-- fault
 abbrev pub is_answer_of_calls : BytesFault → Bool
 is_answer_of_calls (InFlows fault) = is_of_calls fault.kind
 is_answer_of_calls fault = false

@@ -63,7 +63,7 @@ check_rules = needed_rule (codes "pmap") ∷ needed_rule (codes "list") ∷ need
 abbrev pub recert_rules : List Rule
 recert_rules = needed_rule (codes "cert") ∷ []
 
--- the program before its subcommands: it has a version, one of them is required, and `help` is none
+-- the program before its subcommands: it has a version, one of them is required, and `help` isn't one
 abbrev pub program : App
 program = record (new_app (codes "flowlabel")) {
   top = record (new_app (codes "flowlabel")).top {

@@ -17,20 +17,20 @@ use Rattle.flowlabel.specs.declared.fault.RunFault.TheVariants.{Usage, CannotOpe
 use Rattle.flowlabel.specs.declared.inputs.Inputs.{Inputs}
 use Rattle.flowlabel.specs.declared.usage.UsageFault.TheVariants as usage
 
--- How the program ends: what its end says of its words and of its output, and what is told of it on which stream.
+-- How the program ends: what its end says of its words and of its output, and what it writes to which stream.
 
--- what is told: help, or the line of a fault
+-- what is written at the end: help, or the line of a fault
 abbrev pub told_text : {A : Type 0} → Result A RunFault → List ℕ
 told_text (Ok done) = []
 told_text (Err (Usage (usage.Help text))) = text
 told_text (Err fault) = fault_text fault
 
--- the bytes of a text that is told
+-- the bytes of the text at the end
 abbrev pub told_bytes : Told → List ℕ
 told_bytes (Lent text) = text.now
 told_bytes (Made line) = line.items
 
--- the stream on which it is told
+-- the stream to which it is written
 abbrev pub stream_of : {A : Type 0} → Result A RunFault → Stream
 stream_of (Err (Usage (usage.Help text))) = stream.Output
 stream_of result = stream.Error
@@ -63,9 +63,10 @@ pub record IsAsked {R : Type 0} (answers : Text → Option R → Type 0) (words 
 
 module _ {R W : Type 0} (answers : Text → Option R → Type 0) (left : R → Option (List ℕ)) (failed : R → Bool)
     (taken : W → Option (List ℕ)) (last : W → LastCall) where
-  -- What the end of the program says of its words and of its output, from one state of it to another. A usage fault is one of
-  -- the words. At any other end these are a request; where one of its files can't be opened, the first such file is named. Else
-  -- it is run over its files as they were opened, with the output of that run or its fault.
+  -- What the end of the program says of its words and of its output, from one state of the output to another. A usage
+  -- fault is a fault of the words. At any other end the words are a request. If one of its files can't be opened, the
+  -- first such file is named. Otherwise it is run over its files as they were opened, with the output of that run or
+  -- its fault.
   abbrev pub IsEndOf : List Text → W → W → Result (Unit {0}) RunFault → Type 0
   IsEndOf words old new (Ok done) =
       (request : Request) × (inputs : Inputs R) × IsAsked answers words request inputs

@@ -98,7 +98,7 @@ own_fault_text (File fault) = place_text fault.file.now (bytes_fault_name fault.
 abbrev pub fault_text : RunFault → List ℕ
 fault_text fault = if is_memory_fault fault then out_of_memory else own_fault_text fault
 
--- the status of a fault that doesn't say that memory ran out, and that of any fault
+-- the status of a fault other than out of memory, and that of any fault
 abbrev pub own_status_of : RunFault → ℕ
 own_status_of (Usage (usage.Help text)) = 0
 own_status_of (Usage fault) = 2
@@ -114,7 +114,7 @@ abbrev pub exit_status_of : {A : Type 0} → Result A RunFault → ℕ
 exit_status_of (Ok done) = 0
 exit_status_of (Err fault) = status_of fault
 
--- the fault of a file's bytes, by the file's name: want of memory tells no file
+-- the fault of a file's bytes, by the file's name; out of memory names no file
 abbrev pub IsInFile : List ℕ → BytesFault → RunFault → Type 0
 IsInFile file fault NoMemory = is_want_of_memory fault ≡ true
 IsInFile file fault (File other) = (other.file.now ≡ file) × (other.fault ≡ fault)

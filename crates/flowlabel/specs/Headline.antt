@@ -17,8 +17,9 @@ use Rattle.flowlabel.specs.declared.command.Shrunk.TheVariants as shrunk
 
 -- The headline: what a command that ends without a fault has written.
 
--- The list labels every address as the map does, and no list that does so has fewer entries. It has the map's name, its entries are in
--- order, and it is well formed. The certificate is accepted for the map and the list, and so it is compacted. Both have a text.
+-- The list labels every address as the map does, and no list that does so has fewer entries. It has the map's name, its
+-- entries are in order, and it is well formed. The certificate is accepted for the map and the list, and so it is
+-- compacted. Both have a text.
 pub record IsShortest (m : MapModel) (l : ListModel) (c : CertificateModel) : Type 0 where
   pub equivalent : IsEquivalent l m
   pub least : IsLeast m l
@@ -30,8 +31,8 @@ pub record IsShortest (m : MapModel) (l : ListModel) (c : CertificateModel) : Ty
   pub has_compact_text : HasFormatText (compact c)
   pub compact_accepted : IsAccepted m l (compact c)
 
--- The text is the output over one File, under a map text, and so it is under each list text whose list labels every address as the
--- map does; or under a list text, and so it is under each map text whose map the list labels alike.
+-- The text is the output over one File, under a map text, and so it is under each list text whose list labels every
+-- address as the map does; or under a list text, and so it is under each map text whose map the list labels alike.
 abbrev pub IsSameUnder : LabelSource → Request → FileTexts → List ℕ → Type 0
 IsSameUnder (FromMap file) request texts out =
     (m : MapModel) (l : ListModel) (other : Text) (others : FileTexts) → ReadsMap texts.map m → ReadsList others.list l → IsEquivalent l m
@@ -40,10 +41,10 @@ IsSameUnder (FromList file) request texts out =
     (m : MapModel) (l : ListModel) (other : Text) (others : FileTexts) → ReadsList texts.list l → ReadsMap others.map m → IsEquivalent l m
     → texts.flows ≡ others.flows → IsOutput (under (FromMap other) request) others (Ok out)
 
--- What the text that a request writes says beyond being its output, over the texts of its files:
--- `shrink`: it is the text of a shortest list for the map, or of its certificate; `check`: it is the number of entries of the list,
--- which is equivalent and least; `recert`: it is a certificate as good as the one read; all others, under a map or a list: it is the same
--- under an equivalent list or map.
+-- What the text that a request writes says beyond being its output, over the texts of its files. `shrink`: it is the
+-- text of a shortest list for the map, or of its certificate. `check`: it is the number of entries of the list, which
+-- is equivalent and least. `recert`: it is a certificate as good as the one read. All others, under a map or a list: it
+-- is the same under an equivalent list or map.
 abbrev pub IsHeadline : Request → FileTexts → List ℕ → Type 0
 IsHeadline (label source address) texts out = IsSameUnder source (label source address) texts out
 IsHeadline (info flows) texts out = Unit {0}
@@ -67,9 +68,9 @@ abbrev pub MinimalIsShortest : Type 0
 MinimalIsShortest = (text : Text) (m : MapModel) (l : ListModel) (c : CertificateModel) → ReadsMap text m → IsMinimalPair m l c → HasTextForm c
     → IsShortest m l c
 
--- The printed text of a list is read again as a list of the same version, name and entries, which labels every address as the map
--- does. And over the map's text, this text and the printed certificate, compacted or not, `check` prints the number of the list's
--- entries.
+-- The printed text of a list is read again as a list of the same version, name and entries, which labels every address
+-- as the map does. And over the map's text, this text and the printed certificate, compacted or not, `check` prints the
+-- number of the list's entries.
 pub record StandsAgain (texts : FileTexts) (m : MapModel) (l : ListModel) (c : CertificateModel) : Type 0 where
   pub again : ListModel
   pub reads : ReadsList (list_text l) again
@@ -83,8 +84,8 @@ pub record StandsAgain (texts : FileTexts) (m : MapModel) (l : ListModel) (c : C
       → IsOutput (check map list certificate) (record texts { list = list_text l; certificate = certificate_text (compact c) })
       (Ok (minimal_text (length l.prefixes)))
 
--- Over each text that is read as a map, `shrink` prints a shortest list, and in its place if it is asked for a certificate, compacted
--- or not, the one of that list. If the list is within the limits of a text, it stands again in what is printed.
+-- Over each text that is read as a map, `shrink` prints a shortest list, or, if asked for a certificate, compacted or
+-- not, the certificate of that list. If the list is within the limits of a text, it can be read again as printed.
 abbrev pub ShrunkIsLeast : Type 0
 ShrunkIsLeast = (file : Text) (texts : FileTexts) (m : MapModel) → ReadsMap texts.map m
     → (l : ListModel) × (c : CertificateModel)

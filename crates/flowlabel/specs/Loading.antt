@@ -39,7 +39,7 @@ IsListText text list = ReadsList text (list_of list)
 abbrev pub IsCertificateText : List ℕ → Certificate → Type 0
 IsCertificateText text certificate = ReadsCertificate text (certificate_of certificate)
 
--- the same where there is a value
+-- the value of an optional file has the property, if there is one
 abbrev pub Holds : {A : Type 0} → (List ℕ → A → Type 0) → List ℕ → Option A → Type 0
 Holds Reads text None = Unit {0}
 Holds Reads text (Some value) = Reads text value
@@ -50,18 +50,18 @@ pub record AreLoaded (loaded : Loaded) (texts : FileTexts) : Type 0 where
   pub list : Holds IsListText texts.list loaded.list
   pub certificate : Holds IsCertificateText texts.certificate loaded.certificate
 
--- what is needed is loaded, and nothing else
+-- exactly what is needed is loaded
 pub record ArePresent (needs : Needs) (loaded : Loaded) : Type 0 where
   pub map : is_some loaded.map ≡ needs.map
   pub list : is_some loaded.list ≡ needs.list
   pub certificate : is_some loaded.certificate ≡ needs.certificate
 
--- the text of a file, where the file is needed, is read without fault at its turn
+-- the text of a file, if the file is needed, is read without fault at its turn
 abbrev pub IsReadIf : Bool → Turn → List ℕ → Type 0
 IsReadIf false turn text = Unit {0}
 IsReadIf true turn text = IsReadAt turn text
 
--- the outcome is the first fault of the texts of a map, a list and a certificate, of which some are needed
+-- the outcome is the first fault of the texts of a map, a list and a certificate, as far as they are needed
 abbrev pub IsFirstFault : Needs → FileTexts → Outcome → Type 0
 IsFirstFault needs texts (Err (InMap fault)) = (needs.map ≡ true) × (map_reading texts.map ≡ Err fault)
 IsFirstFault needs texts (Err (InList fault)) =
@@ -75,7 +75,7 @@ abbrev pub labelling_of_either : LoadedLabels → Labelling
 labelling_of_either (Map map) = labelling_of_map (map_of map.now)
 labelling_of_either (Prefixes list) = labelling_of_list (list_of list.now)
 
--- the labelling of the map that is loaded, or else of the list
+-- the labelling of the loaded map, or otherwise of the loaded list
 abbrev pub labelling_of_parts : Option MapText → Option PrefixList → Option Labelling
 labelling_of_parts (Some map) list = Some (labelling_of_map (map_of map))
 labelling_of_parts None (Some list) = Some (labelling_of_list (list_of list))
@@ -104,13 +104,14 @@ ComesOf (recert file) loaded flows outcome =
     (certificate : Certificate) × (loaded.certificate ≡ Some certificate) × PrintsCompact (certificate_of certificate) outcome
 
 module _ {R : Type 0} where
-  -- a fault that comes behind the loading: one of the flows, or of what the certificate says, where nothing was read of the flows
+  -- a fault after the loading: one of the flows, or, if nothing was read of the flows, one of what the certificate says
   abbrev pub IsLateFault : Inputs R → Inputs R → Bor (List ℕ) → BytesFault → Type 0
   IsLateFault old new file (InFlows fault) = HasName old.flows file
   IsLateFault old new file (InCheck fault) = HasName old.certificate file × (new.flows ≡ old.flows)
   IsLateFault old new file fault = ⊥
 
-  -- what a fault says of what comes of loaded files and the flows, by the relation of the bytes of the flows to the outcome
+  -- what a fault says of what comes of loaded files and the flows, by the relation of the bytes of the flows to the
+  -- outcome
   abbrev pub IsFaultOfAnswer : (R → Option (List ℕ)) → (R → Bool) → Inputs R → Inputs R → (List ℕ → Outcome → Type 0) → RunFault → Type 0
   IsFaultOfAnswer left failed old new over (CannotRead file) = HasFailed failed old.flows new.flows file
   IsFaultOfAnswer left failed old new over NoMemory = Unit {0}

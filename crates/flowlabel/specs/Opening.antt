@@ -9,7 +9,7 @@ use Rattle.flowlabel.specs.declared.inputs.Source.{Source}
 
 -- How the files of a request are opened.
 
--- the name of the file that is read at a turn, where there is one
+-- the name of the file that is read at a turn, if there is one
 abbrev pub name_at : Turn → FileNames → Option Text
 name_at MapTurn names = names.map
 name_at ListTurn names = names.list
@@ -24,7 +24,7 @@ module _ {R : Type 0} where
     pub certificate : name_of inputs.certificate ≡ names.certificate
     pub flows : name_of inputs.flows ≡ names.flows
 
-  -- each input is the answer to its name, where `answers` says what may be answered to a name: a reader, or that there is none
+  -- each input is a result for its name, `answers` giving the possible results: a reader, or none
   abbrev pub IsOpened : (Text → Option R → Type 0) → Option (Source R) → Type 0
   IsOpened answers None = Unit {0}
   IsOpened answers (Some source) = answers source.name.now (Some source.reader)
@@ -35,7 +35,7 @@ module _ {R : Type 0} where
     pub certificate : IsOpened answers inputs.certificate
     pub flows : IsOpened answers inputs.flows
 
-  -- where a file is named, a reader may be answered to its name
+  -- if a file is named, a reader is a possible result for its name
   abbrev pub CanOpen : (Text → Option R → Type 0) → Option Text → Type 0
   CanOpen answers None = Unit {0}
   CanOpen answers (Some name) = (reader : R) × answers name (Some reader)
@@ -52,7 +52,7 @@ module _ {R : Type 0} where
   CannotOpenNamed answers name (CannotOpen file) = (name ≡ Some file.now) × answers file.now None
   CannotOpenNamed answers name fault = ⊥
 
-  -- the fault says that of the first of the files that can't be opened
+  -- the fault reports the first of the files that can't be opened
   abbrev pub CannotOpenFirst : (Text → Option R → Type 0) → FileNames → RunFault → Type 0
   CannotOpenFirst answers names fault =
       (turn : Turn) × CannotOpenNamed answers (name_at turn names) fault × CanOpenBefore answers turn names

@@ -23,11 +23,11 @@ pub data LabelSource : Type 0 where
   FromMap : (file : Text) → LabelSource
   FromList : (file : Text) → LabelSource
 
--- label: the label that the labels of a file give an address; info: the counts of the messages of a File; rows: the rows
--- of its records that meet a condition, with the labels of their addresses where there is a source of labels, in columns of
--- even width or not; uniq: the groups of such rows by fields, with their totals, sorted or in the order of their first rows;
--- cat: the runs of the labels of a file; shrink: the shortest list of a map, or in its place the certificate of that, compacted or
--- not; check: whether a certificate shows that a list is a shortest one for a map; recert: a certificate compacted
+-- label: the label that the labels of a file give an address; info: the counts of the messages of a File; rows: the
+-- rows of its records that meet a condition, with the labels of their addresses if there is a source of labels, in
+-- padded columns or not; uniq: the groups of such rows by fields, with their totals, sorted or in the order of their
+-- first rows; cat: the runs of the labels of a file; shrink: the shortest list of a map, or its certificate, compacted
+-- or not; check: whether a certificate shows that a list is a shortest one for a map; recert: a certificate compacted
 pub data Request : Type 0 where
   label : (source : LabelSource) (address : AddressOf) → Request
   info : (flows : Text) → Request
@@ -47,12 +47,12 @@ abbrev pub IsProper : Request → Type 0
 IsProper (label source address) = IsAddress address
 IsProper request = Unit {0}
 
--- the source that a file of labels stands for
+-- the source that a file of labels is
 abbrev pub source_of : LabelFile → LabelSource
 source_of (Map file) = FromMap file.now
 source_of (Prefixes file) = FromList file.now
 
--- the request that a command stands for
+-- the request of a command
 abbrev pub request_of : Command → Request
 request_of (Label labels addr) = label (source_of labels) (addr.version, addr.value)
 request_of (Info flows) = info flows.now
@@ -119,7 +119,7 @@ needs_named names = record {
 abbrev pub needs_of : Request → Needs
 needs_of request = needs_named (files_of request)
 
--- there is a file name for each input that is read, and no other
+-- exactly the inputs that are read have a file name
 abbrev pub NamesNeeds : Needs → Files → Type 0
 NamesNeeds needs files = (is_some files.map ≡ needs.map) × (is_some files.list ≡ needs.list)
     × (is_some files.certificate ≡ needs.certificate) × (is_some files.flows ≡ needs.flows)

@@ -17,12 +17,12 @@ use Rattle.flowlabel.specs.declared.inputs.Source.{Source}
 -- What a run of a command does with the readers of its files and the writer of its output.
 
 module _ {R : Type 0} where
-  -- where the reader tells its bytes, they are this text; an input that isn't read has no bytes
+  -- if the reader reports its bytes, they are this text; an input that isn't read has no bytes
   abbrev pub HasText : (R → Option (List ℕ)) → Option (Source R) → List ℕ → Type 0
   HasText left None text = text ≡ []
   HasText left (Some source) text = left source.reader ≡ Some text
 
-  -- the readers tell their bytes, which are these texts
+  -- the readers report their bytes, which are these texts
   pub record HaveTexts (left : R → Option (List ℕ)) (inputs : Inputs R) (texts : FileTexts) : Type 0 where
     pub map : HasText left inputs.map texts.map
     pub list : HasText left inputs.list texts.list
@@ -38,7 +38,7 @@ module _ {R : Type 0} where
   any_failed failed inputs = source_failed failed inputs.map || (source_failed failed inputs.list
       || (source_failed failed inputs.certificate || source_failed failed inputs.flows))
 
-  -- the name of an input, where it is there
+  -- the name of an input, if it is there
   abbrev pub name_of : Option (Source R) → Option Text
   name_of = option_map (λ source. source.name.now)
 
@@ -46,11 +46,11 @@ module _ {R : Type 0} where
   abbrev pub HasName : Option (Source R) → Bor (List ℕ) → Type 0
   HasName input file = name_of input ≡ Some file.now
 
-  -- the input had this name before the call, and its reader has failed behind it
+  -- the input had this name before the call, and its reader has failed since
   abbrev pub HasFailed : (R → Bool) → Option (Source R) → Option (Source R) → Bor (List ℕ) → Type 0
   HasFailed failed old new file = HasName old file × (source_failed failed new ≡ true)
 
-  -- where an input is there and its reader tells its bytes, they are read without fault at this turn
+  -- if an input is there and its reader reports its bytes, they are read without fault at this turn
   abbrev pub IsRead : (R → Option (List ℕ)) → Turn → Option (Source R) → Type 0
   IsRead left turn None = Unit {0}
   IsRead left turn (Some source) = (text : List ℕ) → left source.reader ≡ Some text → IsReadAt turn text
@@ -63,14 +63,14 @@ module _ {R : Type 0} where
   AreReadBefore left FlowsTurn inputs =
       IsRead left MapTurn inputs.map × IsRead left ListTurn inputs.list × IsRead left CertificateTurn inputs.certificate
 
-  -- the inputs whose turn comes behind this one are what they were: nothing was read of them
+  -- the inputs of later turns are unchanged: nothing was read of them
   abbrev pub AreKeptBehind : Turn → Inputs R → Inputs R → Type 0
   AreKeptBehind MapTurn old new = (new.list ≡ old.list) × (new.certificate ≡ old.certificate) × (new.flows ≡ old.flows)
   AreKeptBehind ListTurn old new = (new.certificate ≡ old.certificate) × (new.flows ≡ old.flows)
   AreKeptBehind CertificateTurn old new = new.flows ≡ old.flows
   AreKeptBehind FlowsTurn old new = Unit {0}
 
-  -- the output of the request by the bytes that the readers told, where they tell them
+  -- the output of the request by the bytes that the readers reported, if they report them
   abbrev pub PrintsThen : (R → Option (List ℕ)) → Inputs R → Request → (List ℕ → Type 0) → Type 0
   PrintsThen left inputs request P =
       (texts : FileTexts) → HaveTexts left inputs texts → (out : List ℕ) × IsOutput request texts (Ok out) × P out
@@ -80,8 +80,8 @@ module _ {R : Type 0} where
   HeadlineThen left inputs request P =
       (texts : FileTexts) → HaveTexts left inputs texts → (out : List ℕ) × IsHeadline request texts out × P out
 
-  -- what a fault of reading and decoding one input says: the input, by its name before the call, has a reader that has failed, or
-  -- a text with this fault
+  -- what a fault of reading and decoding one input says: the input, by its name before the call, has a reader that has
+  -- failed, or a text with this fault
   abbrev pub IsStop : (R → Option (List ℕ)) → (R → Bool) → Turn → Option (Source R) → Option (Source R) → RunFault → Type 0
   IsStop left failed turn old new (CannotRead file) = HasFailed failed old new file
   IsStop left failed turn old new NoMemory = Unit {0}
@@ -89,9 +89,9 @@ module _ {R : Type 0} where
       × ((text : List ℕ) → HasText left old text → IsFaultOfText fault.fault text)
   IsStop left failed turn old new fault = ⊥
 
-  -- What a fault that comes before anything is written says, by the relation of the files' texts to the outcome, names being
-  -- those before the call. A fault of a file's bytes is the outcome. Where a reader that is named has failed, the files before it
-  -- were read without fault. Either way the files behind that one were not read.
+  -- What a fault before anything is written says, by the relation of the files' texts to the outcome, names being those
+  -- before the call. A fault of a file's bytes is the outcome. If a reader that is named has failed, the files before
+  -- it were read without fault. Either way the files after that one were not read.
   abbrev pub IsFaultOfBytes : (R → Option (List ℕ)) → (R → Bool) → Inputs R → Inputs R → (FileTexts → Outcome → Type 0) → RunFault → Type 0
   IsFaultOfBytes left failed old new over (CannotRead file) =
       (turn : Turn) × HasFailed failed (input_at turn old) (input_at turn new) file × AreReadBefore left turn old × AreKeptBehind turn old new
@@ -108,8 +108,8 @@ module _ {R : Type 0} where
     pub certificate : is_some inputs.certificate ≡ needs.certificate
     pub flows : is_some inputs.flows ≡ needs.flows
 
--- what a fault of a run says: after a write fault the writer has a prefix of the output, or all of it where the flush
--- failed; any other fault comes before the writer has a call
+-- what a fault of a run says: after a write fault the writer has a prefix of the output, or all of it if the flush
+-- failed; any other fault comes before the writer is called
 module _ {R W : Type 0} (left : R → Option (List ℕ)) (failed : R → Bool) (taken : W → Option (List ℕ)) (last : W → LastCall) where
   abbrev pub IsFaultOfRun : Inputs R → Inputs R → W → W → Request → RunFault → Type 0
   IsFaultOfRun old new writer writer' request (CannotRead file) =
@@ -129,12 +129,13 @@ abbrev pub is_write_stop : {A : Type 0} → Result A RunFault → Bool
 is_write_stop (Err CannotWrite) = true
 is_write_stop result = false
 
--- What a run of a request does, where no reader and not the writer has failed before.
+-- What a run of a request does, if neither a reader nor the writer has failed before.
 module _ {R W : Type 0} (left : R → Option (List ℕ)) (failed : R → Bool) (taken : W → Option (List ℕ)) (last : W → LastCall) (stuck : W → Bool) where
   pub record IsRunOf (request : Request) (old new : Inputs R) (writer writer' : W) (result : Result (Unit {0}) RunFault) : Type 0 where
     -- the writer took exactly the output of the bytes read
     pub ok : OnOk result (PrintsThen left old request (Appends (taken writer) (taken writer')))
-    -- so the headline holds for what was written: a shortest list, a list checked to be least, the same report under map and list
+    -- so the headline holds for what was written: a shortest list, a list checked to be least, the same report under
+    -- map and list
     pub headline : OnOk result (HeadlineThen left old request (Appends (taken writer) (taken writer')))
     -- and it was flushed after that
     pub flushed : OnOk result (last writer' ≡ Flush)

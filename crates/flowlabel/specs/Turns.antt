@@ -43,7 +43,7 @@ IsFaultOfText (InFlows fault) text = HasFileFault [] 0 0 text fault
 IsFaultOfText (InCertificate fault) text = format_reading text ≡ Err fault
 IsFaultOfText (InCheck fault) text = ⊥
 
--- the input that is read at a turn, where there is one
+-- the input that is read at a turn, if there is one
 abbrev pub input_at : {R : Type 0} → Turn → Inputs R → Option (Source R)
 input_at MapTurn inputs = inputs.map
 input_at ListTurn inputs = inputs.list

@@ -53,7 +53,7 @@ impl BytesFault {
         }
     }
 
-    /// Where it is: a line of a text, an offset into a File, or a node of a certificate.
+    /// Its position: a line of a text, an offset into a File, or a node of a certificate.
     pub fn place(&self) -> u64
         ensures { result ≡ bytes_fault_place self.now }
     {

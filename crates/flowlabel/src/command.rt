@@ -21,11 +21,11 @@ pub enum Shrunk {
     List,
     /// `--certificate`: the certificate of that.
     Certificate,
-    /// `--certificate --compact`: the same certificate, compacted.
+    /// `--certificate --compact`: that certificate, compacted.
     Compact,
 }
 
-/// What a command line asks for, its file names and texts lent from the words.
+/// What a command line asks for. File names and texts are borrowed from the words.
 #[derive(Drop)]
 pub enum Command<'a> {
     /// `label (--pmap FILE | --list FILE) ADDR`: the label of an address.
@@ -37,16 +37,16 @@ pub enum Command<'a> {
     Info {
         flows: &'a str,
     },
-    /// `rows [--pmap FILE | --list FILE] [filters] [--columns] FILE`: the rows of an IPFIX File that pass the filter, with
-    /// labels where a file of them is named, padded to columns where that is asked for.
+    /// `rows [--pmap FILE | --list FILE] [filters] [--columns] FILE`: the rows of an IPFIX File that pass the filter,
+    /// with labels if a file of them is named, padded to columns if asked for.
     Rows {
         labels: Option<LabelFile<'a>>,
         filter: Filter<'a>,
         columns: bool,
         flows: &'a str,
     },
-    /// `uniq --fields NAMES [--pmap FILE | --list FILE] [filters] [--sort-output] [--columns] FILE`: the groups of these
-    /// rows by fields of them, with their totals, in the order of their first rows or sorted.
+    /// `uniq --fields NAMES [--pmap FILE | --list FILE] [filters] [--sort-output] [--columns] FILE`: the groups of
+    /// these rows by fields of them, with their totals, in the order of their first rows or sorted.
     Uniq {
         keys: Keys,
         labels: Option<LabelFile<'a>>,
@@ -59,13 +59,14 @@ pub enum Command<'a> {
     Cat {
         labels: LabelFile<'a>,
     },
-    /// `shrink --pmap FILE [--certificate] [--compact]`: the shortest prefix list that labels every address as the map does,
-    /// or in its place the certificate of that, compacted or not.
+    /// `shrink --pmap FILE [--certificate] [--compact]`: the shortest prefix list that labels every address as the map
+    /// does, or in its place the certificate of that, compacted or not.
     Shrink {
         map: &'a str,
         printed: Shrunk,
     },
-    /// `check --pmap FILE --list FILE --cert FILE`: whether a certificate shows that a list is a shortest one for a map.
+    /// `check --pmap FILE --list FILE --cert FILE`: whether a certificate shows that a list is a shortest one for a
+    /// map.
     Check {
         map: &'a str,
         list: &'a str,
@@ -86,7 +87,7 @@ pub struct Needs {
     pub flows: bool,
 }
 
-/// The name of each file that a command reads, as it stands on the command line.
+/// The name of each file that a command reads, as on the command line.
 #[derive(Clone, Copy)]
 pub struct Files<'a> {
     pub map: Option<&'a str>,
@@ -96,7 +97,7 @@ pub struct Files<'a> {
 }
 
 impl<'a> Files<'a> {
-    // The file of labels, and the File, where they are there.
+    // The file of labels, and the File, if they are there.
     fn named(labels: Option<LabelFile<'a>>, flows: Option<&'a str>) -> Files<'a>
         ensures { names_of result ≡ files_named (option_map source_of labels.entry) (option_map (λ s. s.now) flows.entry) }
     {

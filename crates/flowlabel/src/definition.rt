@@ -43,7 +43,7 @@ fn option<'a>(
         .help(help)
 }
 
-// The same, where it has to be there.
+// `--name VALUE`, which must be given.
 fn needed_option<'a>(
     alloc: Global,
     name: &'a str,
@@ -134,7 +134,7 @@ fn info<'a>(alloc: Global) -> Result<Command<'a>, AllocError>
     let about = "Print the counts of an IPFIX File";
     let usage = "flowlabel info FILE";
     let example = example!(
-        "how many messages, sets and records a File has",
+        "the numbers of messages, sets and records",
         "flowlabel info flows.ipfix"
     );
     let arguments = vec![in alloc; word(alloc, "flows", "FILE", "The IPFIX File")]?;
@@ -145,15 +145,16 @@ fn info<'a>(alloc: Global) -> Result<Command<'a>, AllocError>
 fn filters<'a>(alloc: Global) -> Result<Vec<Arg<'a>>, AllocError>
     ensures { IfOk result (λ arguments. AllZip IsArgument filter_rules arguments.items) }
 {
-    let protocols = "Rows of these protocols, as 6,17 or 1-16";
-    let from_ports = "Rows from these ports";
-    let to_ports = "Rows to these ports";
-    let from_addresses = "Rows from these addresses, as 10.0.0.1,2001:db8::/32";
-    let to_addresses = "Rows to these addresses";
-    let packets = "Rows of so many packets, as 5, 5- or 5-9";
-    let src_label = "Rows whose source has this label";
-    let dst_label = "Rows whose destination has this label";
-    let any_label = "Rows of which one address has this label";
+    let protocols = "Flows of these protocols, such as 6,17 or 1-16";
+    let from_ports = "Flows from these ports";
+    let to_ports = "Flows to these ports";
+    let from_addresses = "Flows from these addresses: 10.0.0.1,2001:db8::/32";
+    let to_addresses = "Flows to these addresses";
+    let packets = "Flows with so many packets, such as 5, 5- or 5-9";
+    let bytes = "Flows with so many bytes";
+    let src_label = "Flows whose source has this label";
+    let dst_label = "Flows whose destination has this label";
+    let any_label = "Flows whose source or destination has this label";
     Ok(vec![in alloc;
         option(alloc, "protocol", "NUMBERS", "Filters", protocols),
         option(alloc, "sport", "NUMBERS", "Filters", from_ports),
@@ -161,7 +162,7 @@ fn filters<'a>(alloc: Global) -> Result<Vec<Arg<'a>>, AllocError>
         option(alloc, "saddress", "BLOCKS", "Filters", from_addresses),
         option(alloc, "daddress", "BLOCKS", "Filters", to_addresses),
         option(alloc, "packets", "RANGE", "Filters", packets),
-        option(alloc, "bytes", "RANGE", "Filters", "Rows of so many bytes"),
+        option(alloc, "bytes", "RANGE", "Filters", bytes),
         option(alloc, "src-label", "LABEL", "Filters", src_label),
         option(alloc, "dst-label", "LABEL", "Filters", dst_label),
         option(alloc, "any-label", "LABEL", "Filters", any_label),
@@ -172,7 +173,7 @@ fn filters<'a>(alloc: Global) -> Result<Vec<Arg<'a>>, AllocError>
 fn rows<'a>(alloc: Global) -> Result<Command<'a>, AllocError>
     ensures { IfOk result (IsLeaf (codes "rows") rows_rules) }
 {
-    let about = "Print the rows of an IPFIX File";
+    let about = "Print the flows of an IPFIX File";
     let usage = "flowlabel rows [--pmap FILE | --list FILE] [OPTIONS] FILE";
     let example = example!(
         "the flows from the customer Cedar to port 443",
@@ -183,7 +184,7 @@ fn rows<'a>(alloc: Global) -> Result<Command<'a>, AllocError>
         option(alloc, "list", "FILE", "Labels", "The prefix list"),
     ]?;
     let last = vec![in alloc;
-        flag(alloc, "columns", "Pad the values to columns"),
+        flag(alloc, "columns", "Pad the fields to columns"),
         word(alloc, "flows", "FILE", "The IPFIX File"),
     ]?;
     command(alloc, "rows", about, usage, example, labels)?
@@ -195,14 +196,14 @@ fn rows<'a>(alloc: Global) -> Result<Command<'a>, AllocError>
 fn uniq<'a>(alloc: Global) -> Result<Command<'a>, AllocError>
     ensures { IfOk result (IsLeaf (codes "uniq") uniq_rules) }
 {
-    let about = "Print the groups of the rows of an IPFIX File";
+    let about = "Print the sums of the flows of an IPFIX File";
     let usage = "flowlabel uniq --fields NAMES [--pmap FILE | --list FILE] [OPTIONS] FILE";
     let example = example!(
-        "the sums by the customer that flows went to",
+        "the sums by the customer that receives",
         "flowlabel uniq --fields dst-label --pmap customers.txt flows.ipfix"
     );
     let fields =
-        "What to sum by, as sip,dport: sip, dip, sport, dport,\nproto, flags, src-label, dst-label";
+        "The fields to sum by, such as sip,dport: sip, dip,\nsport, dport, proto, flags, src-label, dst-label";
     let labels = vec![in alloc;
         needed_option(alloc, "fields", "NAMES", "Keys", fields),
         option(alloc, "pmap", "FILE", "Labels", "The prefix map"),
@@ -212,9 +213,9 @@ fn uniq<'a>(alloc: Global) -> Result<Command<'a>, AllocError>
         flag(
             alloc,
             "sort-output",
-            "Print the groups in the order of their keys"
+            "Print the sums in the order of their keys"
         ),
-        flag(alloc, "columns", "Pad the values to columns"),
+        flag(alloc, "columns", "Pad the fields to columns"),
         word(alloc, "flows", "FILE", "The IPFIX File"),
     ]?;
     command(alloc, "uniq", about, usage, example, labels)?
@@ -254,9 +255,9 @@ fn shrink<'a>(alloc: Global) -> Result<Command<'a>, AllocError>
         flag(
             alloc,
             "certificate",
-            "Print the certificate in place of the list"
+            "Print the certificate instead of the list"
         ),
-        flag(alloc, "compact", "Print the certificate compacted"),
+        flag(alloc, "compact", "Print the certificate in compact form"),
     ]?;
     command(alloc, "shrink", about, usage, example, arguments)
 }
@@ -265,7 +266,7 @@ fn shrink<'a>(alloc: Global) -> Result<Command<'a>, AllocError>
 fn check<'a>(alloc: Global) -> Result<Command<'a>, AllocError>
     ensures { IfOk result (IsLeaf (codes "check") check_rules) }
 {
-    let about = "Check that a list is a shortest one for a map, by a certificate";
+    let about = "Check by a certificate that a list is a shortest one for a map";
     let usage = "flowlabel check --pmap FILE --list FILE --cert FILE";
     let example = example!(
         "whether list.txt is a shortest list",
@@ -283,10 +284,10 @@ fn check<'a>(alloc: Global) -> Result<Command<'a>, AllocError>
 fn recert<'a>(alloc: Global) -> Result<Command<'a>, AllocError>
     ensures { IfOk result (IsLeaf (codes "recert") recert_rules) }
 {
-    let about = "Print a certificate compacted";
+    let about = "Print a certificate in compact form";
     let usage = "flowlabel recert --cert FILE";
     let example = example!(
-        "the certificate cert.txt with a line for each chain",
+        "a shorter form of cert.txt",
         "flowlabel recert --cert cert.txt >compact.txt"
     );
     let arguments = vec![in alloc;

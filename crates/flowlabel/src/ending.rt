@@ -1,4 +1,4 @@
-//! How the program ends: the exit status, and what is told on which stream.
+//! How the program ends: the exit status, and what is written to which stream.
 ghost use Rattle.std.specs.Prelude.{◌≡◌, false, true, is_ok, IfErr, IfOk};
 ghost use Rattle.flowlabel.specs.Ending.{IsSilent, IsTold, stream_of, told_bytes, told_text};
 ghost use Rattle.flowlabel.specs.declared.ending.Stream.TheVariants as stream;
@@ -18,7 +18,7 @@ pub enum Stream {
     Error,
 }
 
-/// What is told.
+/// What is written at the end.
 #[derive(Drop)]
 pub enum Told<'a> {
     /// A text of clap's, as it is.
@@ -44,13 +44,13 @@ impl Told<'_> {
 pub struct Ending<'a> {
     /// The exit status.
     pub status: u8,
-    /// The stream on which the text is told.
+    /// The stream to which the text is written.
     pub stream: Stream,
-    /// The text, where there was memory for it.
+    /// The text, if there was memory for it.
     pub text: Result<Told<'a>, AllocError>,
 }
 
-// The text that is told: help, for which no memory is asked, or the line of a fault.
+// The text at the end: help, which takes no memory, or the line of a fault.
 fn told_text<'a>(
     alloc: Global,
     outcome: &'a Result<(), RunFault<'_>>,
@@ -65,7 +65,7 @@ fn told_text<'a>(
     }
 }
 
-// The stream on which it is told.
+// The stream to which it is written.
 fn stream_of(outcome: &Result<(), RunFault<'_>>) -> Stream
     ensures { result ≡ stream_of outcome.now }
 {
@@ -89,8 +89,8 @@ pub fn ending_of<'a>(alloc: Global, outcome: &'a Result<(), RunFault<'_>>) -> En
     }
 }
 
-/// Writes the text of an ending to its stream, flushes the stream, and returns the exit status. If the stream fails, the status
-/// stays as it is.
+/// Writes the text of an ending to its stream, flushes the stream, and returns the exit status. If the stream fails,
+/// the status stays as it is.
 pub fn end<O: Output, E: Output>(ending: &Ending<'_>, output: &mut O, error: &mut E) -> u8
     requires output { ending.now.stream ≡ stream.Output → O.failed output.old ≡ false }
     requires error { E.failed error.old ≡ false }

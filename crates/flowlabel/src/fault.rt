@@ -13,7 +13,7 @@ use std::alloc::{AllocError, Global};
 /// Why a run of the program ended without its whole output. File names are those of the command line.
 #[derive(Drop)]
 pub enum RunFault<'a> {
-    /// The command line is at fault, or asks for help.
+    /// The command line is faulty, or asks for help.
     Usage(UsageFault),
     /// A file can't be opened.
     CannotOpen(&'a str),
@@ -28,7 +28,7 @@ pub enum RunFault<'a> {
 }
 
 impl<'a> RunFault<'a> {
-    /// The fault of the bytes of the file with this name: want of memory is that of the run.
+    /// The fault of the bytes of the file with this name. Out of memory is the run's.
     pub fn in_file(file: &'a str, fault: BytesFault) -> RunFault<'a>
         requires { is_answer_of_calls fault ≡ false }
         ensures { IsInFile file.now fault result }
@@ -112,7 +112,7 @@ fn key_fault_name(fault: KeyFault) -> &'static str
 
 const OUT_OF_MEMORY: &str = "flowlabel: out of memory\n";
 
-// The line of a usage fault other than want of memory.
+// The line of a usage fault other than out of memory.
 fn usage_line(alloc: Global, fault: &UsageFault) -> Result<String, AllocError>
     ensures { IfOk result (λ line. string_bytes line ≡ usage_fault_text fault.now) }
 {
@@ -145,7 +145,7 @@ fn place_line(alloc: Global, file: &str, name: &str, place: u64) -> Result<Strin
     format!(in alloc; "flowlabel: {file}: {name} at {place}\n")
 }
 
-// The line of a fault other than want of memory.
+// The line of a fault other than out of memory.
 fn own_line(alloc: Global, fault: &RunFault<'_>) -> Result<String, AllocError>
     ensures { IfOk result (λ line. string_bytes line ≡ own_fault_text fault.now) }
 {
@@ -161,7 +161,7 @@ fn own_line(alloc: Global, fault: &RunFault<'_>) -> Result<String, AllocError>
     }
 }
 
-/// The line for standard error, with its line feed: for a refused command line clap's text, and for help nothing.
+/// Returns the line for standard error, with its line feed: for a refused command line clap's text, for help nothing.
 pub fn fault_line(alloc: Global, fault: &RunFault<'_>) -> Result<Vec<u8>, AllocError>
     ensures { IfOk result (λ line. line.items ≡ fault_text fault.now) }
 {
@@ -173,7 +173,7 @@ pub fn fault_line(alloc: Global, fault: &RunFault<'_>) -> Result<Vec<u8>, AllocE
     Ok(line.into_bytes())
 }
 
-// The exit status of a fault other than want of memory.
+// The exit status of a fault other than out of memory.
 fn own_status(fault: &RunFault<'_>) -> u8
     ensures { result ≡ own_status_of fault.now }
 {
@@ -186,8 +186,8 @@ fn own_status(fault: &RunFault<'_>) -> u8
     }
 }
 
-/// The exit status: 1 for a fault of a file's bytes or of a certificate, 2 for one of the command line, 3 for want of memory, 4 for a file
-/// or an output that fails. Help is no failure.
+/// The exit status: 1 for a fault of a file's bytes or of a certificate, 2 for a usage fault, 3 for out of memory, 4
+/// for a file or an output that fails, 0 for help.
 pub fn status(fault: &RunFault<'_>) -> u8
     ensures { result ≡ status_of fault.now }
 {
@@ -198,7 +198,7 @@ pub fn status(fault: &RunFault<'_>) -> u8
     }
 }
 
-/// The exit status of a run that ended so: 0 where it is done, else that of its fault.
+/// The exit status of a run with this outcome: 0 if it is done, otherwise that of its fault.
 pub fn exit_status(outcome: &Result<(), RunFault<'_>>) -> u8
     ensures { result ≡ exit_status_of outcome.now }
 {

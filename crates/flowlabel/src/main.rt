@@ -1,18 +1,18 @@
-//! `flowlabel`: labels addresses by a prefix map or a prefix list, prints, filters and sums the flows of IPFIX Files, and
-//! makes and checks shortest lists.
+//! `flowlabel`: labels addresses by a prefix map or a prefix list, prints, filters and sums the flows of IPFIX Files,
+//! and makes and checks shortest lists.
 //!
 //! ```text
 //! $ flowlabel label --pmap examples/offices.txt 10.1.20.1
 //! Berlin gateway
 //! ```
 //!
-//! It stands on all the other crates: `parse` reads the command line (clap takes the words apart), `open_all` opens the
-//! files that it names, and `run` reads them, makes the whole output and then writes it. What may be relied on is the
-//! contract of `run`: the bytes written are a stated function of the bytes read, a fault is the first one of those
-//! bytes, nothing is written on any fault but a write fault, and device faults come exactly from failed devices.
-//! `execute` joins them, and its contract says that the request run is the one that the words are, over the files that it
-//! names. `ending_of` has the text and the status of its outcome, and `end` writes the text. That the two streams are the system's, and that the status is
-//! handed on, is shown by running the program.
+//! It depends on all the other crates: `parse` reads the command line (clap splits the words), `open_all` opens the
+//! files that it names, and `run` reads them, makes the whole output and then writes it. Rely on the contract of `run`:
+//! the bytes written are a stated function of the bytes read, a fault is the first one of those bytes, nothing is
+//! written at any fault except a write fault, and device faults come exactly from failed devices. `execute` joins them,
+//! and its contract says that the request that is run is the one of the words, over the files that it names.
+//! `ending_of` has the text and the status of the outcome, and `end` writes the text. Tests of the program show that
+//! the two streams and the status are the system's.
 #![tactic(auto)]
 
 ghost use Rattle.std.specs.Prelude.{◌≡◌, false, map, IfOk, OnOk};
@@ -47,7 +47,7 @@ use std::process::ExitCode;
 use usage::UsageFault;
 use words::{parse, words_fault};
 
-// These words in a list. Memory for all is asked for once: where it is refused, `collect` asks for less.
+// These words in a list. It reserves memory for all at once, since `collect` would ask for less after a failure.
 fn listed(alloc: Global, words: env::Args) -> Result<Vec<String>, AllocError>
     ensures { IfOk result (λ list. list.items ≡ into_iter_items words) }
 {
@@ -58,7 +58,7 @@ fn listed(alloc: Global, words: env::Args) -> Result<Vec<String>, AllocError>
     Ok(list)
 }
 
-// The words of the command line, of which the first is the program's name.
+// The words of the command line, the first of which is the program's name.
 fn arguments(rt: &HostRuntime) -> Result<Vec<String>, UsageFault> {
     match env::args(rt) {
         Ok(words) => Ok(listed(rt.alloc(), words)?),
@@ -77,7 +77,8 @@ fn lent(alloc: Global, words: &[String]) -> Result<Vec<&str>, AllocError>
     Ok(list)
 }
 
-// What a command line asks for, carried out over the files that it names. Labels and groups are hashed by these numbers.
+// What a command line asks for, carried out over the files that it names. Labels and groups are hashed by these
+// numbers.
 fn execute<'a, O: Opener, W: Output>(
     alloc: Global,
     words: &'a [&'a str],

@@ -20,7 +20,7 @@ pub struct OpenFault;
 pub trait Opener {
     type Reader: Input + Drop;
 
-    // What it may answer to a name: a reader, or that there is none.
+    // The possible results for a name: a reader, or none.
     ghost answers: { Self → List ℕ → Option Self.Reader → Type 0 };
 
     /// Opens the file of this name. Nothing of it is read yet.
@@ -29,7 +29,7 @@ pub trait Opener {
         ensures fresh { IfOk result (λ reader. Self.Reader.failed reader ≡ false) };
 }
 
-// The files of the system, of which no contract says what they are.
+// The files of the system. No contract says what they are.
 impl Opener for HostRuntime {
     type Reader = Buffered<Watched<File>>;
 
@@ -43,7 +43,7 @@ impl Opener for HostRuntime {
     }
 }
 
-// Opens a file, where one is named.
+// Opens a file, if one is named.
 fn open<'a, O: Opener>(
     opener: &O,
     name: Option<&'a str>,
@@ -63,7 +63,7 @@ fn open<'a, O: Opener>(
     }
 }
 
-/// Opens the files that a command reads, in the order map, list, certificate, flows. None of them is read yet.
+/// Opens the files that a command reads, in the order map, list, certificate, flows. It reads none of them.
 ///
 /// # Errors
 ///

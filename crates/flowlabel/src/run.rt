@@ -125,14 +125,14 @@ fn output<'a, R: Input>(
     answer(alloc, command, &loaded, inputs, hashing)
 }
 
-/// Runs a command: reads its inputs, makes the whole output, and then writes it and flushes once. The files are read in the
-/// order map, list, certificate, flows, each of them whole and decoded before the first read of the next.
+/// Runs a command: reads its inputs, makes the whole output, and then writes it and flushes once. The files are read in
+/// the order map, list, certificate, flows, each of them whole and decoded before the next is read.
 ///
 /// # Errors
 ///
-/// The first fault of the inputs' bytes, a reader that failed behind files without a fault, or want of memory, all before
-/// the writer has a call, and with the files behind the one at fault not read; or a writer that failed, which has taken a
-/// prefix of the output, or all of it where the flush failed. Names are those that the inputs had before the call.
+/// The first fault of the inputs' bytes, a reader that failed after files without a fault, or out of memory, all before
+/// the writer is called, and with the files after the faulty one not read; or a writer that failed, which has taken a
+/// prefix of the output, or all of it if the flush failed. Names are those that the inputs had before the call.
 pub fn run<'a, R: Input, W: Output>(
     alloc: Global,
     command: &Command<'_>,
@@ -162,7 +162,7 @@ pub fn run_with_hashing<'a, R: Input, W: Output>(
     ensures { IsRunOf R.bytes_left R.failed W.bytes_taken W.last_call W.failed (request_of command.now) inputs.old inputs.new
         writer.old writer.new result }
 {
-    // For its law: each output keeps the headline.
+    // Provides the law that each output keeps the headline.
     output_keeps_headline();
     let out = output(alloc, command, inputs, hashing)?;
     match write_whole(writer, out.as_slice()) {

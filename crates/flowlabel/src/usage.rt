@@ -50,13 +50,13 @@ pub enum UsageFault {
     Help(ClapText),
     /// P3: both a map and a list are named.
     MapTwice,
-    /// P2: the command reads a map or a list, and none is named.
+    /// P2: the command reads a map or a list, and neither is named.
     MapMissing,
     /// P4: the word is no address.
     BadAddress,
-    /// L1 to L3: the text of a filter has not its form. L4, want of memory, is `NoMemory`.
+    /// L1 to L3: the text of a filter is malformed. L4, out of memory, is `NoMemory`.
     Filter(FilterFault),
-    /// U1 and U2: the text of fields names none, or one twice. U3, want of memory, is `NoMemory`.
+    /// U1 and U2: the text of fields has an unknown name, or one twice. U3, out of memory, is `NoMemory`.
     Key(KeyFault),
     /// P5: a filter asks for a label, or a key has one, and no map or list is named.
     LabelNeedsMap,

@@ -40,14 +40,14 @@ fn fault_of_error(alloc: Global, error: &clap::Error) -> UsageFault
     }
 }
 
-// The text of an option or a word, where the line has it.
+// The text of an option or a word, if the line has it.
 fn text_of<'a>(entries: &ArgMatches<'a>, id: &str) -> Option<&'a str>
     ensures { option_map (λ s. s.now) result ≡ first_of id.now (rows_of (found_of entries.now)) }
 {
     entries.get_str(id)
 }
 
-// The address that the word ADDR stands for.
+// The address that the word ADDR means.
 fn address_in(entries: &ArgMatches<'_>) -> Option<Addr>
     ensures { option_map (λ a. (a.version, a.value)) result
         ≡ address_in_rows (rows_of (found_of entries.now)) }
@@ -114,7 +114,7 @@ fn filter_words_in<'a>(entries: &ArgMatches<'a>) -> FilterWords<'a>
     }
 }
 
-// The filter that the line states, or the fault of the first text that has not its form.
+// The filter that the line states, or the fault of the first malformed text.
 fn filter_in<'a>(alloc: Global, entries: &ArgMatches<'a>) -> Result<Filter<'a>, UsageFault>
     ensures ok { IfOk result (λ filter. condition_in_rows (rows_of (found_of entries.now)) ≡ Ok (condition_in filter)) }
     ensures err { IfErr result (λ fault. fault ≢ NoMemory → condition_in_rows (rows_of (found_of entries.now)) ≡ Err fault) }
@@ -262,8 +262,8 @@ fn command_of<'a>(
     label_command(entries)
 }
 
-/// The fault of a command line whose words can't be had, by the kind of the error: one of them is no text, or memory ran
-/// out.
+/// The fault of a command line whose words can't be had, by the kind of the error: one of them is no text, or memory
+/// ran out.
 pub fn words_fault(kind: io::ErrorKind) -> UsageFault
     ensures { result ≡ words_fault_of kind }
 {
@@ -273,21 +273,20 @@ pub fn words_fault(kind: io::ErrorKind) -> UsageFault
     }
 }
 
-/// Words have one answer of the program's own at most, which `parse` gives unless memory runs out. Of a line of `label`, one of `rows`
-/// and one of `shrink` it is named.
+/// Words have at most one answer of the program's own, which `parse` returns unless memory runs out. It is given for a
+/// line of `label`, one of `rows` and one of `shrink`.
 pub fn lines_have_one_answer()
     ensures one { HaveOneAnswer }
     ensures lines { (program : Text) → LinesHaveAnswers program }
 {}
 
-/// Reads a command line, of which the first word is the program's name.
+/// Reads a command line, the first word of which is the program's name.
 ///
 /// # Errors
 ///
-/// `Refused` where clap refuses the line, `Help` where it is asked for help or the version. Where clap takes it, the first
-/// of these: `MapTwice`, `MapMissing`, `BadAddress`, `Filter` of the first filter that can't be read, `Key`,
-/// `LabelNeedsMap`, `CompactAlone`.
-/// `NoMemory` where an allocation failed, in place of any other answer.
+/// `Refused` if clap refuses the line, `Help` if it asks for help or the version. If clap takes it, the first of these:
+/// `MapTwice`, `MapMissing`, `BadAddress`, `Filter` of the first malformed filter, `Key`, `LabelNeedsMap`,
+/// `CompactAlone`. `NoMemory` if an allocation failed, instead of any other result.
 pub fn parse<'a>(alloc: Global, words: &'a [&'a str]) -> Result<Command<'a>, UsageFault>
     ensures answer { IsAnswer (texts words.entry.now) result }
     ensures proper { IfOk result (λ command. IsProper (request_of command)) }
