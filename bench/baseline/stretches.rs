@@ -13,7 +13,7 @@ pub struct Stretches<A> {
 }
 
 impl<A: Address> Stretches<A> {
-    /// Returns the stretches of the statements. Where no statement covers, the label is the default. Neighbours with
+    /// Returns the stretches of the statements. If no statement covers an address, its label is the default. Neighbours with
     /// one label are one stretch if they are to be joined.
     pub fn new(statements: &[Statement<A>], default: u32, are_joined: bool) -> Stretches<A> {
         let order = by_first(statements);
