@@ -1,4 +1,4 @@
-# Completion of flowlabel for bash. `make install` puts it where bash-completion finds it.
+# Completion of flowlabel for bash. `make install` copies it to where bash-completion finds it.
 
 # The options of a command.
 _flowlabel_options() {
@@ -15,7 +15,7 @@ _flowlabel_options() {
     esac
 }
 
-# What may stand behind the comma of a list of fields, or be its first field.
+# The fields that may follow the last comma of a list of fields, or be the first field.
 _flowlabel_fields() {
     local begun='' field
     [[ $1 != *,* ]] || begun=${1%,*},

@@ -1,4 +1,4 @@
-# Completion of flowlabel for fish. `make install` puts it where fish finds it.
+# Completion of flowlabel for fish. `make install` copies it to where fish finds it.
 
 set -l commands label info rows uniq cat shrink check recert
 set -l of __fish_seen_subcommand_from
@@ -11,28 +11,28 @@ complete -c flowlabel -n "not $of $commands" -a info -d 'Print the counts of an 
 complete -c flowlabel -n "not $of $commands" -a rows -d 'Print the flows of an IPFIX File'
 complete -c flowlabel -n "not $of $commands" -a uniq -d 'Print the sums of the flows of an IPFIX File'
 complete -c flowlabel -n "not $of $commands" -a cat -d 'Print the ranges of a map or a list'
-complete -c flowlabel -n "not $of $commands" -a shrink -d 'Print the shortest list of a map'
-complete -c flowlabel -n "not $of $commands" -a check -d 'Check that a list is a shortest one for a map'
-complete -c flowlabel -n "not $of $commands" -a recert -d 'Print a certificate compacted'
+complete -c flowlabel -n "not $of $commands" -a shrink -d 'Print the shortest list that labels as a map does'
+complete -c flowlabel -n "not $of $commands" -a check -d 'Check by a certificate that a list is a shortest one for a map'
+complete -c flowlabel -n "not $of $commands" -a recert -d 'Print a compacted certificate'
 
 complete -c flowlabel -n "$of label rows uniq cat shrink check" -l pmap -r -F -d 'The prefix map'
 complete -c flowlabel -n "$of label rows uniq cat check" -l list -r -F -d 'The prefix list'
 complete -c flowlabel -n "$of check recert" -l cert -r -F -d 'The certificate'
-complete -c flowlabel -n "$of shrink" -l certificate -d 'Print the certificate'
-complete -c flowlabel -n "$of shrink" -l compact -d 'Print the certificate compacted'
+complete -c flowlabel -n "$of shrink" -l certificate -d 'Print the certificate instead of the list'
+complete -c flowlabel -n "$of shrink" -l compact -d 'Compact the certificate'
 
-complete -c flowlabel -n "$of rows uniq" -l protocol -x -d 'Flows of these protocols, as 6,17 or 1-16'
+complete -c flowlabel -n "$of rows uniq" -l protocol -x -d 'Flows of these protocols, such as 6,17 or 1-16'
 complete -c flowlabel -n "$of rows uniq" -l sport -x -d 'Flows from these ports'
 complete -c flowlabel -n "$of rows uniq" -l dport -x -d 'Flows to these ports'
 complete -c flowlabel -n "$of rows uniq" -l saddress -x -d 'Flows from these addresses'
 complete -c flowlabel -n "$of rows uniq" -l daddress -x -d 'Flows to these addresses'
-complete -c flowlabel -n "$of rows uniq" -l packets -x -d 'Flows of so many packets, as 5, 5- or 5-9'
-complete -c flowlabel -n "$of rows uniq" -l bytes -x -d 'Flows of so many bytes'
+complete -c flowlabel -n "$of rows uniq" -l packets -x -d 'Flows with so many packets, such as 5, 5- or 5-9'
+complete -c flowlabel -n "$of rows uniq" -l bytes -x -d 'Flows with so many bytes'
 complete -c flowlabel -n "$of rows uniq" -l src-label -x -d 'Flows whose source has this label'
 complete -c flowlabel -n "$of rows uniq" -l dst-label -x -d 'Flows whose destination has this label'
-complete -c flowlabel -n "$of rows uniq" -l any-label -x -d 'Flows of which one address has this label'
-complete -c flowlabel -n "$of rows uniq" -l columns -d 'Fill the columns'
+complete -c flowlabel -n "$of rows uniq" -l any-label -x -d 'Flows whose source or destination has this label'
+complete -c flowlabel -n "$of rows uniq" -l columns -d 'Pad the columns'
 
 complete -c flowlabel -n "$of uniq" -l sort-output -d 'Print the sums in the order of their keys'
-complete -c flowlabel -n "$of uniq" -l fields -x -d 'What flows are summed by' \
+complete -c flowlabel -n "$of uniq" -l fields -x -d 'The fields to sum by' \
     -a '(__fish_append , sip dip sport dport proto flags src-label dst-label)'
