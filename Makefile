@@ -1,9 +1,10 @@
 # make test: the gate, with as many tasks at a time as there are processors (RT_JOBS=N: with N), and what each crate
-# cost. Every proof from nothing, then whether docs/DEFINITIONS.md explains each definition that the headline needs, and
-# the scripts of tests/: calls of the crates, a caller that must not compile, how bin/flowlabel builds, the built program
-# as a user runs it, each request for memory refused, its installation; and the examples that need no other program.
-# make examples: all examples of the pages. make scripts: the scripts of examples/ and the packages of make package. What
-# needs packages is skipped if they aren't there.
+# costs. It proves what rt hasn't kept of an earlier run. Then it checks that docs/DEFINITIONS.md explains each
+# definition that the headline needs (docs/trusted), the words of pages and comments (docs/words), and runs six scripts
+# of tests/: calls of the crates, a caller that must not compile, the build by bin/flowlabel, the built program as a
+# user runs it, each allocation failing, and the installation. Last come the examples that need no other program.
+# make examples: all examples of the pages. make scripts: the scripts of examples/ and the packages of make package.
+# Whatever needs a missing package is skipped.
 # make bench: the speed of the program.
 # make install, make uninstall: the proved program with its manual pages and completions, below DESTDIR and PREFIX.
 # make package: these in out/flowlabel-VERSION-x86_64-linux.tar.gz and out/flowlabel_VERSION_amd64.deb.
@@ -19,13 +20,14 @@ files = bin/flowlabel share/man/man1/flowlabel.1 share/man/man5/flowlabel-format
 	share/bash-completion/completions/flowlabel share/zsh/site-functions/_flowlabel \
 	share/fish/vendor_completions.d/flowlabel.fish
 
-# The gate builds the program from nothing. So bin/flowlabel is told that the program is as old as the gate's start.
+# The gate builds the program, so bin/flowlabel must take the program to be as old as the gate's start.
 test:
 	mkdir -p out
 	touch out/gate
 	bench/gate
 	mv -f out/gate out/built
 	docs/trusted >out/trusted
+	docs/words
 	tests/calls/run
 	tests/borrow
 	tests/build
