@@ -1,13 +1,13 @@
 # Proves the libraries, side by side when they don't depend on one another, then the program, and links it:
 #     make -f bin/build.mk -j LIBRARIES JOBS=JOBS flowlabel
-# bin/flowlabel runs it at the top of the repository. A line of crates.txt is a rule: a crate follows what it stands on.
+# bin/flowlabel runs it at the top of the repository. A line of crates.txt is a rule: a crate follows what it depends on.
 include crates.txt
 
 crates := $(shell sed -n 's/^\([a-z_]*\):.*/\1/p' crates.txt)
 log := out/build.log
 .PHONY: $(crates)
 
-# What was said of a crate is followed by one line in the log, and one for the user on the third stream.
+# The output for a crate is followed by one line in the log, and by one for the user on the third stream.
 proved = @echo 'proved: $@' >>$(log); \
 	echo "bin/flowlabel: crate $$(grep -c '^proved: ' $(log)) of $(words $(crates)) is proved: $@" >&3
 
