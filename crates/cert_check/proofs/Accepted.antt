@@ -37,7 +37,7 @@ same_version-own V6 = refl
 pub same_version-from : (v w : Version) → v ≡ w → is_same_version v w ≡ true
 same_version-from v w e = subst (λ (u : Version). is_same_version v u ≡ true) e (same_version-own v)
 
--- there is a label and it is this one
+-- the test of a label passes exactly if there is a label and it is x
 pub is_label_of-true : (o : Option Label) (x : Label) → is_label_of o x ≡ true → o ≡ Some x
 is_label_of-true None x h = absurd (false≢true h)
 is_label_of-true (Some y) x h = ap Some ((bytes_eq-Decides y x).0 h)
@@ -45,7 +45,7 @@ is_label_of-true (Some y) x h = ap Some ((bytes_eq-Decides y x).0 h)
 pub is_label_of-from : (o : Option Label) (x : Label) → o ≡ Some x → is_label_of o x ≡ true
 is_label_of-from o x e = subst (λ (p : Option Label). is_label_of p x ≡ true) (sym e) (bytes_eq-same x)
 
--- of two faults in order neither is there
+-- two faults have no first one exactly if neither exists
 or_none-parts : {X : Type 0} (a b : Option X) → option_or a b ≡ None → (a ≡ None) × (b ≡ None)
 or_none-parts None b e = (refl, e)
 or_none-parts (Some x) b e = absurd (none-some x (sym e))
@@ -58,7 +58,7 @@ map_none-part : {X Y : Type 0} (f : X → Y) (o : Option X) → option_map f o �
 map_none-part f None e = refl
 map_none-part f (Some x) e = absurd (none-some (f x) (sym e))
 
--- a test whose one outcome is a fault
+-- if a test with a fault as its first or second outcome gives none, it has the other outcome
 cond_none-else : {X : Type 0} (b : Bool) (o : Option X) (x : X) → cond b o (Some x) ≡ None → (b ≡ true) × (o ≡ None)
 cond_none-else true o x e = (refl, e)
 cond_none-else false o x e = absurd (none-some x (sym e))
@@ -67,7 +67,7 @@ cond_none-then : {X : Type 0} (b : Bool) (o : Option X) (x : X) → cond b (Some
 cond_none-then true o x e = absurd (none-some x (sym e))
 cond_none-then false o x e = (refl, e)
 
--- a leaf
+-- a leaf without a fault is accepted
 leaf-accepted : (m : MapModel) (ps : List Prefix) (n q : ℕ) (x : Label) → leaf_fault m ps n q x ≡ None
     → IsSettled m n q x × IsDecided (width_of m.version) ps n q x
 leaf-accepted m ps n q x none =
@@ -94,7 +94,7 @@ leaf-none m ps n q x settled decided =
     ap (λ b. cond b (cond (is_decided W ps n q x) None (Some ListDiffers)) (Some LeafNotUniform)) (is_label_of-from (settled_label m n q) x settled)
     ∙ ap (λ b. cond b None (Some ListDiffers)) alike
 
--- a set that has all labels of a list
+-- a set that passes the test of all labels of a list has each of them
 all-has : (s xs : List Label) → list_all (has s) xs ≡ true → (x : Label) → has xs x ≡ true → has s x ≡ true
 all-has s [] h x inside = absurd (false≢true inside)
 all-has s (y ∷ ys) h x inside =
@@ -111,7 +111,7 @@ has-all s (y ∷ ys) h =
     and_from (has s y) (list_all (has s) ys) (h y (or_left (bytes_eq y y) (has ys y) (bytes_eq-same y)))
     (has-all s ys (λ x inside. h x (or_right (bytes_eq x y) (has ys x) inside)))
 
--- a claim
+-- a claim without a fault is within the exact pair
 claim-within : (p e : Pair) → claim_fault p e ≡ None → IsWithinExact p e
 claim-within p e none =
     let lacks : Bool = (p.cost == e.cost) && not (list_all (has p.labels) e.labels) in
@@ -144,14 +144,14 @@ claim-none p e h =
     ap (λ b. cond b (Some CostTooHigh) (cond ((p.cost == e.cost) && not (list_all (has p.labels) e.labels)) (Some SetTooSmall) None)) high
     ∙ ap (λ b. cond b (Some SetTooSmall) None) lacks
 
--- there are at most so many inner nodes one inside the other, each bit of a chain counting as one
+-- the node has at most `room` levels of inner nodes, each bit of a chain counting as one, and each chain has a bit
 abbrev pub HasRoom : Tree → ℕ → Type 0
 HasRoom (LeafNode x) room = Unit {0}
 HasRoom (InnerNode claim lower upper) zero = ⊥
 HasRoom (InnerNode claim lower upper) (suc room) = HasRoom lower room × HasRoom upper room
 HasRoom (ChainNode claim bits side end) room = (0 < length bits) × HasRoomBelow (HasRoom end) bits room
 
--- the form of a certificate leaves room for its nodes
+-- a well-formed node has room for the nodes below it
 pub room-from_form : (table : List Label) (t : Tree) (room : ℕ) → HasNodeForm table t room → HasRoom t room
 room-from_form table (LeafNode x) room h = tt
 room-from_form table (InnerNode claim lower upper) zero h = absurd h
@@ -160,7 +160,7 @@ room-from_form table (InnerNode claim lower upper) (suc room) h =
 room-from_form table (ChainNode claim bits side end) room h =
     (h.3, other-room (HasNodeForm table end) (HasRoom end) (room-from_form table end) bits room h.4)
 
--- along a chain's bits
+-- a chain's way without a fault is accepted
 bits-accepted : (m : MapModel) (ps : List Prefix) (side : Label) (k : ℕ) (end : ℕ → ℕ → Option CheckFault) (IsEnd : ℕ → ℕ → Type 0) (Fits : ℕ → Type 0)
     → ((room n q : ℕ) → Fits room → n + room ≡ width_of m.version → end n q ≡ None → IsEnd n q)
     → (bits : List Bool) (room n q : ℕ) → HasRoomBelow Fits bits room → n + room ≡ width_of m.version
@@ -186,7 +186,7 @@ bits-none m ps side k end IsEnd ends (bit ∷ bits) n q h =
     (bits-none m ps side k end IsEnd ends bits (suc n) (chosen_half bit q) h.2)
     (ap (option_map (fault_at k)) (leaf-none m ps (suc n) (side_half bit q) side leaf.0 leaf.1))
 
--- nodes
+-- a node without a fault is accepted
 node-accepted : (m : MapModel) (ps : List Prefix) (t : Tree) (room k n q : ℕ) → HasRoom t room → n + room ≡ width_of m.version
     → node_fault m ps t k n q ≡ None → IsNodeAccepted m ps t n q
 node-accepted m ps (LeafNode x) room k n q fits deep none = leaf-accepted m ps n q x (map_none-part (fault_at k) (leaf_fault m ps n q x) none)
@@ -227,7 +227,7 @@ node-none m ps (ChainNode claim bits side end) k n q h =
     (bits-none m ps side k (node_fault m ps end (k + 1)) (IsNodeAccepted m ps end) (λ n' q' h'. node-none m ps end (k + 1) n' q' h') bits n q h.1)
     (ap (option_map (fault_at k)) (claim-none claim exact h.2))
 
--- the whole
+-- a certificate without a fault is accepted
 pub certificate-accepted : (m : MapModel) (l : ListModel) (c : CertificateModel) → HasNodeForm c.table c.root (width_of c.version) → first_fault m l c ≡ None → IsAccepted m l c
 certificate-accepted m l c form none =
     let bound = cond (nat_lt ((claim_of c.root).cost + 1) (length l.prefixes)) (Some (whole_fault BoundNotMet)) None in

@@ -1,4 +1,4 @@
--- What is carried down to a block, as the code finds it.
+-- The statements and entries that the code finds to affect a block are those of the specification.
 use Rattle.std.proofs.Common.{◌≡◌, ℕ, ◌+◌, ◌-◌, ◌*◌, ◌^◌, ◌<◌, ◌≤◌, Bool, true, false, cond, not, ◌&&◌, ◌||◌, List, [], ◌∷◌, ◌++◌, filter, get_or, length, nat_le, nat_lt, refl, sym, ap, ◌∙◌, arith}
 use Rattle.std.proofs.Common.{take}
 use Rattle.std.proofs.lemmas.List.{append-nil, take_more}
@@ -20,14 +20,14 @@ use Rattle.cert_check.specs.Sources.{covers_whole, greatest, is_inside, meets_bl
 use Rattle.cert_check.specs.Versions.{is_same_version}
 use Rattle.cert_check.proofs.Lists.{any-kept, filter_twice, from_last-filter}
 
--- a block has a first and a last address
+-- the last address of a block is not before its first
 pub first-last : (W n q : ℕ) → first_of W n q ≤ last_of W n q
 first-last W n q = by (2 ^ (W - n)) (pow_pos (W - n))
   where
     by : (p : ℕ) → 0 < p → q * p ≤ (q + 1) * p - 1
     by p some = omega (arith, some)
 
--- a span that covers a block meets it
+-- a statement that covers a block of n bits meets it
 spans-meets : (W n q : ℕ) (s : Statement) → statement_spans W n q s ≡ true → statement_meets W n q s ≡ true
 spans-meets W n q s h =
     let parts = and_parts (nat_le s.span.low.value (first_of W n q)) (nat_le (last_of W n q) s.span.high.value) h in
@@ -42,7 +42,7 @@ both-tests true m true h = sym (and_from m true (h refl) refl)
 both-tests true true false h = refl
 both-tests true false false h = refl
 
--- the statements that are carried to a block
+-- the statements that meet a block, from the last that covers it on, are those carried to it
 pub statements-carried : (b : Block) (ss : List Statement) → filter (meets_block b) (from_last (spans_block b) ss) ≡ carried_to b ss
 statements-carried b ss =
     let W = width_of b.version in
@@ -51,7 +51,7 @@ statements-carried b ss =
     (λ s. both-tests (version s) (statement_meets W b.len (number_of b) s) (statement_spans W b.len (number_of b) s) (spans-meets W b.len (number_of b) s)) ss)
     ∙ ap (from_last (statement_spans W b.len (number_of b))) (sym (filter_twice (statement_meets W b.len (number_of b)) version ss))
 
--- the greatest length among entries with one more at the end
+-- the greatest length doesn't depend on which of two entries comes first
 greatest-step : (tx te : Bool) (g x e : ℕ)
     → cond (tx && nat_lt (cond (te && nat_lt g e) e g) x) x (cond (te && nat_lt g e) e g)
     ≡ cond (te && nat_lt (cond (tx && nat_lt g x) x g) e) e (cond (tx && nat_lt g x) x g)
@@ -67,7 +67,7 @@ greatest-push test (x ∷ es) e =
     ap (λ g. cond (test x && nat_lt g x.block.len) x.block.len g) (greatest-push test es e)
     ∙ greatest-step (test x) (test e) (greatest test es) x.block.len e.block.len
 
--- some entry that passes is longer exactly if the greatest length is greater
+-- some entry that passes is longer than k exactly if the greatest length is
 longer-step : (t : Bool) (k n g : ℕ) → ((t && nat_lt k n) || nat_lt k g) ≡ nat_lt k (cond (t && nat_lt g n) n g)
 longer-step true k n g = grind (arith, nat_tests)
 longer-step false k n g = refl
@@ -80,7 +80,6 @@ any-longer test k [] = sym (false_from_ne_true (nat_lt k 0) (λ h. absurd (none 
 any-longer test k (e ∷ es) =
     ap (λ b. (test e && nat_lt k e.block.len) || b) (any-longer test k es) ∙ longer-step (test e) k e.block.len (greatest test es)
 
--- the entries that are carried to a block
 not-less : (k g : ℕ) → not (nat_lt k g) ≡ nat_le g k
 not-less k g = grind (arith, nat_tests)
 
@@ -96,6 +95,7 @@ any-agree : {X : Type 0} (p r : X → Bool) → ((x : X) → p x ≡ r x) → (x
 any-agree p r same [] = refl
 any-agree p r same (x ∷ xs) = ap (λ a. a || list_any p xs) (same x) ∙ ap (λ a. r x || a) (any-agree p r same xs)
 
+-- the entries that the code finds for a block are those carried to it
 pub entries-carried : (b : Block) (es : List Entry)
     → filter (λ e. (covers_whole b e && nat_le (greatest (covers_whole b) es) e.block.len) || is_inside b e) es ≡ entries_carried_to b es
 entries-carried b es =
@@ -114,13 +114,13 @@ entries-carried b es =
     (λ e. sym (ap (λ l. version e && ((over e && l) || inside e)) (longest e) ∙ same-say (version e) (over e) (nat_le (greatest (covers_whole b) es) e.block.len) (inside e))) es
     ∙ sym (filter_twice say version es)
 
--- one more entry
+-- the greatest length of the first i + 1 entries, by that of the first i
 pub greatest-more : (test : Entry → Bool) (es : List Entry) (i : ℕ) (e : Entry) → i < length es → e ≡ get_or es i e
     → greatest test (take (i + 1) es) ≡ cond (test e && nat_lt (greatest test (take i es)) e.block.len) e.block.len (greatest test (take i es))
 greatest-more test es i e less is =
     ap (greatest test) (take_more es i e less ∙ ap (λ (d : Entry). take i es ++ d ∷ []) (sym is)) ∙ greatest-push test (take i es) e
 
--- from the last that passes on, with one more at the end
+-- the list from the last element that passes on is one element if the last passes
 from_last-passes : {X : Type 0} (p : X → Bool) (xs : List X) (x : X) → p x ≡ true → from_last p (xs ++ x ∷ []) ≡ x ∷ []
 from_last-passes p [] x h = refl
 from_last-passes {X} p (y ∷ xs) x h =
@@ -156,7 +156,7 @@ spans-meets_block b s h =
     let parts = and_parts version (statement_spans W b.len (number_of b) s) h in
     and_from version (statement_meets W b.len (number_of b) s) parts.0 (spans-meets W b.len (number_of b) s parts.1)
 
--- what is carried to a block, with one more statement
+-- the statements carried to a block when one more statement follows
 carried-push : (b : Block) (ss : List Statement) (s : Statement)
     → carried_to b (ss ++ s ∷ []) ≡ cond (meets_block b s) (cond (spans_block b s) [] (carried_to b ss) ++ s ∷ []) (carried_to b ss)
 carried-push b ss s = by (meets_block b s) (spans_block b s) refl refl
@@ -185,7 +185,7 @@ carried-more b ss i s old new less is so_far added =
     more : take (i + 1) ss ≡ take i ss ++ s ∷ []
     more = take_more ss i s less ∙ ap (λ (d : Statement). take i ss ++ d ∷ []) (sym is)
 
--- those that pass, with one more entry
+-- a filter of the first i + 1 entries, by that of the first i
 pub say-more : (test : Entry → Bool) (es : List Entry) (i : ℕ) (e : Entry) (old new : List Entry) → i < length es → e ≡ get_or es i e
     → old ≡ filter test (take i es) → new ≡ cond (test e) (old ++ e ∷ []) old → new ≡ filter test (take (i + 1) es)
 say-more test es i e old new less is so_far added =

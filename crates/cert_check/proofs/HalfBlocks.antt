@@ -1,4 +1,4 @@
--- Blocks, their halves and the blocks in them.
+-- Blocks, their halves and the blocks inside them.
 use Rattle.std.proofs.Common.{◌≡◌, ◌∙◌, ℕ, suc, ◌+◌, ◌-◌, ◌*◌, ◌/◌, ◌^◌, ◌<◌, ◌≤◌, sym, ap, subst, arith, pow_pos}
 use Rattle.prefix_keys.specs.Block.{block_number, first_of, last_of}
 use Rattle.prefix_keys.specs.Version.{width_of}
@@ -10,14 +10,14 @@ use Rattle.cert_check.specs.Halves.{AreHalves, IsHalf}
 use Rattle.cert_check.specs.Parts.{last_in}
 use Rattle.cert_check.proofs.Carries.{first-last}
 
--- a block begins at its number, and has its first address
+-- the first address with a block's number is the block's first address
 pub block-first : (b : Block) → first_of (width_of b.version) b.len (number_of b) ≡ b.value
 block-first b = whole b.value (2 ^ (width_of b.version - b.len)) (pow_pos (width_of b.version - b.len)) b.no_host_bit
 
 pub block-last : (b : Block) → b.value ≤ last_in b
 block-last b = subst (λ k. k ≤ last_in b) (block-first b) (first-last (width_of b.version) b.len (number_of b))
 
--- a block lies strictly inside another
+-- the second block lies strictly inside the first
 pub record IsWithin (b inner : Block) : Type 0 where
   pub version : inner.version ≡ b.version
   pub longer : b.len < inner.len
@@ -42,7 +42,7 @@ pub half-below : (b half : Block) (q : ℕ) → IsHalf b half q → b.len < widt
 half-below b half q h = let width : width_of half.version ≡ width_of b.version = ap width_of h.version in omega (arith, width, h.len, half.len_in_range)
 
 module _ (b low high : Block) (are : AreHalves b low high) where
-  -- the upper half begins right after the lower one, not at the block's first address, and ends with the block
+  -- the upper half begins right after the lower one ends
   pub behind-low : last_in low + 1 ≡ high.value
   behind-low =
       let low_last = half-last b low (2 * number_of b) are.lower in
@@ -50,6 +50,7 @@ module _ (b low high : Block) (are : AreHalves b low high) where
       let some = pow_pos (width_of b.version - suc b.len) in
       omega (arith, low_last, high_first, some)
 
+  -- the upper half begins after the block's first address
   pub high-above : b.value < high.value
   high-above =
       let first = block-first b in
@@ -59,6 +60,7 @@ module _ (b low high : Block) (are : AreHalves b low high) where
       let first' : number_of b * (2 ^ (width_of b.version - suc b.len) * 2) ≡ b.value = ap (λ (k : ℕ). number_of b * k) (sym twice) ∙ first in
       omega (arith, first', high_first, some)
 
+  -- the upper half ends with the block
   pub ends-high : last_in high ≡ last_in b
   ends-high =
       let high_last = half-last b high (2 * number_of b + 1) are.upper in
@@ -66,7 +68,7 @@ module _ (b low high : Block) (are : AreHalves b low high) where
       let last : last_in b ≡ (number_of b + 1) * (2 ^ (width_of b.version - suc b.len) * 2) - 1 = ap (λ (k : ℕ). (number_of b + 1) * k - 1) twice in
       omega (arith, high_last, last)
 
-  -- the first addresses of both are in the block
+  -- the first addresses of both halves are in the block
   pub low-number : block_number (width_of b.version) b.len low.value ≡ number_of b
   low-number = ap (block_number (width_of b.version) b.len) are.begins
 

@@ -1,4 +1,4 @@
--- What a list has in the halves of a block.
+-- The part of a list in the halves of a block.
 use Rattle.std.proofs.Common.{◌≡◌, ◌∙◌, inl, inr, ℕ, suc, ◌<◌, ◌≤◌, true, false, List, Option, drop, get_or, length, ltb, take, sym, arith}
 use Rattle.std.specs.List.Sorted.{IsPartitionPoint}
 use Rattle.std.proofs.lemmas.Bool.{cases_lt, false≢true, lt-ltb, ltb-true}

@@ -1,4 +1,4 @@
--- What a list says of a block, by the entries inside it and the label that it inherits.
+-- How a list decides a block, by the entries inside it and the label that it inherits.
 use Rattle.std.proofs.Common.{◌≡◌, ◌∙◌, ℕ, suc, ◌-◌, ◌*◌, ◌^◌, ◌<◌, ◌≤◌, ◌==◌, ◌&&◌, ◌||◌, Bool, true, false, cond, not, List, [], ◌∷◌, Option, Some, None, Contains, find, length, map, nat_lt, option_map, refl, sym, ap, ap₂, subst, arith}
 use Rattle.std.specs.List.{list_any}
 use Rattle.std.specs.Option.{option_or}
@@ -27,7 +27,7 @@ use Rattle.cert_check.specs.Parts.{AreWithin, IsHandedDown, IsListPart, LiesIn, 
 use Rattle.cert_check.proofs.HalfBlocks.{block-first}
 use Rattle.cert_check.proofs.Within.{IsOwn, first-other, strict, strict-rest}
 
--- lists mapped from other lists
+-- a mapped list has the images of the list's elements
 Contains-mapped : {X Y : Type 0} (f : X → Y) (xs : List X) (x : X) → Contains xs x → Contains (map f xs) (f x)
 Contains-mapped f xs x has =
     (has.0, subst (λ n. has.0 < n) (sym (length-map xs f)) has.1, get_or-map f xs has.0 x (f x) has.1 ∙ ap f has.2)
@@ -50,7 +50,7 @@ module _ (l : PrefixList) (b : Block) (version : b.version ≡ l.version) where
   pub entry-version : (e : Entry) → Contains l.entries e → e.block.version ≡ b.version
   entry-version e has = All-contains (λ (d : Entry). d.block.version ≡ l.version) l.entries e l.one_version has ∙ sym version
 
-  -- some entry lies strictly inside the block, or none does
+  -- an entry lies strictly inside the block by the test of its prefix
   pub some-inside : (e : Entry) → Contains l.entries e → LiesIn b (suc b.len) e
       → list_any (lies_inside (width_of b.version) b.len (number_of b)) (list_of l).prefixes ≡ true
   some-inside e has lies =
@@ -68,7 +68,7 @@ module _ (l : PrefixList) (b : Block) (version : b.version ≡ l.version) where
       let deep = ltb-true b.len e.block.len parts.0 in
       absurd (Contains-nil e (are.every e has (record { long = omega (arith, deep); number = eqb-true (block_number W b.len e.block.value) (number_of b) parts.1 })))))
 
-  -- the entry of this very block
+  -- the list's label for the block's own length is that of the block's own entry
   own-label : (e : Entry) → Contains l.entries e → IsOwn b e
       → label_at (width_of l.version) (list_of l).prefixes b.len b.value ≡ Some (text_at l.labels e.label.0)
   own-label e has own =
@@ -92,7 +92,7 @@ module _ (l : PrefixList) (b : Block) (version : b.version ≡ l.version) where
     text = sym (ap (λ (o : Option Label). option_or o (label_below (width_of l.version) (list_of l).prefixes b.len b.value)) (own-label e has own));
   }
 
-  -- if the block has no entry of its own
+  -- the list has no label for the block's own length if the block has no entry of its own
   no-label : ((e : Entry) → Contains l.entries e → IsOwn b e → ⊥)
       → label_at (width_of l.version) (list_of l).prefixes b.len b.value ≡ None
   no-label none =
@@ -117,7 +117,7 @@ module _ (l : PrefixList) (b : Block) (version : b.version ≡ l.version) where
         ∙ sym (ap (λ (o : Option Label). option_or o (label_below (width_of l.version) (list_of l).prefixes b.len b.value)) (no-label none));
   }
 
-  -- the part inside, if the first entry is the block's own, and if none is
+  -- the part strictly inside a block whose first entry is the block's own
   pub part-own : (c : Entry) (rest : List Entry) (above : Option LabelId) → IsOwn b c → IsListPart l b b.len (c ∷ rest) above
       → IsListPart l b (suc b.len) rest (Some c.label)
   part-own c rest above own h = record {
@@ -144,7 +144,7 @@ module _ (l : PrefixList) (b : Block) (version : b.version ≡ l.version) where
   part-first c rest above other h =
       part-other (c ∷ rest) above (first-other l.entries b entry-version c rest h.within other) h
 
-  -- a block of one bit more inside
+  -- a half of a block inherits the label that the block passes on
   pub handed-half : (half : Block) (label : Option LabelId) → half.len ≡ suc b.len
       → block_number (width_of b.version) b.len half.value ≡ number_of b → IsHandedDown l (suc b.len) b.value label
       → IsHandedDown l half.len half.value label
@@ -158,7 +158,7 @@ module _ (l : PrefixList) (b : Block) (version : b.version ≡ l.version) where
             ∙ ap (λ (k : ℕ). label_below W (list_of l).prefixes k half.value) (sym len);
       }
 
-  -- so the list decides the block by the inherited label, if no entry lies inside
+  -- the list decides a block inside which no entry lies by the inherited label
   pub decided-by : (x : Label) (label : Option LabelId) → IsListPart l b (suc b.len) [] label
       → is_label_of (text_of l.labels label) x ≡ is_decided (width_of b.version) (list_of l).prefixes b.len (number_of b) x
   decided-by x label h =

@@ -7,7 +7,7 @@ use Rattle.std.specs.List.{list_any}
 use Rattle.std.proofs.lemmas.Bool.{false≢true}
 use Rattle.pmap_text.specs.Carried.{from_last}
 
--- some element passes exactly if some element of those that pass does
+-- some element that passes is kept exactly if some element passes
 pub any-filtered : {X : Type 0} (p : X → Bool) (xs : List X) → list_any p (filter p xs) ≡ list_any p xs
 any-filtered p [] = refl
 any-filtered {X} p (x ∷ xs) = step (p x) refl (any-filtered p xs)
@@ -16,7 +16,7 @@ any-filtered {X} p (x ∷ xs) = step (p x) refl (any-filtered p xs)
     step true e rest = ap (λ c. c || list_any p (filter p xs)) e
     step false e rest = rest
 
--- no element is kept if none passes
+-- a filter keeps nothing if no element passes
 pub none_kept : {X : Type 0} (p : X → Bool) (xs : List X) → list_any p xs ≡ false → filter p xs ≡ []
 none_kept p [] e = refl
 none_kept {X} p (x ∷ xs) e = step (p x) (none_kept p xs) e
@@ -25,7 +25,7 @@ none_kept {X} p (x ∷ xs) e = step (p x) (none_kept p xs) e
     step true rest e = absurd (false≢true (sym e))
     step false rest e = rest e
 
--- a filter of a filter
+-- two filters are one by both tests
 pub filter_twice : {X : Type 0} (p r : X → Bool) (xs : List X) → filter p (filter r xs) ≡ filter (λ x. r x && p x) xs
 filter_twice p r [] = refl
 filter_twice {X} p r (x ∷ xs) = step (r x) (filter_twice p r xs)
@@ -35,7 +35,7 @@ filter_twice {X} p r (x ∷ xs) = step (r x) (filter_twice p r xs)
     step true rest = ap (λ (zs : List X). cond (p x) (x ∷ zs) zs) rest
     step false rest = rest
 
--- a test of those that pass another
+-- some element that passes one test passes another exactly if some element passes both
 pub any-kept : {X : Type 0} (p r : X → Bool) (xs : List X) → list_any p (filter r xs) ≡ list_any (λ x. r x && p x) xs
 any-kept p r [] = refl
 any-kept {X} p r (x ∷ xs) = step (r x) (any-kept p r xs)
@@ -45,7 +45,7 @@ any-kept {X} p r (x ∷ xs) = step (r x) (any-kept p r xs)
     step true rest = ap (λ c. p x || c) rest
     step false rest = rest
 
--- from the last that passes on: all if none passes
+-- the list from the last element that passes on is the whole list if none passes
 pub from_last-none : {X : Type 0} (p : X → Bool) (xs : List X) → list_any p xs ≡ false → from_last p xs ≡ xs
 from_last-none p [] e = refl
 from_last-none {X} p (x ∷ xs) e = step (p x) (list_any p xs) e
@@ -55,7 +55,7 @@ from_last-none {X} p (x ∷ xs) e = step (p x) (list_any p xs) e
     step false true e = absurd (false≢true (sym e))
     step false false e = refl
 
--- from the last that passes on, before and after a filter that keeps it
+-- the list from the last element that passes on, before and after a filter that keeps it
 pub from_last-filter : {X : Type 0} (p c d : X → Bool) → ((x : X) → d x ≡ (p x && c x)) → (xs : List X)
     → from_last c (filter p xs) ≡ filter p (from_last d xs)
 from_last-filter p c d same [] = refl
@@ -77,11 +77,11 @@ from_last-filter {X} p c d same (x ∷ xs) = step (p x) (list_any d xs) refl (fr
     step false false e rest none =
         from_last-none c (filter p xs) none ∙ sym (ap (λ a. cond a (x ∷ filter p xs) (filter p xs)) e)
 
--- what is left of a slice from a place on
+-- as many elements as are left from an index on are all of them
 pub slice-from : {X : Type 0} (xs : List X) (i : ℕ) → take (length xs - i) (drop i xs) ≡ drop i xs
 slice-from xs i = take_all (length xs - i) (drop i xs) (omega (arith, length-drop i xs))
 
--- the first of a list, if there is one
+-- a list with a first element is that element and the others
 pub first-is : {X : Type 0} (xs : List X) (x : X) → Some x ≡ slice_get xs 0 → xs ≡ x ∷ drop 1 xs
 first-is [] x e = absurd (none-some x (sym e))
 first-is (y ∷ ys) x e = ap (λ z. z ∷ ys) (sym (same_Some x y e))

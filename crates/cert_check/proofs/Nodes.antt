@@ -1,4 +1,4 @@
--- The nodes of a certificate at a line, and their first faults by those of the nodes below.
+-- The nodes of a certificate at a line, and their first faults by those of the nodes below them.
 use Rattle.std.proofs.Common.{◌≡◌, ◌∙◌, ℕ, zero, suc, ◌+◌, ◌-◌, ◌*◌, ◌^◌, ◌<◌, ◌≤◌, ◌==◌, ◌&&◌, Bool, true, false, cond, not, nat_lt, List, [], ◌∷◌, length, Option, Some, None, Result, Ok, Err, min, option_map, refl, sym, ap, subst, arith}
 use Rattle.std.specs.List.{list_all}
 use Rattle.std.specs.Option.{option_or}
@@ -24,25 +24,25 @@ use Rattle.cert_check.specs.declared.fault.CheckFaultKind.{CheckFaultKind}
 use Rattle.cert_check.specs.declared.fault.CheckFaultKind.TheVariants.{CostTooHigh, LeafNotUniform, ListDiffers, NoMemory, SetTooSmall}
 use Rattle.cert_check.proofs.HalfBlocks.{half-number}
 
--- the number of a node that comes later
+-- the number of the next node in a fault
 pub told-next : (k number : ℕ) → told k ≡ number → (next : ℕ) → next ≡ min (number + 1) (2 ^ 64 - 1) → told (k + 1) ≡ next
 told-next k number is next e = grind (arith, nat_tests)
 
--- of faults in order the first
+-- the first of two faults is the first if it exists
 pub or-first : {X : Type 0} (a b : Option X) (x : X) → a ≡ Some x → option_or a b ≡ Some x
 or-first a b x e = ap (λ o. option_or o b) e
 
 pub or-second : {X : Type 0} (a b c : Option X) → a ≡ None → b ≡ c → option_or a b ≡ c
 or-second a b c e f = ap (λ o. option_or o b) e ∙ f
 
--- the result if nothing is wrong with the nodes below
+-- the result of the check of a node if those below it have no fault
 pub own-answer : (fault : ℕ → Option CheckFault) (number count : ℕ) (after : List Node) (o : Option CheckFaultKind) (next : NodeLine) → next.node ≡ after
     → ((k : ℕ) → told k ≡ number → (fault k ≡ option_map (fault_at k) o) × (next.number ≡ told (k + count)))
     → IsAnswer fault number count after (answer_of o number next)
 own-answer fault number count after None next is holds = (is, holds)
 own-answer fault number count after (Some kind) next is holds = λ k told_is. (holds k told_is).0 ∙ (λ i. Some (record { kind = kind; node = told_is i }))
 
--- the result of a check of a node that comes next, by the number before
+-- the result of the check of a node and those after it, by the result for those after it
 pub later-answer : (fault below : ℕ → Option CheckFault) (number next count : ℕ) (after : List Node) (r : Result NodeLine CheckFault)
     → ((k : ℕ) → told k ≡ number → told (k + 1) ≡ next) → ((k : ℕ) → fault k ≡ below (k + 1))
     → IsAnswer below next count after r → IsAnswer fault number (1 + count) after r
@@ -53,19 +53,19 @@ later-answer fault below number next count after (Ok line) follows is h = (
 )
 later-answer fault below number next count after (Err found) follows is h = λ k told_is. is k ∙ h (k + 1) (follows k told_is)
 
--- what holds of a half by its length and number
+-- a function of the length and the number of a half
 pub half-is : {X : Type 0} (b half : Block) (q : ℕ) → IsHalf b half q → (f : ℕ → ℕ → X) → f half.len (number_of half) ≡ f (suc b.len) q
 half-is b half q h f =
     let len : half.len ≡ suc b.len = omega (arith, h.len) in
     λ i. f (len i) (half-number b half q h i)
 
--- the room of a half
+-- a half has one level less of room than its block
 pub half-room : (b half : Block) (q less : ℕ) → IsHalf b half q → width_of b.version - b.len ≡ suc less → less ≡ width_of half.version - half.len
 half-room b half q less h room =
     let width : width_of half.version ≡ width_of b.version = ap width_of h.version in
     omega (arith, width, h.len, room)
 
--- the first fault along bits by that along all but the first
+-- the first fault along bits, by that along all but the first bit
 pub way-step : (m : MapModel) (ps : List Prefix) (x : Label) (k : ℕ) (end : ℕ → ℕ → Option CheckFault) (b chosen beside : Block) (bit : Bool) (bits rest : List Bool)
     → bits ≡ bit ∷ rest → IsHalf b chosen (chosen_half bit (number_of b)) → IsHalf b beside (side_half bit (number_of b))
     → bits_fault m ps x k end bits b.len (number_of b)
@@ -82,17 +82,18 @@ rising-of (Inner cost set left right) count zero h = absurd h
 rising-of (Inner cost set left right) count (suc room) h = h.1
 rising-of (Chain cost set bits side end) count room h = h.1
 
--- what the first of the nodes at a line claims, how many nodes it has, and its first fault
+-- the claim of the first node at a line
 abbrev pub pair_of : List Label → List Node → Pair
 pair_of labels nodes = claim_of (tree_of labels (first_node nodes))
 
+-- the number of nodes of the first node's tree at a line
 abbrev pub count_of : List Label → List Node → ℕ
 count_of labels nodes = node_count (tree_of labels (first_node nodes))
 
 abbrev pub fault_of : List Label → MapModel → List Prefix → List Node → ℕ → ℕ → ℕ → Option CheckFault
 fault_of labels m ps nodes k n q = node_fault m ps (tree_of labels (first_node nodes)) k n q
 
--- a leaf at a line, and the next line
+-- the node at a line is a leaf, and `next` is the line after it
 pub record IsLeafAt (labels : List Label) (nodes next : List Node) (id : ℕ) : Type 0 where
   pub known : id < length labels
   pub next_is : next ≡ behind nodes
@@ -108,7 +109,7 @@ leaf-at labels (Leaf number ∷ nodes) next id room some form is next_is =
     subst (IsLeafAt labels (Leaf number ∷ nodes) next) (sym (same_Some id number is))
     (record { known = form; next_is = next_is; count = refl; fault = λ m ps k n q. refl })
 
--- an inner node at a line, and the lines of its halves
+-- the node at a line is an inner node, and `lower` and `upper` are the lines of its halves
 pub record IsInnerAt (labels : List Label) (nodes lower upper : List Node) (room : ℕ) : Type 0 where
   pub lower_here : 0 < length lower
   pub upper_here : 0 < length upper
@@ -144,7 +145,7 @@ inner-at labels (Inner cost set left right ∷ nodes) lower upper (suc room) som
       })),
 )
 
--- a chain at a line, and the line of its end
+-- the node at a line is a chain, and `next` is the line of its end
 pub record IsChainAt (labels : List Label) (nodes next : List Node) (side room : ℕ) : Type 0 where
   pub here : 0 < length next
   pub rising : IsRising (length labels) 0 (set_of (first_node nodes))
@@ -176,7 +177,7 @@ chain-at labels (Chain cost set bits s end ∷ nodes) next side room form is nex
       fault = λ m ps k n q. refl;
     }))
 
--- the room at a chain's end
+-- the set of the node at a chain's end rises
 pub end-rising : (count : ℕ) (node : Node) (bits : List Bool) (room : ℕ) → HasRoomBelow (HasChainForm count node) bits room → IsRising count 0 (set_of node)
 end-rising count node [] room h = rising-of node count room h
 end-rising count node (bit ∷ bits) zero h = absurd h
@@ -200,7 +201,7 @@ room-rest Fits bits bit rest room is h = by room (subst (λ (xs : List Bool). Ha
     by zero h = absurd h
     by (suc less) h = (less, refl, h)
 
--- no fault of a node says that memory ran out
+-- the fault of a node isn't that an allocation failed
 abbrev IsNodeFault : Option CheckFault → Type 0
 IsNodeFault o = (f : CheckFault) → o ≡ Some f → f.kind ≡ NoMemory → ⊥
 

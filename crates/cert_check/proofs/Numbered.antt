@@ -1,4 +1,4 @@
--- The numbers that labels have in another table.
+-- The numbers of one table's labels in another table.
 use Rattle.std.proofs.Common.{◌≡◌, ℕ, zero, suc, ◌+◌, ◌<◌, Bool, true, false, ◌==◌, List, [], ◌∷◌, ◌++◌, Option, Some, None, length, map, option_map, slice_get, take, refl, sym, ap, ◌∙◌, bytes_eq}
 use Rattle.std.proofs.lemmas.Bool.{both_ways, eq-eqb, eqb-true, false_from_ne_true}
 use Rattle.std.proofs.lemmas.List.{length-map, map-append, take_more}
@@ -12,17 +12,17 @@ use Rattle.pmap_text.specs.declared.label.LabelId.{LabelId}
 use Rattle.pmap_text.proofs.LabelTexts.{slice_get-number}
 use Rattle.cert_check.specs.Sources.{AreNumbers}
 
--- an item of a mapped list
+-- an element of a mapped list is that of the list mapped
 slice_get-map : {X Y : Type 0} (f : X → Y) (xs : List X) (i : ℕ) → slice_get (map f xs) i ≡ option_map f (slice_get xs i)
 slice_get-map f [] i = refl
 slice_get-map f (x ∷ xs) zero = refl
 slice_get-map f (x ∷ xs) (suc i) = slice_get-map f xs i
 
--- a text of a table is at its number
+-- the element of a table at a number is the text with that number
 text-listed : (table : List Label) (n : ℕ) → n < length table → slice_get table n ≡ Some (text_at table n)
 text-listed table n less = slice_get-get_or table n [] less ∙ ap Some (sym (unwrap_or-slice_get table n []))
 
--- one more number
+-- the numbers of the first i + 1 labels, by those of the first i
 pub numbers-more : (from to : List Label) (i : ℕ) (text : Label) (items new : List (Option LabelId)) (o : Option LabelId)
     → map (option_map (λ id. id.0)) items ≡ map (number_of to) (take i from) → Some text ≡ slice_get from i → option_map (λ id. id.0) o ≡ number_of to text
     → new ≡ items ++ o ∷ [] → map (option_map (λ id. id.0)) new ≡ map (number_of to) (take (i + 1) from)
@@ -35,7 +35,7 @@ numbers-more from to i text items new o so_far listed found pushed =
     ∙ (λ j. so_far j ++ found j ∷ [])
     ∙ sym (ap (map (number_of to)) taken ∙ map-append (number_of to) (take i from) (text ∷ []))
 
--- labels are equal if their numbers are
+-- Labels of two tables are equal exactly if their numbers in the second are.
 module _ (numbers : List (Option LabelId)) (from to : List Label) (are : AreNumbers numbers from to) (own id : ℕ) (known : id < length to) (o : Option LabelId)
     (listed : slice_get numbers own ≡ Some o) where
   number : option_map (λ i. i.0) o ≡ number_of to (text_at from own)

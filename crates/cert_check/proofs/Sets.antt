@@ -47,7 +47,7 @@ rising-lacks bound low n (m ∷ ns) less h =
     ap (λ b. b || has_number ns n) (ne-eqb m n (λ e. absurd (omega (arith, e, h.0, less))))
     ∙ rising-lacks bound (m + 1) n ns (omega (arith, h.0, less)) h.2
 
--- one step along a set to a number
+-- a rising list without its first number rises
 pub step-rising : (bound : ℕ) (rest : List LabelId) (first : LabelId) → slice_get rest 0 ≡ Some first → IsRising bound 0 (numbers rest) → IsRising bound 0 (numbers (drop 1 rest))
 step-rising bound [] first e h = absurd (none-some first e)
 step-rising bound (r ∷ rest) first e h = rising-lower bound (r.0 + 1) 0 (numbers rest) (omega arith) h.2
@@ -72,7 +72,7 @@ pub arrived-end : (bound : ℕ) (rest : List LabelId) (id : LabelId) → slice_g
 arrived-end bound [] id e = tt
 arrived-end bound (r ∷ rest) id e = absurd (none-some r (sym e))
 
--- whether the first is the number
+-- the first number of a list that rises from `id` on is `id` exactly if the list has `id`
 pub first-is : (bound : ℕ) (rest : List LabelId) (first id : LabelId) → slice_get rest 0 ≡ Some first → IsRising bound id.0 (numbers rest) → (first.0 == id.0) ≡ has_number (numbers rest) id.0
 first-is bound [] first id e h = absurd (none-some first e)
 first-is bound (r ∷ rest) first id e h =
@@ -88,7 +88,7 @@ pub first-none : (rest : List LabelId) (id : LabelId) → slice_get rest 0 ≡ N
 first-none [] id e = refl
 first-none (r ∷ rest) id e = absurd (none-some r (sym e))
 
--- a walk over two sets: what is left of the other set has of the numbers to come those that the whole has
+-- A walk over two sets at index i of the first: the rest of the other set has all its numbers that are still to come.
 pub record IsWalk (set rest other : List LabelId) (i : ℕ) : Type 0 where
   pub low : ℕ
   pub coming : IsRising (2 ^ 32) low (numbers (drop i set))
@@ -98,7 +98,7 @@ pub record IsWalk (set rest other : List LabelId) (i : ℕ) : Type 0 where
 pub walk-start : (set other : List LabelId) → IsRising (2 ^ 32) 0 (numbers set) → IsRising (2 ^ 32) 0 (numbers other) → IsWalk set other other 0
 walk-start set other h h' = record { low = 0; coming = h; rising = h'; kept = λ n le. refl }
 
--- the first of those to come
+-- the number at index i is the first of those to come, and the others rise after it
 coming-first : (low : ℕ) (set : List LabelId) (i : ℕ) (d : LabelId) → i < length set → IsRising (2 ^ 32) low (numbers (drop i set))
     → (low ≤ (get_or set i d).0) × IsRising (2 ^ 32) ((get_or set i d).0 + 1) (numbers (drop (suc i) set))
 coming-first low [] i d less h = absurd (omega arith)
@@ -122,7 +122,7 @@ module _ (set rest rest' other : List LabelId) (i : ℕ) (d : LabelId) (less : i
   pub walk-has : has_number (numbers rest') (get_or set i d).0 ≡ has_number (numbers other) (get_or set i d).0
   walk-has = kept (get_or set i d).0 (omega arith) ∙ walk.kept (get_or set i d).0 first-coming.0
 
--- numbers and labels of a table
+-- Sets of label numbers and the sets of their labels.
 module _ (table : List Label) (ok : IsLabelTable table) where
   same-number : (n m : ℕ) → n < length table → m < length table → bytes_eq (text_at table n) (text_at table m) ≡ (m == n)
   same-number n m h h' = by (m == n) refl
@@ -155,7 +155,7 @@ module _ (table : List Label) (ok : IsLabelTable table) where
   all-texts low low' [] ms h h' = refl
   all-texts low low' (n ∷ ns) ms h h' = ap₂ ◌&&◌ (has-texts low' ms n h' h.1) (all-texts (n + 1) low' ns ms h.2 h')
 
--- those kept of a rising list rise
+-- a filtered rising list rises
 pub rising-filter : (bound low : ℕ) (test : ℕ → Bool) (ns : List ℕ) → IsRising bound low ns → IsRising bound low (filter test ns)
 rising-filter bound low test [] h = tt
 rising-filter bound low test (n ∷ ns) h = by (test n) (rising-filter bound (n + 1) test ns h.2)
@@ -164,15 +164,15 @@ rising-filter bound low test (n ∷ ns) h = by (test n) (rising-filter bound (n 
     by true rest = (h.0, h.1, rest)
     by false rest = rising-lower bound (n + 1) low (filter test ns) (omega (arith, h.0)) rest
 
--- a pair with the labels of these numbers
+-- the pair with this cost and the labels with these numbers
 abbrev pub pair_of : List Label → ℕ → List ℕ → Pair
 pair_of table k ns = record { cost = k; labels = map (text_at table) ns }
 
--- what is wrong with a cost, by the exact cost and whether all labels of the exact set are there
+-- the fault of a claim by its cost, the exact cost, and whether it has all labels of the exact set
 abbrev pub fault_by : ℕ → ℕ → Bool → Option CheckFaultKind
 fault_by cost exact full = cond (nat_lt exact cost) (Some CostTooHigh) (cond ((cost == exact) && not full) (Some SetTooSmall) None)
 
--- what is wrong with a claim by its numbers
+-- the fault of a claim by label numbers, if the sets of the halves have no common label
 pub claim-apart : (table : List Label) → IsLabelTable table → (cost left right : ℕ) (set lower upper : List ℕ)
     → IsRising (length table) 0 set → IsRising (length table) 0 lower → IsRising (length table) 0 upper → filter (has_number upper) lower ≡ []
     → claim_fault (pair_of table cost set) (exact_pair (pair_of table left lower) (pair_of table right upper))
@@ -196,14 +196,14 @@ claim-common table ok cost left right set lower upper h h' h'' n ns some =
     ap (λ (xs : List Label). claim_fault (pair_of table cost set) (exact_pair_by (pair_of table left lower) (pair_of table right upper) xs)) common
     ∙ ap (fault_by cost (left + right)) (all-texts table ok 0 0 (n ∷ ns) set rising h)
 
--- the place after
+-- a walk goes on to the next index
 pub goes-on : (set rest rest' other : List LabelId) (i : ℕ) (d : LabelId) → i < length set → IsWalk set rest other i → IsRising (2 ^ 32) (get_or set i d).0 (numbers rest')
     → ((n : ℕ) → (get_or set i d).0 ≤ n → has_number (numbers rest') n ≡ has_number (numbers rest) n) → IsWalk set rest' other (i + 1)
 goes-on set rest rest' other i d less walk rising kept =
     let e : suc i ≡ i + 1 = omega arith in
     subst (IsWalk set rest' other) e (walk-next set rest rest' other i d less walk rising kept)
 
--- a filter with one more
+-- a filter of the first i + 1 elements, by that of the first i
 pub filter-more : (p : LabelId → Bool) (set : List LabelId) (i : ℕ) (d : LabelId) (old new : List LabelId) (w : Bool) → i < length set
     → w ≡ p (get_or set i d) → old ≡ filter p (take i set) → new ≡ cond w (old ++ get_or set i d ∷ []) old → new ≡ filter p (take (i + 1) set)
 filter-more p set i d old new w less test so_far pushed =
@@ -217,7 +217,7 @@ filter-more p set i d old new w less test so_far pushed =
     by true false e = absurd (false≢true (sym e))
     by false true e = absurd (false≢true e)
 
--- a test of all with one more
+-- a test of the first i + 1 elements, by that of the first i
 pub all-more : (p : LabelId → Bool) (set : List LabelId) (i : ℕ) (d : LabelId) → i < length set → p (get_or set i d) ≡ true
     → list_all p (take i set) ≡ true → list_all p (take (i + 1) set) ≡ true
 all-more p set i d less here so_far = list_all_more p set i d less ∙ and_from (list_all p (take i set)) (p (get_or set i d)) so_far here
@@ -225,7 +225,7 @@ all-more p set i d less here so_far = list_all_more p set i d less ∙ and_from 
 pub all-fails : (p : LabelId → Bool) (set : List LabelId) (i : ℕ) (d : LabelId) → i < length set → p (get_or set i d) ≡ false → list_all p set ≡ false
 all-fails p set i d less here = list_all_at p set i d less here
 
--- the numbers of those that pass
+-- filtering labels by their numbers filters the numbers
 pub numbers-filter : (p : ℕ → Bool) (ids : List LabelId) → numbers (filter (λ i. p i.0) ids) ≡ filter p (numbers ids)
 numbers-filter p [] = refl
 numbers-filter p (x ∷ ids) = by (p x.0) (numbers-filter p ids)
@@ -235,12 +235,12 @@ numbers-filter p (x ∷ ids) = by (p x.0) (numbers-filter p ids)
     by true rest = ap (λ (ns : List ℕ). x.0 ∷ ns) rest
     by false rest = rest
 
--- a set of a table rises below 2 ^ 32
+-- a rising set of a table's numbers rises below 2 ^ 32
 pub set-rising : (count : ℕ) (ids : List LabelId) (ns : List ℕ) → count ≤ 65536 → numbers ids ≡ ns → IsRising count 0 ns → IsRising (2 ^ 32) 0 (numbers ids)
 set-rising count ids ns few e h =
     subst (IsRising (2 ^ 32) 0) (sym e) (rising-bound count (2 ^ 32) 0 ns (omega (arith, few)) h)
 
--- the labels of two sets as numbers
+-- the common labels of two sets have the common numbers
 pub both-numbers : (lower upper both : List LabelId) → both ≡ filter (λ i. has_number (numbers upper) i.0) lower → numbers both ≡ filter (has_number (numbers upper)) (numbers lower)
 both-numbers lower upper both e = ap numbers e ∙ numbers-filter (has_number (numbers upper)) lower
 
@@ -248,13 +248,13 @@ pub both-rising : (lower upper both : List LabelId) → both ≡ filter (λ i. h
 both-rising lower upper both e h =
     subst (IsRising (2 ^ 32) 0) (sym (both-numbers lower upper both e)) (rising-filter (2 ^ 32) 0 (has_number (numbers upper)) (numbers lower) h)
 
--- a node's claim by its numbers
+-- a node claims its cost and the labels with the numbers of its set
 pub claim-numbers : (table : List Label) (node : Node) → claim_of (tree_of table node) ≡ pair_of table (cost_of node) (set_of node)
 claim-numbers table (Leaf id) = refl
 claim-numbers table (Inner cost set left right) = refl
 claim-numbers table (Chain cost set bits side end) = refl
 
--- a test of all labels of a set by their numbers
+-- a test of all labels of a set is one of their numbers
 pub all-numbers : (set ids : List LabelId) (ns ms : List ℕ) → numbers set ≡ ns → numbers ids ≡ ms → list_all (λ i. has_number (numbers set) i.0) ids ≡ list_all (has_number ns) ms
 all-numbers set ids ns ms e e' =
     sym (list_all-map (has_number (numbers set)) (λ (j : LabelId). j.0) ids) ∙ (λ i. list_all (has_number (e i)) (e' i))
@@ -270,7 +270,7 @@ module _ (table : List Label) (ok : IsLabelTable table) (claim left right : Node
   common-is : filter (has_number (set_of right)) (set_of left) ≡ numbers both
   common-is = (λ i. filter (has_number (sym e'' i)) (sym e' i)) ∙ sym (both-numbers lower upper both are)
 
-  -- the nodes of the halves have no common label
+  -- the fault of a claim if the sets of the halves have no common label
   pub node-apart : length both ≡ 0 → full ≡ (list_all (λ i. has_number (numbers set) i.0) lower && list_all (λ i. has_number (numbers set) i.0) upper)
       → fault_by cost (below + 1) full ≡ claim_fault (claim_of (tree_of table claim)) (exact_pair (claim_of (tree_of table left)) (claim_of (tree_of table right)))
   node-apart none fulls =
@@ -281,7 +281,7 @@ module _ (table : List Label) (ok : IsLabelTable table) (claim left right : Node
       ∙ sym (claim-apart table ok (cost_of claim) (cost_of left) (cost_of right) (set_of claim) (set_of left) (set_of right) h h' h'' nothing)
       ∙ exact-is
 
-  -- they have one
+  -- the fault of a claim if the sets of the halves have a common label
   common-by : (xs : List LabelId) → both ≡ xs → (length xs == 0) ≡ false → full ≡ list_all (λ i. has_number (numbers set) i.0) xs
       → fault_by cost below full ≡ claim_fault (claim_of (tree_of table claim)) (exact_pair (claim_of (tree_of table left)) (claim_of (tree_of table right)))
   common-by [] is some fulls = absurd (false≢true (sym some))
@@ -295,7 +295,7 @@ module _ (table : List Label) (ok : IsLabelTable table) (claim left right : Node
       → fault_by cost below full ≡ claim_fault (claim_of (tree_of table claim)) (exact_pair (claim_of (tree_of table left)) (claim_of (tree_of table right)))
   node-common some fulls = common-by both refl some fulls
 
--- the elements of a list that pass a test, and what holds of each that doesn't
+-- a filter keeps nothing if no element passes
 pub apart-none : (p : LabelId → Bool) (ids : List LabelId) → list_all (λ i. not (p i)) ids ≡ true → length (filter p ids) ≡ 0
 apart-none p [] h = refl
 apart-none p (x ∷ ids) h = by (p x) (list_all (λ (i : LabelId). not (p i)) ids) (apart-none p ids) h
@@ -312,13 +312,13 @@ apart-some p (x ∷ ids) h = by (p x) (list_all (λ (i : LabelId). not (p i)) id
     by true others rest all = ne-eqb (suc (length (filter p ids))) 0 (λ e. absurd (omega (arith, e)))
     by false others rest all = rest all
 
--- one that doesn't pass one test, or passes the other
+-- an implication holds if its premise fails or its conclusion holds
 pub or-from : (a b : Bool) → (a ≡ false) ⊎ (b ≡ true) → (not a || b) ≡ true
 or-from false b h = refl
 or-from true b (inl e) = absurd (false≢true (sym e))
 or-from true b (inr e) = e
 
--- one that passes the first and not the other
+-- an implication fails if its premise holds and its conclusion fails
 pub or-fails : (a b : Bool) → a ≡ true → b ≡ false → (not a || b) ≡ false
 or-fails true b e f = f
 or-fails false b e f = absurd (false≢true e)
@@ -332,7 +332,7 @@ all-common p t (x ∷ ids) = by (p x) (all-common p t ids)
     by true rest = ap (λ a. t x && a) rest
     by false rest = rest
 
--- what is wrong with a chain's claim, by the numbers of its set, its side label and its end's set
+-- The fault of a chain's claim, by the numbers of its set, its side label and its end's set.
 module _ (table : List Label) (ok : IsLabelTable table) (n cost below side : ℕ) (set ends : List ℕ)
     (h : IsRising (length table) 0 set) (h' : IsRising (length table) 0 ends) (known : side < length table) where
   chain-by : (b : Bool) → has_number ends side ≡ b
@@ -379,7 +379,7 @@ module _ (table : List Label) (ok : IsLabelTable table) (n cost below side : ℕ
       ∙ ap (λ (i : ℕ). claim_fault (pair_of table cost set) (record { cost = below + 1; labels = chain_labels i (text_at table side) (map (text_at table) ends) })) one
       ∙ ap (fault_by cost (below + 1)) (ap₂ ◌&&◌ (has-texts table ok 0 set side h known) (all-texts table ok 0 0 ends set h' h))
 
--- what is wrong with a chain's claim, by the sets of its place and of its end's
+-- The fault of a chain's claim, by its node and the node at its end.
 module _ (table : List Label) (ok : IsLabelTable table) (n side : ℕ) (chain end : Node) (set beneath : List LabelId) (cost below : ℕ) (full : Bool)
     (h : IsRising (length table) 0 (set_of chain)) (h' : IsRising (length table) 0 (set_of end)) (known : side < length table)
     (e : numbers set ≡ set_of chain) (e' : numbers beneath ≡ set_of end) (costs : cost ≡ cost_of chain) (belows : below ≡ cost_of end) where

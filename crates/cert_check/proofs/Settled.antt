@@ -25,7 +25,7 @@ have-addresses : (m : MapText) → HaveAddresses (map_of m).mappings
 have-addresses m =
     All-map (λ s. s.low ≤ s.high) (mapping_of m.labels) m.statements (λ i d below. (get_or m.statements i d).span.ordered)
 
--- the text of the label that is seen
+-- the label of a statement, or otherwise the default, is the text of the label that is seen
 label-text : (table : List Label) (default : LabelId) (top : Option Statement)
     → Some (label_or (option_map (mapping_of table) top) (text_at table default.0)) ≡ text_of table (label_seen (Some default) top)
 label-text table default None = refl
@@ -40,7 +40,7 @@ module _ (s : StretchesModel) (every : HasEveryAddress s) where
       ap (λ b. cond b (first_at s (i + 1) - 1) (2 ^ width_of s.version - 1)) (lt-ltb (i + 1) (length s.firsts) (omega (arith, more))) in
       omega (arith, last, less)
 
-  -- of two addresses the greater is in no earlier stretch
+  -- the greater of two addresses is in the same stretch or a later one
   pub held-order : (a b i j : ℕ) → HoldsAddress s a i → HoldsAddress s b j → a ≤ b → i ≤ j
   held-order a b i j at at' le =
       elim (cases_lt j i) [
@@ -61,7 +61,7 @@ module _ (s : StretchesModel) (every : HasEveryAddress s) where
       let down = held-order a a j i at' at (omega arith) in
       omega (arith, up, down)
 
-  -- the address before one, whose stretch begins with this address or earlier
+  -- if a stretch begins with an address above 0, the address before is in the stretch before
   pub held-before : (a i : ℕ) → 0 < a → HoldsAddress s a i → first_at s i ≡ a → (0 < i) × HoldsAddress s (a - 1) (i - 1)
   held-before a i some at begins = by i some at begins
     where
@@ -85,7 +85,7 @@ module _ (s : StretchesModel) (every : HasEveryAddress s) where
   }
 
 module _ (s : Sources) (are : AreSources s) where
-  -- a block that begins in a stretch is settled if it ends there
+  -- a block that begins in a stretch is settled, with the stretch's label, exactly if it ends there
   settled-at : (i j r : ℕ) → i < length s.stretches.firsts → first_at s.stretches i ≤ first_of (width_of s.map.now.version) j r
       → first_of (width_of s.map.now.version) j r ≤ last_at s.stretches i → last_of (width_of s.map.now.version) j r < 2 ^ width_of s.map.now.version
       → settled_label (map_of s.map.now) j r
@@ -102,7 +102,7 @@ module _ (s : Sources) (are : AreSources s) where
   stretch-fits : (i : ℕ) → i < length s.stretches.firsts → last_at s.stretches i < 2 ^ width_of s.map.now.version
   stretch-fits i below = subst (λ v. last_at s.stretches i < 2 ^ width_of v) are.version (are.stretches.each i below).within
 
-  -- all blocks of a stretch have its label
+  -- the map settles all blocks of a stretch with its label
   pub settled-between : (i first stop : ℕ) (x : Label) → i < length s.stretches.firsts → first_at s.stretches i ≤ first → stop ≤ last_at s.stretches i + 1
       → is_label_of (text_of s.map.now.labels (label_at s.stretches i)) x ≡ true → IsSettledBetween (map_of s.map.now) first stop x
   settled-between i first stop x below from to is j r begins ends =
@@ -113,7 +113,7 @@ module _ (s : Sources) (are : AreSources s) where
       (settled-at i j r below (omega (arith, from, begins)) (omega (arith, to, ends, some)) (omega (arith, to, ends, fits))
       ∙ ap (λ b. cond b (text_of s.map.now.labels (label_at s.stretches i)) None) (le-leb _ _ (omega (arith, to, ends)))) ∙ is
 
-  -- a part's block
+  -- Whether the map settles the block of a part.
   module _ (p : Part) (is : IsPart s p) where
     version : p.block.version ≡ s.map.now.version
     version = is.list.version ∙ are.list_version

@@ -1,4 +1,4 @@
--- When one look shows that nothing is wrong with the blocks beside a chain's way.
+-- The conditions under which one look shows that the blocks beside a chain's way have no fault.
 use Rattle.std.proofs.Common.{◌≡◌, ◌∙◌, ◌⊎◌, inl, inr, ℕ, zero, suc, ◌+◌, ◌-◌, ◌*◌, ◌<◌, ◌≤◌, ◌==◌, ◌&&◌, Bool, true, false, cond, not, List, [], ◌∷◌, ◌++◌, get_or, length, take, Option, Some, None, Contains, nat_lt, option_map, refl, sym, ap, ap₂, subst, arith}
 use Rattle.std.specs.List.{list_any}
 use Rattle.std.specs.Option.{option_or}
@@ -65,8 +65,8 @@ or-none : {X : Type 0} (a : Option X) → option_or a None ≡ a
 or-none None = refl
 or-none (Some x) = refl
 
--- If nothing is wrong with the blocks of an outer block that lie apart from an inner one, the first fault along the
--- bits from the outer to the inner block is that of the inner one.
+-- If the blocks of an outer block that lie apart from an inner one have no fault, the first fault along the bits from
+-- the outer to the inner block is that of the inner one.
 module _ (m : MapModel) (ps : List Prefix) (x : Label) (W from first last begin end : ℕ)
     (clear : (j r : ℕ) → from < j → j ≤ W → first ≤ first_of W j r → last_of W j r ≤ last
     → (last_of W j r < begin) ⊎ (end < first_of W j r) → leaf_fault m ps j r x ≡ None) where
@@ -120,7 +120,7 @@ way-within b end bits way some =
       last = omega (arith, ends, last);
     }
 
--- the block after the first bits
+-- the second block is where the first i bits lead from the first block
 pub record IsOnWay (b at : Block) (bits : List Bool) (i : ℕ) : Type 0 where
   pub version : at.version ≡ b.version
   pub len : at.len ≡ b.len + i
@@ -145,7 +145,7 @@ way-on b at half next bits bit i is less one on version len number =
     more : take (i + 1) bits ≡ take i bits ++ bit ∷ []
     more = take_more bits i false less ∙ ap (λ (d : Bool). take i bits ++ d ∷ []) one
 
--- the entries inside a block all lie in an inner one
+-- The entries strictly inside a block all lie in an inner one.
 module _ (l : PrefixList) (b : Block) (version : b.version ≡ l.version) (end : Block) (w : IsWithin b end) (within : List Entry) (above : Option LabelId)
     (part : IsListPart l b (suc b.len) within above) (all : (e : Entry) → Contains within e → LiesIn end end.len e) where
   -- an entry of more bits than the block that covers an address of it lies in the inner one
@@ -163,7 +163,7 @@ module _ (l : PrefixList) (b : Block) (version : b.version ≡ l.version) (end :
             ∙ address-between W b.len (number_of b) a (omega (arith, first, from)) to;
       }))
 
-  -- so each address that no entry up to some length covers has the inherited label
+  -- the entries of n bits give an address no label if none of n bits covers it
   none-at : (n a : ℕ) → b.len < n → ((e : Entry) → Contains l.entries e → e.block.len ≡ n
       → block_number (width_of b.version) n e.block.value ≡ block_number (width_of b.version) n a → ⊥)
       → label_at (width_of b.version) (list_of l).prefixes n a ≡ None
@@ -200,7 +200,7 @@ module _ (l : PrefixList) (b : Block) (version : b.version ≡ l.version) (end :
       ∙ label_below-same W (list_of l).prefixes b.len a b.value b.len_in_range same
       ∙ ap (λ (v : _). label_below (width_of v) (list_of l).prefixes (suc b.len) b.value) version ∙ sym part.above.text
 
-  -- at the inner block
+  -- the inner block inherits the same label as the outer one
   pub handed-end : IsHandedDown l end.len end.value above
   handed-end = record { known = part.above.known; text = by (end.len - 1) (let longer = w.longer in omega (arith, longer)) }
     where
@@ -220,10 +220,10 @@ module _ (l : PrefixList) (b : Block) (version : b.version ≡ l.version) (end :
     above = handed-end;
   }
 
-  -- and at each block apart from it, in which then no entry lies
+  -- Each block apart from the inner one, in which no entry lies.
   module _ (j r : ℕ) (deep : b.len < j) (from : b.value ≤ first_of (width_of b.version) j r) (to : last_of (width_of b.version) j r ≤ last_in b)
       (apart : (last_of (width_of b.version) j r < end.value) ⊎ (last_in end < first_of (width_of b.version) j r)) where
-    -- no address of it is one of the inner block
+    -- no address of a block apart from the inner one is in the inner one
     apart-from : (a : ℕ) → first_of (width_of b.version) j r ≤ a → a ≤ last_of (width_of b.version) j r → block_number (width_of b.version) end.len a ≡ number_of end → ⊥
     apart-from a low high number =
         let W = width_of b.version in
@@ -252,7 +252,7 @@ module _ (l : PrefixList) (b : Block) (version : b.version ≡ l.version) (end :
         let inside = lies e has (omega (arith, longer, deep)) e.block.value (omega (arith, from, low)) (omega (arith, to, high)) refl in
         absurd (apart-from e.block.value low high (inner-number e has inside))))
 
-    -- so nothing is wrong with it if the map settles it with the label
+    -- a block apart from the inner one has no fault if the map settles it with the label
     pub clear-leaf : (m : MapModel) (x : Label) → m.version ≡ b.version → is_label_of (text_of l.labels above) x ≡ true
         → is_label_of (settled_label m j r) x ≡ true → leaf_fault m (list_of l).prefixes j r x ≡ None
     clear-leaf m x same is settled =
@@ -271,7 +271,7 @@ module _ (l : PrefixList) (b : Block) (version : b.version ≡ l.version) (end :
         ∙ ap₂ (λ (i : Bool) (o : Option Label). not i && is_label_of o x) none-in label ∙ is in
         ap₂ (λ (s d : Bool). cond s (cond d None (Some ListDiffers)) (Some LeafNotUniform)) settled decided
 
-  -- so the first fault along the bits to the inner block is that of the inner block
+  -- the first fault along the bits to the inner block is that of the inner block
   pub clear-way : (bits : List Bool) → IsWay b end bits → (m : MapModel) (x : Label) → m.version ≡ b.version → is_label_of (text_of l.labels above) x ≡ true
       → IsSettledBetween m b.value end.value x → IsSettledBetween m (last_in end + 1) (last_in b + 1) x
       → (k : ℕ) (below : ℕ → ℕ → Option CheckFault) → bits_fault m (list_of l).prefixes x k below bits b.len (number_of b) ≡ below end.len (number_of end)

@@ -22,7 +22,7 @@ use Rattle.cert_check.specs.Carrying.{number_of}
 use Rattle.cert_check.specs.Parts.{AreInOrder, AreRising, AreWithin, LiesIn, last_in, rank_of}
 use Rattle.cert_check.proofs.HalfBlocks.{IsWithin, block-first}
 
--- no address has more than 128 bits
+-- no block has more than 128 bits
 short : (v : Version) (len : ℕ) → len ≤ width_of v → len ≤ 128
 short V4 len le = omega (arith, le)
 short V6 len le = le
@@ -30,7 +30,7 @@ short V6 len le = le
 pub short-block : (b : Block) → b.len ≤ 128
 short-block b = short b.version b.len b.len_in_range
 
--- the first comes before all later ones
+-- the first of entries in order comes before all later ones
 rank-later : (c : Entry) (rest : List Entry) → AreRising (c ∷ rest) → (e : Entry) → Contains rest e → rank_of c.block < rank_of e.block
 rank-later c rest rising e has = subst (λ (x : Entry). rank_of c.block < rank_of x.block) has.2 (rising 0 (suc has.0) e (omega arith) (omega (arith, has.1)))
 
@@ -41,7 +41,7 @@ rank-first c rest rising e has =
       | inr later ↦ let r = rank-later c rest rising e later in omega (arith, r)
     ]
 
--- and the last after all earlier ones
+-- the last of entries in order has the greatest first address
 pub rank-last : (es : List Entry) (c : Entry) → Some c ≡ slice_get es (length es - 1) → AreRising es → (e : Entry) → Contains es e → e.block.value ≤ c.block.value
 rank-last es c is rising e has =
     let few = short-block e.block in
@@ -59,7 +59,7 @@ rank-last es c is rising e has =
           omega (arith, less', few, few')
     ]
 
--- first addresses don't fall
+-- the first addresses of entries in order don't fall
 pub rising-values : (es : List Entry) → AreRising es → IsNonDecreasingBy (λ e. e.block.value) es
 rising-values es rising i j d le below =
     elim (cases_eq i j) [
@@ -74,7 +74,7 @@ rising-values es rising i j d le below =
 pub not-before : (a b : ℕ) → is_lt (nat_cmp a b) ≡ false → b ≤ a
 not-before a b h = grind (arith, nat_tests)
 
--- the addresses of an entry that lies in a block
+-- An entry of n bits or more lies in a block exactly if its first address does.
 module _ (b : Block) (n : ℕ) (e : Entry) where
   pub lies-from : LiesIn b n e → b.value ≤ e.block.value
   lies-from lies =
@@ -91,7 +91,7 @@ module _ (b : Block) (n : ℕ) (e : Entry) where
     number = let first = block-first b in address-between (width_of b.version) b.len (number_of b) e.block.value (omega (arith, first, from)) to;
   }
 
--- it is the block's own
+-- the entry has this very block
 abbrev pub IsOwn : Block → Entry → Type 0
 IsOwn b e = (e.block.value ≡ b.value) × (e.block.len ≡ b.len)
 
@@ -105,7 +105,7 @@ module _ (es : List Entry) (b : Block) (same : (e : Entry) → Contains es e →
         len,
       )
 
-  -- the entries strictly inside are the same if none is the block's own
+  -- the entries in a block are those strictly inside it if none is the block's own
   pub strict : (within : List Entry) → AreWithin es b b.len within → ((e : Entry) → Contains within e → IsOwn b e → ⊥) → AreWithin es b (suc b.len) within
   strict within are none = record {
     rising = are.rising;
@@ -123,7 +123,7 @@ module _ (es : List Entry) (b : Block) (same : (e : Entry) → Contains es e →
     every = λ e has lies. are.every e has (record { long = omega (arith, lies.long); number = lies.number });
   }
 
-  -- none is the block's own if the first isn't
+  -- no entry is the block's own if the first isn't
   pub first-other : (c : Entry) (rest : List Entry) → AreWithin es b b.len (c ∷ rest) → (IsOwn b c → ⊥) → (e : Entry) → Contains (c ∷ rest) e → IsOwn b e → ⊥
   first-other c rest are other e has own =
       let lies = (are.inside c (Contains-first c rest)).1 in
@@ -133,7 +133,7 @@ module _ (es : List Entry) (b : Block) (same : (e : Entry) → Contains es e →
       let le = rank-first c rest are.rising e has in
       other (omega (arith, from, few, few', le, own.0, own.1, lies.long), omega (arith, from, few, few', le, own.0, own.1, lies.long))
 
-  -- and they are the others if the first is
+  -- the entries strictly inside a block are those after the first if that is the block's own
   pub strict-rest : (c : Entry) (rest : List Entry) → AreWithin es b b.len (c ∷ rest) → IsOwn b c → AreWithin es b (suc b.len) rest
   strict-rest c rest are own = record {
     rising = λ i j d less below. are.rising (suc i) (suc j) d (omega (arith, less)) (omega (arith, below));
@@ -157,7 +157,7 @@ module _ (es : List Entry) (b : Block) (same : (e : Entry) → Contains es e →
     ];
   }
 
-  -- the entries in a block inside it
+  -- the entries in an inner block are those in the outer block that lie in the inner one
   pub narrow : (inner : Block) → IsWithin b inner → (within ys : List Entry) → AreRising ys
       → ((e : Entry) → Contains ys e → Contains within e × LiesIn inner inner.len e)
       → ((e : Entry) → Contains within e → LiesIn inner inner.len e → Contains ys e)
@@ -173,7 +173,7 @@ module _ (es : List Entry) (b : Block) (same : (e : Entry) → Contains es e →
         (lies-between b (suc b.len) e (omega (arith, w.longer, lies.long)) (omega (arith, w.first, from)) (omega (arith, w.last, to)))) lies;
   }
 
--- entries in order, parted by their first addresses
+-- Entries in order, split at index k by their first addresses.
 module _ (within : List Entry) (k mid : ℕ) (rising : AreRising within)
     (before : (i : ℕ) (d : Entry) → i < k → (get_or within i d).block.value < mid)
     (after : (i : ℕ) (d : Entry) → k ≤ i → i < length within → mid ≤ (get_or within i d).block.value) where
@@ -223,7 +223,7 @@ module _ (within : List Entry) (k mid : ℕ) (rising : AreRising within)
             (has.0 - k, most, get_or-drop k within (has.0 - k) e ∙ ap (λ (i : ℕ). get_or within i e) at ∙ has.2)
       ]
 
--- at the first address of a block each longer block with that address begins too
+-- an address without host bits for k bits is the first address of its longer blocks
 pub begins-longer : (W k n a : ℕ) → k ≤ n → n ≤ W → a % 2 ^ (W - k) ≡ 0 → first_of W n (block_number W n a) ≡ a
 begins-longer W k n a le fits free =
     let d : ℕ = 2 ^ (W - n) in
@@ -254,7 +254,7 @@ lies-after b e same from to =
       number = number;
     }
 
--- all entries of a list in order, whose blocks are distinct
+-- entries of equal rank have the same block
 rank-block : (d e : Entry) → rank_of d.block ≡ rank_of e.block → same_block d e ≡ true
 rank-block d e same =
     let a = short-block d.block in

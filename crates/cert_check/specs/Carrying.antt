@@ -7,20 +7,20 @@ use Rattle.pmap_text.specs.declared.entry.Entry.{Entry}
 use Rattle.pmap_text.specs.declared.statement.Statement.{Statement}
 use Rattle.cert_check.specs.Versions.{is_same_version}
 
--- What is carried down to a block. Statements and entries of another version than the block's have no address of it.
+-- The statements and entries that affect a block. Those of another version than the block's cover no address of it.
 
--- the number of a block: what its addresses have in common
+-- the number of a block: the leading bits of its addresses
 abbrev pub number_of : Block → ℕ
 number_of block = block_number (width_of block.version) block.len block.value
 
--- of the statements of the block's version those that meet the block, from the last that covers it whole (all of them
--- if none does), in the order given
+-- the statements of the block's version that meet the block, from the last one that covers it whole (all of them if
+-- none does), in the given order
 abbrev pub carried_to : Block → List Statement → List Statement
 carried_to block ss =
     carried (width_of block.version) block.len (number_of block) (filter (λ s. is_same_version s.span.low.version block.version) ss)
 
--- of the entries of the block's version the longest that covers the block, if there is one, and those strictly inside
--- it, in the order given
+-- the longest entry of the block's version that covers the block, if there is one, and those strictly inside it, in the
+-- given order
 abbrev pub entries_carried_to : Block → List Entry → List Entry
 entries_carried_to block es =
     carried_entries (width_of block.version) block.len (number_of block) (filter (λ e. is_same_version e.block.version block.version) es)

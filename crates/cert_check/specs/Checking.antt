@@ -14,30 +14,29 @@ use Rattle.cert_check.specs.declared.fault.CheckFault.{CheckFault}
 use Rattle.cert_check.specs.declared.fault.CheckFaultKind.{CheckFaultKind}
 use Rattle.cert_check.specs.declared.fault.CheckFaultKind.TheVariants.{BoundNotMet, CostTooHigh, LeafNotUniform, ListDiffers, SetTooSmall, VersionDiffers}
 
--- The first fault of a certificate for a map and a prefix list: in which order faults are looked for, and which node
--- each names. A certificate without a fault is accepted (the laws of this crate).
+-- The first fault of a certificate for a map and a prefix list: the order in which faults are looked for, and the node
+-- of each. A certificate without a fault is accepted (the laws of this crate).
 
--- the label is there, and it is this one
+-- there is a label, and it is x
 abbrev pub is_label_of : Option Label → Label → Bool
 is_label_of None x = false
 is_label_of (Some y) x = bytes_eq y x
 
--- the list decides the whole block alike by the label: no entry lies strictly inside, and the longest that covers the
--- block has it
+-- the list decides the block by the label: no entry lies strictly inside, and the longest that covers the block has it
 abbrev pub is_decided : ℕ → List Prefix → ℕ → ℕ → Label → Bool
 is_decided W ps n q x =
     not (list_any (lies_inside W n q) ps) && is_label_of (label_below W ps (suc n) (first_of W n q)) x
 
--- what is wrong with a leaf: first whether the map settles its block with its label, then whether the list decides it
--- so
+-- the fault of a leaf: the map doesn't settle its block with its label, or otherwise the list doesn't decide it by that
+-- label
 abbrev pub leaf_fault : MapModel → List Prefix → ℕ → ℕ → Label → Option CheckFaultKind
 leaf_fault m ps n q x =
     if is_label_of (settled_label m n q) x
     then (if is_decided (width_of m.version) ps n q x then None else Some ListDiffers)
     else Some LeafNotUniform
 
--- what is wrong with a claim, by the exact pair of the claims below it: a cost above that pair's, or the same cost
--- without a label of its set
+-- the fault of a claim, by the exact pair of the claims below: a cost above that pair's, or the same cost without a
+-- label of its set
 abbrev pub claim_fault : Pair → Pair → Option CheckFaultKind
 claim_fault claim exact =
     if nat_lt exact.cost claim.cost then Some CostTooHigh
@@ -57,17 +56,17 @@ told number = if nat_lt number (2 ^ 64) then number else 2 ^ 64 - 1
 abbrev pub fault_at : ℕ → CheckFaultKind → CheckFault
 fault_at number kind = record { kind = kind; node = told number }
 
--- The first fault along a chain's bits, the chain having this number: first that of its end, then those of the side
--- blocks from the deepest up.
+-- The first fault along the bits of the chain with this number: first that of its end, then those of the side blocks
+-- from the deepest up.
 abbrev pub bits_fault : MapModel → List Prefix → Label → ℕ → (ℕ → ℕ → Option CheckFault) → List Bool → ℕ → ℕ → Option CheckFault
 bits_fault m ps side number end [] n q = end n q
 bits_fault m ps side number end (bit ∷ bits) n q =
     option_or (bits_fault m ps side number end bits (suc n) (chosen_half bit q))
     (option_map (fault_at number) (leaf_fault m ps (suc n) (side_half bit q) side))
 
--- The first fault of a node and those below it, the node having the number k and representing the block of n bits with
--- the number q: those of the lower node come first, then those of the upper, then the node's own. Nodes are numbered as
--- in a certificate's text: the node, then those of its lower half, then those of its upper half.
+-- The first fault of the node with this number, for the block of n bits with the number q, and of those below it: those
+-- of the lower node come first, then those of the upper, then the node's own. Nodes are numbered as in a certificate's
+-- text: the node, then those of its lower half, then those of its upper half.
 abbrev pub node_fault : MapModel → List Prefix → Tree → ℕ → ℕ → ℕ → Option CheckFault
 node_fault m ps (LeafNode x) number n q = option_map (fault_at number) (leaf_fault m ps n q x)
 node_fault m ps (InnerNode claim lower upper) number n q =
@@ -78,12 +77,12 @@ node_fault m ps (ChainNode claim bits side end) number n q =
     option_or (bits_fault m ps side number (node_fault m ps end (number + 1)) bits n q)
     (option_map (fault_at number) (claim_fault claim (chain_pair (length bits) side (claim_of end))))
 
--- a fault that no node has
+-- a fault of no single node
 abbrev pub whole_fault : CheckFaultKind → CheckFault
 whole_fault kind = record { kind = kind; node = 0 }
 
--- the first fault of a certificate for a map and a list: different versions, then the first fault of its nodes, the
--- root having the number 1, and then a list of more entries than the root's cost and one
+-- the first fault of a certificate for a map and a list: different versions, then the first fault of its nodes with
+-- number 1 for the root, and then a list of more entries than the root's cost plus one
 abbrev pub first_fault : MapModel → ListModel → CertificateModel → Option CheckFault
 first_fault m l c =
     if is_same_version l.version m.version && is_same_version c.version m.version

@@ -16,24 +16,24 @@ use Rattle.cert_check.specs.declared.fault.CheckFaultKind.TheVariants.{NoMemory}
 use Rattle.cert_check.specs.declared.part.Part.{Part}
 use Rattle.cert_check.specs.declared.sources.Sources.{Sources}
 
--- The contract of the functions that check a certificate's nodes: no user need read it.
+-- The contracts of the private functions that check a certificate's nodes.
 
 -- the tree of the node at a line
 abbrev pub tree_at : Sources → NodeLine → Tree
 tree_at s line = tree_of s.certificate.now.labels (first_node line.node)
 
--- The first fault of the node at a line, if it has the number k and represents the part's block, and that along a
--- chain's bits with the node at the line at their end, if the chain has the number k.
+-- The first fault of the node at a line with the number k, for the part's block.
 abbrev pub line_fault : Sources → NodeLine → Part → ℕ → Option CheckFault
 line_fault s line p k =
     node_fault (map_of s.map.now) (list_of s.list.now).prefixes (tree_at s line) k p.block.len (number_of p.block)
 
+-- The first fault along the bits of a chain with the number k, from the part's block to the node at the line `end`.
 abbrev pub way_fault : Sources → NodeLine → ℕ → List Bool → Part → ℕ → Option CheckFault
 way_fault s end side bits p k =
     bits_fault (map_of s.map.now) (list_of s.list.now).prefixes (text_at s.certificate.now.labels side) k
     (node_fault (map_of s.map.now) (list_of s.list.now).prefixes (tree_at s end) (k + 1)) bits p.block.len (number_of p.block)
 
--- The line has a node for the part's block.
+-- The line has a node that fits the part's block.
 pub record IsAtNode (s : Sources) (line : NodeLine) (p : Part) : Type 0 where
   pub sources : AreSources s
   pub part : IsPart s p
@@ -49,13 +49,13 @@ pub record IsAtEnd (s : Sources) (end : NodeLine) (number side : ℕ) (bits : Li
   pub known : side < length s.certificate.now.labels
   pub next : (k : ℕ) → told k ≡ number → told (k + 1) ≡ end.number
 
--- the result of a check whose nodes below had no fault, by what is wrong with the node itself
+-- the result of the check of a node, by its own fault, if those below it have no fault
 abbrev pub answer_of : Option CheckFaultKind → ℕ → NodeLine → Result NodeLine CheckFault
 answer_of None number next = Ok next
 answer_of (Some kind) number next = Err (record { kind = kind; node = number })
 
--- The result of a check of so many nodes from the one with this number on, whose first fault by that number is given:
--- this fault, or otherwise the line that comes next.
+-- The result of the check of `count` nodes, the first with this number: their first fault, which is `fault k` if the
+-- first has the number k, or otherwise the line after them.
 abbrev pub IsAnswer : (ℕ → Option CheckFault) → ℕ → ℕ → List Node → Result NodeLine CheckFault → Type 0
 IsAnswer fault number count after (Ok next) =
     (next.node ≡ after) × ((k : ℕ) → told k ≡ number → (fault k ≡ None) × (next.number ≡ told (k + count)))
@@ -67,7 +67,7 @@ IsNodeAnswer s line p = IsAnswer (line_fault s line p) line.number (node_count (
 abbrev pub IsWayAnswer : Sources → NodeLine → ℕ → ℕ → List Bool → Part → Result NodeLine CheckFault → Type 0
 IsWayAnswer s end number side bits p = IsAnswer (way_fault s end side bits p) number (1 + node_count (tree_at s end)) (behind end.node)
 
--- the result of a check that may run out of memory, whose first fault is given
+-- the result of a check with this first fault, which may also run out of memory
 abbrev pub IsOutcome : {A : Type 0} → Option CheckFault → Result A CheckFault → Type 0
 IsOutcome fault (Ok done) = fault ≡ None
 IsOutcome fault (Err found) = (found.kind ≢ NoMemory → fault ≡ Some found) × (found.kind ≡ NoMemory → found.node ≡ 0)

@@ -4,7 +4,7 @@ use Rattle.prefix_keys.specs.Version.{width_of}
 use Rattle.prefix_keys.specs.declared.block.Block.{Block}
 use Rattle.cert_check.specs.Carrying.{number_of}
 
--- a half of a block, with its number
+-- the second block is a half of the first and has the number q
 pub record IsHalf (b half : Block) (q : ℕ) : Type 0 where
   pub version : half.version ≡ b.version
   pub len : half.len ≡ b.len + 1

@@ -3,9 +3,9 @@ use Rattle.pmap_text.specs.Stretches.{AreLabelsBelow, AreStretches}
 use Rattle.cert_check.specs.Sources.{AreNumbers}
 use Rattle.cert_check.specs.declared.sources.Sources.{Sources}
 
--- What holds of the values that the check keeps: no user need read it.
+-- What holds of the values that the check keeps, for the contracts of private functions.
 
--- the three are of one version, the stretches are the map's, and the numbers are those in the certificate's table
+-- the inputs have one version, the stretches are the map's, and the numbers are those in the certificate's table
 pub record AreSources (s : Sources) : Type 0 where
   pub list_version : s.list.now.version ≡ s.map.now.version
   pub certificate_version : s.certificate.now.version ≡ s.map.now.version

@@ -2,7 +2,7 @@ use Rattle.std.specs.Prelude.{Bool, true, false}
 use Rattle.prefix_keys.specs.declared.version.Version.{Version}
 use Rattle.prefix_keys.specs.declared.version.Version.TheVariants.{V4, V6}
 
--- the versions are one
+-- the versions are equal
 abbrev pub is_same_version : Version → Version → Bool
 is_same_version V4 V4 = true
 is_same_version V4 V6 = false

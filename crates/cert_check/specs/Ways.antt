@@ -3,7 +3,7 @@ use Rattle.prefix_keys.specs.declared.block.Block.{Block}
 use Rattle.pmap_cert.specs.Chain.{chosen_half}
 use Rattle.cert_check.specs.Carrying.{number_of}
 
--- The ways down chains as the code takes them at once: no user need read it.
+-- The ways of chains that the code follows in one step, for the contracts of private functions.
 
 -- the number of the block that the bits lead to from the block with the number q
 abbrev pub way_number : List Bool → ℕ → ℕ

@@ -21,7 +21,7 @@ fn is_inside(entry: &Entry, block: &Block) -> bool
     block.len < entry.block.len && block.covers(&entry.block.low())
 }
 
-// Whether the statement has an address of the block.
+// Whether the statement covers an address of the block.
 fn meets_block(statement: &Statement, block: &Block) -> bool
     ensures { result ≡ meets_block_of block.now statement.now }
 {
@@ -30,7 +30,7 @@ fn meets_block(statement: &Statement, block: &Block) -> bool
         && (own.low.value <= within.high.value && within.low.value <= own.high.value)
 }
 
-// Whether it has each address of the block.
+// Whether the statement covers the whole block.
 fn spans_block(statement: &Statement, block: &Block) -> bool
     ensures { result ≡ spans_block_of block.now statement.now }
 {
@@ -39,7 +39,7 @@ fn spans_block(statement: &Statement, block: &Block) -> bool
         && (own.low.value <= within.low.value && within.high.value <= own.high.value)
 }
 
-// Adds the statement if it meets the block. If it covers all of it, the others give way to it.
+// Adds the statement if it meets the block. If it covers the whole block, it replaces the others.
 fn add_statement(
     kept: &mut Vec<Statement>,
     statement: &Statement,
@@ -58,8 +58,8 @@ fn add_statement(
     Ok(())
 }
 
-/// Returns the statements that meet the block, from the last that covers it whole, or all of them if none does, in the
-/// order given. No other statement affects the block. A statement of another version doesn't meet it.
+/// Returns the statements that meet the block, from the last one that covers the whole block (all of them if none
+/// does), in the given order. No other statement affects the block. A statement of another version doesn't meet it.
 pub fn carried(
     alloc: Global,
     statements: &[Statement],
@@ -74,7 +74,7 @@ pub fn carried(
     Ok(kept)
 }
 
-// The greater of a length and that of the entry, if the entry covers the block.
+// Returns the length of the entry if it covers the block and is longer than `longest`, otherwise `longest`.
 fn longer(longest: u32, entry: &Entry, block: &Block) -> u32
     ensures { result ≡ (if covers_whole_of block.now entry.now && nat_lt longest entry.now.block.len
         then entry.now.block.len else longest) }
@@ -86,7 +86,7 @@ fn longer(longest: u32, entry: &Entry, block: &Block) -> u32
     }
 }
 
-// The greatest length of an entry that covers the block, 0 if none does.
+// Returns the greatest length of an entry that covers the block, 0 if none does.
 fn longest_covering(entries: &[Entry], block: &Block) -> u32
     ensures { result ≡ greatest (covers_whole_of block.now) entries.now }
 {
@@ -105,9 +105,9 @@ fn has_say(entry: &Entry, block: &Block, longest: u32) -> bool
     (longest <= entry.block.len && covers_whole(entry, block)) || is_inside(entry, block)
 }
 
-/// Returns the longest entry that covers the block, if there is one, and those strictly inside it, in the order given.
-/// Of equal blocks that cover it all are returned; the entries of a `PrefixList` have none. No other entry affects the
-/// block. An entry of another version has no address of it.
+/// Returns the longest entry that covers the block, if there is one, and those strictly inside it, in the given order.
+/// If several equal blocks are the longest, all are returned; a `PrefixList` has no equal blocks. No other entry
+/// affects the block. An entry of another version covers no address of it.
 pub fn carried_entries(
     alloc: Global,
     entries: &[Entry],

@@ -1,4 +1,4 @@
-//! The check of a certificate: its nodes, and the whole.
+//! The check of a certificate, node by node and as a whole.
 ghost use Rattle.std.specs.Prelude.{◌≡◌, ◌≢◌, ℕ, ◌+◌, ◌<◌, Some, None, length, IfErr, IfOk};
 ghost use Rattle.pmap_text.specs.ListModel.{IsEquivalent};
 ghost use Rattle.pmap_text.specs.MapText.{map_of};
@@ -24,14 +24,14 @@ use pmap_text::{Entry, LabelId, MapText, PrefixList, Stretches};
 use prefix_keys::whole_space;
 use std::alloc::Global;
 
-/// A line of the certificate's nodes, or the end of them, with its number.
+/// A position among the certificate's node lines, or their end, with its number, from 1.
 #[derive(Drop)]
 pub struct NodeLine<'a> {
     pub node: Cursor<'a>,
     pub number: u64,
 }
 
-// The line after a node's own.
+// Returns the line after this one.
 fn next_line<'a>(line: &NodeLine<'a>) -> NodeLine<'a>
     requires { 0 < length line.now.node }
     ensures node { result.node ≡ from_next_line line.now.node }
@@ -43,7 +43,7 @@ fn next_line<'a>(line: &NodeLine<'a>) -> NodeLine<'a>
     }
 }
 
-// The line that comes next, if nothing is wrong with the node with this number.
+// Returns the next line, or the fault of the node with this number.
 fn unless_fault<'a>(
     fault: Option<CheckFaultKind>,
     number: u64,
@@ -57,7 +57,7 @@ fn unless_fault<'a>(
     }
 }
 
-// Checks the node at a line, which represents the part's block, and those below it.
+// Checks the node at a line for the part's block, and those below it. Returns the line after them.
 #[cycle(nodes)]
 fn check_node<'a>(
     sources: &Sources,
@@ -77,7 +77,7 @@ fn check_node<'a>(
     }
 }
 
-// Checks an inner node: the nodes of its halves, and then what it claims.
+// Checks an inner node: the nodes of its halves, and then its claim.
 #[cycle(nodes)]
 fn check_inner<'a>(
     sources: &Sources,
@@ -97,7 +97,7 @@ fn check_inner<'a>(
     unless_fault(fault, line.number, next)
 }
 
-// Checks a chain with this side label: what is below it, and then what it claims.
+// Checks a chain with this side label: what is below it, and then its claim.
 #[cycle(nodes)]
 fn check_chain<'a>(
     sources: &Sources,
@@ -117,7 +117,7 @@ fn check_chain<'a>(
     unless_fault(fault, line.number, next)
 }
 
-// Checks what is below a chain: the node at its end, and the blocks beside its way, at one look if that clears them.
+// Checks what is below a chain: the node at its end, and the blocks beside its way unless one look clears them.
 #[cycle(nodes)]
 fn check_below<'a>(
     sources: &Sources,
@@ -159,7 +159,7 @@ fn check_way<'a>(
     unless_fault(beside.leaf_fault(sources, side), number, next)
 }
 
-// Checks the nodes by these entries, the list's entries in order.
+// Checks the nodes against `entries`, the list's entries in order.
 fn check_nodes_by(sources: &Sources, entries: &[Entry]) -> Result<(), CheckFault>
     requires sources { AreSources sources.now }
     requires entries { AreInOrder sources.now.list.now.entries entries.now }
@@ -209,14 +209,14 @@ fn check_nodes(
     check_nodes_by(&sources, sorted.as_slice())
 }
 
-// A fault that no node has.
+// Returns a fault of no single node.
 fn whole_fault(kind: CheckFaultKind) -> CheckFault
     ensures { result ≡ record { kind = kind; node = 0 } }
 {
     CheckFault { kind, node: 0 }
 }
 
-// The number of the list's entries, or the first fault.
+// Checks the certificate, and returns the number of the list's entries or the first fault.
 fn count_entries(
     alloc: Global,
     map: &MapText,
@@ -242,23 +242,23 @@ fn count_entries(
     Ok(count)
 }
 
-/// Checks that the certificate shows the list to be equivalent to the map and a shortest one, and returns how many
-/// entries the list has. Whoever made them, the list then labels every address as the map does, and no list that does
-/// so has fewer entries. Labels are compared by their texts.
+/// Checks that the certificate shows the list to be equivalent to the map and a shortest one, and returns the number of
+/// the list's entries. Whoever made them, the list then labels every address as the map does, and no list that does so
+/// has fewer entries. Labels are compared by their texts.
 ///
 /// # Errors
 ///
-/// The first fault, with the number of its node in the order of the certificate's node lines, from 1; a fault of no
-/// single node has the number 0.
+/// Returns the first fault, with the number of its node in the order of the certificate's node lines, from 1. A fault
+/// of no single node has the number 0.
 ///
-/// - `VersionDiffers`: the three don't have one version.
+/// - `VersionDiffers`: the map, the list and the certificate aren't of one version.
 /// - Then the nodes, those of a lower half before those of the upper half and both before their node. `LeafNotUniform`:
 ///   the map doesn't settle the leaf's block with its label. `ListDiffers`: an entry lies strictly inside the leaf's
-///   block, or the longest that covers it is absent or has another label. `CostTooHigh`: a cost above that of the exact
-///   pair of the claims of its halves. `SetTooSmall`: the same cost, and a set that lacks a label of that pair. A chain
-///   has one number: its end comes first, then the blocks beside its way from the deepest up, each as a leaf with the
-///   side label, then the claim against the chain's own pair.
-/// - `BoundNotMet`: the list has more entries than the root's cost and one.
+///   block, or the longest that covers it is absent or has another label. `CostTooHigh`: the claimed cost is above that
+///   of the exact pair of the halves' claims. `SetTooSmall`: the cost is the same, and the set lacks a label of that
+///   pair. A chain has one number: its end comes first, then the blocks beside its way from the deepest up, each as a
+///   leaf with the side label, then its claim against its exact pair.
+/// - `BoundNotMet`: the list has more entries than the root's cost plus one.
 /// - `NoMemory`: an allocation failed.
 ///
 /// A fault doesn't say that the list is wrong or not a shortest one, only that this certificate doesn't show it.
@@ -271,8 +271,7 @@ pub fn check(
     ensures accepted { IfOk result (λ _. IsAccepted (map_of map.now) (list_of list.now)
         (certificate_of certificate.now)) }
     ensures count { IfOk result (λ n. n ≡ length (list_of list.now).prefixes) }
-    // What acceptance is for: the list labels every address as the map does, and no list that does so has fewer
-    // entries.
+    // The list labels every address as the map does, and no list that does so has fewer entries.
     ensures equivalent { IfOk result (λ _. IsEquivalent (list_of list.now) (map_of map.now)) }
     ensures least { IfOk result (λ _. IsLeast (map_of map.now) (list_of list.now)) }
     ensures ok { IfOk result (λ _. first_fault (map_of map.now) (list_of list.now) (certificate_of certificate.now)
@@ -282,7 +281,7 @@ pub fn check(
     ensures memory { IfErr result (λ fault. fault.kind ≡ NoMemory → fault.node ≡ 0) }
 {
     let count = count_entries(alloc, map, list, certificate)?;
-    // Provides the laws that a certificate has a text, so without a fault it is accepted, and that acceptance is enough.
+    // Provides these laws: a certificate has a text, so it is accepted if it has no fault, and acceptance is enough.
     let _root = certificate.root();
     no_fault_is_acceptance();
     acceptance_is_enough();

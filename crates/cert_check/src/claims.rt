@@ -1,5 +1,4 @@
-//! The check of what an inner node or a chain claims. Sets are listed by rising numbers, so that two are compared in
-//! one walk over both.
+//! The check of the claims of inner nodes and chains. Sets are listed by rising numbers, so one walk compares two sets.
 ghost use Rattle.std.specs.Prelude.{◌≡◌, ℕ, ◌+◌, ◌^◌, ◌<◌, ◌≤◌, ◌&&◌, ◌||◌, ◌==◌, Some, None, length, map, nat_lt, not, if◌then◌else◌};
 ghost use Rattle.std.specs.List.{list_all};
 ghost use Rattle.pmap_text.specs.Label.{IsLabelTable};
@@ -17,7 +16,7 @@ use crate::fault::CheckFaultKind;
 use pmap_cert::Cursor;
 use pmap_text::{LabelId, Labels};
 
-// What is left of the set from the number on.
+// Returns the rest of the set from the first number that is at least `id`.
 fn rest_from<'a>(set: &'a [LabelId], id: LabelId) -> &'a [LabelId]
     requires { IsRising (2 ^ 32) 0 (map (λ i. i.0) set.now) }
     ensures rising { IsRising (2 ^ 32) id.0 (map (λ i. i.0) result.now) }
@@ -34,7 +33,7 @@ fn rest_from<'a>(set: &'a [LabelId], id: LabelId) -> &'a [LabelId]
     rest
 }
 
-// Whether the first of the rest is the number.
+// Whether the rest begins with the number.
 fn begins_with(rest: &[LabelId], id: LabelId) -> bool
     requires { IsRising (2 ^ 32) id.0 (map (λ i. i.0) rest.now) }
     ensures { result ≡ has_number (map (λ i. i.0) rest.now) id.0 }
@@ -116,7 +115,7 @@ fn has_both(set: &[LabelId], lower: &[LabelId], upper: &[LabelId]) -> bool
     has_all(set, lower) && has_all(set, upper)
 }
 
-// What the nodes of both halves claim to cost together.
+// Returns the sum of the costs that the nodes of both halves claim.
 fn cost_below(left: &Cursor, right: &Cursor) -> u64
     requires left { 0 < length left.now }
     requires right { 0 < length right.now }
@@ -126,7 +125,7 @@ fn cost_below(left: &Cursor, right: &Cursor) -> u64
     u64::from(left.cost()) + u64::from(right.cost())
 }
 
-// What is wrong with the claim of a cost and a set, by the exact pair of the nodes below it.
+// Returns the fault of a claim by its cost, the exact cost, and whether its set has all labels of the exact set.
 fn fault_by(cost: u64, exact_cost: u64, has_exact_set: bool) -> Option<CheckFaultKind>
     ensures { result ≡ (if nat_lt exact_cost cost then Some CostTooHigh
         else (if cost == exact_cost && not has_exact_set then Some SetTooSmall else None)) }
@@ -140,7 +139,7 @@ fn fault_by(cost: u64, exact_cost: u64, has_exact_set: bool) -> Option<CheckFaul
     }
 }
 
-/// What is wrong with the claim of an inner node, by the claims of the nodes of its halves.
+/// Returns the fault of an inner node's claim, if any, by the claims of the nodes of its halves.
 pub fn claim_fault(
     labels: &Labels,
     claim: &Cursor,
@@ -170,7 +169,7 @@ pub fn claim_fault(
     }
 }
 
-/// What is wrong with the claim of a chain with this side label, by the claim of the node at its end.
+/// Returns the fault of the claim of a chain with this side label, if any, by the claim of the node at its end.
 pub fn chain_fault(
     labels: &Labels,
     chain: &Cursor,

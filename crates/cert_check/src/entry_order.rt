@@ -1,5 +1,4 @@
-//! The order in which a list's entries are kept while a certificate is checked: by rising first addresses, of one
-//! address the shorter block first.
+//! The order of a list's entries while a certificate is checked: by first address, then by length.
 ghost use Rattle.std.specs.Prelude.{◌≡◌, IfOk, IsTrue};
 ghost use Rattle.std.specs.List.Sorted.{IsNonDecreasingBy, IsPermutation};
 ghost use Rattle.std.specs.Ordering.{nat_cmp};
@@ -10,7 +9,7 @@ use prefix_keys::Block;
 use std::alloc::{AllocError, Global};
 use std::cmp::Ordering;
 
-/// Which of two blocks comes first.
+/// Compares two blocks by first address, then by length.
 pub fn by_rank(block: &Block, other: &Block) -> Ordering
     ensures { result ≡ nat_cmp (rank_of block.now) (rank_of other.now) }
 {
@@ -21,7 +20,7 @@ pub fn by_rank(block: &Block, other: &Block) -> Ordering
     }
 }
 
-/// Whether no entry comes before an earlier one.
+/// Returns whether no entry comes before an earlier one.
 pub fn are_in_order(entries: &[Entry]) -> bool
     ensures { IsTrue result → IsNonDecreasingBy (λ e. rank_of e.block) entries.now }
 {
@@ -33,7 +32,7 @@ pub fn are_in_order(entries: &[Entry]) -> bool
     true
 }
 
-/// The entries in order.
+/// Returns a copy of the entries in order.
 pub fn in_order(alloc: Global, entries: &[Entry]) -> Result<Vec<Entry>, AllocError>
     ensures same { IfOk result (λ sorted. IsPermutation entries.now sorted.items) }
     ensures rising { IfOk result (λ sorted. IsNonDecreasingBy (λ e. rank_of e.block) sorted.items) }

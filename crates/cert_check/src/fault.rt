@@ -23,8 +23,8 @@ pub enum CheckFaultKind {
     NoMemory,
 }
 
-/// The first fault of a certificate: what is wrong, and the number of the node, from 1 in the order of the
-/// certificate's node lines. A fault of no single node, such as out of memory, has the number 0.
+/// The first fault of a certificate: its kind, and the number of the node, from 1 in the order of the certificate's
+/// node lines. A fault of no single node, such as `NoMemory`, has the number 0.
 #[derive(Clone, Copy, Debug, PartialEq, Eq, Hash, Error)]
 #[error("node {node}: {kind}")]
 pub struct CheckFault {

@@ -1,4 +1,4 @@
-//! The labels of the map and of the list by the numbers of the certificate's table.
+//! The numbers of the map's and the list's labels in the certificate's table.
 ghost use Rattle.std.specs.Prelude.{◌≡◌, ◌<◌, length, List, IfOk};
 ghost use Rattle.std.specs.Option.{ForSome};
 ghost use Rattle.pmap_text.specs.MapModel.{Label};
@@ -10,7 +10,7 @@ ghost use Rattle.cert_check.specs.Sources.{AreNumbers};
 use pmap_text::{LabelId, Labels};
 use std::alloc::{AllocError, Global};
 
-/// Returns for each label of a table its number in another table, or `None` if that lacks it.
+/// Returns for each label of a table its number in another table, or `None` if that table lacks it.
 pub fn numbers_in(
     alloc: Global,
     from: &Labels,
@@ -30,7 +30,7 @@ pub fn numbers_in(
     Ok(numbers)
 }
 
-/// Whether a label of the one table is that with the number `id` of the other.
+/// Returns whether `own`, a label of the one table, is the label `id` of the other, by the result of [`numbers_in`].
 pub fn is_label(numbers: &[Option<LabelId>], own: Option<LabelId>, id: LabelId) -> bool
     requires { ForSome own (λ label. label.0 < length numbers.now) }
     ensures { (from to : List Label) → AreNumbers numbers.now from to → id.0 < length to →

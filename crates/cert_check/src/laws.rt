@@ -1,4 +1,4 @@
-//! The law on faults and acceptance.
+//! The law about faults and acceptance.
 
 ghost use Rattle.std.specs.Prelude.{◌≡◌, None};
 ghost use Rattle.pmap_text.specs.ListModel.{ListModel};

@@ -1,4 +1,4 @@
-//! What the map and the list have in a block.
+//! The part of the map and the list that affects a block.
 ghost use Rattle.std.specs.Prelude.{◌≡◌, ℕ, suc, ◌+◌, ◌-◌, ◌<◌, ◌≤◌, Option, Contains, IfSome, IsTrue, length};
 ghost use Rattle.prefix_keys.specs.Version.{width_of};
 ghost use Rattle.pmap_text.specs.MapModel.{settled_label};
@@ -22,9 +22,9 @@ use crate::sources::Sources;
 use pmap_text::{Entry, LabelId};
 use prefix_keys::Block;
 
-/// A block with what the map and the list have in it: the indices of the stretches with its first and its last address,
-/// the list's entries for the block itself and for blocks inside it, in order, and the label of the longest entry for a
-/// longer block.
+/// A block with what affects it: the indices of the map's stretches with its first and its last address, the list's
+/// entries for the block itself and for blocks inside it, in order, and the label of the longest entry with fewer bits
+/// that covers it.
 #[derive(Drop)]
 pub struct Part<'a> {
     pub block: Block,
@@ -34,7 +34,7 @@ pub struct Part<'a> {
     pub above: Option<LabelId>,
 }
 
-// The block that the bits lead to from a block.
+// Returns the block that the bits lead to from a block.
 fn way_end(block: &Block, bits: &[bool]) -> Block
     requires room { length bits.now ≤ width_of block.now.version - block.now.len }
     ensures { IsWay block.now result bits.now }
@@ -65,7 +65,7 @@ fn lie_in(entries: &[Entry], block: &Block) -> bool
 }
 
 impl<'a> Part<'a> {
-    // The entries for blocks strictly inside the block, and the label of the longest entry that covers the block.
+    // Returns the entries for blocks strictly inside the block, and the label of the longest that covers the block.
     fn inside(&self) -> (&'a [Entry], Option<LabelId>)
         ensures { (l : PrefixList) →
             IsListPart l self.now.block self.now.block.len self.now.entries.now self.now.above →
@@ -81,8 +81,7 @@ impl<'a> Part<'a> {
         (&entries[1..], Some(first.label))
     }
 
-    // Whether the map settles the block with the certificate's label: one stretch has all of it, and that has the
-    // label.
+    // Whether the map settles the block with the certificate's label: one stretch covers the block and has the label.
     fn is_settled(&self, sources: &Sources, id: LabelId) -> bool
         requires sources { AreSources sources.now }
         requires part { IsPart sources.now self.now }
@@ -93,7 +92,7 @@ impl<'a> Part<'a> {
         self.from == self.to && sources.is_of_map(self.from, id)
     }
 
-    // Whether the list decides the whole block alike by the certificate's label.
+    // Whether the list decides the block by the certificate's label.
     fn is_decided(&self, sources: &Sources, id: LabelId) -> bool
         requires sources { AreSources sources.now }
         requires part { IsPart sources.now self.now }
@@ -106,7 +105,7 @@ impl<'a> Part<'a> {
         inside.is_empty() && sources.is_of_list(covering, id)
     }
 
-    /// What is wrong with a leaf in the block that has the certificate's label `id`.
+    /// Returns the fault of a leaf in the block with the certificate's label `id`, if any.
     pub fn leaf_fault(&self, sources: &Sources, id: LabelId) -> Option<CheckFaultKind>
         requires sources { AreSources sources.now }
         requires part { IsPart sources.now self.now }
@@ -123,7 +122,7 @@ impl<'a> Part<'a> {
         None
     }
 
-    /// The parts of the halves of a block of more than one address, the lower first.
+    /// Returns the parts of the halves of a block of more than one address, the lower first.
     pub fn halves(&self, sources: &Sources) -> (Part<'a>, Part<'a>)
         requires sources { AreSources sources.now }
         requires part { IsPart sources.now self.now }
@@ -155,7 +154,7 @@ impl<'a> Part<'a> {
         (lower, upper)
     }
 
-    /// The part of the half that the bit chooses, and the part of the other half.
+    /// Returns the part of the half that the bit chooses, and the part of the other half.
     pub fn step(&self, sources: &Sources, bit: bool) -> (Part<'a>, Part<'a>)
         requires sources { AreSources sources.now }
         requires part { IsPart sources.now self.now }
@@ -169,7 +168,7 @@ impl<'a> Part<'a> {
         if bit { (high, low) } else { (low, high) }
     }
 
-    // The indices of the stretches that have the address before this one, and this one.
+    // Returns the indices of the stretches with the address before this one and with this one.
     fn cut(&self, sources: &Sources, address: u128) -> (usize, usize)
         requires sources { AreSources sources.now }
         requires part { IsPart sources.now self.now }
@@ -186,7 +185,8 @@ impl<'a> Part<'a> {
         }
     }
 
-    // The index of the stretch that has the address, if the map settles with the label each block before it.
+    // Returns the index of the stretch with the address if the map settles each earlier block of the part with the
+    // label.
     fn clear_before(&self, sources: &Sources, address: u128, side: LabelId) -> Option<usize>
         requires sources { AreSources sources.now }
         requires part { IsPart sources.now self.now }
@@ -208,7 +208,7 @@ impl<'a> Part<'a> {
         }
     }
 
-    // The index of the stretch that has the address, if the map settles with the label each block after it.
+    // Returns the index of the stretch with the address if the map settles each later block of the part with the label.
     fn clear_after(&self, sources: &Sources, address: u128, side: LabelId) -> Option<usize>
         requires sources { AreSources sources.now }
         requires part { IsPart sources.now self.now }
@@ -230,8 +230,8 @@ impl<'a> Part<'a> {
         }
     }
 
-    /// The part of the block that the bits lead to, if one look shows that nothing is wrong with the blocks beside the
-    /// way, as leaves with the certificate's label `side`. If it doesn't, they must be checked one by one.
+    /// Returns the part of the block that the bits lead to if one look shows that the blocks beside the way have no
+    /// fault as leaves with the certificate's label `side`. If it returns `None`, they must be checked one by one.
     pub fn clear_end(&self, sources: &Sources, bits: &[bool], side: LabelId) -> Option<Part<'a>>
         requires sources { AreSources sources.now }
         requires part { IsPart sources.now self.now }

@@ -10,9 +10,8 @@ use crate::labels::is_label;
 use pmap_cert::Certificate;
 use pmap_text::{LabelId, MapText, PrefixList, Stretches};
 
-/// What is checked: a map, a list and a certificate of one version, and the map's stretches. The labels of the map and
-/// of the list are known by their numbers in the certificate's table, so that labels are compared by their texts once
-/// and by numbers from then on.
+/// The input of a check: a map, a list and a certificate of one version, and the map's stretches. The labels of the map
+/// and of the list are known by their numbers in the certificate's table, so texts are compared only once.
 #[derive(Drop)]
 pub struct Sources<'a> {
     pub map: &'a MapText,
@@ -24,7 +23,7 @@ pub struct Sources<'a> {
 }
 
 impl Sources<'_> {
-    /// Whether the stretch with the index has the certificate's label with the number `id`.
+    /// Returns whether the stretch with the index has the certificate's label `id`.
     pub fn is_of_map(&self, index: usize, id: LabelId) -> bool
         requires sources { AreSources self.now }
         requires index { index < length self.now.stretches.firsts }
@@ -35,7 +34,7 @@ impl Sources<'_> {
         is_label(self.map_numbers.as_slice(), self.stretches.label(index), id)
     }
 
-    /// Whether a label of the list, if there is one, is the certificate's label `id`.
+    /// Returns whether `own`, a label of the list, is the certificate's label `id`.
     pub fn is_of_list(&self, own: Option<LabelId>, id: LabelId) -> bool
         requires sources { AreSources self.now }
         requires own { ForSome own (λ label. label.0 < length self.now.list.now.labels) }

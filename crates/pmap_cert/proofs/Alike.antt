@@ -18,7 +18,7 @@ use Rattle.pmap_text.proofs.LastSuch.{last_such-cases}
 
 -- All minimal pairs of a map are alike.
 
--- between pairs that are the same
+-- sameness of pairs is transitive and symmetric
 pub same-between : (a b c d : Pair) → IsSamePair a b → IsSamePair b c → IsSamePair d c → IsSamePair a d
 same-between a b c d e f g = record {
   cost = e.cost ∙ f.cost ∙ sym g.cost;
@@ -52,7 +52,7 @@ alike m (InnerNode p l r) (InnerNode p' l' r') n q h h' =
       upper,
     )
 
--- equal sets have the same least label, if the table has a label of theirs
+-- a test that a label of the list passes finds a label
 find-some : (test : Label → Bool) (xs : List Label) (x : Label) → has xs x ≡ true → test x ≡ true →
     (y : Label) × (find test xs ≡ Some y)
 find-some test [] x h passes = absurd (false≢true h)
@@ -81,7 +81,7 @@ has_inherited-same : (s s' : List Label) (h : Option Label) → ((y : Label) →
 has_inherited-same s s' None same = refl
 has_inherited-same s s' (Some x) same = same x
 
--- a label that a mapping or the default has is in the table
+-- the label of the last mapping that passes a test is in the table if all mappings' labels are
 table-mapping : (table : List Label) (test : Mapping → Bool) (ms : List Mapping) (s : Mapping) →
     All (λ p. IsTrue (has table p.label)) ms → last_such test ms ≡ Some s → has table s.label ≡ true
 table-mapping table test [] s all e = cc
@@ -102,14 +102,14 @@ table-settled_by W n q table fallback x ms (Some s) default all last h =
     let parts = cond_some (spans_all W n q s) s.label x h in
     subst (λ (y : Label). has table y ≡ true) parts.1 (table-mapping table (meets W n q) ms s all last)
 
--- the exact pair has labels of the two pairs alone
+-- each label of the exact pair is a label of one of the two pairs
 exact_pair_by-labels : (p r : Pair) (x : Label) (common : List Label) →
     ((y : Label) → has common y ≡ (has p.labels y && has r.labels y)) → has (exact_pair_by p r common).labels x ≡ true →
     (has p.labels x ≡ true) ⊎ (has r.labels x ≡ true)
 exact_pair_by-labels p r x [] both h = or_cases (has p.labels x) (has r.labels x) (sym (has-append p.labels r.labels x) ∙ h)
 exact_pair_by-labels p r x (y ∷ ys) both h = inl ((and_parts (has p.labels x) (has r.labels x) (sym (both x) ∙ h)).0)
 
--- the labels of the sets are the map's
+-- each label of a node's set is in the map's table
 pub table-node : (m : MapModel) → HasItsLabels m → (t : Tree) (n q : ℕ) → StandsFor m t n q → (x : Label) →
     has (claim_of t).labels x ≡ true → has m.table x ≡ true
 table-node m inside (LeafNode y) n q stands x h =
@@ -123,7 +123,7 @@ table-node m inside (InnerNode p l r) n q stands x h =
     (exact_pair_by-labels (claim_of l) (claim_of r) x (common_labels (claim_of l) (claim_of r))
     (λ y. has-filter (claim_of r).labels (claim_of l).labels y) (sym (same.labels x) ∙ h))
 
--- equal sets give the same entry and pass on the same label
+-- equal sets give the same own entry and pass on the same label
 own_entry-same : (W : ℕ) (table s s' : List Label) (h : Option Label) (n q : ℕ) → has_inherited s h ≡ has_inherited s' h →
     least_label table s ≡ least_label table s' → own_entry W table s h n q ≡ own_entry W table s' h n q
 own_entry-same W table s s' h n q e f =
@@ -159,7 +159,7 @@ entries-alike m inside (InnerNode p l r) (InnerNode p' l' r') h n q stands e sta
     (entries-alike m inside r r' (handed_on m.table p.labels h) (suc n) (2 * q + 1) stands.3 e.2 stands'.3
     ∙ ap (λ (o : Option Label). entries_of (width_of m.version) m.table r' o (suc n) (2 * q + 1)) handed))
 
--- so minimal pairs of one map have the same certificate and one list
+-- minimal pairs of one map have alike certificates, and equal lists if the table has the map's labels
 pub certificate-unique : (m : MapModel) (l l' : ListModel) (c c' : CertificateModel) → IsMinimalPair m l c → IsMinimalPair m l' c' →
     IsSameCertificate c c'
 certificate-unique m l l' c c' pair pair' = record {

@@ -14,14 +14,14 @@ use Rattle.pmap_cert.specs.FormatReading.{ChainLine, DueLine, InnerLine, LeafLin
 use Rattle.pmap_cert.proofs.NodeLines.{SaysNode, both_some, node_words-found, node_words-inner, node_words-leaf}
 use Rattle.pmap_cert.proofs.Numbers.{number_below-decimal, number_below-found, option_map_some, rising_numbers-decimals, rising_numbers-found}
 
--- the words say this of a node, in a certificate of this format and of so many labels for addresses of so many bits
+-- the words are those of this line, which fits the format, `count` labels and addresses of `most` bits
 abbrev pub SaysDue : ℕ → ℕ → ℕ → DueLine → List (List ℕ) → Type 0
 SaysDue format most count (PlainLine line) words = SaysNode count line words
 SaysDue format most count (ChainLine cost bits side numbers) words =
     (words ≡ codes "c" ∷ decimal cost ∷ bit_digits bits ∷ decimal side ∷ map decimal numbers) × (format ≡ 2) × (cost < 2 ^ 32)
     × (0 < length bits) × (length bits ≤ most) × (side < count) × IsRising count 0 numbers
 
--- digits and bits
+-- the byte is a digit of a chain's bits
 abbrev is_digit : ℕ → Bool
 is_digit d = (d == 48) || (d == 49)
 
@@ -76,7 +76,7 @@ bits_of-digits most (bit ∷ bits) some few =
     (le-leb (length (bit_digits (bit ∷ bits))) most (omega (arith, same, few))) (bits-digits (bit ∷ bits)))
     ∙ ap Some (bits-back (bit ∷ bits))
 
--- a chain's words
+-- the cost and the bits of a chain, and its side label and its set
 abbrev Chained : Type 0
 Chained = (ℕ × List Bool) × (ℕ × List ℕ)
 
@@ -109,7 +109,7 @@ chain-found format most count word (cost ∷ bits ∷ side ∷ numbers) line is 
       are_numbers.1,
     )
 
--- the words of a line, which are those of a chain or of no chain
+-- words that are read as a node's line are those of this line
 pub due_words-found : (format most count : ℕ) (words : List (List ℕ)) (line : DueLine) → due_words format most count words ≡ Some line →
     SaysDue format most count line words
 due_words-found format most count [] line e = absurd (none-some line e)

@@ -13,7 +13,7 @@ use Rattle.pmap_cert.proofs.Sets.{bytes_eq-same, has-own, has-single}
 -- A chain's exact pair is the exact pair taken bit by bit, and an accepted certificate with chains is accepted with
 -- each chain opened.
 
--- the leaf beside the way
+-- the claim of the leaf beside the way
 abbrev side_pair : Label → Pair
 side_pair side = claim_of (LeafNode side)
 
@@ -24,7 +24,7 @@ same-then a b c e f = record { cost = e.cost ∙ f.cost; labels = λ x. e.labels
 same-itself : (a : Pair) → IsSamePair a a
 same-itself a = record { cost = refl; labels = λ x. refl }
 
--- a label of the side leaf is the side label
+-- if a set has the side label, what it has in common with the side leaf's set is that label
 both-own : (a b : Bool) → (a ≡ true → b ≡ true) → a ≡ (a && b)
 both-own a b h = grind arith
 
@@ -43,11 +43,11 @@ or-either a b = grind arith
 or-either-after : (a b : Bool) → (a || b) ≡ (b || (a || false))
 or-either-after a b = grind arith
 
--- what holds of the side label holds of each label that the side leaf has
+-- a set has or lacks each label of the side leaf's set as it has or lacks the side label
 at-own : (s : List Label) (side x : Label) (b : Bool) → has s side ≡ b → has (side ∷ []) x ≡ true → has s x ≡ b
 at-own s side x b known own = subst (λ (y : Label). has s y ≡ b) (has-single side x own) known
 
--- a side leaf beside a node whose set has the side label
+-- the exact pair of a side leaf and a node whose set has the side label
 link-has : (bit : Bool) (side : Label) (p : Pair) → has p.labels side ≡ true →
     IsSamePair (record { cost = p.cost; labels = side ∷ [] }) (link_pair bit side p)
 link-has true side p known =
@@ -63,7 +63,7 @@ link-has false side p known =
       labels = λ x. both-own-after (has (side ∷ []) x) (has p.labels x) (at-own p.labels side x true known) ∙ sym (h.labels x);
     }
 
--- and beside one whose set lacks it
+-- the exact pair of a side leaf and a node whose set lacks the side label
 link-lacks : (bit : Bool) (side : Label) (p : Pair) → has p.labels side ≡ false →
     IsSamePair (record { cost = p.cost + 1; labels = side ∷ p.labels }) (link_pair bit side p)
 link-lacks true side p known =
@@ -81,12 +81,12 @@ link-lacks false side p known =
       labels = λ x. or-either-after (bytes_eq x side) (has p.labels x) ∙ sym (h.labels x);
     }
 
--- links of equal pairs are equal
+-- the exact pairs of links of the same pairs are the same
 same-link : (bit : Bool) (side : Label) (p r : Pair) → IsSamePair p r → IsSamePair (link_pair bit side p) (link_pair bit side r)
 same-link true side p r same = same-exact_pair (side_pair side) p (side_pair side) r (same-itself (side_pair side)) same
 same-link false side p r same = same-exact_pair p (side_pair side) r (side_pair side) same (same-itself (side_pair side))
 
--- the pair of one bit
+-- the exact pair of a chain of one bit is that of its link
 pair-first : (bit : Bool) (side : Label) (e : Pair) → IsSamePair (chain_pair (suc zero) side e) (link_pair bit side e)
 pair-first bit side e = by_test (has e.labels side) refl
   where
@@ -97,12 +97,12 @@ pair-first bit side e = by_test (has e.labels side) refl
     by_test true known = link-has bit side e known
     by_test false known = link-lacks bit side e known
 
--- a set of a chain with a bit has the side label
+-- the exact set of a chain with a bit has the side label
 has-chain_labels : (n : ℕ) (side : Label) (s : List Label) → has (chain_labels (suc n) side s) side ≡ true
 has-chain_labels zero side s = or_left (bytes_eq side side) (has s side) (bytes_eq-same side)
 has-chain_labels (suc n) side s = has-own side
 
--- the pair of one bit more
+-- the exact pair of a chain with one more bit is that of its first link
 pair-more : (bit : Bool) (n : ℕ) (side : Label) (e : Pair) →
     IsSamePair (chain_pair (suc (suc n)) side e) (link_pair bit side (chain_pair (suc n) side e))
 pair-more bit n side e = by_test (has e.labels side)
@@ -118,7 +118,7 @@ pair-more bit n side e = by_test (has e.labels side)
         link-has bit side (record { cost = e.cost + 1; labels = chain_labels (suc n) side e.labels })
         (has-chain_labels n side e.labels)
 
--- the chain's pair in one step is the pair taken bit by bit
+-- the exact pair of a chain in one step is the exact pair taken bit by bit
 pub pair-by_bits : (bit : Bool) (bits : List Bool) (side : Label) (e : Pair) →
     IsSamePair (chain_pair (length (bit ∷ bits)) side e) (pair_by_bits (bit ∷ bits) side e)
 pair-by_bits bit [] side e = pair-first bit side e
@@ -128,7 +128,7 @@ pair-by_bits bit (next ∷ bits) side e =
     (pair-more bit (length bits) side e)
     (same-link bit side (chain_pair (length (next ∷ bits)) side e) (pair_by_bits (next ∷ bits) side e) (pair-by_bits next bits side e))
 
--- what an opened node claims is what the node claims
+-- an opened node claims the same as the node
 claim-link : (claim : Pair) (bit : Bool) (side : Label) (t : Tree) → claim_of (link claim bit side t) ≡ claim
 claim-link claim true side t = refl
 claim-link claim false side t = refl
@@ -144,7 +144,7 @@ claim-opened m ps (LeafNode x) n q h = refl
 claim-opened m ps (InnerNode claim lower upper) n q h = refl
 claim-opened m ps (ChainNode claim bits side end) n q h = claim-chain_opened claim bits side (opened end) h.0
 
--- a claim within a pair is within an equal one
+-- a claim that is within a pair is within one that is the same
 pub within-same_pair : (claim e e' : Pair) → IsSamePair e e' → IsWithinExact claim e → IsWithinExact claim e'
 within-same_pair claim e e' same within = record {
   cost = omega (arith, same.cost, within.cost);
@@ -154,7 +154,7 @@ within-same_pair claim e e' same within = record {
 pub within-itself : (e : Pair) → IsWithinExact e e
 within-itself e = record { cost = omega arith; labels = λ cost x h. h }
 
--- the pair of a link, by its end: the end itself or one more link
+-- the exact pair of a chain is that of its first link, over the end itself or the next link
 pair-links : (bit : Bool) (bits : List Bool) (side : Label) (t : Tree) →
     IsSamePair (chain_pair (suc (length bits)) side (claim_of t)) (link_pair bit side (claim_of (links bits side t)))
 pair-links bit [] side t = pair-first bit side (claim_of t)
@@ -182,7 +182,7 @@ module _ (m : MapModel) (ps : List Prefix) (side : Label) where
       (link_pair bit side (claim_of (links bits side t))) (pair-links bit bits side t)
       (within-itself (chain_pair (suc (length bits)) side (claim_of t))))
 
-  -- and so is the top, with the chain's claim
+  -- the topmost link of an opened chain, which has the chain's claim, is accepted
   top-accepted : (claim : Pair) (bits : List Bool) (t : Tree) (n q : ℕ) → 0 < length bits →
       AreBitsAccepted m ps side (IsNodeAccepted m ps t) bits n q →
       IsWithinExact claim (chain_pair (length bits) side (claim_of t)) →
@@ -193,14 +193,14 @@ module _ (m : MapModel) (ps : List Prefix) (side : Label) where
       (within-same_pair claim (chain_pair (suc (length bits)) side (claim_of t))
       (link_pair bit side (claim_of (links bits side t))) (pair-links bit bits side t) within)
 
-  -- what holds of the end of the way can be put in the place of what is asked there
+  -- a weaker condition at the end of an accepted way may replace the given one
   pub bits-end : (IsEnd IsOther : ℕ → ℕ → Type 0) → ((n q : ℕ) → IsEnd n q → IsOther n q) → (bits : List Bool) (n q : ℕ) →
       AreBitsAccepted m ps side IsEnd bits n q → AreBitsAccepted m ps side IsOther bits n q
   bits-end IsEnd IsOther other [] n q h = other n q h
   bits-end IsEnd IsOther other (bit ∷ bits) n q h =
       (h.0, h.1, bits-end IsEnd IsOther other bits (suc n) (chosen_half bit q) h.2)
 
-  -- the way ends at some block
+  -- an accepted way ends at some block that meets the condition
   at-end : (IsEnd : ℕ → ℕ → Type 0) (bits : List Bool) (n q : ℕ) → AreBitsAccepted m ps side IsEnd bits n q →
       (n' : ℕ) × (q' : ℕ) × IsEnd n' q'
   at-end IsEnd [] n q h = (n, q, h)

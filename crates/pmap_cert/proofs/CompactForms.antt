@@ -1,4 +1,4 @@
--- What is compacted keeps the form of a text.
+-- A compacted certificate has a text if the original has one.
 use Rattle.std.proofs.Common.{◌≡◌, ℕ, zero, suc, ◌<◌, Bool, true, false, cond, List, [], ◌∷◌, Some, inr, arith, length, refl, subst}
 use Rattle.std.proofs.lemmas.Bool.{leb-true}
 use Rattle.std.proofs.lemmas.Option.{none-some, same_Some}
@@ -31,7 +31,7 @@ module _ (table : List Label) where
       by_test false true low up = low
       by_test false false low up = h
 
-  -- the side label is the label of a leaf
+  -- the side label of a run is in the table, as it is that of a leaf
   side-known : (lower upper : Tree) (room : ℕ) (side : Label) → HasNodeForm table lower room → HasNodeForm table upper room →
       side_of lower upper ≡ Some side → place_of table side < length table
   side-known (LeafNode x) upper room side low up e =
@@ -66,7 +66,7 @@ module _ (table : List Label) where
       ))
       (λ short. (h.0, h.1, form-compacted steps lower room plain.0 h.2, form-compacted steps upper room plain.1 h.3))
 
--- so a certificate with a text has one compacted
+-- if a certificate has a text of its format, so has the compacted one
 pub compact-text : (c : CertificateModel) → HasFormatText c → HasFormatText (compact c)
 compact-text c h =
     by_format c HasFormatText h.format

@@ -1,4 +1,4 @@
--- Nodes by their numbers, compacted.
+-- Compacting nodes with label numbers.
 use Rattle.std.proofs.Common.{◌≡◌, ◌++◌, ℕ, zero, suc, ◌<◌, ◌≤◌, ◌∙◌, ◌==◌, Bool, true, false, List, [], ◌∷◌, Option, Some, None, cond, length, map, nat_le, option_map, refl, sym, ap, subst, arith}
 use Rattle.std.specs.Option.{option_or}
 use Rattle.std.specs.Str.{bytes_eq}
@@ -27,7 +27,7 @@ use Rattle.pmap_cert.proofs.Runs.{compacted-inner, compacted-leaf}
 use Rattle.pmap_cert.proofs.Sets.{bytes_eq-same}
 use Rattle.pmap_cert.proofs.Tables.{place_of-text_at}
 
--- labels of a table are equal if their numbers are
+-- labels of a table are equal exactly if their numbers are
 pub label-same : (table : List Label) (a b : ℕ) → IsLabelTable table → a < length table → b < length table → bytes_eq (text_at table a) (text_at table b) ≡ (a == b)
 label-same table a b ok first second = by (a == b) (bytes_eq (text_at table a) (text_at table b)) refl refl
   where
@@ -43,7 +43,7 @@ label-same table a b ok first second = by (a == b) (bytes_eq (text_at table a) (
         ne-self e is = grind (arith, e, is)
     by false false e f = f ∙ sym e
 
--- the run of a tree is the run of its node
+-- the run of a node's tree is the run of the node
 module _ (table : List Label) (ok : IsLabelTable table) (side : ℕ) (known : side < length table) where
   side-same : (node : Node) (room : ℕ) → HasChainForm (length table) node room → is_side (text_at table side) (tree_of table node) ≡ is_leaf side node
   side-same (Leaf number) room form = label-same table number side ok form known
@@ -102,7 +102,7 @@ form-down count side (Inner cost set lower upper) (suc room) h =
     by false true low up = low
     by false false low up = h
 
--- the side label is the label of a leaf
+-- the side label of a run is a label of the table, as it is that of a leaf
 side-known : (count : ℕ) (lower upper : Node) (room side : ℕ) → HasChainForm count lower room → HasChainForm count upper room
     → option_or (label_of lower) (label_of upper) ≡ Some side → side < count
 side-known count (Leaf n) upper room side low up e = subst (λ (k : ℕ). k < count) (same_Some n side e) low
@@ -135,7 +135,7 @@ module _ (cost : ℕ) (set : List ℕ) (lower upper : Node) where
       compacted-inner (claim table) (tree_of table lower) (tree_of table upper)
       ∙ ap (run_in table) (sides-same table lower upper ∙ ap (option_map (text_at table)) e)
 
-  -- its run has fewer than two bits
+  -- an inner node whose run has fewer than two bits
   module _ (low up : Node) (is_low : IsCompactNode lower low) (is_up : IsCompactNode upper up) where
     inner-form : (count room : ℕ) → HasChainForm count whole room → HasChainForm count (Inner cost set low up) room
     inner-form count zero form = absurd form
@@ -172,7 +172,7 @@ module _ (cost : ℕ) (set : List ℕ) (lower upper : Node) where
             (InnerNode (claim table) (compacted (tree_of table lower)) (compacted (tree_of table upper))) (lt-leb _ _ (omega arith))
             ∙ inner-parts table room ok form)
 
-  -- its run has two bits or more
+  -- an inner node whose run has two bits or more is compacted to a chain
   pub compact-chain : (side : ℕ) (bits : List Bool) (down end : Node) → option_or (label_of lower) (label_of upper) ≡ Some side → bits ≡ bits_down side whole
       → down ≡ end_down side whole → 2 ≤ length bits → IsCompactNode down end → IsCompactNode whole (Chain cost set bits side end)
   compact-chain side bits down end e are is long below = record { same = same; form = form }
@@ -208,7 +208,7 @@ module _ (cost : ℕ) (set : List ℕ) (lower upper : Node) where
             (bits_down side whole) (suc room) (form-down count side whole (suc room) h)),
       )
 
--- the lines of a compacted node follow the old ones
+-- the line of a leaf is that of the leaf compacted
 pub leaf-lines : (node : Node) (number : ℕ) (old new : List DueLine) → node ≡ Leaf number → new ≡ old ++ PlainLine (LeafLine number) ∷ [] → IsCompacted node old new
 leaf-lines node number old new is pushed =
     subst (λ (n : Node). IsCompacted n old new) (sym is) (record { compact = Leaf number; is = compact-leaf number; lines = pushed })
@@ -255,7 +255,7 @@ module _ (node : Node) (cost : ℕ) (set : List ℕ) (lower upper : Node) (node_
           compact-short cost set lower upper is_low.compact is_up.compact lower_is upper_is side e
           (subst (λ (n : Node). length (bits_down side n) < 2) node_is (short side (ap side_below node_is ∙ e)))
 
--- a certificate of either format compacted
+-- Compacting a certificate of either format.
 module _ (format : Format) (version : Version) (table : List Label) (root : Node) where
   abbrev before : CertificateModel
   before = record { format = format_number format; version = version; table = table; root = tree_of table root }

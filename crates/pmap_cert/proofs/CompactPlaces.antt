@@ -1,4 +1,4 @@
--- Where the lines of nodes without chains begin and end.
+-- The lines at which nodes without chains begin and end.
 use Rattle.std.proofs.Common.{◌≡◌, ℕ, zero, suc, ◌+◌, ◌<◌, ◌≤◌, ◌∙◌, ◌==◌, Bool, true, false, List, [], ◌∷◌, ◌++◌, All, Option, Some, None, cond, drop, get_or, length, option_map, refl, sym, ap, subst, arith, slice_index}
 use Rattle.pmap_text.specs.declared.label.LabelId.{LabelId}
 use Rattle.std.proofs.lemmas.Option.{none-some, same_Some}
@@ -21,7 +21,7 @@ pub whole-drop : (lines : List DueLine) (k : ℕ) → AreWhole lines → AreWhol
 whole-drop lines zero whole = whole
 whole-drop lines (suc k) whole = whole-next lines k (whole-drop lines k whole)
 
--- What begins at a line: a leaf followed by the rest, or an inner node whose line is followed by its halves.
+-- The node that begins at a line: a leaf followed by the rest, or an inner node whose line is followed by its halves.
 pub data Here (lines : List DueLine) (k : ℕ) : Type 0 where
   leaf-here : (number : ℕ) (rest : List Node) (is : nodes_of (drop k lines) ≡ Leaf number ∷ rest) (next : nodes_of (drop (suc k) lines) ≡ rest) → Here lines k
   inner-here : (cost : ℕ) (set : List ℕ) (lower upper : Node) (rest : List Node) (is : nodes_of (drop k lines) ≡ Inner cost set lower upper ∷ rest)
@@ -56,7 +56,7 @@ some-here : (lines : List DueLine) (k : ℕ) → Here lines k → 0 < length (no
 some-here lines k (leaf-here number rest is next) = let e = ap length is in omega arith
 some-here lines k (inner-here cost set lower upper rest is next) = let e = ap length is in omega arith
 
--- what the line of a node says
+-- the line with a number has the values of the node at that line
 pub line-of : (lines : List DueLine) (k : ℕ) → ArePlain lines → k < length lines → IsLineOf (get_or lines k (PlainLine (LeafLine 0))) (node_from lines k)
 line-of lines k are inside =
     line-here lines k (PlainLine (LeafLine 0)) (some-here lines k (here lines k are inside)) (whole-drop lines k are.whole)
@@ -67,7 +67,7 @@ node-is lines k node rest is = ap first_node is
 inside-is : (lines : List DueLine) (k : ℕ) (node : Node) (rest : List Node) → nodes_of (drop k lines) ≡ node ∷ rest → k < length lines
 inside-is lines k node rest is = let e = ap length is in within lines k (omega arith)
 
--- the label says which of the two it is
+-- a node without chains that has a label is a leaf with it
 pub leaf-only : (node : Node) (number : ℕ) → label_of node ≡ Some number → node ≡ Leaf number
 leaf-only (Leaf n) number e = ap Leaf (same_Some n number e)
 leaf-only (Inner cost set lower upper) number e = absurd (none-some number e)
@@ -79,7 +79,7 @@ none-of-leaf number e = none-some number (sym e)
 pub ends-later : (lines : List DueLine) (all : List ℕ) (k n : ℕ) → AreEndsFrom lines all k → k ≤ n → AreEndsFrom lines all n
 ends-later lines all k n ends le = record { count = ends.count; each = λ j later inside. ends.each j (omega arith) inside }
 
--- the halves of an inner node
+-- a node without a label is an inner node, whose halves are at the next line and at the end of the lower half
 pub halves-of : (lines : List DueLine) (all : List ℕ) (k : ℕ) → HasPlace lines all k → label_of (node_from lines k) ≡ None
     → HasHalves lines all k (k + 1) (slice_index all (k + 1))
 halves-of lines all k place none = by (here lines k place.plain place.within)
@@ -109,7 +109,7 @@ halves-of lines all k place none = by (here lines k place.plain place.within)
           rest = ap behind is ∙ sym (ap behind after);
         }
 
--- the end of a leaf
+-- a leaf ends at the next line
 pub ends-leaf : (lines : List DueLine) (all : List ℕ) (k number : ℕ) → HasPlace lines all k → node_from lines k ≡ Leaf number → EndsAt lines k (k + 1)
 ends-leaf lines all k number place leaf = by (here lines k place.plain place.within)
   where
@@ -122,14 +122,14 @@ ends-leaf lines all k number place leaf = by (here lines k place.plain place.wit
     by (inner-here cost set lower upper rest is next) =
         absurd (none-some number (sym (ap label_of (node-is lines k (Inner cost set lower upper) rest is)) ∙ ap label_of leaf))
 
--- the end of an inner node
+-- an inner node ends at the end of its upper half
 pub ends-halves : (lines : List DueLine) (all : List ℕ) (k lower upper e : ℕ) → HasHalves lines all k lower upper → EndsAt lines upper e → EndsAt lines k e
 ends-halves lines all k lower upper e halves up =
     let one = halves.up_after in
     let two = up.after in
     record { after = omega arith; within = up.within; behind = up.behind ∙ sym halves.rest }
 
--- the steps of a run
+-- Steps and ends of a run from a line.
 module _ (lines : List DueLine) (all : List ℕ) (side k : ℕ) where
   pub end-leaf : (number : ℕ) → node_from lines k ≡ Leaf number → IsRunEnd lines side k
   end-leaf number is = record { bits = ap (bits_down side) is; end = ap (end_down side) is ∙ sym is }
@@ -157,7 +157,7 @@ module _ (lines : List DueLine) (all : List ℕ) (side k : ℕ) where
     pub step-none : is_leaf side (node_from lines l) ≡ false → is_leaf side (node_from lines u) ≡ false → IsRunEnd lines side k
     step-none first second = record { bits = bits-here false false first second; end = end-here false false first second }
 
--- what a line says at a place
+-- the label of the line with a number is the label of the node at that line
 pub label-at : (lines : List DueLine) (k : ℕ) (o : Option LabelId) → ArePlain lines → k < length lines
     → option_map (λ id. id.0) o ≡ line_label (get_or lines k (PlainLine (LeafLine 0))) → label_of (node_from lines k) ≡ option_map (λ id. id.0) o
 label-at lines k o are inside said = sym (said ∙ (line-of lines k are inside).label)
@@ -170,7 +170,7 @@ leaf-none (Leaf n) side label = absurd (none-of-leaf n label)
 leaf-none (Inner cost set lower upper) side label = refl
 leaf-none (Chain cost set bits x end) side label = refl
 
--- those of a whole tree
+-- the lines of a node without chains are plain
 pub plain-of : (node : Node) (lines : List DueLine) → lines ≡ lines_of node → IsPlainNode node → ArePlain lines
 plain-of node lines is plain =
     subst ArePlain (sym is) (record {

@@ -1,4 +1,4 @@
--- A certificate compacted.
+-- Compacting a certificate.
 use Rattle.std.proofs.Common.{◌≡◌, ◌+◌, ◌==◌, ◌≤◌, inl, inr, Bool, true, false, cond, arith, length, refl, sym, subst}
 use Rattle.std.proofs.lemmas.Bool.{cond-false, cond-true, eq-eqb, ne_eqb}
 use Rattle.pmap_text.specs.ListModel.{ListModel}
@@ -10,7 +10,7 @@ use Rattle.pmap_cert.specs.Compacting.{HasNoRun, IsSameShape, OpensTo, compact, 
 use Rattle.pmap_cert.proofs.Opening.{claim-opening, lines-opening, opening-accepted}
 use Rattle.pmap_cert.proofs.Runs.{compacted_in-no_run, compacted_in-opens, shape-opens}
 
--- a certificate of format 1 compacted
+-- the compacted certificate of a certificate of format 1
 abbrev chained : CertificateModel → CertificateModel
 chained c = record { format = 2; version = c.version; table = c.table; root = compacted c.root }
 
@@ -20,7 +20,7 @@ compact-first c e = cond-true (c.format == 1) (chained c) c (eq-eqb c.format 1 e
 pub compact-again : (c : CertificateModel) → c.format ≡ 2 → compact c ≡ c
 compact-again c e = cond-false (c.format == 1) (chained c) c (ne_eqb c.format 1 (λ f. absurd (omega (arith, e, f))))
 
--- what holds of a certificate of format 1 compacted, and of one of format 2, holds of one compacted
+-- what holds of a certificate of format 2 and of a compacted one of format 1 holds of each compacted certificate
 module _ (c : CertificateModel) (Is : CertificateModel → Type 0) where
   pub by_format : IsOfFormat c → (c.format ≡ 1 → IsPlain c.root → Is (chained c)) → (c.format ≡ 2 → Is c) → Is (compact c)
   by_format (inl first) one two = subst Is (sym (compact-first c first.0)) (one first.0 first.1)
@@ -33,7 +33,7 @@ module _ (c : CertificateModel) (Is : CertificateModel → Type 0) where
       by true = one
       by false = two
 
--- its root opens to the other's
+-- a compacted root without chains opens to the original
 opens : (c : CertificateModel) → IsPlain c.root → OpensTo (compacted c.root) c.root
 opens c plain = compacted_in-opens (line_count c.root) c.root plain
 

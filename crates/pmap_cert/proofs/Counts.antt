@@ -4,20 +4,21 @@ use Rattle.prefix_keys.specs.Block.{block_number}
 use Rattle.pmap_text.specs.ListModel.{Prefix}
 use Rattle.pmap_text.proofs.Blocks.{block_number-half}
 
--- How many entries of a prefix list pass a test, such as lying at or inside a block.
+-- The number of entries of a prefix list that pass a test, such as lying at or within a block.
 
--- the entry's block is the block of n bits with the number q; and is that block or lies inside it
+-- the entry's block is the block of n bits with the number q
 abbrev pub is_at : ℕ → ℕ → ℕ → Prefix → Bool
 is_at W n q p = p.bits == n && block_number W n p.start == q
 
+-- the entry's block is the block of n bits with the number q or lies inside it
 abbrev pub is_within : ℕ → ℕ → ℕ → Prefix → Bool
 is_within W n q p = nat_le n p.bits && block_number W n p.start == q
 
--- 1 if the test passes
+-- 1 if the test passes, otherwise 0
 abbrev pub one_if : Bool → ℕ
 one_if b = cond b 1 0
 
--- how many entries pass the test
+-- the number of entries that pass the test
 abbrev pub count_of : (Prefix → Bool) → List Prefix → ℕ
 count_of test [] = 0
 count_of test (p ∷ ps) = one_if (test p) + count_of test ps

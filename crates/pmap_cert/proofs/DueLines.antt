@@ -1,4 +1,4 @@
--- The line of a node that a text begins with is the one that is due.
+-- The line of a node that a text begins with is the line that the specification reads.
 use Rattle.std.proofs.Common.{◌≡◌, ℕ, zero, suc, ◌+◌, ◌^◌, ◌<◌, ◌≤◌, ◌==◌, ◌∙◌, Bool, false, List, [], ◌∷◌, ◌++◌, Option, None, Some, Ok, Err, cond, length, map, refl, sym, ap, subst, arith, codes}
 use Rattle.std.specs.Fmt.{decimal}
 use Rattle.std.specs.List.{AllByRecursion, join_with_byte}
@@ -21,7 +21,7 @@ use Rattle.pmap_cert.proofs.Headers.{Lacks-line}
 use Rattle.pmap_cert.proofs.Numbers.{Lacks-decimal, Lacks-decimals}
 use Rattle.pmap_cert.proofs.Pieces.{is_ended-two, line-words, line_from-cons, split_some, words-line}
 
--- the words of a line
+-- the words of a node's line
 abbrev line_words : DueLine → List (List ℕ)
 line_words (PlainLine (LeafLine number)) = codes "l" ∷ decimal number ∷ []
 line_words (PlainLine (InnerLine cost numbers)) = codes "n" ∷ decimal cost ∷ map decimal numbers
@@ -42,7 +42,7 @@ module _ (format most count : ℕ) where
   fits (ChainLine cost bits side numbers) words says = (says.0, (says.1, says.2, says.3, says.4, says.5, says.6))
 
   module _ (few : count ≤ 2 ^ 32) where
-    -- no byte below the digits is in a word
+    -- no word of a line has a byte below the digits
     module _ (c : ℕ) (low : c < 48) where
       other : (b : ℕ) → 48 ≤ b → (b == c) ≡ false
       other b high = ne_eqb b c (λ e. omega (arith, e, low, high))
@@ -89,7 +89,7 @@ module _ (format most count : ℕ) where
     abbrev at : ℕ → List (List ℕ) → Place
     at number pieces = record { number = number; pieces = pieces }
 
-    -- a line that fits is read
+    -- a line that fits is read from its text
     pub due-again : (line : DueLine) (number : ℕ) (rest : List (List ℕ)) → Fits line → 0 < length rest
         → line_due_at format most count (at number (line_text line ∷ rest)) ≡ Ok (line, at (number + 1) rest)
     due-again line number rest h some =
@@ -141,7 +141,7 @@ module _ (format most count : ℕ) where
                     fits = said.1;
                   }))
 
-      -- what is read is the line that is due
+      -- a reading of the text finds the line that the specification reads
       pub due-read : (found : Option (DueLine × List ℕ)) → Reads Begins found
           → due_or_missing place (option_map (λ x. (x.0, at (number + 1) (pieces_of x.1))) found) ≡ line_due_at format most count place
       due-read None reads = sym (nowhere (λ line rest begins. none-some (line, rest) (reads.only line rest begins)))

@@ -1,4 +1,4 @@
--- What a minimal certificate costs: at each length no more blocks are halved than mappings have ends inside blocks.
+-- The cost of a minimal certificate: at each length no more blocks are halved than mappings have ends inside blocks.
 use Rattle.std.proofs.Common.{◌≡◌, ℕ, zero, suc, ◌+◌, ◌-◌, ◌*◌, ◌^◌, ◌<◌, ◌≤◌, Bool, true, false, ◌&&◌, List, [], ◌∷◌, Option, Some, None, arith, length, nat_le, nat_lt, pow_pos, refl, subst, inl, inr}
 use Rattle.std.proofs.Math.Nat.{mul-le-mul_right}
 use Rattle.std.proofs.lemmas.Bool.Decides.{nat_tests}
@@ -18,7 +18,7 @@ use Rattle.pmap_cert.specs.CertificateModel.{ChainNode, InnerNode, LeafNode, Tre
 use Rattle.pmap_cert.specs.ExactPair.{exact_pair}
 use Rattle.pmap_cert.specs.MinimalPair.{StandsFor}
 
--- how many ends of a mapping lie between the addresses, so that it covers one of two neighbours and the other not
+-- the number of ends of a mapping between two addresses; at an end it covers one of two neighbours and not the other
 ends_of : ℕ → ℕ → Mapping → ℕ
 ends_of first last m = one_if (nat_lt first m.low && nat_le m.low last) + one_if (nat_le first m.high && nat_lt m.high last)
 
@@ -46,7 +46,7 @@ ends-split first middle last (m ∷ ms) le le' =
     let rest = ends-split first middle last ms le le' in
     omega arith
 
--- the ends of three runs of addresses that are named by equations
+-- the ends inside two neighbouring runs of addresses are at most those inside both together
 ends-parted : (first first' middle middle' last last' : ℕ) (ms : List Mapping) → first' ≡ first → middle' ≡ middle + 1 → last' ≡ last
     → first ≤ middle → middle + 1 ≤ last → ends first' middle ms + ends middle' last' ms ≤ ends first last ms
 ends-parted first first' middle middle' last last' ms e f g le le' = rw (e, f, g) (ends-split first middle last ms le le')
@@ -69,7 +69,7 @@ ends-few first last (m ∷ ms) =
     let rest = ends-few first last ms in
     omega arith
 
--- a mapping that meets a block and covers it not as a whole ends inside
+-- a mapping that meets a block but doesn't cover it has an end inside
 ends_of-met : (W n q : ℕ) (m : Mapping) → meets W n q m ≡ true → spans_all W n q m ≡ false → 1 ≤ ends_of (first_of W n q) (last_of W n q) m
 unfolding ends_of
 ends_of-met W n q m met part = by m.low m.high (first_of W n q) (last_of W n q) met part
@@ -87,7 +87,7 @@ ends-last first last test (m ∷ ms) s e =
       | inr h ↦ subst (λ (p : Mapping). ends_of first last p ≤ ends_of first last m + ends first last ms) h.2 (omega arith)
     ]
 
--- so a block that isn't settled has an end inside
+-- a block that isn't settled has an end inside
 ends-unsettled_by : (W n q : ℕ) (fallback : Label) (ms : List Mapping) (o : Option Mapping) → last_such (meets W n q) ms ≡ o
     → settled_by W n q fallback o ≡ None → 1 ≤ ends (first_of W n q) (last_of W n q) ms
 ends-unsettled_by W n q fallback ms None last h = absurd cc
@@ -106,7 +106,7 @@ ends-unsettled_by W n q fallback ms (Some s) last h = by (spans_all W n q s) ref
 abbrev block_ends : MapModel → ℕ → ℕ → ℕ
 block_ends m n q = ends (first_of (width_of m.version) n q) (last_of (width_of m.version) n q) m.mappings
 
--- and the ends inside its halves are ends inside it
+-- the ends inside a block's halves are ends inside the block
 ends-halves : (m : MapModel) (n q : ℕ) → n < width_of m.version
     → block_ends m (suc n) (2 * q) + block_ends m (suc n) (2 * q + 1) ≤ block_ends m n q
 ends-halves m n q below =
@@ -124,7 +124,7 @@ sum-bound cost lower upper left a b e most l u halves some =
     let sum : (a + b) * left ≤ e * left = mul-le-mul_right left halves in
     omega arith
 
--- a node costs no more than the ends inside its block, once for each length
+-- a node costs at most the number of ends inside its block, once for each length
 cost-ends : (m : MapModel) (t : Tree) (left n q : ℕ) → n + left ≡ width_of m.version → StandsFor m t n q → (claim_of t).cost ≤ block_ends m n q * left
 cost-ends m (LeafNode x) left n q e stands = omega arith
 cost-ends m (ChainNode p bits side end) left n q e stands = absurd stands
@@ -144,7 +144,7 @@ width-most : (v : Version) → width_of v ≤ 128
 width-most V4 = omega arith
 width-most V6 = omega arith
 
--- of a map with no more mappings than a text may have it is a cost that a text can say
+-- a node costs less than 2 ^ 32 if its map has at most as many mappings as a text may have
 pub cost-fits : (m : MapModel) (t : Tree) (left n q : ℕ) → length m.mappings ≤ mapping_limit → n + left ≡ width_of m.version → StandsFor m t n q
     → (claim_of t).cost < 2 ^ 32
 cost-fits m t left n q few e stands =

@@ -16,7 +16,7 @@ use Rattle.pmap_text.proofs.Settled.{map_label-settled}
 
 -- An accepted certificate shows that its list is equivalent to the map and least.
 
--- a list that decides a block alike gives each of its addresses that label
+-- a list that decides a block by a label gives it to each address of the block
 label_below-decided : (W : ℕ) (ps : List Prefix) (n q a : ℕ) (x : Label) → n ≤ W → block_number W n a ≡ q →
     IsDecided W ps n q x → label_below W ps (suc W) a ≡ Some x
 label_below-decided W ps n q a x le e decided =
@@ -38,7 +38,7 @@ node-labels m ps (InnerNode claim lower upper) n q a plain le e h =
     (λ high. node-labels m ps upper (suc n) (2 * q + 1) a plain.1 h.0 high h.2)
     (block_number-halves (width_of m.version) n q a h.0 e)
 
--- an equivalent list, seen at the map's version
+-- an equivalent list labels every address of the map's version as the map does
 labels-at_version : (l : ListModel) (m : MapModel) → IsEquivalent l m → (a : ℕ) → a < 2 ^ width_of m.version →
     label_below (width_of m.version) l.prefixes (suc (width_of m.version)) a ≡ Some (map_label m a)
 labels-at_version l m same a below =

@@ -15,9 +15,9 @@ use Rattle.pmap_cert.proofs.Handed.{IsInhabited, exact_pair-cost_of, handed_on-h
 use Rattle.pmap_cert.proofs.Sets.{miss}
 use Rattle.pmap_text.proofs.Settled.{unsettled-halves}
 
--- The entries of a node that represents a block: how many there are, and that they lie within the block.
+-- The entries of a node that represents a block: their number, and that they lie within the block.
 
--- a node has an entry of its own if its set lacks the inherited label
+-- a node has an own entry exactly if its set lacks the inherited label
 length-own_entry : (W : ℕ) (table s : List Label) (h : Option Label) (n q : ℕ) →
     length (own_entry W table s h n q) ≡ miss h s
 length-own_entry W table s h n q = by_test (has_inherited s h) (record { start = first_of W n q; bits = n; label = least_label table s })
@@ -26,7 +26,7 @@ length-own_entry W table s h n q = by_test (has_inherited s h) (record { start =
     by_test true p = refl
     by_test false p = refl
 
--- below a node that passes on a label of its set, the halves have as many entries as its cost
+-- the cost of a node that passes on a label of its set is the number of entries of its halves
 halves-cost : (table : List Label) (claim p r : Pair) (h : Option Label) → IsInhabited claim.labels →
     IsSamePair claim (exact_pair p r) →
     claim.cost ≡ p.cost + miss (handed_on table claim.labels h) p.labels + (r.cost + miss (handed_on table claim.labels h) r.labels)
@@ -35,7 +35,7 @@ halves-cost table claim p r h some same =
     let cost = exact_pair-cost_of p r handed.0 (sym (same.labels handed.0) ∙ handed.2) in
     rw handed.1 (same.cost ∙ cost)
 
--- there are as many entries as the claimed cost, and one more if the set lacks the inherited label
+-- a node has as many entries as it costs, and one more if its set lacks the inherited label
 pub length-entries_of : (m : MapModel) (table : List Label) (t : Tree) (h : Option Label) (n q : ℕ) → StandsFor m t n q →
     length (entries_of (width_of m.version) table t h n q) ≡ (claim_of t).cost + miss h (claim_of t).labels
 length-entries_of m table (LeafNode x) h n q stands = length-own_entry (width_of m.version) table (x ∷ []) h n q ∙ omega arith
@@ -54,7 +54,7 @@ length-entries_of m table (InnerNode claim lower upper) h n q stands =
       halves-cost table claim (claim_of lower) (claim_of upper) h (inhabited m (InnerNode claim lower upper) n q stands) stands.1,
     )
 
--- a node's own entry lies at its block
+-- a node's own entry is within its block
 own-within : (W n q : ℕ) (x : Label) → is_within W n q (record { start = first_of W n q; bits = n; label = x }) ≡ true
 own-within W n q x =
     and_from (nat_le n n) (block_number W n (first_of W n q) == q) (le-leb n n (le_refl n))

@@ -1,4 +1,4 @@
--- Minimal certificates in the form of their text are equal.
+-- Minimal certificates that have a text are equal.
 use Rattle.std.proofs.Common.{◌≡◌, ℕ, zero, suc, ◌+◌, ◌<◌, ◌≤◌, ◌∙◌, ◌⊎◌, inl, inr, Bool, true, false, ◌||◌, List, [], ◌∷◌, length, map, refl, sym, ap, subst, arith, bytes_eq}
 use Rattle.std.proofs.lemmas.Bool.{or_cases, or_left, false≢true}
 use Rattle.std.proofs.lemmas.Slice.Eq.{bytes_eq-Decides}
@@ -19,7 +19,7 @@ module _ (table : List Label) where
   abbrev Listed : ℕ → List Label → Type 0
   Listed low xs = IsRising (length table) low (map (place_of table) xs)
 
-  -- no label of a listed set has a number below the first
+  -- each label of a listed set has a number of at least low
   member-place : (low : ℕ) (xs : List Label) (z : Label) → Listed low xs → has xs z ≡ true → low ≤ place_of table z
   member-place low [] z listed h = absurd (false≢true h)
   member-place low (x ∷ xs) z listed h = by (or_cases (bytes_eq z x) (has xs z) h) (λ inside. member-place (place_of table x + 1) xs z listed.2 inside)
@@ -28,11 +28,11 @@ module _ (table : List Label) where
       by (inl same) rest = subst (λ (y : Label). low ≤ place_of table y) (sym ((bytes_eq-Decides z x).0 same)) listed.0
       by (inr inside) rest = let after = rest inside in let least = listed.0 in omega arith
 
-  -- two labels of the table with one number are one
+  -- labels of the table with the same number are equal
   one-label : (x y : Label) → place_of table x < length table → place_of table y < length table → place_of table x ≡ place_of table y → x ≡ y
   one-label x y h k e = sym (text_at-place_of table x h) ∙ ap (text_at table) e ∙ text_at-place_of table y k
 
-  -- what the rest of a listed set has is what the whole set has but for the first
+  -- if two listed sets begin with the same label and agree on a label, so do their rests
   has-rest : (x : Label) (xs ys : List Label) (z : Label) (low : ℕ) → Listed low (x ∷ xs) → Listed low (x ∷ ys) → has (x ∷ xs) z ≡ has (x ∷ ys) z → has xs z ≡ has ys z
   has-rest x xs ys z low l k e = by (bytes_eq z x) refl
     where
@@ -50,7 +50,7 @@ module _ (table : List Label) where
       by true same = none xs l same ∙ sym (none ys k same)
       by false other = sym (ap (λ b. b || has xs z) other) ∙ e ∙ ap (λ b. b || has ys z) other
 
-  -- two listed sets with the same labels are one list
+  -- two listed sets with the same labels are equal lists
   listed-equal : (low : ℕ) (xs ys : List Label) → Listed low xs → Listed low ys → ((z : Label) → has xs z ≡ has ys z) → xs ≡ ys
   listed-equal low [] [] l k same = refl
   listed-equal low [] (y ∷ ys) l k same = absurd (false≢true (same y ∙ or_left (bytes_eq y y) (has ys y) (bytes_eq-same y)))
@@ -66,7 +66,7 @@ module _ (table : List Label) where
       let rest = listed-equal (place_of table x + 1) xs ys l.2 k'.2 (λ z. has-rest x xs ys z low l k' (same' z)) in
       λ i. e i ∷ rest i
 
-  -- alike nodes of this form are equal
+  -- alike nodes with sets in order are equal
   tree-equal : (t t' : Tree) (room : ℕ) → HasNodeForm table t room → HasNodeForm table t' room → IsSameTree t t' → t ≡ t'
   tree-equal (LeafNode x) (LeafNode y) room f g e = ap LeafNode e
   tree-equal (LeafNode x) (InnerNode p l r) room f g e = absurd e

@@ -5,9 +5,9 @@ use Rattle.pmap_cert.specs.CertificateModel.{Pair, has}
 use Rattle.pmap_cert.specs.ExactPair.{IsPairOf, IsSamePair, common_labels, exact_pair, exact_pair_by}
 use Rattle.pmap_cert.proofs.Sets.{bytes_eq-same, has-append, has-filter}
 
--- The exact pair of two pairs is one of their costs and sets.
+-- The exact pair of two pairs depends on their costs and sets alone.
 
--- a set that has a label isn't one without
+-- a set with a label differs from the empty set
 none-common : (y : Label) (ys : List Label) → has [] y ≡ has (y ∷ ys) y → ⊥
 none-common y ys e = both_ways (has (y ∷ ys) y) (sym e) (or_left (bytes_eq y y) (has ys y) (bytes_eq-same y))
 
@@ -30,7 +30,7 @@ same-exact_by p r p' r' (x ∷ xs) (y ∷ ys) both both' same same' = record {
   labels = λ z. both z ∙ ap₂ ◌&&◌ (same.labels z) (same'.labels z) ∙ sym (both' z);
 }
 
--- the exact pair's cost and set, by whether a label is common
+-- the exact pair's cost and set if the pairs have a common label
 exact_by-common : (p r : Pair) (x : Label) (common : List Label) →
     ((y : Label) → has common y ≡ (has p.labels y && has r.labels y)) → has p.labels x ≡ true → has r.labels x ≡ true →
     IsPairOf (exact_pair_by p r common) (p.cost + r.cost) (λ y. has p.labels y && has r.labels y)

@@ -7,7 +7,7 @@ use Rattle.pmap_cert.specs.ExactPair.{exact_pair}
 use Rattle.pmap_cert.specs.MinimalPair.{IsMinimalPair, StandsFor, entries_of}
 use Rattle.pmap_text.proofs.Settled.{unsettled-halves}
 
--- Each map has a minimal pair: blocks are halved until they are settled, and one of full length is.
+-- Each map has a minimal pair: blocks are halved until they are settled, and a block of one address always is.
 
 -- a node that represents the block
 abbrev pub NodeFor : MapModel → ℕ → ℕ → Type 0
@@ -21,7 +21,7 @@ node_over m n q unsettled lower upper = (
   (unsettled, record { cost = refl; labels = λ x. refl }, lower.1, upper.1),
 )
 
--- the recursion goes by the bits that are left
+-- each block has a node that represents it, by recursion on the bits below the block
 node_for : (m : MapModel) (left n q : ℕ) → n + left ≡ width_of m.version → NodeFor m n q
 node_for m zero n q e = by_label (settled_label m n q) refl
   where
@@ -38,7 +38,7 @@ node_for m (suc left) n q e =
     by_label (Some x) settled lower upper = (LeafNode x, settled)
     by_label None unsettled lower upper = node_over m n q unsettled lower upper
 
--- the pair that is read off a node for the address space
+-- the minimal pair of a node that represents the address space
 abbrev pub pair_of : (m : MapModel) → NodeFor m 0 0 → (l : ListModel) × (c : CertificateModel) × IsMinimalPair m l c
 pair_of m node = (
   record {

@@ -1,9 +1,9 @@
 use Rattle.std.proofs.Common.{◌≡◌, Bool, true, false, cond, List, [], ◌∷◌, Option, Some, filter, find, slice_get, ◌++◌, refl, ap₂, ◌∙◌, sym, true≢false}
 use Rattle.std.proofs.lemmas.List.Elements.{filter-append}
 
--- What a filter keeps, and what is found first.
+-- Filters of lists, and the first element that passes a test.
 
--- what is found is the first that the filter keeps
+-- the first element that passes is the first that the filter keeps
 pub find-filter : {X : Type 0} (test : X → Bool) (xs : List X) → find test xs ≡ slice_get (filter test xs) 0
 find-filter test [] = refl
 find-filter test (x ∷ xs) = step (test x) x (filter test xs) (find test xs) (find-filter test xs)
@@ -27,7 +27,7 @@ filter-filter weak strong weaker (x ∷ xs) =
     step weak strong x ys zs false true e h ih = absurd (true≢false (sym (h e)))
     step weak strong x ys zs false false e h ih = ih
 
--- of three lists, one after another
+-- a filter of three joined lists
 pub filter-three : {X : Type 0} (test : X → Bool) (a b c a' b' c' : List X) → filter test a ≡ a' → filter test b ≡ b' →
     filter test c ≡ c' → filter test (a ++ (b ++ c)) ≡ a' ++ (b' ++ c')
 filter-three test a b c a' b' c' e f g =

@@ -30,7 +30,7 @@ format_header_of-words_more a b c d text = format_header_of-more a b c d (words_
 abbrev pub IsNumbered : ℕ → Type 0
 IsNumbered format = (format ≡ 1) ⊎ (format ≡ 2)
 
--- the words of formats
+-- a word that names a format is the format's word
 named_format-found : (word : List ℕ) (format : ℕ) → named_format word ≡ Some format → (word ≡ format_word format) × IsNumbered format
 named_format-found word format e = by (bytes_eq word (codes "1")) (bytes_eq word (codes "2")) refl refl
   where
@@ -61,7 +61,7 @@ abbrev format_words : ℕ → Version → ℕ → List (List ℕ)
 format_words format version count =
     codes "flowlabel-cert" ∷ format_word format ∷ version_word version ∷ decimal count ∷ []
 
--- what a header says
+-- the format, the version and the number of labels of a header
 abbrev Said : Type 0
 Said = ℕ × (Version × ℕ)
 
@@ -99,7 +99,7 @@ format_header_of-words format version count numbered h =
     ∙ ap (λ (o : Option Version). both (Some format) (both o (number_below 65537 (decimal count)))) (named_version-word version)
     ∙ ap (λ (o : Option ℕ). both (Some format) (both (Some version) o)) (number_below-decimal 65537 count h (omega arith))
 
--- what a line is
+-- a value that is read is that of the line, and the given rest follows
 pub or_fault-parts : {A : Type 0} (fault : CertFault) (after : Place) (o : Option A) (x : A × Place) → or_fault fault after o ≡ Ok x →
     (o ≡ Some x.0) × (after ≡ x.1)
 or_fault-parts fault after None x e = absurd cc

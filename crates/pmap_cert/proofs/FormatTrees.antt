@@ -20,7 +20,7 @@ use Rattle.pmap_cert.proofs.FormatHeaders.{or_fault-parts}
 use Rattle.pmap_cert.proofs.Pieces.{line-words}
 use Rattle.pmap_cert.proofs.Tables.{bind_ok, ok_is, place_of-text_at, places-texts, text_at-place_of, texts-places}
 
--- the line of a node says it by its words
+-- the words of a line that is read are those of the value read
 line_due_by-found : (format most count : ℕ) (place : Place) (number : ℕ) (pieces : List (List ℕ)) (x : DueLine × Place) →
     line_due_by format most count place (line_from number pieces) ≡ Ok x →
     (text : List ℕ) × (pieces ≡ text ∷ x.1.pieces) × SaysDue format most count x.0 (words_of text)
@@ -38,12 +38,12 @@ pub line_due-found : (format most count : ℕ) (place : Place) (x : DueLine × P
     (text : List ℕ) × (place.pieces ≡ text ∷ x.1.pieces) × SaysDue format most count x.0 (words_of text)
 line_due-found format most count place x e = line_due_by-found format most count place place.number place.pieces x e
 
--- the lines read are those of the tree, which is well formed and has no chain in format 1
+-- the lines that were read are those of the tree, which is well formed and has no chain in format 1
 abbrev pub IsReadIn : List Label → ℕ → ℕ → Place → Tree × Place → Type 0
 IsReadIn table format room place x =
     (place.pieces ≡ node_lines table x.0 ++ x.1.pieces) × HasNodeForm table x.0 room × (format ≡ 1 → IsPlain x.0)
 
--- what is at most a number, and the rest
+-- a number that isn't less than another is the other and a rest
 rest-of : (a b : ℕ) → b ≤ a → (l : ℕ) × (a ≡ b + l)
 rest-of zero b le = (zero, omega (arith, le))
 rest-of (suc a) zero le = (suc a, omega arith)
@@ -56,7 +56,7 @@ either-same false y = refl
 not-ok : (fault : CertFault) (x : Tree × Place) → ◌≡◌ {A = Result (Tree × Place) CertFault} (Err fault) (Ok x) → ⊥
 not-ok fault x e = cc
 
--- each bit of a way leaves room for one node less below
+-- a node `down` levels below another is read in the room that is left
 pub nodes_at-down : (due : Place → Result (DueLine × Place) CertFault) (table : List Label) (room down left : ℕ) (place : Place) → room ≡ down + left →
     nodes_at due table room down place ≡ nodes_at due table left zero place
 unfolding nodes_at
@@ -125,7 +125,7 @@ module _ (table : List Label) (ok : IsLabelTable table) (format most : ℕ) wher
         λ first. absurd (not-both first says.1),
       )
 
-  -- the node that was read down a way of bits
+  -- a node that is read `down` levels below another is well formed in the room that is left
   pub nodes_at-found : (room down left : ℕ) (place : Place) (x : Tree × Place) → room ≡ down + left →
       nodes_at due table room down place ≡ Ok x → IsReadIn table format left place x
   unfolding nodes_at
@@ -191,7 +191,7 @@ module _ (table : List Label) (ok : IsLabelTable table) (format most : ℕ) wher
   claim-is : (claim : Pair) → IsRising (length table) 0 (map (place_of table) claim.labels) → claim_at claim.cost (map (place_of table) claim.labels) ≡ claim
   claim-is claim rising = λ i. record { cost = claim.cost; labels = texts-places table 0 claim.labels rising i }
 
-  -- a tree of the format: without chains, or in format 2
+  -- the tree has no chain, or the format is 2
   abbrev pub IsKind : Tree → Type 0
   IsKind tree = IsPlain tree ⊎ (format ≡ 2)
 

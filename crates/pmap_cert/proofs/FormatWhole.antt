@@ -32,7 +32,7 @@ use Rattle.pmap_cert.proofs.Numbers.{Lacks-decimal, Lacks-decimals}
 pub no_labels : IsLabelTable []
 no_labels = record { few = omega arith; labels = λ i text e. absurd (none-some text e); places = λ i text e. absurd (none-some text e) }
 
--- nothing is left
+-- a text at its end is one empty piece
 ended-is : (pieces : List (List ℕ)) → is_ended pieces ≡ true → pieces ≡ [] ∷ []
 ended-is [] h = absurd cc
 ended-is ([] ∷ []) h = refl
@@ -74,7 +74,7 @@ nodes-lack table (InnerNode claim lower upper) (suc room) ok form =
       lacks-append 10 (node_lines table lower) (node_lines table upper) (nodes-lack table lower room ok form.2) (nodes-lack table upper room ok form.3),
     )
 
--- the steps after the header, the labels and the nodes
+-- the format, the version and the number of labels of a header
 abbrev Said : Type 0
 Said = ℕ × (Version × ℕ)
 
@@ -98,7 +98,7 @@ reading-steps : (text : List ℕ) → format_reading text ≡ header_then (forma
 unfolding format_reading
 reading-steps text = λ i. header_then (format_header_at (start_of text))
 
--- the pieces that each step leaves are the lines of a certificate
+-- the pieces that the steps of a reading leave make up the lines of a certificate
 joined-pieces : (all behind_header behind_labels behind_nodes : List (List ℕ)) (format : ℕ) (version : Version) (count : ℕ) (table : List Label)
     (lines : List (List ℕ)) → all ≡ format_header format version count ∷ behind_header → behind_header ≡ table ++ behind_labels →
     behind_labels ≡ lines ++ behind_nodes → behind_nodes ≡ [] ∷ [] → count ≡ length table →
@@ -112,7 +112,7 @@ of-format : (c : CertificateModel) → IsNumbered c.format → (c.format ≡ 1 �
 of-format c (inl first) plain = inl (first, plain first)
 of-format c (inr second) plain = inr second
 
--- a text that is read is the text of the certificate, which is well formed
+-- a text that is read is the text of its certificate, which is well formed
 pub format-found : (text : List ℕ) (c : CertificateModel) → format_reading text ≡ Ok c → HasFormatText c × (text ≡ certificate_text c)
 format-found text c e =
     let header = bind_ok (format_header_at (start_of text)) (λ (header : Said × Place). labels_then header.0.0 header.0.1.0 (labels_at header.0.1.1 [] header.1)) c
@@ -171,7 +171,7 @@ format-again c form =
     ∙ ap (labels_then format version) labels.1
     ∙ ap (root_then format version table) root.1
 
--- so a text is read or has a fault, and never both
+-- a text is read as a certificate exactly if it is the text of that certificate
 pub format-iff : (text : List ℕ) (c : CertificateModel) → format_reading text ≡ Ok c ↔ (HasFormatText c × (text ≡ certificate_text c))
 format-iff text c = (format-found text c, λ found. ap format_reading found.1 ∙ format-again c found.0)
 
@@ -191,12 +191,12 @@ format-apart text fault c failed form e = both_results (sym failed ∙ ap format
     both_results : ◌≡◌ {A = Result CertificateModel CertFault} (Err fault) (Ok c) → ⊥
     both_results e = cc
 
--- for the result of a call: a text that is read is the text of its certificate
+-- if a call reads a text, the text is that of the certificate
 pub is_text : (text : List ℕ) (r : Result Certificate CertFault) → IfOk r (λ c. format_reading text ≡ Ok (certificate_of c)) → IfOk r (λ c. text ≡ certificate_text (certificate_of c))
 is_text text (Ok c) read = (format-found text (certificate_of c) read).1
 is_text text (Err fault) read = tt
 
--- and what is the text of a certificate is read as that one, memory aside
+-- if a text is that of a certificate, a call reads it as that one unless an allocation fails
 pub is_only : (text : List ℕ) (r : Result Certificate CertFault) → IfOk r (λ c. format_reading text ≡ Ok (certificate_of c))
     → IfErr r (λ fault. fault.kind ≢ NoMemory → format_reading text ≡ Err fault)
     → (c : CertificateModel) → HasFormatText c → text ≡ certificate_text c → IfOk r (λ found. certificate_of found ≡ c) × IfErr r (λ fault. fault.kind ≡ NoMemory)
@@ -215,7 +215,7 @@ is_only text (Err f) read fault c form e = (tt, memory f.kind (λ other. wrong (
     memory NodesMissing known = absurd (known (λ e. cc))
     memory NodesLeft known = absurd (known (λ e. cc))
 
--- the whole reading, step by step
+-- The result of reading a text, step by step.
 module _ (text : List ℕ) where
   pub reading-header_fault : (fault : CertFault) → format_header_at (start_of text) ≡ Err fault → format_reading text ≡ Err fault
   reading-header_fault fault e = reading-steps text ∙ ap header_then e

@@ -7,14 +7,13 @@ use Rattle.pmap_cert.specs.ExactPair.{common_labels, exact_pair, exact_pair_by}
 use Rattle.pmap_cert.specs.MinimalPair.{StandsFor, first_label, handed_on, least_label}
 use Rattle.pmap_cert.proofs.Sets.{bytes_eq-same, has-append, has-filter, has-own, has-single, miss}
 
--- A node of a minimal certificate passes on a label of its set, so its halves have as many entries as its exact pair
--- says.
+-- A node of a minimal certificate passes on a label of its set, so its halves have as many entries as it costs.
 
--- the set has some label
+-- the set is not empty
 abbrev pub IsInhabited : List Label → Type 0
 IsInhabited s = (x : Label) × (has s x ≡ true)
 
--- the least label of a set that has one is in the set
+-- a set that is not empty has its first and its least label
 has-first_label : (s : List Label) → IsInhabited s → has s (first_label s) ≡ true
 has-first_label [] some = some.1
 has-first_label (x ∷ xs) some = or_left (bytes_eq x x) (has xs x) (bytes_eq-same x)
@@ -42,13 +41,13 @@ handed_on-leaf table x h =
     let handed = handed_on-has table (x ∷ []) h (x, has-own x) in
     handed.1 ∙ ap Some (sym (has-single x handed.0 handed.2))
 
--- the exact pair of sets that have labels has one
+-- the exact pair of sets that are not empty has a label
 inhabited-exact_pair_by : (p r : Pair) (common : List Label) → IsInhabited p.labels → IsInhabited (exact_pair_by p r common).labels
 inhabited-exact_pair_by p r [] some =
     (some.0, has-append p.labels r.labels some.0 ∙ or_left (has p.labels some.0) (has r.labels some.0) some.1)
 inhabited-exact_pair_by p r (x ∷ xs) some = (x, or_left (bytes_eq x x) (has xs x) (bytes_eq-same x))
 
--- each node's set has a label
+-- the set of each node that represents a block has a label
 pub inhabited : (m : MapModel) (t : Tree) (n q : ℕ) → StandsFor m t n q → IsInhabited (claim_of t).labels
 inhabited m (LeafNode x) n q h = (x, has-own x)
 inhabited m (ChainNode p bits side end) n q h = absurd h
@@ -57,7 +56,7 @@ inhabited m (InnerNode claim lower upper) n q h =
     let exact = inhabited-exact_pair_by (claim_of lower) (claim_of upper) (common_labels (claim_of lower) (claim_of upper)) below in
     (exact.0, (h.1).labels exact.0 ∙ exact.1)
 
--- for a label of its set the exact pair costs just what both halves do
+-- if both halves inherit a label of the exact set, they have as many entries as the exact pair costs
 misses-one : (a b c : Bool) → false ≡ (a && b) → c ≡ (a || b) → c ≡ true → cond a 0 1 + cond b 0 1 ≡ 1
 misses-one a b c none is h = grind arith
 

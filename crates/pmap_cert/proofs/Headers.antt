@@ -1,4 +1,4 @@
--- The header of a certificate's text, and what lines lack.
+-- The words of a certificate's header, and bytes that lines lack.
 use Rattle.std.proofs.Common.{◌≡◌, ℕ, zero, suc, ◌==◌, ◌∙◌, Bool, true, false, not, List, [], ◌∷◌, Option, Some, None, IsTrue, refl, sym, ap, subst, arith, cond, codes}
 use Rattle.std.specs.List.{AllByRecursion, list_all, slice_get}
 use Rattle.std.specs.Str.{bytes_eq}
@@ -15,13 +15,13 @@ use Rattle.pmap_text.specs.MapModel.{Label}
 use Rattle.pmap_cert.specs.FormatReading.{named_version}
 use Rattle.pmap_cert.specs.CertificateText.{line_of, version_word}
 
--- what computes to lack a byte lacks it
+-- a text whose bytes all pass the test lacks the byte
 pub Lacks-tested : (c : ℕ) (text : List ℕ) → list_all (λ b. not (b == c)) text ≡ true → Lacks c text
 Lacks-tested c text passed =
     All-weaker (λ b. not (b == c) ≡ true) (λ b. (b == c) ≡ false) (λ b h. not-true (b == c) h) text
     (AllPass-from_list_all (λ b. not (b == c)) text passed)
 
--- a line lacks what its words lack
+-- a line lacks a byte, other than the space, that its words lack
 pub Lacks-line : (c : ℕ) (words : List (List ℕ)) → (32 == c) ≡ false → AllByRecursion (Lacks c) words → Lacks c (line_of words)
 Lacks-line c [] apart all = λ k d h. absurd (omega arith)
 Lacks-line c (word ∷ []) apart all = all.0
@@ -50,7 +50,7 @@ labels-lack (x ∷ table) labels = (Lacks-label x (labels zero x refl), labels-l
 pub table-lacks : (table : List Label) → IsLabelTable table → AllByRecursion (Lacks 10) table
 table-lacks table ok = labels-lack table ok.labels
 
--- the words of versions
+-- a word that names a version is the version's word
 pub named_version-found : (word : List ℕ) (v : Version) → named_version word ≡ Some v → word ≡ version_word v
 named_version-found word v e = by (bytes_eq word (codes "ipv4")) (bytes_eq word (codes "ipv6")) refl refl
   where

@@ -18,7 +18,7 @@ use Rattle.pmap_cert.proofs.Entries.{filter-entries_of}
 use Rattle.pmap_cert.proofs.Handed.{has-least_label, inhabited}
 use Rattle.pmap_text.proofs.Settled.{unsettled-halves}
 
--- what holds of two lists holds of both together
+-- what holds of the entries of two lists holds of those of the joined list
 all-append : (P : Prefix → Type 0) (xs ys : List Prefix) → AllByRecursion P xs → AllByRecursion P ys → AllByRecursion P (xs ++ ys)
 all-append P [] ys all more = more
 all-append P (x ∷ xs) ys all more = (all.0, all-append P xs ys all.1 more)
@@ -27,7 +27,7 @@ all-weaker : (P Q : Prefix → Type 0) → ((p : Prefix) → P p → Q p) → (x
 all-weaker P Q weaker [] all = tt
 all-weaker P Q weaker (x ∷ xs) all = (weaker x all.0, all-weaker P Q weaker xs all.1)
 
--- two lists in order, each entry of the first before each of the second
+-- two lists in order are in order when joined if each entry of the first comes before each of the second
 in_order-append : (P Q : Prefix → Type 0) → ((p r : Prefix) → P p → Q r → is_before p r ≡ true) → (xs ys : List Prefix)
     → IsInOrder xs → IsInOrder ys → AllByRecursion P xs → AllByRecursion Q ys → IsInOrder (xs ++ ys)
 in_order-append P Q before [] ys ordered more all rest = more
@@ -36,7 +36,7 @@ in_order-append P Q before (x ∷ xs) ys ordered more all rest = (
   in_order-append P Q before xs ys ordered.1 more all.1 rest,
 )
 
--- a lower start comes first, and so does a shorter block with the same start
+-- an entry with a lower start comes first, and so does one with the same start and fewer bits
 before-lower : (p r : Prefix) → p.start < r.start → is_before p r ≡ true
 before-lower p r h = or_left (nat_lt p.start r.start) (p.start == r.start && nat_lt p.bits r.bits) (lt-ltb _ _ h)
 
@@ -61,7 +61,7 @@ module _ (m : MapModel) (table : List Label) where
       recursion_from_All (λ p. is_within W n q p ≡ true) (entries_of W table t h n q)
       (All-same (λ p. is_within W n q p ≡ true) (entries_of W table t h n q) (filter test (entries_of W table t h n q)) (sym all) (filter_passes test (entries_of W table t h n q)))
 
-  -- from the first address of the block to its last, and no shorter
+  -- the entry starts in the block and has at least as many bits
   abbrev Inside : ℕ → ℕ → Prefix → Type 0
   Inside n q p = (first_of W n q ≤ p.start) × (p.start ≤ last_of W n q) × (n ≤ p.bits)
 
@@ -81,7 +81,7 @@ module _ (m : MapModel) (table : List Label) where
       by true p = tt
       by false p = (tt, tt)
 
-  -- what holds of the one entry that a node may have
+  -- what holds of a node's own entry holds of each entry in its list, which has at most this one
   own-all : (P : Prefix → Type 0) (s : List Label) (h : Option Label) (n q : ℕ) → P (record { start = first_of W n q; bits = n; label = least_label table s })
       → AllByRecursion P (own_entry W table s h n q)
   own-all P s h n q is = by (has_inherited s h) (record { start = first_of W n q; bits = n; label = least_label table s }) is
@@ -90,7 +90,7 @@ module _ (m : MapModel) (table : List Label) where
       by true p is = tt
       by false p is = (is, tt)
 
-  -- an entry at the start of a block
+  -- the entry has this very block
   abbrev AtStart : ℕ → ℕ → Prefix → Type 0
   AtStart n q p = (p.start ≡ first_of W n q) × (p.bits ≡ n)
 

@@ -1,4 +1,4 @@
--- The sets of a map's certificate listed in the order of the label table, which is the form of its text.
+-- The sets of a map's certificate listed in the order of the label table, as its text has them.
 use Rattle.std.proofs.Common.{inl, ◌≡◌, ℕ, zero, suc, ◌+◌, ◌*◌, ◌<◌, ◌≤◌, ◌∙◌, ◌&&◌, Bool, true, false, List, [], ◌∷◌, Some, arith, filter, length, map, refl, sym, bytes_eq, slice_get}
 use Rattle.std.proofs.lemmas.Bool.{ltb-true}
 use Rattle.prefix_keys.specs.Version.{width_of}
@@ -23,7 +23,7 @@ use Rattle.pmap_cert.specs.CertificateText.{place_of}
 use Rattle.pmap_cert.specs.ExactPair.{IsSamePair, exact_pair}
 use Rattle.pmap_cert.specs.MinimalPair.{HasItsLabels, IsMinimalPair, StandsFor}
 
--- the labels of the table that pass a test rise by their numbers
+-- rising numbers rise from a lower bound too
 rising-weaker : (bound low high : ℕ) (ns : List ℕ) → low ≤ high → IsRising bound high ns → IsRising bound low ns
 rising-weaker bound low high [] le rising = tt
 rising-weaker bound low high (n ∷ ns) le rising = let least = rising.0 in (omega arith, rising.1, rising.2)
@@ -47,7 +47,7 @@ rising-table table p ok =
     rising-filter table p 0 table (omega arith)
     (λ j x e. let there = (found_at (bytes_eq x) table j (ok.places j x e)).1 in omega arith)
 
--- the node with its sets so
+-- the node with its sets in the order of the table
 listed : List Label → Tree → Tree
 listed table (LeafNode x) = LeafNode x
 listed table (InnerNode claim lower upper) =
@@ -127,7 +127,7 @@ module _ (m : MapModel) (inside : HasItsLabels m) where
           },
         )
 
--- so the map of each text that is read has a minimal pair whose certificate has a text
+-- a map read from a text has a minimal pair whose certificate has a text
 pub minimal-read : (text : List ℕ) (m : MapModel) → ReadsMap text m → (l : ListModel) × (c : CertificateModel) × IsMinimalPair m l c × HasTextForm c
 minimal-read text m read =
     let limits = limits-read text m read in

@@ -14,9 +14,9 @@ use Rattle.pmap_cert.proofs.Sets.{exact_pair-cost, has-own, miss, miss-le}
 use Rattle.pmap_text.proofs.Settled.{map_label-settled}
 
 -- The bound: a list that labels a block's addresses as the map does has at least as many entries there as an accepted
--- node claims, and one more if no label is passed down from above or that label isn't in the claim's set.
+-- node claims, and one more if the claim's set lacks the inherited label, or none is inherited.
 
--- a claim that holds no more than the exact pair costs no more
+-- a claim within the exact pair costs no more, with the inherited label
 claim-miss : (k k' : ℕ) (a b : Bool) → k ≤ k' → (k ≡ k' → b ≡ true → a ≡ true) → k + cond a 0 1 ≤ k' + cond b 0 1
 claim-miss k k' a b le h = grind arith
 
@@ -26,7 +26,7 @@ claim-cost claim e None within = omega (arith, within.cost)
 claim-cost claim e (Some x) within =
     claim-miss claim.cost e.cost (has claim.labels x) (has e.labels x) within.cost (λ same. within.labels same x)
 
--- what the entries of a block's own length pass on: one more entry pays for each change
+-- an entry for the block itself pays for a change of the inherited label
 own-miss : (W : ℕ) (ps : List Prefix) (n q a : ℕ) (s : List Label) → block_number W n a ≡ q →
     miss (label_below W ps n a) s ≤ count_of (is_at W n q) ps + miss (label_below W ps (suc n) a) s
 own-miss W ps n q a s e = by_count (count_of (is_at W n q) ps) refl
@@ -40,7 +40,7 @@ own-miss W ps n q a s e = by_count (count_of (is_at W n q) ps) refl
         rw here (omega arith)
     by_count (suc k) some = let one = miss-le (label_below W ps n a) s in omega arith
 
--- the numbers of the halves
+-- the number of the upper half is below the bound for its length
 upper-below : (n q : ℕ) → q < 2 ^ n → 2 * q + 1 < 2 ^ suc n
 upper-below n q below = let e = pow-suc 2 n in omega arith
 
@@ -52,7 +52,7 @@ first_of-upper W n q below =
     let g : block_number W (suc n) (first_of W (suc n) (2 * q + 1)) / 2 ≡ (2 * q + 1) / 2 = ap (λ (i : ℕ). i / 2) f in
     omega arith
 
--- if no entry lies within a block, the label of its first address is passed down
+-- if no entry lies within a block, its first address has the inherited label
 label_below-alone : (W : ℕ) (ps : List Prefix) (n q : ℕ) → n ≤ W → count_of (is_within W n q) ps ≡ 0 →
     label_below W ps (suc W) (first_of W n q) ≡ label_below W ps n (first_of W n q)
 label_below-alone W ps n q le none =
@@ -60,7 +60,7 @@ label_below-alone W ps n q le none =
     ap (λ (j : ℕ). label_below W ps j (first_of W n q)) e
     ∙ label_below-within W ps n (suc W - n) q (first_of W n q) (omega arith) (block_number-first_of W n q) none
 
--- both halves inherit the same label
+-- both halves inherit the label that the block passes on
 pub label_below-lower : (W : ℕ) (ps : List Prefix) (n q : ℕ) → n < W →
     label_below W ps (suc n) (first_of W (suc n) (2 * q)) ≡ label_below W ps (suc n) (first_of W n q)
 label_below-lower W ps n q below = ap (label_below W ps (suc n)) (first_of-lower W n q below)
@@ -92,11 +92,11 @@ halves-bound W ps n q claim p r below within lower upper =
       upper',
     )
 
--- the map, the list that the node is accepted for, and any list that labels every address as the map does
+-- A map, the list that the node is accepted for, and any list that labels every address as the map does.
 module _ (m : MapModel) (es ps : List Prefix)
     (right : (a : ℕ) → a < 2 ^ width_of m.version →
     label_below (width_of m.version) ps (suc (width_of m.version)) a ≡ Some (map_label m a)) where
-  -- the bound at a leaf: if no entry lies within the block, its label is passed down
+  -- if no entry lies within the block of a leaf, the inherited label is the leaf's
   leaf-miss : (x : Label) (n q : ℕ) → n ≤ width_of m.version → q < 2 ^ n → IsSettled m n q x →
       count_of (is_within (width_of m.version) n q) ps ≡ 0 →
       miss (label_below (width_of m.version) ps n (first_of (width_of m.version) n q)) (x ∷ []) ≡ 0

@@ -21,15 +21,15 @@ use Rattle.pmap_cert.proofs.ChainLines.{bits-back, bits-digits, digits-back}
 use Rattle.pmap_cert.proofs.Written.{joined-numbers}
 use Rattle.pmap_cert.proofs.Numbers.{decimal-digits, decimal_value-decimal, is_decimal-word}
 
--- nothing is read
+-- a reading finds nothing if the text never begins so
 pub reads_none : {A : Type 0} (Begins : A → List ℕ → Type 0) → ((x : A) (rest : List ℕ) → Begins x rest → ⊥) → Reads Begins None
 reads_none Begins never = record { right = tt; only = λ x rest begins. absurd (never x rest begins) }
 
--- two readings of one text have one result
+-- equal results have equal values and equal rests
 pub read_same : {A : Type 0} (x y : A) (xs ys : List ℕ) → ◌≡◌ {A = Option (A × List ℕ)} (Some (x, xs)) (Some (y, ys)) → (x ≡ y) × (xs ≡ ys)
 read_same x y xs ys e = let same = same_Some _ _ e in (ap (λ p. p.0) same, ap (λ p. p.1) same)
 
--- the byte that a text begins with
+-- a text with a rest after its first byte is that byte and the rest
 pub after_byte-found : (byte : ℕ) (text rest : List ℕ) → after_byte byte text ≡ Some rest → text ≡ byte ∷ rest
 after_byte-found byte [] rest e = absurd (none-some rest e)
 after_byte-found byte (b ∷ bs) rest e = by (b == byte) refl
@@ -50,7 +50,7 @@ not-there byte text rest none e = none-some rest (sym none ∙ after_byte-there 
 pub behind-byte : (b c : ℕ) (xs ys : List ℕ) → b ∷ xs ≡ c ∷ ys → xs ≡ ys
 behind-byte b c xs ys e = ap (λ (t : List ℕ). drop 1 t) e
 
--- bytes that pass, and then one that doesn't
+-- a text of bytes that pass the test, and then one that doesn't
 module _ (known : ℕ → Bool) where
   front-within : (ds rest : List ℕ) (at : ℕ) → GoesOnWithout known rest → list_all known (take at (ds ++ rest)) ≡ true → (at ≤ length ds) ⊎ (length (ds ++ rest) < at)
   front-within ds rest zero ended all = inl (omega arith)
@@ -60,7 +60,7 @@ module _ (known : ℕ → Bool) where
       elim (front-within ds rest at ended (and_parts (known d) (list_all known (take at (ds ++ rest))) all).1)
       [ inl le ↦ inl (omega (arith, le)) | inr more ↦ inr (omega (arith, more)) ]
 
-  -- no more bytes than so many pass
+  -- if the first `at` bytes pass, they are at most as many as `ds`
   pub front-most : (text ds rest : List ℕ) (at : ℕ) → text ≡ ds ++ rest → GoesOnWithout known rest → at ≤ length text → list_all known (take at text) ≡ true
       → at ≤ length ds
   front-most text ds rest at whole ended within all =
@@ -73,7 +73,7 @@ module _ (known : ℕ → Bool) where
   front-least (d ∷ ds) rest (suc at) all other =
       let le = front-least ds rest at (and_parts (known d) (list_all known ds) all).1 other in omega (arith, le)
 
-  -- these are they
+  -- if the first `at` bytes pass and the next one doesn't, they are `ds`, and the rest follows
   pub front-is : (text ds rest : List ℕ) (at : ℕ) → text ≡ ds ++ rest → list_all known ds ≡ true → GoesOnWithout known rest → at < length text
       → list_all known (take at text) ≡ true → known (get_or text at 0) ≡ false → (at ≡ length ds) × (take at text ≡ ds) × (drop at text ≡ rest)
   front-is text ds rest at whole digits ended within all other =
@@ -98,7 +98,7 @@ module _ (known : ℕ → Bool) where
       let parts = and_parts (known b) (list_all known (take at text)) all in
       and_from (known b) (list_all known (take (suc at) text)) parts.0 (front-more text at (omega arith) parts.1 one)
 
--- more digits are no smaller a number
+-- the value of digits is not less than that of the first of them
 abbrev step : ℕ → ℕ → ℕ
 step n b = n * 10 + (b - 48)
 
@@ -111,7 +111,7 @@ grows-take ds zero n = grows ds n
 grows-take [] (suc at) n = omega arith
 grows-take (d ∷ ds) (suc at) n = grows-take ds at (step n d)
 
--- digits of which there is one, or the first is not 0, are the decimal text of their value
+-- digits are the decimal text of their value if there is only one or the first is not 0
 no_zero : (word : List ℕ) → (length word ≡ 1) ⊎ (get_or word 0 0 ≢ 48) → not (not (length word == 1) && (get_or word 0 0 == 48)) ≡ true
 no_zero word (inl one) = rw (eq-eqb (length word) 1 one) refl
 no_zero word (inr other) = rw (ne_eqb (get_or word 0 0) 48 other) (by (not (length word == 1)))
@@ -128,13 +128,13 @@ decimal-word word n value digits some small plain =
     sym test ∙ and_from (not (not (length word == 1) && (get_or word 0 0 == 48))) (list_all is_digit word) (no_zero word plain) digits in
     (bytes_eq-Decides word (decimal (decimal_value word))).0 same ∙ ap decimal (sym value)
 
--- and a decimal text is such digits
+-- no decimal text of two or more digits begins with 0
 decimal-plain : (n : ℕ) → n < 2 ^ 32 → 1 < length (decimal n) → get_or (decimal n) 0 0 ≡ 48 → ⊥
 decimal-plain zero small long first = omega (arith, long, ap (λ (t : List ℕ). length t) (decimal_digit 0 (omega arith)))
 decimal-plain (suc n) small long first =
     let front = first_decimal (suc n) (omega arith) (omega (arith, small)) in omega (arith, front, first)
 
--- A number after a space.
+-- Reading a number after a space.
 module _ (bound : ℕ) (few : bound ≤ 2 ^ 32) (text digits : List ℕ) (space : text ≡ 32 ∷ digits) where
   abbrev Number : ℕ → List ℕ → Type 0
   Number = BeginsWithNumber bound text
@@ -198,7 +198,7 @@ module _ (bound : ℕ) (few : bound ≤ 2 ^ 32) (text digits : List ℕ) (space 
                     (sym (ap (λ (t : List ℕ). get_or t 0 0) (begins m rest number) ∙ get_or_append_left (decimal m) rest 0 0 some) ∙ first)
               ]
 
--- Bits after a space.
+-- Reading bits after a space.
 module _ (most : ℕ) (text digits : List ℕ) (space : text ≡ 32 ∷ digits) where
   abbrev Bits : List Bool → List ℕ → Type 0
   Bits = BeginsWithBits most text
@@ -255,7 +255,7 @@ pub bits-none : (most : ℕ) (text : List ℕ) → after_byte 32 text ≡ None �
 bits-none most text none =
     reads_none (BeginsWithBits most text) (λ bits rest begin. not-there 32 text (bit_digits bits ++ rest) none begin.whole)
 
--- numbers, each after a space
+-- the text of numbers, each after a space
 abbrev words : List ℕ → List ℕ
 words ns = flat_map (λ n. 32 ∷ decimal n) ns
 
@@ -263,7 +263,7 @@ words-more : (n : ℕ) (ns rest : List ℕ) → words (n ∷ ns) ++ rest ≡ 32 
 words-more n ns rest =
     ap (λ (t : List ℕ). t ++ rest) (flat_map-cons (λ n. 32 ∷ decimal n) n ns) ∙ append_assoc (32 ∷ decimal n) (words ns) rest
 
--- no digit follows a number
+-- numbers to the end of a line begin with another byte than a digit
 words-ended : (ns rest : List ℕ) → GoesOnWithout is_digit (words ns ++ 10 ∷ rest)
 words-ended [] rest = refl
 words-ended (n ∷ ns) rest = subst (GoesOnWithout is_digit) (sym (words-more n ns (10 ∷ rest))) refl
@@ -271,7 +271,7 @@ words-ended (n ∷ ns) rest = subst (GoesOnWithout is_digit) (sym (words-more n 
 first-apart : (a b : ℕ) (xs ys text : List ℕ) → text ≡ a ∷ xs → text ≡ b ∷ ys → a ≢ b → ⊥
 first-apart a b xs ys text e f apart = apart (ap (λ (t : List ℕ). get_or t 0 0) (sym e ∙ f))
 
--- A set that is read in part: the whole is the numbers so far and those that the rest begins with.
+-- A set that is read in part: the whole set is the numbers so far and those that the rest begins with.
 pub record IsReadTo (bound low : ℕ) (text ns rest : List ℕ) : Type 0 where
   pub into : (tail r : List ℕ) → BeginsWithSet bound low rest tail r → BeginsWithSet bound 0 text (ns ++ tail) r
   pub only :
@@ -304,7 +304,7 @@ module _ (bound low : ℕ) (text ns rest : List ℕ) (so_far : IsReadTo bound lo
               absurd (first-apart 10 32 r (decimal n ++ (words tail ++ 10 ∷ s)) rest (after_byte-found 10 rest r feed) (last.whole ∙ words-more n tail (10 ∷ s)) (λ e. omega (arith, e)))
 
   module _ (no_feed : after_byte 10 rest ≡ None) where
-    -- the next number of a set that is not at its end
+    -- a set that is not at its end has a next number
     next : (all r : List ℕ) → Set all r
         → (n : ℕ) × (tail : List ℕ) × (all ≡ ns ++ n ∷ tail) × (low ≤ n) × BeginsWithNumber bound rest n (words tail ++ 10 ∷ r) × IsRising bound (n + 1) tail
     next all r set = by parts.0 parts.1 parts.2
@@ -357,7 +357,7 @@ module _ (bound low : ℕ) (text ns rest : List ℕ) (so_far : IsReadTo bound lo
                 record { whole = same.1; rising = subst (λ (m : ℕ). IsRising bound (m + 1) more.1) (sym same.0) more.5 },
               )
 
--- one part read after another
+-- Reading one part after another.
 module _ {A B : Type 0} (First : A → List ℕ → Type 0) (Second : List ℕ → B → List ℕ → Type 0) where
   abbrev Both : A × B → List ℕ → Type 0
   Both = Then First Second
@@ -380,7 +380,7 @@ module _ {A B : Type 0} (First : A → List ℕ → Type 0) (Second : List ℕ �
           λ i. Some ((found.0 i, same.0 i), same.1 i);
     }
 
--- Lines by their first letters.
+-- Reading lines by their first letters.
 inner-text : (cost : ℕ) (numbers r : List ℕ) → inner_line cost numbers ++ 10 ∷ r ≡ 110 ∷ 32 ∷ (decimal cost ++ (words numbers ++ 10 ∷ r))
 inner-text cost numbers r =
     ap (λ (t : List ℕ). 110 ∷ 32 ∷ (t ++ 10 ∷ r)) (joined-numbers (decimal cost) numbers)
@@ -399,7 +399,7 @@ module _ (format most count : ℕ) (text : List ℕ) where
   abbrev Line : DueLine → List ℕ → Type 0
   Line = BeginsWithLine format most count text
 
-  -- the letter that a line begins with, and what follows it
+  -- a text that begins with one letter doesn't begin with another
   apart : (a b : ℕ) (xs ys : List ℕ) → after_byte a text ≡ Some xs → text ≡ b ∷ ys → a ≢ b → ⊥
   apart a b xs ys found is other = first-apart a b xs ys text (after_byte-found a text xs found) is other
 

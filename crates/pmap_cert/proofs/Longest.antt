@@ -6,15 +6,15 @@ use Rattle.pmap_text.specs.ListModel.{Prefix, covers, label_at, label_below, lie
 use Rattle.pmap_text.proofs.Blocks.{block_number-half, block_number-shorter}
 use Rattle.pmap_cert.proofs.Counts.{count_of, find-none, is_within}
 
--- All addresses of a block inside which no entry lies have the same longest match.
+-- All addresses of a block have the same longest match if no entry lies inside the block.
 
--- addresses of one block have one label from the entries of its length
+-- addresses of one block get the same label from the entries of the block's length
 pub label_at-same : (W : ℕ) (ps : List Prefix) (n a b : ℕ) → block_number W n a ≡ block_number W n b →
     label_at W ps n a ≡ label_at W ps n b
 label_at-same W ps n a b e =
     ap (λ (k : ℕ). option_map (λ (p : Prefix). p.label) (find (λ (p : Prefix). p.bits == n && block_number W n p.start == k) ps)) e
 
--- and the labels by entries of its length and shorter ones
+-- addresses of one block get the same label from the entries of the block's length and shorter ones
 pub label_below-same : (W : ℕ) (ps : List Prefix) (n a b : ℕ) → n ≤ W → block_number W n a ≡ block_number W n b →
     label_below W ps (suc n) a ≡ label_below W ps (suc n) b
 label_below-same W ps zero a b le e = ap (λ o. option_or o None) (label_at-same W ps 0 a b e)
@@ -23,12 +23,12 @@ label_below-same W ps (suc n) a b le e =
     (label_below-same W ps n a b (omega arith)
     (block_number-half W n a le ∙ ap (λ (i : ℕ). i / 2) e ∙ sym (block_number-half W n b le)))
 
--- if no entry passes a test that each entry of n bits covering the address would pass, entries of n bits give no label
+-- if no entry passes a test that each entry of n bits that covers the address passes, entries of n bits give no label
 pub label_at-none : (W : ℕ) (ps : List Prefix) (n a : ℕ) (test : Prefix → Bool) →
     ((p : Prefix) → covers W n a p ≡ true → test p ≡ true) → count_of test ps ≡ 0 → label_at W ps n a ≡ None
 label_at-none W ps n a test passes none = ap (option_map (λ (p : Prefix). p.label)) (find-none test (covers W n a) passes ps none)
 
--- an entry that covers an address covers it at each shorter length too
+-- an entry of j bits that covers an address lies in each block of at most j bits with the address
 covers-shorter : (W n j q a : ℕ) (p : Prefix) → n ≤ j → j ≤ W → block_number W n a ≡ q → covers W j a p ≡ true →
     (p.bits ≡ j) × (block_number W n p.start ≡ q)
 covers-shorter W n j q a p le le' e c =
@@ -37,7 +37,7 @@ covers-shorter W n j q a p le le' e c =
       block_number-shorter W n j p.start a le le' (eqb-true (block_number W j p.start) (block_number W j a) h.1) ∙ e,
     )
 
--- if no entry lies within the block, those of its length and longer ones give no label
+-- an entry at least as long as a block that covers an address of it lies within the block
 within-passes : (W n j q a : ℕ) → n ≤ j → j ≤ W → block_number W n a ≡ q → (p : Prefix) → covers W j a p ≡ true →
     is_within W n q p ≡ true
 within-passes W n j q a le le' e p c =
@@ -53,7 +53,7 @@ label_below-within W ps n (suc k) q a le e none =
     label_at-none W ps (n + k) a (is_within W n q) (within-passes W n (n + k) q a (omega arith) le' e) none in
     rw (add-suc, here) (label_below-within W ps n k q a (omega arith) e none)
 
--- if no entry lies inside the block, those longer than it give no label
+-- an entry longer than a block that covers an address of it lies inside the block
 inside-passes : (W n j q a : ℕ) → n < j → j ≤ W → block_number W n a ≡ q → (p : Prefix) → covers W j a p ≡ true →
     lies_inside W n q p ≡ true
 inside-passes W n j q a lt le' e p c =

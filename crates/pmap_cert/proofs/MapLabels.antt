@@ -1,4 +1,4 @@
--- The label table of a map that a text is read as has the map's labels.
+-- A map read from a text has all its labels in its table.
 use Rattle.std.proofs.Common.{◌≡◌, ℕ, ◌∙◌, ◌⊎◌, inl, inr, Bool, true, false, List, [], ◌∷◌, ◌++◌, Option, Some, None, Result, Ok, Err, IsTrue, fold, refl, sym, subst, bytes_eq}
 use Rattle.std.specs.List.{AllByRecursion, flat_map}
 use Rattle.std.specs.Option.{option_or}
@@ -17,7 +17,7 @@ use Rattle.pmap_cert.specs.CertificateModel.{has}
 use Rattle.pmap_cert.specs.MinimalPair.{HasItsLabels}
 use Rattle.pmap_cert.proofs.Sets.{bytes_eq-same, has-append}
 
--- a table keeps its labels, and has the one that is added
+-- a table keeps its labels when one is added, and has the added one
 has-kept : (table : List Label) (y x : Label) → has table x ≡ true → has (with_label table y) x ≡ true
 has-kept table y x h = by (has_label table y) refl
   where
@@ -42,7 +42,7 @@ has-texts table (y ∷ texts) x h = by (or_cases (bytes_eq x y) (has texts x) h)
         (subst (λ (z : Label). has (with_label table y) z ≡ true) (sym ((bytes_eq-Decides x y).0 same)) (has-added table y))
     by (inr inside) rest = rest inside
 
--- the label of each mapping is among the texts, and so is each default
+-- the texts have the mapping's label
 abbrev Mapped : List Label → Mapping → Type 0
 Mapped texts m = has texts m.label ≡ true
 
@@ -80,7 +80,7 @@ default-in (entry ∷ entries) x e = by (last_in default_in entries) refl e (λ 
     by None none own rest = has-append (text_in entry) (flat_map text_in entries) x ∙ or_left (has (text_in entry) x) (has (flat_map text_in entries) x) (default-own entry x own)
     by (Some y) some own rest = has-append (text_in entry) (flat_map text_in entries) x ∙ or_right (has (text_in entry) x) (has (flat_map text_in entries) x) (rest (some ∙ own))
 
--- the full table has both
+-- a table that has all texts has the labels of the mappings
 mapped-table : (table texts : List Label) → ((x : Label) → has texts x ≡ true → has table x ≡ true) → (ms : List Mapping) → AllByRecursion (Mapped texts) ms → AllByRecursion (Mapped table) ms
 mapped-table table texts more [] all = tt
 mapped-table table texts more (m ∷ ms) all = (more m.label all.0, mapped-table table texts more ms all.1)

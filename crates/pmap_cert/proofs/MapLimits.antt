@@ -1,4 +1,4 @@
--- A map that a text is read as has a label table, and no more mappings than a text may have.
+-- A map read from a text has a label table, and at most as many mappings as a text may have.
 use Rattle.std.proofs.Common.{◌≡◌, ℕ, ◌+◌, ◌-◌, ◌<◌, ◌≤◌, ◌==◌, ◌&&◌, Bool, true, false, List, [], ◌∷◌, ◌++◌, Option, Some, None, Result, Ok, Err, length, arith, refl, sym, subst, if◌then◌else◌, nat_lt, leb, unwrap_or}
 use Rattle.std.specs.List.{AllByRecursion, list_all, list_any}
 use Rattle.std.specs.Result.{IfOk}
@@ -24,7 +24,7 @@ use Rattle.pmap_text.specs.declared.fault.MapFaultKind.TheVariants.{BadLabel, La
 use Rattle.pmap_text.specs.declared.form.Form.TheVariants as form
 use Rattle.pmap_cert.proofs.FormatWhole.{no_labels}
 
--- what holds of the result of a step in every case of it
+-- what holds of the result in both cases of a test holds of the result
 if-ok : {X : Type 0} (P : X → Type 0) (b : Bool) (r s : Result X MapFaultKind) → (b ≡ true → IfOk r P) → (b ≡ false → IfOk s P)
     → IfOk (if b then r else s) P
 if-ok P true r s first second = first refl
@@ -72,7 +72,7 @@ meant_text-label declared label all own = by (label_number label)
     by None = own
     by (Some n) = declared_text-label declared n label all own
 
--- there is room for what a line says
+-- the limits leave room for what the line says
 abbrev Fits : Earlier → Entry → Type 0
 Fits e (Declares number text) = (is_label text ≡ true) × (has_room e.table text ≡ true)
 Fits e (Defaults label) = (is_label label ≡ true) × (has_room e.table label ≡ true)
@@ -165,7 +165,7 @@ module _ (e : Earlier) (all : AreLabels e.declared) where
       by [] = tt
       by (b ∷ bs) = statement-fits (first_word (b ∷ bs)) (behind_word (b ∷ bs))
 
--- what the lines so far say keeps the limits of a text
+-- the lines so far keep the limits of a text
 record IsWithin (e : Earlier) : Type 0 where
   table : IsLabelTable e.table
   room : length e.table ≤ label_limit
@@ -242,7 +242,7 @@ within-entries (line ∷ lines) entries number read within e =
 within-none : IsWithin (earlier_of [])
 within-none = record { table = no_labels; room = omega arith; declared = tt; mappings = omega arith }
 
--- and so does the map, with the text of its default in the table
+-- the table of the whole map, with the default, is a label table
 limits-kept : (e : Earlier) → IsWithin e → IsLabelTable (full_table e.table e.fallback)
 limits-kept e within = by e.fallback
   where

@@ -20,7 +20,7 @@ use Rattle.pmap_text.proofs.Settled.{unsettled-halves}
 
 -- A minimal pair is accepted.
 
--- what the entries of a node's block pass on: with its own entry alone at the block
+-- a node's own entry, if no other is at its block, decides the label that is passed on
 label_below-own : (W : ℕ) (ps : List Prefix) (table s : List Label) (h : Option Label) (n q : ℕ) →
     filter (covers W n (first_of W n q)) ps ≡ own_entry W table s h n q → label_below W ps n (first_of W n q) ≡ h →
     label_below W ps (suc n) (first_of W n q) ≡ handed_on table s h
@@ -45,11 +45,11 @@ covers-within W n q p c =
     of_numbers : (n k b q : ℕ) → (k == n && b == q) ≡ true → (nat_le n k && b == q) ≡ true
     of_numbers n k b q h = grind (arith, nat_tests)
 
--- one that lies inside it is within it
+-- an entry that lies inside a block is within it
 inside-within : (W n q : ℕ) (p : Prefix) → lies_inside W n q p ≡ true → is_within W n q p ≡ true
 inside-within W n q p h = grind (arith, nat_tests)
 
--- one within a half has more bits than the block, and isn't in the other half
+-- an entry within a half has more bits than the block, and isn't within another half
 within-longer : (W n i a : ℕ) (p : Prefix) → is_within W (suc n) i p ≡ true → covers W n a p ≡ false
 within-longer W n i a p h = grind (arith, nat_tests)
 
@@ -68,20 +68,20 @@ own-half W n q i x = and_left (nat_le (suc n) n) (block_number W (suc n) (first_
 own-inside : (W n q : ℕ) (x : Label) → lies_inside W n q (record { start = first_of W n q; bits = n; label = x }) ≡ false
 own-inside W n q x = and_left (nat_lt n n) (block_number W n (first_of W n q) == q) (le-ltb n n (omega arith))
 
--- a claim that is the exact pair holds no more than it
+-- a claim that is the same as the exact pair is within it
 within-same : (claim e : Pair) → IsSamePair claim e → IsWithinExact claim e
 within-same claim e same = record { cost = le_of_eq same.cost; labels = λ cost x h. same.labels x ∙ h }
 
--- the map, its label table, and a list
+-- A map, its label table, and a list.
 module _ (m : MapModel) (table : List Label) (ps : List Prefix) where
-  -- of a list whose entries within a block are given, those that pass a test of entries within the block
+  -- if the list's entries within a block are given, a test of entries within it keeps those of the given ones
   filter-given : (n q : ℕ) (given : List Prefix) (test : Prefix → Bool) →
       ((p : Prefix) → test p ≡ true → is_within (width_of m.version) n q p ≡ true) →
       filter (is_within (width_of m.version) n q) ps ≡ given → filter test ps ≡ filter test given
   filter-given n q given test within e =
       sym (filter-filter (is_within (width_of m.version) n q) test within ps) ∙ ap (filter test) e
 
-  -- a leaf decides its block
+  -- the list decides the block of a leaf
   leaf-decided : (x : Label) (h : Option Label) (n q : ℕ) →
       filter (is_within (width_of m.version) n q) ps ≡ own_entry (width_of m.version) table (x ∷ []) h n q →
       label_below (width_of m.version) ps n (first_of (width_of m.version) n q) ≡ h →
@@ -103,7 +103,7 @@ module _ (m : MapModel) (table : List Label) (ps : List Prefix) where
         ∙ handed_on-leaf table x h;
   }
 
-  -- an inner node's own entry and those of its halves, separately
+  -- the entry of an inner node's own block, and those within its halves
   inner-own : (claim : Pair) (lower upper : Tree) (h : Option Label) (n q : ℕ) → n < width_of m.version →
       StandsFor m (InnerNode claim lower upper) n q →
       filter (is_within (width_of m.version) n q) ps ≡ entries_of (width_of m.version) table (InnerNode claim lower upper) h n q →
@@ -160,7 +160,7 @@ module _ (m : MapModel) (table : List Label) (ps : List Prefix) where
       (filter-entries_of m table (is_within (width_of m.version) (suc n) (2 * q + 1)) true upper
       (handed_on table claim.labels h) (suc n) (2 * q + 1) below stands.3 (λ p w. w))
 
-  -- a list whose entries within a block are those of a node that represents it
+  -- a node that represents a block is accepted if the list's entries within the block are the node's
   pub accepted-node : (t : Tree) (h : Option Label) (n q : ℕ) → n ≤ width_of m.version → StandsFor m t n q →
       filter (is_within (width_of m.version) n q) ps ≡ entries_of (width_of m.version) table t h n q →
       label_below (width_of m.version) ps n (first_of (width_of m.version) n q) ≡ h →
@@ -182,12 +182,12 @@ module _ (m : MapModel) (table : List Label) (ps : List Prefix) where
         within-same claim (exact_pair (claim_of lower) (claim_of upper)) stands.1,
       )
 
--- a minimal pair's list has the root's cost and one entries
+-- a minimal pair's list has as many entries as the root's cost plus one
 pub length-minimal : (m : MapModel) (l : ListModel) (c : CertificateModel) → IsMinimalPair m l c →
     length l.prefixes ≡ (claim_of c.root).cost + 1
 length-minimal m l c pair = ap length pair.prefixes ∙ length-entries_of m m.table c.root None 0 0 pair.root
 
--- and its certificate is accepted for its list
+-- a minimal pair's certificate is accepted for its list
 pub accepted-minimal : (m : MapModel) (l : ListModel) (c : CertificateModel) → IsMinimalPair m l c → IsAccepted m l c
 accepted-minimal m l c pair = record {
   list_version = pair.list_version;

@@ -10,13 +10,13 @@ use Rattle.pmap_cert.specs.CertificateForm.{IsRising}
 use Rattle.pmap_cert.specs.FormatReading.{InnerLine, LeafLine, NodeLine, both, inner_by, leaf_by, node_words, number_below, rising_numbers}
 use Rattle.pmap_cert.proofs.Numbers.{number_below-decimal, number_below-found, option_map_some, rising_numbers-decimals, rising_numbers-found}
 
--- the words say this of a node, in a certificate of so many labels
+-- the words are those of this line, which fits a certificate of `count` labels
 abbrev pub SaysNode : ℕ → NodeLine → List (List ℕ) → Type 0
 SaysNode count (LeafLine number) words = (words ≡ codes "l" ∷ decimal number ∷ []) × (number < count)
 SaysNode count (InnerLine cost numbers) words =
     (words ≡ codes "n" ∷ decimal cost ∷ map decimal numbers) × (cost < 2 ^ 32) × IsRising count 0 numbers
 
--- both are some
+-- if a pair of options has a value, both options have one
 pub both_some : {A B : Type 0} (p : Option A) (q : Option B) (z : A × B) → both p q ≡ Some z → (p ≡ Some z.0) × (q ≡ Some z.1)
 both_some None q z e = absurd (none-some z e)
 both_some (Some x) None z e = absurd (none-some z e)

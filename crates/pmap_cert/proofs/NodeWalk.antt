@@ -21,7 +21,7 @@ whole-lines (Inner cost set lower upper) rest whole =
 whole-lines (Chain cost set bits side end) rest whole =
     (subst (λ (ns : List Node). 1 ≤ length ns) (sym (nodes-lines end rest)) (omega arith), whole-lines end rest whole)
 
--- the one node of a tree's lines
+-- the lines of a tree have one node
 pub root-of : (lines : List DueLine) (node : Node) → lines ≡ lines_of node → nodes_of lines ≡ node ∷ []
 root-of lines node is = ap nodes_of (is ∙ sym (append-nil (lines_of node))) ∙ nodes-lines node []
 
@@ -31,7 +31,7 @@ tree-whole lines node is = subst AreWhole (sym (is ∙ sym (append-nil (lines_of
 pub tree-lines : (lines : List DueLine) (node : Node) → IsTree lines → first_node (nodes_of lines) ≡ node → lines ≡ lines_of node
 tree-lines lines node tree is = tree.is ∙ ap lines_of (sym (ap first_node (root-of lines tree.node tree.is)) ∙ is)
 
--- from one line to the next
+-- the nodes from a line on are whole, and so are those from the next line on
 pub whole-next : (lines : List DueLine) (k : ℕ) → AreWhole (drop k lines) → AreWhole (drop (suc k) lines)
 whole-next [] zero whole = whole
 whole-next [] (suc k) whole = whole
@@ -57,7 +57,7 @@ nodes-next (PlainLine (InnerLine cost numbers) ∷ lines) zero whole = halves co
 nodes-next (ChainLine cost bits side numbers ∷ lines) zero whole = end-next cost numbers bits side (nodes_of lines) whole.0
 nodes-next (line ∷ lines) (suc k) whole = nodes-next lines k whole
 
--- the line says what its node claims
+-- the line has the values of its node
 pub record IsLineOf (line : DueLine) (node : Node) : Type 0 where
   pub label : line_label line ≡ label_of node
   pub cost : line_cost line ≡ cost_of node

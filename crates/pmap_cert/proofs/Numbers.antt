@@ -1,4 +1,4 @@
--- Numbers as they are written, and rising numbers.
+-- The decimal texts of numbers, and rising numbers.
 use Rattle.std.proofs.Common.{◌≡◌, ℕ, zero, suc, ◌+◌, ◌-◌, ◌*◌, ◌^◌, ◌<◌, ◌≤◌, ◌==◌, ◌&&◌, ◌||◌, ◌∙◌, Bool, true, false, List, [], ◌∷◌, ◌++◌, Option, Some, None, All, map, fold, refl, sym, ap, subst, arith, cond, leb, ltb, get_or, length, not, rules}
 use Rattle.std.specs.Fmt.{decimal, digit_glyph}
 use Rattle.std.specs.List.{AllByRecursion, list_all}
@@ -15,7 +15,7 @@ use Rattle.prefix_keys.specs.Text.{decimal_number, decimal_value, is_digit}
 use Rattle.pmap_cert.specs.CertificateForm.{IsRising}
 use Rattle.pmap_cert.specs.FormatReading.{number_below, onto_numbers, rising_numbers}
 
--- a digit is no byte below the digits, and has its number as its value
+-- a digit is not a byte below the digits, and its value is its number
 digit-other : (c d : ℕ) → c < 48 → d < 10 → (digit_glyph false d == c) ≡ false
 digit-other c d low h = rw (lt-ltb d 10 h) (ne_eqb (48 + d) c (λ e. omega arith))
 
@@ -44,12 +44,12 @@ number_below-found bound word n e =
     let same : word ≡ decimal (decimal_value word) = (bytes_eq-Decides word (decimal (decimal_value word))).0 tests.0 in
     subst (λ (m : ℕ). (word ≡ decimal m) × (m < bound)) found.1 (same, ltb-true _ _ tests.1)
 
--- an option that was mapped
+-- a mapped option with a value has an original value
 pub option_map_some : {A B : Type 0} (f : A → B) (o : Option A) (y : B) → option_map f o ≡ Some y → (x : A) × (o ≡ Some x) × (f x ≡ y)
 option_map_some f None y e = absurd (none-some y e)
 option_map_some f (Some x) y e = (x, refl, cc)
 
--- the first of rising numbers and those after it
+-- rising numbers that are read have a first number and others that rise after it
 onto-found : (low : ℕ) (o : Option ℕ) (others : ℕ → Option (List ℕ)) (ns : List ℕ) → onto_numbers low o others ≡ Some ns
     → (n : ℕ) × (rest : List ℕ) × (o ≡ Some n) × (low ≤ n) × (others (n + 1) ≡ Some rest) × (n ∷ rest ≡ ns)
 onto-found low None others ns e = absurd (none-some ns e)
@@ -82,20 +82,20 @@ rising_numbers-decimals bound low (n ∷ ns) small rising =
     ∙ cond-true (leb low n) (option_map (λ rest. n ∷ rest) (rising_numbers bound (n + 1) (map decimal ns))) None (le-leb _ _ rising.0)
     ∙ ap (option_map (λ rest. n ∷ rest)) (rising_numbers-decimals bound (n + 1) ns small rising.2)
 
--- no word of numbers has a byte below the digits
+-- no decimal text of rising numbers has a byte below the digits
 pub Lacks-decimals : (c bound low : ℕ) (ns : List ℕ) → c < 48 → bound ≤ 2 ^ 63 → IsRising bound low ns → AllByRecursion (Lacks c) (map decimal ns)
 Lacks-decimals c bound low [] less small rising = tt
 Lacks-decimals c bound low (n ∷ ns) less small rising =
     (Lacks-decimal c n less (omega (arith, rising.1)), Lacks-decimals c bound (n + 1) ns less small rising.2)
 
--- digits and their value
+-- digits with their value are a model of decimal texts
 own : IsNumeralModel (λ ds. list_all is_digit ds ≡ true) decimal_value
 own = numerals_by_fold _ (search rules) (λ n ds. fold (λ m b. m * 10 + (b - 48)) n ds) (search rules)
 
 pub decimal-digits : (n : ℕ) → n < 2 ^ 32 → list_all is_digit (decimal n) ≡ true
 decimal-digits n small = digits_decimal own n (omega (arith, small))
 
--- a word is the decimal text of its value exactly if it has digits alone and no leading zero
+-- a word is the decimal text of its value exactly if it has only digits and no leading zero
 or-side : (a b : Bool) → (a || not b) ≡ true → b ≡ true → a ≡ true
 or-side true b h e = refl
 or-side false true h e = h
@@ -142,7 +142,7 @@ pub is_decimal-word : (word : List ℕ) → 0 < length word → decimal_value wo
 is_decimal-word word some small =
     ap (λ b. b && list_all is_digit word) (not-both (length word == 1) (get_or word 0 0 == 48)) ∙ is_decimal-some word some small
 
--- A number below the bound is one of at most ten digits.
+-- A number below 2 ^ 32 has at most ten digits, so its decimal text is read.
 digits_few : (n : ℕ) → n < 2 ^ 32 → decimal_number 10 4294967295 (decimal n) ≡ Some n
 digits_few n small =
     let text : List ℕ = decimal n in
@@ -162,7 +162,7 @@ number_below-none bound word small none = by (number_below bound word) refl
         let found = number_below-found bound word n e in
         absurd (none-some n (sym none ∙ ap (decimal_number 10 4294967295) found.0 ∙ digits_few n (omega (arith, found.1, small))))
 
--- what a number is read from
+-- a word that is read as a number is digits with this value, which is below 2 ^ 32
 pub decimal_number-found : (word : List ℕ) (n : ℕ) → decimal_number 10 4294967295 word ≡ Some n
     → (0 < length word) × (list_all is_digit word ≡ true) × (decimal_value word ≡ n) × (n < 2 ^ 32)
 decimal_number-found word n e =
@@ -174,7 +174,7 @@ decimal_number-found word n e =
     let same : decimal_value word ≡ n = found.1 in
     (leb-true _ _ some.0, digits.0, same, omega (arith, small, same))
 
--- a word is a number below the bound if its value is, and no 0 begins a longer word
+-- a word that is read as a number is one below the bound if its value is and it has no leading zero
 pub number_below-read : (bound n : ℕ) (word : List ℕ) → decimal_number 10 4294967295 word ≡ Some n
     → number_below bound word ≡ cond (not (not (length word == 1) && (get_or word 0 0 == 48)) && ltb n bound) (Some n) None
 number_below-read bound n word e =

@@ -10,10 +10,10 @@ use Rattle.pmap_cert.specs.ExactPair.{IsSamePair, common_labels, exact_pair, exa
 use Rattle.pmap_cert.proofs.Chains.{bits-end, pair-by_bits, within-itself, within-same_pair}
 use Rattle.pmap_cert.proofs.Sets.{bytes_eq-same, has-append, has-filter}
 
--- What holds no more than exact pairs along a chain's way holds no more than the chain's pair, so a node with chains is
--- accepted if the one that it opens to is.
+-- A claim that is within the exact pairs along a chain's way is within the chain's pair, so a node with chains is
+-- accepted if the node that it opens to is.
 
--- holding no more carries over
+-- being within a pair is transitive
 within-then : (a b c : Pair) → IsWithinExact a b → IsWithinExact b c → IsWithinExact a c
 within-then a b c e f = record {
   cost = omega (arith, e.cost, f.cost);
@@ -21,18 +21,18 @@ within-then a b c e f = record {
       e.labels (omega (arith, e.cost, f.cost)) x (f.labels (omega (arith, e.cost, f.cost)) x h);
 }
 
--- a label of a set that comes first isn't missing in it
+-- a set has the first label of its list
 own-first : (y : Label) (ys : List Label) → has (y ∷ ys) y ≡ true
 own-first y ys = or_left (bytes_eq y y) (has ys y) (bytes_eq-same y)
 
--- the exact pair of pairs that hold no more holds no more
+-- if two sums are equal and no part of the first is greater, the parts are equal
 less-apart : (k l k' l' : ℕ) → k ≤ k' → l ≤ l' → k + l + 1 ≡ k' + l' + 1 → (k ≡ k') × (l ≡ l')
 less-apart k l k' l' h h' e = (omega arith, omega arith)
 
 less-common : (k l k' l' : ℕ) → k ≤ k' → l ≤ l' → k + l ≡ k' + l' → (k ≡ k') × (l ≡ l')
 less-common k l k' l' h h' e = (omega arith, omega arith)
 
--- if the lower pairs have no common label and the upper ones have one, one of the lower costs is less
+-- if the greater pairs have a common label and the pairs within them have none, one of the costs is less
 within-either : (k l k' l' : ℕ) (a b c d : Bool) → k ≤ k' → l ≤ l' → k + l + 1 ≡ k' + l' → (k ≡ k' → c ≡ true → a ≡ true) →
     (l ≡ l' → d ≡ true → b ≡ true) → (c && d) ≡ true → (a || b) ≡ true
 within-either k l k' l' a b c d h h' e f g known = grind arith
@@ -47,7 +47,7 @@ within-union a b c d e f is is' h h' known = grind arith
 within-common : (a b c d e f : Bool) → e ≡ (a && b) → f ≡ (c && d) → (c ≡ true → a ≡ true) → (d ≡ true → b ≡ true) → f ≡ true → e ≡ true
 within-common a b c d e f is is' h h' known = grind arith
 
--- the labels that two pairs have in common, as a list
+-- the list has exactly the labels that both pairs have
 abbrev IsCommon : Pair → Pair → List Label → Type 0
 IsCommon p r common = (x : Label) → has common x ≡ (has p.labels x && has r.labels x)
 
@@ -92,7 +92,7 @@ link-within true side p r within =
 link-within false side p r within =
     exact-within p (claim_of (LeafNode side)) r (claim_of (LeafNode side)) within (within-itself (claim_of (LeafNode side)))
 
--- a node claims what that which it opens to does
+-- a node claims the same as the node that it opens to
 pub claim-opening : (c : Tree) (t : Tree) → OpensTo c t → claim_of t ≡ claim_of c
 claim-opening (LeafNode x) (LeafNode y) h = ap (λ (z : Label). claim_of (LeafNode z)) (sym h)
 claim-opening (LeafNode x) (InnerNode claim lower upper) h = absurd h
@@ -103,7 +103,7 @@ claim-opening (InnerNode claim lower upper) (InnerNode claim' lower' upper') h =
 claim-opening (ChainNode claim bits side end) t h = sym h.1
 
 module _ (m : MapModel) (ps : List Prefix) (side : Label) (IsEnd : Tree → Type 0) (e : Pair) where
-  -- an accepted node at the way's end, which claims e
+  -- the block at the way's end has an accepted node that meets `IsEnd`
   abbrev IsEndAccepted : ℕ → ℕ → Type 0
   IsEndAccepted n q = (t : Tree) × IsEnd t × IsNodeAccepted m ps t n q
 
@@ -139,7 +139,7 @@ module _ (m : MapModel) (ps : List Prefix) (side : Label) (IsEnd : Tree → Type
         let rest = along bits lower (suc n) (2 * q) way.1 h.1 in
         ((h.0, leaf-of x (suc n) (2 * q + 1) way.0 h.2, rest.0), step false bits claim (claim_of lower) x way.0 h.3 rest.1)
 
--- the pair of a chain with a bit
+-- a claim that is within the exact pair taken bit by bit is within the chain's pair
 same-back : (p r : Pair) → IsSamePair p r → IsSamePair r p
 same-back p r same = record { cost = sym same.cost; labels = λ x. sym (same.labels x) }
 
@@ -174,7 +174,7 @@ opening-accepted m ps (ChainNode claim bits side end) t n q is h =
           (subst (λ (p : Pair). IsWithinExact p (pair_by_bits bits side (claim_of end))) (sym is.1) way.1),
     )
 
--- a node has no more lines than what it opens to
+-- a node has no more lines than the node that it opens to
 lines-way : (IsEnd : Tree → Type 0) (side : Label) (k : ℕ) → ((t : Tree) → IsEnd t → k ≤ line_count t) → (bits : List Bool) (t : Tree) →
     IsWay IsEnd side bits t → k + 2 * length bits ≤ line_count t
 lines-way IsEnd side k ends [] t way = omega (arith, ends t way)

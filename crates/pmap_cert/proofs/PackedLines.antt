@@ -1,4 +1,4 @@
--- The lines of nodes as the code keeps them.
+-- The lines of nodes as the code stores them.
 use Rattle.std.proofs.Common.{◌≡◌, ℕ, zero, suc, ◌+◌, ◌-◌, ◌<◌, ◌≤◌, ◌∙◌, Bool, List, [], ◌∷◌, ◌++◌, All, length, map, take, drop, get_or, refl, sym, ap, subst, arith, length-append, length-drop}
 use Rattle.std.specs.List.{slice_range}
 use Rattle.std.proofs.lemmas.List.{drop-append-le, get_or-map, append-nil, get_or_append_left, get_or_push, length-map, map-append, take-append-le}
@@ -12,13 +12,13 @@ use Rattle.pmap_cert.specs.declared.nodes.Packed.TheVariants.{Chain, Inner, Leaf
 use Rattle.pmap_cert.specs.declared.nodes.PackedChain.{PackedChain}
 use Rattle.pmap_cert.specs.declared.pool.SetId.{SetId}
 
--- a piece of a list stays if more is appended
+-- a range of a list stays the same if more is appended
 same-piece : {A : Type 0} (xs more : List A) (from end : ℕ) → from ≤ end → end ≤ length xs → slice_range (xs ++ more) from end ≡ slice_range xs from end
 same-piece xs more from end le within =
     ap (take (end - from)) (drop-append-le from xs more (omega arith))
     ∙ take-append-le (end - from) (drop from xs) more (omega (arith, length-drop from xs))
 
--- a set in the pool stays if more is appended
+-- a set in the pool stays the same if more is appended
 module _ (pool more : List LabelId) where
   same-count : (place : ℕ) → place < length pool → count_at (pool ++ more) place ≡ count_at pool place
   same-count place inside = ap (λ (id : LabelId). id.0) (get_or_append_left pool more (record { 0 = 0 }) place inside)
@@ -41,7 +41,7 @@ held-more old new id numbers grown is =
     subst (λ (pool : List LabelId). IsHeld pool id numbers) (sym grown.1)
     (record { whole = still-set_by old grown.0 id.low.0 id.high is.whole; set = same-set_by old grown.0 id.low.0 id.high is.whole ∙ is.set })
 
--- more is kept: sets, chains and bits
+-- the second store is the first with more sets, chains and bits appended
 pub record IsMore (s s' : Store) : Type 0 where
   pub labels : IsGrown s.labels s'.labels
   pub chains : IsGrown s.chains s'.chains
@@ -62,7 +62,7 @@ pub still-set : (s s' : Store) (id : SetId) → IsMore s s' → HasSet s.labels 
 still-set s s' id m has =
     subst (λ (pool : List LabelId). HasSet pool id) (sym m.labels.1) (still-set_by s.labels m.labels.0 id.low.0 id.high has)
 
--- the line of a chain that is there
+-- a line stays the same if more is appended to the store
 module _ (s s' : Store) (m : IsMore s s') where
   same-chain_at : (n : ℕ) → n < length s.chains → chain_at s'.chains n ≡ chain_at s.chains n
   same-chain_at n inside =
@@ -102,19 +102,19 @@ module _ (s s' : Store) (m : IsMore s s') where
       let rest = same-lines ps (All-tail (IsPacked s) p ps has) in
       λ i. first i ∷ rest i
 
--- the lines are those of the code, some of which may have been appended
+-- the packed lines, whose parts are in the store, represent the lines
 pub record ArePackedAs (s : Store) (ps : List Packed) (lines : List DueLine) : Type 0 where
   pub packed : All (IsPacked s) ps
   pub are : map (line_in s) ps ≡ lines
 
 module _ (s s' : Store) (ps : List Packed) (lines : List DueLine) (m : IsMore s s') (packed : All (IsPacked s) ps) (view : map (line_in s) ps ≡ lines) where
-  -- the lines stay if more is appended to the store
+  -- the packed lines represent the same lines if more is appended to the store
   pub more-kept : (ps' : List Packed) → ps' ≡ ps → ArePackedAs s' ps' lines
   more-kept ps' same =
       subst (λ (l : List Packed). ArePackedAs s' l lines) (sym same)
       (record { packed = All-weaker (IsPacked s) (IsPacked s') (still-packed s s' m) ps packed; are = same-lines s s' m ps packed ∙ view })
 
-  -- one more line
+  -- one more packed line represents one more line
   pub line-pushed : (ps' : List Packed) (p : Packed) (line : DueLine) → IsPacked s' p → line_in s' p ≡ line → ps' ≡ ps ++ p ∷ [] → ArePackedAs s' ps' (lines ++ line ∷ [])
   line-pushed ps' p line has is pushed =
       let kept = more-kept ps refl in
@@ -124,7 +124,7 @@ module _ (s s' : Store) (ps : List Packed) (lines : List DueLine) (m : IsMore s 
         are = map-append (line_in s') ps (p ∷ []) ∙ (λ i. kept.are i ++ is i ∷ []);
       })
 
-  -- a chain with its line
+  -- one more chain and its packed line represent one more line of a chain
   pub chain-pushed : (ps' : List Packed) (low high : ℕ) (c : PackedChain) (bits : List Bool) (numbers : List ℕ) → IsHeld s'.labels c.set numbers
       → joined_halves low high ≡ length s.chains → s'.chains ≡ s.chains ++ c ∷ [] → c.start ≡ length s.bits → c.end ≡ length s'.bits → s'.bits ≡ s.bits ++ bits
       → ps' ≡ ps ++ Chain low high ∷ [] → ArePackedAs s' ps' (lines ++ ChainLine c.cost bits c.side.0 numbers ∷ [])

@@ -12,7 +12,7 @@ use Rattle.pmap_cert.specs.FormatReading.{is_ended, line_from, pieces_of, words_
 use Rattle.pmap_cert.specs.CertificateText.{line_of, text_of_lines}
 use Rattle.pmap_cert.specs.Words.{words_behind}
 
--- a byte that is found, and one that is not
+-- the position of a first element that passes is within the list
 pub found_at : {X : Type 0} (p : X → Bool) (text : List X) (end : ℕ) → position p text ≡ Some end → (position_or_len p text < length text) × (position_or_len p text ≡ end)
 found_at p text end e =
     let found = cond_some (ltb (position_or_len p text) (length text)) (position_or_len p text) end e in
@@ -25,11 +25,11 @@ found_nowhere p text e = by (ltb (position_or_len p text) (length text)) refl
     by true h = absurd (none-some _ (sym e ∙ ap (λ b. cond b (Some (position_or_len p text)) None) h))
     by false h = ltb-false _ _ h
 
--- a text has a first piece
+-- a text has at least one piece
 pub split_some : (p : ℕ → Bool) (text : List ℕ) → 0 < length (slice_split p text)
 split_some p text = omega (arith, length-slice_split p text)
 
--- a line is followed by a piece
+-- the first of two or more pieces is the next line
 pub line_from-cons : (number : ℕ) (line : List ℕ) (rest : List (List ℕ)) → 0 < length rest → line_from number (line ∷ rest) ≡ Some (line, record { number = number + 1; pieces = rest })
 line_from-cons number line [] h = absurd (omega arith)
 line_from-cons number line (piece ∷ pieces) h = refl
@@ -43,11 +43,11 @@ line_from-feed number text end e =
     (ap (line_from number) (slice_split_first p text 0 found.0)
     ∙ line_from-cons number (before_first p text) (slice_split p (after_first p text)) (split_some p (after_first p text)))
 
--- and of a text without one
+-- a text without a line feed has no next line
 pub line_from-whole : (number : ℕ) (text : List ℕ) → position (λ b. b == 10) text ≡ None → line_from number (pieces_of text) ≡ None
 line_from-whole number text e = ap (line_from number) (split-whole (λ b. b == 10) text (found_nowhere (λ b. b == 10) text e))
 
--- nothing is left of a text that is empty, and of no other
+-- only an empty text is at its end
 pub is_ended-two : (pieces : List (List ℕ)) → 1 < length pieces → is_ended pieces ≡ false
 is_ended-two [] h = absurd (omega arith)
 is_ended-two ([] ∷ []) h = absurd (omega arith)
@@ -68,7 +68,7 @@ is_ended-pieces (b ∷ bs) = by (b == 10) refl ∙ sym (ne_eqb (length (b ∷ bs
     by true e = rw e (is_ended-two ([] ∷ pieces_of bs) (omega (arith, split_some (λ b. b == 10) bs)))
     by false e = rw e (is_ended-begun b (pieces_of bs) (split_some (λ b. b == 10) bs))
 
--- the lines of a text that ends with a line feed
+-- lines and an empty piece, joined by line feeds, are the text of the lines
 joined-lines : (lines : List (List ℕ)) → join_with_byte 10 (lines ++ [] ∷ []) ≡ text_of_lines lines
 joined-lines [] = refl
 joined-lines (line ∷ []) = sym (append_assoc line (10 ∷ []) [])
@@ -79,7 +79,7 @@ pub text_from_pieces : (text : List ℕ) (lines : List (List ℕ)) → pieces_of
 text_from_pieces text lines e =
     sym (join_with_byte-slice_split 10 text) ∙ ap (join_with_byte 10) e ∙ joined-lines lines
 
--- each line of a text without line feeds inside is a piece of it
+-- the pieces of a text of lines are the lines and an empty piece
 pub pieces-lines : (lines : List (List ℕ)) → AllByRecursion (Lacks 10) lines → pieces_of (text_of_lines lines) ≡ lines ++ [] ∷ []
 pieces-lines [] none = refl
 pieces-lines (line ∷ lines) none =
@@ -87,18 +87,18 @@ pieces-lines (line ∷ lines) none =
     ∙ slice_split_at (λ b. b == 10) line 10 (text_of_lines lines) none.0 (eq-eqb 10 10 refl)
     ∙ ap (λ pieces. line ∷ pieces) (pieces-lines lines none.1)
 
--- words without spaces are the words of their line
+-- words without spaces are the words of the line of them
 pub words-line : (word : List ℕ) (words : List (List ℕ)) → Lacks 32 word → AllByRecursion (Lacks 32) words → words_of (line_of (word ∷ words)) ≡ word ∷ words
 words-line word [] first rest = slice_split_none (λ b. b == 32) word first
 words-line word (next ∷ words) first rest =
     slice_split_at (λ b. b == 32) word 32 (line_of (next ∷ words)) first (eq-eqb 32 32 refl)
     ∙ ap (λ words. word ∷ words) (words-line next words rest.0 rest.1)
 
--- a line is its words with spaces between
+-- a line is the line of its words
 pub line-words : (line : List ℕ) (words : List (List ℕ)) → words_of line ≡ words → line ≡ line_of words
 line-words line words e = sym (join_with_byte-slice_split 32 line) ∙ ap line_of e
 
--- the first word of a line, and those after its first space
+-- the words of a line with a space are the first word and the words after the space
 pub words_of-space : (text : List ℕ) (end : ℕ) → position (λ b. b == 32) text ≡ Some end → words_of text ≡ take end text ∷ words_behind (Some (drop (end + 1) text))
 words_of-space text end e =
     let p : ℕ → Bool = λ b. b == 32 in

@@ -17,14 +17,14 @@ plain-stands m (InnerNode claim lower upper) n q h =
     (plain-stands m lower (suc n) (2 * q) h.2, plain-stands m upper (suc n) (2 * q + 1) h.3)
 plain-stands m (ChainNode claim bits side end) n q h = absurd h
 
--- nor has the tree of a node without chains
+-- the tree of a node without chains has no chain
 pub plain-tree_of : (table : List Label) (node : Node) → IsPlainNode node → IsPlain (tree_of table node)
 plain-tree_of table (Leaf number) plain = tt
 plain-tree_of table (Inner cost set lower upper) plain =
     (plain-tree_of table lower plain.0, plain-tree_of table upper plain.1)
 plain-tree_of table (Chain cost set bits side end) plain = absurd plain
 
--- the form of a node without chains
+-- a node in the form without chains has no chain
 pub number-plain : (count : ℕ) (node : Node) (room : ℕ) → HasNumberForm count node room → IsPlainNode node
 number-plain count (Leaf number) room form = tt
 number-plain count (Inner cost set lower upper) zero form = absurd form
@@ -39,7 +39,7 @@ number-form count (Inner cost set lower upper) (suc room) form =
     (form.0, form.1, number-form count lower room form.2, number-form count upper room form.3)
 number-form count (Chain cost set bits side end) room form = absurd form
 
--- the format of a certificate of the code
+-- a certificate whose root is allowed in its format is of that format
 pub of-kind : (table : List Label) (format : Format) (node : Node) (version : Version) → IsNodeOf format node
     → IsOfFormat (record { format = format_number format; version = version; table = table; root = tree_of table node })
 of-kind table One node version plain = inl (refl, plain-tree_of table node plain)

@@ -1,4 +1,4 @@
--- Reading one after the other, as the code does.
+-- Reading labels and nodes one after the other, as the code does.
 use Rattle.std.proofs.Common.{◌≡◌, ℕ, zero, suc, ◌+◌, ◌-◌, ◌<◌, ◌≤◌, ◌∙◌, Bool, List, [], ◌∷◌, ◌++◌, Result, Ok, Err, length, map, nat_le, sym, ap, subst, arith}
 use Rattle.std.proofs.lemmas.Bool.{cond-false, cond-true, le-leb, lt-leb}
 use Rattle.std.proofs.lemmas.List.{append_assoc, length_push}
@@ -16,7 +16,7 @@ use Rattle.pmap_cert.specs.declared.format.Format.TheVariants.{One, Two}
 use Rattle.pmap_cert.proofs.ChainWords.{room-left}
 use Rattle.pmap_cert.proofs.FormatTrees.{line_due-found, nodes_at-down}
 
--- labels
+-- Reading one more label of a table.
 
 module _ (count : ℕ) (table : List Label) (place : Place) (total : Result (List Label × Place) CertFault) (so_far : total ≡ labels_at (count - length table) table place) where
   one_left : length table < count → count - length table ≡ suc (count - (length table + 1))
@@ -33,7 +33,7 @@ module _ (count : ℕ) (table : List Label) (place : Place) (total : Result (Lis
       ∙ ap (λ (r : Result (Label × Place) CertFault). r >>= (λ label. labels_at (count - (length table + 1)) (table ++ label.0 ∷ []) label.1)) e
       ∙ ap (λ (n : ℕ). labels_at (count - n) (table ++ label ∷ []) after) (sym (length_push table label))
 
--- nodes
+-- Reading a node from its line.
 
 abbrev Read : Type 0
 Read = Result (Tree × Place) CertFault
@@ -75,7 +75,7 @@ module _ (due : Place → Result (DueLine × Place) CertFault) (table : List Lab
       unfolding nodes_at
       inner room = ap (then_in (suc room) (nodes_at due table room)) is
 
-      -- a room that is some
+      -- an inner node is read by its halves if there is room below it
       deeper : (room : ℕ) → 0 < room → nodes_at due table room 0 place ≡ lower_then (room - 1) (nodes_at due table (room - 1) 0 after)
       deeper room h =
           let is : suc (room - 1) ≡ room = omega arith in
@@ -119,12 +119,12 @@ module _ (due : Place → Result (DueLine × Place) CertFault) (table : List Lab
         ∙ ap (end_then (bit ∷ bits) side)
         (nodes_at-down due table room (length bits) (suc room - suc (length bits)) after (omega arith))
 
--- what a line says
+-- Nodes with the lines of a format.
 module _ (format : Format) (most : ℕ) (table : List Label) where
   abbrev pub due_in : Place → Result (DueLine × Place) CertFault
   due_in = line_due_at (format_number format) most (length table)
 
-  -- nodes of a format
+  -- each kind of node is allowed in the format if those below it are
   leaf-kind : (f : Format) (number : ℕ) → IsNodeOf f (Leaf number)
   leaf-kind One number = tt
   leaf-kind Two number = tt
@@ -137,13 +137,13 @@ module _ (format : Format) (most : ℕ) (table : List Label) where
   chain-kind One cost set bits side end two = absurd (omega arith)
   chain-kind Two cost set bits side end two = tt
 
-  -- a chain's line has a bit
+  -- the line of a chain that was read has a bit
   pub chain-bits : (place after : Place) (cost : ℕ) (bits : List Bool) (side : ℕ) (numbers : List ℕ) → due_in place ≡ Ok (ChainLine cost bits side numbers, after)
       → 0 < length bits
   chain-bits place after cost bits side numbers is =
       let said = line_due-found (format_number format) most (length table) place (ChainLine cost bits side numbers, after) is in said.2.3
 
-  -- a node whose lines follow the old ones
+  -- a leaf that was read, and its line after the old ones
   pub read-leaf : (room : ℕ) (place after : Place) (number : ℕ) (old new : List DueLine) → due_in place ≡ Ok (PlainLine (LeafLine number), after)
       → new ≡ old ++ PlainLine (LeafLine number) ∷ [] → IsReadNode format most table room place old new after
   read-leaf room place after number old new due is =

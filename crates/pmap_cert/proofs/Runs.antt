@@ -1,4 +1,4 @@
--- What is compacted opens to what it was made from, and has no run left.
+-- A compacted tree opens to the original and has no run left.
 use Rattle.std.proofs.Common.{◌≡◌, ℕ, zero, suc, ◌+◌, ◌*◌, ◌<◌, ◌≤◌, ◌∙◌, Bool, true, false, cond, ◌||◌, List, [], ◌∷◌, Option, Some, None, arith, length, nat_le, refl, sym, ap, ap₂, subst, bytes_eq}
 use Rattle.std.specs.Fmt.{digits}
 use Rattle.std.proofs.lemmas.Bool.{cond-false, cond-true, false≢true, le-leb, leb-true}
@@ -12,7 +12,7 @@ use Rattle.pmap_cert.specs.Compacting.{HasNoRun, IsSameShape, IsWay, OpensTo, co
 use Rattle.pmap_cert.specs.LastAddress.{last_address_certificate, last_address_lines, last_address_opened}
 use Rattle.pmap_cert.proofs.Sets.{bytes_eq-same}
 
--- the lines of a run
+-- each bit of a run takes at least two lines of the node
 pub lines-run : (side : Label) (node : Tree) → line_count (run_end side node) + 2 * length (run_bits side node) ≤ line_count node
 lines-run side (LeafNode x) = omega arith
 lines-run side (ChainNode claim bits s end) = omega arith
@@ -46,7 +46,7 @@ plain-run side (InnerNode claim lower upper) h =
     by_test false true low up = low
     by_test false false low up = h
 
--- a run is a way
+-- the bits of a run are a way down the node
 module _ (IsEnd : Tree → Type 0) (side : Label) where
   lower-way : (claim : Pair) (bits : List Bool) (lower upper : Tree) → is_side side lower ≡ true →
       IsWay IsEnd side bits upper → IsWay IsEnd side (true ∷ bits) (InnerNode claim lower upper)
@@ -76,11 +76,11 @@ module _ (IsEnd : Tree → Type 0) (side : Label) where
       by_test false true e f low up h = upper-way claim (run_bits side lower) lower upper f (low h)
       by_test false false e f low up h = h
 
--- it leads to its end
+-- the way of a run leads to the run's end
 pub run-way : (side : Label) (node : Tree) → IsWay (λ end. end ≡ run_end side node) side (run_bits side node) node
 run-way side node = way-run (λ end. end ≡ run_end side node) side node refl
 
--- and no way with that side label is longer
+-- a node that is a leaf with the side label has no way with a bit
 no-bits : (side : Label) (bits : List Bool) (node : Tree) → is_side side node ≡ true → IsWay (λ end. Unit {0}) side bits node → length bits ≡ 0
 no-bits side [] node e way = refl
 no-bits side (true ∷ bits) (LeafNode x) e way = absurd way
@@ -122,7 +122,7 @@ opens-itself (LeafNode x) h = refl
 opens-itself (InnerNode claim lower upper) h = (refl, opens-itself lower h.0, opens-itself upper h.1)
 opens-itself (ChainNode claim bits side end) h = absurd h
 
--- by the side label of an inner node, and whether its run is long
+-- an inner node with a long run is compacted to a chain, and one with a short run to an inner node
 run_compacted-chain : (inside : Tree → Tree) (claim : Pair) (lower upper : Tree) (side : Label) →
     nat_le 2 (length (run_bits side (InnerNode claim lower upper))) ≡ true →
     run_compacted inside claim lower upper (Some side)
@@ -137,7 +137,7 @@ run_compacted-node inside claim lower upper side short =
     cond-false (nat_le 2 (length (run_bits side (InnerNode claim lower upper))))
     (ChainNode claim (run_bits side (InnerNode claim lower upper)) side (inside (run_end side (InnerNode claim lower upper)))) _ short
 
--- what is said of an inner node compacted is said of a chain and of the node itself
+-- what holds of both possible results of compacting an inner node, a chain or an inner node, holds of the result
 module _ (inside : Tree → Tree) (claim : Pair) (lower upper : Tree) (Is : Tree → Type 0) where
   pub by_run : (o : Option Label) →
       ((side : Label) → o ≡ Some side → nat_le 2 (length (run_bits side (InnerNode claim lower upper))) ≡ true →
@@ -155,7 +155,7 @@ module _ (inside : Tree → Tree) (claim : Pair) (lower upper : Tree) (Is : Tree
           subst Is (sym (run_compacted-node inside claim lower upper side e))
           (node (λ other same. subst (λ (s : Label). nat_le 2 (length (run_bits s (InnerNode claim lower upper))) ≡ false) (same_Some side other same) e))
 
--- what a tree without chains is compacted to opens to that tree
+-- a tree without chains, compacted, opens to the original
 pub compacted_in-opens : (steps : ℕ) (t : Tree) → IsPlain t → OpensTo (compacted_in steps t) t
 unfolding compacted_in
 compacted_in-opens zero t h = opens-itself t h
@@ -171,7 +171,7 @@ compacted_in-opens (suc steps) (InnerNode claim lower upper) h =
     ))
     (λ short. (refl, compacted_in-opens steps lower h.0, compacted_in-opens steps upper h.1))
 
--- what opens to a tree has, opened, its shape and its labels
+-- if a node opens to a tree, its opened node has the tree's shape and labels
 module _ (side : Label) (IsEnd : Tree → Type 0) (end : Tree) (shapes : (t : Tree) → IsEnd t → IsSameShape end t) where
   shape-way : (bits : List Bool) (t : Tree) → IsWay IsEnd side bits t → IsSameShape (links bits side end) t
   shape-way [] t way = shapes t way
@@ -203,7 +203,7 @@ shape-opens (InnerNode claim lower upper) (InnerNode claim' lower' upper') h =
 shape-opens (ChainNode claim bits side end) t h =
     shape-chain side (OpensTo end) (opened end) (shape-opens end) claim bits t h.0 h.2
 
--- a leaf stays the leaf that it is
+-- a compacted node is a leaf with the label exactly if the original is
 side-same : (x : Label) (steps : ℕ) (t : Tree) → IsPlain t → is_side x (compacted_in steps t) ≡ is_side x t
 unfolding compacted_in
 side-same x zero t h = refl
@@ -212,7 +212,7 @@ side-same x (suc steps) (ChainNode claim bits side end) h = absurd h
 side-same x (suc steps) (InnerNode claim lower upper) h =
     by_run (compacted_in steps) claim lower upper (λ c. is_side x c ≡ false) (side_of lower upper) (λ side e long. refl) (λ short. refl)
 
--- and an inner node with a leaf in a half was one before
+-- if a compacted node has a leaf with the label in one half, so has the original
 side-less : (x : Label) (steps : ℕ) (t : Tree) → IsPlain t → has_side x (compacted_in steps t) ≡ true → has_side x t ≡ true
 unfolding compacted_in
 side-less x zero t h has = has
@@ -223,7 +223,7 @@ side-less x (suc steps) (InnerNode claim lower upper) h has =
     (side_of lower upper) (λ side e long known. absurd (false≢true known))
     (λ short known. ap₂ ◌||◌ (sym (side-same x steps lower h.0)) (sym (side-same x steps upper h.1)) ∙ known) has
 
--- if a half of a node is a leaf with the label, the run of that label has a bit
+-- if one half of a node is a leaf with the label, the run of that label has a bit
 run-some : (x : Label) (t : Tree) → has_side x t ≡ true → 0 < length (run_bits x t)
 run-some x (LeafNode y) h = absurd (false≢true h)
 run-some x (ChainNode claim bits side end) h = absurd (false≢true h)
@@ -234,7 +234,7 @@ run-some x (InnerNode claim lower upper) h = by_test (is_side x lower) (is_side 
     by_test false true h = omega arith
     by_test false false h = absurd (false≢true h)
 
--- so if the run is short, no half is an inner node with a leaf of the same label beside it
+-- the run of an inner node has two bits or more
 abbrev IsLong : Pair → Tree → Tree → Type 0
 IsLong claim lower upper =
     (side : Label) × (side_of lower upper ≡ Some side) × (nat_le 2 (length (run_bits side (InnerNode claim lower upper))) ≡ true)
@@ -274,14 +274,14 @@ some-line (LeafNode x) = omega arith
 some-line (InnerNode claim lower upper) = omega arith
 some-line (ChainNode claim bits side end) = omega arith
 
--- a run of two bits leaves less to be compacted
+-- the end of a run of two bits has fewer lines
 less-run : (claim : Pair) (lower upper : Tree) (side : Label) (steps : ℕ) → line_count (InnerNode claim lower upper) ≤ suc steps →
     nat_le 2 (length (run_bits side (InnerNode claim lower upper))) ≡ true →
     line_count (run_end side (InnerNode claim lower upper)) ≤ steps
 less-run claim lower upper side steps few long =
     omega (arith, few, lines-run side (InnerNode claim lower upper), leb-true 2 (length (run_bits side (InnerNode claim lower upper))) long)
 
--- what a tree without chains is compacted to has no run left
+-- a tree without chains, compacted, has no run left
 pub compacted_in-no_run : (steps : ℕ) (t : Tree) → IsPlain t → line_count t ≤ steps → HasNoRun (compacted_in steps t)
 unfolding compacted_in
 compacted_in-no_run zero t h few = let one = some-line t in absurd (omega (arith, one, few))
@@ -300,7 +300,7 @@ compacted_in-no_run (suc steps) (InnerNode claim lower upper) h few =
       compacted_in-no_run steps upper h.1 (omega (arith, few)),
     ))
 
--- more steps than enough change nothing
+-- an inner node is compacted alike by functions that agree on its halves and on its run's end
 run_compacted-same : (inside inside' : Tree → Tree) (claim : Pair) (lower upper : Tree) →
     inside lower ≡ inside' lower → inside upper ≡ inside' upper →
     ((side : Label) → nat_le 2 (length (run_bits side (InnerNode claim lower upper))) ≡ true →
@@ -336,7 +336,7 @@ enough-steps (suc steps) (suc steps') (InnerNode claim lower upper) few few' =
     (λ side long. enough-steps steps steps' (run_end side (InnerNode claim lower upper))
     (less-run claim lower upper side steps few long) (less-run claim lower upper side steps' few' long)) (side_of lower upper)
 
--- an inner node compacted, by its run
+-- an inner node is compacted by its run
 pub compacted-inner : (claim : Pair) (lower upper : Tree) →
     compacted (InnerNode claim lower upper) ≡ run_compacted compacted claim lower upper (side_of lower upper)
 unfolding compacted_in
@@ -356,7 +356,7 @@ pub compacted-leaf : (x : Label) → compacted (LeafNode x) ≡ LeafNode x
 unfolding compacted_in
 compacted-leaf x = refl
 
--- the worked example
+-- the opened certificate of the worked example, compacted, is that with the chain
 pub last-compacted : compact last_address_opened ≡ last_address_certificate
 unfolding compacted_in
 last-compacted = refl

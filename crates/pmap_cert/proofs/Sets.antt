@@ -12,20 +12,20 @@ use Rattle.pmap_cert.specs.MinimalPair.{has_inherited}
 pub bytes_eq-same : (x : Label) → bytes_eq x x ≡ true
 bytes_eq-same x = (bytes_eq-Decides x x).1 refl
 
--- a set of one label has that label
+-- a set of one label has this label
 pub has-own : (x : Label) → has (x ∷ []) x ≡ true
 has-own x = rw (bytes_eq-same x)
 
--- and no other
+-- a set of one label has no other label
 pub has-single : (x y : Label) → has (x ∷ []) y ≡ true → x ≡ y
 has-single x y h = sym ((bytes_eq-Decides y x).0 (sym (or-false (bytes_eq y x)) ∙ h))
 
--- what the joined list has
+-- a joined list has the labels of both lists
 pub has-append : (xs ys : List Label) (x : Label) → has (xs ++ ys) x ≡ (has xs x || has ys x)
 has-append [] ys x = refl
 has-append (y ∷ xs) ys x = let ih = has-append xs ys x in rw ih (sym (or_assoc (bytes_eq x y) (has xs x) (has ys x)))
 
--- what the labels of a list that pass a set's test have
+-- a list filtered by a set has the labels that both have
 has-filter-step : (a b c d e f : Bool) → (a ≡ true → c ≡ d) → e ≡ (b && d) → f ≡ cond c (a || e) e → f ≡ ((a || b) && d)
 has-filter-step a b c d e f same ih is = grind arith
 
@@ -42,14 +42,14 @@ has-filter s (y ∷ xs) x =
     (has-filter s xs x)
     (has-cond (has s y) (y ∷ filter (has s) xs) (filter (has s) xs) x)
 
--- what a label costs that a block whose set is s inherits: nothing if the set has it, otherwise one entry
+-- the cost of an inherited label for a block with the set s: 0 if the set has it, otherwise 1 entry
 abbrev pub miss : Option Label → List Label → ℕ
 miss h s = cond (has_inherited s h) 0 1
 
 pub miss-le : (h : Option Label) (s : List Label) → miss h s ≤ 1
 miss-le h s = grind arith
 
--- the exact pair costs no more than both halves
+-- an inherited label costs with the exact pair no more than with both halves
 misses-union : (a b c : Bool) → false ≡ (a && b) → c ≡ (a || b) → 1 + cond c 0 1 ≤ cond a 0 1 + cond b 0 1
 misses-union a b c none is = grind arith
 

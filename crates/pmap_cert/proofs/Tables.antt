@@ -18,7 +18,7 @@ use Rattle.pmap_cert.specs.declared.fault.CertFault.{CertFault}
 use Rattle.pmap_cert.specs.declared.fault.CertFaultKind.TheVariants.{BadLabelTable}
 use Rattle.pmap_cert.proofs.Pieces.{found_at, line_from-cons}
 
--- the value of a step that did not fail
+-- if two steps succeed, the first has a value with which the second succeeds
 pub bind_ok : {A B : Type 0} (r : Result A CertFault) (f : A → Result B CertFault) (y : B) → (r >>= f) ≡ Ok y → (x : A) × (r ≡ Ok x) × (f x ≡ Ok y)
 bind_ok (Ok x) f y e = (x, refl, e)
 bind_ok (Err d) f y e = absurd cc
@@ -26,14 +26,14 @@ bind_ok (Err d) f y e = absurd cc
 pub ok_is : {A : Type 0} (x y : A) → ◌≡◌ {A = Result A CertFault} (Ok x) (Ok y) → x ≡ y
 ok_is x y e = cc
 
--- the label with a number has this number
+-- the label of the table with the number n has the number n
 pub place_of-text_at : (table : List Label) (n : ℕ) → IsLabelTable table → n < length table → place_of table (text_at table n) ≡ n
 place_of-text_at table n ok h =
     let text : Label = get_or table n [] in
     ap (place_of table) (unwrap_or-slice_get table n [])
     ∙ (found_at (bytes_eq text) table n (ok.places n text (slice_get-get_or table n [] h))).1
 
--- a label of the table is the one with its number
+-- a label of the table is the label with its number
 pub text_at-place_of : (table : List Label) (x : Label) → place_of table x < length table → text_at table (place_of table x) ≡ x
 text_at-place_of table x h =
     unwrap_or-slice_get table (place_of table x) []
@@ -49,7 +49,7 @@ texts-places table low [] rising = refl
 texts-places table low (x ∷ xs) rising =
     λ i. text_at-place_of table x rising.1 i ∷ texts-places table (place_of table x + 1) xs rising.2 i
 
--- one more label is read from its line
+-- a label that is read is the next line, a label, and not in the table
 label_by-found : (table : List Label) (place : Place) (number : ℕ) (pieces : List (List ℕ)) (x : Label × Place) → label_by table place (line_from number pieces) ≡ Ok x
     → (pieces ≡ x.0 ∷ x.1.pieces) × (is_label x.0 ≡ true) × (has_label table x.0 ≡ false)
 label_by-found table place number [] x e = absurd cc
@@ -70,7 +70,7 @@ label_by-found table place number (line ∷ piece ∷ pieces) x e = by (is_label
         failed : ◌≡◌ {A = Result (Label × Place) CertFault} (Err (fault_at place BadLabelTable)) (Ok x) → ⊥
         failed e = cc
 
--- a table is the labels of the lines that were read
+-- the labels that are read are those of the next lines, and the table with them is a label table
 pub labels_at-found : (left : ℕ) (table : List Label) (place : Place) (x : List Label × Place) → labels_at left table place ≡ Ok x → IsLabelTable table → length table + left ≤ 65536
     → (new : List Label) × (x.0 ≡ table ++ new) × (place.pieces ≡ new ++ x.1.pieces) × IsLabelTable x.0 × (length new ≡ left)
 labels_at-found zero table place x e ok few =
@@ -89,7 +89,7 @@ labels_at-found (suc left) table place x e ok few =
       omega (arith, rest.4),
     )
 
--- a label that is appended differs from the earlier ones
+-- the first position that passes a test stays the same if more is appended
 place-before : {X : Type 0} (p : X → Bool) (xs ys : List X) → position_or_len p xs < length xs → position_or_len p (xs ++ ys) ≡ position_or_len p xs
 place-before p [] ys h = absurd (omega arith)
 place-before p (x ∷ xs) ys h = by (p x) refl (λ less. place-before p xs ys less)

@@ -1,4 +1,4 @@
--- What is written of a node by its numbers is the text of the tree that it is.
+-- The text that is written by label numbers is that of the certificate with label texts.
 use Rattle.std.proofs.Common.{◌≡◌, ℕ, zero, suc, ◌+◌, ◌<◌, ◌∙◌, List, [], ◌∷◌, ◌++◌, Some, length, map, take, get_or, sym, ap, subst}
 use Rattle.std.specs.Fmt.{decimal}
 use Rattle.std.specs.List.{flat_map, join_with_byte, slice_get}
@@ -16,18 +16,18 @@ use Rattle.pmap_cert.specs.Node.{Chain, HasChainForm, Inner, Leaf, Node, line_te
 use Rattle.pmap_cert.proofs.ChainWords.{end-room, other-room}
 use Rattle.pmap_cert.proofs.Tables.{place_of-text_at, places-texts}
 
--- numbers after a word, each with the space before it
+-- a word and numbers joined by spaces are the word and each number after a space
 pub joined-numbers : (word : List ℕ) (ns : List ℕ) → join_with_byte 32 (word ∷ map decimal ns) ≡ word ++ flat_map (λ n. 32 ∷ decimal n) ns
 joined-numbers word [] = sym (append-nil word)
 joined-numbers word (n ∷ ns) = ap (λ text. word ++ 32 ∷ text) (joined-numbers (decimal n) ns)
 
--- a number of one digit
+-- a space and a digit are a number of one digit after a space
 pub pushed-digit : (out o1 o2 : List ℕ) (n d : ℕ) → n < 10 → d ≡ 48 + n → o1 ≡ out ++ 32 ∷ [] → o2 ≡ o1 ++ d ∷ [] → o2 ≡ out ++ 32 ∷ decimal n
 pushed-digit out o1 o2 n d small digit e1 e2 =
     e2 ∙ ap (λ t. t ++ d ∷ []) e1 ∙ append_assoc out (32 ∷ []) (d ∷ [])
     ∙ ap (λ t. out ++ 32 ∷ t) (ap (λ (x : ℕ). x ∷ []) digit ∙ sym (decimal_digit n small))
 
--- lines one after the other
+-- the text of joined lines is that of the first and then that of the others
 pub text_of_lines-append : (lines more : List (List ℕ)) → text_of_lines (lines ++ more) ≡ text_of_lines lines ++ text_of_lines more
 text_of_lines-append lines more = flat_map-append (λ line. line ++ 10 ∷ []) lines more
 
@@ -59,25 +59,25 @@ module _ (table : List Label) (ok : IsLabelTable table) where
     other-room (HasChainForm (length table) end) (HasNodeForm table (tree_of table end)) (λ left fits. node_form end left fits) bits room form.4,
   )
 
--- four pieces are appended one after the other
+-- four texts appended one after the other
 pub pushed : (out a b c d o1 o2 o3 o4 : List ℕ) → o1 ≡ out ++ a → o2 ≡ o1 ++ b → o3 ≡ o2 ++ c → o4 ≡ o3 ++ d → o4 ≡ out ++ (a ++ ((b ++ c) ++ d))
 pushed out a b c d o1 o2 o3 o4 e1 e2 e3 e4 =
     e4 ∙ ap (λ t. t ++ d) (e3 ∙ ap (λ t. t ++ c) (e2 ∙ ap (λ t. t ++ b) e1)) ∙ simp append_assoc
 
--- a header's pieces
+-- the pieces of a header appended one after the other
 pub pushed-header : (out name format version count o1 o2 o3 o4 o5 o6 : List ℕ) → o1 ≡ out ++ name → o2 ≡ o1 ++ format → o3 ≡ o2 ++ 32 ∷ [] → o4 ≡ o3 ++ version → o5 ≡ o4 ++ count
     → o6 ≡ o5 ++ 10 ∷ [] → o6 ≡ out ++ (name ++ ((format ++ 32 ∷ (version ++ count)) ++ 10 ∷ []))
 pushed-header out name format version count o1 o2 o3 o4 o5 o6 e1 e2 e3 e4 e5 e6 =
     e6 ∙ ap (λ t. t ++ 10 ∷ []) (e5 ∙ ap (λ t. t ++ count) (e4 ∙ ap (λ t. t ++ version) (e3 ∙ ap (λ t. t ++ 32 ∷ []) (e2 ∙ ap (λ t. t ++ format) e1))))
     ∙ simp append_assoc
 
--- a chain's pieces
+-- the pieces of a chain's line appended one after the other
 pub pushed-chain : (out a b c d e f o1 o2 o3 o4 o5 o6 : List ℕ) → o1 ≡ out ++ a → o2 ≡ o1 ++ b → o3 ≡ o2 ++ c → o4 ≡ o3 ++ d → o5 ≡ o4 ++ e → o6 ≡ o5 ++ f
     → o6 ≡ out ++ (a ++ ((b ++ (c ++ (d ++ e))) ++ f))
 pushed-chain out a b c d e f o1 o2 o3 o4 o5 o6 e1 e2 e3 e4 e5 e6 =
     e6 ∙ ap (λ t. t ++ f) (e5 ∙ ap (λ t. t ++ e) (e4 ∙ ap (λ t. t ++ d) (e3 ∙ ap (λ t. t ++ c) (e2 ∙ ap (λ t. t ++ b) e1)))) ∙ simp append_assoc
 
--- one more label of a table
+-- one more label of a table appended with its line feed
 pub pushed-label : (out o o1 o2 : List ℕ) (table : List Label) (i : ℕ) (x : Label) → o ≡ out ++ text_of_lines (take i table) → o1 ≡ o ++ x → o2 ≡ o1 ++ 10 ∷ [] → slice_get table i ≡ Some x
     → o2 ≡ out ++ text_of_lines (take (i + 1) table)
 pushed-label out o o1 o2 table i x e e1 e2 there =
@@ -89,7 +89,7 @@ pushed-label out o o1 o2 table i x e e1 e2 there =
     e2 ∙ ap (λ t. t ++ 10 ∷ []) (e1 ∙ ap (λ t. t ++ x) e) ∙ append_assoc (out ++ text_of_lines lines) x (10 ∷ [])
     ∙ append_assoc out (text_of_lines lines) (x ++ 10 ∷ []) ∙ ap (λ t. out ++ t) (sym last)
 
--- the header, the labels and the nodes are the text
+-- the header, the labels and the lines of the nodes are the certificate's text
 pub whole_text : (format : ℕ) (version : Version) (table : List Label) (root : Node) (room : ℕ) (nodes : List DueLine) (o1 o2 : List ℕ) → IsLabelTable table → HasChainForm (length table) root room
     → nodes ≡ lines_of root → o1 ≡ text_of_lines (format_header format version (length table) ∷ table) → o2 ≡ o1 ++ text_of_lines (map line_text nodes)
     → o2 ≡ certificate_text (record { format = format; version = version; table = table; root = tree_of table root })

@@ -9,13 +9,13 @@ use Rattle.pmap_cert.specs.declared.certificate.Certificate.{Certificate}
 use Rattle.pmap_cert.specs.declared.fault.CertFault.{CertFault}
 use Rattle.pmap_cert.specs.declared.fault.CertFaultKind.TheVariants.{NoMemory}
 
--- a certificate of the code, which has label numbers, as the certificate that it is
+-- the model of a certificate of the code, with label texts in place of label numbers
 abbrev pub certificate_of : Certificate → CertificateModel
 certificate_of c =
     record { format = format_number c.format; version = c.version; table = c.labels; root = tree_of c.labels c.root }
 
--- What reading a text as a certificate returns: the certificate whose text it is, or the text's first fault. The text
--- of a certificate is read as that certificate, unless memory runs out, which is reported with the line 0.
+-- The result of reading a text as a certificate: the certificate whose text it is, or the text's first fault. The text
+-- of a certificate is read as that certificate unless an allocation fails, which is reported with line 0.
 pub record ReturnsCertificate (text : List ℕ) (result : Result Certificate CertFault) : Type 0 where
   pub ok : IfOk result (λ c. text ≡ certificate_text (certificate_of c))
   pub only : (c : CertificateModel) → HasFormatText c → text ≡ certificate_text c

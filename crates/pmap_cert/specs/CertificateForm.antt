@@ -7,8 +7,8 @@ use Rattle.pmap_cert.specs.CertificateModel.{CertificateModel, ChainNode, InnerN
 use Rattle.pmap_cert.specs.CertificateText.{place_of}
 use Rattle.pmap_cert.specs.Chain.{IsOfFormat}
 
--- The certificates that have a text: each label is in the table, sets are listed by rising numbers, costs are below
--- 2 ^ 32, and no inner node is as deep as an address has bits, nor does a chain go deeper.
+-- The certificates that have a text: each label is in the table, sets are listed by rising numbers, costs are below 2 ^
+-- 32, and no node is deeper than an address has bits.
 
 -- the numbers strictly rise, are below the bound, and not below low
 abbrev pub IsRising : ℕ → ℕ → List ℕ → Type 0
@@ -19,14 +19,14 @@ pub IsRising-prop : (bound low : ℕ) (ns : List ℕ) → IsProp (IsRising bound
 IsRising-prop bound low [] = Unit-prop
 IsRising-prop bound low (n ∷ ns) = λ x y i. (le_prop x.0 y.0 i, le_prop x.1 y.1 i, IsRising-prop bound (n + 1) ns x.2 y.2 i)
 
--- A chain in a room of so many nested nodes leaves enough room for the node at its end: each of its bits counts as one.
+-- The node at a chain's end fits into the room below the chain: each of the chain's bits takes one level.
 abbrev pub HasRoomBelow : (ℕ → Type 0) → List Bool → ℕ → Type 0
 HasRoomBelow Fits [] room = Fits room
 HasRoomBelow Fits (bit ∷ bits) zero = ⊥
 HasRoomBelow Fits (bit ∷ bits) (suc room) = HasRoomBelow Fits bits room
 
--- Below a node there are at most so many nodes one inside the other, each label is in the table, each claim is a cost
--- below 2 ^ 32 and a set listed by rising numbers, and each chain has a bit.
+-- The node has at most `room` levels below it, each label is in the table, each claim is a cost below 2 ^ 32 and a set
+-- listed by rising numbers, and each chain has a bit.
 abbrev pub HasNodeForm : List Label → Tree → ℕ → Type 0
 HasNodeForm table (LeafNode x) room = place_of table x < length table
 HasNodeForm table (InnerNode claim lower upper) zero = ⊥

@@ -14,16 +14,16 @@ pub record Pair : Type 0 where
 abbrev pub has : List Label → Label → Bool
 has s x = has_label s x
 
--- A node: a leaf with a label, an inner node with what it claims of its block and the nodes of the block's halves, or a
--- chain. A chain represents nested inner nodes, each with a leaf in one half and the next node in the other. It has
--- the claim of the first of them, a bit for each of them that is 1 if the way continues in the upper half, the one
--- label of all leaves beside the way, and the node at the way's end.
+-- A node: a leaf with a label, an inner node with its claim and the nodes of its block's halves, or a chain. A chain
+-- represents nested inner nodes, each with a leaf in one half and the next node in the other. It has the claim of the
+-- first of them, a bit for each of them that is 1 if the way continues in the upper half, the label of all leaves
+-- beside the way, and the node at the way's end.
 pub data Tree : Type 0 where
   LeafNode : (x : Label) → Tree
   InnerNode : (claim : Pair) (lower upper : Tree) → Tree
   ChainNode : (claim : Pair) (bits : List Bool) (side : Label) (end : Tree) → Tree
 
--- what a node claims: a leaf the cost 0 and its label alone
+-- the claim of a node; a leaf claims the cost 0 and only its label
 abbrev pub claim_of : Tree → Pair
 claim_of (LeafNode x) = record { cost = 0; labels = x ∷ [] }
 claim_of (InnerNode claim lower upper) = claim

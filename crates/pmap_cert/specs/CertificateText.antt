@@ -14,7 +14,7 @@ use Rattle.pmap_cert.specs.CertificateModel.{CertificateModel, ChainNode, InnerN
 abbrev pub place_of : List Label → Label → ℕ
 place_of table x = position_or_len (bytes_eq x) table
 
--- the words of a line with single spaces between
+-- the line of these words, with single spaces between
 abbrev pub line_of : List (List ℕ) → List ℕ
 line_of words = join_with_byte 32 words
 
@@ -22,7 +22,6 @@ abbrev pub version_word : Version → List ℕ
 version_word V4 = codes "ipv4"
 version_word V6 = codes "ipv6"
 
--- the word of a format
 abbrev pub format_word : ℕ → List ℕ
 format_word format = if format == 1 then codes "1" else codes "2"
 
@@ -62,14 +61,13 @@ node_lines table (InnerNode claim lower upper) =
 node_lines table (ChainNode claim bits side end) =
     chain_line claim.cost bits (place_of table side) (map (place_of table) claim.labels) ∷ node_lines table end
 
--- the header, the labels of the table in order, and the nodes
+-- the lines of a certificate: the header, the labels of the table in order, and the nodes
 abbrev pub certificate_lines : CertificateModel → List (List ℕ)
 certificate_lines c = format_header c.format c.version (length c.table) ∷ (c.table ++ node_lines c.table c.root)
 
--- each line with its line feed
+-- the text of these lines, each ended by a line feed
 abbrev pub text_of_lines : List (List ℕ) → List ℕ
 text_of_lines lines = flat_map (λ line. line ++ 10 ∷ []) lines
 
--- the text of a certificate
 abbrev pub certificate_text : CertificateModel → List ℕ
 certificate_text c = text_of_lines (certificate_lines c)

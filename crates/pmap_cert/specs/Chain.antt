@@ -5,23 +5,23 @@ use Rattle.pmap_cert.specs.ExactPair.{exact_pair}
 
 -- Chains: their exact pair, and the inner nodes and leaves that they represent.
 
--- the set of a chain of so many bits whose end's set lacks the side label: for one bit the end's set and the side
--- label, for more the side label alone
+-- the set of a chain's exact pair if the end's set lacks the side label: of one bit both, of more the side label alone
 abbrev pub chain_labels : ℕ → Label → List Label → List Label
 chain_labels (suc zero) side s = side ∷ s
 chain_labels _ side s = side ∷ []
 
--- the exact pair of a chain of so many bits, by its side label and what its end claims
+-- the exact pair of a chain of n bits, by its side label and what its end claims
 abbrev pub chain_pair : ℕ → Label → Pair → Pair
 chain_pair n side end =
     if has end.labels side
     then record { cost = end.cost; labels = side ∷ [] }
     else record { cost = end.cost + 1; labels = chain_labels n side end.labels }
 
--- the number of the half that a bit chooses of the block with the number q, and of the half beside it
+-- the number of the half that a bit chooses in the block with the number q
 abbrev pub chosen_half : Bool → ℕ → ℕ
 chosen_half bit q = if bit then 2 * q + 1 else 2 * q
 
+-- the number of the half that a bit doesn't choose in the block with the number q
 abbrev pub side_half : Bool → ℕ → ℕ
 side_half bit q = if bit then 2 * q else 2 * q + 1
 
@@ -35,7 +35,7 @@ abbrev pub links : List Bool → Label → Tree → Tree
 links [] side end = end
 links (bit ∷ bits) side end = link (chain_pair (suc (length bits)) side (claim_of end)) bit side (links bits side end)
 
--- a chain opened, with the top's own claim in place of the exact pair
+-- a chain opened; its topmost inner node has the chain's own claim instead of the exact pair
 abbrev pub chain_opened : Pair → List Bool → Label → Tree → Tree
 chain_opened claim [] side end = end
 chain_opened claim (bit ∷ bits) side end = link claim bit side (links bits side end)
@@ -60,7 +60,7 @@ IsPlain (ChainNode claim bits side end) = ⊥
 abbrev pub IsOfFormat : CertificateModel → Type 0
 IsOfFormat c = ((c.format ≡ 1) × IsPlain c.root) ⊎ (c.format ≡ 2)
 
--- the exact pair of a link: of a side leaf with this label and a node with this pair, in the order of the halves
+-- the exact pair of a link: of a leaf with the side label and a node with this pair, in the order of the halves
 abbrev pub link_pair : Bool → Label → Pair → Pair
 link_pair true side p = exact_pair (claim_of (LeafNode side)) p
 link_pair false side p = exact_pair p (claim_of (LeafNode side))

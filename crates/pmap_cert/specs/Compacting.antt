@@ -4,9 +4,9 @@ use Rattle.std.specs.Str.{bytes_eq}
 use Rattle.pmap_text.specs.MapModel.{Label}
 use Rattle.pmap_cert.specs.CertificateModel.{CertificateModel, ChainNode, InnerNode, LeafNode, Pair, Tree, claim_of}
 
--- Compacting: a chain in the place of each run of inner nodes that each have a leaf of one label in one half.
+-- Compacting: a chain replaces each run of inner nodes that each have a leaf of the same label in one half.
 
--- how many lines a certificate's nodes have
+-- the number of lines of a node and the nodes below it
 abbrev pub line_count : Tree → ℕ
 line_count (LeafNode x) = 1
 line_count (InnerNode claim lower upper) = 1 + line_count lower + line_count upper
@@ -22,15 +22,15 @@ abbrev pub is_side : Label → Tree → Bool
 is_side side (LeafNode x) = bytes_eq x side
 is_side side _ = false
 
--- The longest run of a side label from a node down: the halves that are chosen as long as the other half is a leaf with
--- the side label (if both are, the upper one is chosen) ..
+-- the bits of the longest run of a side label from a node down: a half is chosen as long as the other half is a leaf
+-- with the side label; if both are, the upper one is chosen
 abbrev pub run_bits : Label → Tree → List Bool
 run_bits side (InnerNode claim lower upper) =
     if is_side side lower then true ∷ run_bits side upper
     else (if is_side side upper then false ∷ run_bits side lower else [])
 run_bits side _ = []
 
--- .. and the node at its end
+-- the node at the end of the longest run of a side label from a node down
 abbrev pub run_end : Label → Tree → Tree
 run_end side (InnerNode claim lower upper) =
     if is_side side lower then run_end side upper
@@ -41,8 +41,8 @@ run_end side node = node
 abbrev pub side_of : Tree → Tree → Option Label
 side_of lower upper = option_or (leaf_label lower) (leaf_label upper)
 
--- An inner node compacted, `inside` compacting what is below: if its run has two bits or more, a chain with its claim
--- and those bits, whose end is that of the run compacted, otherwise the node itself with its halves compacted.
+-- An inner node compacted, with `inside` for the nodes below it. If its run has two bits or more, it turns into a chain
+-- with its claim, those bits and the compacted end of the run; otherwise its halves are compacted.
 abbrev pub run_compacted : (Tree → Tree) → Pair → Tree → Tree → Option Label → Tree
 run_compacted inside claim lower upper None = InnerNode claim (inside lower) (inside upper)
 run_compacted inside claim lower upper (Some side) =
@@ -50,7 +50,7 @@ run_compacted inside claim lower upper (Some side) =
     then ChainNode claim (run_bits side (InnerNode claim lower upper)) side (inside (run_end side (InnerNode claim lower upper)))
     else InnerNode claim (inside lower) (inside upper)
 
--- a node compacted, in so many steps down from it
+-- a node compacted down to this many steps below it
 unfoldable pub compacted_in : ℕ → Tree → Tree
 compacted_in zero node = node
 compacted_in (suc steps) (LeafNode x) = LeafNode x
@@ -58,7 +58,7 @@ compacted_in (suc steps) (InnerNode claim lower upper) =
     run_compacted (compacted_in steps) claim lower upper (side_of lower upper)
 compacted_in (suc steps) (ChainNode claim bits side end) = ChainNode claim bits side (compacted_in steps end)
 
--- a node compacted: it has no more steps down than lines
+-- a node compacted; it has fewer steps down than lines
 abbrev pub compacted : Tree → Tree
 compacted node = compacted_in (line_count node) node
 
@@ -69,16 +69,16 @@ compact c =
     then record { format = 2; version = c.version; table = c.table; root = compacted c.root }
     else c
 
--- The way of a chain's bits down a tree: at each inner node the leaf beside the way has the side label, and the node
--- at the way's end meets the condition.
+-- The bits are a way down the tree, with a side leaf beside each inner node's chosen half, to a node that meets
+-- `IsEnd`.
 abbrev pub IsWay : (Tree → Type 0) → Label → List Bool → Tree → Type 0
 IsWay IsEnd side [] t = IsEnd t
 IsWay IsEnd side (true ∷ bits) (InnerNode claim (LeafNode x) upper) = (x ≡ side) × IsWay IsEnd side bits upper
 IsWay IsEnd side (false ∷ bits) (InnerNode claim lower (LeafNode x)) = (x ≡ side) × IsWay IsEnd side bits lower
 IsWay IsEnd side _ _ = ⊥
 
--- The second tree is the first with its chains opened: the labels are the same, and so are the claims, except those of
--- the inner nodes that a chain takes in below its top.
+-- The second tree is the first with its chains opened: the labels are the same, and so are the claims, except at the
+-- inner nodes below a chain's top.
 abbrev pub OpensTo : Tree → Tree → Type 0
 OpensTo (LeafNode x) (LeafNode y) = x ≡ y
 OpensTo (InnerNode claim lower upper) (InnerNode claim' lower' upper') =
@@ -86,14 +86,14 @@ OpensTo (InnerNode claim lower upper) (InnerNode claim' lower' upper') =
 OpensTo (ChainNode claim bits side end) t = (0 < length bits) × (claim ≡ claim_of t) × IsWay (OpensTo end) side bits t
 OpensTo _ _ = ⊥
 
--- two trees have one shape and the same labels at their leaves, whatever their inner nodes claim
+-- two trees have the same shape and the same labels at their leaves, whatever their inner nodes claim
 abbrev pub IsSameShape : Tree → Tree → Type 0
 IsSameShape (LeafNode x) (LeafNode y) = x ≡ y
 IsSameShape (InnerNode claim lower upper) (InnerNode claim' lower' upper') =
     IsSameShape lower lower' × IsSameShape upper upper'
 IsSameShape _ _ = ⊥
 
--- the node is an inner node with a leaf with the label in one half
+-- the node is an inner node, and one of its halves is a leaf with the label
 abbrev pub has_side : Label → Tree → Bool
 has_side side (InnerNode claim lower upper) = is_side side lower || is_side side upper
 has_side side _ = false

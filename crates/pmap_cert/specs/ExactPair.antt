@@ -4,17 +4,16 @@ use Rattle.pmap_cert.specs.CertificateModel.{Pair, has}
 
 -- The exact pair of the pairs of a block's halves.
 
--- the labels of both sets
+-- the labels that both sets have
 abbrev pub common_labels : Pair → Pair → List Label
 common_labels p r = filter (has r.labels) p.labels
 
--- by the labels in common: the sum of the costs and the common labels, or, if there are none, one more and the labels
--- of either set
+-- the exact pair by the common labels: the sum of the costs with these, or, without any, one more with either set's
+-- labels
 abbrev pub exact_pair_by : Pair → Pair → List Label → Pair
 exact_pair_by p r [] = record { cost = p.cost + r.cost + 1; labels = p.labels ++ r.labels }
 exact_pair_by p r (x ∷ xs) = record { cost = p.cost + r.cost; labels = x ∷ xs }
 
--- the exact pair of two pairs
 abbrev pub exact_pair : Pair → Pair → Pair
 exact_pair p r = exact_pair_by p r (common_labels p r)
 

@@ -6,12 +6,11 @@ use Rattle.pmap_cert.specs.declared.format.Format.TheVariants.{One, Two}
 
 -- The format of a certificate of the code.
 
--- its number
 abbrev pub format_number : Format → ℕ
 format_number One = 1
 format_number Two = 2
 
--- the node is one of the format: in format 1 it has no chain
+-- the format allows the node: in format 1 it has no chain
 abbrev pub IsNodeOf : Format → Node → Type 0
 IsNodeOf One node = IsPlainNode node
 IsNodeOf Two node = Unit {0}

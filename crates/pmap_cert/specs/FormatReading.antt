@@ -16,7 +16,7 @@ use Rattle.pmap_cert.specs.declared.fault.CertFaultKind.TheVariants.{BadHeader, 
 
 -- The reading of a certificate's text of either format, line by line, and the first fault of any other text.
 
--- what is left of a text: how many lines were read, and the pieces of the rest between its line feeds, each of which
+-- the rest of a text: the number of lines read so far, and the pieces of the rest between its line feeds; each piece
 -- except the last is a line
 pub record Place : Type 0 where
   pub number : ℕ
@@ -28,7 +28,7 @@ pieces_of text = slice_split (λ b. b == 10) text
 abbrev pub start_of : List ℕ → Place
 start_of text = record { number = 0; pieces = pieces_of text }
 
--- the next line and what follows its line feed
+-- the next line, if there is one, and the rest of the text
 abbrev pub line_from : ℕ → List (List ℕ) → Option (List ℕ × Place)
 line_from number (line ∷ piece ∷ pieces) = Some (line, record { number = number + 1; pieces = piece ∷ pieces })
 line_from number _ = None
@@ -36,27 +36,27 @@ line_from number _ = None
 abbrev pub next_line : Place → Option (List ℕ × Place)
 next_line place = line_from place.number place.pieces
 
--- nothing is left
+-- the text is at its end
 abbrev pub is_ended : List (List ℕ) → Bool
 is_ended ([] ∷ []) = true
 is_ended _ = false
 
--- a fault of the line that comes next
+-- a fault in the next line
 abbrev pub fault_at : Place → CertFaultKind → CertFault
 fault_at place kind = record { kind = kind; line = place.number + 1 }
 
--- the result of a step is passed to the next, and the first fault is the result
+-- the next step gets the result of the first; a fault of the first is a fault of both
 infixl 10 ◌>>=◌
 abbrev pub ◌>>=◌ : {A B : Type 0} → Result A CertFault → (A → Result B CertFault) → Result B CertFault
 (Ok x) >>= f = f x
 (Err e) >>= f = Err e
 
--- what the next line says, with what follows it, or the fault if it says nothing of the kind
+-- the value of a line with the rest of the text, or the fault if the line has no such value
 abbrev pub or_fault : {A : Type 0} → CertFault → Place → Option A → Result (A × Place) CertFault
 or_fault fault after (Some x) = Ok (x, after)
 or_fault fault after None = Err fault
 
--- the number below the bound that the word is the decimal text of
+-- the number whose decimal text the word is, if it is below the bound
 abbrev pub number_below : ℕ → List ℕ → Option ℕ
 number_below bound word =
     if bytes_eq word (decimal (decimal_value word)) && nat_lt (decimal_value word) bound
@@ -81,20 +81,21 @@ label_by table place (Some (line, after)) =
     if is_label line && not (has_label table line) then Ok (line, after) else Err (fault_at place BadLabelTable)
 label_by table place None = Err (fault_at place BadLabelTable)
 
--- one more label, which the table hasn't got yet
+-- reads a label that the table doesn't have yet
 abbrev pub label_at : List Label → Place → Result (Label × Place) CertFault
 label_at table place = label_by table place (next_line place)
 
--- the table with so many labels more
+-- reads `left` more labels of a table
 abbrev pub labels_at : ℕ → List Label → Place → Result (List Label × Place) CertFault
 labels_at zero table place = Ok (table, place)
 labels_at (suc left) table place = label_at table place >>= (λ label. labels_at left (table ++ label.0 ∷ []) label.1)
 
--- the numbers below the bound that words are, if they rise and the first is not below low
+-- a first number that is not below low, and those that follow it
 abbrev pub onto_numbers : ℕ → Option ℕ → (ℕ → Option (List ℕ)) → Option (List ℕ)
 onto_numbers low (Some n) others = if nat_le low n then option_map (λ ns. n ∷ ns) (others (n + 1)) else None
 onto_numbers low None others = None
 
+-- the numbers that the words are, if these rise, are below the bound, and the first is not below low
 abbrev pub rising_numbers : ℕ → ℕ → List (List ℕ) → Option (List ℕ)
 rising_numbers bound low [] = Some []
 rising_numbers bound low (word ∷ words) =
@@ -105,18 +106,18 @@ pub data NodeLine : Type 0 where
   LeafLine : (number : ℕ) → NodeLine
   InnerLine : (cost : ℕ) (numbers : List ℕ) → NodeLine
 
--- a leaf's words after the first
+-- the line of a leaf, by its words after the first
 abbrev pub leaf_by : ℕ → List (List ℕ) → Option NodeLine
 leaf_by count (number ∷ []) = option_map LeafLine (number_below count number)
 leaf_by count _ = None
 
--- an inner node's words after the first
+-- the line of an inner node, by its words after the first
 abbrev pub inner_by : ℕ → List (List ℕ) → Option NodeLine
 inner_by count (cost ∷ numbers) =
     option_map (λ claim. InnerLine claim.0 claim.1) (both (number_below (2 ^ 32) cost) (rising_numbers count 0 numbers))
 inner_by count [] = None
 
--- the words of a node's line, in a certificate of so many labels
+-- the line of a leaf or an inner node, by its words, in a certificate of `count` labels
 abbrev pub node_words : ℕ → List (List ℕ) → Option NodeLine
 node_words count (word ∷ words) =
     if bytes_eq word (codes "l") then leaf_by count words
@@ -127,7 +128,7 @@ node_words count [] = None
 abbrev pub named_format : List ℕ → Option ℕ
 named_format word = if bytes_eq word (codes "1") then Some 1 else (if bytes_eq word (codes "2") then Some 2 else None)
 
--- the format, the version and the number of labels, at most 65536, that the words of a header say
+-- the format, the version and the number of labels, at most 65536, of a header with these words
 abbrev pub format_header_of : List (List ℕ) → Option (ℕ × (Version × ℕ))
 format_header_of (name ∷ format ∷ version ∷ count ∷ []) =
     if bytes_eq name (codes "flowlabel-cert")
@@ -139,7 +140,7 @@ abbrev pub format_header_by : Place → Option (List ℕ × Place) → Result ((
 format_header_by place (Some (line, after)) = or_fault (fault_at place BadHeader) after (format_header_of (words_of line))
 format_header_by place None = Err (fault_at place BadHeader)
 
--- the header
+-- reads the header
 abbrev pub format_header_at : Place → Result ((ℕ × (Version × ℕ)) × Place) CertFault
 format_header_at place = format_header_by place (next_line place)
 
@@ -149,7 +150,7 @@ pub data DueLine : Type 0 where
   PlainLine : (line : NodeLine) → DueLine
   ChainLine : (cost : ℕ) (bits : List Bool) (side : ℕ) (numbers : List ℕ) → DueLine
 
--- the bits that a word of one to so many digits 0 and 1 writes
+-- the bits of a word of 1 to `most` digits 0 and 1
 abbrev pub bits_of : ℕ → List ℕ → Option (List Bool)
 bits_of most [] = None
 bits_of most (digit ∷ digits) =
@@ -157,30 +158,30 @@ bits_of most (digit ∷ digits) =
     then Some (map (λ d. d == 49) (digit ∷ digits))
     else None
 
--- a chain's words after the first, in a certificate with so many labels, for addresses of so many bits
+-- the line of a chain, by its words after the first, in a certificate of `count` labels for addresses of `most` bits
 abbrev pub chain_by : ℕ → ℕ → List (List ℕ) → Option DueLine
 chain_by most count (cost ∷ bits ∷ side ∷ numbers) =
     option_map (λ chain. ChainLine chain.0.0 chain.0.1 chain.1.0 chain.1.1)
     (both (both (number_below (2 ^ 32) cost) (bits_of most bits)) (both (number_below count side) (rising_numbers count 0 numbers)))
 chain_by most count _ = None
 
--- the words of a node's line: of a chain in format 2 alone
+-- the line of a node by its words; only format 2 has chains
 abbrev pub due_words : ℕ → ℕ → ℕ → List (List ℕ) → Option DueLine
 due_words format most count (word ∷ words) =
     if format == 2 && bytes_eq word (codes "c") then chain_by most count words else option_map PlainLine (node_words count (word ∷ words))
 due_words format most count [] = None
 
--- the fault if a node is due and no line follows: the text has ended, or its last line has no line feed
+-- the line of the next node; if there is no line, the text has ended or its last line has no line feed
 abbrev pub line_due_by : ℕ → ℕ → ℕ → Place → Option (List ℕ × Place) → Result (DueLine × Place) CertFault
 line_due_by format most count place (Some (line, after)) = or_fault (fault_at place BadNode) after (due_words format most count (words_of line))
 line_due_by format most count place None = Err (fault_at place (if is_ended place.pieces then NodesMissing else BadNode))
 
--- the line of the node that is due
+-- reads the line of the next node
 abbrev pub line_due_at : ℕ → ℕ → ℕ → Place → Result (DueLine × Place) CertFault
 line_due_at format most count place = line_due_by format most count place (next_line place)
 
--- The node of a line, if so many nodes may be nested from here: `inside d` reads a node with room for d more below it,
--- which is one less below an inner node, and as many less below a chain as it has bits.
+-- The node of a line, with at most `room` levels below it. `inside d` reads a node that is d + 1 levels below: a half
+-- of an inner node is one level below it, and a chain's end as many levels as the chain has bits.
 abbrev pub due_node : List Label → ℕ → Place → (ℕ → Place → Result (Tree × Place) CertFault) → DueLine → Place → Result (Tree × Place) CertFault
 due_node table room place inside (PlainLine (LeafLine number)) after = Ok (LeafNode (text_at table number), after)
 due_node table room place inside (PlainLine (InnerLine cost numbers)) after =
@@ -193,8 +194,8 @@ due_node table room place inside (ChainLine cost (bit ∷ bits) side numbers) af
     Ok (ChainNode (record { cost = cost; labels = map (text_at table) numbers }) (bit ∷ bits) (text_at table side) end.0, end.1))
     else Err (fault_at place TooDeep)
 
--- The node that is due and those below it, with `due` for its line: it is so many bits below a node below which so
--- many nodes may be nested.
+-- Reads the next node and those below it, with `due` for its line. It is `down` levels below a node that may have
+-- `room` levels below it.
 unfoldable pub nodes_at : (Place → Result (DueLine × Place) CertFault) → List Label → ℕ → ℕ → Place → Result (Tree × Place) CertFault
 nodes_at due table zero down place =
     due place >>= (λ line. due_node table zero place (λ deeper after. Err (fault_at place TooDeep)) line.0 line.1)
@@ -202,7 +203,7 @@ nodes_at due table (suc room) zero place =
     due place >>= (λ line. due_node table (suc room) place (nodes_at due table room) line.0 line.1)
 nodes_at due table (suc room) (suc down) place = nodes_at due table room down place
 
--- nothing follows the last node
+-- the certificate, or a fault if something follows the last node
 abbrev pub ended_by : CertificateModel → Place → Result CertificateModel CertFault
 ended_by c place = if is_ended place.pieces then Ok c else Err (fault_at place NodesLeft)
 

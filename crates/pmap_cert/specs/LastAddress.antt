@@ -8,7 +8,7 @@ use Rattle.pmap_cert.specs.Chain.{opened}
 --   default D   255.255.255.255 X
 -- whose certificate is one chain of 32 bits.
 
--- so many steps into the upper half
+-- n steps into the upper half
 abbrev pub all_upper : ℕ → List Bool
 all_upper zero = []
 all_upper (suc n) = true ∷ all_upper n
@@ -24,7 +24,7 @@ last_address_chain =
 abbrev pub last_address_certificate : CertificateModel
 last_address_certificate = record { format = 2; version = V4; table = last_address_table; root = last_address_chain }
 
--- and with the chain opened, in format 1
+-- the certificate with its chain opened, in format 1
 abbrev pub last_address_opened : CertificateModel
 last_address_opened = record { format = 1; version = V4; table = last_address_table; root = opened last_address_chain }
 

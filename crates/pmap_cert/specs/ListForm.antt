@@ -4,9 +4,9 @@ use Rattle.prefix_keys.specs.Version.{width_of}
 use Rattle.pmap_text.specs.ListModel.{ListModel, Prefix}
 use Rattle.pmap_cert.specs.CertificateModel.{has}
 
--- What the list of a minimal pair is like: it can be kept and printed as a prefix list.
+-- The form of a minimal pair's list, in which it can be kept and printed as a prefix list.
 
--- the first entry begins at a lower address, or both begin at one and the first is shorter
+-- the first entry begins at a lower address, or both begin at the same address and the first has fewer bits
 abbrev pub is_before : Prefix → Prefix → Bool
 is_before p r = nat_lt p.start r.start || (p.start == r.start && nat_lt p.bits r.bits)
 
@@ -15,7 +15,7 @@ abbrev pub IsInOrder : List Prefix → Type 0
 IsInOrder [] = Unit {0}
 IsInOrder (p ∷ ps) = AllByRecursion (λ r. IsTrue (is_before p r)) ps × IsInOrder ps
 
--- of addresses of W bits, the entry has a block: its start is an address without host bits
+-- the entry has a block of addresses of W bits: its start is an address without host bits
 pub record HasBlock (W : ℕ) (p : Prefix) : Type 0 where
   pub bits : p.bits ≤ W
   pub start : p.start < 2 ^ W

@@ -6,10 +6,10 @@ use Rattle.pmap_text.specs.MapModel.{IsSettled, Label, MapModel, settled_label}
 use Rattle.pmap_cert.specs.CertificateModel.{CertificateModel, ChainNode, InnerNode, LeafNode, Tree, claim_of, has}
 use Rattle.pmap_cert.specs.ExactPair.{IsSamePair, exact_pair}
 
--- The minimal pair of a map: its certificate of exact pairs and the prefix list read off that.
+-- The minimal pair of a map: its certificate of exact pairs and the prefix list read off it.
 
--- The node represents the block of n bits with the number q: a leaf with the label that the map settles the block with,
--- or for an unsettled block an inner node with the exact pair of its nodes, which represent the halves.
+-- The node represents the block of n bits with the number q: a leaf if the map settles the block with its label, or,
+-- for an unsettled block, an inner node with the exact pair of its nodes, which represent the halves.
 abbrev pub StandsFor : MapModel → Tree → ℕ → ℕ → Type 0
 StandsFor m (LeafNode x) n q = IsSettled m n q x
 StandsFor m (InnerNode claim lower upper) n q =
@@ -26,16 +26,16 @@ first_label (x ∷ xs) = x
 abbrev pub least_label : List Label → List Label → Label
 least_label table s = unwrap_or (find (has s) table) (first_label s)
 
--- the set has the label that is inherited from above
+-- the set has the inherited label, if there is one
 abbrev pub has_inherited : List Label → Option Label → Bool
 has_inherited s None = false
 has_inherited s (Some x) = has s x
 
--- what a node with the set s passes on: the inherited label if its set has it, otherwise the least label of its set
+-- the label that a node with the set s passes on: the inherited one if the set has it, otherwise the set's least label
 abbrev pub handed_on : List Label → List Label → Option Label → Option Label
 handed_on table s inherited = if has_inherited s inherited then inherited else Some (least_label table s)
 
--- its own entry at its block: none if it passes on the label that it inherits
+-- the entry of a node for its own block: none if the node passes on the label that it inherits
 abbrev pub own_entry : ℕ → List Label → List Label → Option Label → ℕ → ℕ → List Prefix
 own_entry W table s inherited n q =
     if has_inherited s inherited
@@ -52,8 +52,7 @@ entries_of W table (InnerNode claim lower upper) inherited n q =
 entries_of W table (ChainNode claim bits side end) inherited n q = []
 
 -- the list and the certificate are a minimal pair of the map: the certificate's root represents the address space, the
--- list has its entries from the root down, where nothing is inherited, both have the map's version and label table, and
--- the certificate has format 1
+-- list has the root's entries with nothing inherited, both have the map's version and table, and the format is 1
 pub record IsMinimalPair (m : MapModel) (l : ListModel) (c : CertificateModel) : Type 0 where
   pub certificate_format : c.format ≡ 1
   pub certificate_version : c.version ≡ m.version
@@ -64,7 +63,7 @@ pub record IsMinimalPair (m : MapModel) (l : ListModel) (c : CertificateModel) :
   pub list_table : l.table ≡ m.table
   pub prefixes : l.prefixes ≡ entries_of (width_of m.version) m.table c.root None 0 0
 
--- two nodes have one shape, and the same labels, costs and sets
+-- two nodes have the same shape, labels, costs and sets
 abbrev pub IsSameTree : Tree → Tree → Type 0
 IsSameTree (LeafNode x) (LeafNode y) = x ≡ y
 IsSameTree (InnerNode p l r) (InnerNode p' l' r') = IsSamePair p p' × IsSameTree l l' × IsSameTree r r'

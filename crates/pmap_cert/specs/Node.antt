@@ -24,18 +24,19 @@ label_of (Leaf number) = Some number
 label_of (Inner cost set lower upper) = None
 label_of (Chain cost set bits side end) = None
 
--- what a node claims: a leaf the cost 0 and its label alone
+-- the cost that a node claims, 0 for a leaf
 abbrev pub cost_of : Node → ℕ
 cost_of (Leaf number) = 0
 cost_of (Inner cost set lower upper) = cost
 cost_of (Chain cost set bits side end) = cost
 
+-- the set that a node claims, only its label for a leaf
 abbrev pub set_of : Node → List ℕ
 set_of (Leaf number) = number ∷ []
 set_of (Inner cost set lower upper) = set
 set_of (Chain cost set bits side end) = set
 
--- the bits of a chain, which has at least one, and its side label
+-- the bits of a chain
 abbrev pub bits_of : Node → List Bool
 bits_of (Leaf number) = []
 bits_of (Inner cost set lower upper) = []
@@ -54,14 +55,14 @@ tree_of table (Inner cost set lower upper) =
 tree_of table (Chain cost set bits side end) =
     ChainNode (record { cost = cost; labels = map (text_at table) set }) bits (text_at table side) (tree_of table end)
 
--- it has no chain
+-- the node has no chain
 abbrev pub IsPlainNode : Node → Type 0
 IsPlainNode (Leaf number) = Unit {0}
 IsPlainNode (Inner cost set lower upper) = IsPlainNode lower × IsPlainNode upper
 IsPlainNode (Chain cost set bits side end) = ⊥
 
--- The node has no chain, its numbers are below count, those of each set rise, costs are below 2 ^ 32, and at most so
--- many inner nodes are nested.
+-- The node has no chain and at most `room` levels below it, its numbers are below count, those of each set rise, and
+-- costs are below 2 ^ 32.
 abbrev pub HasNumberForm : ℕ → Node → ℕ → Type 0
 HasNumberForm count (Leaf number) room = number < count
 HasNumberForm count (Inner cost set lower upper) zero = ⊥
@@ -69,7 +70,7 @@ HasNumberForm count (Inner cost set lower upper) (suc room) =
     (cost < 2 ^ 32) × IsRising count 0 set × HasNumberForm count lower room × HasNumberForm count upper room
 HasNumberForm count (Chain cost set bits side end) room = ⊥
 
--- Like `HasNumberForm`, for a node that may have chains: each has a bit at least, and each bit counts as an inner node.
+-- Like `HasNumberForm`, for a node that may have chains: each has at least one bit, and each bit counts as one level.
 abbrev pub HasChainForm : ℕ → Node → ℕ → Type 0
 HasChainForm count (Leaf number) room = number < count
 HasChainForm count (Inner cost set lower upper) zero = ⊥
@@ -110,13 +111,13 @@ lines_of (Leaf number) = PlainLine (LeafLine number) ∷ []
 lines_of (Inner cost set lower upper) = PlainLine (InnerLine cost set) ∷ (lines_of lower ++ lines_of upper)
 lines_of (Chain cost set bits side end) = ChainLine cost bits side set ∷ lines_of end
 
--- the text of a line
+-- the text of a line without its line feed
 abbrev pub line_text : DueLine → List ℕ
 line_text (PlainLine (LeafLine number)) = leaf_line number
 line_text (PlainLine (InnerLine cost numbers)) = inner_line cost numbers
 line_text (ChainLine cost bits side numbers) = chain_line cost bits side numbers
 
--- what a line says: a leaf's label, an inner node's or a chain's cost and set, and a chain's bits and side label
+-- the label, cost, set, bits and side label of a line, as those of its node
 abbrev pub line_label : DueLine → Option ℕ
 line_label (PlainLine (LeafLine number)) = Some number
 line_label (PlainLine (InnerLine cost numbers)) = None
@@ -145,8 +146,7 @@ pub record IsTree (lines : List DueLine) : Type 0 where
   pub node : Node
   pub is : lines ≡ lines_of node
 
--- the nodes of a list of lines, one after the other: an inner node takes the next two as its halves, and a chain the
--- next as its end
+-- an inner node's line takes the next two nodes as its halves, and a chain's line the next as its end
 abbrev pub joined : ℕ → List ℕ → List Node → List Node
 joined cost set (lower ∷ upper ∷ nodes) = Inner cost set lower upper ∷ nodes
 joined cost set nodes = nodes
@@ -168,7 +168,7 @@ AreWhole (PlainLine (LeafLine number) ∷ lines) = AreWhole lines
 AreWhole (PlainLine (InnerLine cost numbers) ∷ lines) = (2 ≤ length (nodes_of lines)) × AreWhole lines
 AreWhole (ChainLine cost bits side numbers ∷ lines) = (1 ≤ length (nodes_of lines)) × AreWhole lines
 
--- the first of the nodes, if there is one
+-- the first of the nodes, or a placeholder if there is none
 abbrev pub first_node : List Node → Node
 first_node [] = Leaf 0
 first_node (node ∷ nodes) = node
@@ -181,12 +181,12 @@ from_next_line (Leaf number ∷ nodes) = nodes
 from_next_line (Inner cost set lower upper ∷ nodes) = lower ∷ upper ∷ nodes
 from_next_line (Chain cost set bits side end ∷ nodes) = end ∷ nodes
 
--- the nodes after the first one and all below it
+-- the nodes after the first one
 abbrev pub behind : List Node → List Node
 behind [] = []
 behind (node ∷ nodes) = nodes
 
--- A node is stored as the list of its lines, and a line by its kind, bits and numbers.
+-- A node is coded as the list of its lines, and a line by its kind, bits and numbers.
 
 abbrev pub split_line : DueLine → (ℕ × (ℕ × List ℕ)) ⊎ ((ℕ × List Bool) × (ℕ × List ℕ))
 split_line (PlainLine (LeafLine number)) = inl (0, (number, []))
@@ -212,7 +212,7 @@ line_code =
     (coded⊎ (coded× coded_ℕ (coded× coded_ℕ (coded_list coded_ℕ))) (coded× (coded× coded_ℕ (coded_list coded_bool)) (coded× coded_ℕ (coded_list coded_ℕ))))
     split_line join_line joined_line
 
--- the lines of a node before others
+-- the lines of a node, followed by others
 abbrev pub lines_onto : Node → List DueLine → List DueLine
 lines_onto (Leaf number) lines = PlainLine (LeafLine number) ∷ lines
 lines_onto (Inner cost set lower upper) lines = PlainLine (InnerLine cost set) ∷ lines_onto lower (lines_onto upper lines)

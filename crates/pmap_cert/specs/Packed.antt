@@ -7,16 +7,17 @@ use Rattle.pmap_cert.specs.declared.nodes.Packed.TheVariants.{Chain, Inner, Leaf
 use Rattle.pmap_cert.specs.declared.nodes.PackedChain.{PackedChain}
 use Rattle.pmap_cert.specs.declared.pool.SetId.{SetId}
 
--- How the code keeps the lines of nodes: no user need read it.
+-- How the code stores the lines of nodes, for the contracts of private functions.
 
 -- the number with these lower and upper 32 bits
 abbrev pub joined_halves : ℕ → ℕ → ℕ
 joined_halves low high = high * 2 ^ 32 + low
 
--- how many labels the larger set at a place has, and these
+-- the number of labels of the set at an index of the pool
 abbrev pub count_at : List LabelId → ℕ → ℕ
 count_at pool place = (slice_index_or pool place (record { 0 = 0 })).0
 
+-- the labels of the set at an index of the pool
 abbrev pub larger_at : List LabelId → ℕ → List ℕ
 larger_at pool place = map (λ id. id.0) (slice_range pool (place + 1) (place + 1 + count_at pool place))
 
@@ -24,7 +25,7 @@ abbrev pub set_by : List LabelId → ℕ → ℕ → List ℕ
 set_by pool low zero = low ∷ []
 set_by pool low (suc high) = larger_at pool (joined_halves low high)
 
--- the labels of a set
+-- the labels of a set in the pool
 abbrev pub set_in : List LabelId → SetId → List ℕ
 set_in pool id = set_by pool id.low.0 id.high
 
@@ -36,7 +37,7 @@ HasSetBy pool low (suc high) = joined_halves low high + 1 + count_at pool (joine
 abbrev pub HasSet : List LabelId → SetId → Type 0
 HasSet pool id = HasSetBy pool id.low.0 id.high
 
--- more came after the old ones
+-- the new list is the old one with more appended
 abbrev pub IsGrown : {A : Type 0} → List A → List A → Type 0
 IsGrown {A} old new = (more : List A) × (new ≡ old ++ more)
 
@@ -45,13 +46,13 @@ pub record IsHeld (pool : List LabelId) (id : SetId) (numbers : List ℕ) : Type
   pub whole : HasSet pool id
   pub set : set_in pool id ≡ numbers
 
--- the pool of sets, the chains, and the bits of these
+-- the pool of sets, the chains, and the bits of the chains
 pub record Store : Type 0 where
   pub labels : List LabelId
   pub chains : List PackedChain
   pub bits : List Bool
 
--- no chain, and the chain with a number
+-- a placeholder for a missing chain
 abbrev pub no_chain : PackedChain
 no_chain = record { cost = 0; side = record { 0 = 0 }; set = record { low = record { 0 = 0 }; high = 0 }; start = 0; end = 0 }
 
@@ -61,19 +62,19 @@ chain_at chains number = slice_index_or chains number no_chain
 abbrev pub chain_in : Store → PackedChain → DueLine
 chain_in s c = ChainLine c.cost (slice_range s.bits c.start c.end) c.side.0 (set_in s.labels c.set)
 
--- the line that the code keeps so
+-- the line that a packed line represents
 abbrev pub line_in : Store → Packed → DueLine
 line_in s (Leaf id) = PlainLine (LeafLine id.0)
 line_in s (Inner cost set) = PlainLine (InnerLine cost (set_in s.labels set))
 line_in s (Chain low high) = chain_in s (chain_at s.chains (joined_halves low high))
 
--- the chain's set and its bits are there
+-- the store has the chain's set and bits
 pub record HasParts (s : Store) (c : PackedChain) : Type 0 where
   pub set : HasSet s.labels c.set
   pub rising : c.start ≤ c.end
   pub within : c.end ≤ length s.bits
 
--- what the line refers to is there
+-- the store has all that the line refers to
 abbrev pub IsPacked : Store → Packed → Type 0
 IsPacked s (Leaf id) = Unit {0}
 IsPacked s (Inner cost set) = HasSet s.labels set

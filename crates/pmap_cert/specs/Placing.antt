@@ -8,7 +8,7 @@ use Rattle.pmap_cert.specs.declared.compacting.Below.{Below}
 use Rattle.pmap_cert.specs.declared.compacting.Below.TheVariants.{Halves, Nothing}
 use Rattle.pmap_cert.specs.Node.{AreWhole, Chain, HasChainForm, Inner, Leaf, Node, behind, first_node, label_of, lines_of, nodes_of, tree_of}
 
--- What the code keeps while it compacts: no user need read it.
+-- Nodes by the numbers of their lines while the code compacts, for the contracts of private functions.
 
 -- the line isn't that of a chain
 abbrev pub IsPlainLine : DueLine → Type 0
@@ -20,28 +20,28 @@ pub record ArePlain (lines : List DueLine) : Type 0 where
   pub whole : AreWhole lines
   pub plain : All IsPlainLine lines
 
--- the node whose line has this number
+-- the node at line `number`
 abbrev pub node_from : List DueLine → ℕ → Node
 node_from lines number = first_node (nodes_of (drop number lines))
 
--- The lines of the node whose line has this number, and of those below it, end at `end`.
+-- The lines of the node at line `number` and of those below it end before line `end`.
 pub record EndsAt (lines : List DueLine) (number end : ℕ) : Type 0 where
   pub after : number < end
   pub within : end ≤ length lines
   pub behind : nodes_of (drop end lines) ≡ behind (nodes_of (drop number lines))
 
--- the ends of the nodes from this line on
+-- `ends` has the end of each node from line `number` on
 pub record AreEndsFrom (lines : List DueLine) (ends : List ℕ) (number : ℕ) : Type 0 where
   pub count : length ends ≡ length lines
   pub each : (k : ℕ) → number ≤ k → k < length lines → EndsAt lines k (slice_index ends k)
 
--- The line with this number is one of nodes without chains, and the ends of the nodes after it are known.
+-- Line `number` is one of nodes without chains, and `all` has the ends of the nodes after it.
 pub record HasPlace (lines : List DueLine) (all : List ℕ) (number : ℕ) : Type 0 where
   pub plain : ArePlain lines
   pub within : number < length lines
   pub ends : AreEndsFrom lines all (number + 1)
 
--- the node is an inner node whose halves have these lines
+-- the node at line `number` is an inner node whose halves are at lines `lower` and `upper`
 pub record HasHalves (lines : List DueLine) (all : List ℕ) (number lower upper : ℕ) : Type 0 where
   pub cost : ℕ
   pub set : List ℕ
@@ -52,7 +52,7 @@ pub record HasHalves (lines : List DueLine) (all : List ℕ) (number lower upper
   pub up_after : number < upper
   pub rest : behind (nodes_of (drop number lines)) ≡ behind (nodes_of (drop upper lines))
 
--- this is below the node
+-- the node at line `number` is the given leaf or has the given halves
 abbrev pub IsBelow : List DueLine → List ℕ → ℕ → Below → Type 0
 IsBelow lines all number (Nothing id) = node_from lines number ≡ Leaf id.0
 IsBelow lines all number (Halves lower upper) = HasHalves lines all number lower upper
@@ -63,7 +63,7 @@ is_leaf side (Leaf number) = number == side
 is_leaf side (Inner cost set lower upper) = false
 is_leaf side (Chain cost set bits x end) = false
 
--- the run of a side label from a node down, its bits and the node at its end
+-- the bits of the run of a side label from a node down
 abbrev pub bits_down : ℕ → Node → List Bool
 bits_down side (Inner cost set lower upper) =
     if is_leaf side lower then true ∷ bits_down side upper
@@ -71,6 +71,7 @@ bits_down side (Inner cost set lower upper) =
 bits_down side (Leaf number) = []
 bits_down side (Chain cost set bits x end) = []
 
+-- the node at the end of the run of a side label from a node down
 abbrev pub end_down : ℕ → Node → Node
 end_down side (Inner cost set lower upper) =
     if is_leaf side lower then end_down side upper
@@ -78,19 +79,19 @@ end_down side (Inner cost set lower upper) =
 end_down side (Leaf number) = Leaf number
 end_down side (Chain cost set bits x end) = Chain cost set bits x end
 
--- the step of such a run from the node whose line has this number to the half that is chosen
+-- a run of the side label steps from line `number` by this bit to the chosen half
 pub record IsStep (lines : List DueLine) (all : List ℕ) (side number : ℕ) (bit : Bool) (chosen : ℕ) : Type 0 where
   pub bits : bits_down side (node_from lines number) ≡ bit ∷ bits_down side (node_from lines chosen)
   pub end : end_down side (node_from lines number) ≡ end_down side (node_from lines chosen)
   pub after : number < chosen
   pub place : HasPlace lines all chosen
 
--- the run ends at the node whose line has this number
+-- the run of the side label ends at line `number`
 pub record IsRunEnd (lines : List DueLine) (side number : ℕ) : Type 0 where
   pub bits : bits_down side (node_from lines number) ≡ []
   pub end : end_down side (node_from lines number) ≡ node_from lines number
 
--- such a run has these bits and this end
+-- the run of the side label from line `number` has these bits and ends at line `end`
 pub record IsRun (lines : List DueLine) (all : List ℕ) (side number : ℕ) (bits : List Bool) (end : ℕ) : Type 0 where
   pub bits_are : bits ≡ bits_down side (node_from lines number)
   pub node : node_from lines end ≡ end_down side (node_from lines number)
@@ -107,19 +108,19 @@ side_below (Chain cost set bits side end) = None
 abbrev pub IsShort : Node → Type 0
 IsShort node = (side : ℕ) → side_below node ≡ Some side → length (bits_down side node) < 2
 
--- the run has two bits or more, with these bits and this end
+-- the run from line `number` has this side label, two bits or more, which are `bits`, and ends at line `end`
 pub record IsLong (lines : List DueLine) (all : List ℕ) (number side : ℕ) (bits : List Bool) (end : ℕ) : Type 0 where
   pub sides : side_below (node_from lines number) ≡ Some side
   pub run : IsRun lines all side number bits end
   pub long : 2 ≤ length bits
 
--- The second node is the first one compacted: over each label table that has the labels, and in the same room.
+-- The second node is the first one compacted, over each label table that has its labels, and needs no more room.
 pub record IsCompactNode (node compact : Node) : Type 0 where
   pub same : (table : List Label) (room : ℕ) → IsLabelTable table → HasChainForm (length table) node room →
       tree_of table compact ≡ compacted (tree_of table node)
   pub form : (count room : ℕ) → HasChainForm count node room → HasChainForm count compact room
 
--- a compacted node, whose lines follow the old ones
+-- the new lines are the old ones and then those of the node compacted
 pub record IsCompacted (node : Node) (old new : List DueLine) : Type 0 where
   pub compact : Node
   pub is : IsCompactNode node compact

@@ -7,12 +7,12 @@ use Rattle.pmap_cert.specs.CertificateModel.{Tree}
 use Rattle.pmap_cert.specs.declared.fault.CertFault.{CertFault}
 use Rattle.pmap_cert.specs.declared.format.Format.{Format}
 
--- the reading of a node in a text of the format, for addresses of so many bits, with room for so many nested nodes
+-- reads the next node of a text of this format, for addresses of `most` bits, with at most `room` levels below it
 abbrev pub node_due_at : Format → ℕ → List Label → ℕ → Place → Result (Tree × Place) CertFault
 node_due_at format most table room place =
     nodes_at (line_due_at (format_number format) most (length table)) table room 0 place
 
--- a node is read, and its lines and those of the nodes below it follow the old ones
+-- the next node was read, and its lines with those of the nodes below it follow the old ones
 pub record IsReadNode (format : Format) (most : ℕ) (table : List Label) (room : ℕ) (place : Place) (old new : List DueLine) (after : Place) : Type 0 where
   pub node : Node
   pub read : node_due_at format most table room place ≡ Ok (tree_of table node, after)

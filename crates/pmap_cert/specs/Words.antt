@@ -9,18 +9,18 @@ use Rattle.pmap_cert.specs.declared.fault.CertFaultKind.TheVariants.{BadNode, No
 use Rattle.pmap_cert.specs.declared.node_line.NodeLine.{NodeLine}
 use Rattle.pmap_cert.specs.declared.node_line.NodeLine.TheVariants.{Chain, Inner, Leaf}
 
--- What the code keeps of a line while it reads it.
+-- Models of what the code reads from a line.
 
--- the words of what follows a space, none if there is no space
+-- the words of the text after a space, none if there is no space
 abbrev pub words_behind : Option (List ℕ) → List (List ℕ)
 words_behind None = []
 words_behind (Some rest) = words_of rest
 
--- what a header says
+-- the format number, the version and the number of labels of a header
 abbrev pub header_model : Header → ℕ × (Version × ℕ)
 header_model h = (format_number h.format, (h.version, h.count))
 
--- a line of a node as the line that it is, with the set and the bits that were kept
+-- the line of a node with its set and its bits, which the code stores apart
 abbrev pub line_model : List LabelId → List Bool → NodeLine → DueLine
 line_model set bits (Leaf id) = PlainLine (LeafLine id.0)
 line_model set bits (Inner cost) = PlainLine (InnerLine cost (map (λ id. id.0) set))

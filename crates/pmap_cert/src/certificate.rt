@@ -12,8 +12,8 @@ use pmap_text::Labels;
 use prefix_keys::Version;
 
 /// A certificate: its format, the version of its addresses, its label table, and its root, which represents the address
-/// space. Labels are in the table, sets rise, no inner node is as deep as an address has bits, no chain goes deeper,
-/// and in format 1 there is no chain.
+/// space. Labels are in the table, and the numbers of each set rise. No node is deeper than an address has bits; each
+/// bit of a chain counts as one level. A certificate of format 1 has no chain.
 #[derive(Drop)]
 pub struct Certificate {
     pub format: Format,
@@ -28,7 +28,7 @@ pub struct Certificate {
 impl Certificate {
     ghost use Rattle.pmap_cert.specs.Certificate.{certificate_of};
 
-    /// The certificate of format 1 of its parts.
+    /// Returns the certificate of format 1 with these parts.
     pub fn new(version: Version, labels: Labels, root: Root) -> Certificate
         requires { HasNumberForm (length labels) root (width_of version) }
         ensures format { result.format ≡ One }
@@ -44,7 +44,7 @@ impl Certificate {
         }
     }
 
-    /// The certificate of a format of its parts.
+    /// Returns the certificate of the given format with these parts.
     pub fn of_format(format: Format, version: Version, labels: Labels, root: Root) -> Certificate
         requires form { HasChainForm (length labels) root (width_of version) }
         requires kind { IsNodeOf format root }
@@ -61,14 +61,14 @@ impl Certificate {
         }
     }
 
-    /// The node of the address space. With the label table, the version and the format it determines the text.
+    /// Returns a cursor at the root. The root, the label table, the version and the format determine the text.
     pub fn root(&self) -> Cursor<'_>
         ensures value { result ≡ self.now.root ∷ [] }
         ensures numbers { HasChainForm (length self.now.labels) self.now.root (width_of self.now.version) }
         ensures form { HasFormatText (certificate_of self.now) }
         ensures first { self.now.format ≡ One → HasTextForm (certificate_of self.now) }
     {
-        // Provides the law that the table has at most 65536 labels, no two equal.
+        // Provides the law that the table has at most 65536 labels, all distinct.
         let _count = self.labels.len();
         cursor_of(&self.root)
     }

@@ -1,4 +1,4 @@
-//! Certificates' texts, which are read line by line.
+//! Reading the text of a certificate, line by line.
 ghost use Rattle.std.specs.Prelude.{◌≡◌, ◌≢◌, ◌-◌, ◌<◌, ◌≤◌, [], Ok, Err, false, length, IfErr, IfOk, IsTrue, OnOk, if◌then◌else◌};
 ghost use Rattle.pmap_text.specs.Label.{has_label, is_label as is_label_text};
 ghost use Rattle.pmap_cert.specs.Certificate.{ReturnsCertificate, certificate_of};
@@ -21,14 +21,14 @@ use std::alloc::Global;
 
 mod header;
 
-// Whether the table has the label already.
+// Whether the table already has the label.
 fn is_known(labels: &Labels, text: &[u8]) -> bool
     ensures { result ≡ has_label labels.now text.now }
 {
     labels.id_of(text).is_some()
 }
 
-// One more label, which the table hasn't got yet.
+// Reads the next line as a label that the table doesn't have yet.
 fn read_label<'a>(labels: &Labels, lines: &Lines<'a>) -> Result<(&'a [u8], Lines<'a>), CertFault>
     ensures ok { IfOk result (λ x. label_at labels.now lines.now ≡ Ok (x.0.now, x.1)) }
     ensures label { IfOk result (λ x. IsTrue (is_label_text x.0.now)) }
@@ -47,7 +47,7 @@ fn read_label<'a>(labels: &Labels, lines: &Lines<'a>) -> Result<(&'a [u8], Lines
     }
 }
 
-// A table of so many labels.
+// Reads a table of `count` labels.
 fn read_labels<'a>(
     alloc: Global,
     count: u32,
@@ -69,8 +69,8 @@ fn read_labels<'a>(
     Ok((labels, lines))
 }
 
-// Reads the line of the node that is due, and leaves the lines after it. The set of an inner node or a chain is kept,
-// and the bits of a chain.
+// Reads the next line of a node and moves `lines` past it. `kept` gets the set of an inner node or a chain, and the
+// bits of a chain.
 fn read_due(kept: &mut Kept, frame: &Frame, lines: &mut Lines) -> Result<NodeLine, CertFault>
     ensures ok { IfOk result (λ line. line_due_at (format_number frame.now.format) frame.now.width
         (length frame.now.labels.now) lines.old
@@ -88,7 +88,7 @@ fn read_due(kept: &mut Kept, frame: &Frame, lines: &mut Lines) -> Result<NodeLin
     }
 }
 
-// What is wrong if a node is due and no line follows.
+// Returns the kind of fault if no node line comes next: the text has ended, or its next line is malformed.
 fn missing_kind(lines: &Lines) -> CertFaultKind
     ensures { result ≡ (if is_ended lines.now.pieces then NodesMissing else BadNode) }
 {
@@ -99,7 +99,7 @@ fn missing_kind(lines: &Lines) -> CertFaultKind
     }
 }
 
-// Adds the node that is due and those below it, at most so many nested, and leaves the lines after them.
+// Reads the next node, with at most `room` levels below it, adds its lines to `nodes`, and moves `lines` past them.
 fn read_node(
     nodes: &mut Nodes,
     kept: &mut Kept,
@@ -141,7 +141,7 @@ fn read_node(
     }
 }
 
-// Reads the root with all nodes below it, at most so many nested, and leaves the lines after them.
+// Reads the root with all nodes below it, and moves `lines` past them.
 fn read_root(alloc: Global, frame: &Frame, lines: &mut Lines) -> Result<Root, CertFault>
     ensures ok { IfOk result (λ root.
         node_due_at frame.now.format frame.now.width frame.now.labels.now frame.now.width lines.old
@@ -161,7 +161,7 @@ fn read_root(alloc: Global, frame: &Frame, lines: &mut Lines) -> Result<Root, Ce
     Ok(Root::new(nodes))
 }
 
-// The certificate of a text, or the first fault.
+// Reads the certificate of a text, or returns the first fault.
 fn read_all(alloc: Global, text: &[u8], hashing: KeyHashing) -> Result<Certificate, CertFault>
     ensures ok { IfOk result (λ c. format_reading text.now ≡ Ok (certificate_of c)) }
     ensures err { IfErr result (λ fault. fault.kind ≢ NoMemory → format_reading text.now ≡ Err fault) }
@@ -182,20 +182,20 @@ fn read_all(alloc: Global, text: &[u8], hashing: KeyHashing) -> Result<Certifica
     }
 }
 
-/// Reads the text of a certificate of either format. Exactly the texts that `write_cert` writes are read, each as the
-/// certificate that it is written from.
+/// Reads the text of a certificate of either format. It accepts exactly the texts that `write_cert` writes, and returns
+/// the certificate that was written.
 ///
 /// # Errors
 ///
-/// The first faulty line, counted from 1, with the first of its faults in this order, or `NoMemory` with the line 0.
+/// Returns the first faulty line, from 1, with the first of its faults in this order, or `NoMemory` with line 0.
 ///
-/// - `BadHeader`: line 1 is not `flowlabel-cert FORMAT VERSION COUNT` with `1` or `2`, `ipv4` or `ipv6` and a count of
-///   at most 65536.
-/// - `BadLabelTable`: a label line is missing, is no label, or repeats one.
-/// - `BadNode`: the line of a node is neither `l NUMBER` nor `n COST NUMBER ..` nor, in format 2, `c COST BITS NUMBER
-///   NUMBER ..` with at most as many bits as an address has, or the numbers of its set don't rise.
-/// - `TooDeep`: an inner node has a block of one address, or a chain goes deeper than one.
-/// - `NodesMissing`: the text ends although a node is due; the line is the one after the last.
+/// - `BadHeader`: line 1 is not `flowlabel-cert FORMAT VERSION COUNT`, with FORMAT `1` or `2`, VERSION `ipv4` or
+///   `ipv6`, and COUNT at most 65536.
+/// - `BadLabelTable`: a label line is missing, isn't a label, or repeats one.
+/// - `BadNode`: the line of a node is neither `l NUMBER` nor `n COST NUMBER ..` nor, in format 2,
+///   `c COST BITS SIDE NUMBER ..` with at most as many bits as an address has, or the numbers of its set don't rise.
+/// - `TooDeep`: an inner node has a block of one address, or the bits of a chain lead below one.
+/// - `NodesMissing`: the text ends before its last node; the line is the one after the last.
 /// - `NodesLeft`: something follows the last node.
 ///
 /// A line without its line feed is malformed. Numbers are decimal without leading zeros, words are separated by one
@@ -206,7 +206,7 @@ pub fn read_cert(alloc: Global, text: &[u8]) -> Result<Certificate, CertFault>
     read_cert_with_hashing(alloc, text, KeyHashing::known())
 }
 
-/// Like [`read_cert`], but labels are hashed by these numbers, on which nothing that is returned depends.
+/// Like [`read_cert`], but hashes labels by `hashing`, which doesn't affect the result.
 pub fn read_cert_with_hashing(
     alloc: Global,
     text: &[u8],

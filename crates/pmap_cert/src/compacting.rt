@@ -1,4 +1,4 @@
-//! Chains in the place of runs of inner nodes that each have a leaf of one label in one half.
+//! Compacting: a chain replaces each run of inner nodes that each have a leaf of the same label in one half.
 ghost use Rattle.std.specs.Prelude.{◌≡◌, ◌<◌, IfOk, MatchOption, OnOk, length, option_map};
 ghost use Rattle.std.specs.Option.{option_or};
 ghost use Rattle.pmap_cert.specs.Certificate.{certificate_of};
@@ -13,14 +13,14 @@ use crate::root::Root;
 use pmap_text::LabelId;
 use std::alloc::{AllocError, Global};
 
-// What is below a node: nothing if it is a leaf, which has this label, otherwise its halves, whose lines have these
+// A node by what is below it: nothing below a leaf, which has this label, or two halves at the lines with these
 // numbers.
 enum Below {
     Nothing(LabelId),
     Halves(usize, usize),
 }
 
-// What is below the node whose line has this number.
+// Returns what is below the node at line `number`.
 fn look_below(nodes: &Nodes, ends: &[usize], number: usize) -> Below
     requires { HasPlace nodes.now ends.now number }
     ensures { IsBelow nodes.now ends.now number result }
@@ -31,7 +31,7 @@ fn look_below(nodes: &Nodes, ends: &[usize], number: usize) -> Below
     }
 }
 
-// The line after the node with this line number and the nodes below it, by the ends of the nodes after it.
+// Returns the line after the node at line `number` and those below it, by the ends of the later nodes.
 fn end_at(nodes: &Nodes, ends: &[usize], number: usize) -> usize
     requires { HasPlace nodes.now ends.now number }
     ensures { EndsAt nodes.now number result }
@@ -42,7 +42,7 @@ fn end_at(nodes: &Nodes, ends: &[usize], number: usize) -> usize
     }
 }
 
-// For each line the first one after its node and the nodes below it.
+// Returns for each line the first line after its node and those below it.
 fn ends_of(alloc: Global, nodes: &Nodes) -> Result<Vec<usize>, AllocError>
     requires { ArePlain nodes.now }
     ensures { IfOk result (λ ends. AreEndsFrom nodes.now ends.items 0) }
@@ -57,7 +57,7 @@ fn ends_of(alloc: Global, nodes: &Nodes) -> Result<Vec<usize>, AllocError>
     Ok(ends)
 }
 
-// Whether the node whose line has this number is a leaf with the label.
+// Whether the node at line `number` is a leaf with the label.
 fn is_leaf(nodes: &Nodes, number: usize, label: LabelId) -> bool
     requires plain { ArePlain nodes.now }
     requires within { number < length nodes.now }
@@ -69,8 +69,8 @@ fn is_leaf(nodes: &Nodes, number: usize, label: LabelId) -> bool
     }
 }
 
-// The step of a run of the side label from the node with this line: the bit and the line of the chosen half, or `None`
-// if the run ends.
+// Returns the next step of a run of the side label from the node at line `number`: the bit and the line of the chosen
+// half, or `None` if the run ends there.
 fn step(nodes: &Nodes, ends: &[usize], number: usize, side: LabelId) -> Option<(bool, usize)>
     requires { HasPlace nodes.now ends.now number }
     ensures { MatchOption result (IsRunEnd nodes.now side.0 number)
@@ -90,7 +90,7 @@ fn step(nodes: &Nodes, ends: &[usize], number: usize, side: LabelId) -> Option<(
     }
 }
 
-// Follows a run of the side label, keeps its bits, and returns the line of the node at its end.
+// Follows a run of the side label from line `first`, stores its bits, and returns the line of the node at its end.
 fn go_down(
     bits: &mut Vec<bool>,
     nodes: &Nodes,
@@ -124,8 +124,8 @@ fn side_of(nodes: &Nodes, lower: usize, upper: usize) -> Option<LabelId>
     }
 }
 
-// The side label and the line of the end of the run from the inner node with this line, if it has two bits or more,
-// which are kept. The node's halves have these lines.
+// Returns the side label and the end's line of the run from an inner node whose halves have these lines, and stores the
+// run's bits. Returns `None` if the run has fewer than two bits.
 fn run_of(
     bits: &mut Vec<bool>,
     nodes: &Nodes,
@@ -148,7 +148,7 @@ fn run_of(
     Ok(Some((side, end)))
 }
 
-// Adds the node whose line has this number, compacted.
+// Compacts the node at line `number` and adds the result to `out`.
 fn compact_node(
     out: &mut Nodes,
     bits: &mut Vec<bool>,
@@ -180,7 +180,7 @@ fn compact_node(
     }
 }
 
-// The root compacted.
+// Compacts a root.
 fn compact_root(alloc: Global, root: &Root) -> Result<Root, AllocError>
     requires { IsPlainNode root.now }
     ensures { IfOk result (λ found. IsCompactNode root.now found) }
@@ -193,12 +193,12 @@ fn compact_root(alloc: Global, root: &Root) -> Result<Root, AllocError>
     Ok(Root::new(out))
 }
 
-/// Compacts a certificate: one of format 1 gets, from the root down, a chain for each run of two or more inner nodes
-/// that each have a leaf of one label in one half. One of format 2 is copied unchanged.
+/// Compacts a certificate. In one of format 1, from the root down, a chain replaces each run of two or more inner nodes
+/// that each have a leaf of the same label in one half, and the format becomes 2. One of format 2 is copied.
 pub fn compact(alloc: Global, certificate: &Certificate) -> Result<Certificate, AllocError>
     ensures { IfOk result (λ found. certificate_of found ≡ compact (certificate_of certificate.now)) }
 {
-    // Provides the law that the table has at most 65536 labels, no two equal.
+    // Provides the law that the table has at most 65536 labels, all distinct.
     let _count = certificate.labels.len();
     let labels = certificate.labels.copy()?;
     let root = match certificate.format {

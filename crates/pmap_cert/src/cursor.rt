@@ -6,8 +6,8 @@ use crate::root::Root;
 use pmap_text::LabelId;
 use std::marker::Model;
 
-/// A position in a certificate's nodes, or the end: the nodes from there on, each with those below it. A walk begins at
-/// `Certificate::root` and goes from line to line.
+/// A position among a certificate's node lines, or their end. Its value is the nodes from there on, each with those
+/// below it. A walk begins at `Certificate::root` and goes from line to line.
 #[derive(Drop)]
 pub struct Cursor<'a> {
     nodes: &'a Nodes,
@@ -28,7 +28,7 @@ impl<'a> Model for Cursor<'a> {
     ghost invariant = { λ c. AreWhole (drop c.number c.nodes.now) };
 }
 
-/// The place of a whole tree.
+/// Returns a cursor at the root of a tree.
 pub fn cursor_of(tree: &Root) -> Cursor<'_>
     ensures { result ≡ tree.now ∷ [] }
 {
@@ -39,7 +39,7 @@ pub fn cursor_of(tree: &Root) -> Cursor<'_>
 }
 
 impl<'a> Cursor<'a> {
-    /// The label of the node, if it is a leaf.
+    /// Returns the label of the node if it is a leaf.
     pub fn label(&self) -> Option<LabelId>
         requires { 0 < length self.now }
         ensures { option_map (λ id. id.0) result ≡ label_of (first_node self.now) }
@@ -47,7 +47,7 @@ impl<'a> Cursor<'a> {
         self.nodes.label(self.number)
     }
 
-    /// The cost that the node claims: 0 for a leaf.
+    /// Returns the cost that the node claims, 0 for a leaf.
     pub fn cost(&self) -> u32
         requires { 0 < length self.now }
         ensures { result ≡ cost_of (first_node self.now) }
@@ -55,7 +55,7 @@ impl<'a> Cursor<'a> {
         self.nodes.cost(self.number)
     }
 
-    /// The set of labels that the node claims, by rising numbers: for a leaf its label alone.
+    /// Returns the set of labels that the node claims, by rising numbers. A leaf claims only its own label.
     pub fn set(&self) -> &'a [LabelId]
         requires { 0 < length self.now }
         ensures { map (λ id. id.0) result.now ≡ set_of (first_node self.now) }
@@ -63,7 +63,7 @@ impl<'a> Cursor<'a> {
         self.nodes.set(self.number)
     }
 
-    /// The bits of the node, at least one if it is a chain, otherwise none.
+    /// Returns the bits of the node: at least one for a chain, none for another node.
     pub fn bits(&self) -> &'a [bool]
         requires { 0 < length self.now }
         ensures { result.now ≡ bits_of (first_node self.now) }
@@ -71,7 +71,7 @@ impl<'a> Cursor<'a> {
         self.nodes.bits(self.number)
     }
 
-    /// The side label of the node, if it is a chain.
+    /// Returns the side label of the node if it is a chain.
     pub fn side(&self) -> Option<LabelId>
         requires { 0 < length self.now }
         ensures { option_map (λ id. id.0) result ≡ side_of (first_node self.now) }
@@ -79,8 +79,8 @@ impl<'a> Cursor<'a> {
         self.nodes.side(self.number)
     }
 
-    /// The position of the next line: that of an inner node is followed by its lower half, and after all lines of that
-    /// by its upper half; that of a chain is followed by its end.
+    /// Returns a cursor at the next line. An inner node is followed by all lines of its lower half and then those of
+    /// its upper half, a chain by those of its end.
     pub fn next(&self) -> Cursor<'a>
         requires { 0 < length self.now }
         ensures { result ≡ from_next_line self.now }

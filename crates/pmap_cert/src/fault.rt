@@ -4,7 +4,7 @@ ghost use Rattle.pmap_cert.specs.declared.fault.CertFaultKind.TheVariants.{NoMem
 use std::alloc::{AllocError, AllocFailed};
 use thiserror::Error;
 
-/// What is wrong with a line of a certificate's text.
+/// The kind of a fault of a certificate's text.
 #[derive(Clone, Copy, Debug, PartialEq, Eq, Hash, Error)]
 pub enum CertFaultKind {
     #[error("not a header of a certificate")]
@@ -23,7 +23,7 @@ pub enum CertFaultKind {
     NoMemory,
 }
 
-/// The first fault of a text: what is wrong, and the line, counted from 1. Out of memory has the line 0.
+/// The first fault of a text: its kind and its line, counted from 1. `NoMemory` has line 0.
 #[derive(Clone, Copy, Debug, PartialEq, Eq, Hash, Error)]
 #[error("line {line}: {kind}")]
 pub struct CertFault {

@@ -11,7 +11,7 @@ pub enum Format {
 }
 
 impl Format {
-    /// The number of the format.
+    /// Returns the number of the format, 1 or 2.
     pub fn number(self) -> u32
         ensures { result ≡ format_number self }
     {

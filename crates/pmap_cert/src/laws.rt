@@ -1,4 +1,4 @@
-//! The laws on certificates.
+//! Laws about certificates.
 
 ghost use Rattle.std.specs.Prelude.{◌≡◌, ◌+◌, ◌≤◌, ◌&&◌, ◌||◌, ◌⊎◌, ◌↔◌, ℕ, List, Err, Ok, false, length, IsTrue};
 ghost use Rattle.pmap_text.specs.ListModel.{IsEquivalent, ListModel};
@@ -12,8 +12,8 @@ ghost use Rattle.pmap_cert.specs.FourQuarters.{four_quarters_certificate, four_q
 ghost use Rattle.pmap_cert.specs.ListForm.{HasListForm};
 ghost use Rattle.pmap_cert.specs.MinimalPair.{HasItsLabels, IsMinimalPair, IsSameCertificate};
 
-/// Acceptance is enough: whoever made the certificate, a list that it is accepted for labels every address as the map
-/// does, and no list that does so has fewer entries, nor fewer than the root's cost and one.
+/// An accepted certificate is enough, whoever made it: its list labels every address as the map does, and no list that
+/// does so has fewer entries. Each such list has at least as many entries as the root's cost plus one.
 pub fn acceptance_is_enough()
     ensures equivalent { (m : MapModel) (l : ListModel) (c : CertificateModel) → IsAccepted m l c →
         IsEquivalent l m }
@@ -24,14 +24,14 @@ pub fn acceptance_is_enough()
         (claim_of c.root).cost + 1 ≤ length other.prefixes }
 {}
 
-/// Each map has a minimal pair of a list and a certificate: its blocks are halved until each is settled, as a block of
+/// Each map has a minimal pair of a list and a certificate: its blocks are halved until each is settled, and a block of
 /// one address always is.
 pub fn minimal_pair_exists()
     ensures { (m : MapModel) → (l : ListModel) × (c : CertificateModel) × IsMinimalPair m l c }
 {}
 
-/// The certificate of a minimal pair is accepted for its list, which so labels every address as the map does, has just
-/// the root's cost and one entries, and no equivalent list has fewer.
+/// The certificate of a minimal pair is accepted for its list. So the list labels every address as the map does, and no
+/// equivalent list has fewer entries. The number of its entries is the root's cost plus one.
 pub fn minimal_pair_is_accepted()
     ensures accepted { (m : MapModel) (l : ListModel) (c : CertificateModel) → IsMinimalPair m l c →
         IsAccepted m l c }
@@ -43,8 +43,8 @@ pub fn minimal_pair_is_accepted()
         IsLeast m l }
 {}
 
-/// A map has one minimal pair: its certificates have one version, table and shape, and the same labels, costs and sets.
-/// So its lists are one list, if the map's table has the map's labels.
+/// A map has one minimal pair: all its certificates agree in version, table, shape, labels, costs and sets. If the
+/// map's table has all labels of the map, the lists are equal too.
 pub fn minimal_pair_is_unique()
     ensures certificates { (m : MapModel) (l l' : ListModel) (c c' : CertificateModel) →
         IsMinimalPair m l c → IsMinimalPair m l' c' → IsSameCertificate c c' }
@@ -52,34 +52,33 @@ pub fn minimal_pair_is_unique()
         IsMinimalPair m l c → IsMinimalPair m l' c' → HasItsLabels m → l ≡ l' }
 {}
 
-/// The certificates of a map's minimal pairs that have the form of their text are one certificate, and so have one
-/// text.
+/// If the certificates of two minimal pairs of a map both have a text, they are equal, and so are their texts.
 pub fn minimal_certificate_is_one()
     ensures { (m : MapModel) (l l' : ListModel) (c c' : CertificateModel) →
         IsMinimalPair m l c → IsMinimalPair m l' c' → HasTextForm c → HasTextForm c' → c ≡ c' }
 {}
 
-/// The label table of a map that a text is read as has the map's labels, so that the map has one minimal list.
+/// A map read from a text has all its labels in its table, so it has only one minimal list.
 pub fn map_text_has_its_labels()
     ensures { (text : List ℕ) (m : MapModel) → ReadsMap text m → HasItsLabels m }
 {}
 
-/// The map of each text that is read has a minimal pair whose certificate has the form of its text: its labels are in
-/// the table, and its costs are below 2 ^ 32, since a text has at most 1,000,000 mappings.
+/// A map read from a text has a minimal pair whose certificate has a text: its labels are in the table, and its costs
+/// are below 2 ^ 32, since a map text has at most 1,000,000 mappings.
 pub fn map_text_has_a_minimal_pair()
     ensures { (text : List ℕ) (m : MapModel) → ReadsMap text m →
         (l : ListModel) × (c : CertificateModel) × IsMinimalPair m l c × HasTextForm c }
 {}
 
-/// The list of a minimal pair has blocks that are no two equal, by rising first address and of one address the shorter
-/// first, with labels of its table.
+/// If the map's table has all its labels, the entries of a minimal pair's list have distinct blocks, ordered by first
+/// address and then by length, with labels of its table.
 pub fn minimal_list_is_in_order()
     ensures { (m : MapModel) (l : ListModel) (c : CertificateModel) →
         IsMinimalPair m l c → HasItsLabels m → HasListForm l }
 {}
 
-/// The exact pair depends on costs and sets alone: if a label is common, the sum of the costs with the common labels,
-/// otherwise one more with the labels of either. The order in which the sets are listed doesn't count.
+/// The exact pair of two pairs depends only on their costs and sets, however these are listed: if a label is common, it
+/// is the sum of the costs with the common labels, otherwise one more with the labels of either.
 pub fn exact_pair_is_of_sets()
     ensures common { (p r : Pair) (x : Label) → IsTrue (has p.labels x) → IsTrue (has r.labels x) →
         IsPairOf (exact_pair p r) (p.cost + r.cost) (λ y. has p.labels y && has r.labels y) }

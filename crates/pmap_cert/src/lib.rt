@@ -1,4 +1,4 @@
-//! Certificates that a prefix list is a shortest one for its map, and the laws on them.
+//! Certificates that show that a prefix list is a shortest one for its map, and laws about them.
 //!
 //! ```rust
 //! use pmap_cert::{read_cert, write_cert};
@@ -14,13 +14,13 @@
 //! a checker sees that no list that labels every address as the map does is shorter than the given one. The crate
 //! depends on prefix_keys (blocks) and pmap_text (maps, prefix lists and their labels).
 //!
-//! The layers above, the minimiser and the checker, may rely on these laws: an accepted certificate shows that its list
-//! is equivalent and least; each map has a minimal pair of a list and a certificate that is accepted; all minimal pairs
-//! of a map are alike; and that of a map text has a certificate with a text. The type `Certificate` ensures that labels
-//! are in the table, that sets rise, that no node lies deeper than an address has bits, and that format 1 has no chain.
-//! `write_cert` writes the one text of a certificate of either format. `read_cert` reads exactly these texts, and
-//! reports the first fault of any other. `compact` compacts a certificate by definition; if the first is accepted, so
-//! is the result.
+//! The minimiser and the checker may rely on these laws: an accepted certificate shows that its list is equivalent and
+//! that no equivalent list is shorter; each map has a minimal pair of a list and a certificate that is accepted; all
+//! minimal pairs of a map are alike; and a map read from a text has one whose certificate has a text. The type
+//! `Certificate` ensures that labels are in the table, that the numbers of each set rise, that no node is deeper than
+//! an address has bits, and that format 1 has no chain. `write_cert` writes the one text of a certificate of either
+//! format. `read_cert` reads exactly these texts, and reports the first fault of any other. `compact` replaces runs of
+//! inner nodes by chains; if the certificate is accepted, so is the result.
 #![tactic(auto)]
 
 mod certificate;

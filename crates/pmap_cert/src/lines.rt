@@ -9,7 +9,7 @@ use prefix_keys::find_byte;
 use std::alloc::AllocError;
 use std::marker::Model;
 
-/// What is left of a text, and how many of its lines were read.
+/// The rest of a text, and the number of lines read so far.
 #[derive(Drop)]
 pub struct Lines<'a> {
     rest: &'a [u8],
@@ -28,7 +28,7 @@ impl<'a> Model for Lines<'a> {
 }
 
 impl<'a> Lines<'a> {
-    /// All of a text is left.
+    /// Starts at the first line of a text.
     pub fn new(text: &'a [u8]) -> Lines<'a>
         ensures { result ≡ start_of text.now }
     {
@@ -38,7 +38,7 @@ impl<'a> Lines<'a> {
         }
     }
 
-    /// The next line and what follows its line feed.
+    /// Returns the next line without its line feed, and the lines that follow, or `None` if no line feed is left.
     pub fn next(&self) -> Option<(&'a [u8], Lines<'a>)>
         ensures { option_map (λ x. (x.0.now, x.1)) result ≡ next_line self.now }
     {
@@ -55,8 +55,8 @@ impl<'a> Lines<'a> {
         }
     }
 
-    /// Returns what the line of a node that comes next says, and what comes after it, or `None` if no such line comes
-    /// next. The set of an inner node or a chain is kept, and the bits of a chain.
+    /// Reads the next line of a node and returns it with the lines that follow, or `None` if no such line comes next.
+    /// `kept` gets the set of an inner node or a chain, and the bits of a chain.
     pub fn next_node(
         &self,
         kept: &mut Kept,
@@ -79,14 +79,14 @@ impl<'a> Lines<'a> {
         }
     }
 
-    /// Whether nothing is left.
+    /// Returns whether the text is at its end.
     pub fn is_ended(&self) -> bool
         ensures { result ≡ is_ended self.now.pieces }
     {
         self.rest.is_empty()
     }
 
-    /// A fault of the line that comes next.
+    /// Returns a fault of this kind in the next line.
     pub fn fault(&self, kind: CertFaultKind) -> CertFault
         ensures { result ≡ fault_at self.now kind }
     {

@@ -8,7 +8,7 @@ use crate::format::Format;
 use pmap_text::{LabelId, Labels};
 use std::alloc::AllocError;
 
-/// What the line of a node says: a leaf's label, the cost of an inner node, or the cost and the side label of a chain.
+/// The line of a node without its set and bits: a leaf's label, an inner node's cost, or a chain's cost and side label.
 #[derive(Clone, Copy)]
 pub enum NodeLine {
     Leaf(LabelId),
@@ -16,7 +16,7 @@ pub enum NodeLine {
     Chain(u32, LabelId),
 }
 
-/// What lines must fit: the format, the bits of an address and the label table.
+/// The limits of node lines: the format, the number of bits of an address, and the label table.
 #[derive(Clone, Copy)]
 pub struct Frame<'a> {
     pub format: Format,
@@ -42,7 +42,7 @@ fn after_byte(text: &[u8], byte: u8) -> Option<&[u8]>
     }
 }
 
-// Whether so many digits at the start of a text are a number without leading zeros.
+// Whether the first `count` digits of a text are a number without leading zeros.
 fn are_plain(text: &[u8], count: usize) -> bool
     requires { count ≤ length text.now }
     ensures some { IsTrue result → 0 < count }
@@ -56,7 +56,7 @@ fn are_plain(text: &[u8], count: usize) -> bool
     }
 }
 
-// Reads the number below the bound that a text begins with, after a space.
+// Reads a space and a number below the bound, and returns the number and the text after it.
 #[inline(always)]
 fn number_word(text: &[u8], bound: u64) -> Option<(u32, &[u8])>
     requires { bound ≤ 2 ^ 32 }
@@ -80,7 +80,7 @@ fn number_word(text: &[u8], bound: u64) -> Option<(u32, &[u8])>
     None
 }
 
-// Reads the bits that a text begins with, after a space, and keeps them. There are at most so many.
+// Reads a space and 1 to `most` bits, stores the bits, and returns the text after them.
 fn bits_word<'a>(
     bits: &mut Vec<bool>,
     text: &'a [u8],
@@ -105,7 +105,7 @@ fn bits_word<'a>(
     Ok(None)
 }
 
-// Reads the rising numbers, each after a space, to the end of the line, and keeps them.
+// Reads a set of rising numbers to the end of the line, stores it, and returns the text after the line.
 fn set_to_end<'a>(
     set: &mut Vec<LabelId>,
     text: &'a [u8],
@@ -134,7 +134,7 @@ fn set_to_end<'a>(
     }
 }
 
-// Reads the label of a leaf whose line goes on so after its letter.
+// Reads a leaf's line after its letter, and returns the label and the text after the line.
 #[inline(always)]
 fn leaf(text: &[u8], count: u64) -> Option<(LabelId, &[u8])>
     requires { count ≤ 2 ^ 32 }
@@ -145,7 +145,7 @@ fn leaf(text: &[u8], count: u64) -> Option<(LabelId, &[u8])>
     Some((LabelId(number), rest))
 }
 
-// Reads a number below the bound and the rising numbers to the end of the line, each after a space, and keeps these.
+// Reads a number below the bound and a set, stores the set, and returns the number and the text after the line.
 #[inline(always)]
 fn claim<'a>(
     set: &mut Vec<LabelId>,
@@ -167,7 +167,7 @@ fn claim<'a>(
     }
 }
 
-// Reads the cost and the side label of a chain whose line goes on so after its letter, and keeps its bits and its set.
+// Reads a chain's line after its letter, stores bits and set, and returns cost, side label and the text after the line.
 fn chain<'a>(
     kept: &mut Kept,
     text: &'a [u8],
@@ -191,9 +191,8 @@ fn chain<'a>(
     }
 }
 
-/// Reads the line of a node that a text begins with. Returns what it says and what follows its line feed, or `None` if
-/// the text begins with no such line in a certificate of so many labels. The set of an inner node or a chain is kept,
-/// and the bits of a chain.
+/// Reads the node line at the beginning of a text, and returns it with the text after it, or `None` if it is malformed
+/// for `count` labels. `kept` gets the set of an inner node or a chain, and the bits of a chain.
 pub fn node_line<'a>(
     kept: &mut Kept,
     frame: &Frame,

@@ -8,7 +8,7 @@ use std::alloc::{AllocError, Global};
 use std::marker::Model;
 use std::slice;
 
-// The line of a node: a leaf's label, the cost and the set of an inner node, or the halves of a chain's number.
+// The line of a node: a leaf's label, an inner node's cost and set, or the lower and upper 32 bits of a chain's index.
 #[derive(Clone, Copy)]
 enum Packed {
     Leaf(LabelId),
@@ -16,7 +16,7 @@ enum Packed {
     Chain(u32, u32),
 }
 
-// A chain: its claim, its side label, and where its bits begin and end.
+// A chain: its claim, its side label, and the range of its bits.
 #[derive(Clone, Copy)]
 struct PackedChain {
     cost: u32,
@@ -26,8 +26,8 @@ struct PackedChain {
     end: usize,
 }
 
-/// The nodes of a certificate in the order of their lines: 16 bytes a node and 32 a chain besides, and a pool with the
-/// labels of the sets that have not one label alone.
+/// The nodes of a certificate in the order of their lines. Each takes 16 bytes, a chain 32 more and one per bit. A pool
+/// has the labels of the sets that don't have exactly one.
 #[derive(Drop)]
 pub struct Nodes {
     lines: Vec<Packed>,
@@ -58,7 +58,7 @@ impl Model for Nodes {
 }
 
 impl Nodes {
-    /// No nodes.
+    /// Constructs an empty list of nodes.
     pub fn new(alloc: Global) -> Nodes
         ensures { result ≡ [] }
     {
@@ -70,14 +70,14 @@ impl Nodes {
         }
     }
 
-    /// How many nodes there are.
+    /// Returns the number of nodes.
     pub fn len(&self) -> usize
         ensures { result ≡ length self.now }
     {
         self.lines.len()
     }
 
-    /// Adds the line of a leaf with this label. If an allocation fails, the lines stay as they were.
+    /// Adds the line of a leaf with this label. If an allocation fails, the lines are unchanged.
     pub fn push_leaf(&mut self, id: LabelId) -> Result<(), AllocError>
         ensures ok { OnOk result (self.new ≡ self.old ++ PlainLine (LeafLine id.0) ∷ []) }
         ensures err { OnErr result (self.new ≡ self.old) }
@@ -86,8 +86,8 @@ impl Nodes {
         Ok(())
     }
 
-    /// Adds the line of an inner node that claims this cost and set, before those of its lower and of its upper half.
-    /// If an allocation fails, the lines stay as they were.
+    /// Adds the line of an inner node that claims this cost and set. The lines of its lower half must follow, then
+    /// those of its upper half. If an allocation fails, the lines are unchanged.
     pub fn push_inner(&mut self, cost: u32, set: &[LabelId]) -> Result<(), AllocError>
         ensures ok { OnOk result (self.new ≡ self.old ++ PlainLine (InnerLine cost (map (λ id. id.0) set.now)) ∷ []) }
         ensures err { OnErr result (self.new ≡ self.old) }
@@ -97,8 +97,8 @@ impl Nodes {
         Ok(())
     }
 
-    /// Adds the line of a chain with these bits and this side label that claims this cost and set, before those of its
-    /// end. If an allocation fails, the lines stay as they were.
+    /// Adds the line of a chain with these bits and this side label that claims this cost and set. The lines of its end
+    /// must follow. If an allocation fails, the lines are unchanged.
     pub fn push_chain(
         &mut self,
         cost: u32,
@@ -125,7 +125,7 @@ impl Nodes {
         Ok(())
     }
 
-    /// The label of the leaf with this line, or `None` for the line of another node.
+    /// Returns the label of the node at line `number` if it is a leaf.
     pub fn label(&self, number: usize) -> Option<LabelId>
         requires { number < length self.now }
         ensures { option_map (λ id. id.0) result
@@ -138,7 +138,7 @@ impl Nodes {
         }
     }
 
-    /// The cost in the line with this number, 0 for a leaf's.
+    /// Returns the cost of the node at line `number`, 0 for a leaf.
     pub fn cost(&self, number: usize) -> u32
         requires { number < length self.now }
         ensures { result ≡ line_cost (slice_index_or self.now number (PlainLine (LeafLine 0))) }
@@ -150,7 +150,7 @@ impl Nodes {
         }
     }
 
-    /// The set in the line with this number, the label alone for a leaf's.
+    /// Returns the set of the node at line `number`, only its own label for a leaf.
     pub fn set(&self, number: usize) -> &[LabelId]
         requires { number < length self.now }
         ensures { map (λ id. id.0) result.now
@@ -165,7 +165,7 @@ impl Nodes {
         }
     }
 
-    /// The bits of the chain with this line, none for the line of another node.
+    /// Returns the bits of the node at line `number`, none if it isn't a chain.
     pub fn bits(&self, number: usize) -> &[bool]
         requires { number < length self.now }
         ensures { result.now ≡ line_bits (slice_index_or self.now number (PlainLine (LeafLine 0))) }
@@ -180,7 +180,7 @@ impl Nodes {
         }
     }
 
-    /// The side label of the chain with this line, or `None` for the line of another node.
+    /// Returns the side label of the node at line `number` if it is a chain.
     pub fn side(&self, number: usize) -> Option<LabelId>
         requires { number < length self.now }
         ensures { option_map (λ id. id.0) result

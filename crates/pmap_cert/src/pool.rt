@@ -1,4 +1,4 @@
-//! Sets of labels that are kept in one pool.
+//! A pool of sets of labels.
 ghost use Rattle.std.specs.Prelude.{◌≡◌, ◌<◌, IfOk, length, map};
 ghost use Rattle.pmap_cert.specs.Packed.{HasSet, IsGrown, IsHeld, joined_halves, set_in};
 
@@ -7,22 +7,22 @@ use std::alloc::{AllocError, Global};
 use std::marker::Model;
 use std::slice;
 
-// How many numbers 32 bits have.
+// The number of values of 32 bits.
 const HALF: usize = 1 << 32;
 
-/// A set of labels in a pool.
+/// The id of a set of labels in a pool.
 #[derive(Clone, Copy)]
 pub struct SetId {
-    // If `high` is 0, the set has the label `low` alone. Otherwise the two are the halves of its offset in the pool,
-    // and `high` is one more.
+    // If `high` is 0, the set is the label `low` alone. Otherwise `low` and `high - 1` are the lower and the upper 32
+    // bits of the set's index in the pool.
     low: LabelId,
     high: u32,
 }
 
-/// A pool of sets of labels. A set of one label takes no memory there.
+/// A pool of sets of labels. A set of one label takes no memory in it.
 #[derive(Drop)]
 pub struct SetPool {
-    // Of each larger set how many labels it has, and then these.
+    // For each set that doesn't have exactly one label: the number of its labels, and then the labels.
     labels: Vec<LabelId>,
 }
 
@@ -35,14 +35,14 @@ impl Model for SetPool {
     ghost view = { λ s. s.labels.items };
 }
 
-/// The number with these lower and upper 32 bits.
+/// Returns the number with these lower and upper 32 bits.
 pub fn joined_halves(low: u32, high: u32) -> usize
     ensures { result ≡ joined_halves low high }
 {
     high as usize * HALF + low as usize
 }
 
-/// The lower and the upper 32 bits of a number.
+/// Returns the lower and the upper 32 bits of a number.
 pub fn halves(number: usize) -> (u32, u32)
     ensures { joined_halves result.0 result.1 ≡ number }
 {
@@ -50,14 +50,15 @@ pub fn halves(number: usize) -> (u32, u32)
 }
 
 impl SetPool {
-    /// A pool without sets.
+    /// Constructs an empty pool.
     pub fn new(alloc: Global) -> SetPool {
         SetPool {
             labels: Vec::new(alloc),
         }
     }
 
-    /// Keeps a set, and returns its id. If an allocation fails, the sets kept before stay as they are.
+    /// Stores a set and returns its id. If that fails, as it does for 2 ^ 32 labels or more, the sets in the pool are
+    /// unchanged.
     pub fn hold(&mut self, set: &[LabelId]) -> Result<SetId, AllocError>
         ensures grown { IsGrown self.old self.new }
         ensures ok { IfOk result (λ id. IsHeld self.new id (map (λ id. id.0) set.now)) }
@@ -80,7 +81,7 @@ impl SetPool {
         })
     }
 
-    /// The labels of a set that the pool has.
+    /// Returns the labels of a set in the pool.
     #[inline(always)]
     pub fn labels<'a>(&'a self, id: &'a SetId) -> &'a [LabelId]
         requires { HasSet self.now id.now }
@@ -95,7 +96,7 @@ impl SetPool {
         &self.labels[start..end]
     }
 
-    /// A copy of the pool.
+    /// Copies the pool.
     pub fn copy(&self, alloc: Global) -> Result<SetPool, AllocError>
         ensures { IfOk result (λ copy. copy ≡ self.now) }
     {

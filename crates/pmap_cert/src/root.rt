@@ -5,9 +5,9 @@ use crate::nodes::Nodes;
 use std::alloc::{AllocError, Global};
 use std::marker::Model;
 
-/// A node of a certificate with those below it: a leaf with the number of its label, an inner node with the cost and
-/// the set of labels that it claims, and the nodes of the lower and the upper half of its block, or a chain with such a
-/// claim, its bits, its side label and the node at its end. `Certificate::root` shows it.
+/// The root of a certificate with the nodes below it. A node is a leaf with the number of its label, an inner node with
+/// the cost and the set that it claims and the nodes of its block's halves, or a chain with such a claim, its bits, its
+/// side label and the node at its end. `Certificate::root` walks over them.
 #[derive(Drop)]
 pub struct Root {
     nodes: Nodes,
@@ -26,7 +26,7 @@ impl Model for Root {
 }
 
 impl Root {
-    /// The tree of nodes whose lines are those of one node and of the nodes below it.
+    /// Returns the tree with these lines, which must be those of one node and the nodes below it.
     pub fn new(nodes: Nodes) -> Root
         requires { IsTree nodes }
         ensures { (node : Node) → nodes ≡ lines_of node → result ≡ node }
@@ -34,7 +34,7 @@ impl Root {
         Root { nodes }
     }
 
-    /// The lines.
+    /// Returns the lines of the tree.
     pub fn nodes(&self) -> &Nodes
         ensures { result.now ≡ lines_of self.now }
     {

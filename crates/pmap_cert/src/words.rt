@@ -1,11 +1,11 @@
-//! The words of a line: its pieces between single spaces, and the numbers that they write.
+//! The words of a line, which are its pieces between single spaces, and their numbers.
 ghost use Rattle.std.specs.Prelude.{◌≡◌, ◌^◌, ◌<◌, ◌≤◌, ◌&&◌, ◌==◌, ◌∷◌, IfSome, length, not, option_map, slice_index};
 ghost use Rattle.pmap_cert.specs.FormatReading.{number_below as number_below_of, words_of};
 ghost use Rattle.pmap_cert.specs.Words.{words_behind};
 
 use prefix_keys::{find_byte, read_decimal};
 
-/// The first word, and what follows the space after it, if there is one.
+/// Returns the first word, and the text after the space that follows it, if there is one.
 pub fn split_word(text: &[u8]) -> (&[u8], Option<&[u8]>)
     ensures words { words_of text.now ≡ result.0.now ∷ words_behind (option_map (λ rest. rest.now) result.1) }
     ensures shorter { IfSome result.1 (λ rest. length rest.now < length text.now) }
@@ -16,7 +16,7 @@ pub fn split_word(text: &[u8]) -> (&[u8], Option<&[u8]>)
     }
 }
 
-// Whether a 0 begins a longer word.
+// Whether a word of more than one byte begins with 0.
 fn has_leading_zero(word: &[u8]) -> bool
     requires { 0 < length word.now }
     ensures { result ≡ (not (length word.now == 1) && slice_index word.now 0 == 48) }
@@ -24,7 +24,7 @@ fn has_leading_zero(word: &[u8]) -> bool
     word.len() != 1 && word[0] == b'0'
 }
 
-/// The number below the bound that a word is the decimal text of: digits without leading zeros.
+/// Parses a word as a decimal number below the bound, without leading zeros. Returns `None` if it isn't one.
 pub fn number_below(word: &[u8], bound: u64) -> Option<u32>
     requires { bound ≤ 2 ^ 32 }
     ensures { result ≡ number_below_of bound word.now }

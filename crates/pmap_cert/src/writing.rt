@@ -1,4 +1,4 @@
-//! The text of a certificate.
+//! Writing the text of a certificate.
 ghost use Rattle.std.specs.Prelude.{◌≡◌, ◌<◌, ◌++◌, ◌∷◌, [], IfOk, OnOk, length, map, slice_index_or};
 ghost use Rattle.std.specs.List.{flat_map};
 ghost use Rattle.std.specs.Fmt.{decimal};
@@ -50,7 +50,7 @@ pub fn push_leaf_line(out: &mut Vec<u8>, id: LabelId) -> Result<(), AllocError>
     Ok(())
 }
 
-/// Appends the line of an inner node that claims this.
+/// Appends the line of an inner node that claims this cost and set.
 pub fn push_inner_line(out: &mut Vec<u8>, cost: u32, set: &[LabelId]) -> Result<(), AllocError>
     ensures { OnOk result (out.new.items ≡ out.old.items ++ (inner_line cost (map (λ id. id.0) set.now) ++ 10 ∷ [])) }
 {
@@ -61,7 +61,7 @@ pub fn push_inner_line(out: &mut Vec<u8>, cost: u32, set: &[LabelId]) -> Result<
     Ok(())
 }
 
-// Appends a space and the digits of bits.
+// Appends a space and the bits as digits 0 and 1.
 fn push_bits(out: &mut Vec<u8>, bits: &[bool]) -> Result<(), AllocError>
     ensures { OnOk result (out.new.items ≡ out.old.items ++ 32 ∷ bit_digits bits.now) }
 {
@@ -92,7 +92,7 @@ fn push_chain(
     Ok(())
 }
 
-// Appends the line with a number.
+// Appends the line of the node at line `number`.
 fn push_line(out: &mut Vec<u8>, nodes: &Nodes, number: usize) -> Result<(), AllocError>
     requires { number < length nodes.now }
     ensures { OnOk result (out.new.items ≡ out.old.items
@@ -109,7 +109,7 @@ fn push_line(out: &mut Vec<u8>, nodes: &Nodes, number: usize) -> Result<(), Allo
     }
 }
 
-// Appends all lines.
+// Appends the lines of all nodes.
 fn push_nodes(out: &mut Vec<u8>, nodes: &Nodes) -> Result<(), AllocError>
     ensures { OnOk result (out.new.items ≡ out.old.items ++ text_of_lines (map line_text nodes.now)) }
 {
@@ -133,7 +133,7 @@ fn push_labels(out: &mut Vec<u8>, labels: &Labels) -> Result<(), AllocError>
     Ok(())
 }
 
-// The word of a version.
+// The name of a version in a header.
 fn version_text(version: Version) -> &'static [u8]
     ensures { result.now ≡ version_word version }
 {
@@ -143,7 +143,7 @@ fn version_text(version: Version) -> &'static [u8]
     }
 }
 
-// The word of a format.
+// The name of a format in a header.
 fn format_text(format: Format) -> &'static [u8]
     ensures { result.now ≡ format_word (format_number format) }
 {
@@ -153,7 +153,7 @@ fn format_text(format: Format) -> &'static [u8]
     }
 }
 
-// Appends the header of a certificate with so many labels.
+// Appends the header of a certificate with `count` labels.
 fn push_header(
     out: &mut Vec<u8>,
     format: Format,
@@ -172,7 +172,7 @@ fn push_header(
     Ok(())
 }
 
-/// Appends what the text of a certificate begins with: its header and its label table. The lines of its nodes follow.
+/// Appends the beginning of a certificate's text: its header and its label table. The lines of its nodes must follow.
 pub fn push_head(
     out: &mut Vec<u8>,
     format: Format,
@@ -186,12 +186,12 @@ pub fn push_head(
     push_labels(out, labels)
 }
 
-/// The text of a certificate: a header, its label table and its nodes in preorder.
+/// Returns the text of a certificate: a header, its label table and its nodes in preorder.
 ///
 /// The lines are `flowlabel-cert FORMAT VERSION COUNT`, then COUNT labels, and then `l NUMBER` for a leaf,
-/// `n COST NUMBER NUMBER ..` for an inner node, before the nodes of its lower and of its upper half, and
-/// `c COST BITS SIDE NUMBER NUMBER ..` for a chain, before the node at its end. The number of a label is its place in
-/// the table, from 0. Each certificate has one text, and `read_cert` reads it back.
+/// `n COST NUMBER NUMBER ..` for an inner node, followed by its lower half and then its upper half, and
+/// `c COST BITS SIDE NUMBER NUMBER ..` for a chain, followed by its end. The number of a label is its index in the
+/// table, from 0. Each certificate has one text, and `read_cert` reads it back.
 pub fn write_cert(alloc: Global, certificate: &Certificate) -> Result<Vec<u8>, AllocError>
     ensures { IfOk result (λ text. text.items ≡ certificate_text (certificate_of certificate.now)) }
 {

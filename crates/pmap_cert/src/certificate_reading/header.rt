@@ -10,7 +10,7 @@ use crate::lines::Lines;
 use crate::words::{number_below, split_word};
 use prefix_keys::Version;
 
-/// What a header says: the format, the version of addresses and how many labels there are.
+/// The values of a header: the format, the version of addresses and the number of labels.
 #[derive(Clone, Copy)]
 pub struct Header {
     pub format: Format,
@@ -44,7 +44,7 @@ fn named_format(word: &[u8]) -> Option<Format>
     }
 }
 
-// What the four words of a header say.
+// Parses the four words of a header line.
 fn said_by(name: &[u8], format: &[u8], version: &[u8], count: &[u8]) -> Option<Header>
     ensures { option_map header_model result
         ≡ format_header_of (name.now ∷ format.now ∷ version.now ∷ count.now ∷ []) }
@@ -63,7 +63,7 @@ fn said_by(name: &[u8], format: &[u8], version: &[u8], count: &[u8]) -> Option<H
     }
 }
 
-// What a header says.
+// Parses a header line.
 fn said(line: &[u8]) -> Option<Header>
     ensures { option_map header_model result ≡ format_header_of (words_of line.now) }
 {
@@ -77,7 +77,7 @@ fn said(line: &[u8]) -> Option<Header>
     }
 }
 
-/// The header of a text.
+/// Reads the next line as a header and returns it with the lines that follow, or a `BadHeader` fault.
 pub fn read_header<'a>(lines: &Lines<'a>) -> Result<(Header, Lines<'a>), CertFault>
     ensures ok { IfOk result (λ x. format_header_at lines.now ≡ Ok (header_model x.0, x.1)) }
     ensures err { IfErr result (λ fault. format_header_at lines.now ≡ Err fault) }

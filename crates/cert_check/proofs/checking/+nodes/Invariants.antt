@@ -2,8 +2,8 @@ use Rattle.std.proofs.Common.{◌+◌, ◌*◌, ◌-◌, length}
 use Rattle.prefix_keys.specs.Version.{width_of}
 use Rattle.cert_check.proofs.checking.+nodes.Given as goal
 
--- each half of a block has more bits than the block, and so has the end of a way; at one block a way without bits comes
--- before the node at its end, a node before what it is: an inner node or a chain, and a chain before what is below it
+-- Halves of a block and ends of ways have more bits than the block. At one block, a way without bits comes before the
+-- node at its end, a node before the inner node or chain that it is, and a chain before what is below it.
 abbrev pub decreases-check_node : goal.decreases-check_node
 decreases-check_node l = 8 * (width_of l.part.now.block.version - l.part.now.block.len) + 5
 

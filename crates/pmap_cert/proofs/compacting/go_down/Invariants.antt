@@ -2,7 +2,7 @@ use Rattle.std.proofs.Common.{◌≡◌, ◌+◌, ◌-◌, ◌≤◌, ◌++◌, 
 use Rattle.pmap_cert.specs.Placing.{HasPlace, bits_down, end_down, node_from}
 use Rattle.pmap_cert.proofs.compacting.go_down.Given as goal
 
--- the run from the first line is the bits so far and the run from this line
+-- the run from the first line is the bits so far and then the run from line `number`
 abbrev pub invariant-loop-bit : goal.invariant-loop-bit
 invariant-loop-bit l = record {
   run : bits_down l.side.0 (node_from l.nodes l.first) ≡ l.bits.items ++ bits_down l.side.0 (node_from l.nodes l.number);

@@ -2,7 +2,7 @@ use Rattle.std.proofs.Common.{length, map}
 use Rattle.pmap_cert.proofs.LineTexts.{IsReadTo}
 use Rattle.pmap_cert.proofs.node_line.set_to_end.Given as goal
 
--- the numbers that were read, and those that may follow
+-- the whole set is the numbers so far and those that the rest begins with
 abbrev pub invariant-loop-after : goal.invariant-loop-after
 invariant-loop-after l = IsReadTo l.count l.low l.text (map (λ id. id.0) l.set.items) l.rest
 
