@@ -22,7 +22,7 @@ front_within a b h = omega (arith, length-take (length a) b, ap length h)
 pub front_stays : {X : Type 0} (a b c : List X) → take (length a) b ≡ a → take (length b) c ≡ b → take (length a) c ≡ a
 front_stays a b c h k = sym (take-take (length a) (length b) c (front_within a b h)) ∙ ap (take (length a)) k ∙ h
 
--- where each row passes, all do
+-- if each row passes, all do
 pub all_pass : (p : RowView → Bool) → ((row : RowView) → p row ≡ true) → (rows : List RowView) → filter p rows ≡ rows
 all_pass p each [] = refl
 all_pass p each (row ∷ rows) = rw (each row) (ap (λ (rest : List RowView). row ∷ rest) (all_pass p each rows))

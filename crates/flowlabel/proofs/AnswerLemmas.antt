@@ -1,4 +1,4 @@
--- How the answer of `parse` follows from the kind of clap's error, or from the entries of its matches.
+-- How the result of `parse` follows from the kind of clap's error, or from the entries of its matches.
 use Rattle.std.proofs.Common.{◌≡◌, ◌≢◌, ◌⊎◌, ◌∙◌, ◌||◌, Bool, true, false, List, [], ◌∷◌, Option, Some, None, Result, Ok, Err, refl, sym, ap, ap₂, inl, inr, codes}
 use Rattle.std.specs.Prelude.{IfErr, IfOk, option_map, unwrap_or, if◌then◌else◌}
 use Rattle.std.specs.List.{list_any}
@@ -23,7 +23,7 @@ use Rattle.flowlabel.specs.declared.command.Command.{Command}
 use Rattle.flowlabel.specs.declared.usage.UsageFault.{UsageFault}
 use Rattle.flowlabel.specs.declared.usage.UsageFault.TheVariants.{Refused, NotUtf8, Help, MapTwice, MapMissing, BadAddress, Filter, Key, LabelNeedsMap, CompactAlone, NoMemory}
 
--- the definition is one of those that clap's theorems are about
+-- clap's theorems are about definitions such as this one
 pub flowlabel_is_simple : is_simple flowlabel_app ≡ true
 unfolding flowlabel_app clap_on_literals
 flowlabel_is_simple = refl
@@ -42,7 +42,7 @@ among_passes p k [] h e = absurd h
 among_passes p k (x ∷ xs) (inl same) e = rw (← same, e) refl
 among_passes p k (x ∷ xs) (inr rest) e = or_right (p x) _ (among_passes p k xs rest e)
 
--- a fault that comes of an error's kind says what clap's theorem says of that kind
+-- the fault of an error says about the words what clap's theorem says about the kind of the error
 pub fault_at : (words : List Text) (k : ErrorKind) (f : UsageFault) → (k ≡ kind.OutOfMemory) ⊎ IsAmong k (fault_of flowlabel_app words)
     → IsFaultOfKind k f → IsFaultAt words f
 fault_at words k (Refused text) (inl e) h =
@@ -56,7 +56,7 @@ fault_at words k (Help text) (inr among) h = among_passes is_help k _ among h
 fault_at words k NoMemory from h = tt
 fault_at words k fault from h = absurd h
 
--- a fault of the program's own that answers the words is a fault of theirs
+-- a fault that the program itself finds in words is a fault of the words
 fault_of_answer : (words : List Text) (f : UsageFault) → IsOwnFault f → Answers words (Err f) → IsFaultAt words f
 fault_of_answer words (Refused text) own is = absurd own
 fault_of_answer words NotUtf8 own is = absurd own
@@ -64,7 +64,7 @@ fault_of_answer words (Help text) own is = absurd own
 fault_of_answer words NoMemory own is = tt
 fault_of_answer words fault own is = is
 
--- two steps that give neither a refusal of clap's nor help give neither one after the other
+-- if two steps give neither a refusal of clap's nor help, both together give neither
 then_own : {A B : Type 0} (r : Result A UsageFault) (f : A → Result B UsageFault) → IsOwnAnswer r → ((x : A) → IsOwnAnswer (f x))
     → IsOwnAnswer (r >>= f)
 then_own (Ok x) f own all = all x
@@ -84,13 +84,13 @@ address_own : (source : LabelSource) (address : Option AddressOf) → IsOwnAnswe
 address_own source None = tt
 address_own source (Some address) = tt
 
--- the label command gives neither
+-- `label` gives neither a refusal of clap's nor help
 label_own : (rows : List Row) → IsOwnAnswer (answer_of_label rows)
 label_own rows =
     then_own (sources_in_rows rows) _ (source_own _ _)
     (λ found. then_own (needed_source found) _ (needed_own found) (λ labels. address_own labels (address_in_rows rows)))
 
--- and so do `rows` and its parts
+-- `rows` and its parts give neither a refusal of clap's nor help
 condition_own : (r : Result Condition FilterFault) → IsOwnAnswer (condition_answer r)
 condition_own (Ok condition) = tt
 condition_own (Err fault) = tt
@@ -105,7 +105,7 @@ rows_own rows =
     then_own (sources_in_rows rows) _ (source_own _ _)
     (λ source. then_own (condition_in_rows rows) _ (condition_own (filter_of_words (words_in_rows rows))) (λ condition. with_labels_own (needs_map condition) source _))
 
--- and so does `uniq`
+-- `uniq` and its parts give neither a refusal of clap's nor help
 fields_own : (r : Result (List KeyField) KeyFault) → IsOwnAnswer (fields_answer r)
 fields_own (Ok fields) = tt
 fields_own (Err fault) = tt
@@ -135,7 +135,7 @@ either_own : (b : Bool) (answer other : Answer) → IsOwnAnswer answer → IsOwn
 either_own true answer other p q = p
 either_own false answer other p q = q
 
--- no command gives either
+-- no command gives a refusal of clap's or help
 pub answer_own : (p : Text × List Row) → IsOwnAnswer (answer_of p)
 answer_own p =
     either_own (bytes_eq p.0 (codes "info")) (Ok (info (text_in_rows (codes "flows") p.1))) _ tt
@@ -147,7 +147,7 @@ answer_own p =
     (Ok (check (text_in_rows (codes "pmap") p.1) (text_in_rows (codes "list") p.1) (text_in_rows (codes "cert") p.1))) _ tt
     (either_own (bytes_eq p.0 (codes "recert")) (Ok (recert (text_in_rows (codes "cert") p.1))) _ tt (label_own p.1)))))))
 
--- memory aside, the result is the answer
+-- a fault that is the answer's unless it is out of memory
 fault_unless_memory : (answer : Answer) (fault : UsageFault) → (fault ≢ NoMemory → answer ≡ Err fault) → IsUnlessMemory answer (Err fault)
 fault_unless_memory answer NoMemory says = tt
 fault_unless_memory answer fault says = says (λ e. cc)
@@ -157,7 +157,7 @@ pub unless_memory : (answer : Answer) (r : Result Command UsageFault) → IfOk r
 unless_memory answer (Ok command) ok err = ok
 unless_memory answer (Err fault) ok err = fault_unless_memory answer fault err
 
--- and the answer's own, or out of memory
+-- a fault that is the answer's unless it is out of memory is one of the two
 said_or_memory : (answer : Answer) (fault : UsageFault) → IsUnlessMemory answer (Err fault) → (fault ≡ NoMemory) ⊎ (answer ≡ Err fault)
 said_or_memory answer NoMemory says = inl refl
 said_or_memory answer fault says = inr says
@@ -166,12 +166,12 @@ own_or_memory : (answer : Answer) (fault : UsageFault) → IsOwnAnswer answer �
 own_or_memory answer fault is (inl none) = rw none tt
 own_or_memory answer fault is (inr says) = rw says at is
 
--- and so is a result that is equal to it, memory aside
+-- if the answer is neither a refusal of clap's nor help, a result that is the answer or out of memory is neither
 pub own : (answer : Answer) (r : Result Command UsageFault) → IsOwnAnswer answer → IsUnlessMemory answer r → IsOwnAnswer r
 own answer (Ok command) is says = tt
 own answer (Err fault) is says = own_or_memory answer fault is (said_or_memory answer fault says)
 
--- a pair in an option, by its parts
+-- a pair in an option is determined by its parts
 pair_is : {A B : Type 0} (o : Option (A × B)) (a : A) (b : B) → option_map (λ p. p.0) o ≡ Some a → option_map (λ p. p.1) o ≡ Some b → o ≡ Some (a, b)
 pair_is None a b e f = cc
 pair_is {A} {B} (Some p) a b e f = ap₂ (λ (x : Option A) (y : Option B). Some (unwrap_or x p.0, unwrap_or y p.1)) e f
@@ -196,7 +196,7 @@ answers words p (Err fault) none found says = elim (said_or_memory (answer_of p)
       fault_of_answer words fault own_fault (none, ap (option_map answer_of) found ∙ ap Some said)
 ]
 
--- the fault that reports out of memory is neither a refusal of clap's nor help
+-- the fault of an error that reports out of memory is neither a refusal of clap's nor help
 pub own_of_memory : (k : ErrorKind) (f : UsageFault) → k ≡ kind.OutOfMemory → IsFaultOfKind k f → IsOwnFault f
 own_of_memory k (Refused text) e h =
     let bad : false ≡ true = rw e at h in

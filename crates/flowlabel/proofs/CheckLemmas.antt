@@ -1,4 +1,4 @@
--- What a printed text of `check` says of its three files.
+-- What a printed text of `check` says about its three files.
 use Rattle.std.proofs.Common.{◌≡◌, ℕ, List, Ok, inl, inr}
 use Rattle.std.specs.Prelude.{length}
 use Rattle.pmap_text.specs.ListModel.{IsEquivalent, ListModel}
@@ -8,7 +8,7 @@ use Rattle.pmap_cert.specs.Acceptance.{IsAccepted, IsLeast}
 use Rattle.pmap_cert.specs.CertificateModel.{CertificateModel}
 use Rattle.flowlabel.specs.Output.{CertificateThen, CheckIsEnough, Checks, ListThen, MapThen, Outcome, ReadsCertificate, minimal_text}
 
--- a text comes of the map that a map text is read as, and of the list that a list text is read as
+-- if the output is a text, it is that for the map, or the list, that the file's text is read as
 pub printed_of_map : (rest : MapModel → Outcome → Type 0) (text out : List ℕ) → MapThen rest text (Ok out)
     → (m : MapModel) × ReadsMap text m × rest m (Ok out)
 printed_of_map rest text out (inl (fault, fails, is)) = cc
@@ -24,7 +24,7 @@ pub printed_of_certificate : (rest : CertificateModel → Outcome → Type 0) (t
 printed_of_certificate rest text out (inl (fault, fails, is)) = cc
 printed_of_certificate rest text out (inr found) = found
 
--- a text comes of an accepted certificate
+-- if `check` prints a text, the certificate is accepted
 pub accepted_of : (m : MapModel) (l : ListModel) (c : CertificateModel) (out : List ℕ) → Checks m l c (Ok out)
     → IsAccepted m l c × (out ≡ minimal_text (length l.prefixes))
 accepted_of m l c out (inl (accepted, prints)) = (accepted, cc)

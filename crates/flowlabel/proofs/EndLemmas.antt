@@ -1,4 +1,4 @@
--- What the end of the program says.
+-- What the program's result says about its words and its output.
 use Rattle.std.proofs.Common.{◌≡◌, ℕ, Bool, List, Option, Some, None, Result, Ok, Err, false, refl, subst, sym}
 use Rattle.std.specs.Prelude.{IfErr, OnOk, option_map}
 use Rattle.std.specs.Io.KnownBytes.{Appends, Keeps}
@@ -15,7 +15,7 @@ use Rattle.flowlabel.specs.declared.fault.RunFault.{RunFault}
 use Rattle.flowlabel.specs.declared.fault.RunFault.TheVariants.{Usage, CannotOpen, CannotRead, CannotWrite, NoMemory, File}
 use Rattle.flowlabel.specs.declared.inputs.Inputs.{Inputs}
 
--- the fault of the first file that can't be opened, as a `?` hands it on
+-- a `?` passes on the fault of the first file that can't be opened
 pub refused_first : {A R : Type 0} (answers : Text → Option R → Type 0) (names : FileNames) (turn : Turn) (r : Result A RunFault) (fault : RunFault)
     → IsErrAnd r (λ y. y ≡ fault) → CannotOpenNamed answers (name_at turn names) fault → CanOpenBefore answers turn names
     → IfErr r (CannotOpenFirst answers names)
@@ -23,18 +23,18 @@ refused_first answers names turn (Ok done) fault is cannot before = absurd is
 refused_first answers names turn (Err other) fault is cannot before =
     subst (λ (f : RunFault). CannotOpenFirst answers names f) (sym is) (turn, cannot, before)
 
--- known bytes are what they were
+-- known bytes stay the same
 kept : (known : Option (List ℕ)) → Keeps known known
 kept None = tt
 kept (Some bytes) = refl
 
 module _ {R W : Type 0} (answers : Text → Option R → Type 0) (left : R → Option (List ℕ)) (failed : R → Bool)
     (taken : W → Option (List ℕ)) (last : W → LastCall) (words : List Text) (old : W) where
-  -- before a file is read nothing is written
+  -- an output that isn't written is untouched
   pub untouched : IsUntouched taken last old old
   untouched = (kept (taken old), refl)
 
-  -- a fault that says that a file can't be opened names it
+  -- the result of the program if a file can't be opened
   pub end_of_open : (request : Request) (fault : RunFault) → Answers words (Ok request) → CannotOpenFirst answers (files_of request) fault
       → IsEndOf answers left failed taken last words old old (Err fault)
   end_of_open request (CannotOpen file) is first = (request, is, first, untouched)
@@ -57,7 +57,7 @@ module _ {R W : Type 0} (answers : Text → Option R → Type 0) (left : R → O
   end_of_run request inputs inputs' new (Err (CannotOpen file)) asked ok err = absurd err
   end_of_run request inputs inputs' new (Err fault) asked ok err = (request, inputs, inputs', asked, err)
 
--- such a fault isn't a fault of the writer
+-- a fault that a file can't be opened isn't a write fault
 no_write_stop : (A : Type 0) {R : Type 0} (answers : Text → Option R → Type 0) (names : FileNames) (fault : RunFault)
     → CannotOpenFirst answers names fault → is_write_stop {A = A} (Err fault) ≡ false
 no_write_stop A answers names CannotWrite (turn, cannot, before) = absurd cannot

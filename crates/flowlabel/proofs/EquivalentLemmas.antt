@@ -10,7 +10,7 @@ use Rattle.label_lookup.proofs.Labellings.{same_labelling}
 use Rattle.flowlabel.specs.Output.{FileTexts, FlowsThen, IsOutput, ListThen, MapThen, Outcome, Prints, PrintsRuns, ReportsThen, SameUnderEquivalents, label_text, report_of_rows, under, report_of_groups}
 use Rattle.flowlabel.specs.Request.{FromList, FromMap, label, info, rows, cat, uniq}
 
--- what comes of a text that is read as a map is what comes of the map, and so with lists
+-- the outcome over a text that is read as a map or a list is that for the map or the list
 of_map : (rest : MapModel → Outcome → Type 0) (text : List ℕ) (m : MapModel) (outcome : Outcome) → ReadsMap text m
     → MapThen rest text outcome → rest m outcome
 of_map rest text m outcome reads (inl (fault, fails, is)) = cc
@@ -23,7 +23,7 @@ of_list rest text l outcome reads (inl (fault, fails, is)) = cc
 of_list rest text l outcome reads (inr (other, reads', is)) =
     let same : other ≡ l = cc in subst (λ (x : ListModel). rest x outcome) same is
 
--- so what comes of one labelling comes of the other
+-- equivalent labellings have the same outcomes
 swap : (rest : Labelling → Outcome → Type 0) (map list : List ℕ) (m : MapModel) (l : ListModel) (outcome : Outcome)
     → ReadsMap map m → ReadsList list l → IsEquivalent l m
     → MapThen (λ k. rest (labelling_of_map k)) map outcome ↔ ListThen (λ k. rest (labelling_of_list k)) list outcome
@@ -33,7 +33,7 @@ swap rest map list m l outcome reads_map reads_list is =
       (λ there. inr (m, reads_map, subst (λ (k : Labelling). rest k outcome) same (of_list (λ k. rest (labelling_of_list k)) list l outcome reads_list there))),
     )
 
--- of one File
+-- what holds of a File's bytes holds of equal bytes
 over_file : (P : List ℕ → Type 0) (bytes other : List ℕ) → bytes ≡ other → P bytes ↔ P other
 over_file P bytes other same = ((λ x. subst P same x), (λ x. subst P (sym same) x))
 

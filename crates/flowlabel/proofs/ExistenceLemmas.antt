@@ -1,5 +1,5 @@
--- A request has an output over any texts: each text is read or has a first fault, and what is read has what is printed
--- of it.
+-- A request has an output over any texts: each text is read or has a first fault, and there is an outcome for each
+-- value that is read.
 use Rattle.std.proofs.Common.{◌≡◌, ◌⊎◌, ℕ, List, [], Option, Some, None, Result, Ok, Err, inl, inr, refl}
 use Rattle.std.specs.Prelude.{length}
 use Rattle.prefix_keys.specs.declared.version.Version.{Version}

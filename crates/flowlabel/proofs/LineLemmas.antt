@@ -1,4 +1,4 @@
--- What clap's theorems say of a command line, by computing them at it.
+-- What clap's theorems say about the example command lines, by computation.
 use Rattle.std.proofs.Common.{◌≡◌, ◌∙◌, ◌==◌, ℕ, Bool, true, false, not, List, [], ◌∷◌, Option, Some, None, Result, Ok, Err, refl, sym, ap, codes}
 use Rattle.std.specs.Prelude.{unwrap_or}
 use Rattle.clap.specs.Lexer.{short_of}

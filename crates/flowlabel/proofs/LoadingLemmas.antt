@@ -1,4 +1,4 @@
--- From the inputs of a run to what is loaded of them, and from that to the output of its request.
+-- How the inputs of a run give its loaded files, and these give the output of its request.
 use Rattle.std.proofs.Common.{◌≡◌, ◌∙◌, ◌⊎◌, ℕ, Bool, List, [], Option, Some, None, Result, Ok, Err, true, false, ◌||◌, refl, sym, ap, subst, inl, inr}
 use Rattle.std.specs.Prelude.{IfErr, is_some, option_and_then}
 use Rattle.std.specs.Result.{IsErrAnd}
@@ -37,7 +37,7 @@ pub passed_on : {A F : Type 0} (P : F → Type 0) (r : Result A F) (fault : F) �
 passed_on P (Ok done) fault is holds = absurd is
 passed_on P (Err other) fault is holds = subst P (sym is) holds
 
--- and it ends both results for the same reason
+-- two results with the same fault both end because a reader failed, or neither does
 same_stop : (A B : Type 0) (fault : RunFault) → is_read_stop {A = B} (Err fault) ≡ is_read_stop {A = A} (Err fault)
 same_stop A B (CannotRead file) = refl
 same_stop A B fault = refl
@@ -92,7 +92,7 @@ module _ {R : Type 0} (failed : R → Bool) (old : Inputs R) (none : any_failed 
   no_flows_failed : source_failed failed old.flows ≡ false
   no_flows_failed = or_back (source_failed failed old.certificate) _ (or_back (source_failed failed old.list) _ (or_back (source_failed failed old.map) _ none))
 
-  -- if no reader had failed, the reader that has been read since decides whether one has
+  -- if no reader had failed, the one that was read since decides whether any has
   pub map_tells : (map : Option (Source R)) (b : Bool) → source_failed failed map ≡ b → any_failed failed (record old { map = map }) ≡ b
   map_tells map b is = rw (is, no_list_failed, no_certificate_failed, no_flows_failed) (or_last b)
 
@@ -108,7 +108,7 @@ module _ {R : Type 0} (failed : R → Bool) (old : Inputs R) (none : any_failed 
   flows_tell flows b is = rw (no_map_failed, no_list_failed, no_certificate_failed, is) refl
 
 module _ {R : Type 0} (left : R → Option (List ℕ)) where
-  -- what is loaded of an input says that the input is read
+  -- an input from which a value is loaded is read without fault
   pub is_read : {A : Type 0} (turn : Turn) (Reads : List ℕ → A → Type 0) → ((text : List ℕ) (value : A) → Reads text value → IsReadAt turn text)
       → (input : Option (Source R)) (value : Option A) → is_some value ≡ is_some input
       → ((text : List ℕ) → HasText left input text → Holds Reads text value) → IsRead left turn input
@@ -116,14 +116,14 @@ module _ {R : Type 0} (left : R → Option (List ℕ)) where
   is_read turn Reads says (Some source) (Some value) there holds = λ text told. says text value (holds text told)
   is_read turn Reads says (Some source) None there holds = cc
 
-  -- so is its text, if it is needed
+  -- the text of an input that is read without fault is so, if it is needed
   pub is_read_if : (needed : Bool) (turn : Turn) (input : Option (Source R)) (text : List ℕ) → is_some input ≡ needed → IsRead left turn input
       → HasText left input text → IsReadIf needed turn text
   is_read_if false turn input text there read told = tt
   is_read_if true turn (Some source) text there read told = read text told
   is_read_if true turn None text there read told = cc
 
-  -- a fault over some texts is one over those that come of them
+  -- if each fault of one relation of texts to outcomes is one of another, so is the fault of a run
   pub fault_joins : (failed : R → Bool) (old new : Inputs R) (over over' : FileTexts → Outcome → Type 0)
       → ((texts : FileTexts) → HaveTexts left old texts → (fault : BytesFault) → over texts (Err fault) → over' texts (Err fault))
       → (fault : RunFault) → IsFaultOfBytes left failed old new over fault → IsFaultOfBytes left failed old new over' fault
@@ -148,7 +148,7 @@ module _ {R : Type 0} (left : R → Option (List ℕ)) where
     )
     at_turn turn input at before behind first fault is = absurd is
 
-    -- such a fault is the first one of the texts
+    -- a fault of the map's text is the first one of the texts
     pub map_first : (texts : FileTexts) → HaveTexts left old texts → is_some old.map ≡ true → (fault : BytesFault) → turn_of fault ≡ MapTurn
         → ((text : List ℕ) → HasText left old.map text → IsFaultOfText fault text) → IsFirstFault needs texts (Err fault)
     map_first texts have there (InMap fault) its says = (sym needed.map ∙ there, says texts.map have.map)
@@ -176,7 +176,7 @@ module _ {R : Type 0} (left : R → Option (List ℕ)) where
     certificate_first map list texts have there (InCheck fault) its says = absurd (says texts.certificate have.certificate)
     certificate_first map list texts have there fault its says = cc
 
-  -- a fault of an input's text, in the file of the input
+  -- a fault of an input's text, with the name of its file
   pub in_file_stop : (failed : R → Bool) (turn : Turn) (old new : Option (Source R)) (file : List ℕ) (fault : BytesFault) → turn_of fault ≡ turn
       → name_of old ≡ Some file
       → (is_want_of_memory fault ≡ false → (text : List ℕ) → HasText left old text → IsFaultOfText fault text)
@@ -190,7 +190,7 @@ module _ {R : Type 0} (left : R → Option (List ℕ)) where
   )
   in_file_stop failed turn old new file fault its name says stop is = absurd is
 
-  -- what a certificate says wrongly, in the certificate's file
+  -- a fault that `check` finds, with the name of the certificate's file
   pub in_check : (failed : R → Bool) (inputs : Inputs R) (s : Source R) (over : List ℕ → Outcome → Type 0) (fault : CheckFault) → inputs.certificate ≡ Some s
       → ((bytes : List ℕ) → is_check_want fault.kind ≡ false → over bytes (Err (InCheck fault)))
       → (stop : RunFault) → IsInFile s.name.now (InCheck fault) stop → IsFaultOfAnswer left failed inputs inputs over stop
@@ -202,7 +202,7 @@ module _ {R : Type 0} (left : R → Option (List ℕ)) where
   )
   in_check failed inputs s over fault e says stop is = absurd is
 
-  -- a fault of reading the flows is one of what comes of them
+  -- a fault of reading the flows is a fault after loading
   flows_late : (old new : Inputs R) (s : Source R) (over : List ℕ → Outcome → Type 0) (file : Bor (List ℕ)) → old.flows ≡ Some s
       → ((bytes : List ℕ) (fault : ReadFault) → HasFileFault [] 0 0 bytes fault → over bytes (Err (InFlows fault)))
       → (fault : BytesFault) → turn_of fault ≡ FlowsTurn → HasName (Some s) file
@@ -225,7 +225,7 @@ module _ {R : Type 0} (left : R → Option (List ℕ)) where
   flows_stop failed old new s s' over e e' joins (File fault) (its, name, says) = flows_late old new s over fault.file e joins fault.fault its name says
   flows_stop failed old new s s' over e e' joins fault is = absurd is
 
-  -- a fault of what comes of loaded files is one of all files
+  -- a fault after loading is a fault of all files
   late_is : (old mid new : Inputs R) (file : Bor (List ℕ)) → mid.flows ≡ old.flows → name_of mid.certificate ≡ name_of old.certificate
       → (fault : BytesFault) → IsLateFault mid new file fault → HasName (input_at (turn_of fault) old) file × AreKeptBehind (turn_of fault) old new
   late_is old mid new file flows name (InFlows fault) late = (subst (λ (x : Option (Source R)). HasName x file) flows late, tt)
@@ -248,7 +248,7 @@ module _ {R : Type 0} (left : R → Option (List ℕ)) where
       )
   answer_joins failed old mid new over over' flows name read joins fault is = absurd is
 
--- what comes of the labels that are loaded for a source comes of the source
+-- an outcome for the labels that are loaded for a source is one for the source
 labels_join : (source : LabelSource) (rest : Labelling → Outcome → Type 0) (texts : FileTexts) (outcome : Outcome) (map : Option MapText) (list : Option PrefixList)
     → is_some map ≡ is_some (map_in source) → is_some list ≡ is_some (list_in source) → Holds IsMapText texts.map map → Holds IsListText texts.list list
     → (labels : Labelling) → labelling_of_parts map list ≡ Some labels → rest labels outcome → LabelsThen source rest texts outcome
@@ -269,7 +269,7 @@ reports_join (Some (FromMap file)) text texts outcome (Some map) list there ther
 reports_join (Some (FromList file)) text texts outcome None (Some list) there there' reads reads' comes = inr (list_of list, reads', comes)
 reports_join source text texts outcome map list there there' reads reads' comes = cc
 
--- what comes of what is loaded for a request is its output
+-- an outcome over the loaded files of a request is its output
 pub output_of : (request : Request) (loaded : Loaded) (texts : FileTexts) (outcome : Outcome) → ArePresent (needs_of request) loaded → AreLoaded loaded texts
     → ComesOf request loaded texts.flows outcome → IsOutput request texts outcome
 output_of (label source address) loaded texts outcome there reads (labels, is, comes) =
@@ -295,7 +295,7 @@ output_of (check file other third) loaded texts outcome there reads (map, list, 
 output_of (recert file) loaded texts outcome there reads (certificate, is, comes) =
     inr (certificate_of certificate, subst (λ (x : Option Certificate). Holds IsCertificateText texts.certificate x) is reads.certificate, comes)
 
--- so is the first fault of the texts of its files
+-- the first fault of the texts of a request's files is its output
 source_first : (source : LabelSource) (flows : Option Text) (rest : Labelling → Outcome → Type 0) (texts : FileTexts) (fault : BytesFault)
     → IsFirstFault (needs_named (files_named (Some source) flows)) texts (Err fault) → LabelsThen source rest texts (Err fault)
 source_first (FromMap file) flows rest texts (InMap fault) (there, fails) = inl (fault, fails, refl)

@@ -32,7 +32,7 @@ CompactHasText = (c : CertificateModel) → HasFormatText c → HasFormatText (c
 abbrev CompactIsAccepted : Type 0
 CompactIsAccepted = (m : MapModel) (l : ListModel) (c : CertificateModel) → IsOfFormat c → IsAccepted m l c → IsAccepted m l (compact c)
 
--- so `check` accepts by any certificate that is accepted whenever the pair's is
+-- `check` accepts the printed list by any certificate that is accepted whenever the pair's is
 by_certificate : AcceptedAgain → (map list certificate : List ℕ) (texts : FileTexts) (m : MapModel) (l : ListModel) (c k : CertificateModel)
     → ReadsMap texts.map m → IsMinimalPair m l c → HasFormatText k → ((other : ListModel) → IsAccepted m other c → IsAccepted m other k)
     → FitsText l → texts.list ≡ list_text l → texts.certificate ≡ certificate_text k

@@ -1,5 +1,5 @@
--- A request has one output at most: a map text, a certificate's text and a File have one reading, and what comes of it
--- is one text or the first fault.
+-- A request has at most one output: a map text, a certificate's text and a File have one reading, and the outcome for
+-- what is read is one text or the first fault.
 use Rattle.std.proofs.Common.{◌≡◌, ◌∙◌, ℕ, List, [], Option, Some, None, Ok, Err, ap, sym, subst, inl, inr, Result}
 use Rattle.std.specs.Prelude.{◌↔◌}
 use Rattle.prefix_keys.specs.declared.version.Version.{Version}
@@ -31,7 +31,7 @@ use Rattle.flowlabel.specs.declared.command.Shrunk.{Shrunk}
 use Rattle.flowlabel.specs.declared.command.Shrunk.TheVariants as shrunk
 use Rattle.flowlabel.specs.Request.{FromList, FromMap, LabelSource, label, info, rows, cat, shrink, check, uniq, recert}
 
--- what comes of a value is one outcome at most
+-- there is at most one outcome for each value
 abbrev IsOne : {A : Type 0} → (A → Outcome → Type 0) → Type 0
 IsOne {A} rest = (x : A) (outcome other : Outcome) → rest x outcome → rest x other → outcome ≡ other
 
@@ -113,7 +113,7 @@ minimal_one own lists certificates shrunk.Certificate text m reads outcome other
 minimal_one own lists certificates shrunk.Compact text m reads outcome other (l, c, is, form, p) (l', c', is', form', q) =
     p ∙ ap (λ (k : CertificateModel). Ok (certificate_text (compact k))) (certificates m l l' c c' is is' form form') ∙ sym q
 
--- the text of a certificate is read as that one, and so is of one certificate and has no fault
+-- a text is read as a certificate exactly if it is the certificate's text
 abbrev pub ReadsAsIs : Type 0
 ReadsAsIs = (text : List ℕ) (c : CertificateModel) → format_reading text ≡ Ok c ↔ ReadsCertificate text c
 

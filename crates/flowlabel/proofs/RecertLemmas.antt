@@ -1,4 +1,4 @@
--- What `recert` prints of a certificate is as good as the certificate.
+-- A certificate that `recert` prints is as good as the one that it read.
 use Rattle.std.proofs.Common.{◌≡◌, ◌∙◌, ◌≤◌, ℕ, List, Ok, ap, inl, inr, refl, subst, sym}
 use Rattle.std.specs.Prelude.{◌↔◌, length}
 use Rattle.pmap_text.specs.ListModel.{ListModel}

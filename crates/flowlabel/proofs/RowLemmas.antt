@@ -27,7 +27,7 @@ zip_more : {X Y : Type 0} (f : X → Y) (xs : List X) (x : X) → zip (xs ++ x �
 zip_more f [] x = refl
 zip_more f (y ∷ ys) x = ap (λ (pairs : List (_ × _)). (y, f y) ∷ pairs) (zip_more f ys x)
 
--- the lines of one row more
+-- the lines of rows, with that of one more row
 lines_more : (labels : Option Labelling) (shown : List RowView) (row : RowView)
     → labelled_row_lines labels (shown ++ row ∷ [])
     ≡ labelled_row_lines labels shown ++ row_line row (option_map (λ l. row_labels l row) labels) ∷ []
@@ -37,7 +37,7 @@ lines_more (Some l) shown row =
     ap (λ (ps : List (RowView × LabelTexts)). (row_titles ++ label_titles) ∷ map fields ps) (zip_more (row_labels l) shown row)
     ∙ ap (λ (lines : List Line). (row_titles ++ label_titles) ∷ lines) (map-append fields (zip shown (map (row_labels l) shown)) ((row, row_labels l row) ∷ []))
 
--- after other rows, the lines of the rows up to one more
+-- the lines of earlier rows and of the first rows of a list, with that of the list's next row
 pub rows_more : (labels : Option Labelling) (earlier : List RowView) (rows : List Row) (i : ℕ) (row : Row) (own : Option LabelTexts)
     → row ≡ get_or rows i row → i < length rows → own ≡ option_map (λ l. row_labels l (row_view row)) labels
     → labelled_row_lines labels (earlier ++ map row_view (take i rows)) ++ row_line (row_view row) own ∷ []
@@ -50,7 +50,7 @@ rows_more labels earlier rows i row own is within same =
     (append_assoc earlier before (row_view row ∷ [])
     ∙ ap (λ (xs : List RowView). earlier ++ xs) (ap (λ (r : Row). before ++ row_view r ∷ []) is ∙ sym (map_more row_view rows i row within)))
 
--- rows have labels just when there is a labelling
+-- rows have labels exactly if there is a labelling
 pub same_labelled : (labels : Option Labelling) (own : Option RowLabels) (row : RowView)
     → option_map label_texts own ≡ option_map (λ l. row_labels l row) labels → is_some own ≡ is_some labels
 same_labelled None None row same = refl
@@ -58,7 +58,7 @@ same_labelled None (Some l) row same = ap is_some same
 same_labelled (Some l) None row same = ap is_some same
 same_labelled (Some l) (Some own) row same = refl
 
--- no rows have the header alone, with labels where there is a labelling
+-- without rows the lines are the header alone, which names the label columns if there is a labelling
 pub no_rows : (labels : Option Labelling) → title_line (is_some labels) ∷ [] ≡ labelled_row_lines labels []
 no_rows None = refl
 no_rows (Some l) = refl
@@ -68,7 +68,7 @@ pub is_some-lent : {L : Type 0} (version : L → Version) (label : L → ℕ →
 is_some-lent version label None = refl
 is_some-lent version label (Some l) = refl
 
--- the rows of one message more that pass
+-- the rows that pass, with those of one more message
 pub passing_more : (condition : Condition) (labels : Option Labelling) (messages : List MessageView) (message : MessageView)
     → passing_rows condition labels (messages ++ message ∷ [])
     ≡ passing_rows condition labels messages ++ passing condition labels (rows_of message.sets)

@@ -1,4 +1,4 @@
--- What is taken of the messages of a File, call by call.
+-- What a report takes of the messages of a File, call by call.
 use Rattle.std.proofs.Common.{◌≡◌, ◌∙◌, ◌<◌, ◌≤◌, ◌+◌, inl, inr, ℕ, List, [], ◌∷◌, ◌++◌, Option, Some, None, Ok, Err, IfSome, length, refl, sym, ap, subst, arith}
 use Rattle.std.proofs.lemmas.List.{length_push}
 use Rattle.ipfix_read.specs.Fault.{is_of_reader}
@@ -9,7 +9,7 @@ use Rattle.ipfix_read.specs.Messages.{AnswersNext, IsReadTo, ProgressView, at_st
 use Rattle.ipfix_read.specs.declared.fault.ReadFault.{ReadFault}
 use Rattle.flowlabel.specs.Taken.{HasTaken, IsFaultOfMessages}
 
--- of the bytes that the reader gave, if it reports them, these messages are read so far, and it still gives the rest
+-- if the reader reports its bytes, these messages of them are read so far, and it still gives the rest
 abbrev pub AreRead : Option (List ℕ) → Option (List ℕ) → List MessageView → ProgressView → Type 0
 AreRead given now messages p =
     IfSome given (λ bytes. (left : List ℕ) × (now ≡ Some left) × IsReadTo [] 0 0 bytes messages p left)
@@ -45,7 +45,7 @@ module _ (joins : CallsJoinFile) (now new : Option (List ℕ)) (p p' : ProgressV
         | inr (inr is) ↦ inr (inr is)
       ]
 
--- what a report has taken so far is the report of the messages that are read so far
+-- the state of a report is that after the messages that are read so far
 module _ {T : Type 0} (is_of : List MessageView → T → Type 0) where
   abbrev pub Held : Option (List ℕ) → Option (List ℕ) → ProgressView → T → Type 0
   Held given now p taken =
@@ -68,7 +68,7 @@ module _ {T : Type 0} (is_of : List MessageView → T → Type 0) where
     more_read joins now new p p' messages given m answers read,
   )
 
-  -- so the report may take one more
+  -- the report may take one more message
   pub held_takes : (given now : Option (List ℕ)) (p p' : ProgressView) (taken : T) → Held given now p taken
       → p'.count ≡ p.count + 1 → p'.count ≤ 4294967295
       → (messages : List MessageView) × (length messages < 4294967295) × is_of messages taken

@@ -24,23 +24,23 @@ use Rattle.flowlabel.specs.declared.usage.UsageFault.TheVariants.{Refused, NotUt
 
 -- The answer to a command line.
 
--- a request or a usage fault of the program's own
+-- a request, or a usage fault that the program itself finds
 abbrev pub Answer : Type 0
 Answer = Result Request UsageFault
 
--- the source of labels, by the map and the list that are named: both are too many
+-- the source of labels, by the map and the list that are named; naming both is a fault
 abbrev pub source_answer : Option Text → Option Text → Result (Option LabelSource) UsageFault
 source_answer (Some map) (Some list) = Err MapTwice
 source_answer (Some map) None = Ok (Some (FromMap map))
 source_answer None (Some list) = Ok (Some (FromList list))
 source_answer None None = Ok None
 
--- a source that there has to be
+-- the source of labels of a command that needs one
 abbrev pub needed_source : Option LabelSource → Result LabelSource UsageFault
 needed_source None = Err MapMissing
 needed_source (Some source) = Ok source
 
--- `label` under a source, by the address that its word means
+-- the answer for `label`, by its source of labels and the address in its word, if that is well formed
 abbrev pub address_answer : LabelSource → Option AddressOf → Answer
 address_answer source None = Err BadAddress
 address_answer source (Some address) = Ok (label source address)
@@ -49,20 +49,20 @@ address_answer source (Some address) = Ok (label source address)
 abbrev pub sources_in_rows : List Row → Result (Option LabelSource) UsageFault
 sources_in_rows entries = source_answer (first_of (codes "pmap") entries) (first_of (codes "list") entries)
 
--- the address that the word ADDR of an entry means
+-- the address in the word ADDR of entries, if it is well formed
 abbrev pub address_in_rows : List Row → Option AddressOf
 address_in_rows entries = option_and_then address_of (first_of (codes "address") entries)
 
--- `label`, by the entries that clap finds for it: two sources come first, and then a missing one
+-- the answer for `label`, by the entries that clap finds for it; the faults of the source come first
 abbrev pub answer_of_label : List Row → Answer
 answer_of_label entries =
     sources_in_rows entries >>= (λ found. needed_source found >>= (λ labels. address_answer labels (address_in_rows entries)))
 
--- the text of an option or a word that has to be there: clap takes no line without it
+-- the text of a required option or word: clap refuses a line without it
 abbrev pub text_in_rows : Text → List Row → Text
 text_in_rows id entries = unwrap_or (first_of id entries) []
 
--- a flag is given: it has the value that clap gives it then
+-- whether a flag is given, to which clap then gives the value `true`
 abbrev pub is_given : Text → List Row → Bool
 is_given flag entries = bytes_eq (unwrap_or (first_of flag entries) []) (codes "true")
 
@@ -81,7 +81,7 @@ words_in_rows entries = record {
   any_label = first_of (codes "any-label") entries;
 }
 
--- a condition, or the usage fault that the fault of a filter's text is
+-- a condition, or the fault of a filter's text as a usage fault
 abbrev pub condition_answer : Result Condition FilterFault → Result Condition UsageFault
 condition_answer (Ok condition) = Ok condition
 condition_answer (Err fault) = Err (Filter fault)
@@ -90,7 +90,7 @@ condition_answer (Err fault) = Err (Filter fault)
 abbrev pub condition_in_rows : List Row → Result Condition UsageFault
 condition_in_rows entries = condition_answer (filter_of_words (words_in_rows entries))
 
--- fields, or the usage fault that the fault of their text is
+-- fields, or the fault of their text as a usage fault
 abbrev pub fields_answer : Result (List KeyField) KeyFault → Result (List KeyField) UsageFault
 fields_answer (Ok fields) = Ok fields
 fields_answer (Err fault) = Err (Key fault)
@@ -98,28 +98,28 @@ fields_answer (Err fault) = Err (Key fault)
 abbrev pub fields_in_rows : List Row → Result (List KeyField) UsageFault
 fields_in_rows entries = fields_answer (keys_reading (text_in_rows (codes "fields") entries))
 
--- the request, if the labels that it needs have a source
+-- the request, or a fault if it needs labels and has no source of them
 abbrev pub with_labels : Bool → Option LabelSource → Request → Answer
 with_labels needed source request = if needed && is_none source then Err LabelNeedsMap else Ok request
 
--- `rows`, by the entries that clap finds for it
+-- the answer for `rows`, by the entries that clap finds for it
 abbrev pub answer_of_rows : List Row → Answer
 answer_of_rows entries =
     sources_in_rows entries >>= (λ source. condition_in_rows entries >>= (λ condition.
     with_labels (needs_map condition) source (rows source condition (is_given (codes "columns") entries) (text_in_rows (codes "flows") entries))))
 
--- `uniq`, by the entries that clap finds for it: labels are needed by its filters or by its fields
+-- the answer for `uniq`, by the entries that clap finds for it; its filters or its fields may need labels
 abbrev pub answer_of_uniq : List Row → Answer
 answer_of_uniq entries =
     sources_in_rows entries >>= (λ source. condition_in_rows entries >>= (λ condition. fields_in_rows entries >>= (λ fields.
     with_labels (needs_map condition || need_map fields) source
     (uniq fields source condition (is_given (codes "sort-output") entries) (is_given (codes "columns") entries) (text_in_rows (codes "flows") entries)))))
 
--- `cat`, by the entries that clap finds for it
+-- the answer for `cat`, by the entries that clap finds for it
 abbrev pub answer_of_cat : List Row → Answer
 answer_of_cat entries = sources_in_rows entries >>= (λ found. needed_source found >>= (λ labels. Ok (cat labels)))
 
--- what `shrink` prints, by whether the certificate is asked for, and whether compact: a list has no compact form
+-- what `shrink` prints, by whether `--certificate` and `--compact` are given: a list has no compact form
 abbrev pub shrunk_asked : Bool → Bool → Result Shrunk UsageFault
 shrunk_asked false false = Ok shrunk.List
 shrunk_asked true false = Ok shrunk.Certificate
@@ -129,11 +129,11 @@ shrunk_asked false true = Err CompactAlone
 abbrev pub shrunk_in_rows : List Row → Result Shrunk UsageFault
 shrunk_in_rows entries = shrunk_asked (is_given (codes "certificate") entries) (is_given (codes "compact") entries)
 
--- `shrink`, by the entries that clap finds for it
+-- the answer for `shrink`, by the entries that clap finds for it
 abbrev pub answer_of_shrink : List Row → Answer
 answer_of_shrink entries = shrunk_in_rows entries >>= (λ printed. Ok (shrink (text_in_rows (codes "pmap") entries) printed))
 
--- the answer to a subcommand, by its name and its entries
+-- the answer for a subcommand, by its name and its entries
 abbrev pub answer_of : Text × List Row → Answer
 answer_of found =
     if bytes_eq found.0 (codes "info") then Ok (info (text_in_rows (codes "flows") found.1))
@@ -171,8 +171,8 @@ SaysOnly answer (Err fault) = answer ≡ Err fault
 abbrev pub Answers : List Text → Answer → Type 0
 Answers words answer = (fault_of flowlabel_app words ≡ []) × (own_answer words ≡ Some answer)
 
--- what a fault says of the words: clap refuses them, or they ask for help, or clap takes them and they have a fault of
--- the program's own; the words are texts
+-- what a fault says about the words, which are texts: clap refuses them, they ask for help, or clap takes them and the
+-- program itself finds a fault
 abbrev pub IsFaultAt : List Text → UsageFault → Type 0
 IsFaultAt words (Refused text) = list_any is_mistake (fault_of flowlabel_app words) ≡ true
 IsFaultAt words NotUtf8 = ⊥
@@ -185,34 +185,34 @@ abbrev pub IsAnswer : List Text → Result Command UsageFault → Type 0
 IsAnswer words (Ok command) = Answers words (Ok (request_of command))
 IsAnswer words (Err fault) = IsFaultAt words fault
 
--- the fault is no refusal of clap's and no help
+-- the fault is neither a refusal of clap's nor help
 abbrev pub IsOwnFault : UsageFault → Type 0
 IsOwnFault (Refused text) = ⊥
 IsOwnFault NotUtf8 = ⊥
 IsOwnFault (Help text) = ⊥
 IsOwnFault fault = Unit {0}
 
--- the result is no such fault
+-- the result is neither a refusal of clap's nor help
 abbrev pub IsOwnAnswer : {A : Type 0} → Result A UsageFault → Type 0
 IsOwnAnswer (Ok command) = Unit {0}
 IsOwnAnswer (Err fault) = IsOwnFault fault
 
--- memory aside, the result is this answer
+-- the result is this answer, or out of memory
 abbrev pub IsUnlessMemory : Answer → Result Command UsageFault → Type 0
 IsUnlessMemory answer (Err NoMemory) = Unit {0}
 IsUnlessMemory answer result = SaysOnly answer result
 
--- a word that is no option: it begins with no hyphen
+-- whether a word is no option: it doesn't begin with a hyphen
 abbrev pub is_plain_word : Text → Bool
 is_plain_word [] = true
 is_plain_word (x ∷ xs) = not (x == 45)
 
--- words have at most one answer of the program's own: a result that is what they ask for is that answer, memory aside
+-- words have at most one answer: a result that is what they ask for is that answer, or out of memory
 abbrev pub HaveOneAnswer : Type 0
 HaveOneAnswer = (words : List Text) (answer : Answer) (result : Result Command UsageFault)
     → Answers words answer → IsAnswer words result → IsUnlessMemory answer result
 
--- no filter is given
+-- the condition without filters
 abbrev pub no_condition : Condition
 no_condition = record {
   protocol = None;
@@ -237,15 +237,15 @@ pub record LinesHaveAnswers (program : Text) : Type 0 where
   pub shrink_line : (file : Text) → is_plain_word file ≡ true
       → Answers (program ∷ codes "shrink" ∷ codes "--pmap" ∷ file ∷ codes "--compact" ∷ []) (Err CompactAlone)
 
--- the fault comes of an error of this kind
+-- the fault is that of an error of this kind
 abbrev pub IsFaultOfKind : ErrorKind → UsageFault → Type 0
 IsFaultOfKind k (Refused text) = is_mistake k ≡ true
 IsFaultOfKind k (Help text) = is_help k ≡ true
 IsFaultOfKind k NoMemory = Unit {0}
 IsFaultOfKind k fault = ⊥
 
--- the fault of a command line whose words can't be had, by the kind of the system's error: one of them is no text, or
--- memory ran out
+-- the fault of a command line whose words can't be obtained, by the kind of the system's error: a word isn't UTF-8, or
+-- an allocation failed
 abbrev pub words_fault_of : IoErrorKind → UsageFault
 words_fault_of io.InvalidData = NotUtf8
 words_fault_of k = NoMemory

@@ -13,7 +13,7 @@ use Rattle.cert_check.specs.declared.fault.CheckFaultKind.TheVariants as check
 use Rattle.flowlabel.specs.declared.bytes_fault.BytesFault.{BytesFault}
 use Rattle.flowlabel.specs.declared.bytes_fault.BytesFault.TheVariants.{Map as InMap, List as InList, Flows as InFlows, Certificate as InCertificate, Check as InCheck}
 
--- A fault of the bytes of a file, or of what a certificate says of a map and a list: its code and name, and its place.
+-- The code, the name and the position of a fault of a file's bytes, or of a certificate for a map and a list.
 
 -- the code and the name of a fault of a map text or a list text
 abbrev pub map_fault_name : MapFaultKind → List ℕ
@@ -33,7 +33,7 @@ map_fault_name kind.NotAList = codes "M13 NotAList"
 map_fault_name kind.DuplicateBlock = codes "M14 DuplicateBlock"
 map_fault_name kind.NoMemory = codes "M15 NoMemory"
 
--- the codes of a bad template and of what is wrong with it, and the name of the first
+-- the code and the name of a bad template, and the code of what is wrong with it
 abbrev pub template_fault_name : TemplateFaultKind → List ℕ
 template_fault_name template.Truncated = codes "F6 BadTemplate X1"
 template_fault_name template.BadTemplateId = codes "F6 BadTemplate X2"
@@ -64,7 +64,7 @@ certificate_fault_name certificate.NodesMissing = codes "C5 NodesMissing"
 certificate_fault_name certificate.NodesLeft = codes "C6 NodesLeft"
 certificate_fault_name certificate.NoMemory = codes "C7 NoMemory"
 
--- the code and the name of what is wrong with a certificate for a map and a list
+-- the code and the name of a fault of a certificate for a map and a list
 abbrev pub check_fault_name : CheckFaultKind → List ℕ
 check_fault_name check.VersionDiffers = codes "K1 VersionDiffers"
 check_fault_name check.LeafNotUniform = codes "K2 LeafNotUniform"
@@ -74,7 +74,7 @@ check_fault_name check.CostTooHigh = codes "K5 CostTooHigh"
 check_fault_name check.BoundNotMet = codes "K6 BoundNotMet"
 check_fault_name check.NoMemory = codes "K7 NoMemory"
 
--- the code and the name of a fault, and its place: a line, an offset or a node
+-- the code and the name of a fault, and its position: a line, an offset or a node
 abbrev pub bytes_fault_name : BytesFault → List ℕ
 bytes_fault_name (InMap fault) = map_fault_name fault.kind
 bytes_fault_name (InList fault) = map_fault_name fault.kind
@@ -89,7 +89,7 @@ bytes_fault_place (InFlows fault) = fault.offset
 bytes_fault_place (InCertificate fault) = fault.line
 bytes_fault_place (InCheck fault) = fault.node
 
--- the kind says that memory ran out, and nothing of the bytes
+-- whether the kind is out of memory, which says nothing about the bytes
 abbrev pub is_map_want : MapFaultKind → Bool
 is_map_want kind.NoMemory = true
 is_map_want k = false
@@ -111,7 +111,7 @@ abbrev pub is_check_want : CheckFaultKind → Bool
 is_check_want check.NoMemory = true
 is_check_want k = false
 
--- so does the fault
+-- whether the fault is out of memory, which says nothing about the bytes
 abbrev pub is_want_of_memory : BytesFault → Bool
 is_want_of_memory (InMap fault) = is_map_want fault.kind
 is_want_of_memory (InList fault) = is_map_want fault.kind
@@ -119,8 +119,8 @@ is_want_of_memory (InFlows fault) = is_flows_want fault.kind
 is_want_of_memory (InCertificate fault) = is_certificate_want fault.kind
 is_want_of_memory (InCheck fault) = is_check_want fault.kind
 
--- the fault isn't the first one of a file's bytes: only calls for messages return it, if a reader failed or after a
--- fault
+-- whether only calls for messages return the fault, as a reader failed or a call before had a fault; it is then not the
+-- first fault of a file's bytes
 abbrev pub is_answer_of_calls : BytesFault → Bool
 is_answer_of_calls (InFlows fault) = is_of_calls fault.kind
 is_answer_of_calls fault = false

@@ -6,9 +6,9 @@ use Rattle.clap.specs.declared.builder.command.Command.{Command}
 use Rattle.clap.specs.declared.builder.command.Command.TheViews.{out-Command}
 use Rattle.clap.specs.Words.{App, Rule, Text, app_of, new_app, new_rule, rule_of, with_rule, with_subcommand}
 
--- What clap reads of the definition of the command line: each subcommand with its options and words.
+-- The command line as clap reads its definition: each subcommand with its options and words.
 
--- `--name VALUE`, `--name VALUE` that has to be there, `--name`, and `VALUE`, which has to be there
+-- the rules of the option `--name VALUE`, of a required one, of the flag `--name`, and of the required word `VALUE`
 abbrev pub option_rule : Text → Rule
 option_rule name = record (new_rule name) { long = Some name; value_names = 1 }
 
@@ -21,7 +21,7 @@ flag_rule name = record (new_rule name) { long = Some name; action = Some SetTru
 abbrev pub word_rule : Text → Rule
 word_rule name = record (new_rule name) { value_names = 1; required = true }
 
--- a command with these arguments, after others
+-- a command with these arguments, after those that it has
 abbrev pub with_rules : App → List Rule → App
 with_rules = fold with_rule
 
@@ -29,7 +29,7 @@ with_rules = fold with_rule
 abbrev pub leaf : Text → List Rule → App
 leaf name = with_rules (new_app name)
 
--- `--pmap FILE` and `--list FILE`; the filters, on what a row has and on its labels; `[--columns] FILE`
+-- the rules of `--pmap FILE` and `--list FILE`, of the filters, and of `[--columns] FILE`
 abbrev pub source_rules : List Rule
 source_rules = option_rule (codes "pmap") ∷ option_rule (codes "list") ∷ []
 
@@ -63,7 +63,7 @@ check_rules = needed_rule (codes "pmap") ∷ needed_rule (codes "list") ∷ need
 abbrev pub recert_rules : List Rule
 recert_rules = needed_rule (codes "cert") ∷ []
 
--- the program before its subcommands: it has a version, one of them is required, and `help` isn't one
+-- the program without its subcommands: it has a version, one of them is required, and `help` isn't one
 abbrev pub program : App
 program = record (new_app (codes "flowlabel")) {
   top = record (new_app (codes "flowlabel")).top {
@@ -73,7 +73,7 @@ program = record (new_app (codes "flowlabel")) {
   };
 }
 
--- the command line
+-- a program with one more subcommand, and the whole command line
 abbrev pub with_app : App → App → App
 with_app app sub = with_subcommand app sub.top
 
@@ -83,11 +83,11 @@ flowlabel_app = fold with_app program (
     ∷ leaf (codes "cat") source_rules ∷ leaf (codes "shrink") shrink_rules ∷ leaf (codes "check") check_rules
     ∷ leaf (codes "recert") recert_rules ∷ [])
 
--- clap reads an argument by this rule, and of its own command alone
+-- clap reads the argument by this rule, and for its own command alone
 abbrev pub IsArgument : Rule → Arg → Type 0
 IsArgument rule arg = (rule_of arg ≡ rule) × (arg.global ≡ false)
 
--- clap reads a command so, which has no arguments for others
+-- clap reads the command as this one, and the command has no arguments for others
 abbrev pub IsCommand : App → Command → Type 0
 IsCommand app command = (app_of command ≡ app) × ((out-Command command).has_globals ≡ false)
 

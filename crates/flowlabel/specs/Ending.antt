@@ -17,9 +17,9 @@ use Rattle.flowlabel.specs.declared.fault.RunFault.TheVariants.{Usage, CannotOpe
 use Rattle.flowlabel.specs.declared.inputs.Inputs.{Inputs}
 use Rattle.flowlabel.specs.declared.usage.UsageFault.TheVariants as usage
 
--- How the program ends: what its end says of its words and of its output, and what it writes to which stream.
+-- How the program ends: what its result says about its words and its output, and what it writes to which stream.
 
--- what is written at the end: help, or the line of a fault
+-- the text that is written at the end: nothing, help, or the line of a fault
 abbrev pub told_text : {A : Type 0} → Result A RunFault → List ℕ
 told_text (Ok done) = []
 told_text (Err (Usage (usage.Help text))) = text
@@ -30,7 +30,7 @@ abbrev pub told_bytes : Told → List ℕ
 told_bytes (Lent text) = text.now
 told_bytes (Made line) = line.items
 
--- the stream to which it is written
+-- the stream to which the text at the end is written
 abbrev pub stream_of : {A : Type 0} → Result A RunFault → Stream
 stream_of (Err (Usage (usage.Help text))) = stream.Output
 stream_of result = stream.Error
@@ -41,21 +41,21 @@ module _ {W : Type 0} (taken : W → Option (List ℕ)) (last : W → LastCall) 
   IsWritten old new text =
       (Appends (taken old) (taken new) text × (last new ≡ Flush)) ⊎ (StopsWriting taken last old new text × (failed new ≡ true))
 
--- neither standard output nor standard error has a call
+-- there is no call of standard output or standard error
 module _ {O E : Type 0} (taken : O → Option (List ℕ)) (last : O → LastCall) (taken' : E → Option (List ℕ)) (last' : E → LastCall) where
   abbrev pub IsSilent : O → O → E → E → Type 0
   IsSilent output output' error error' = IsUntouched taken last output output' × IsUntouched taken' last' error error'
 
 module _ {O E : Type 0} (taken : O → Option (List ℕ)) (last : O → LastCall) (failed : O → Bool)
     (taken' : E → Option (List ℕ)) (last' : E → LastCall) (failed' : E → Bool) where
-  -- the text is written to this stream, and the other one has no call
+  -- the text is written to this stream, and there is no call of the other one
   abbrev pub IsTold : Stream → List ℕ → O → O → E → E → Type 0
   IsTold stream.Output text output output' error error' =
       IsWritten taken last failed output output' text × IsUntouched taken' last' error error'
   IsTold stream.Error text output output' error error' =
       IsUntouched taken last output output' × IsWritten taken' last' failed' error error' text
 
--- the words are this request, and the inputs are its files, opened by their names
+-- the words ask for this request, and the inputs are its files, opened by their names
 pub record IsAsked {R : Type 0} (answers : Text → Option R → Type 0) (words : List Text) (request : Request) (inputs : Inputs R) : Type 0 where
   pub asked : Answers words (Ok request)
   pub named : HaveNames (files_of request) inputs
@@ -63,10 +63,10 @@ pub record IsAsked {R : Type 0} (answers : Text → Option R → Type 0) (words 
 
 module _ {R W : Type 0} (answers : Text → Option R → Type 0) (left : R → Option (List ℕ)) (failed : R → Bool)
     (taken : W → Option (List ℕ)) (last : W → LastCall) where
-  -- What the end of the program says of its words and of its output, from one state of the output to another. A usage
-  -- fault is a fault of the words. At any other end the words are a request. If one of its files can't be opened, the
-  -- first such file is named. Otherwise it is run over its files as they were opened, with the output of that run or
-  -- its fault.
+  -- What the program's result says about its words and its output, from one state of the output to another. A usage
+  -- fault is a fault of the words. With any other result the words ask for a request. If one of its files can't be
+  -- opened, the result names the first such file. Otherwise the request is run over its opened files, and the result is
+  -- that of the run.
   abbrev pub IsEndOf : List Text → W → W → Result (Unit {0}) RunFault → Type 0
   IsEndOf words old new (Ok done) =
       (request : Request) × (inputs : Inputs R) × IsAsked answers words request inputs

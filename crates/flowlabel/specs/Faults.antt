@@ -12,17 +12,17 @@ use Rattle.flowlabel.specs.declared.fault.RunFault.TheVariants.{Usage, CannotOpe
 use Rattle.flowlabel.specs.declared.usage.UsageFault.{UsageFault}
 use Rattle.flowlabel.specs.declared.usage.UsageFault.TheVariants as usage
 
--- What is printed for a fault, and the status that the program ends with.
+-- The line that is printed for a fault, and the exit status of the program.
 
 abbrev pub out_of_memory : List ℕ
 out_of_memory = codes "flowlabel: out of memory\n"
 
--- a fault at a place of a file
+-- the line of a fault at a position in a file
 abbrev pub place_text : List ℕ → List ℕ → ℕ → List ℕ
 place_text file name place =
     codes "flowlabel: " ++ file ++ codes ": " ++ name ++ codes " at " ++ decimal place ++ codes "\n"
 
--- an option that filters rows
+-- the name of an option that filters rows
 abbrev pub filter_option_text : FilterOption → List ℕ
 filter_option_text option.Protocol = codes "--protocol"
 filter_option_text option.SourcePort = codes "--sport"
@@ -42,17 +42,17 @@ filter_fault_text filters.BadRange = codes "L2 BadRange"
 filter_fault_text filters.BadBlock = codes "L3 BadBlock"
 filter_fault_text filters.NoMemory = codes "L4 NoMemory"
 
--- the fault of the text of an option
+-- the line of a fault of an option's text
 abbrev pub option_text : List ℕ → List ℕ → List ℕ
 option_text option name = codes "flowlabel: usage: " ++ option ++ codes " " ++ name ++ codes "\n"
 
--- the code and the name of a fault of the text of fields
+-- the code and the name of a fault of the text of `--fields`
 abbrev pub key_fault_text : KeyFault → List ℕ
 key_fault_text keys.BadField = codes "U1 BadField"
 key_fault_text keys.FieldRepeated = codes "U2 FieldRepeated"
 key_fault_text keys.NoMemory = codes "U3 NoMemory"
 
--- the fault says that memory ran out
+-- whether the fault is out of memory, by the kind of the fault
 abbrev pub is_filter_want : FilterFaultKind → Bool
 is_filter_want filters.NoMemory = true
 is_filter_want k = false
@@ -72,7 +72,7 @@ is_memory_fault (Usage fault) = is_usage_want fault
 is_memory_fault NoMemory = true
 is_memory_fault fault = false
 
--- the line of a fault that doesn't say so
+-- the line of a fault other than out of memory
 abbrev pub usage_fault_text : UsageFault → List ℕ
 usage_fault_text (usage.Refused text) = text
 usage_fault_text usage.NotUtf8 = codes "flowlabel: usage: P1 NotUtf8\n"
@@ -94,7 +94,7 @@ own_fault_text CannotWrite = codes "flowlabel: output: cannot write\n"
 own_fault_text NoMemory = out_of_memory
 own_fault_text (File fault) = place_text fault.file.now (bytes_fault_name fault.fault) (bytes_fault_place fault.fault)
 
--- the line of a fault
+-- the line of any fault
 abbrev pub fault_text : RunFault → List ℕ
 fault_text fault = if is_memory_fault fault then out_of_memory else own_fault_text fault
 
@@ -109,12 +109,12 @@ own_status_of fault = 4
 abbrev pub status_of : RunFault → ℕ
 status_of fault = if is_memory_fault fault then 3 else own_status_of fault
 
--- the status of a run that ended so
+-- the exit status of a run with this result
 abbrev pub exit_status_of : {A : Type 0} → Result A RunFault → ℕ
 exit_status_of (Ok done) = 0
 exit_status_of (Err fault) = status_of fault
 
--- the fault of a file's bytes, by the file's name; out of memory names no file
+-- the run's fault is this one of a file's bytes, with the file's name, or out of memory, which names no file
 abbrev pub IsInFile : List ℕ → BytesFault → RunFault → Type 0
 IsInFile file fault NoMemory = is_want_of_memory fault ≡ true
 IsInFile file fault (File other) = (other.file.now ≡ file) × (other.fault ≡ fault)

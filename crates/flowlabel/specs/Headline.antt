@@ -18,8 +18,8 @@ use Rattle.flowlabel.specs.declared.command.Shrunk.TheVariants as shrunk
 -- The headline: what a command that ends without a fault has written.
 
 -- The list labels every address as the map does, and no list that does so has fewer entries. It has the map's name, its
--- entries are in order, and it is well formed. The certificate is accepted for the map and the list, and so it is
--- compacted. Both have a text.
+-- entries are in order, and it is well formed. The certificate is accepted for the map and the list, and so is the
+-- compacted certificate. Both have a text.
 pub record IsShortest (m : MapModel) (l : ListModel) (c : CertificateModel) : Type 0 where
   pub equivalent : IsEquivalent l m
   pub least : IsLeast m l
@@ -31,8 +31,8 @@ pub record IsShortest (m : MapModel) (l : ListModel) (c : CertificateModel) : Ty
   pub has_compact_text : HasFormatText (compact c)
   pub compact_accepted : IsAccepted m l (compact c)
 
--- The text is the output over one File, under a map text, and so it is under each list text whose list labels every
--- address as the map does; or under a list text, and so it is under each map text whose map the list labels alike.
+-- If the text is the output under a map text, it is also the output, over the same File, under each list text whose
+-- list labels every address as the map does. It is likewise with the map and the list exchanged.
 abbrev pub IsSameUnder : LabelSource → Request → FileTexts → List ℕ → Type 0
 IsSameUnder (FromMap file) request texts out =
     (m : MapModel) (l : ListModel) (other : Text) (others : FileTexts) → ReadsMap texts.map m → ReadsList others.list l → IsEquivalent l m
@@ -41,10 +41,10 @@ IsSameUnder (FromList file) request texts out =
     (m : MapModel) (l : ListModel) (other : Text) (others : FileTexts) → ReadsList texts.list l → ReadsMap others.map m → IsEquivalent l m
     → texts.flows ≡ others.flows → IsOutput (under (FromMap other) request) others (Ok out)
 
--- What the text that a request writes says beyond being its output, over the texts of its files. `shrink`: it is the
--- text of a shortest list for the map, or of its certificate. `check`: it is the number of entries of the list, which
--- is equivalent and least. `recert`: it is a certificate as good as the one read. All others, under a map or a list: it
--- is the same under an equivalent list or map.
+-- The headline for the text that a request writes, over the texts of its files. `shrink`: it is the text of a shortest
+-- list for the map, or of its certificate. `check`: it is the number of entries of the list, which is equivalent and
+-- least. `recert`: it is a certificate as good as the one read. All others, under a map or a list: it is the same under
+-- an equivalent list or map.
 abbrev pub IsHeadline : Request → FileTexts → List ℕ → Type 0
 IsHeadline (label source address) texts out = IsSameUnder source (label source address) texts out
 IsHeadline (info flows) texts out = Unit {0}
@@ -59,7 +59,7 @@ IsHeadline (shrink map printed) texts out = (m : MapModel) × (l : ListModel) ×
 IsHeadline (check map list certificate) texts out = IsCheckedLeast texts out
 IsHeadline (recert certificate) texts out = IsAsGood texts.certificate out
 
--- so it is with each output that is a text
+-- the headline holds for each output that is a text
 abbrev pub KeepsHeadline : Type 0
 KeepsHeadline = (request : Request) (texts : FileTexts) (out : List ℕ) → IsOutput request texts (Ok out) → IsHeadline request texts out
 
@@ -69,7 +69,7 @@ MinimalIsShortest = (text : Text) (m : MapModel) (l : ListModel) (c : Certificat
     → IsShortest m l c
 
 -- The printed text of a list is read again as a list of the same version, name and entries, which labels every address
--- as the map does. And over the map's text, this text and the printed certificate, compacted or not, `check` prints the
+-- as the map does. Over the map's text, this text and the printed certificate, compacted or not, `check` prints the
 -- number of the list's entries.
 pub record StandsAgain (texts : FileTexts) (m : MapModel) (l : ListModel) (c : CertificateModel) : Type 0 where
   pub again : ListModel

@@ -27,9 +27,9 @@ use Rattle.flowlabel.specs.declared.run.loaded.Loaded.{Loaded}
 use Rattle.flowlabel.specs.declared.run.loaded.LoadedLabels.{LoadedLabels}
 use Rattle.flowlabel.specs.declared.run.loaded.LoadedLabels.TheVariants.{Map, List as Prefixes}
 
--- The files that a run decodes whole before it reads flows, and what comes of them.
+-- The files that a run decodes before it reads flows, and the outcome of a request over them.
 
--- the value is what the text is read as
+-- the text is read as this value
 abbrev pub IsMapText : List ℕ → MapText → Type 0
 IsMapText text map = ReadsMap text (map_of map)
 
@@ -39,18 +39,18 @@ IsListText text list = ReadsList text (list_of list)
 abbrev pub IsCertificateText : List ℕ → Certificate → Type 0
 IsCertificateText text certificate = ReadsCertificate text (certificate_of certificate)
 
--- the value of an optional file has the property, if there is one
+-- the value of an optional file, if there is one, has the property
 abbrev pub Holds : {A : Type 0} → (List ℕ → A → Type 0) → List ℕ → Option A → Type 0
 Holds Reads text None = Unit {0}
 Holds Reads text (Some value) = Reads text value
 
--- each text is read as what is loaded of it
+-- each text is read as the value that is loaded from it
 pub record AreLoaded (loaded : Loaded) (texts : FileTexts) : Type 0 where
   pub map : Holds IsMapText texts.map loaded.map
   pub list : Holds IsListText texts.list loaded.list
   pub certificate : Holds IsCertificateText texts.certificate loaded.certificate
 
--- exactly what is needed is loaded
+-- exactly the files that are needed are loaded
 pub record ArePresent (needs : Needs) (loaded : Loaded) : Type 0 where
   pub map : is_some loaded.map ≡ needs.map
   pub list : is_some loaded.list ≡ needs.list
@@ -84,7 +84,7 @@ labelling_of_parts None None = None
 abbrev pub labelling_loaded : Loaded → Option Labelling
 labelling_loaded loaded = labelling_of_parts loaded.map loaded.list
 
--- what comes of a request over what is loaded for it and the bytes of its flows
+-- the outcome of a request over its loaded files and the bytes of its flows
 abbrev pub ComesOf : Request → Loaded → List ℕ → Outcome → Type 0
 ComesOf (label source address) loaded flows outcome =
     (labels : Labelling) × (labelling_loaded loaded ≡ Some labels) × Prints (label_text address labels) outcome
@@ -104,14 +104,13 @@ ComesOf (recert file) loaded flows outcome =
     (certificate : Certificate) × (loaded.certificate ≡ Some certificate) × PrintsCompact (certificate_of certificate) outcome
 
 module _ {R : Type 0} where
-  -- a fault after the loading: one of the flows, or, if nothing was read of the flows, one of what the certificate says
+  -- a fault after loading: one of the flows, or one that `check` finds, and then nothing of the flows was read
   abbrev pub IsLateFault : Inputs R → Inputs R → Bor (List ℕ) → BytesFault → Type 0
   IsLateFault old new file (InFlows fault) = HasName old.flows file
   IsLateFault old new file (InCheck fault) = HasName old.certificate file × (new.flows ≡ old.flows)
   IsLateFault old new file fault = ⊥
 
-  -- what a fault says of what comes of loaded files and the flows, by the relation of the bytes of the flows to the
-  -- outcome
+  -- what a fault after loading says, by the relation of the bytes of the flows to the outcome
   abbrev pub IsFaultOfAnswer : (R → Option (List ℕ)) → (R → Bool) → Inputs R → Inputs R → (List ℕ → Outcome → Type 0) → RunFault → Type 0
   IsFaultOfAnswer left failed old new over (CannotRead file) = HasFailed failed old.flows new.flows file
   IsFaultOfAnswer left failed old new over NoMemory = Unit {0}

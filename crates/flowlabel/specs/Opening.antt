@@ -17,14 +17,14 @@ name_at CertificateTurn names = names.certificate
 name_at FlowsTurn names = names.flows
 
 module _ {R : Type 0} where
-  -- each input is there under the name of its file, and no other
+  -- exactly the inputs whose files have names are there, under these names
   pub record HaveNames (names : FileNames) (inputs : Inputs R) : Type 0 where
     pub map : name_of inputs.map ≡ names.map
     pub list : name_of inputs.list ≡ names.list
     pub certificate : name_of inputs.certificate ≡ names.certificate
     pub flows : name_of inputs.flows ≡ names.flows
 
-  -- each input is a result for its name, `answers` giving the possible results: a reader, or none
+  -- the input's reader is a possible result for its name; `answers` has the possible results: a reader, or `None`
   abbrev pub IsOpened : (Text → Option R → Type 0) → Option (Source R) → Type 0
   IsOpened answers None = Unit {0}
   IsOpened answers (Some source) = answers source.name.now (Some source.reader)
@@ -40,7 +40,7 @@ module _ {R : Type 0} where
   CanOpen answers None = Unit {0}
   CanOpen answers (Some name) = (reader : R) × answers name (Some reader)
 
-  -- so it is with each file whose turn comes before this one
+  -- each named file whose turn comes before this one can be opened
   abbrev pub CanOpenBefore : (Text → Option R → Type 0) → Turn → FileNames → Type 0
   CanOpenBefore answers MapTurn names = Unit {0}
   CanOpenBefore answers ListTurn names = CanOpen answers names.map

@@ -52,19 +52,19 @@ Outcome = Result (List ℕ) BytesFault
 abbrev pub Prints : List ℕ → Outcome → Type 0
 Prints text outcome = outcome ≡ Ok text
 
--- the outcome over a file's text: its first fault, or what comes of the value that it is read as
+-- the outcome over a file's text: the text's first fault, or the outcome for the value that the text is read as
 abbrev pub Then : {F A : Type 0} → (F → Type 0) → (F → BytesFault) → (A → Type 0) → (A → Outcome → Type 0) → Outcome → Type 0
 Then {F} {A} Fails in_file Reads rest outcome =
     ((fault : F) × Fails fault × (outcome ≡ Err (in_file fault))) ⊎ ((value : A) × Reads value × rest value outcome)
 
--- over the text of a map file, of a list file, of a certificate's file, and over the bytes of an IPFIX File
+-- the outcomes over the text of a map, of a list and of a certificate, and over the bytes of an IPFIX File
 abbrev pub MapThen : (MapModel → Outcome → Type 0) → List ℕ → Outcome → Type 0
 MapThen rest text = Then (λ fault. map_reading text ≡ Err fault) InMap (ReadsMap text) rest
 
 abbrev pub ListThen : (ListModel → Outcome → Type 0) → List ℕ → Outcome → Type 0
 ListThen rest text = Then (λ fault. list_reading text ≡ Err fault) InList (ReadsList text) rest
 
--- a text is read as a certificate, of either format: it is the text of it
+-- the text is read as the certificate, of either format, if it is the certificate's text
 abbrev pub ReadsCertificate : List ℕ → CertificateModel → Type 0
 ReadsCertificate text certificate = HasFormatText certificate × (text ≡ certificate_text certificate)
 
@@ -74,21 +74,21 @@ CertificateThen rest text = Then (λ fault. format_reading text ≡ Err fault) I
 abbrev pub FlowsThen : (List MessageView → Outcome → Type 0) → List ℕ → Outcome → Type 0
 FlowsThen rest bytes = Then (HasFileFault [] 0 0 bytes) InFlows (ReadsFile [] 0 bytes) rest
 
--- the outcome over the text of a source of labels: its first fault, or what comes of its labelling
+-- the outcome over the text of a source of labels: its first fault, or the outcome for its labelling
 abbrev pub LabelsThen : LabelSource → (Labelling → Outcome → Type 0) → FileTexts → Outcome → Type 0
 LabelsThen (FromMap file) rest texts = MapThen (λ m. rest (labelling_of_map m)) texts.map
 LabelsThen (FromList file) rest texts = ListThen (λ l. rest (labelling_of_list l)) texts.list
 
--- what follows for the labelling of a source, or without a labelling if there is no source
+-- the outcome for the labelling of a source, or for no labelling if there is no source
 abbrev pub SourceThen : Option LabelSource → (Option Labelling → Outcome → Type 0) → FileTexts → Outcome → Type 0
 SourceThen None rest texts = rest None
 SourceThen (Some source) rest texts = LabelsThen source (λ labels. rest (Some labels)) texts
 
--- a line is a text and a line feed
+-- a line: a text and a line feed
 abbrev pub line_of : List ℕ → List ℕ
 line_of text = text ++ 10 ∷ []
 
--- the line of the label that a labelling gives an address: the line feed alone if there is none
+-- the line of the label that a labelling gives an address, which is the line feed alone if there is no label
 abbrev pub label_text : AddressOf → Labelling → List ℕ
 label_text address labels = line_of (unwrap_or (label_by labels address) [])
 
@@ -100,17 +100,17 @@ HasRunsText labels text = IsRunsText labels.version labels.label text
 abbrev pub PrintsRuns : Labelling → Outcome → Type 0
 PrintsRuns labels outcome = (text : List ℕ) × HasRunsText labels text × Prints text outcome
 
--- the outcome is the text of the certificate compacted
+-- the outcome is the text of the certificate, compacted
 abbrev pub PrintsCompact : CertificateModel → Outcome → Type 0
 PrintsCompact c = Prints (certificate_text (compact c))
 
--- what is printed of a list and its certificate: one of them, the certificate as it is or compacted
+-- what `shrink` prints: the list, its certificate, or its certificate compacted
 abbrev pub shrunk_text : Shrunk → ListModel → CertificateModel → List ℕ
 shrunk_text shrunk.List l c = list_text l
 shrunk_text shrunk.Certificate l c = certificate_text c
 shrunk_text shrunk.Compact l c = certificate_text (compact c)
 
--- the outcome is the text of the list of the map's minimal pair, or of its certificate
+-- the outcome is the text of the list of the map's minimal pair, or of its certificate, compacted or not
 abbrev pub PrintsMinimal : Shrunk → MapModel → Outcome → Type 0
 PrintsMinimal printed m outcome =
     (l : ListModel) × (c : CertificateModel) × IsMinimalPair m l c × HasTextForm c × Prints (shrunk_text printed l c) outcome
@@ -119,7 +119,7 @@ PrintsMinimal printed m outcome =
 abbrev pub row_labels : Labelling → RowView → LabelTexts
 row_labels l row = (label_by l (row.version, row.src), label_by l (row.version, row.dst))
 
--- the lines of rows, with the labels of their addresses where there is a labelling, and the text of these lines
+-- the lines of rows, with the labels of their addresses if there is a labelling, and the text of these lines
 abbrev pub labelled_row_lines : Option Labelling → List RowView → List Line
 labelled_row_lines labels shown = row_lines shown (option_map (λ l. map (row_labels l) shown) labels)
 
@@ -130,13 +130,13 @@ labelled_rows_text labels columns shown = rows_text shown (option_map (λ l. map
 abbrev pub report_of_rows : Condition → Bool → Option Labelling → List MessageView → List ℕ
 report_of_rows condition columns labels messages = labelled_rows_text labels columns (passing_rows condition labels messages)
 
--- the groups of these rows by fields of them
+-- the text of the groups, by fields, of the rows that meet a condition
 abbrev pub report_of_groups : List KeyField → Condition → Bool → Bool → Option Labelling → List MessageView → List ℕ
 report_of_groups fields condition sorted columns labels messages =
     let groups = groups_of fields (label_where labels) (passing_rows condition labels messages) in
     groups_text fields (shown_groups sorted groups) columns
 
--- what comes of a File's bytes under a labelling, or without one: the text of its messages
+-- the outcome over a File's bytes, under a labelling or without one: a text that depends on its messages
 abbrev pub ReportsOf : (Option Labelling → List MessageView → List ℕ) → Option Labelling → List ℕ → Outcome → Type 0
 ReportsOf text labels = FlowsThen (λ messages. Prints (text labels messages))
 
@@ -156,11 +156,11 @@ Checks m l c outcome =
     (IsAccepted m l c × Prints (minimal_text (length l.prefixes)) outcome)
     ⊎ ((fault : CheckFault) × (first_fault m l c ≡ Some fault) × (outcome ≡ Err (InCheck fault)))
 
--- the outcome of the texts of the three
+-- the outcome of `check` over the texts of its files
 abbrev pub ChecksThen : FileTexts → Outcome → Type 0
 ChecksThen texts = MapThen (λ m. ListThen (λ l. CertificateThen (Checks m l) texts.certificate) texts.list) texts.map
 
--- this is an output of the request by the texts of its files, which are read in the order map, list, certificate, flows
+-- the outcome is an output of the request over its files' texts, read in the order map, list, certificate, flows
 abbrev pub IsOutput : Request → FileTexts → Outcome → Type 0
 IsOutput (label source address) texts = LabelsThen source (λ labels. Prints (label_text address labels)) texts
 IsOutput (info flows) texts = ReportsThen (λ labels messages. info_text (counts_of messages)) None texts
@@ -171,11 +171,11 @@ IsOutput (shrink map printed) texts = MapThen (PrintsMinimal printed) texts.map
 IsOutput (check map list certificate) texts = ChecksThen texts
 IsOutput (recert certificate) texts = CertificateThen PrintsCompact texts.certificate
 
--- a request has one output at most
+-- a request has at most one output over the texts of its files
 abbrev pub OneOutput : Type 0
 OneOutput = (request : Request) (texts : FileTexts) (outcome other : Outcome) → IsOutput request texts outcome → IsOutput request texts other → outcome ≡ other
 
--- and it has one, over any texts
+-- a request has an output over any texts of its files
 abbrev pub HasOutput : Type 0
 HasOutput = (request : Request) (texts : FileTexts) → (outcome : Outcome) × IsOutput request texts outcome
 
@@ -187,15 +187,15 @@ under source (uniq fields (Some old) condition sorted columns flows) = uniq fiel
 under source (cat old) = cat source
 under source request = request
 
--- the request takes labels from a map or a list alike, if it takes any
+-- the request can take its labels, if any, from a map or from a list
 abbrev pub TakesEither : Request → Type 0
 TakesEither (shrink map printed) = ⊥
 TakesEither (check map list certificate) = ⊥
 TakesEither (recert certificate) = ⊥
 TakesEither request = Unit {0}
 
--- Over one File, a request that takes labels from either has the outputs under a map text that it has under each list
--- text whose list labels every address as the map does
+-- Over one File, a request that takes labels from either has the same outputs under a map text and under each list text
+-- whose list labels every address as the map does.
 abbrev pub SameUnderEquivalents : Type 0
 SameUnderEquivalents = (request : Request) (file other : List ℕ) (texts others : FileTexts) (m : MapModel) (l : ListModel) (outcome : Outcome)
     → TakesEither request → ReadsMap texts.map m → ReadsList others.list l → IsEquivalent l m → texts.flows ≡ others.flows
@@ -207,7 +207,7 @@ abbrev pub IsCheckedLeast : FileTexts → List ℕ → Type 0
 IsCheckedLeast texts out = (m : MapModel) × (l : ListModel) × ReadsMap texts.map m × ReadsList texts.list l
     × IsEquivalent l m × IsLeast m l × (out ≡ minimal_text (length l.prefixes))
 
--- so it is with each text that `check` prints, whoever made the three files
+-- each text that `check` prints is such a number, whoever made the three files
 abbrev pub CheckIsEnough : Type 0
 CheckIsEnough = (map list certificate : List ℕ) (texts : FileTexts) (out : List ℕ) → IsOutput (check map list certificate) texts (Ok out)
     → IsCheckedLeast texts out
@@ -217,22 +217,22 @@ abbrev pub FitsText : ListModel → Type 0
 FitsText l = (length l.prefixes ≤ mapping_limit) × (length (labels_of l.prefixes) ≤ label_limit)
 
 -- Over a map text, the printed list of its minimal pair, within the limits of a text, and the printed certificate,
--- `check` prints the number of the list's entries
+-- `check` prints the number of the list's entries.
 abbrev pub CheckAcceptsMinimal : Type 0
 CheckAcceptsMinimal = (map list certificate : List ℕ) (texts : FileTexts) (m : MapModel) (l : ListModel) (c : CertificateModel)
     → ReadsMap texts.map m → IsMinimalPair m l c → HasTextForm c → FitsText l
     → texts.list ≡ list_text l → texts.certificate ≡ certificate_text c
     → IsOutput (check map list certificate) texts (Ok (minimal_text (length l.prefixes)))
 
--- So it is with the printed certificate compacted
+-- Over the list and the compacted certificate of the pair, printed, `check` prints the number of entries, too.
 abbrev pub CheckAcceptsCompact : Type 0
 CheckAcceptsCompact = (map list certificate : List ℕ) (texts : FileTexts) (m : MapModel) (l : ListModel) (c : CertificateModel)
     → ReadsMap texts.map m → IsMinimalPair m l c → HasTextForm c → FitsText l
     → texts.list ≡ list_text l → texts.certificate ≡ certificate_text (compact c)
     → IsOutput (check map list certificate) texts (Ok (minimal_text (length l.prefixes)))
 
--- What `recert` prints of a certificate's text is the text of a certificate with no more node lines, which `recert`
--- prints unchanged. And if `check` prints the number of a list's entries by one of the texts, it does so by the other.
+-- A certificate that `recert` prints has no more node lines than the one that it read, and `recert` prints it
+-- unchanged. A number that `check` prints by the certificate that was read it also prints by the printed one.
 pub record IsAsGood (before after : List ℕ) : Type 0 where
   pub old : CertificateModel
   pub new : CertificateModel

@@ -12,22 +12,22 @@ use Rattle.flowlabel.specs.declared.command.LabelFile.TheVariants.{Map, List as 
 use Rattle.flowlabel.specs.declared.command.Needs.{Needs}
 use Rattle.flowlabel.specs.declared.command.Shrunk.{Shrunk}
 
--- What a command line may ask for, apart from how the program keeps it.
+-- What a command line may ask for, independent of how the program represents it.
 
 -- the bytes of a word
 abbrev pub Text : Type 0
 Text = List ℕ
 
--- where labels come from: the map in a file, or the prefix list in a file
+-- the source of labels: the map in a file, or the prefix list in a file
 pub data LabelSource : Type 0 where
   FromMap : (file : Text) → LabelSource
   FromList : (file : Text) → LabelSource
 
--- label: the label that the labels of a file give an address; info: the counts of the messages of a File; rows: the
--- rows of its records that meet a condition, with the labels of their addresses if there is a source of labels, in
--- padded columns or not; uniq: the groups of such rows by fields, with their totals, sorted or in the order of their
--- first rows; cat: the runs of the labels of a file; shrink: the shortest list of a map, or its certificate, compacted
--- or not; check: whether a certificate shows that a list is a shortest one for a map; recert: a certificate compacted
+-- `label`: the label that a file's labels give an address. `info`: the counts of a File. `rows`: the rows of a File
+-- that meet a condition, with the labels of their addresses if there is a source of labels, padded to columns or not.
+-- `uniq`: the groups of such rows by fields, with their totals, sorted or in the order of their first rows. `cat`: the
+-- runs of a file's labels. `shrink`: the shortest list of a map, or its certificate, compacted or not. `check`: whether
+-- a certificate shows that a list is a shortest one for a map. `recert`: a certificate, compacted.
 pub data Request : Type 0 where
   label : (source : LabelSource) (address : AddressOf) → Request
   info : (flows : Text) → Request
@@ -42,12 +42,12 @@ pub data Request : Type 0 where
 abbrev pub IsAddress : AddressOf → Type 0
 IsAddress address = address.1 < 2 ^ width_of address.0
 
--- the addresses of a request are addresses of their versions
+-- the address of a request is one of its version
 abbrev pub IsProper : Request → Type 0
 IsProper (label source address) = IsAddress address
 IsProper request = Unit {0}
 
--- the source that a file of labels is
+-- a file of labels as a source of labels
 abbrev pub source_of : LabelFile → LabelSource
 source_of (Map file) = FromMap file.now
 source_of (Prefixes file) = FromList file.now
@@ -71,7 +71,7 @@ pub record FileNames : Type 0 where
   pub certificate : Option Text
   pub flows : Option Text
 
--- the names that a program keeps, as texts
+-- the names of a command's files, as texts
 abbrev pub names_of : Files → FileNames
 names_of files = record {
   map = option_map (λ s. s.now) files.map;
@@ -80,7 +80,7 @@ names_of files = record {
   flows = option_map (λ s. s.now) files.flows;
 }
 
--- the file of labels, if there is one, and the File, if there is one
+-- the names of the map and of the list of a source, and the names of all files of a request
 abbrev pub map_in : LabelSource → Option Text
 map_in (FromMap file) = Some file
 map_in (FromList file) = None
@@ -107,7 +107,7 @@ files_of (shrink map printed) = files_named (Some (FromMap map)) None
 files_of (check map list certificate) = record { map = Some map; list = Some list; certificate = Some certificate; flows = None }
 files_of (recert certificate) = record { map = None; list = None; certificate = Some certificate; flows = None }
 
--- which of the four inputs are read: those that there are names for
+-- the inputs that are read are those whose files have names
 abbrev pub needs_named : FileNames → Needs
 needs_named names = record {
   map = is_some names.map;

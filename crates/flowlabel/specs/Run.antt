@@ -55,7 +55,7 @@ module _ {R : Type 0} where
   IsRead left turn None = Unit {0}
   IsRead left turn (Some source) = (text : List ℕ) → left source.reader ≡ Some text → IsReadAt turn text
 
-  -- so it is with each input whose turn comes before this one
+  -- each input whose turn comes before this one is read without fault
   abbrev pub AreReadBefore : (R → Option (List ℕ)) → Turn → Inputs R → Type 0
   AreReadBefore left MapTurn inputs = Unit {0}
   AreReadBefore left ListTurn inputs = IsRead left MapTurn inputs.map
@@ -70,18 +70,18 @@ module _ {R : Type 0} where
   AreKeptBehind CertificateTurn old new = new.flows ≡ old.flows
   AreKeptBehind FlowsTurn old new = Unit {0}
 
-  -- the output of the request by the bytes that the readers reported, if they report them
+  -- if the readers report their bytes, the request's output over them is a text with the property
   abbrev pub PrintsThen : (R → Option (List ℕ)) → Inputs R → Request → (List ℕ → Type 0) → Type 0
   PrintsThen left inputs request P =
       (texts : FileTexts) → HaveTexts left inputs texts → (out : List ℕ) × IsOutput request texts (Ok out) × P out
 
-  -- so it is with the headline for that text
+  -- if the readers report their bytes, the headline over them holds for a text with the property
   abbrev pub HeadlineThen : (R → Option (List ℕ)) → Inputs R → Request → (List ℕ → Type 0) → Type 0
   HeadlineThen left inputs request P =
       (texts : FileTexts) → HaveTexts left inputs texts → (out : List ℕ) × IsHeadline request texts out × P out
 
-  -- what a fault of reading and decoding one input says: the input, by its name before the call, has a reader that has
-  -- failed, or a text with this fault
+  -- what a fault of reading and decoding one input says: the input had the file's name before the call, and its reader
+  -- has failed or its text has this fault
   abbrev pub IsStop : (R → Option (List ℕ)) → (R → Bool) → Turn → Option (Source R) → Option (Source R) → RunFault → Type 0
   IsStop left failed turn old new (CannotRead file) = HasFailed failed old new file
   IsStop left failed turn old new NoMemory = Unit {0}
@@ -89,9 +89,9 @@ module _ {R : Type 0} where
       × ((text : List ℕ) → HasText left old text → IsFaultOfText fault.fault text)
   IsStop left failed turn old new fault = ⊥
 
-  -- What a fault before anything is written says, by the relation of the files' texts to the outcome, names being those
-  -- before the call. A fault of a file's bytes is the outcome. If a reader that is named has failed, the files before
-  -- it were read without fault. Either way the files after that one were not read.
+  -- What a fault before anything is written says, by the relation of the files' texts to the outcome. Names are those
+  -- before the call. A fault of a file's bytes is the outcome. If a reader has failed, the files before its file were
+  -- read without fault. In both cases the files after the faulty one were not read.
   abbrev pub IsFaultOfBytes : (R → Option (List ℕ)) → (R → Bool) → Inputs R → Inputs R → (FileTexts → Outcome → Type 0) → RunFault → Type 0
   IsFaultOfBytes left failed old new over (CannotRead file) =
       (turn : Turn) × HasFailed failed (input_at turn old) (input_at turn new) file × AreReadBefore left turn old × AreKeptBehind turn old new
@@ -120,7 +120,7 @@ module _ {R W : Type 0} (left : R → Option (List ℕ)) (failed : R → Bool) (
       IsFaultOfBytes left failed old new (IsOutput request) (File fault) × IsUntouched taken last writer writer'
   IsFaultOfRun old new writer writer' request fault = ⊥
 
--- the run ended for a reader that failed, or for the writer
+-- the run ended because a reader failed, or because the writer failed
 abbrev pub is_read_stop : {A : Type 0} → Result A RunFault → Bool
 is_read_stop (Err (CannotRead file)) = true
 is_read_stop result = false
@@ -134,12 +134,12 @@ module _ {R W : Type 0} (left : R → Option (List ℕ)) (failed : R → Bool) (
   pub record IsRunOf (request : Request) (old new : Inputs R) (writer writer' : W) (result : Result (Unit {0}) RunFault) : Type 0 where
     -- the writer took exactly the output of the bytes read
     pub ok : OnOk result (PrintsThen left old request (Appends (taken writer) (taken writer')))
-    -- so the headline holds for what was written: a shortest list, a list checked to be least, the same report under
-    -- map and list
+    -- the headline holds for what was written: a shortest list, a list checked to be least, or the same report under a
+    -- map and an equivalent list
     pub headline : OnOk result (HeadlineThen left old request (Appends (taken writer) (taken writer')))
-    -- and it was flushed after that
+    -- the writer was flushed after that
     pub flushed : OnOk result (last writer' ≡ Flush)
-    -- a fault of the bytes is the output's, and nothing is written but a prefix of the output before a write fault
+    -- a fault of the bytes is the output, and only a write fault leaves anything written: a prefix of the output
     pub err : IfErr result (IsFaultOfRun left failed taken last old new writer writer' request)
     -- device faults come exactly from devices that failed
     pub read_fault : any_failed failed new ≡ is_read_stop result

@@ -20,7 +20,7 @@ pub data Turn : Type 0 where
   CertificateTurn : Turn
   FlowsTurn : Turn
 
--- the turn of the file that a fault is of: what a certificate says wrongly is its own fault
+-- the turn of the file that has the fault; a fault that `check` finds is the certificate's
 abbrev pub turn_of : BytesFault → Turn
 turn_of (InMap fault) = MapTurn
 turn_of (InList fault) = ListTurn

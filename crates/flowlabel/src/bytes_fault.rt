@@ -7,23 +7,23 @@ use ipfix_templates::TemplateFaultKind;
 use pmap_cert::{CertFault, CertFaultKind};
 use pmap_text::{MapFault, MapFaultKind};
 
-/// A fault of the bytes of a file, or of what a certificate says of a map and a list.
+/// A fault of the bytes of a file, or of a certificate for a map and a list.
 #[derive(Clone, Copy)]
 pub enum BytesFault {
-    /// Of the text of a map file.
+    /// A fault of the text of a map.
     Map(MapFault),
-    /// Of the text of a list file.
+    /// A fault of the text of a list.
     List(MapFault),
-    /// Of the bytes of an IPFIX File.
+    /// A fault of the bytes of an IPFIX File.
     Flows(ReadFault),
-    /// Of the text of a certificate's file.
+    /// A fault of the text of a certificate.
     Certificate(CertFault),
-    /// Of the certificate, for the map and the list.
+    /// A fault of a certificate for the map and the list.
     Check(CheckFault),
 }
 
 impl BytesFault {
-    /// Whether it says that memory ran out, and nothing of the bytes.
+    /// Returns whether the fault is out of memory, which says nothing about the bytes.
     pub fn is_want_of_memory(&self) -> bool
         ensures { result ≡ is_want_of_memory self.now }
     {
@@ -40,7 +40,7 @@ impl BytesFault {
         }
     }
 
-    /// Its code and its name, as the line of a fault shows them.
+    /// Returns the code and the name of the fault, as its line shows them.
     pub fn name(&self) -> &'static str
         ensures { result.now ≡ bytes_fault_name self.now }
     {
@@ -53,7 +53,7 @@ impl BytesFault {
         }
     }
 
-    /// Its position: a line of a text, an offset into a File, or a node of a certificate.
+    /// Returns the position of the fault: a line of a text, an offset in bytes into a File, or a node of a certificate.
     pub fn place(&self) -> u64
         ensures { result ≡ bytes_fault_place self.now }
     {
@@ -90,7 +90,7 @@ fn map_fault_name(kind: MapFaultKind) -> &'static str
     }
 }
 
-// The codes and the names of a bad template and of what is wrong with it.
+// The code and the name of a bad template, and the code of what is wrong with it.
 fn template_fault_name(kind: TemplateFaultKind) -> &'static str
     ensures { result.now ≡ template_fault_name kind }
 {
@@ -136,7 +136,7 @@ fn certificate_fault_name(kind: CertFaultKind) -> &'static str
     }
 }
 
-// The code and the name of what is wrong with a certificate for a map and a list.
+// The code and the name of a fault of a certificate for a map and a list.
 fn check_fault_name(kind: CheckFaultKind) -> &'static str
     ensures { result.now ≡ check_fault_name kind }
 {

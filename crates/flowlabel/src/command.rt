@@ -5,7 +5,7 @@ use flow_filter::Filter;
 use flow_uniq::Keys;
 use prefix_keys::Addr;
 
-/// A file that labels come from, by its name.
+/// The name of a file that labels come from.
 #[derive(Clone, Copy)]
 pub enum LabelFile<'a> {
     /// `--pmap FILE`: a prefix map.
@@ -14,18 +14,18 @@ pub enum LabelFile<'a> {
     List(&'a str),
 }
 
-/// What `shrink` prints of a map.
+/// The output of `shrink` for a map.
 #[derive(Clone, Copy)]
 pub enum Shrunk {
     /// The shortest prefix list that labels every address as the map does.
     List,
-    /// `--certificate`: the certificate of that.
+    /// `--certificate`: the certificate of that list.
     Certificate,
     /// `--certificate --compact`: that certificate, compacted.
     Compact,
 }
 
-/// What a command line asks for. File names and texts are borrowed from the words.
+/// A command, as a command line asks for it. File names and texts are borrowed from the words.
 #[derive(Drop)]
 pub enum Command<'a> {
     /// `label (--pmap FILE | --list FILE) ADDR`: the label of an address.
@@ -37,16 +37,16 @@ pub enum Command<'a> {
     Info {
         flows: &'a str,
     },
-    /// `rows [--pmap FILE | --list FILE] [filters] [--columns] FILE`: the rows of an IPFIX File that pass the filter,
-    /// with labels if a file of them is named, padded to columns if asked for.
+    /// `rows [--pmap FILE | --list FILE] [filters] [--columns] FILE`: the rows of an IPFIX File that pass the filters,
+    /// with labels if a map or a list is named, padded to columns if asked for.
     Rows {
         labels: Option<LabelFile<'a>>,
         filter: Filter<'a>,
         columns: bool,
         flows: &'a str,
     },
-    /// `uniq --fields NAMES [--pmap FILE | --list FILE] [filters] [--sort-output] [--columns] FILE`: the groups of
-    /// these rows by fields of them, with their totals, in the order of their first rows or sorted.
+    /// `uniq --fields NAMES [--pmap FILE | --list FILE] [filters] [--sort-output] [--columns] FILE`: the groups of such
+    /// rows by fields, with their totals, in the order of their first rows or sorted.
     Uniq {
         keys: Keys,
         labels: Option<LabelFile<'a>>,
@@ -55,12 +55,12 @@ pub enum Command<'a> {
         columns: bool,
         flows: &'a str,
     },
-    /// `cat (--pmap FILE | --list FILE)`: the ranges of addresses with one label.
+    /// `cat (--pmap FILE | --list FILE)`: the ranges of addresses with the same label.
     Cat {
         labels: LabelFile<'a>,
     },
-    /// `shrink --pmap FILE [--certificate] [--compact]`: the shortest prefix list that labels every address as the map
-    /// does, or in its place the certificate of that, compacted or not.
+    /// `shrink --pmap FILE [--certificate [--compact]]`: the shortest prefix list that labels every address as the map
+    /// does, or its certificate, compacted or not.
     Shrink {
         map: &'a str,
         printed: Shrunk,
@@ -72,13 +72,13 @@ pub enum Command<'a> {
         list: &'a str,
         certificate: &'a str,
     },
-    /// `recert --cert FILE`: a certificate compacted.
+    /// `recert --cert FILE`: a certificate, compacted.
     Recert {
         certificate: &'a str,
     },
 }
 
-/// Which of the four inputs a command reads.
+/// The inputs that a command reads.
 #[derive(Clone, Copy)]
 pub struct Needs {
     pub map: bool,
@@ -87,7 +87,7 @@ pub struct Needs {
     pub flows: bool,
 }
 
-/// The name of each file that a command reads, as on the command line.
+/// The names of the files that a command reads, as on the command line.
 #[derive(Clone, Copy)]
 pub struct Files<'a> {
     pub map: Option<&'a str>,
@@ -97,7 +97,7 @@ pub struct Files<'a> {
 }
 
 impl<'a> Files<'a> {
-    // The file of labels, and the File, if they are there.
+    // The files of a command that reads labels, flows or both.
     fn named(labels: Option<LabelFile<'a>>, flows: Option<&'a str>) -> Files<'a>
         ensures { names_of result ≡ files_named (option_map source_of labels.entry) (option_map (λ s. s.now) flows.entry) }
     {
@@ -116,7 +116,7 @@ impl<'a> Files<'a> {
 }
 
 impl<'a> Command<'a> {
-    /// Which inputs the command reads.
+    /// Returns which inputs the command reads.
     pub fn needs(&self) -> Needs
         ensures { result ≡ needs_of (request_of self.now) }
     {
@@ -129,7 +129,7 @@ impl<'a> Command<'a> {
         }
     }
 
-    /// The files that the command reads, one for each input that it needs.
+    /// Returns the names of the files that the command reads, one for each input that it needs.
     pub fn files(&self) -> Files<'a>
         ensures names { names_of result ≡ files_of (request_of self.now) }
         ensures needed { NamesNeeds (needs_of (request_of self.now)) result }

@@ -7,7 +7,7 @@ ghost use Rattle.flowlabel.specs.Definition.{IsArgument, IsCommand, IsLeaf, chec
 use clap::{Arg, ArgAction, Command};
 use std::alloc::{AllocError, Global};
 
-// The version after a text: its one place.
+// Appends the version, which is written only here, to a text.
 macro_rules! version {
     ($before:literal) => {
         concat!($before, "1.0.0")
@@ -19,14 +19,14 @@ const VERSION: &str = version!("");
 // The first line of each help: the program and its version.
 const TITLE: &str = version!("flowlabel ");
 
-// The last lines of a help: a command line with what it prints, and where the manual is.
+// The last lines of a help: an example of what the command prints, and where the manual is.
 macro_rules! example {
     ($what:literal, $line:literal) => {
         concat!("Example, ", $what, ":\n  ", $line, "\n\nManual: man flowlabel")
     };
 }
 
-// `--name VALUE`, below a heading of the help.
+// Returns the option `--name VALUE`, below a heading of the help.
 fn option<'a>(
     alloc: Global,
     name: &'a str,
@@ -43,7 +43,7 @@ fn option<'a>(
         .help(help)
 }
 
-// `--name VALUE`, which must be given.
+// Returns the option `--name VALUE`, which must be given.
 fn needed_option<'a>(
     alloc: Global,
     name: &'a str,
@@ -56,7 +56,7 @@ fn needed_option<'a>(
     option(alloc, name, value, heading, help).required(true)
 }
 
-// `--name`, a flag.
+// Returns the flag `--name`.
 fn flag<'a>(alloc: Global, name: &'a str, help: &'a str) -> Arg<'a>
     ensures { IsArgument (flag_rule name.entry.now) result }
 {
@@ -67,7 +67,7 @@ fn flag<'a>(alloc: Global, name: &'a str, help: &'a str) -> Arg<'a>
         .help(help)
 }
 
-// `VALUE`, a word.
+// Returns the argument `VALUE`, which must be given.
 fn word<'a>(alloc: Global, name: &'a str, value: &'a str, help: &'a str) -> Arg<'a>
     ensures { IsArgument (word_rule name.entry.now) result }
 {
@@ -77,7 +77,7 @@ fn word<'a>(alloc: Global, name: &'a str, value: &'a str, help: &'a str) -> Arg<
         .help(help)
 }
 
-// A command before its arguments, with what its help says besides them.
+// Returns a command without arguments, with the texts of its help.
 fn described<'a>(
     alloc: Global,
     name: &'a str,
@@ -94,7 +94,7 @@ fn described<'a>(
         .after_help(example)
 }
 
-// A command with these arguments, and what its help says besides them.
+// Returns a command with these arguments and the texts of its help.
 fn command<'a>(
     alloc: Global,
     name: &'a str,
@@ -141,7 +141,7 @@ fn info<'a>(alloc: Global) -> Result<Command<'a>, AllocError>
     command(alloc, "info", about, usage, example, arguments)
 }
 
-// The filters.
+// The options that filter flows.
 fn filters<'a>(alloc: Global) -> Result<Vec<Arg<'a>>, AllocError>
     ensures { IfOk result (λ arguments. AllZip IsArgument filter_rules arguments.items) }
 {
@@ -296,7 +296,7 @@ fn recert<'a>(alloc: Global) -> Result<Command<'a>, AllocError>
     command(alloc, "recert", about, usage, example, arguments)
 }
 
-// The program before its subcommands.
+// The program without its subcommands.
 fn program<'a>(alloc: Global) -> Command<'a>
     ensures { IsCommand program result }
 {
@@ -308,7 +308,7 @@ fn program<'a>(alloc: Global) -> Command<'a>
         .disable_help_subcommand(true)
 }
 
-/// The command line as clap reads it: a simple command with one required level of subcommands.
+/// Returns the definition of the command line for clap: a program with one required level of subcommands.
 pub fn definition<'a>(alloc: Global) -> Result<Command<'a>, AllocError>
     ensures app { IfOk result (IsCommand flowlabel_app) }
     ensures required { IfOk result (λ c. (out-Command c).subcommand_required ≡ true) }

@@ -18,17 +18,16 @@ pub enum Stream {
     Error,
 }
 
-/// What is written at the end.
+/// A text that is written at the end.
 #[derive(Drop)]
 pub enum Told<'a> {
-    /// A text of clap's, as it is.
+    /// A borrowed text: clap's, or an empty one.
     Lent(&'a str),
     /// The line of a fault.
     Made(Vec<u8>),
 }
 
 impl Told<'_> {
-    // Its bytes.
     fn as_bytes(&self) -> &[u8]
         ensures { result.now ≡ told_bytes self.now }
     {
@@ -39,18 +38,18 @@ impl Told<'_> {
     }
 }
 
-/// How the program ends.
+/// The end of the program.
 #[derive(Drop)]
 pub struct Ending<'a> {
     /// The exit status.
     pub status: u8,
     /// The stream to which the text is written.
     pub stream: Stream,
-    /// The text, if there was memory for it.
+    /// The text, or an error if its allocation failed.
     pub text: Result<Told<'a>, AllocError>,
 }
 
-// The text at the end: help, which takes no memory, or the line of a fault.
+// Returns the text at the end: nothing, help, which needs no allocation, or the line of a fault.
 fn told_text<'a>(
     alloc: Global,
     outcome: &'a Result<(), RunFault<'_>>,
@@ -65,7 +64,7 @@ fn told_text<'a>(
     }
 }
 
-// The stream to which it is written.
+// Returns the stream to which the text of this outcome is written.
 fn stream_of(outcome: &Result<(), RunFault<'_>>) -> Stream
     ensures { result ≡ stream_of outcome.now }
 {
@@ -75,7 +74,7 @@ fn stream_of(outcome: &Result<(), RunFault<'_>>) -> Stream
     }
 }
 
-/// The end of a run with this outcome: help goes to standard output, and the line of a fault to standard error.
+/// Returns the end of a run with this outcome: help goes to standard output, and the line of a fault to standard error.
 pub fn ending_of<'a>(alloc: Global, outcome: &'a Result<(), RunFault<'_>>) -> Ending<'a>
     ensures status { result.status ≡ exit_status_of outcome.entry.now }
     ensures stream { result.stream ≡ stream_of outcome.entry.now }
@@ -89,14 +88,14 @@ pub fn ending_of<'a>(alloc: Global, outcome: &'a Result<(), RunFault<'_>>) -> En
     }
 }
 
-/// Writes the text of an ending to its stream, flushes the stream, and returns the exit status. If the stream fails,
-/// the status stays as it is.
+/// Writes the text of an ending to its stream, flushes the stream, and returns the exit status. The status doesn't
+/// depend on whether the stream fails.
 pub fn end<O: Output, E: Output>(ending: &Ending<'_>, output: &mut O, error: &mut E) -> u8
     requires output { ending.now.stream ≡ stream.Output → O.failed output.old ≡ false }
     requires error { E.failed error.old ≡ false }
     ensures status { result ≡ ending.now.status }
 
-    // Nothing else is written, and nothing at all exactly if there was no memory for the line of a fault.
+    // Nothing else is written. If the allocation of the line of a fault failed, nothing is written at all.
     ensures told { IfOk ending.now.text (λ told. IsTold O.bytes_taken O.last_call O.failed E.bytes_taken E.last_call E.failed
         ending.now.stream (told_bytes told) output.old output.new error.old error.new) }
     ensures silent { IfErr ending.now.text (λ refused. IsSilent O.bytes_taken O.last_call E.bytes_taken E.last_call

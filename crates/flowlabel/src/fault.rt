@@ -10,7 +10,7 @@ use flow_filter::{FilterFaultKind, FilterOption};
 use flow_uniq::KeyFault;
 use std::alloc::{AllocError, Global};
 
-/// Why a run of the program ended without its whole output. File names are those of the command line.
+/// The reason why a run of the program ended without its whole output. File names are those of the command line.
 #[derive(Drop)]
 pub enum RunFault<'a> {
     /// The command line is faulty, or asks for help.
@@ -21,14 +21,14 @@ pub enum RunFault<'a> {
     CannotRead(&'a str),
     /// The output can't be written.
     CannotWrite,
-    /// Memory ran out.
+    /// An allocation failed.
     NoMemory,
     /// The bytes of a file have a fault.
     File(FileFault<'a>),
 }
 
 impl<'a> RunFault<'a> {
-    /// The fault of the bytes of the file with this name. Out of memory is the run's.
+    /// Returns the run's fault for a fault of a file's bytes. Out of memory becomes `NoMemory`, without the file.
     pub fn in_file(file: &'a str, fault: BytesFault) -> RunFault<'a>
         requires { is_answer_of_calls fault ≡ false }
         ensures { IsInFile file.now fault result }
@@ -40,7 +40,7 @@ impl<'a> RunFault<'a> {
         }
     }
 
-    // Whether it says that memory ran out, in whatever words.
+    // Returns whether the fault is out of memory, in any of its forms.
     fn is_want_of_memory(&self) -> bool
         ensures { result ≡ is_memory_fault self.now }
     {
@@ -62,7 +62,7 @@ impl<'a> From<AllocError> for RunFault<'a> {
     }
 }
 
-// An option that filters rows.
+// The name of an option that filters rows.
 fn filter_option_name(option: FilterOption) -> &'static str
     ensures { result.now ≡ filter_option_text option }
 {
@@ -99,7 +99,7 @@ fn option_line(alloc: Global, option: &str, name: &str) -> Result<String, AllocE
     format!(in alloc; "flowlabel: usage: {option} {name}\n")
 }
 
-// The code and the name of a fault of the text of fields.
+// The code and the name of a fault of the text of `--fields`.
 fn key_fault_name(fault: KeyFault) -> &'static str
     ensures { result.now ≡ key_fault_text fault }
 {
@@ -138,7 +138,7 @@ fn usage_line(alloc: Global, fault: &UsageFault) -> Result<String, AllocError>
     }
 }
 
-// The line of a fault at a place of a file.
+// The line of a fault at a position in a file.
 fn place_line(alloc: Global, file: &str, name: &str, place: u64) -> Result<String, AllocError>
     ensures { IfOk result (λ line. string_bytes line ≡ place_text file.now name.now place) }
 {
@@ -161,7 +161,7 @@ fn own_line(alloc: Global, fault: &RunFault<'_>) -> Result<String, AllocError>
     }
 }
 
-/// Returns the line for standard error, with its line feed: for a refused command line clap's text, for help nothing.
+/// Returns the line of a fault for standard error, with its line feed: clap's text if clap refuses, nothing for help.
 pub fn fault_line(alloc: Global, fault: &RunFault<'_>) -> Result<Vec<u8>, AllocError>
     ensures { IfOk result (λ line. line.items ≡ fault_text fault.now) }
 {
@@ -186,8 +186,8 @@ fn own_status(fault: &RunFault<'_>) -> u8
     }
 }
 
-/// The exit status: 1 for a fault of a file's bytes or of a certificate, 2 for a usage fault, 3 for out of memory, 4
-/// for a file or an output that fails, 0 for help.
+/// Returns the exit status of a fault: 1 for a fault of a file's bytes or of a certificate, 2 for a usage fault, 3 for
+/// out of memory, 4 for a file or an output that fails, and 0 for help.
 pub fn status(fault: &RunFault<'_>) -> u8
     ensures { result ≡ status_of fault.now }
 {
@@ -198,7 +198,7 @@ pub fn status(fault: &RunFault<'_>) -> u8
     }
 }
 
-/// The exit status of a run with this outcome: 0 if it is done, otherwise that of its fault.
+/// Returns the exit status of a run with this outcome: 0 if it succeeded, otherwise that of its fault.
 pub fn exit_status(outcome: &Result<(), RunFault<'_>>) -> u8
     ensures { result ≡ exit_status_of outcome.now }
 {

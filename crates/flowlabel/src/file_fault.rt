@@ -3,8 +3,8 @@ ghost use Rattle.flowlabel.specs.BytesFault.{is_answer_of_calls, is_want_of_memo
 
 use crate::bytes_fault::BytesFault;
 
-/// A fault of the bytes of a file, by the file's name on the command line. It is never out of memory, nor what calls
-/// for the messages of a File return if the reader failed or after a fault.
+/// A fault of the bytes of a file, with the file's name on the command line. The fault is never out of memory, a failed
+/// reader, or that of a call for a message after a fault.
 #[derive(Clone, Copy)]
 pub struct FileFault<'a> {
     pub file: &'a str,

@@ -1,4 +1,4 @@
-/// A file to be read, under the name that it has on the command line.
+/// A file to read, with its name on the command line.
 #[derive(Drop)]
 pub struct Source<'a, R> {
     pub name: &'a str,

@@ -6,13 +6,13 @@
 //! Berlin gateway
 //! ```
 //!
-//! It depends on all the other crates: `parse` reads the command line (clap splits the words), `open_all` opens the
-//! files that it names, and `run` reads them, makes the whole output and then writes it. Rely on the contract of `run`:
-//! the bytes written are a stated function of the bytes read, a fault is the first one of those bytes, nothing is
-//! written at any fault except a write fault, and device faults come exactly from failed devices. `execute` joins them,
-//! and its contract says that the request that is run is the one of the words, over the files that it names.
-//! `ending_of` has the text and the status of the outcome, and `end` writes the text. Tests of the program show that
-//! the two streams and the status are the system's.
+//! It depends on all the other crates: `parse` reads the command line, whose words clap splits, `open_all` opens the
+//! files that the line names, and `run` reads them, makes the whole output and then writes it. Rely on the contract of
+//! `run`: the bytes written are a stated function of the bytes read, a fault is the first one of those bytes, only a
+//! write fault leaves anything written, and device faults come exactly from failed devices. `execute` joins the three.
+//! By its contract it runs the request of the words over the files that they name. `ending_of` returns the text and the
+//! status of an outcome, and `end` writes the text. Tests of the program show that the two streams and the status are
+//! the system's.
 #![tactic(auto)]
 
 ghost use Rattle.std.specs.Prelude.{◌≡◌, false, map, IfOk, OnOk};
@@ -47,7 +47,7 @@ use std::process::ExitCode;
 use usage::UsageFault;
 use words::{parse, words_fault};
 
-// These words in a list. It reserves memory for all at once, since `collect` would ask for less after a failure.
+// Lists the words in one allocation. `collect` would try a smaller one after a failure.
 fn listed(alloc: Global, words: env::Args) -> Result<Vec<String>, AllocError>
     ensures { IfOk result (λ list. list.items ≡ into_iter_items words) }
 {
@@ -58,7 +58,7 @@ fn listed(alloc: Global, words: env::Args) -> Result<Vec<String>, AllocError>
     Ok(list)
 }
 
-// The words of the command line, the first of which is the program's name.
+// Returns the words of the command line, the first of which is the program's name.
 fn arguments(rt: &HostRuntime) -> Result<Vec<String>, UsageFault> {
     match env::args(rt) {
         Ok(words) => Ok(listed(rt.alloc(), words)?),
@@ -66,7 +66,7 @@ fn arguments(rt: &HostRuntime) -> Result<Vec<String>, UsageFault> {
     }
 }
 
-// The texts of these words, by one request for memory as well.
+// Lists the words as texts, in one allocation.
 fn lent(alloc: Global, words: &[String]) -> Result<Vec<&str>, AllocError>
     ensures { IfOk result (λ list. texts list.items ≡ map string_bytes words.now) }
 {
@@ -77,8 +77,7 @@ fn lent(alloc: Global, words: &[String]) -> Result<Vec<&str>, AllocError>
     Ok(list)
 }
 
-// What a command line asks for, carried out over the files that it names. Labels and groups are hashed by these
-// numbers.
+// Runs the command that the words ask for over the files that they name. Labels and groups are hashed by `hashing`.
 fn execute<'a, O: Opener, W: Output>(
     alloc: Global,
     words: &'a [&'a str],
@@ -100,7 +99,7 @@ fn execute<'a, O: Opener, W: Output>(
     run_with_hashing(alloc, &command, &mut inputs, output, hashing)
 }
 
-// Carries out the command line and gives the exit status.
+// Runs the command line, and returns the exit status.
 fn answer(rt: &HostRuntime) -> u8 {
     let alloc = rt.alloc();
     let mut output = Watched::new(rt.stdout());

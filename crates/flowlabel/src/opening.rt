@@ -1,4 +1,4 @@
-//! From names to files.
+//! Opens the files that a command line names.
 ghost use Rattle.std.specs.Prelude.{◌≡◌, false, IfErr, IfOk, List, Option, ℕ, option_map};
 ghost use Rattle.std.specs.Result.{result_ok};
 ghost use Rattle.flowlabel.specs.Opening.{AreOpened, CannotOpenFirst, CannotOpenNamed, CanOpen, HaveNames, IsOpened};
@@ -12,24 +12,24 @@ use crate::inputs::{Inputs, Source};
 use flow_io::{Buffered, Input, Watched};
 use std::fs::File;
 
-/// A file can't be opened.
+/// The fault that a file can't be opened.
 #[derive(Clone, Copy, Debug)]
 pub struct OpenFault;
 
-/// What opens files by their names.
+/// Opens files by their names.
 pub trait Opener {
     type Reader: Input + Drop;
 
     // The possible results for a name: a reader, or none.
     ghost answers: { Self → List ℕ → Option Self.Reader → Type 0 };
 
-    /// Opens the file of this name. Nothing of it is read yet.
+    /// Opens the file with this name, and reads nothing of it.
     fn open(&self, name: &str) -> Result<Self::Reader, OpenFault>
         ensures answer { answers self.now name.now (result_ok result) }
         ensures fresh { IfOk result (λ reader. Self.Reader.failed reader ≡ false) };
 }
 
-// The files of the system. No contract says what they are.
+// Opens the files of the system. No contract says which files these are.
 impl Opener for HostRuntime {
     type Reader = Buffered<Watched<File>>;
 
@@ -43,7 +43,7 @@ impl Opener for HostRuntime {
     }
 }
 
-// Opens a file, if one is named.
+// Opens a file, if its name is given.
 fn open<'a, O: Opener>(
     opener: &O,
     name: Option<&'a str>,
@@ -63,11 +63,11 @@ fn open<'a, O: Opener>(
     }
 }
 
-/// Opens the files that a command reads, in the order map, list, certificate, flows. It reads none of them.
+/// Opens the files that a command reads, in the order map, list, certificate, flows. Reads nothing of them.
 ///
 /// # Errors
 ///
-/// `CannotOpen` of the first file that can't be opened.
+/// `CannotOpen` with the name of the first file that can't be opened.
 pub fn open_all<'a, O: Opener>(
     opener: &O,
     files: Files<'a>,

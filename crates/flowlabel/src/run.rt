@@ -40,7 +40,7 @@ use rows::RowsReport;
 use shrink::shrunk_text;
 use uniq::UniqReport;
 
-// What comes of a command over the files that are loaded for it and the bytes of its flows.
+// Returns the output of a command over its loaded files and its flows, which are read here if it needs them.
 fn answer<'a, R: Input>(
     alloc: Global,
     command: &Command<'_>,
@@ -107,7 +107,7 @@ fn answer<'a, R: Input>(
     }
 }
 
-// The whole output of a command.
+// Reads the inputs of a command, and returns its whole output.
 fn output<'a, R: Input>(
     alloc: Global,
     command: &Command<'_>,
@@ -125,14 +125,14 @@ fn output<'a, R: Input>(
     answer(alloc, command, &loaded, inputs, hashing)
 }
 
-/// Runs a command: reads its inputs, makes the whole output, and then writes it and flushes once. The files are read in
-/// the order map, list, certificate, flows, each of them whole and decoded before the next is read.
+/// Runs a command: reads its inputs, makes the whole output, and then writes it and flushes once. The map, the list and
+/// the certificate are each read whole and decoded, in this order. The flows are last, and are read message by message.
 ///
 /// # Errors
 ///
-/// The first fault of the inputs' bytes, a reader that failed after files without a fault, or out of memory, all before
-/// the writer is called, and with the files after the faulty one not read; or a writer that failed, which has taken a
-/// prefix of the output, or all of it if the flush failed. Names are those that the inputs had before the call.
+/// The first fault of the inputs' bytes, a reader that fails after files without a fault, or out of memory: the writer
+/// isn't called, and no file after the faulty one is read. Or a writer that fails: it has taken a prefix of the output,
+/// or all of it if the flush failed. Names are those that the inputs had before the call.
 pub fn run<'a, R: Input, W: Output>(
     alloc: Global,
     command: &Command<'_>,
@@ -148,7 +148,7 @@ pub fn run<'a, R: Input, W: Output>(
     run_with_hashing(alloc, command, inputs, writer, KeyHashing::known())
 }
 
-/// Like [`run`], but labels and groups are hashed by these numbers, on which nothing that is written depends.
+/// Like [`run`], but hashes labels and groups by `hashing`. What is written doesn't depend on it.
 pub fn run_with_hashing<'a, R: Input, W: Output>(
     alloc: Global,
     command: &Command<'_>,

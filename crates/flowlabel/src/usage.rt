@@ -7,7 +7,7 @@ use flow_uniq::KeyFault;
 use std::alloc::AllocError;
 use std::marker::Model;
 
-/// A text that clap made for the user: why it refuses a line, or its help.
+/// A text of clap for the user: help, or why clap refuses a line.
 #[derive(Debug, Drop)]
 pub struct ClapText {
     text: String,
@@ -24,14 +24,14 @@ impl Model for ClapText {
 }
 
 impl ClapText {
-    /// The text.
+    /// Wraps a text of clap.
     pub fn new(text: String) -> ClapText
         ensures { result ≡ string_bytes text }
     {
         ClapText { text }
     }
 
-    /// The text, with its last LF.
+    /// Returns the text, with its last line feed.
     pub fn as_str(&self) -> &str
         ensures { result.now ≡ self.now }
     {
@@ -39,35 +39,35 @@ impl ClapText {
     }
 }
 
-/// Why a command line names no command.
+/// A usage fault, or a request for help: the line has no command to run.
 #[derive(Debug, Drop)]
 pub enum UsageFault {
-    /// P1: clap refuses the line, and says why.
+    /// P1: clap refuses the line, and this text says why.
     Refused(ClapText),
-    /// P1 as well: a word of the line is no text, as its bytes aren't UTF-8.
+    /// P1: a word of the line isn't UTF-8.
     NotUtf8,
     /// The line asks for help or for the version, which is this text.
     Help(ClapText),
-    /// P3: both a map and a list are named.
+    /// P3: the line names both a map and a list.
     MapTwice,
-    /// P2: the command reads a map or a list, and neither is named.
+    /// P2: the command needs a map or a list, and the line names neither.
     MapMissing,
-    /// P4: the word is no address.
+    /// P4: the word ADDR is no address.
     BadAddress,
     /// L1 to L3: the text of a filter is malformed. L4, out of memory, is `NoMemory`.
     Filter(FilterFault),
-    /// U1 and U2: the text of fields has an unknown name, or one twice. U3, out of memory, is `NoMemory`.
+    /// U1 and U2: the text of `--fields` has an unknown name, or a name twice. U3, out of memory, is `NoMemory`.
     Key(KeyFault),
-    /// P5: a filter asks for a label, or a key has one, and no map or list is named.
+    /// P5: a filter or a key needs labels, and the line names neither a map nor a list.
     LabelNeedsMap,
-    /// P6: the compact form is asked for, and no certificate.
+    /// P6: `--compact` is given without `--certificate`.
     CompactAlone,
-    /// Memory ran out.
+    /// An allocation failed.
     NoMemory,
 }
 
 impl UsageFault {
-    /// Whether it says that memory ran out, in whatever words.
+    /// Returns whether the fault is out of memory, in any of its forms.
     pub fn is_want_of_memory(&self) -> bool
         ensures { result ≡ is_usage_want self.now }
     {

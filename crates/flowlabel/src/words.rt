@@ -20,7 +20,7 @@ use prefix_keys::{Addr, read_addr};
 use std::alloc::Global;
 use std::io;
 
-// The fault that an error of clap's is to the user, with its text.
+// The usage fault of an error of clap's, with its text.
 fn fault_of_error(alloc: Global, error: &clap::Error) -> UsageFault
     ensures { IsFaultOfKind (kind_of error.now) result }
 {
@@ -47,7 +47,7 @@ fn text_of<'a>(entries: &ArgMatches<'a>, id: &str) -> Option<&'a str>
     entries.get_str(id)
 }
 
-// The address that the word ADDR means.
+// The address in the word ADDR, if it is well formed.
 fn address_in(entries: &ArgMatches<'_>) -> Option<Addr>
     ensures { option_map (λ a. (a.version, a.value)) result
         ≡ address_in_rows (rows_of (found_of entries.now)) }
@@ -56,7 +56,7 @@ fn address_in(entries: &ArgMatches<'_>) -> Option<Addr>
     read_addr(text.as_bytes())
 }
 
-// The file of labels that the line names, if it names one: two are too many.
+// The file of labels that the line names, if any. Naming two is a fault.
 fn labels_in<'a>(entries: &ArgMatches<'a>) -> Result<Option<LabelFile<'a>>, UsageFault>
     ensures { result_map_both (option_map source_of) (λ fault. fault) result ≡ sources_in_rows (rows_of (found_of entries.now)) }
 {
@@ -82,14 +82,14 @@ fn label_command<'a>(entries: &ArgMatches<'a>) -> Result<Command<'a>, UsageFault
     Ok(Command::Label { labels, addr })
 }
 
-// The text of an option or a word that has to be there: clap takes no line without it.
+// The text of a required option or word. Clap refuses a line without it.
 fn needed_text<'a>(entries: &ArgMatches<'a>, id: &str) -> &'a str
     ensures { result.now ≡ text_in_rows id.now (rows_of (found_of entries.now)) }
 {
     text_of(entries, id).unwrap_or("")
 }
 
-// Whether a flag is given: its text is then `true`.
+// Returns whether a flag is given. Clap gives the text `true` to a flag that is.
 fn is_given(entries: &ArgMatches<'_>, flag: &str) -> bool
     ensures { result ≡ is_given flag.now (rows_of (found_of entries.now)) }
 {
@@ -151,7 +151,7 @@ fn rows_command<'a>(alloc: Global, entries: &ArgMatches<'a>) -> Result<Command<'
     })
 }
 
-// The fields of keys that the line names, or the fault of their text.
+// The key fields that the line names, or the fault of their text.
 fn keys_in(alloc: Global, entries: &ArgMatches<'_>) -> Result<Keys, UsageFault>
     ensures ok { IfOk result (λ keys. fields_in_rows (rows_of (found_of entries.now)) ≡ Ok keys) }
     ensures err { IfErr result (λ fault. fault ≢ NoMemory → fields_in_rows (rows_of (found_of entries.now)) ≡ Err fault) }
@@ -198,7 +198,7 @@ fn cat_command<'a>(entries: &ArgMatches<'a>) -> Result<Command<'a>, UsageFault>
     }
 }
 
-// What `shrink` is to print, or its usage fault: a list has no compact form.
+// Returns what `shrink` is to print, or its usage fault: a list has no compact form.
 fn shrunk_in(entries: &ArgMatches<'_>) -> Result<Shrunk, UsageFault>
     ensures { result ≡ shrunk_in_rows (rows_of (found_of entries.now)) }
 {
@@ -262,8 +262,8 @@ fn command_of<'a>(
     label_command(entries)
 }
 
-/// The fault of a command line whose words can't be had, by the kind of the error: one of them is no text, or memory
-/// ran out.
+/// Returns the fault of a command line whose words can't be obtained, by the kind of the error: a word isn't UTF-8, or
+/// an allocation failed.
 pub fn words_fault(kind: io::ErrorKind) -> UsageFault
     ensures { result ≡ words_fault_of kind }
 {
@@ -273,20 +273,20 @@ pub fn words_fault(kind: io::ErrorKind) -> UsageFault
     }
 }
 
-/// Words have at most one answer of the program's own, which `parse` returns unless memory runs out. It is given for a
-/// line of `label`, one of `rows` and one of `shrink`.
+/// Words that clap takes have at most one answer, which `parse` returns unless an allocation fails. Three example lines
+/// of `label`, `rows` and `shrink` have theirs.
 pub fn lines_have_one_answer()
     ensures one { HaveOneAnswer }
     ensures lines { (program : Text) → LinesHaveAnswers program }
 {}
 
-/// Reads a command line, the first word of which is the program's name.
+/// Reads a command line, whose first word is the program's name.
 ///
 /// # Errors
 ///
-/// `Refused` if clap refuses the line, `Help` if it asks for help or the version. If clap takes it, the first of these:
-/// `MapTwice`, `MapMissing`, `BadAddress`, `Filter` of the first malformed filter, `Key`, `LabelNeedsMap`,
-/// `CompactAlone`. `NoMemory` if an allocation failed, instead of any other result.
+/// `Refused` if clap refuses the line, `Help` if the line asks for help or the version. If clap takes the line, the
+/// first of these that applies to the command: `MapTwice`, `MapMissing`, `BadAddress`, `Filter` for the first malformed
+/// filter, `Key`, `LabelNeedsMap`, `CompactAlone`. `NoMemory` instead of any other result if an allocation fails.
 pub fn parse<'a>(alloc: Global, words: &'a [&'a str]) -> Result<Command<'a>, UsageFault>
     ensures answer { IsAnswer (texts words.entry.now) result }
     ensures proper { IfOk result (λ command. IsProper (request_of command)) }

@@ -1,4 +1,4 @@
--- Blocks of addresses with the stretches that have their ends, and the certificate's node for one.
+-- Blocks of addresses with the stretches at their ends, and a block's node of the certificate.
 use Rattle.std.proofs.Common.{◌≡◌, ℕ, zero, suc, ◌+◌, ◌-◌, ◌*◌, ◌/◌, ◌^◌, ◌<◌, ◌≤◌, inl, inr, ◌∙◌, ◌==◌, List, [], ◌∷◌, Option, Some, None, option_map, length, refl, sym, ap, subst, arith}
 use Rattle.std.proofs.lemmas.Bool.{cases_lt, cond-false, cond-true, eq-eqb, ne_eqb}
 use Rattle.std.proofs.Math.Nat.{pow-suc}
@@ -29,11 +29,11 @@ use Rattle.pmap_minimise.proofs.Ways.{above-rising, down-high, down-low, down-no
 
 -- The stretches in their order.
 module _ (s : StretchesModel) (every : HasEveryAddress s) where
-  -- one stretch alone has an address
+  -- only one stretch has an address
   pub one-index : (a i j : ℕ) → HoldsAddress s a i → HoldsAddress s a j → i ≡ j
   one-index a i j first second = sym (held_index s every a i first) ∙ held_index s every a j second
 
-  -- the stretch of the next address
+  -- the address after a stretch's last one is in the next stretch
   pub next-stretch : (a i : ℕ) → HoldsAddress s a i → a + 1 < 2 ^ width_of s.version → last_at s i ≡ a → HoldsAddress s (a + 1) (i + 1)
   next-stretch a i holds below last =
       elim (cases_lt (i + 1) (length s.firsts)) [
@@ -52,7 +52,7 @@ module _ (s : StretchesModel) (every : HasEveryAddress s) where
       let to = holds.to in
       record { index = holds.index; from = omega arith; to = omega (arith, other) }
 
--- the halves of a block are determined
+-- areas with equal parts are equal, so a block has only one pair of halves
 pub same-area : (a b : Area) → a.first ≡ b.first → a.last ≡ b.last → a.len ≡ b.len → a.from ≡ b.from → a.to ≡ b.to → a ≡ b
 same-area a b first last len from to = λ i. record { first = first i; last = last i; len = len i; from = from i; to = to i }
 
@@ -74,14 +74,14 @@ same-halves s a low high low' high' are are' =
       high_is = same-ends s every high high' are.high_area are'.high_area (are.high_first ∙ sym are'.high_first) (are.high_last ∙ sym are'.high_last) (are.high_len ∙ sym are'.high_len);
     }
 
--- the own label of a block
+-- the own label of a block, by whether the block is in one stretch
 pub own-none : (s : StretchesModel) (a : Area) → a.from < a.to → own_label s a ≡ None
 own-none s a less = cond-false (a.from == a.to) (option_map (λ (id : LabelId). id.0) (label_at s a.from)) None (ne_eqb a.from a.to (λ same. absurd (omega arith)))
 
 pub own-is : (s : StretchesModel) (a : Area) → a.from ≡ a.to → own_label s a ≡ option_map (λ (id : LabelId). id.0) (label_at s a.from)
 own-is s a same = cond-true (a.from == a.to) (option_map (λ (id : LabelId). id.0) (label_at s a.from)) None (eq-eqb a.from a.to same)
 
--- a block that has one is in one stretch
+-- a block with an own label is in one stretch
 pub own-single : (s : StretchesModel) (a : Area) (n : ℕ) → a.from ≤ a.to → own_label s a ≡ Some n → a.from ≡ a.to
 own-single s a n ordered own =
     elim (cases_lt a.from a.to) [
@@ -181,7 +181,7 @@ module _ (s : StretchesModel) (a : Area) (is : IsArea s a) where
 
 -- The trees of blocks.
 
--- a leaf's node is no other tree's
+-- a tree whose nodes are those of a leaf is that leaf
 one-leaf : (tree : Tree) (label : Option LabelId) → encode 0 tree ≡ leaf_node label ∷ [] → tree ≡ Tip label
 one-leaf (Tip None) None is = refl
 one-leaf (Tip None) (Some y) is = absurd cc
@@ -198,7 +198,7 @@ leaf-tree v ss default n q first last label has within from to =
     let tree_is : added.tree ≡ Tip label = one-leaf added.tree label (sym added.nodes) in
     subst (IsTreeOf v ss default n q) tree_is (record { fits = added.fits; labelled = added.labelled; few = added.few })
 
--- and the tree of a block beyond one stretch has the trees of its halves
+-- the tree of a block with addresses of two stretches is built from those of its halves
 fork-tree : (v : Version) (ss : List Statement) (default : Option LabelId) (n first last : ℕ) (low high : Tree) → IsSplit (width_of v) n first last ss
     → IsTreeOf v ss default (suc n) (2 * block_number (width_of v) n first) low → IsTreeOf v ss default (suc n) (2 * block_number (width_of v) n first + 1) high
     → IsTreeOf v ss default n (block_number (width_of v) n first) (Fork low high)
@@ -225,7 +225,7 @@ own-label-is : (label : Option LabelId) (n : ℕ) → option_map (λ (id : Label
 own-label-is None n is = absurd (none-some n is)
 own-label-is (Some id) n is = ap (λ (k : ℕ). Some (id_of k)) (same_Some id.0 n is)
 
--- the node for a block in one stretch
+-- a block in one stretch has the node of a leaf
 pub leaf-made : (s : StretchesModel) (a : Area) (n : ℕ) → IsArea s a → own_label s a ≡ Some n → n < 2 ^ 32 → IsMade s a (Tip (Some (id_of n))) (Leaf n)
 leaf-made s a n is own fits =
     let single = own-single s a n is.ordered own in
@@ -246,7 +246,7 @@ leaf-made s a n is own fits =
       halves = λ less. absurd (omega arith);
     }
 
--- the node for a block by those for its halves
+-- the node of a block is built from those of its halves
 pub halves-made : (s : StretchesModel) (a low high : Area) (low_tree high_tree : Tree) (lower upper : Node) (cost : ℕ) (set : List ℕ) → IsArea s a → AreHalvesOf s a low high
     → IsMade s low low_tree lower → IsMade s high high_tree upper → IsExact lower upper cost set → IsRising (2 ^ 32) 0 set
     → IsMade s a (Fork low_tree high_tree) (Inner cost set lower upper)
@@ -300,7 +300,7 @@ made-stop s side a tree node made (inr none) =
 
 -- Runs.
 
--- the tree of the node from which a run leads
+-- the tree over the half that a run chooses, the lower one if the digit is 0, and the tree of the side block
 abbrev tree_over : ℕ → Tree → Tree → Tree
 tree_over zero way side = Fork way side
 tree_over (suc digit) way side = Fork side way
@@ -309,7 +309,7 @@ abbrev pub way_tree : ℕ → ℕ → ℕ → Tree → Tree
 way_tree side value zero end = end
 way_tree side value (suc bits) end = tree_over (digit value bits) (way_tree side value bits end) (Tip (Some (id_of side)))
 
--- the block at the end is in that from which the run leads
+-- the end lies in the block, `count` bits deeper
 pub record IsBelow (s : StretchesModel) (count : ℕ) (a end : Area) : Type 0 where
   pub len : end.len ≡ a.len + count
   pub number : number_at s end / 2 ^ count ≡ number_at s a
@@ -330,7 +330,7 @@ halved e P q d some small is =
     upper q (suc zero) P small less = omega arith
     upper q (suc (suc d)) P small less = absurd (omega arith)
 
--- the digit by which a step goes
+-- a step chooses the lower half if the digit is 0, and the higher one if it is 1
 pub record IsStepBy (s : StretchesModel) (side : ℕ) (a chosen : Area) : Type 0 where
   pub digit : ℕ
   pub small : digit < 2
@@ -408,7 +408,7 @@ run-below s side (suc count) a end is run =
       smaller = omega arith;
     }
 
--- the last digits of the end's number are the steps
+-- the digits of the steps are the last digits of the end's number
 step-digit : (s : StretchesModel) (side count : ℕ) (a chosen end : Area) → (step : IsStepBy s side a chosen) → IsBelow s count chosen end → digit (number_at s end) count ≡ step.digit
 step-digit s side count a chosen end step below =
     let number : number_at s end / 2 ^ count ≡ 2 * number_at s a + step.digit = below.number ∙ step.number in
@@ -465,7 +465,7 @@ module _ (s : StretchesModel) (side : ℕ) (fits : side < 2 ^ 32) (end : Area) (
           (way-low side fits node made.rising value count) (above-rising side fits node made.rising count))
           (omega arith)
 
-  -- the run goes down that node
+  -- the run from the node has `count` bits, and leads to the node of the end
   pub record GoesDown (count : ℕ) : Type 0 where
     pub bits : bits_down side (node_of count) ≡ way_to value count
     pub last : end_down side (node_of count) ≡ node
@@ -492,7 +492,7 @@ module _ (s : StretchesModel) (side : ℕ) (fits : side < 2 ^ 32) (end : Area) (
       }
   over-down count (suc (suc d)) same small other down = absurd (omega arith)
 
-  -- if the run doesn't continue from the end
+  -- if the run stops at the end
   module _ (stop : IsStop s side end) where
     stop-down : GoesDown zero
     stop-down = let none = made-stop s side end tree node made stop in record { bits = none.0; last = none.1 }
@@ -512,7 +512,7 @@ module _ (s : StretchesModel) (side : ℕ) (fits : side < 2 ^ 32) (end : Area) (
             let number = below.number ∙ ap (number_at s) low.chosen_is ∙ run.step.halves.low_number in
             over-down count 0 (omega arith) (omega arith) (λ none e. low.other (ap (own_label s) (sym low.chosen_is) ∙ sym chosen.own ∙ e)) rest
 
--- the side label of a run is that below its first node
+-- the side label of a run is that of a leaf right below the run's first node
 pub made-side : (s : StretchesModel) (a low high : Area) (tree : Tree) (node : Node) → IsMade s a tree node → AreHalvesOf s a low high
     → side_below node ≡ option_or (own_label s low) (own_label s high)
 made-side s a low high tree node made are =

@@ -43,7 +43,7 @@ use Rattle.pmap_minimise.proofs.Texts.{exact-rising}
 use Rattle.pmap_minimise.proofs.Halves.{width-most}
 use Rattle.pmap_minimise.proofs.Ways.{down-high, down-low, way-cost, way-set}
 
--- what is listed goes on to be
+-- an item of a list keeps its index if more items are appended
 listed-on : {X : Type 0} (xs more : List X) (n : ℕ) (x : X) → slice_get xs n ≡ Some x → slice_get (xs ++ more) n ≡ Some x
 listed-on {X} xs more n x is =
     let inside = slice_get_within xs n x is in
@@ -118,7 +118,7 @@ at-grown old new (Chain cost set bits side end) node from to grown is = record {
 pushed-length : {X : Type 0} (front whole : List X) (x : X) → whole ≡ front ++ x ∷ [] → length whole ≡ length front + 1
 pushed-length front whole x is = omega (arith, ap length is, length-append front (x ∷ []))
 
--- a leaf is added
+-- the node of a leaf was added
 pub record IsLeafAdded (id : LabelId) (old new : Built) : Type 0 where
   pub grown : HasGrown old new
   pub at : IsAt new (Leaf id.0) (Leaf id.0) (length old.lines.items) (length new.lines.items)
@@ -139,7 +139,7 @@ leaf-added id old new claim adds = record {
   };
 }
 
--- so is the node of two halves
+-- the node of two halves was added
 pub record IsInnerAdded (old new : Built) (claim : Claim) (set : List ℕ) (low lower high upper : Node) (from : ℕ) : Type 0 where
   pub grown : HasGrown old new
   pub exact : IsExact lower upper claim.cost set
@@ -185,7 +185,7 @@ inner-added old new below above claim low lower high upper from middle high_at l
       };
     }
 
--- a block in one stretch
+-- a leaf's line is what a block in one stretch adds
 pub leaf-built : (s : StretchesModel) (a : Area) (id : LabelId) (old new : Built) (claim : Claim) → IsArea s a → own_label s a ≡ Some id.0 → AddsLeaf id old new claim
     → IsBuilt s a old new claim
 leaf-built s a id old new claim is own adds =
@@ -202,7 +202,7 @@ leaf-built s a id old new claim is own adds =
       set_is = adds.held.stands;
     }
 
--- what the node of a block costs is below its leaves
+-- the sum that bounds the leaves of a block also bounds the cost of its node
 pub made-cost : (s : StretchesModel) (a : Area) (tree : Tree) (node : Node) (is : IsArea s a) → IsMade s a tree node
     → cost_of node ≤ parted_sum (width_of s.version) (width_of s.version - a.len) a.len (number_at s a) is.few.statements
 made-cost s a tree node is made =
@@ -218,7 +218,7 @@ leaf-of (Chain cost set bits side end) n is = absurd (none-some n is)
 -- The node of two halves.
 module _ (s : StretchesModel) (a low high : Area) (low_tree high_tree : Tree) (lower upper : Node) (are : AreHalvesOf s a low high)
     (low_made : IsMade s low low_tree lower) (high_made : IsMade s high high_tree upper) where
-  -- its run has at most one bit if that of its block has
+  -- the run of the node has at most one bit if that of the block has
   short-run : (tree : Tree) (cost : ℕ) (set : List ℕ) (side : ℕ) (end : Area) → IsMade s a tree (Inner cost set lower upper) → (run : IsRunTo s side a end) → run.count < 2
       → length (bits_down side (Inner cost set lower upper)) < 2
   short-run tree cost set side end made run few = by run.count few run.run
@@ -261,7 +261,7 @@ way-length : (value bits : ℕ) → length (way_to value bits) ≡ bits
 way-length value zero = refl
 way-length value (suc bits) = let rest = way-length value bits in omega arith
 
--- a block of two halves, whose run is short
+-- an inner node's line completes a block with two halves and a short run
 pub halves-built : (s : StretchesModel) (a low high : Area) (old middle after new : Built) (above below claim : Claim) → IsArea s a → AreHalvesOf s a low high
     → IsShortRun s a (option_or (own_label s low) (own_label s high)) → IsBuilt s high old middle above → IsBuilt s low middle after below → AddsInner below above after new claim
     → IsBuilt s a old new claim
@@ -294,7 +294,7 @@ halves-built s a low high old middle after new above below claim is are short up
         compact-short claim.cost adds.held.set lower.node upper.node lower.compact upper.compact lower.compact_is upper.compact_is side e
         (short-run s a low high lower.tree upper.tree lower.node upper.node are lower.made upper.made tree claim.cost adds.held.set side short.0 made short.1 short.2)
 
--- a block from which a run of two bits or more leads to its end
+-- a chain's line completes a block from which a run of two bits or more leads to its end
 pub chain-built : (s : StretchesModel) (a low high end : Area) (old middle new : Built) (below claim : Claim) (side : LabelId) (number bits : ℕ) → IsArea s a → AreHalvesOf s a low high
     → IsLongRun s a low high side.0 end → bits ≡ end.len - a.len → number ≡ number_at s end
     → IsBuilt s end old middle below → AddsChain below side number bits middle new claim → IsBuilt s a old new claim
@@ -401,7 +401,7 @@ whole-built m s a old new claim version are first len none built =
       };
     }
 
--- and the whole address space is a block of it
+-- the leaves of the whole address space can be counted
 pub whole-few : (m : MapText) → parted_sum (width_of m.version) (width_of m.version - 0) 0 0 m.statements + 1 < 2 ^ 32
 whole-few m =
     let W = width_of m.version in
@@ -409,7 +409,7 @@ whole-few m =
     let most = mul-le-mul_right (length m.statements) (width-most m.version) in
     rw all (omega (arith, parted_most W m.statements, most, m.within_limit))
 
--- the label of a block in one stretch
+-- a block's first stretch has a label
 pub area-label : (s : StretchesModel) (a : Area) → IsArea s a → label_at s a.from ≡ None → ⊥
 area-label s a is none =
     let stretch = is.few.stretches.each a.from is.start.index in
@@ -420,7 +420,7 @@ area-label s a is none =
     seen None None some e = absurd cc
     seen default (Some x) some e = absurd (none-some x.label (sym e))
 
--- a run's end has fewer addresses
+-- the end of a run of two bits or more has fewer addresses than the run's first block
 pub end-smaller : (s : StretchesModel) (a low high end : Area) (side : ℕ) → IsArea s a → IsLongRun s a low high side end → end.last - end.first + 2 ≤ a.last - a.first
 end-smaller s a low high end side is long =
     let below = run-below s side long.run.count a end is long.run.run in
@@ -460,7 +460,7 @@ both-cost s a low high low_tree high_tree lower upper low_cost high_cost is are 
       node-cost high_tree upper high_made.node_is,
     )
 
--- the whole address space as a block
+-- the whole address space is a block with the first and the last stretch at its ends
 pub whole-area : (m : MapText) (s : StretchesModel) (a : Area) → s.version ≡ m.version → AreStretches m.statements (Some m.default) s → a.first ≡ 0 → a.len ≡ 0 → a.from ≡ 0
     → a.to + 1 ≡ length s.firsts → a.last ≡ last_at s a.to → IsArea s a
 whole-area m s a version are first len from to last =

@@ -18,7 +18,7 @@ if_ok r P Q holds so = IfOk-weaker r P Q so holds
 pub on_ok : {T E : Type 0} (r : Result T E) (P Q : Type 0) → OnOk r P → (P → Q) → OnOk r Q
 on_ok r P Q holds so = IfOk-weaker r (λ x. P) (λ x. Q) (λ x. so) holds
 
--- a node has a line, and its own is the last one
+-- the last line of a node is the node's own
 pub record IsLast (b : Built) (from to : ℕ) : Type 0 where
   pub last : ℕ
   pub to_is : to ≡ last + 1
@@ -42,7 +42,7 @@ at-last b (Chain cost set bits side end) node from to is =
     let a' = below.after in
     record { last = is.last; to_is = is.to_is; after = omega arith; inside = slice_get_within b.lines.items is.last _ is.line_is }
 
--- the line there is a node's own line
+-- the node is a leaf, and has one line
 pub record IsLeafNode (b : Built) (compact node : Node) (label from to : ℕ) : Type 0 where
   pub compact_is : compact ≡ Leaf label
   pub node_is : node ≡ Leaf label
@@ -115,7 +115,7 @@ module _ (b : Built) (from to last : ℕ) (to_is : to ≡ last + 1) where
       let number_is : is.number ≡ number = cc in
       record { cost = cost; set = set; bits = bits; side = side; end = end; compact_is = refl; chain = is; number_is = number_is }
 
--- a node by the line that was read there
+-- A node, by its own line.
 module _ (b : Built) (compact node : Node) (from to : ℕ) (is : IsAt b compact node from to) where
   pub to-some : 1 ≤ to
   to-some = let last = at-last b compact node from to is in let e = last.to_is in omega arith

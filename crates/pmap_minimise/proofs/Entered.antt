@@ -32,7 +32,7 @@ block-first : (block : Block) → block.value ≡ first_of (width_of block.versi
 block-first block =
     sym (first_of-whole (width_of block.version) block.len block.value (width_of block.version - block.len) refl block.no_host_bit)
 
--- the own entry of a node with the set s, and what it passes on
+-- a node with the set s adds its own entry, if it has one, and passes on the label `id`
 record IsHanded (table : List Label) (s : List Label) (block : Block) (inherited : Option LabelId) (old new : List Entry) (id : LabelId) : Type 0 where
   entries : map (prefix_of table) new ≡ map (prefix_of table) old
       ++ own_entry (width_of block.version) table s (text_of table inherited) block.len (number_of block)
@@ -78,11 +78,11 @@ module _ (table : List Label) (ok : IsLabelTable table) (ids : List LabelId) (bl
   handed ns is own =
       subst (λ (l : List ℕ). IsHanded table (map (text_at table) l) block inherited old new id) is (by_test (keeps ids inherited) refl own ids refl)
 
--- a label that is passed on
+-- a label that is passed on is known
 one-known : (count : ℕ) (id : LabelId) → id.0 < count → ForSome (Some id) (λ i. i.0 < count)
 one-known count id known = λ x e. subst (λ (i : LabelId). i.0 < count) (same_Some id x e) known
 
--- the own entry fits the block, and what is passed on is known
+-- the own entry fits the block, and the label that is passed on is known
 own-fit : (count : ℕ) (ids : List LabelId) (block : Block) (inherited : Option LabelId) (old new : List Entry) (id : LabelId)
     → IsRising count 0 (numbers_of ids) → ForSome inherited (λ i. i.0 < count) → IsOwn ids block inherited old new id
     → All (IsEntryOf block count) old → All (IsEntryOf block count) new × (id.0 < count)
@@ -112,7 +112,7 @@ leaf-adds x block inherited old new ids id is own = record {
       (own-fit count ids block inherited old new id (subst (λ (l : List ℕ). IsRising count 0 l) (sym is) (omega arith, form, tt)) known own all).0;
 }
 
--- entries of a half, by the half's number
+-- the entries of a half depend only on these values
 pub half-entries : (table : List Label) (t : Tree) (h h' : Option Label) (W W' n n' q q' : ℕ) → W' ≡ W → h' ≡ h → n' ≡ n → q' ≡ q
     → entries_of W' table t h' n' q' ≡ entries_of W table t h n q
 half-entries table t h h' W W' n n' q q' e f g k =
@@ -169,7 +169,7 @@ inner-adds (Inner cost set l r) left right block low high inherited old new0 new
         subst (λ (n : Node). HasNumberForm count n (width_of high.version - high.len)) halves.1
         (subst (λ (k : ℕ). HasNumberForm count r k) (omega arith) form)
 
--- the two nodes of an inner node with sets that are not empty have host bits
+-- the halves of a sound node are sound
 pub sound-halves : (node left right : Node) (block low high : Block) → HasHalves node left right → IsHalf 0 block low → IsHalf 1 block high
     → IsSound node (width_of block.version - block.len) → IsSound left (width_of low.version - low.len) × IsSound right (width_of high.version - high.len)
 sound-halves (Leaf x) left right block low high halves low_half high_half sound = absurd halves

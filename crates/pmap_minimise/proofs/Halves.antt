@@ -14,7 +14,7 @@ pub width-most : (v : Version) → width_of v ≤ 128
 width-most V4 = omega arith
 width-most V6 = omega arith
 
--- a block by its parts
+-- the block with these parts
 abbrev made : (version : Version) (value len : ℕ) → len ≤ width_of version → value < 2 ^ width_of version → value % 2 ^ (width_of version - len) ≡ 0 → Block
 made version value len inside fits free =
     record { version = version; value = value; len = len; len_in_range = inside; in_range = fits; no_host_bit = free }

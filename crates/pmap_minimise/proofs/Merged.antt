@@ -1,4 +1,4 @@
--- Two sets by rising numbers that are gone through together.
+-- Two sets of rising numbers, read side by side.
 use Rattle.std.proofs.Common.{◌≡◌, ℕ, ◌+◌, ◌^◌, ◌<◌, ◌≤◌, ◌==◌, ◌||◌, ◌∙◌, Bool, true, false, cond, List, [], ◌∷◌, ◌++◌, filter, length, refl, sym, ap, subst, arith}
 use Rattle.std.specs.List.{list_any}
 use Rattle.std.proofs.lemmas.Bool.{cond-false, eq-eqb, ne_eqb}
@@ -12,14 +12,14 @@ pub numbers-append : (xs ys : List LabelId) → numbers_of (xs ++ ys) ≡ number
 numbers-append [] ys = refl
 numbers-append (x ∷ xs) ys = ap (λ (ns : List ℕ). x.0 ∷ ns) (numbers-append xs ys)
 
--- rising numbers from k on are not below k
+-- numbers that rise from k on have none below k
 pub lacks : (b k : ℕ) (ns : List ℕ) (n : ℕ) → IsRising b k ns → n < k → has_number ns n ≡ false
 lacks b k [] n rising less = refl
 lacks b k (m ∷ ns) n rising less =
     let least = rising.0 in
     ap (λ (t : Bool). t || has_number ns n) (ne_eqb n m (λ e. omega arith)) ∙ lacks b (m + 1) ns n rising.2 (omega arith)
 
--- a number below all of a list isn't common to it and another list
+-- a number below all numbers of a list is not common to that list and another
 common-above : (b k : ℕ) (ns : List ℕ) (y : ℕ) (s : List ℕ) → IsRising b k ns → y < k → common_numbers ns (y ∷ s) ≡ common_numbers ns s
 common-above b k [] y s rising less = refl
 common-above b k (n ∷ ns) y s rising less =
@@ -43,7 +43,7 @@ pub common-none : (ns : List ℕ) → common_numbers ns [] ≡ []
 common-none [] = refl
 common-none (n ∷ ns) = common-none ns
 
--- the common numbers so far and those of the rest are those of both sets
+-- the set and the common numbers of the rests are the common numbers of both sets
 pub record IsMerging (low high : List ℕ) (set : List ℕ) (lower higher : List LabelId) : Type 0 where
   pub low_from : ℕ
   pub high_from : ℕ
@@ -96,7 +96,7 @@ module _ (low high : List ℕ) (set : List ℕ) (x y : LabelId) (lower higher lo
         ∙ ap (λ (n : ℕ). common_numbers (x.0 ∷ numbers_of lower_rest) (n ∷ numbers_of higher_rest)) same) ∙ both);
   }
 
--- rising numbers below k, and others from k on
+-- numbers that rise from k on rise from a lower number on
 rising-weaker : (b k low : ℕ) (ns : List ℕ) → low ≤ k → IsRising b k ns → IsRising b low ns
 rising-weaker b k low [] le rising = tt
 rising-weaker b k low (n ∷ ns) le rising = let least = rising.0 in (omega arith, rising.1, rising.2)
@@ -107,7 +107,7 @@ rising-append b k low (n ∷ ns) ms le top rising more =
     let below = rising.1 in
     (rising.0, omega arith, rising-append b k (n + 1) ns ms (omega arith) top rising.2 more)
 
--- the set has the numbers so far, and with the rest those of both sets
+-- the set and the rests have the numbers of both sets, and those of the rests are greater than those of the set
 pub record IsUniting (low high : List ℕ) (set : List ℕ) (lower higher : List LabelId) : Type 0 where
   pub next : ℕ
   pub top : next ≤ 2 ^ 32
@@ -116,7 +116,7 @@ pub record IsUniting (low high : List ℕ) (set : List ℕ) (lower higher : List
   pub high_rising : IsRising (2 ^ 32) next (numbers_of higher)
   pub all : (p : ℕ → Bool) → (list_any p set || (list_any p (numbers_of lower) || list_any p (numbers_of higher))) ≡ (list_any p low || list_any p high)
 
--- one more number at the end
+-- whether a number passes, if one more is at the end
 any-push : (p : ℕ → Bool) (set new : List ℕ) (x : ℕ) → new ≡ set ++ x ∷ [] → list_any p new ≡ (list_any p set || (p x || false))
 any-push p set new x is = rw is (list_any-append p set (x ∷ []))
 
@@ -180,7 +180,7 @@ module _ (low high : List ℕ) (set new : List ℕ) (x y : LabelId) (lower highe
         (subst (λ (n : ℕ). (list_any p set || ((p x.0 || list_any p (numbers_of lower_rest)) || (p n || list_any p (numbers_of higher_rest)))) ≡ (list_any p low || list_any p high)) (sym same) (any p));
   }
 
--- one of the sets is used up, and the rest of the other is appended
+-- once one set is used up, the rest of the other is appended
 rest-lower : (s n l b : Bool) → n ≡ (s || l) → (s || (l || false)) ≡ b → n ≡ b
 rest-lower s n l b is old = grind arith
 
@@ -210,7 +210,7 @@ united-higher low high set lower higher new none is uniting =
       rising = rw is (rising-append (2 ^ 32) uniting.next 0 set (numbers_of higher) (omega arith) uniting.top uniting.rising uniting.high_rising);
     }
 
--- what a test keeps of rising numbers is rising
+-- the numbers that pass a test still rise
 pub rising-filter : (b low : ℕ) (p : ℕ → Bool) (ns : List ℕ) → IsRising b low ns → IsRising b low (filter p ns)
 rising-filter b low p [] rising = tt
 rising-filter b low p (n ∷ ns) rising =

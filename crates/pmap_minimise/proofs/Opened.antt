@@ -28,7 +28,7 @@ inner-text cost set lower upper = ap (λ (t : List ℕ). ended (inner_line cost 
 pub leaf-added : (n : ℕ) (old new : List ℕ) → new ≡ old ++ ended (leaf_line n) → new ≡ old ++ node_text (Leaf n)
 leaf-added n old new is = is ∙ ap (λ (t : List ℕ). old ++ t) (sym (leaf-text n))
 
--- and those of an inner node, line after line
+-- the text of an inner node is appended: its own line, and those of its halves
 pub inner-added : (cost : ℕ) (set : List ℕ) (lower upper : Node) (old own middle new : List ℕ) → own ≡ old ++ ended (inner_line cost set) → middle ≡ own ++ node_text lower → new ≡ middle ++ node_text upper
     → new ≡ old ++ node_text (Inner cost set lower upper)
 inner-added cost set lower upper old own middle new first second third =
@@ -37,7 +37,7 @@ inner-added cost set lower upper old own middle new first second third =
     ∙ append_assoc old (ended (inner_line cost set)) (node_text lower ++ node_text upper)
     ∙ ap (λ (t : List ℕ). old ++ t) (sym (inner-text cost set lower upper))
 
--- a chain's node has the lines on its way down, those of its end, and those of the side blocks after it
+-- The text of a chain's node: the lines on its way down, those of its end, and those of the side blocks after the end.
 module _ (chain : Chain) (end : Node) (price : chain.cost ≡ cost_above chain.side.0 end) where
   abbrev side : ℕ
   side = chain.side.0
@@ -82,7 +82,7 @@ module _ (chain : Chain) (end : Node) (price : chain.cost ≡ cost_above chain.s
       ∙ append_assoc (old ++ down bits) (node_text end) (text_up chain bits) ∙ append_assoc old (down bits) (node_text end ++ text_up chain bits)
       ∙ ap (λ (t : List ℕ). old ++ t) (sym (way-text bits))
 
--- the next line on the way down, with that of the side block if it comes before the end
+-- the next line on the way down, and the side block's line if it comes before the end
 pub down-added : (chain : Chain) (set : List ℕ) (place d : ℕ) (out own new all : List ℕ) → digit chain.end place ≡ d → own ≡ out ++ ended (inner_line chain.cost (set_above chain.side.0 set place))
     → new ≡ own ++ side_before chain.side.0 d → out ++ text_down chain set (suc place) ≡ all → new ++ text_down chain set place ≡ all
 down-added chain set place d out own new all same first second is =
@@ -91,7 +91,7 @@ down-added chain set place d out own new all same first second is =
     ap (λ (t : List ℕ). t ++ text_down chain set place) (second ∙ (λ i. first i ++ side_before chain.side.0 (sym same i)))
     ∙ append_assoc (out ++ line) before (text_down chain set place) ∙ append_assoc out line (before ++ text_down chain set place) ∙ is
 
--- the set of a chain's node
+-- the set of a node over a half that a run chooses
 over-set : (d cost : ℕ) (own : List ℕ) (x y : Node) → set_of (node_over d cost own x y) ≡ own
 over-set zero cost own x y = refl
 over-set (suc d) cost own x y = refl
@@ -102,7 +102,7 @@ long-set side value (suc zero) end long = absurd (omega arith)
 long-set side value (suc (suc bits)) end long =
     over-set (digit value (suc bits)) (cost_above side end) (side ∷ []) (way_node side value (suc bits) end) (Leaf side)
 
--- the set of a node on a way
+-- the set of a node of a run that isn't right above the end
 pub above-more : (side : ℕ) (set : List ℕ) (more : ℕ) → 0 < more → set_above side set more ≡ side ∷ []
 above-more side set zero some = absurd (omega arith)
 above-more side set (suc more) some = refl
@@ -111,7 +111,7 @@ pub above-last : (side : ℕ) (set : List ℕ) (more : ℕ) (b : Bool) → more 
 above-last side set zero b none is = ap (λ (t : Bool). cond t (side ∷ []) (with_number side set)) is
 above-last side set (suc more) b none is = absurd (omega arith)
 
--- a set with a number more, as far as it was gone through
+-- a set with one more number, by whether that is below the set's first number
 pub with-first : (side x : ℕ) (xs : List ℕ) → side < x → with_number side (x ∷ xs) ≡ side ∷ x ∷ xs
 with-first side x xs less = sym (cond_below side x (side ∷ x ∷ xs) (x ∷ with_number side xs) less)
 

@@ -1,4 +1,4 @@
--- How a run leads to the smallest block with the addresses between the stretches at its ends.
+-- A run leads to the smallest block with the addresses that aren't in an outer stretch with the side label.
 use Rattle.std.proofs.Common.{◌≡◌, ℕ, zero, suc, ◌+◌, ◌-◌, ◌*◌, ◌/◌, ◌^◌, ◌<◌, ◌≤◌, inl, inr, ◌∙◌, Bool, true, false, Some, max, min, refl, sym, ap, subst, arith, pow_pos}
 use Rattle.std.specs.Prelude.{◌⊎◌, bit_xor}
 use Rattle.std.specs.Int.{from_bool}
@@ -22,7 +22,7 @@ use Rattle.pmap_minimise.specs.declared.area.Area.{Area}
 use Rattle.pmap_minimise.proofs.Halves.{width-most}
 use Rattle.pmap_minimise.proofs.Areas.{are-halves, area-split, block-order, one-index, own-is, own-single, run-below, same-area}
 
--- Which first bits two numbers share, by their exclusive or.
+-- How many first bits two numbers share, by their exclusive or.
 
 same-zero : (p q : ℕ) → bit_xor p q ≡ 0 → p ≡ q
 same-zero p q none = omega (arith, none, xor_add_and p q, and_le_l p q, and_le_r p q)
@@ -36,7 +36,7 @@ shared-less x y h same =
     let less = below_end (bit_xor x y) (2 ^ h) 0 (pow_pos h) none in
     omega arith
 
--- so many last bits are all that the two numbers don't share
+-- x and y share all bits but the last `host`, and no more
 pub record IsShared (x y most host : ℕ) : Type 0 where
   pub few : host ≤ most
   pub same : x / 2 ^ host ≡ y / 2 ^ host
@@ -66,7 +66,7 @@ is-shared x y most inside near =
           absurd (omega arith);
     })
 
--- the number of the block that has an address
+-- the number of the block that has the address x
 in-block : (W first last n q x : ℕ) → IsBlock W first last n q → first ≤ x → x ≤ last → x / 2 ^ (W - n) ≡ q
 in-block W first last n q x is from to =
     let some = pow_pos (W - n) in
@@ -98,8 +98,8 @@ has-halves s a is divided =
           (held_order s every a.first middle a.from low.to is.start at (omega arith)) (held_order s every (middle + 1) a.last high.from a.to next is.end (omega arith));
     }
 
--- Of a block's addresses those before x are all in its first stretch, which then has the side label, and those after y
--- in its last one, which then has it too. The stretches i and j, which have x and y, don't have it.
+-- The addresses of a block before x are all in its first stretch, and those after y in its last one. If there are any,
+-- that stretch has the side label. The stretches i and j, which have x and y, don't have it.
 pub record IsInside (s : StretchesModel) (side : ℕ) (a : Area) (x y i j : ℕ) : Type 0 where
   pub ordered : x ≤ y
   pub from : a.first ≤ x
@@ -111,7 +111,7 @@ pub record IsInside (s : StretchesModel) (side : ℕ) (a : Area) (x y i j : ℕ)
   pub left : (p : ℕ) → a.first ≤ p → p < x → HoldsAddress s p a.from × HasLabel s side a.from
   pub right : (p : ℕ) → y < p → p ≤ a.last → HoldsAddress s p a.to × HasLabel s side a.to
 
--- the block has the addresses from x to y, and stretches have its ends
+-- the block has the addresses from x to y, and these stretches are at its ends
 pub record IsAround (s : StretchesModel) (x y : ℕ) (b : Area) : Type 0 where
   pub within : b.len ≤ width_of s.version
   pub block : IsBlock (width_of s.version) b.first b.last b.len (number_at s b)
@@ -127,14 +127,14 @@ module _ (s : StretchesModel) (side : ℕ) (a : Area) (is : IsArea s a) (x y i j
   every : HasEveryAddress s
   every = is.few.stretches.every
 
-  -- a block whose ends are in one stretch with the side label
+  -- a block whose ends are in one stretch with the side label has that label alone
   own-side : (h : Area) → IsArea s h → (k : ℕ) → HoldsAddress s h.first k → HoldsAddress s h.last k → HasLabel s side k → own_label s h ≡ Some side
   own-side h is k first last has =
       let from : h.from ≡ k = one-index s every h.first h.from k is.start first in
       let to : h.to ≡ k = one-index s every h.last h.to k is.end last in
       own-is s h (from ∙ sym to) ∙ subst (HasLabel s side) (sym from) has
 
-  -- a block with an address of another stretch
+  -- a block with an address of a stretch without the side label doesn't have that label alone
   own-other : (h : Area) → IsArea s h → (p k : ℕ) → h.first ≤ p → p ≤ h.last → HoldsAddress s p k → (HasLabel s side k → ⊥) → own_label s h ≡ Some side → ⊥
   own-other h is p k low high holds other own =
       let single = own-single s h side is.ordered own in
@@ -147,7 +147,7 @@ module _ (s : StretchesModel) (side : ℕ) (a : Area) (is : IsArea s a) (x y i j
     abbrev middle_of : Area → ℕ
     middle_of c = c.first + (c.last - c.first) / 2
 
-    -- the addresses are in the lower half, or in the higher one
+    -- a larger block than b has both addresses in the same half
     in-half : (c : Area) (count : ℕ) → IsArea s c → c.first ≤ x → y ≤ c.last → b.len ≡ c.len + suc count → (y ≤ middle_of c) ⊎ (middle_of c < x)
     in-half c count is_c from to len =
         let within = around.within in
@@ -173,7 +173,7 @@ module _ (s : StretchesModel) (side : ℕ) (a : Area) (is : IsArea s a) (x y i j
               ]
         ]
 
-    -- the run leads there
+    -- the run leads from each block around b to b
     run-to : (count : ℕ) (c : Area) → IsArea s c → a.first ≤ c.first → c.last ≤ a.last → c.first ≤ x → y ≤ c.last → b.len ≡ c.len + count → IsRun s side count c b
     run-to zero c is_c first last from to len =
         let same : b.len ≡ c.len = omega arith in
@@ -266,7 +266,7 @@ module _ (s : StretchesModel) (side : ℕ) (a : Area) (is : IsArea s a) (x y i j
               rest = go halves.high are.high_area (omega arith) (omega arith) (omega arith) (omega arith) (omega arith);
             }
 
-    -- where no smaller block has both addresses, it ends there
+    -- if no smaller block than b has both addresses, the run ends at b
     module _ (apart : (h : ℕ) → suc h ≡ W - b.len → x / 2 ^ h ≡ y / 2 ^ h → ⊥) where
       stops : IsArea s b → IsStop s side b
       stops is_b =
@@ -310,14 +310,14 @@ module _ (s : StretchesModel) (side : ℕ) (a : Area) (is : IsArea s a) (x y i j
                 })
           ]
 
-      -- so it is the run's end
+      -- the run of the block a ends at b
       pub run-end : a.len ≤ b.len → IsRunTo s side a b
       run-end deep =
           let run = run-to (b.len - a.len) a is (omega arith) (omega arith) inside.from inside.to (omega arith) in
           let below = run-below s side (b.len - a.len) a b is run in
           record { count = b.len - a.len; run = run; stop = stops below.area; area = below.area; len = below.len }
 
--- a block with more bits lies in the one with fewer that has one of its addresses
+-- of two blocks with a common address the smaller one is in the larger one
 nested : (x host more : ℕ) → (x / 2 ^ (host + more) * 2 ^ (host + more) ≤ x / 2 ^ host * 2 ^ host) × ((x / 2 ^ host + 1) * 2 ^ host ≤ (x / 2 ^ (host + more) + 1) * 2 ^ (host + more))
 nested x host more = by (x / 2 ^ host) (x / 2 ^ (host + more)) (2 ^ host) (2 ^ more) (2 ^ (host + more)) (pow_pos more) (shr-shr x host more) (pow-add 2 host more)
   where
@@ -329,7 +329,7 @@ nested x host more = by (x / 2 ^ host) (x / 2 ^ (host + more)) (2 ^ host) (2 ^ m
         let swap : all ≡ times * size = omega arith in
         (rw swap (omega (arith, low)), rw swap (omega (arith, high)))
 
--- the stretch of one of the ends of the smallest block: that of the address there, or that of the larger block's end
+-- the stretch at an end of the smallest block: the address's own if the end is that address, otherwise the outer one
 abbrev IsEndIn : ℕ → ℕ → ℕ → ℕ → ℕ → Type 0
 IsEndIn end address index own outer = ((end ≡ address) × (index ≡ own)) ⊎ ((end ≡ address → ⊥) × (index ≡ outer))
 
@@ -382,7 +382,7 @@ at-most : (b : Bool) → from_bool b ≤ 1
 at-most true = omega arith
 at-most false = omega arith
 
--- What is inside a block, by whether its first and its last stretch have the side label.
+-- The addresses inside a block, by whether its first and its last stretch have the side label.
 module _ (s : StretchesModel) (side : ℕ) (a : Area) (is : IsArea s a) (divided : a.from < a.to) where
   all : HasEveryAddress s
   all = is.few.stretches.every
@@ -497,7 +497,7 @@ module _ (s : StretchesModel) (side : ℕ) (a : Area) (is : IsArea s a) (divided
             | inr least ↦ omega arith
           ]
 
--- what is inside the block, and how many last bits its two addresses don't share
+-- the first and the last address inside the block, and how many last bits they don't share
 pub record IsTrimmed (s : StretchesModel) (side : ℕ) (a : Area) (x y i j : ℕ) : Type 0 where
   pub inside : IsInside s side a x y i j
   pub shared : IsShared x y (width_of s.version - a.len) (128 - count_leading_zeros 128 (bit_xor x y))
@@ -510,7 +510,7 @@ trimmed s side a is divided b d x y i j first last index index' is_x is_y low hi
     let most = width-most s.version in
     record { inside = inside; shared = is-shared x y (width_of s.version - a.len) (omega arith) (near s side a is x y i j 0 inside) }
 
--- the last address of the block of so many bits that has an address
+-- the last address of a block of `len` bits with the address x
 pub block-last : (v : Version) (block : Block) (len x last : ℕ) → block.version ≡ v → block.len ≡ len → block_number (width_of v) len block.value ≡ block_number (width_of v) len x
     → last ≡ last_of (width_of block.version) block.len (block_number (width_of block.version) block.len block.value) → last ≡ last_of (width_of v) len (block_number (width_of v) len x)
 block-last v block len x last version same covering is =

@@ -21,7 +21,7 @@ use Rattle.pmap_minimise.specs.Entered.{text_of}
 use Rattle.pmap_minimise.specs.Numbers.{IsExactBy, IsUnion, common_numbers, has_number, keeps, numbers_of}
 use Rattle.pmap_minimise.proofs.Merged.{lacks, rising-filter}
 
--- rising numbers that are all below a bound
+-- rising numbers that are all below `count` rise below it
 rising-bounded : (b count low : ℕ) (ns : List ℕ) → IsRising b low ns → list_any (λ n. nat_le count n) ns ≡ false → IsRising count low ns
 rising-bounded b count low [] rising none = tt
 rising-bounded b count low (n ∷ ns) rising none =
@@ -33,7 +33,7 @@ rising-within count low [] rising = refl
 rising-within count low (n ∷ ns) rising =
     or_from (nat_le count n) (list_any (λ m. nat_le count m) ns) (lt-leb count n rising.1) (rising-within count (n + 1) ns rising.2)
 
--- the exact set has numbers of the two sets alone, in rising order, and some if one of them has
+-- the exact set of two rising sets rises, and has a number if one of the sets has
 pub exact-rising : (count low_cost high_cost : ℕ) (low high : List ℕ) (cost : ℕ) (set : List ℕ) → IsRising count 0 low → IsRising count 0 high
     → IsExactBy low_cost high_cost low high (common_numbers low high) cost set → IsRising count 0 set
 exact-rising count low_cost high_cost low high cost set low_rising high_rising exact =
@@ -67,7 +67,7 @@ exact-cost low_cost high_cost low high cost set exact = by (common_numbers low h
     by [] exact = let e = exact.0 in omega arith
     by (n ∷ ns) exact = let e = exact.0 in omega arith
 
--- a test of the texts is one of the numbers
+-- a test of the texts is a test of their numbers
 any-texts : (table : List Label) (p : Label → Bool) (ns : List ℕ) → list_any p (map (text_at table) ns) ≡ list_any (λ n. p (text_at table n)) ns
 any-texts table p [] = refl
 any-texts table p (n ∷ ns) = ap (λ (t : Bool). p (text_at table n) || t) (any-texts table p ns)
@@ -76,7 +76,7 @@ pub any-numbers : (ids : List LabelId) (n : ℕ) → has_number (numbers_of ids)
 any-numbers [] n = refl
 any-numbers (id ∷ ids) n = ap (λ (t : Bool). (n == id.0) || t) (any-numbers ids n)
 
--- the first of a list that passes
+-- `find` returns the first item that passes
 find-first : (p : Label → Bool) (xs : List Label) (n : ℕ) → n < length xs → ((i : ℕ) → i < n → p (get_or xs i []) ≡ false) → p (get_or xs n []) ≡ true
     → find p xs ≡ Some (get_or xs n [])
 find-first p [] n inside below here = absurd (omega arith)
@@ -147,7 +147,7 @@ module _ (table : List Label) (ok : IsLabelTable table) where
       by [] exact = record { cost = exact.0; labels = λ x. union x exact.1 }
       by (n ∷ ns) exact = record { cost = exact.0; labels = λ x. ap (λ (s : List ℕ). has (map (text_at table) s) x) exact.1 }
 
-  -- what is inherited
+  -- whether the inherited label is kept is the same by texts and by numbers
   pub keeps-texts : (ids : List LabelId) (inherited : Option LabelId) → IsRising (length table) 0 (numbers_of ids) → ForSome inherited (λ id. id.0 < length table)
       → has_inherited (map (text_at table) (numbers_of ids)) (text_of table inherited) ≡ keeps ids inherited
   keeps-texts ids None rising known = refl

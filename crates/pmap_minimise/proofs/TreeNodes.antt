@@ -12,7 +12,7 @@ use Rattle.pmap_minimise.specs.Numbers.{IsJoined}
 use Rattle.pmap_minimise.proofs.Joined.{all-left, all-right, joined-certified, leaf-certified}
 use Rattle.pmap_minimise.proofs.Texts.{exact-cost}
 
--- the node of a tree costs less than its leaves
+-- the node of a tree costs less than the tree has leaves
 joined-cost : (low high node : Node) → IsJoined low high node → cost_of node ≤ cost_of low + cost_of high + 1
 joined-cost low high (Leaf id) joined = absurd joined
 joined-cost low high (Chain cost set bits side end) joined = absurd joined

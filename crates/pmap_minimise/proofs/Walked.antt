@@ -85,7 +85,7 @@ module _ (tree : Tree) (nodes : List NodeModel) (labelled : IsLabelled tree) (ar
           let count = ap length are.nodes_are in
           absurd (omega (arith, length-append (nodes_of first are.n are.q) are.rest, length_nodes first are.n are.q, size_pos first))
 
--- the first tree by what the trie has at its node
+-- the first tree has two halves
 record IsHalved (trees : List Tree) (count : ℕ) : Type 0 where
   low : Tree
   high : Tree
@@ -129,7 +129,7 @@ module _ (node : NodeModel) (rest : List NodeModel) where
         few = omega (arith, length-append (nodes_of (Fork low high) are.n are.q) are.rest, length_nodes (Fork low high) are.n are.q, size_leaves low, size_leaves high, size_pos low, size_pos high);
       }
 
--- what is on a stack
+-- the top of a stack, and the items below
 record IsTaken {X : Type 0} (Is : X → ℕ → ℕ → Type 0) (Below : ℕ → List X → Type 0) (to : ℕ) (rest : List X) (top : X) : Type 0 where
   from : ℕ
   is : Is top from to
@@ -144,7 +144,7 @@ taken {A} {X} Is item items to stack rest top are is =
 stack-some : {X : Type 0} (stack rest : List X) (top : X) → stack ≡ rest ++ top ∷ [] → 0 < length stack
 stack-some stack rest top is = omega (arith, ap length is, length-append rest (top ∷ []))
 
--- claims stay those of their trees
+-- claims stay those of their trees if lines are added
 claims-grown : (old new : Built) → HasGrown old new → (trees : List Tree) (to : ℕ) (claims : List Claim) → AreStacked (IsClaimOf old) trees to claims → AreStacked (IsClaimOf new) trees to claims
 claims-grown old new grown [] to claims are = are
 claims-grown old new grown (tree ∷ trees) to claims are =
@@ -188,7 +188,7 @@ claims-root t number b claims from first few =
       },
     )
 
--- the claims of the halves of a node, which are taken from the stack
+-- the top two claims of the stack are those of a node's halves
 pub record AreHalfClaims (b : Built) (low_tree high_tree : Tree) (others : List Tree) (rest : List Claim) (high low : Claim) (to : ℕ) : Type 0 where
   pub from : ℕ
   pub middle : ℕ
@@ -347,7 +347,7 @@ choosing-end b version root left entries lines due from end = by from.nodes from
         let to = last.to_is in
         absurd (omega arith)
 
--- what is due next, and what comes after
+-- the node that is due next, and those that are due after it
 pub record IsHere (b : Built) (version : Version) (root : Node) (number : ℕ) (entries : List Entry) (lines : List DueLine) (rest : List Due) (here : Due) : Type 0 where
   pub block : Block
   pub whole : IsWhole version block
@@ -360,7 +360,7 @@ pub record IsHere (b : Built) (version : Version) (root : Node) (number : ℕ) (
   pub lines_are : lines ++ (lines_of node ++ all_lines others) ≡ lines_of root
   pub entries_are : (middle all : List Entry) → AddsEntries node here.block here.inherited entries middle → AddsAll others rest middle all → AddsEntries root block None [] all
 
--- the first that is due is added first
+-- the entries of the node that is due next are added before those of the others
 record IsFirstAdded (node : Node) (nodes : List Node) (rest : List Due) (top : Due) (old new : List Entry) : Type 0 where
   middle : List Entry
   adds : AddsEntries node top.block top.inherited old middle
@@ -404,7 +404,7 @@ module _ (b : Built) (version : Version) (root : Node) (number : ℕ) (entries :
             entries_are = λ middle all adds after. entries_are all (record { rest = rest; top = here; middle = middle; due_is = is; adds = adds; after = after });
           }
 
--- the node whose line was read
+-- The node that is due next, by its own line.
 module _ (b : Built) (version : Version) (root : Node) (number : ℕ) (entries : List Entry) (lines : List DueLine) (rest : List Due) (here : Due) (is : IsHere b version root number entries lines rest here) where
   pub line-inside : number < length b.lines.items
   line-inside =

@@ -27,7 +27,7 @@ use Rattle.pmap_minimise.proofs.Entered.{inner-adds, leaf-adds}
 use Rattle.pmap_minimise.proofs.Halves.{HasHalves, has-halves, width-most}
 use Rattle.pmap_minimise.proofs.Ways.{with-has}
 
--- the entries of a node for a block are those for an equal one
+-- a node has the same entries for equal blocks
 same-adds : (node : Node) (block end : Block) (inherited : Option LabelId) (old new : List Entry) → end.version ≡ block.version → end.len ≡ block.len → number_of end ≡ number_of block
     → AddsEntries node end inherited old new → AddsEntries node block inherited old new
 same-adds node block end inherited old new version len number adds =
@@ -40,7 +40,7 @@ same-adds node block end inherited old new version len number adds =
           (All-weaker (IsEntryOf block count) (IsEntryOf end count) (λ e is. record { version = is.version ∙ sym version; known = is.known }) old entries));
     }
 
--- a way's first bit leads to a half
+-- the first bit of a way leads to a half, and the others from there to the end
 record IsDownBy (value bits : ℕ) (block end : Block) : Type 0 where
   half : Block
   is : IsHalf (digit value bits) block half
@@ -84,13 +84,13 @@ down-step value bits block end down = by (digit value bits) refl (omega arith)
     by (suc zero) same small = rest 1 halves.high same halves.high_half
     by (suc (suc d)) same small = absurd (omega arith)
 
--- the address begins a block at the end of a way of so many bits, which are the last digits of the number
+-- the address begins the block at the end of a way, which is the last `bits` bits of the number
 pub record IsEnd (W n value number bits end : ℕ) : Type 0 where
   pub fits : end < 2 ^ W
   pub free : end % 2 ^ (W - (n + bits)) ≡ 0
   pub number_is : end / 2 ^ (W - (n + bits)) ≡ value / 2 ^ (W - n) * 2 ^ bits + number % 2 ^ bits
 
--- The block at a way's end, whose bits are first moved to the front of 128 and then to their places.
+-- The block at the end of a way. The way's bits are shifted to the top of 128 bits, and then down to their places.
 module _ (W n value number bits : ℕ) (wide : W ≤ 128) (deep : n + bits ≤ W) where
   abbrev low : ℕ
   low = number % 2 ^ bits
@@ -128,7 +128,7 @@ module _ (W n value number bits : ℕ) (wide : W ≤ 128) (deep : n + bits ≤ W
           is_product : q * all ≡ q * (times * size) → value + low * size ≡ (q * times + low) * size
           is_product same = omega (arith, is, same)
 
--- .. as the code finds it
+-- the code finds the block at the end of a way
 pub at-end : (block : Block) (number bits width : ℕ) → block.len + bits ≤ width_of block.version → width ≡ width_of block.version
     → IsEnd (width_of block.version) block.len block.value number bits (block.value + number * 2 ^ (128 - bits) % 2 ^ 128 / 2 ^ (128 - width + block.len))
 at-end block number bits width deep is =
@@ -137,11 +137,11 @@ at-end block number bits width deep is =
     subst (λ (n : ℕ). IsEnd (width_of block.version) block.len block.value number bits (block.value + n)) (sym offset)
     (is-end (width_of block.version) block.len block.value number bits wide deep block.in_range block.no_host_bit)
 
--- a set that has the label that is inherited adds nothing and hands that on
+-- a node that has the inherited label adds no entry and passes that label on
 keeps-own : (ids : List LabelId) (block : Block) (side : LabelId) (entries : List Entry) → keeps ids (Some side) ≡ true → IsOwn ids block (Some side) entries entries side
 keeps-own ids block side entries kept = subst (λ (b : Bool). IsOwnBy b ids block (Some side) entries entries side) (sym kept) (refl, refl)
 
--- labels of a set that has the side's
+-- the labels with these numbers
 abbrev ids_of : List ℕ → List LabelId
 ids_of set = map (λ (n : ℕ). record { 0 = n }) set
 
@@ -173,7 +173,7 @@ module _ (side : LabelId) (last : Node) (value : ℕ) where
       leaf-adds side block (Some side) entries entries (side ∷ []) side refl
       (keeps-own (side ∷ []) block side entries (ap (λ b. b || false) (eq-eqb side.0 side.0 refl)))
 
-  -- a block with host bits is two halves, one of them with the side's label
+  -- a block on the way has its own entry and those of the half that the way chooses; the side block adds none
   over-adds : (bits d : ℕ) (block half : Block) (inherited : Option LabelId) (old middle new : List Entry) (ids : List LabelId) → digit value bits ≡ d → d < 2 → IsHalf d block half
       → AddsEntries (way bits) half (Some side) middle new → numbers_of ids ≡ set_over bits → IsOwn ids block inherited old middle side
       → AddsEntries (way (suc bits)) block inherited old new
@@ -213,7 +213,7 @@ module _ (side : LabelId) (last : Node) (value : ℕ) where
       (way-adds bits step.half end old new step.rest adds) (ids-numbers (set_over bits))
       (keeps-own (ids_of (set_over bits)) block side old (ids-keep (set_over bits) side ∙ above-side side.0 (set_of last) bits))
 
-  -- a node with one label alone hands that on
+  -- a node with one label passes that label on
   one-own : (block : Block) (inherited : Option LabelId) (old new : List Entry) (handed : LabelId) → IsOwn (side ∷ []) block inherited old new handed → handed ≡ side
   one-own block None old new handed own = sym (same_Some side handed own.1)
   one-own block (Some above) old new handed own = by (above.0 == side.0) refl own
@@ -222,7 +222,7 @@ module _ (side : LabelId) (last : Node) (value : ℕ) where
       by true same own = sym (same_Some above handed own.1) ∙ (λ i. record { 0 = eqb-true above.0 side.0 same i })
       by false same own = sym (same_Some side handed own.1)
 
-  -- the own entry of a chain's block, and then those of its end
+  -- a chain's entries are the own one of its block and those of its end
   pub chain-adds : (bits : ℕ) (block end : Block) (inherited : Option LabelId) (old middle new : List Entry) (handed : LabelId) → 2 ≤ bits → IsOwn (side ∷ []) block inherited old middle handed
       → IsDown value bits block end → AddsEntries last end (Some handed) middle new → AddsEntries (way bits) block inherited old new
   chain-adds zero block end inherited old middle new handed long own down adds = absurd (omega arith)
@@ -234,7 +234,7 @@ module _ (side : LabelId) (last : Node) (value : ℕ) where
       (way-adds (suc bits) step.half end middle new step.rest (subst (λ (i : LabelId). AddsEntries last end (Some i) middle new) same adds)) refl
       (subst (λ (i : LabelId). IsOwn (side ∷ []) block inherited old middle i) same own)
 
--- what is left of a sound node's room at the end of a way
+-- a sound node is still sound at the end of a way, with less room by the way's bits
 pub record IsDeep (last : Node) (bits room : ℕ) : Type 0 where
   pub left : ℕ
   pub room_is : room ≡ left + bits
@@ -255,7 +255,7 @@ way-sound side value (suc bits) last room sound =
     let more = rest.room_is in
     record { left = rest.left; room_is = omega arith; sound = rest.sound }
 
--- a chain's node, its number being read
+-- A chain's node, by the chain with this number.
 module _ (b : Built) (compact node : Node) (number from to : ℕ) (is : IsChainNode b compact node number from to) (read : ChainParts) (read_is : read ≡ get_or b.chains.items number read) where
   pub read-chain : read ≡ is.chain.chain
   read-chain =
@@ -285,7 +285,7 @@ module _ (b : Built) (compact node : Node) (number from to : ℕ) (is : IsChainN
       subst (λ (n : Node). AddsEntries n here inherited old new) (sym read-node)
       (chain-adds read.side is.chain.end read.end read.bits here end inherited old middle new handed read-long own down adds)
 
-  -- .. and its line
+  -- the lines of the compact node are the chain's line and those of its end
   pub read-lines : lines_of compact ≡ ChainLine read.cost (way_to read.end read.bits) read.side.0 (read.side.0 ∷ []) ∷ lines_of is.end
   read-lines =
       ap lines_of is.compact_is

@@ -9,7 +9,7 @@ use Rattle.pmap_minimise.specs.Built.{cost_above, digit, node_over, set_above, w
 use Rattle.pmap_minimise.specs.Numbers.{IsExact, IsExactBy, common_numbers, has_number}
 use Rattle.pmap_minimise.proofs.Merged.{lacks}
 
--- a set and one number: what they have in common
+-- the number alone if the condition is true, otherwise no number
 abbrev only_if : Bool → ℕ → List ℕ
 only_if b n = cond b (n ∷ []) []
 
@@ -36,7 +36,7 @@ common-one b k n (m ∷ ms) rising = by (common-one b (m + 1) n ms rising.2) (n 
         true-not : true ≡ false → ⊥
         true-not t = cc
 
--- the set with a number more
+-- a set with one more number has that number
 pub with-has : (n : ℕ) (set : List ℕ) → has_number (with_number n set) n ≡ true
 with-has n [] = ap (λ (t : Bool). t || false) (eq-eqb n n refl)
 with-has n (m ∷ ms) =
@@ -103,7 +103,7 @@ module _ (side : ℕ) (fits : side < 2 ^ 32) (end : Node) (rising : IsRising (2 
       by false e = with-rising (2 ^ 32) 0 side (set_of end) rising (omega arith) fits e
   above-rising (suc more) = one-rising
 
-  -- what the node of so many bits claims
+  -- what the node with `bits` bits of the run below it claims
   abbrev way_cost : ℕ → ℕ
   way_cost zero = cost_of end
   way_cost (suc bits) = cost_above side end
@@ -180,7 +180,7 @@ module _ (side : ℕ) (fits : side < 2 ^ 32) (end : Node) (rising : IsRising (2 
       subst (λ (cost : ℕ). IsExactBy 0 cost (side ∷ []) (set_of (way value bits)) (common_numbers (side ∷ []) (set_of (way value bits))) (cost_above side end) (above bits)) (sym (way-cost value bits))
       (subst (λ (set : List ℕ). IsExactBy 0 (way_cost bits) (side ∷ []) set (common_numbers (side ∷ []) set) (cost_above side end) (above bits)) (sym (way-set value bits)) (exact-high bits))
 
--- the run goes on from a node to the half that is no leaf with the side label
+-- a node without the side label is no leaf with it
 pub no-leaf : (side : ℕ) (node : Node) → (label_of node ≡ Some side → ⊥) → is_leaf side node ≡ false
 no-leaf side (Leaf number) other = ne_eqb number side (λ same. other (ap (λ (n : ℕ). Some n) same))
 no-leaf side (Inner cost set lower upper) other = refl

@@ -1,4 +1,4 @@
--- The map's label table has the map's labels, and a list and a certificate by numbers that are the map's minimal pair.
+-- What was built for a map is the map's minimal pair.
 use Rattle.std.proofs.Common.{◌≡◌, ℕ, ◌-◌, ◌<◌, ◌∙◌, inl, List, [], ◌∷◌, ◌++◌, None, All, IsTrue, length, map, refl, sym, ap, subst, arith}
 use Rattle.std.proofs.lemmas.List.Elements.{All-from_recursion, All-map, All-weaker}
 use Rattle.std.proofs.lemmas.List.Folds.{list_any_at}
@@ -55,7 +55,7 @@ own-labels m = record {
       m.statements m.numbers_known);
 }
 
--- the list of a root that represents the address space, with a certificate of that root, is the map's minimal one
+-- the list and the certificate of a root that represents the address space are the map's minimal pair
 pub minimal : (m : MapModel) (l : ListModel) (c : CertificateModel) (root : Tree) → StandsFor m root 0 0 → l ≡ shortest_list m root
     → c ≡ record { format = 1; version = m.version; table = m.table; root = root } → IsMinimalPair m l c
 minimal m l c root stands list certificate =
@@ -78,7 +78,7 @@ pub shortest-form : (m : MapModel) (root : Tree) → StandsFor m root 0 0 → Ha
 shortest-form m root stands inside =
     list-form m (shortest_list m root) (record { format = 1; version = m.version; table = m.table; root = root }) (minimal m _ _ root stands refl refl) inside
 
--- the entries of the root, from the whole address space down
+-- the entries that the root adds for the whole address space are those of its list
 pub whole-entries : (m : MapText) (root : Node) (whole : Block) (old new : List Entry) → IsWhole m.version whole → IsLabelTable m.labels
     → HasNumberForm (length m.labels) root (width_of m.version) → old ≡ [] → AddsEntries root whole None old new
     → map (prefix_of m.labels) new ≡ entries_of (width_of m.version) m.labels (tree_of m.labels root) None 0 0
@@ -92,7 +92,7 @@ whole-entries m root whole old new is ok form none adds =
     ∙ half-entries m.labels (tree_of m.labels root) None None (width_of m.version) (width_of whole.version) 0 whole.len 0 (number_of whole) width refl bits
     (whole-number whole is.start)
 
--- a root's certificate
+-- the certificate with this root and the map's label table
 abbrev root_certificate : MapText → Node → CertificateModel
 root_certificate m root = record { format = 1; version = m.version; table = m.labels; root = tree_of m.labels root }
 
@@ -113,7 +113,7 @@ certified-form m version leaves root certified same settled =
     let known = All-weaker (IsSettledLeaf (map_of m)) (IsKnownLeaf (length m.labels)) (settled-known (map_of m)) leaves settled in
     subst (λ (v : Version). HasNumberForm (length m.labels) root (width_of v)) same (certified.form (length m.labels) known)
 
--- the text of a root's certificate that is part of the map's minimal pair
+-- the text of a root's certificate, which is part of the map's minimal pair
 pub certified-text : (m : MapText) (version : Version) (leaves : List LeafModel) (root : Node) (head text : List ℕ) → IsCertified 0 0 (width_of version) leaves root
     → version ≡ m.version → IsLabelTable m.labels → All (IsSettledLeaf (map_of m)) leaves → All (IsUndivided (map_of m)) leaves
     → head ≡ text_of_lines (format_header 1 m.version (length m.labels) ∷ m.labels) → text ≡ head ++ text_of_lines (map line_text (lines_of root))
@@ -127,13 +127,13 @@ certified-text m version leaves root head text certified same ok settled undivid
       whole_text 1 m.version m.labels root (width_of m.version) (lines_of root) head text ok (number-form (length m.labels) root (width_of m.version) form) refl head_is text_is,
     )
 
--- .. and those of the compacted root
+-- the numbers of a compacted root fit the map's label table
 pub compacted-form : (m : MapText) (version : Version) (leaves : List LeafModel) (root compacted : Node) → IsCertified 0 0 (width_of version) leaves root → IsCompactNode root compacted
     → version ≡ m.version → All (IsSettledLeaf (map_of m)) leaves → HasChainForm (length m.labels) compacted (width_of m.version)
 compacted-form m version leaves root compacted certified is same settled =
     is.form (length m.labels) (width_of m.version) (number-form (length m.labels) root (width_of m.version) (certified-form m version leaves root certified same settled))
 
--- the text of a root's compacted certificate, if that certificate is part of the map's minimal pair
+-- the text of a root's compacted certificate, which is part of the map's minimal pair
 pub compacted-text : (m : MapText) (version : Version) (leaves : List LeafModel) (root compacted : Node) (c : CertificateModel) (text : List ℕ) → IsCertified 0 0 (width_of version) leaves root
     → IsCompactNode root compacted → version ≡ m.version → IsLabelTable m.labels → All (IsSettledLeaf (map_of m)) leaves → All (IsUndivided (map_of m)) leaves
     → c ≡ record { format = 2; version = m.version; table = m.labels; root = tree_of m.labels compacted } → text ≡ certificate_text c
@@ -176,7 +176,7 @@ listed-shortest m version leaves root items listed same ok settled undivided =
       entries = whole-entries m root block [] items whole ok form refl listed.adds;
     }
 
--- so are those that are chosen by a trie, and the certificate's root is that
+-- the entries chosen by a trie are those of the certificate's root, which represents the address space
 pub chosen-shortest : (m : MapText) (version : Version) (leaves : List LeafModel) (b : Built) (root : Node) (items : List Entry) (top : Node) → IsClaimed version leaves b root → version ≡ m.version
     → IsLabelTable m.labels → All (IsSettledLeaf (map_of m)) leaves → All (IsUndivided (map_of m)) leaves
     → ((leaves : List LeafModel) (node : Node) → IsClaimed m.version leaves b node → IsListedBy m.version leaves node items × (top ≡ node)) → IsShortestBy m root items × (top ≡ root)
@@ -185,13 +185,13 @@ chosen-shortest m version leaves b root items top claimed same ok settled undivi
     (listed-shortest m m.version leaves root items done.0 refl ok settled undivided, done.1)
 
 module _ (m : MapText) (root : Node) (items : List Entry) (shortest : IsShortestBy m root items) where
-  -- their blocks are distinct
+  -- the blocks of the entries are distinct
   pub shortest-distinct : HasDistinctBlocks items
   shortest-distinct =
       let form = shortest-form (map_of m) (tree_of m.labels root) shortest.stands (own-labels m) in
       order-distinct m.labels items (subst IsInOrder (sym shortest.entries) form.order)
 
-  -- a list of these entries is the map's minimal one
+  -- a list of these entries is the root's
   module _ (l : ListModel) (is : l ≡ list_with m items) where
     listed-is : l ≡ shortest_list (map_of m) (tree_of m.labels root)
     listed-is = is ∙ (λ i. record { version = m.version; name = m.name; prefixes = shortest.entries i; table = m.labels })

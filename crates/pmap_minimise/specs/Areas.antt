@@ -14,9 +14,9 @@ use Rattle.label_trie.specs.Tree.{Fits, IsLabelled, Tree, leaf_count}
 use Rattle.pmap_minimise.specs.Certified.{IsNodeFor}
 use Rattle.pmap_minimise.specs.declared.area.Area.{Area}
 
--- Blocks of addresses with the stretches that have their ends, and how a run leads from a block down.
+-- Blocks of addresses with the stretches at their ends, and how a run leads down from a block.
 
--- the number of the area's block
+-- the number of the area's block among the blocks of its size
 abbrev pub number_at : StretchesModel → Area → ℕ
 number_at s a = block_number (width_of s.version) a.len a.first
 
@@ -28,7 +28,7 @@ pub record AreFew (s : StretchesModel) (a : Area) : Type 0 where
   pub stretches : AreStretches statements default s
   pub few : parted_sum (width_of s.version) (width_of s.version - a.len) a.len (number_at s a) statements + 1 < 2 ^ 32
 
--- the addresses are those of the block, and its first and last address are in these stretches
+-- the area is a block with these addresses, and these stretches have the first and the last one
 pub record IsArea (s : StretchesModel) (a : Area) : Type 0 where
   pub within : a.len ≤ width_of s.version
   pub block : IsBlock (width_of s.version) a.first a.last a.len (number_at s a)
@@ -37,7 +37,7 @@ pub record IsArea (s : StretchesModel) (a : Area) : Type 0 where
   pub end : HoldsAddress s a.last a.to
   pub few : AreFew s a
 
--- both halves of a block with addresses of two stretches or more
+-- the halves of a block with addresses of two stretches or more
 pub record AreHalvesOf (s : StretchesModel) (a low high : Area) : Type 0 where
   pub divided : a.from < a.to
   pub low_area : IsArea s low
@@ -51,11 +51,11 @@ pub record AreHalvesOf (s : StretchesModel) (a low high : Area) : Type 0 where
   pub low_number : number_at s low ≡ 2 * number_at s a
   pub high_number : number_at s high ≡ 2 * number_at s a + 1
 
--- the number of the label of a block in one stretch
+-- the number of the label of a block in one stretch, or `None` for a block with addresses of two stretches or more
 abbrev pub own_label : StretchesModel → Area → Option ℕ
 own_label s a = if a.from == a.to then option_map (λ id. id.0) (label_at s a.from) else None
 
--- the stretch has the label with this number
+-- the stretch with the index i has the label with this number
 abbrev pub HasLabel : StretchesModel → ℕ → ℕ → Type 0
 HasLabel s label i = option_map (λ id. id.0) (label_at s i) ≡ Some label
 
@@ -81,12 +81,12 @@ pub record IsRunOver (Step Rest : Area → Type 0) : Type 0 where
   pub step : Step chosen
   pub rest : Rest chosen
 
--- so many steps lead from the block to the end
+-- a run of `count` steps leads from the block to the end
 abbrev pub IsRun : StretchesModel → ℕ → ℕ → Area → Area → Type 0
 IsRun s side zero a end = end ≡ a
 IsRun s side (suc count) a end = IsRunOver (IsStep s side a) (λ chosen. IsRun s side count chosen end)
 
--- no step leads on from the block
+-- neither half of the block has the side label alone, so no step leads on
 pub record HasNoSide (s : StretchesModel) (side : ℕ) (a : Area) : Type 0 where
   pub low : Area
   pub high : Area
@@ -97,7 +97,7 @@ pub record HasNoSide (s : StretchesModel) (side : ℕ) (a : Area) : Type 0 where
 abbrev pub IsStop : StretchesModel → ℕ → Area → Type 0
 IsStop s side a = (a.from ≡ a.to) ⊎ HasNoSide s side a
 
--- the run of the side label leads from the block to the end
+-- the whole run of the side label leads from the block to the end
 pub record IsRunTo (s : StretchesModel) (side : ℕ) (a end : Area) : Type 0 where
   pub count : ℕ
   pub run : IsRun s side count a end
@@ -105,12 +105,12 @@ pub record IsRunTo (s : StretchesModel) (side : ℕ) (a end : Area) : Type 0 whe
   pub area : IsArea s end
   pub len : end.len ≡ a.len + count
 
--- the run from the block with these halves has fewer than two bits, by the side label of the halves, if they have one
+-- the run from the block has fewer than two bits, or there is no side label
 abbrev pub IsShortRun : StretchesModel → Area → Option ℕ → Type 0
 IsShortRun s a None = Unit {0}
 IsShortRun s a (Some side) = (end : Area) × (run : IsRunTo s side a end) × (run.count < 2)
 
--- it has two or more, and leads to the end
+-- the run from the block with these halves has two bits or more, and leads to the end
 pub record IsLongRun (s : StretchesModel) (a low high : Area) (side : ℕ) (end : Area) : Type 0 where
   pub side_is : option_or (own_label s low) (own_label s high) ≡ Some side
   pub run : IsRunTo s side a end
@@ -122,7 +122,7 @@ pub record IsTreeOf (v : Version) (ss : List Statement) (default : Option LabelI
   pub labelled : IsSome default → IsLabelled tree
   pub few : leaf_count tree ≤ 1 + parted_sum (width_of v) (width_of v - n) n q ss
 
--- the node is an inner one, and if its halves are leaves, they have the labels of the block's halves
+-- the node is an inner one, and a half that is a leaf has the label of the block's half
 pub record HasLabelledHalves (s : StretchesModel) (a : Area) (node : Node) : Type 0 where
   pub cost : ℕ
   pub set : List ℕ
@@ -135,7 +135,7 @@ pub record HasLabelledHalves (s : StretchesModel) (a : Area) (node : Node) : Typ
   pub low_label : label_of lower ≡ own_label s low
   pub high_label : label_of upper ≡ own_label s high
 
--- the certificate's node for the block, and the tree of the stretches' statements there
+-- the node is the certificate's for the block, and the tree is that of the stretches' statements there
 pub record IsMade (s : StretchesModel) (a : Area) (tree : Tree) (node : Node) : Type 0 where
   pub tree_of : (ss : List Statement) (default : Option LabelId) → AreStretches ss default s
       → IsTreeOf s.version ss default a.len (number_at s a) tree

@@ -8,27 +8,27 @@ use Rattle.pmap_minimise.specs.declared.built.Built.{Built}
 use Rattle.pmap_minimise.specs.declared.built.Claim.{Claim}
 use Rattle.pmap_minimise.specs.declared.built.Line.TheVariants.{Chain as ChainLine, Inner as InnerLine, Leaf as LeafLine}
 
--- the cost of a node over two halves with these costs
+-- the cost of a node over two halves with these costs, by whether the halves' sets are apart
 abbrev pub exact_cost : ℕ → ℕ → Bool → ℕ
 exact_cost low high apart = if apart then low + high + 1 else low + high
 
--- the pool has the set, which is listed by rising numbers
+-- the pool has the set, and its numbers rise
 pub record HasRisingSet (pool : List LabelId) (id : SetId) : Type 0 where
   pub has : HasSet pool id
   pub rising : IsRising (2 ^ 32) 0 (set_in pool id)
 
--- the set is kept, and this is its id
+-- the pool keeps the set under this id
 pub record IsHeldAs (old new : List LabelId) (set : List ℕ) (id : SetId) : Type 0 where
   pub grown : IsGrown old new
   pub stands : IsHeld new id set
 
--- so is the exact set of two halves
+-- the pool keeps the exact set of two halves under this id
 pub record IsHalfHeld (low high : SetId) (old new : List LabelId) (half : SetId) (apart : Bool) : Type 0 where
   pub set : List ℕ
   pub exact : IsExactSet (set_in old low) (set_in old high) apart set
   pub held : IsHeldAs old new set half
 
--- What a node's own line adds.
+-- What a node's own line adds, and what the node claims.
 
 pub record AddsLeaf (id : LabelId) (old new : Built) (claim : Claim) : Type 0 where
   pub lines_are : new.lines.items ≡ old.lines.items ++ LeafLine id ∷ []

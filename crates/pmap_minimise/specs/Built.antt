@@ -20,10 +20,9 @@ use Rattle.pmap_minimise.specs.declared.built.Claim.{Claim}
 use Rattle.pmap_minimise.specs.declared.built.Line.{Line}
 use Rattle.pmap_minimise.specs.declared.built.Line.TheVariants.{Chain as ChainLine, Inner as InnerLine, Leaf as LeafLine}
 
--- The compact certificate as the code builds it: the lines of a node come after those of its halves, the higher half
--- first.
+-- The compact certificate as it is built: the lines of a node come after those of its halves, the higher half's first.
 
--- the binary digit of a number at a place, from 0 at the end, and the bits of its last places
+-- the binary digit of a number at a place, counted from 0 at the end, and its last `bits` digits as bits
 abbrev pub digit : ℕ → ℕ → ℕ
 digit value place = (value / 2 ^ place) % 2
 
@@ -36,8 +35,8 @@ abbrev pub with_number : ℕ → List ℕ → List ℕ
 with_number n [] = n ∷ []
 with_number n (m ∷ ms) = if nat_lt n m then n ∷ m ∷ ms else m ∷ with_number n ms
 
--- The set of the node right above a run's end, and of those further up, by the side label and the set of the end; and
--- what each of them costs.
+-- The set of a node of a run that has `more` nodes of the run below it, and the cost of each node of the run, by the
+-- side label and the run's end.
 abbrev pub set_above : ℕ → List ℕ → ℕ → List ℕ
 set_above side set zero = if has_number set side then side ∷ [] else with_number side set
 set_above side set (suc more) = side ∷ []
@@ -45,18 +44,18 @@ set_above side set (suc more) = side ∷ []
 abbrev pub cost_above : ℕ → Node → ℕ
 cost_above side end = if has_number (set_of end) side then cost_of end else cost_of end + 1
 
--- the node over the half that a run chooses, which is the lower one if the digit is 0, and the side's leaf
+-- an inner node over the half that a run chooses, the lower one if the digit is 0, and the side block's leaf
 abbrev pub node_over : ℕ → ℕ → List ℕ → Node → Node → Node
 node_over zero cost set way side = Inner cost set way side
 node_over (suc digit) cost set way side = Inner cost set side way
 
--- the node from which a run of so many bits leads to the end, whose block has the number `value`
+-- the node from which a run of `bits` bits leads to the node `end`, whose block has the number `value`
 abbrev pub way_node : ℕ → ℕ → ℕ → Node → Node
 way_node side value zero end = end
 way_node side value (suc bits) end =
     node_over (digit value bits) (cost_above side end) (set_above side (set_of end) bits) (way_node side value bits end) (Leaf side)
 
--- the line before `to` is a leaf's, and the first of the node's
+-- the node is a leaf, and the line `from` is its only one
 pub record IsLeafAt (b : Built) (label : ℕ) (node : Node) (from to : ℕ) : Type 0 where
   pub line_is : slice_get b.lines.items from ≡ Some (LeafLine (record { 0 = label }))
   pub to_is : to ≡ from + 1
@@ -93,13 +92,13 @@ pub record IsChainAt (b : Built) (cost : ℕ) (set : List ℕ) (bits : List Bool
   pub few : chain.bits ≤ 128
   pub node_is : node ≡ way_node side chain.end chain.bits end
 
--- The lines from `from` on and before `to` are those of the compact node, and the node is it with each chain opened.
+-- The lines from `from` to before `to` are those of `compact`. Opening each chain of `compact` gives `node`.
 abbrev pub IsAt : Built → Node → Node → ℕ → ℕ → Type 0
 IsAt b (Leaf label) = IsLeafAt b label
 IsAt b (Inner cost set lower upper) = IsInnerAt b cost set (IsAt b lower) (IsAt b upper)
 IsAt b (ChainNode cost set bits side end) = IsChainAt b cost set bits side (IsAt b end)
 
--- lines and chains may have come, after those that were there, and sets
+-- sets, and lines and chains after the old ones, may have been added
 pub record HasGrown (old new : Built) : Type 0 where
   pub sets : IsGrown old.sets new.sets
   pub lines : List Line
@@ -107,7 +106,7 @@ pub record HasGrown (old new : Built) : Type 0 where
   pub chains : List Chain
   pub chains_are : new.chains.items ≡ old.chains.items ++ chains
 
--- the lines of the block's node were added, compacted, and this is what it claims
+-- the compacted lines of the block's node were added, and this is the node's claim
 pub record IsBuilt (s : StretchesModel) (a : Area) (old new : Built) (claim : Claim) : Type 0 where
   pub tree : Tree
   pub node : Node
@@ -119,14 +118,14 @@ pub record IsBuilt (s : StretchesModel) (a : Area) (old new : Built) (claim : Cl
   pub cost_is : claim.cost ≡ cost_of node
   pub set_is : IsHeld new.sets claim.set (set_of node)
 
--- what was built is the certificate's node for the address space with these leaves, compacted
+-- what was built is `node` compacted, and `node` is the certificate's for the address space with these leaves
 pub record IsBuiltOf (version : Version) (leaves : List LeafModel) (b : Built) (node : Node) : Type 0 where
   pub certified : IsCertified 0 0 (width_of version) leaves node
   pub compact : Node
   pub compact_is : IsCompactNode node compact
   pub at : IsAt b compact node 0 (length b.lines.items)
 
--- and the leaves are those of the map
+-- what was built is the compacted certificate of the map
 pub record IsBuiltFor (m : MapText) (b : Built) : Type 0 where
   pub leaves : List LeafModel
   pub node : Node
@@ -134,7 +133,7 @@ pub record IsBuiltFor (m : MapText) (b : Built) : Type 0 where
   pub undivided : All (IsUndivided (map_of m)) leaves
   pub built : IsBuiltOf m.version leaves b node
 
--- the lines before this one end with those of a node
+-- the lines before `to` end with those of a node
 pub record HasLinesTo (b : Built) (to : ℕ) : Type 0 where
   pub compact : Node
   pub node : Node

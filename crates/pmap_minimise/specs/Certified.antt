@@ -8,7 +8,7 @@ use Rattle.label_trie.specs.Tree.{Fork, Tip, Tree}
 use Rattle.label_trie.specs.TrieModel.{IsSettledLeaf, IsUndivided, LeafModel}
 use Rattle.pmap_minimise.specs.Numbers.{IsJoined, IsSound}
 
--- the node is one of two nodes of which each holds
+-- the node is the inner one of two nodes for which these hold
 pub record IsNodeOver (Low High : Node → Type 0) (node : Node) : Type 0 where
   pub low : Node
   pub high : Node
@@ -22,13 +22,13 @@ IsNodeFor (Tip None) node = ⊥
 IsNodeFor (Tip (Some id)) node = node ≡ Leaf id.0
 IsNodeFor (Fork low high) node = IsNodeOver (IsNodeFor low) (IsNodeFor high) node
 
--- the number of the leaf's label is below the bound
+-- the leaf has a label, if any, whose number is below `count`
 abbrev pub IsKnownLeaf : ℕ → LeafModel → Type 0
 IsKnownLeaf count leaf = ForSome leaf.label (λ id. id < count)
 
 -- The node is the certificate's for the block of n bits with the number q, which has h host bits and these leaves: it
--- represents the block in each map that settles the leaves with their labels and nothing above them, and its numbers
--- are those of the leaves' labels.
+-- represents the block in each map that settles the leaves with their labels and settles no block above a leaf, and its
+-- numbers are those of the leaves' labels.
 pub record IsCertified (n q h : ℕ) (leaves : List LeafModel) (node : Node) : Type 0 where
   pub stands : (m : MapModel) → IsLabelTable m.table → All (IsSettledLeaf m) leaves → All (IsUndivided m) leaves
       → StandsFor m (tree_of m.table node) n q

@@ -16,7 +16,7 @@ use Rattle.label_trie.specs.Leaf.{number_of}
 abbrev pub text_of : List Label → Option LabelId → Option Label
 text_of table inherited = option_map (λ id. text_at table id.0) inherited
 
--- the labels of the entry and its block's version
+-- the entry has the block's version, and the number of its label is below `count`
 pub record IsEntryOf (block : Block) (count : ℕ) (e : Entry) : Type 0 where
   pub version : e.block.version ≡ block.version
   pub known : e.label.0 < count

@@ -20,13 +20,13 @@ pub record IsListedBy (version : Version) (leaves : List LeafModel) (node : Node
   pub certified : IsCertified 0 0 (width_of version) leaves node
   pub adds : AddsEntries node block None [] entries
 
--- a way of so many bits, which are the last digits of the value, leads from the block to the end
+-- `bits` steps lead from the block to the end, and the last `bits` bits of `value` choose the halves
 pub record IsDown (value bits : ℕ) (block end : Block) : Type 0 where
   pub version : end.version ≡ block.version
   pub len : end.len ≡ block.len + bits
   pub number : number_of end ≡ number_of block * 2 ^ bits + value % 2 ^ bits
 
--- the entries of the node for the block are added, and its lines begin there
+-- the node's entries for the block were added, and its built lines begin at `from`
 pub record AddsAt (node : Node) (block : Block) (inherited : Option LabelId) (old new : List Entry) (start from : ℕ) : Type 0 where
   pub start_is : from ≡ start
   pub adds : AddsEntries node block inherited old new

@@ -11,20 +11,20 @@ use Rattle.pmap_cert.specs.Node.{Chain, Inner, Leaf, Node, cost_of, set_of}
 abbrev pub numbers_of : List LabelId → List ℕ
 numbers_of ids = map (λ id. id.0) ids
 
--- one of the numbers is n
+-- whether n is one of the numbers
 abbrev pub has_number : List ℕ → ℕ → Bool
 has_number ns n = list_any (λ m. n == m) ns
 
--- the numbers of both lists
+-- the numbers that both lists have
 abbrev pub common_numbers : List ℕ → List ℕ → List ℕ
 common_numbers low high = filter (has_number high) low
 
--- the set has just the numbers of either list
+-- the set has exactly the numbers that either list has
 abbrev pub IsUnion : List ℕ → List ℕ → List ℕ → Type 0
 IsUnion low high set = (p : ℕ → Bool) → list_any p set ≡ (list_any p low || list_any p high)
 
--- The set is the exact one of two sets, by their common numbers: just these if there are some, otherwise the numbers of
--- either, and then the two sets are apart.
+-- The exact set of two sets, by their common numbers: these, if there are any. Otherwise the sets are apart, and the
+-- exact set has the numbers of either.
 abbrev pub IsExactSetBy : List ℕ → List ℕ → Bool → List ℕ → List ℕ → Type 0
 IsExactSetBy low high apart [] set = (apart ≡ true) × IsUnion low high set × IsRising (2 ^ 32) 0 set
 IsExactSetBy low high apart (n ∷ ns) set = (apart ≡ false) × (set ≡ n ∷ ns)
@@ -32,19 +32,19 @@ IsExactSetBy low high apart (n ∷ ns) set = (apart ≡ false) × (set ≡ n ∷
 abbrev pub IsExactSet : List ℕ → List ℕ → Bool → List ℕ → Type 0
 IsExactSet low high apart set = IsExactSetBy low high apart (common_numbers low high) set
 
--- The cost and the set are the exact ones of two costs and sets, by their common numbers: if there are some, the sum of
--- the costs and just these, otherwise one more and the numbers of either.
+-- The exact cost and set of two costs and sets, by the sets' common numbers: the sum of the costs and these numbers, if
+-- there are any, otherwise one more than the sum and the numbers of either set.
 abbrev pub IsExactBy : ℕ → ℕ → List ℕ → List ℕ → List ℕ → ℕ → List ℕ → Type 0
 IsExactBy low_cost high_cost low high [] cost set =
     (cost ≡ low_cost + high_cost + 1) × IsUnion low high set × IsRising (2 ^ 32) 0 set
 IsExactBy low_cost high_cost low high (n ∷ ns) cost set = (cost ≡ low_cost + high_cost) × (set ≡ n ∷ ns)
 
--- the cost and the set are the exact ones of what two nodes claim
+-- the exact cost and set of two nodes by their claims
 abbrev pub IsExact : Node → Node → ℕ → List ℕ → Type 0
 IsExact low high cost set =
     IsExactBy (cost_of low) (cost_of high) (set_of low) (set_of high) (common_numbers (set_of low) (set_of high)) cost set
 
--- the node is the one of two halves with the exact claim
+-- the node is the inner one of these halves, with their exact cost and set
 abbrev pub IsJoined : Node → Node → Node → Type 0
 IsJoined low high (Leaf id) = ⊥
 IsJoined low high (Inner cost set left right) = (left ≡ low) × (right ≡ high) × IsExact low high cost set
@@ -56,20 +56,20 @@ HasHalves (Leaf id) low high = ⊥
 HasHalves (Inner cost set left right) low high = (left ≡ low) × (right ≡ high)
 HasHalves (Chain cost set bits side end) low high = ⊥
 
--- there is no chain, each set has a number, and at most so many inner nodes are nested
+-- the node has no chain, each of its sets has a number, and at most `room` inner nodes are nested
 abbrev pub IsSound : Node → ℕ → Type 0
 IsSound (Leaf id) room = Unit {0}
 IsSound (Inner cost set left right) zero = ⊥
 IsSound (Inner cost set left right) (suc room) = (0 < length set) × IsSound left room × IsSound right room
 IsSound (Chain cost set bits side end) room = ⊥
 
--- the labels have the one that is inherited
+-- whether the inherited label, if there is one, is one of the labels
 abbrev pub keeps : List LabelId → Option LabelId → Bool
 keeps ids None = false
 keeps ids (Some id) = list_any (λ label. id.0 == label.0) ids
 
--- A node with these labels passes on the label: the inherited one if it keeps it, and then the entries stay the same,
--- otherwise the first of its own, and then its block's entry with that label is added.
+-- A node that keeps the inherited label passes it on and adds no entry. Otherwise the node passes on the first of its
+-- own labels, and adds its block's entry with that label.
 abbrev pub IsOwnBy : Bool → List LabelId → Block → Option LabelId → List Entry → List Entry → LabelId → Type 0
 IsOwnBy true ids block inherited old new id = (new ≡ old) × (inherited ≡ Some id)
 IsOwnBy false ids block inherited old new id =

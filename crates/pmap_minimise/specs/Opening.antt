@@ -8,12 +8,12 @@ use Rattle.pmap_minimise.specs.declared.built.Chain.{Chain}
 abbrev pub node_text : Node → List ℕ
 node_text node = text_of_lines (map line_text (lines_of node))
 
--- the text of the node is appended, and its built lines begin there
+-- the text of the node was appended, and its built lines begin at `from`
 pub record AddsText (node : Node) (old new : List ℕ) (start from : ℕ) : Type 0 where
   pub start_is : from ≡ start
   pub text_is : new ≡ old ++ node_text node
 
--- a side block's line, where it comes before the chain's end, and where it comes after it
+-- a side block's line if it comes before the chain's end, and if it comes after it, by the digit of the chain there
 abbrev pub side_before : ℕ → ℕ → List ℕ
 side_before side zero = []
 side_before side (suc digit) = leaf_line side ++ 10 ∷ []
@@ -22,13 +22,13 @@ abbrev pub side_after : ℕ → ℕ → List ℕ
 side_after side zero = leaf_line side ++ 10 ∷ []
 side_after side (suc digit) = []
 
--- the text of the nodes on the way down so many bits of a chain and of the side blocks before its end, by the end's set
+-- the text of the last `bits` nodes of a chain and of their side blocks before its end, whose set is `set`
 abbrev pub text_down : Chain → List ℕ → ℕ → List ℕ
 text_down chain set zero = []
 text_down chain set (suc bits) =
     (inner_line chain.cost (set_above chain.side.0 set bits) ++ 10 ∷ []) ++ (side_before chain.side.0 (digit chain.end bits) ++ text_down chain set bits)
 
--- that of the side blocks after its end
+-- the text of the side blocks after a chain's end, for the last `bits` nodes of the chain
 abbrev pub text_up : Chain → ℕ → List ℕ
 text_up chain zero = []
 text_up chain (suc bits) = text_up chain bits ++ side_after chain.side.0 (digit chain.end bits)

@@ -25,6 +25,6 @@ shortest_list m root = record {
   table = m.table;
 }
 
--- the prefix list of the map's name and label table with these entries
+-- the prefix list with these entries, and with the map's name and label table
 abbrev pub list_with : MapText → List Entry → ListModel
 list_with m items = record { version = m.version; name = m.name; prefixes = map (prefix_of m.labels) items; table = m.labels }

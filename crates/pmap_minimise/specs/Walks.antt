@@ -21,7 +21,7 @@ use Rattle.pmap_minimise.specs.declared.walks.Due.{Due}
 
 -- The walks over a trie's nodes, each with a stack.
 
--- the trees of the nodes that follow the first node, one after the other, and those from a node's number on
+-- the trees with the first one's root replaced by its halves, and the trees of a tree's nodes from a number on
 abbrev pub from_next : List Tree → List Tree
 from_next [] = []
 from_next (Tip label ∷ trees) = trees
@@ -31,8 +31,7 @@ abbrev pub trees_from : Tree → ℕ → List Tree
 trees_from tree zero = tree ∷ []
 trees_from tree (suc number) = from_next (trees_from tree number)
 
--- A stack, whose top is the last item: each item is that of its lines, which end at `to`, and the lines of those below
--- it come before them.
+-- A stack, whose top is the last item. The lines of the top end at `to`, and those of the items below come before them.
 pub record IsOnTop {X : Type 0} (Is : X → ℕ → ℕ → Type 0) (Below : ℕ → List X → Type 0) (to : ℕ) (stack : List X) : Type 0 where
   pub from : ℕ
   pub rest : List X
@@ -45,7 +44,7 @@ abbrev pub AreStacked : {A X : Type 0} → (A → X → ℕ → ℕ → Type 0) 
 AreStacked Is [] to stack = (to ≡ 0) × (stack ≡ [])
 AreStacked Is (item ∷ items) to stack = IsOnTop (Is item) (AreStacked Is items) to stack
 
--- this is the claim of the tree's node, whose lines these are
+-- the claim is that of the tree's node, whose lines are those from `from` to before `to`
 pub record IsClaimOf (b : Built) (tree : Tree) (claim : Claim) (from to : ℕ) : Type 0 where
   pub node : Node
   pub node_is : IsNodeFor tree node
@@ -54,7 +53,7 @@ pub record IsClaimOf (b : Built) (tree : Tree) (claim : Claim) (from to : ℕ) :
   pub set_is : IsHeld b.sets claim.set (set_of node)
   pub rising : IsRising (2 ^ 32) 0 (set_of node)
 
--- the lines are those of the trie's nodes from a number on, and the claims those that no node above has taken
+-- the lines are those of the trie's nodes from `number` on, and the claims are those that no parent has taken yet
 pub record IsClaimedFrom (t : TrieModel) (number : ℕ) (b : Built) (claims : List Claim) : Type 0 where
   pub of : IsOfTree t
   pub labelled : IsLabelled of.tree
@@ -67,12 +66,12 @@ pub record IsClaimed (version : Version) (leaves : List LeafModel) (b : Built) (
   pub certified : IsCertified 0 0 (width_of version) leaves node
   pub at : IsAt b node node 0 (length b.lines.items)
 
--- the node of the block that is due has these lines
+-- the node of the due block has the lines from `from` to before `to`
 pub record IsDueFor (b : Built) (node : Node) (due : Due) (from to : ℕ) : Type 0 where
   pub at : IsAt b node node from to
   pub sound : IsSound node (width_of due.block.version - due.block.len)
 
--- the new entries are the old ones and those of the nodes for the blocks that are due, the last one first
+-- the new entries are the old ones and those of the due blocks' nodes, from the top of the stack down
 pub record AddsFirst (node : Node) (Rest : List Due → List Entry → List Entry → Type 0) (due : List Due) (old new : List Entry) : Type 0 where
   pub rest : List Due
   pub top : Due
@@ -90,7 +89,7 @@ abbrev pub all_lines : List Node → List DueLine
 all_lines [] = []
 all_lines (node ∷ nodes) = lines_of node ++ all_lines nodes
 
--- so many lines are left, and with those of their nodes the entries and the lines become the root's
+-- `left` lines aren't read yet; what their nodes add completes the entries and the lines of the root
 pub record IsChosenFrom (b : Built) (version : Version) (root : Node) (left : ℕ) (entries : List Entry) (lines : List DueLine) (due : List Due) : Type 0 where
   pub block : Block
   pub whole : IsWhole version block

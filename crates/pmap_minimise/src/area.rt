@@ -1,4 +1,4 @@
-//! Blocks of addresses with the stretches that have their ends, and the runs down from them.
+//! Blocks with the stretches at their ends, and runs: steps down to the half whose sibling has the side label alone.
 ghost use Rattle.std.specs.Prelude.{◌≡◌, ◌+◌, ◌^◌, ◌<◌, ◌≤◌, ◌↔◌, IfSome, IsTrue, MatchOption, Some, length, option_map};
 ghost use Rattle.prefix_keys.specs.Version.{width_of};
 ghost use Rattle.pmap_minimise.specs.Areas.{AreHalvesOf, HasLabel, IsArea, IsRunTo, IsStep, IsStop, own_label};
@@ -7,7 +7,7 @@ ghost use Rattle.pmap_text.specs.Stretches.{HoldsAddress};
 use pmap_text::{LabelId, Stretches};
 use prefix_keys::{Addr, block_of};
 
-/// A block of addresses, and the indices of the stretches that have its first and its last address.
+/// A block with a prefix of `len` bits. The stretches `from` and `to` have its addresses `first` and `last`.
 #[derive(Clone, Copy)]
 pub struct Area {
     pub first: u128,
@@ -17,7 +17,7 @@ pub struct Area {
     pub to: usize,
 }
 
-/// The label of a block in one stretch.
+/// Returns the label of a block in one stretch, or `None` if the block has addresses of two stretches or more.
 #[inline(always)]
 pub fn own_label(stretches: &Stretches, area: &Area) -> Option<LabelId>
     requires { IsArea stretches.now area.now }
@@ -30,7 +30,7 @@ pub fn own_label(stretches: &Stretches, area: &Area) -> Option<LabelId>
     }
 }
 
-// Whether a stretch has this label.
+// Returns whether the stretch `at` has this label.
 #[inline(always)]
 fn is_side(stretches: &Stretches, at: usize, side: LabelId) -> bool
     requires { at < length stretches.now.firsts }
@@ -42,7 +42,7 @@ fn is_side(stretches: &Stretches, at: usize, side: LabelId) -> bool
     }
 }
 
-// Whether a block is in one stretch, and has this label.
+// Returns whether a block is in one stretch, and that stretch has this label.
 fn has_side(stretches: &Stretches, area: &Area, side: LabelId) -> bool
     requires { IsArea stretches.now area.now }
     ensures { IsTrue result ↔ (own_label stretches.now area.now ≡ Some side.0) }
@@ -50,7 +50,7 @@ fn has_side(stretches: &Stretches, area: &Area, side: LabelId) -> bool
     area.from == area.to && is_side(stretches, area.from, side)
 }
 
-// The index of the stretch that has the next address.
+// Returns the index of the stretch with the address after `address`, which the stretch `at` has.
 #[inline(always)]
 fn next_index(stretches: &Stretches, at: usize, address: u128) -> usize
     requires holds { HoldsAddress stretches.now address at }
@@ -66,7 +66,7 @@ fn next_index(stretches: &Stretches, at: usize, address: u128) -> usize
     }
 }
 
-// The index of the stretch that has an address of a block: most often the first or the last one.
+// Returns the index of the stretch with this address of a block. It is most often the first or the last one.
 #[inline(always)]
 fn index_of(stretches: &Stretches, area: &Area, address: u128) -> usize
     requires area { IsArea stretches.now area.now }
@@ -85,7 +85,7 @@ fn index_of(stretches: &Stretches, area: &Area, address: u128) -> usize
     stretches.find(area.from, area.to, address)
 }
 
-/// The halves of a block that has addresses of two stretches or more.
+/// Returns the halves, the lower first, of a block that has addresses of two stretches or more.
 #[inline(always)]
 pub fn halves(stretches: &Stretches, area: &Area) -> (Area, Area)
     requires area { IsArea stretches.now area.now }
@@ -112,7 +112,7 @@ pub fn halves(stretches: &Stretches, area: &Area) -> (Area, Area)
     (low, high)
 }
 
-// The step of a run of the side label: the chosen half, or `None` if the run ends.
+// Takes a step of the run of the side label. Returns the chosen half, or `None` if the run ends at this block.
 fn step(stretches: &Stretches, area: &Area, side: LabelId) -> Option<Area>
     requires { IsArea stretches.now area.now }
     ensures { MatchOption result (IsStop stretches.now side.0 area.now)
@@ -131,7 +131,7 @@ fn step(stretches: &Stretches, area: &Area, side: LabelId) -> Option<Area>
     }
 }
 
-// The block at the end of the run of the side label, found bit by bit.
+// Returns the block at the end of the run of the side label, found bit by bit.
 #[inline(never)]
 fn stepwise_end(stretches: &Stretches, area: &Area, side: LabelId) -> Area
     requires { IsArea stretches.now area.now }
@@ -143,9 +143,9 @@ fn stepwise_end(stretches: &Stretches, area: &Area, side: LabelId) -> Area
     }
 }
 
-// The block at the end of the run of the side label, found in one step: the smallest block with all addresses that are
-// not in the first or last stretch of this block if that stretch has the side label. Returns `None` if the addresses
-// inside begin or end with one more stretch that has it.
+// Finds the end of the run of the side label in one step: the smallest block with all addresses of `area` but those of
+// a first or last stretch that has the side label. Returns `None` if `area` is in one stretch, or if the remaining
+// addresses begin or end with another stretch that has the side label.
 #[inline(always)]
 fn direct_end(stretches: &Stretches, area: &Area, side: LabelId) -> Option<Area>
     requires { IsArea stretches.now area.now }
@@ -180,7 +180,7 @@ fn direct_end(stretches: &Stretches, area: &Area, side: LabelId) -> Option<Area>
     })
 }
 
-/// The block at the end of the run of the side label.
+/// Returns the block at the end of the run of the side label.
 #[inline(always)]
 pub fn run_end(stretches: &Stretches, area: &Area, side: LabelId) -> Area
     requires { IsArea stretches.now area.now }

@@ -1,4 +1,4 @@
-//! The nodes of the compact certificate of a map's minimal pair, from the map's stretches.
+//! Builds the nodes of the compact certificate of a map's minimal pair from the map's stretches.
 ghost use Rattle.std.specs.Prelude.{◌≡◌, ◌+◌, ◌^◌, ◌<◌, IfOk, MatchOption, if◌then◌else◌, option_map};
 ghost use Rattle.std.specs.Option.{option_or};
 ghost use Rattle.pmap_cert.specs.Packed.{HasSet};
@@ -16,7 +16,7 @@ use pmap_text::{LabelId, MapText, Stretches};
 use std::alloc::{AllocError, Global};
 use std::slice;
 
-/// Adds the line of a leaf.
+/// Adds the line of a leaf, and returns its claim: the cost 0 and its label.
 pub fn push_leaf(built: &mut Built, id: LabelId) -> Result<Claim, AllocError>
     ensures { IfOk result (AddsLeaf id built.old built.new) }
 {
@@ -25,7 +25,7 @@ pub fn push_leaf(built: &mut Built, id: LabelId) -> Result<Claim, AllocError>
     Ok(Claim { cost: 0, set })
 }
 
-/// Adds the line of an inner node, whose halves claim these: it claims their exact pair.
+/// Adds the line of an inner node whose halves claim `low` and `high`, and returns its claim: their exact pair.
 pub fn push_inner(
     alloc: Global,
     built: &mut Built,
@@ -44,7 +44,7 @@ pub fn push_inner(
     Ok(Claim { cost, set })
 }
 
-// What a chain claims to cost, by what its end claims.
+// Returns the cost of a chain, by the set and the cost of its end.
 fn chain_cost(set: &[LabelId], cost: u32, side: LabelId) -> u32
     requires { cost + 1 < 2 ^ 32 }
     ensures { result ≡ (if has_number (numbers_of set.now) side.0 then cost else cost + 1) }
@@ -52,7 +52,7 @@ fn chain_cost(set: &[LabelId], cost: u32, side: LabelId) -> u32
     if has_label(set, side) { cost } else { cost + 1 }
 }
 
-// Adds the line of a chain with so many bits to the block with the number `end`, whose node claims this.
+// Adds the line of a chain of `bits` bits to the block with the number `end`, whose node claims `below`.
 fn push_chain(
     built: &mut Built,
     below: Claim,
@@ -80,7 +80,7 @@ fn push_chain(
     Ok(Claim { cost, set })
 }
 
-// Adds the lines of a block.
+// Adds the lines of a block, and returns the claim of its node.
 #[cycle(area)]
 #[inline(always)]
 fn push_area(
@@ -101,7 +101,7 @@ fn push_area(
     push_leaf(built, id)
 }
 
-// Adds the lines of a block with addresses of two stretches or more.
+// Adds the lines of a block with addresses of two stretches or more, and returns the claim of its node.
 #[cycle(area)]
 fn push_divided(
     alloc: Global,
@@ -133,7 +133,7 @@ fn push_divided(
     }
 }
 
-// The number of a block among those with as many bits, of which there is at least one.
+// Returns the number of a block among the blocks of its size. The block is not the whole address space.
 fn number_of(stretches: &Stretches, area: &Area) -> u128
     requires area { IsArea stretches.now area.now }
     requires some { 0 < area.now.len }
@@ -142,7 +142,7 @@ fn number_of(stretches: &Stretches, area: &Area) -> u128
     area.first >> (stretches.version().width() - area.len)
 }
 
-// The side label and the end of the run from the block with these halves, if it has two bits or more.
+// Returns the side label and the end of the run from the block with these halves, if the run has two bits or more.
 #[inline(always)]
 fn run_of(stretches: &Stretches, area: &Area, low: &Area, high: &Area) -> Option<(LabelId, Area)>
     requires area { IsArea stretches.now area.now }
@@ -162,7 +162,7 @@ fn run_of(stretches: &Stretches, area: &Area, low: &Area, high: &Area) -> Option
     Some((side, end))
 }
 
-// The side label of the run from the block with these halves.
+// Returns the side label of the run from the block with these halves: the first label that a half has alone.
 #[inline(always)]
 fn side_of(stretches: &Stretches, low: &Area, high: &Area) -> Option<LabelId>
     requires low { IsArea stretches.now low.now }
@@ -176,7 +176,7 @@ fn side_of(stretches: &Stretches, low: &Area, high: &Area) -> Option<LabelId>
     }
 }
 
-/// The nodes of the compact certificate of a map's minimal pair.
+/// Builds the nodes of the compact certificate of a map's minimal pair.
 pub fn built(alloc: Global, map: &MapText) -> Result<Built, AllocError>
     ensures { IfOk result (IsBuiltFor map.now) }
 {

@@ -1,15 +1,15 @@
 use pmap_cert::{SetId, SetPool};
 use pmap_text::LabelId;
 
-/// What a node claims.
+/// The claim of a node: its cost, and the id of its set of labels.
 #[derive(Clone, Copy)]
 pub struct Claim {
     pub cost: u32,
     pub set: SetId,
 }
 
-/// A chain: its cost and its side label, the number of the block at its end among those with as many bits, and how many
-/// bits it has, which are the last ones of that number. Its set is the side label alone.
+/// A chain with its cost, its side label, the number of the block at its end among the blocks of that size, and the
+/// count of its bits, which are the last ones of that number. Its set is the side label alone.
 #[derive(Clone, Copy)]
 pub struct Chain {
     pub cost: u32,
@@ -18,8 +18,8 @@ pub struct Chain {
     pub bits: u32,
 }
 
-/// The line of a certificate's node: a leaf with its label, an inner node with its cost and its set, or the chain with
-/// this number.
+/// The line of a node: a leaf with its label, an inner node with its cost and its set, or the index of a chain in
+/// [`Built::chains`].
 #[derive(Clone, Copy)]
 pub enum Line {
     Leaf(LabelId),
@@ -27,8 +27,8 @@ pub enum Line {
     Chain(u32),
 }
 
-/// The nodes of a compact certificate. A node's line follows those of its halves, the higher half's first, so the
-/// root's is the last.
+/// The nodes of a compact certificate. The line of a node follows those of the nodes below it, the higher half's first,
+/// so the root's line is the last.
 #[derive(Drop)]
 pub struct Built {
     pub lines: Vec<Line>,

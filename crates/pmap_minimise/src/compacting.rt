@@ -1,4 +1,4 @@
-//! The compact certificate's nodes by what was built.
+//! Turns what was built into the nodes of the compact certificate.
 ghost use Rattle.std.specs.Prelude.{◌≡◌, ℕ, ◌++◌, ◌≤◌, List, IfOk, OnOk};
 ghost use Rattle.prefix_keys.specs.declared.version.Version.{Version as AnyVersion};
 ghost use Rattle.pmap_cert.specs.Node.{Node};
@@ -12,7 +12,7 @@ use pmap_cert::{Nodes, Root};
 use std::alloc::{AllocError, Global};
 use std::slice;
 
-// Adds the bits of a chain.
+// Appends the bits of a chain, from the top down.
 fn push_way(bits: &mut Vec<bool>, chain: &Chain) -> Result<(), AllocError>
     requires { chain.now.bits ≤ 128 }
     ensures { OnOk result (bits.new.items ≡ bits.old.items ++ way_to chain.now.end chain.now.bits) }
@@ -23,7 +23,7 @@ fn push_way(bits: &mut Vec<bool>, chain: &Chain) -> Result<(), AllocError>
     Ok(())
 }
 
-// Adds the node whose lines end here, and returns where they begin.
+// Adds the node whose lines end before the index `to`, and returns the index at which they begin.
 fn push_node(
     out: &mut Nodes,
     bits: &mut Vec<bool>,
@@ -59,7 +59,7 @@ fn push_node(
     }
 }
 
-/// The root of what was built.
+/// Returns the root of the compact certificate that was built.
 pub fn compacted(alloc: Global, built: &Built) -> Result<Root, AllocError>
     requires { (version : AnyVersion) × (leaves : List LeafModel) × (node : Node)
         × IsBuiltOf version leaves built.now node }

@@ -1,4 +1,4 @@
-//! The own entry of a certificate's node, and the label that it passes on.
+//! The own entry of a certificate's node, and the label that the node passes on.
 ghost use Rattle.std.specs.Prelude.{◌≡◌, ◌<◌, ◌==◌, IfOk, length};
 ghost use Rattle.std.specs.List.{list_any};
 ghost use Rattle.pmap_minimise.specs.Numbers.{IsOwn, keeps};
@@ -7,14 +7,14 @@ use pmap_text::{Entry, LabelId};
 use prefix_keys::Block;
 use std::alloc::AllocError;
 
-/// Whether the label is one of these.
+/// Returns whether the label is one of `labels`.
 pub fn has_label(labels: &[LabelId], id: LabelId) -> bool
     ensures { result ≡ list_any (λ label. id.0 == label.0) labels.now }
 {
     labels.iter().any(|label| id.0 == label.0)
 }
 
-// Whether the inherited label, if there is one, is one of these.
+// Returns whether there is an inherited label and it is one of `labels`.
 fn has_inherited(labels: &[LabelId], inherited: Option<LabelId>) -> bool
     ensures { result ≡ keeps labels.now inherited }
 {

@@ -14,9 +14,9 @@
 //!
 //! It depends on label_trie (the map's trie), pmap_cert (certificates, and the laws on minimal pairs), pmap_text (maps
 //! and lists) and `smallvec` for small sets of labels. The layer above may rely on `minimise`: the list and the
-//! certificate are the map's minimal pair, so the list is equivalent to the map, has one entry more than the root's
-//! cost, no equivalent list has fewer, and the certificate is accepted for the two. `shortest` returns the list alone,
-//! `certificate_text` the text of the certificate, and `compact_text` that of the certificate compacted.
+//! certificate are the map's minimal pair. So the list is equivalent to the map, it has one entry more than the root's
+//! cost, no equivalent list has fewer, and the certificate is accepted for both. `shortest` returns the list alone,
+//! `certificate_text` the text of the certificate, and `compact_text` the text of the compacted certificate.
 #![tactic(auto)]
 
 mod area;

@@ -1,4 +1,4 @@
-//! The entries of a map's shortest list, from the root down, by the compact certificate that was built.
+//! Reads the entries of a map's shortest list off the compact certificate that was built, from the root down.
 ghost use Rattle.std.specs.Prelude.{◌+◌, ◌-◌, ◌≤◌, ℕ, List, IfOk};
 ghost use Rattle.prefix_keys.specs.Version.{width_of};
 ghost use Rattle.pmap_cert.specs.Node.{Node};
@@ -14,7 +14,7 @@ use prefix_keys::{Block, Version, whole_space};
 use std::alloc::{AllocError, Global};
 use std::slice;
 
-// The block to which a way of so many bits leads from a block, by the last digits of its number.
+// Returns the block `bits` levels below `block`. The last `bits` bits of `number` choose the halves.
 fn end_block(block: Block, number: u128, bits: u32) -> Block
     requires deep { block.len + bits ≤ width_of block.version }
     ensures { IsDown number bits block result }
@@ -31,7 +31,7 @@ fn end_block(block: Block, number: u128, bits: u32) -> Block
     }
 }
 
-// Adds the entries of the node whose lines end here and which represents the block, and returns where they begin.
+// Adds the entries of the node for the block `here`, whose lines end before `to`, and returns where the lines begin.
 fn push_entries(
     entries: &mut Vec<Entry>,
     built: &Built,
@@ -66,7 +66,7 @@ fn push_entries(
     }
 }
 
-/// The entries of the shortest list by what was built, by rising first address.
+/// Returns the entries of the shortest list by rising first address, by the certificate that was built.
 pub fn listed(alloc: Global, built: &Built, version: Version) -> Result<Vec<Entry>, AllocError>
     requires { (leaves : List LeafModel) × (node : Node) × IsBuiltOf version leaves built.now node }
     ensures { IfOk result (λ entries. (leaves : List LeafModel) (node : Node)

@@ -32,23 +32,23 @@ pub struct Minimal {
     pub certificate: Certificate,
 }
 
-/// The shortest prefix list that labels every address as the map does, with its certificate. The list has the map's
-/// name, and both have the map's label table. The trie is the map's, as `Trie::build` makes it.
+/// Returns a shortest prefix list that labels every address as the map does, with its certificate. The list has the
+/// map's name, and both have the map's label table. `trie` is the map's trie, as `Trie::build` returns it.
 pub fn minimise(alloc: Global, map: &MapText, trie: &Trie) -> Result<Minimal, AllocError>
     requires version { trie.now.version ≡ map.now.version }
     requires settled { All (IsSettledLeaf (map_of map.now)) trie.now.leaves }
     requires undivided { All (IsUndivided (map_of map.now)) trie.now.leaves }
-    // They are the map's minimal pair.
+    // The list and the certificate are the map's minimal pair.
     ensures minimal { IfOk result (λ m. IsMinimalPair (map_of map.now) (list_of m.list)
         (certificate_of m.certificate)) }
     ensures cost { IfOk result (λ m. m.root_cost ≡ (claim_of (certificate_of m.certificate).root).cost) }
-    // So the list labels every address as the map does, and none that does so is shorter.
+    // The list labels every address as the map does, and no shorter list does.
     ensures equivalent { IfOk result (λ m. IsEquivalent (list_of m.list) (map_of map.now)) }
     ensures count { IfOk result (λ m. length m.list.entries ≡ m.root_cost + 1) }
     ensures least { IfOk result (λ m. IsLeast (map_of map.now) (list_of m.list)) }
     // The certificate is accepted for the map and the list.
     ensures accepted { IfOk result (λ m. IsAccepted (map_of map.now) (list_of m.list) (certificate_of m.certificate)) }
-    // The entries are blocks by rising first address, of one address the shorter first.
+    // The entries are in order of their first addresses. Of two with the same one, the shorter prefix is first.
     ensures order { IfOk result (λ m. HasListForm (list_of m.list)) }
 {
     // Provides the laws that a minimal pair is accepted, and that the table's labels are distinct.
@@ -68,16 +68,16 @@ pub fn minimise(alloc: Global, map: &MapText, trie: &Trie) -> Result<Minimal, Al
     })
 }
 
-/// The list of `minimise` alone, which is made without a trie and without the certificate's nodes: a shortest prefix
-/// list that labels every address as the map does, with the map's name and label table.
+/// Returns the list of `minimise`, made without a trie and without the certificate's nodes: a shortest prefix list that
+/// labels every address as the map does, with the map's name and label table.
 pub fn shortest(alloc: Global, map: &MapText) -> Result<PrefixList, AllocError>
-    // With a certificate, which has a text, it is the map's minimal pair.
+    // The list and a certificate that has a text are the map's minimal pair.
     ensures minimal { IfOk result (λ list. (c : CertificateModel) × IsMinimalPair (map_of map.now) (list_of list) c
         × HasTextForm c) }
-    // So it labels every address as the map does, and none that does so is shorter.
+    // The list labels every address as the map does, and no shorter list does.
     ensures equivalent { IfOk result (λ list. IsEquivalent (list_of list) (map_of map.now)) }
     ensures least { IfOk result (λ list. IsLeast (map_of map.now) (list_of list)) }
-    // The entries are blocks by rising first address, of one address the shorter first.
+    // The entries are in order of their first addresses. Of two with the same one, the shorter prefix is first.
     ensures order { IfOk result (λ list. HasListForm (list_of list)) }
 {
     // Provides the laws that a minimal pair is accepted, and that the table's labels are distinct.
@@ -89,8 +89,7 @@ pub fn shortest(alloc: Global, map: &MapText) -> Result<PrefixList, AllocError>
     Ok(list)
 }
 
-/// The text of the certificate of `minimise` alone, which is made without the list and without a node for each line of
-/// it.
+/// Returns the text of the certificate of `minimise`, made without the list and without a node for each of its lines.
 pub fn certificate_text(alloc: Global, map: &MapText) -> Result<Vec<u8>, AllocError>
     // It is the text of the certificate of the map's minimal pair.
     ensures { IfOk result (λ text. (l : ListModel) × (c : CertificateModel) × IsMinimalPair (map_of map.now) l c
@@ -105,8 +104,8 @@ pub fn certificate_text(alloc: Global, map: &MapText) -> Result<Vec<u8>, AllocEr
     Ok(out)
 }
 
-/// The text of the certificate of `minimise` compacted, which is made without a trie, without the list and without the
-/// nodes of the certificate that it compacts.
+/// Returns the text of the compacted certificate of `minimise`, made without a trie, without the list and without the
+/// nodes of the certificate that isn't compacted.
 pub fn compact_text(alloc: Global, map: &MapText) -> Result<Vec<u8>, AllocError>
     // It is the text of the certificate of the map's minimal pair, compacted.
     ensures { IfOk result (λ text. (l : ListModel) × (c : CertificateModel) × IsMinimalPair (map_of map.now) l c
@@ -121,7 +120,7 @@ pub fn compact_text(alloc: Global, map: &MapText) -> Result<Vec<u8>, AllocError>
     write_cert(alloc, &certificate)
 }
 
-// The list of the map's name and table with these entries.
+// Returns the prefix list with these entries and the map's name and label table.
 fn list_with(alloc: Global, map: &MapText, items: Vec<Entry>) -> Result<PrefixList, AllocError>
     requires versions { All (λ e. e.block.version ≡ map.now.version) items.items }
     requires known { All (λ e. e.label.0 < length map.now.labels) items.items }
@@ -138,7 +137,6 @@ fn list_with(alloc: Global, map: &MapText, items: Vec<Entry>) -> Result<PrefixLi
     })
 }
 
-// Copies a name.
 fn copy_name(alloc: Global, name: &Option<Name>) -> Result<Option<Name>, AllocError>
     ensures { IfOk result (λ copy. copy ≡ name.now) }
 {

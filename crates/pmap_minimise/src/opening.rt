@@ -1,4 +1,4 @@
-//! The lines of the certificate's nodes, with each chain of what was built opened.
+//! Writes the lines of the nodes that were built, with each chain opened.
 ghost use Rattle.std.specs.Prelude.{◌≡◌, ℕ, ◌+◌, ◌++◌, ◌∷◌, ◌≤◌, [], IfOk, OnOk, length};
 ghost use Rattle.pmap_cert.specs.CertificateText.{inner_line};
 ghost use Rattle.pmap_cert.specs.Node.{Node, set_of};
@@ -13,7 +13,7 @@ use pmap_text::LabelId;
 use std::alloc::{AllocError, Global};
 use std::slice;
 
-// Adds the labels of a set with one more label, in rising order.
+// Appends the labels of a set with one more label, in rising order.
 fn push_with(all: &mut Vec<LabelId>, set: &[LabelId], side: LabelId) -> Result<(), AllocError>
     ensures { OnOk result (numbers_of all.new.items
         ≡ numbers_of all.old.items ++ with_number side.0 (numbers_of set.now)) }
@@ -32,8 +32,8 @@ fn push_with(all: &mut Vec<LabelId>, set: &[LabelId], side: LabelId) -> Result<(
     Ok(())
 }
 
-// Appends the line of a node on the way down a chain, by the set of the chain's end and how many nodes follow on the
-// way. The labels in `all` are replaced.
+// Appends the line of a node on the way down a chain. `end` is the set of the chain's end, and `more` nodes follow on
+// the way. Replaces the labels in `all`.
 #[inline(always)]
 fn push_way_line(
     out: &mut Vec<u8>,
@@ -53,7 +53,7 @@ fn push_way_line(
     push_inner_line(out, chain.cost, all.as_slice())
 }
 
-// Appends the lines on the way down a chain, of its nodes and of the side blocks before its end, by the set of the end.
+// Appends the lines of a chain's nodes, and of the side blocks before its end. `end` is the set of the chain's end.
 fn push_down(
     out: &mut Vec<u8>,
     all: &mut Vec<LabelId>,
@@ -86,7 +86,7 @@ fn push_up(out: &mut Vec<u8>, chain: &Chain) -> Result<(), AllocError>
     Ok(())
 }
 
-// The set of the node whose lines end here.
+// Returns the set of the node whose lines end before the index `to`.
 fn set_to(built: &Built, to: usize) -> &[LabelId]
     requires { HasLinesTo built.now to }
     ensures { (compact node : Node) (start : ℕ) → IsAt built.now compact node start to
@@ -99,8 +99,8 @@ fn set_to(built: &Built, to: usize) -> &[LabelId]
     }
 }
 
-// Appends the lines of the node whose lines end here, opened, and returns where they begin. The labels in `all` are
-// replaced.
+// Appends the text of the node whose lines end before the index `to`, with its chains opened. Returns the index at
+// which the lines begin. Replaces the labels in `all`.
 fn push_node(
     out: &mut Vec<u8>,
     all: &mut Vec<LabelId>,
@@ -131,7 +131,7 @@ fn push_node(
     }
 }
 
-/// Appends the lines of the node whose lines end here, opened, and returns where they begin.
+/// Appends the text of the node whose lines end before `to`, with chains opened. Returns where the lines begin.
 pub fn push_text(
     out: &mut Vec<u8>,
     alloc: Global,

@@ -10,7 +10,7 @@ use pmap_text::LabelId;
 use smallvec::SmallVec;
 use std::alloc::{AllocError, Global};
 
-// A set of labels that is being made. Most sets have few labels, and are made without an allocation.
+// A set of labels. Most sets have at most 8 labels, and need no allocation.
 type SmallSet = SmallVec<LabelId, 8>;
 
 // Returns the labels that both sets have.
@@ -40,7 +40,7 @@ fn common(alloc: Global, low: &[LabelId], high: &[LabelId]) -> Result<SmallSet, 
     Ok(set)
 }
 
-// Returns the labels that one of the sets has, or both.
+// Returns the labels that either set has.
 fn either(alloc: Global, low: &[LabelId], high: &[LabelId]) -> Result<SmallSet, AllocError>
     requires low { IsRising (2 ^ 32) 0 (numbers_of low.now) }
     requires high { IsRising (2 ^ 32) 0 (numbers_of high.now) }
@@ -71,8 +71,8 @@ fn either(alloc: Global, low: &[LabelId], high: &[LabelId]) -> Result<SmallSet, 
     Ok(set)
 }
 
-// Returns the exact set of two halves that claim these: the labels that both have, or, if there are none, those that
-// one of them has. With it comes whether they have none in common.
+// Returns the exact set of two halves with these sets: the labels that both have or, if there are none, those that
+// either has. The flag is whether the sets have no label in common.
 fn exact_set(
     alloc: Global,
     sets: &SetPool,
@@ -95,7 +95,7 @@ fn exact_set(
     Ok((shared, false))
 }
 
-/// Keeps the exact set of two halves, and returns its id, and whether the halves' sets are apart.
+/// Keeps the exact set of two halves. Returns its id, and whether the sets of the halves have no label in common.
 pub fn joined(
     alloc: Global,
     sets: &mut SetPool,

@@ -1,5 +1,5 @@
-//! The minimal pair by a map's trie, in two walks over its nodes: what they claim, from the last node to the first, and
-//! then the entries and the certificate's nodes, from the first node to the last.
+//! Finds the minimal pair of a map by two walks over its trie: from the last node to the first what the nodes claim,
+//! then from the first node to the last the entries and the certificate's nodes.
 ghost use Rattle.std.specs.Prelude.{◌≡◌, ◌+◌, ◌<◌, ◌++◌, ◌∷◌, List, [], All, IfOk, IsSome, OnOk, length};
 ghost use Rattle.prefix_keys.specs.declared.version.Version.{Version as AnyVersion};
 ghost use Rattle.pmap_cert.specs.Node.{Node};
@@ -17,7 +17,7 @@ use prefix_keys::{Block, Version, whole_space};
 use std::alloc::{AllocError, Global};
 use std::slice;
 
-/// A block whose node comes later, and the label that the node inherits.
+/// A block whose node comes later, and the label that the node inherits, if any.
 #[derive(Clone, Copy)]
 pub struct Due {
     pub block: Block,
@@ -35,7 +35,7 @@ fn pop<T>(stack: &mut Vec<T>) -> T
     }
 }
 
-// Adds the line of the node with this number, and takes the claims of its halves, if it has some, from the stack.
+// Adds the line of the node with this number, and returns its claim. Takes its halves' claims from the stack.
 fn push_node(
     alloc: Global,
     built: &mut Built,
@@ -57,8 +57,8 @@ fn push_node(
     }
 }
 
-/// The lines of a trie's nodes with what they claim, from the last node to the first: a leaf the cost 0 and its label,
-/// an inner node the exact pair of its halves.
+/// Returns the lines of a trie's nodes, from the last node to the first. A leaf claims the cost 0 and its label, an
+/// inner node the exact pair of its halves.
 pub fn claimed(alloc: Global, trie: &Trie) -> Result<Built, AllocError>
     requires { All (λ leaf. IsSome leaf.label) trie.now.leaves }
     ensures { IfOk result (λ built. (node : Node) × IsClaimed trie.now.version trie.now.leaves built node) }
@@ -78,8 +78,8 @@ pub fn claimed(alloc: Global, trie: &Trie) -> Result<Built, AllocError>
     Ok(built)
 }
 
-// Adds the own entry of the node whose line has this number, if the node has one, and the node's line. Then the halves
-// of its block are due. They inherit the label of that entry, or the label that the node inherits.
+// Adds the line and the own entry, if any, of the node whose line has this index. The halves of an inner node's block
+// are then due, and inherit the label that the node passes on.
 fn push_chosen(
     entries: &mut Vec<Entry>,
     nodes: &mut Nodes,
@@ -119,8 +119,8 @@ fn push_chosen(
     }
 }
 
-/// The entries of the shortest list, by rising first address, and the root of the certificate, by the lines of a trie's
-/// nodes: from the first node to the last.
+/// Returns the entries of the shortest list, by rising first address, and the root of the certificate, by the lines
+/// that `claimed` returned.
 pub fn chosen(
     alloc: Global,
     built: &Built,

@@ -71,7 +71,7 @@ lines-feed version name ps label each =
     (All-map (Lacks 10) (entry_line version) ps
     (All-weaker (IsPrintedEntry version) (λ p. Lacks 10 (entry_line version p)) (entry-feed version) ps each)))
 
--- other blocks begin elsewhere or have another length
+-- entries that begin alike have the same block, so entries with distinct blocks don't begin alike
 alike-same : (W : ℕ) (p r : Prefix) → starts_alike p r ≡ true → is_same_prefix W p r ≡ true
 alike-same W p r e =
     let parts = and_parts (p.start == r.start) (p.bits == r.bits) e in
@@ -87,7 +87,7 @@ alike-distinct W ps distinct =
     (λ e. both_ways (is_same_prefix W (get_or ps i d) (get_or ps j d)) (apart_from_distinct (is_same_prefix W) ps i j d distinct under within)
     (alike-same W (get_or ps i d) (get_or ps j d) e)))
 
--- the label of an address that no entry covers
+-- an address that no entry covers has no label
 none-label : (W a : ℕ) (ps : List Prefix) → All (λ p. ¬ CoversAddress W a p) ps → label_below W ps (suc W) a ≡ None
 none-label W a ps none = by (label_below W ps (suc W) a) refl (longest-match W ps a)
   where
@@ -98,7 +98,7 @@ none-label W a ps none = by (label_below W ps (suc W) a) refl (longest-match W p
     by (Some x) e match =
         absurd (All-contains (λ p. ¬ CoversAddress W a p) ps match.0 none (match-in W a ps match.0 match.1) ((match.1).covers))
 
--- the last statement has the label of the longest match
+-- the last statement that covers an address has the label of the longest match
 found-label : (W a : ℕ) (ps : List Prefix)
     → ((last_such (spans a) (map (mapping_of_prefix W) ps) ≡ None) × All (λ p. ¬ CoversAddress W a p) ps)
     ⊎ ((p : Prefix) × (last_such (spans a) (map (mapping_of_prefix W) ps) ≡ Some (mapping_of_prefix W p)) × IsLongestMatch W ps a p)
@@ -119,7 +119,7 @@ module _ (l : ListModel) (can : CanBeReadAgain l) where
   each : All (IsPrintedEntry l.version) (in_order l.prefixes)
   each = All-permutation (IsPrintedEntry l.version) l.prefixes (in_order l.prefixes) moved can.form.entries
 
-  -- what its lines say
+  -- what the lines of the list's text say
   read : (kind : Form) → (es : List Entry)
       × (entries_from kind [] 0 (lines_of (list_text l)) ≡ Ok es)
       × HasRead kind l.version l.name (earlier_of es) (in_order l.prefixes)
@@ -144,7 +144,7 @@ module _ (l : ListModel) (can : CanBeReadAgain l) where
         },
       )
 
-  -- the entries in order label as the list does
+  -- the entries in order label each address as the list does
   pub order-label : (a : ℕ) → list_label l a ≡ label_below (width_of l.version) (in_order l.prefixes) (suc (width_of l.version)) a
   order-label a =
       label-same_prefixes (width_of l.version) l.prefixes (in_order l.prefixes) a (once-distinct (width_of l.version) l.prefixes can.form.distinct)
@@ -204,7 +204,7 @@ list-equivalent l m can alike =
       },
     )
 
--- a prefix list can be read again
+-- the printed text of a prefix list can be read again
 entry-printed : (l : PrefixList) → IsLabelTable l.labels → (k : ℕ) (d : ListEntry) → k < length l.entries
     → IsPrintedEntry l.version (prefix_of l.labels (get_or l.entries k d))
 entry-printed l is k d below =

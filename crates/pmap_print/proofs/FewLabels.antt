@@ -16,7 +16,7 @@ use Rattle.pmap_text.specs.ListModel.{ListModel, Prefix}
 use Rattle.pmap_text.specs.MapModel.{Label, MapModel}
 use Rattle.pmap_print.specs.ReadBack.{labels_of}
 
--- texts are equal if they have the same bytes
+-- equality of texts is an equivalence
 same-flips : (x y : Label) → bytes_eq x y ≡ bytes_eq y x
 same-flips x y = by (bytes_eq x y) refl
   where
@@ -33,7 +33,7 @@ texts-equivalence = record {
   congr = λ x y z e. ap (λ (w : Label). bytes_eq w z) ((bytes_eq-Decides x y).0 e);
 }
 
--- each new text is added once, and is one of the whole table, so that they are no more than it has
+-- each new text is added once, and is in the whole table, so there are no more texts than the table has
 distinct-more : (table : List Label) (x : Label) → IsDistinct bytes_eq table → IsDistinct bytes_eq (with_label table x)
 distinct-more table x distinct = by (has table x) refl
   where

@@ -23,7 +23,7 @@ length-group_fields g count h = omega (arith, length-append (map part_text g.key
 abbrev pub first_lines : List KeyField → List GroupModel → ℕ → List Line
 first_lines fields groups count = group_titles fields ∷ map group_fields (take count groups)
 
--- one more group
+-- the lines with that of one more group
 pub line_added : (fields : List KeyField) (groups : List GroupModel) (i : ℕ) (g : GroupModel) → slice_get groups i ≡ Some g
     → first_lines fields groups i ++ group_fields g ∷ [] ≡ first_lines fields groups (i + 1)
 line_added fields groups i g at =
@@ -31,7 +31,7 @@ line_added fields groups i g at =
     take_more groups i g (slice_get_within groups i g at) ∙ ap (λ (x : GroupModel). take i groups ++ x ∷ []) (get_or_from_slice_get groups i g g at) in
     ap (λ (l : List Line). group_titles fields ∷ l) (sym (ap (map group_fields) more ∙ map_push group_fields (take i groups) g))
 
--- the group at an index has so many parts
+-- the line of the group at an index has `count` parts and three totals
 pub parts_at : (groups : List GroupModel) (count i : ℕ) (g : GroupModel) → All (λ g. length g.key ≡ count) groups → slice_get groups i ≡ Some g
     → length (group_fields g) ≡ count + 3
 parts_at groups count i g all at =
@@ -44,7 +44,7 @@ listed_at groups i d inside =
     slice_get-get_or (map group_model groups) i (group_model d) (omega (arith, inside, length-map groups group_model))
     ∙ ap Some (get_or-map group_model groups i d (group_model d) inside)
 
--- what all elements have, they have in order
+-- what holds of all elements holds of them in order
 module _ {X : Type 0} (lt : X → X → Bool) (P : X → Type 0) where
   All-with_in_order : (x : X) (ys : List X) → P x → All P ys → All P (with_in_order lt x ys)
   All-with_in_order x [] here all = All-cons P x [] here (All-nil P)
@@ -58,7 +58,7 @@ module _ {X : Type 0} (lt : X → X → Bool) (P : X → Type 0) where
   All-in_order [] all = all
   All-in_order (x ∷ xs) all = All-with_in_order x (in_order lt xs) (All-head P x xs all) (All-in_order xs (All-tail P x xs all))
 
--- shown groups have keys of so many parts
+-- the keys of shown groups have `count` parts
 pub shown_all : (count : ℕ) (sorted : Bool) (groups : List GroupModel) → All (λ g. length g.key ≡ count) groups
     → All (λ g. length g.key ≡ count) (shown_groups sorted groups)
 shown_all count true groups all = All-in_order is_before (λ (g : GroupModel). length g.key ≡ count) groups all

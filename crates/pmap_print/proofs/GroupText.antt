@@ -3,7 +3,7 @@ use Rattle.std.proofs.Common.{ℕ, ◌≡◌, ◌∙◌, List, [], ◌∷◌, �
 use Rattle.std.specs.List.{join_with_byte}
 use Rattle.pmap_print.specs.Table.{Line, Text, line_text}
 
--- a field and a `|` followed by the other fields of a line, of which there are some
+-- a line of two fields or more is its first field, a `|`, and the line of the others
 line_more : (p : Text) (ps : Line) (x : Text) (rest : Line) → line_text (p ∷ (ps ++ x ∷ rest)) ≡ p ++ 124 ∷ line_text (ps ++ x ∷ rest)
 line_more p [] x rest = append_assoc p (124 ∷ join_with_byte 124 (x ∷ rest)) (10 ∷ [])
 line_more p (q ∷ qs) x rest = append_assoc p (124 ∷ join_with_byte 124 (q ∷ (qs ++ x ∷ rest))) (10 ∷ [])
@@ -17,6 +17,6 @@ field_more out printed new all p ps x rest so_far is bar =
     ∙ append_assoc (out ++ p) (124 ∷ []) line ∙ append_assoc out p (124 ∷ line)
     ∙ ap (λ (l : Text). out ++ l) (sym (line_more p ps x rest)) ∙ so_far
 
--- and its length is noted
+-- the length of one more field is noted
 pub size_more : (lengths new all ns : List ℕ) (n : ℕ) → lengths ++ n ∷ ns ≡ all → new ≡ lengths ++ n ∷ [] → new ++ ns ≡ all
 size_more lengths new all ns n so_far is = ap (λ (l : List ℕ). l ++ ns) is ∙ append_assoc lengths (n ∷ []) ns ∙ so_far

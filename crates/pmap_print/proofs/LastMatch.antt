@@ -14,7 +14,7 @@ use Rattle.pmap_print.specs.ReadBack.{mapping_of_prefix}
 use Rattle.pmap_print.proofs.Order.{before-start}
 
 module _ (W a : ℕ) where
-  -- the statement of an entry covers the address if the entry's block does
+  -- the statement of an entry covers the address exactly if the entry's block does
   block-start : (p : Prefix) → HasBlock W p → first_of W p.bits (block_number W p.bits p.start) ≡ p.start
   block-start p has = whole p.start (2 ^ (W - p.bits)) (pow_pos (W - p.bits)) has.no_host_bit
 
@@ -33,7 +33,7 @@ module _ (W a : ℕ) where
       and_from (nat_le p.start a) (nat_le a (last_of W p.bits (block_number W p.bits p.start))) (le-leb p.start a low)
       (le-leb a (last_of W p.bits (block_number W p.bits p.start)) (address-last W p.bits (block_number W p.bits p.start) a (sym is.number)))
 
-  -- of two entries that cover the address, the first one is shorter
+  -- of two entries that cover the address, the first one has the shorter prefix
   first-shorter : (p r : Prefix) → HasBlock W p → HasBlock W r → is_before p r ≡ true → CoversAddress W a p → CoversAddress W a r → p.bits < r.bits
   first-shorter p r hp hr before cp cr = by (cases_lt p.bits r.bits) (before-start p r before)
     where
@@ -48,13 +48,13 @@ module _ (W a : ℕ) where
       by (inr ge) (inl lower) = absurd (omega (arith, lower, starts ge))
       by (inr ge) (inr same) = same.1
 
-  -- the last statement that covers the address, over entries in order
+  -- the last of the entries' statements that covers the address is the longest match, or no entry covers the address
   abbrev Found : List Prefix → Type 0
   Found ps =
       ((last_such (spans a) (map (mapping_of_prefix W) ps) ≡ None) × All (λ p. ¬ CoversAddress W a p) ps)
       ⊎ ((p : Prefix) × (last_such (spans a) (map (mapping_of_prefix W) ps) ≡ Some (mapping_of_prefix W p)) × IsLongestMatch W ps a p)
 
-  -- it is one of the entries
+  -- the longest match is one of the entries
   pub match-in : (ps : List Prefix) (p : Prefix) → IsLongestMatch W ps a p → Contains ps p
   match-in ps p long = rw long.list (Contains-append_right long.before (p ∷ long.behind) p (Contains-first p long.behind))
 

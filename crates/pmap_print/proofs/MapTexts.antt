@@ -1,4 +1,4 @@
--- What a map text says: its name and the texts of its label table have the form of labels.
+-- What a map text says: its name and the texts of its label table are well-formed labels.
 use Rattle.std.proofs.Common.{◌≡◌, ℕ, ◌+◌, ◌&&◌, ◌==◌, Bool, true, false, cond, List, [], ◌∷◌, ◌++◌, All, Option, Some, None, Result, Ok, Err, IsTrue, IfOk, find, length, nat_le, nat_lt, option_map, unwrap_or, codes, refl, sym, subst}
 use Rattle.std.specs.List.{list_all, list_any}
 use Rattle.std.specs.Option.{ForSome}
@@ -27,13 +27,13 @@ IsText x = IsTrue (is_label x)
 abbrev IsDeclared : ℕ × Label → Type 0
 IsDeclared d = IsText d.1
 
--- of some lines: the name, the declared texts and those of the table are labels
+-- the name, the declared texts and the texts of the table that some lines give are labels
 record IsSound (earlier : Earlier) : Type 0 where
   pub name : ForSome earlier.name IsText
   pub declared : All IsDeclared earlier.declared
   pub table : All IsText earlier.table
 
--- each text that a line says has the form of a label
+-- each text of a line's entry is a label
 abbrev Says : Entry → Type 0
 Says Nothing = Unit {0}
 Says (Names name) = IsText name
@@ -43,7 +43,7 @@ Says (Defaults label) = IsText label
 Says (Maps version mapping) = IsText mapping.label
 Says (Lists version prefix) = IsText prefix.label
 
--- a property of a step's result carries over to what follows from it, and a property of both cases to a choice
+-- what each result of a first step ensures of the second holds of both, and what both cases ensure holds of a choice
 onward : {A B E : Type 0} (P : A → Type 0) (Q : B → Type 0) (r : Result A E) (f : A → Result B E) → IfOk r P
     → ((x : A) → P x → IfOk (f x) Q) → IfOk (r >>= f) Q
 onward P Q (Ok x) f is each = each x is
@@ -217,7 +217,7 @@ none-sound = record {
   table = All-nil IsText;
 }
 
--- so the map's name and its table have the form of labels
+-- the map's name and the texts of its table are well-formed labels
 pub record HasLabelForms (m : MapModel) : Type 0 where
   pub name : ForSome m.name (λ name. IsTrue (is_label name))
   pub table : All (λ x. IsTrue (is_label x)) m.table

@@ -1,4 +1,4 @@
--- The list of a minimal pair of a map text can be printed and read again, and is accepted as it is read.
+-- The list of a minimal pair of a map text can be printed and read again, and the list that is read is accepted.
 use Rattle.std.proofs.Common.{◌≡◌, ℕ, ◌+◌, ◌-◌, ◌*◌, ◌^◌, ◌<◌, ◌≤◌, ◌==◌, ◌⊎◌, ◌∙◌, inl, inr, true, false, List, [], ◌∷◌, All, IsTrue, length, sym, ap, subst, arith, bytes_eq, pow_pos}
 use Rattle.std.specs.List.{AllByRecursion, IsDistinct}
 use Rattle.std.proofs.lemmas.Bool.{and_parts, eqb-true, false_from_ne_true, or_cases}
@@ -61,7 +61,7 @@ order-distinct W [] ordered blocks = tt
 order-distinct W (p ∷ ps) ordered blocks =
     IsDistinct-cons (is_same_prefix W) p ps (all-apart W p ps blocks.0 blocks.1 ordered.0) (order-distinct W ps ordered.1 blocks.1)
 
--- a label of a table of labels has the form of one
+-- a label of a table of well-formed labels is well formed
 label-known : (table : List Label) (x : Label) → AllByRecursion (λ y. IsTrue (is_label y)) table → has table x ≡ true → IsTrue (is_label x)
 label-known [] x all h = absurd cc
 label-known (y ∷ ys) x all h = by (or_cases (bytes_eq x y) (has ys x) h) (λ inside. label-known ys x all.1 inside)

@@ -1,4 +1,4 @@
--- The order of a printed list: it is the one order in which each entry precedes all that follow it.
+-- The order of a printed list is the only one in which each entry precedes all that follow it.
 use Rattle.std.proofs.Common.{◌≡◌, ℕ, suc, ◌<◌, ◌≤◌, ◌==◌, ◌&&◌, ◌⊎◌, inl, inr, Bool, true, false, cond, List, [], ◌∷◌, Contains, map, nat_lt, refl, sym, ◌∙◌, ap, subst, arith}
 use Rattle.std.specs.List.{AllByRecursion, IsDistinct}
 use Rattle.std.specs.List.Sorted.{IsNonDecreasingBy, IsPermutation}
@@ -68,7 +68,7 @@ before-trans p r s a b = before-from p s (trans-parts p r s (before-is p r a) (b
 before-once : (p r : Prefix) → is_before p r ≡ true → is_before r p ≡ true → ⊥
 before-once p r a b = never-parts p r (before-is p r a) (before-is r p b)
 
--- of two entries with different starts or lengths one precedes the other
+-- of two entries with different starts or lengths, one precedes the other
 other-parts : (p r : Prefix) → (p.start < r.start) ⊎ (r.start ≤ p.start) → (r.start < p.start) ⊎ (p.start ≤ r.start)
     → (p.bits < r.bits) ⊎ (r.bits ≤ p.bits) → (r.bits < p.bits) ⊎ (p.bits ≤ r.bits) → starts_alike p r ≡ false → Before p r ⊎ Before r p
 unfolding Before
@@ -136,7 +136,7 @@ in_order-moves (p ∷ ps) =
     IsPermutation-trans (p ∷ ps) (p ∷ in_order ps) (placed p (in_order ps)) (IsPermutation-cons p ps (in_order ps) (in_order-moves ps))
     (placed-moves p (in_order ps))
 
--- they are in order
+-- the entries in order rise
 placed-all : (P : Prefix → Type 0) (p : Prefix) (ps : List Prefix) → P p → AllByRecursion P ps → AllByRecursion P (placed p ps)
 placed-all P p [] is all = (is, tt)
 placed-all P p (r ∷ rs) is all = by (is_before p r) (placed-all P p rs is all.1)
@@ -168,14 +168,14 @@ in_order-order (p ∷ ps) distinct =
     IsDistinct-IsPermutation starts_alike alike-flips (p ∷ ps) (p ∷ in_order ps) (IsPermutation-cons p ps (in_order ps) (in_order-moves ps)) distinct in
     placed-order p (in_order ps) (in_order-order ps (IsDistinct-tail starts_alike p ps distinct)) (IsDistinct-head starts_alike p (in_order ps) more)
 
--- there is one order
+-- there is only one order of a list's entries
 pub in_order-one : (ps rs : List Prefix) → IsDistinct starts_alike ps → IsPermutation ps rs → IsInOrder rs → rs ≡ in_order ps
 in_order-one ps rs distinct moved ordered =
     let both = IsPermutation-trans rs ps (in_order ps) (IsPermutation-sym ps rs moved) (in_order-moves ps) in
     order-one rs (in_order ps) ordered (in_order-order ps distinct) (λ s. Contains-permutation rs (in_order ps) s both)
     (λ s. Contains-permutation (in_order ps) rs s (IsPermutation-sym rs (in_order ps) both))
 
--- entries that rise by their places are in order
+-- entries that rise by `place_of` are in order
 lower-first : (p r : Prefix) → p.start < r.start → Before p r
 unfolding Before
 lower-first p r lower = inl lower
@@ -229,7 +229,7 @@ entries-order table (e ∷ es) rising distinct = (
     each [] is = tt
     each (d ∷ ds) is = (is d (Contains-first d ds), each ds (λ x in'. is x (Contains-later d ds x in')))
 
--- so sorted entries are those of the list in its order
+-- the sorted entries are those of the list in its order
 flips : (d e : Entry) → same_block d e ≡ same_block e d
 flips d e = grind arith
 
@@ -243,7 +243,7 @@ sorted-order table es sorted moved rising distinct =
     (IsPermutation-map (prefix_of table) es sorted moved)
     (entries-order table sorted rising (IsDistinct-IsPermutation same_block flips es sorted moved distinct))
 
--- entries in order keep theirs
+-- entries in order keep their order
 placed-first : (p : Prefix) (ps : List Prefix) → IsInOrder (p ∷ ps) → placed p ps ≡ p ∷ ps
 placed-first p [] ordered = refl
 placed-first p (r ∷ rs) ordered = let e : is_before p r ≡ true = ordered.0.0 in rw e refl

@@ -12,7 +12,7 @@ use Rattle.pmap_print.specs.declared.columns.Columns.{Columns}
 use Rattle.pmap_print.specs.Table.{Line, Text, column_width, filled, filled_line, line_text, table_text}
 use Rattle.pmap_print.proofs.Spreading.{joined-le, length-filled}
 
--- a slice of all elements that was written
+-- writing all elements of a slice leaves just these
 pub whole_slice : (len : ℕ) (new given old : List ℕ) → length new ≡ length given → length given ≡ len → given ≡ old
     → take len (new ++ drop (length new) old) ≡ new
 whole_slice len new given old n m e =
@@ -34,7 +34,7 @@ pieces [] = []
 pieces (f ∷ []) = (f ++ 10 ∷ []) ∷ []
 pieces (f ∷ g ∷ fs) = (f ++ 124 ∷ []) ∷ pieces (g ∷ fs)
 
--- a line whose first field has this place
+-- a line that is filled as if its first field had this place
 filled_from : (ℕ → ℕ) → ℕ → Line → Line
 filled_from width place fields = map (λ e. filled (width e.0) e.1) (enumerate_from place fields)
 
@@ -57,7 +57,7 @@ filled-piece width f end =
     let same : (width + 1) - length (f ++ end ∷ []) ≡ width - length f = omega (arith, length-append f (end ∷ [])) in
     ap (λ k. replicate k 32 ++ (f ++ end ∷ [])) same ∙ sym (append_assoc (replicate (width - length f) 32) f (end ∷ []))
 
--- so many texts further the columns are the same
+-- the columns repeat after as many texts as there are widths
 period : (widths : List ℕ) (i : ℕ) (texts : List Text) → spread widths (i + length widths) texts ≡ spread widths i texts
 period widths i [] = refl
 period widths i (t ∷ texts) =
@@ -70,7 +70,7 @@ below : (i n : ℕ) → i < n → i % n ≡ i
 below i n h = let same : i ≡ 0 * n + i = omega arith in ap (λ k. k % n) same ∙ mod-mul-add 0 n i h
 
 module _ (widths : List ℕ) (width : ℕ → ℕ) (same : (k : ℕ) → k < length widths → slice_index widths k ≡ width k + 1) where
-  -- a field in its column
+  -- a field filled to the width of its column
   here : (k : ℕ) (f : Text) (end : ℕ) → k < length widths
       → filled (slice_index widths (k % length widths)) (f ++ end ∷ []) ≡ filled (width k) f ++ end ∷ []
   here k f end inside =
@@ -105,7 +105,7 @@ module _ (widths : List ℕ) (width : ℕ → ℕ) (same : (k : ℕ) → k < len
       ∙ ap (λ (text : Text). line_text (filled_line width line) ++ text)
       (spread-lines lines some (All-tail (λ (l : Line). length l ≡ length widths) line lines even))
 
-  -- no field of a line is wider than its column
+  -- a line whose fields fit in their columns is as long, when filled, as the columns are wide
   length-line : (k : ℕ) (line : Line) → 0 < length line → k + length line ≡ length widths
       → ((j : ℕ) → length (get_or line j []) ≤ width (k + j))
       → length (line_text (filled_from width k line)) ≡ sum (drop k widths)
@@ -150,7 +150,7 @@ module _ (widths : List ℕ) (width : ℕ → ℕ) (same : (k : ℕ) → k < len
       let rest = length-lines lines some (All-tail (λ (l : Line). length l ≡ length widths) line lines even) (All-tail P line lines narrow) in
       omega (arith, first, rest, length-append (line_text (filled_line width line)) (flat_map line_text (map (filled_line width) lines)))
 
--- the fields of lines with their ends are the text of the lines, and their lengths
+-- the lengths and the joined text of all fields of lines, each with the byte that ends it
 all_sizes : (lines : List Line) → map length (flat_map pieces lines) ≡ flat_map sizes lines
 all_sizes [] = refl
 all_sizes (line ∷ lines) =
@@ -194,7 +194,7 @@ narrow lines = λ i d inside j.
     let size : Line → ℕ = λ fields. length (get_or fields j []) in
     omega (arith, fold-at 0 (map size lines) i (omega (arith, length-map lines size, inside)), get_or-map size lines i d 0 inside)
 
--- noted lines can be spread, and so are those of a table with columns
+-- noted lines can be moved to columns, and then are the text of a table with columns
 pub spread-noted : (count : ℕ) (lines : List Line) (c : Columns) → IsNoted count lines c
     → spread c.widths.items 0 (flat_map pieces lines) ≡ table_text true lines
 spread-noted count lines c is =

@@ -55,7 +55,7 @@ meant-number label (Some number) = refl
 meant-label : (label : Label) → meant_text [] label ≡ label
 meant-label label = meant-number label (label_number label)
 
--- the name
+-- the line of the name
 pub name-high : All (λ b. 45 ≤ b) (codes "map-name")
 name-high =
     All-weaker (λ b. nat_le 45 b ≡ true) (λ b. 45 ≤ b) (λ b h. leb-true 45 b h) (codes "map-name")
@@ -66,7 +66,7 @@ pub name-entry : (kind : Form) (earlier : Earlier) (name : Label) → is_label n
 name-entry kind earlier name is =
     word-line kind earlier (codes "map-name") name (omega arith) name-high is ∙ rw (label_of-label name is) refl
 
--- the version
+-- the line of the version
 pub mode-entry : (kind : Form) (version : Version) → line_entry kind (earlier_of []) (mode_line version) ≡ Ok (Decides version)
 mode-entry form.Map V4 = refl
 mode-entry form.Map V6 = refl
@@ -79,7 +79,7 @@ mode-entry-named form.Map name V6 = refl
 mode-entry-named form.List name V4 = refl
 mode-entry-named form.List name V6 = refl
 
--- an entry's block
+-- the block of an entry's line
 slash-in : (front back : Text) → list_any (λ b. b == 47) (front ++ 47 ∷ back) ≡ true
 slash-in [] back = refl
 slash-in (b ∷ bs) back = by (b == 47) (slash-in bs back)

@@ -30,7 +30,7 @@ abbrev pub said : Form → Version → Prefix → Entry
 said form.List version p = Lists version p
 said form.Map version p = Maps version (mapping_of_prefix (width_of version) p)
 
--- what was read is these entries
+-- the entries that were read are these
 abbrev pub AreEntries : Form → Version → Earlier → List Prefix → Type 0
 AreEntries form.List version earlier done = earlier.prefixes ≡ done
 AreEntries form.Map version earlier done = earlier.mappings ≡ map (mapping_of_prefix (width_of version)) done
@@ -44,7 +44,7 @@ pub record HasRead (kind : Form) (version : Version) (name : Option Label) (earl
   pub entries : AreEntries kind version earlier done
   pub table : earlier.table ≡ labels_of done
 
--- the labels of one entry more
+-- the label texts with that of one more entry
 labels-push : (done : List Prefix) (p : Prefix) → labels_of (done ++ p ∷ []) ≡ with_label (labels_of done) p.label
 labels-push done p =
     ap (fold with_label []) (map-append (λ (r : Prefix). r.label) done (p ∷ []))
@@ -77,7 +77,7 @@ has_read-push kind version name es done p has =
     subst (λ (e : Earlier). HasRead kind version name e (done ++ p ∷ [])) (sym (earlier_of-push es (said kind version p)))
     (has_read-added kind version name (earlier_of es) done p has)
 
--- the block of an entry differs from those before it
+-- the block of an entry differs from those of the entries before it
 block-new : (done : List Prefix) (p : Prefix) (ps : List Prefix) → IsDistinct starts_alike (done ++ p ∷ ps)
     → list_any (λ (r : Prefix). r.start == p.start && r.bits == p.bits) done ≡ false
 block-new done p ps distinct =
@@ -88,7 +88,7 @@ block-new done p ps distinct =
     ap (λ (r : Prefix). starts_alike r p) (sym (get_or_append_left done (p ∷ ps) d k below))
     ∙ ap (starts_alike (get_or (done ++ p ∷ ps) k d)) (sym (get_or_at done p ps d (length done) refl)) ∙ apart)
 
--- there is room for its label
+-- there is room for the label of the next entry
 fold-length : (table : List Label) (xs : List Label) → length table ≤ length (fold with_label table xs)
 fold-length table [] = omega arith
 fold-length table (x ∷ xs) = omega (arith, length-with_label table x, fold-length (with_label table x) xs)
@@ -114,7 +114,7 @@ entry-room done p ps few =
     label-room (labels_of done) p.label
     (omega (arith, all, fold-length (with_label (labels_of done) p.label) (map (λ (r : Prefix). r.label) ps)))
 
--- the line of the next entry is read as it
+-- the line of the next entry is read as that entry
 next-entry : (kind : Form) (version : Version) (name : Option Label) (earlier : Earlier) (done : List Prefix) (p : Prefix) (ps : List Prefix)
     → HasRead kind version name earlier done → IsPrintedEntry version p → IsDistinct starts_alike (done ++ p ∷ ps)
     → length (done ++ p ∷ ps) ≤ mapping_limit → length (labels_of (done ++ p ∷ ps)) ≤ label_limit
@@ -127,7 +127,7 @@ next-entry form.Map version name earlier done p ps has is distinct few few_label
     (rw has.entries (omega (arith, few, length-append done (p ∷ ps), length-map done (mapping_of_prefix (width_of version)))))
     (rw has.table (entry-room done p ps few_labels))
 
--- all lines are read
+-- the lines of the other entries are read
 abbrev AllRead : Form → Version → Option Label → List Entry → ℕ → List Prefix → List Prefix → Type 0
 AllRead kind version name es number ps all =
     (read : List Entry) × (entries_from kind es number (map (entry_line version) ps) ≡ Ok read) × HasRead kind version name (earlier_of read) all
@@ -156,7 +156,7 @@ read-entries kind version name es number done (p ∷ ps) has each distinct few f
       subst (λ (rs : List Prefix). HasRead kind version name (earlier_of rest.0) rs) same rest.2,
     )
 
--- with the lines of the name and the version before them
+-- the lines of the name and the version, which come first, are read
 head-read : (kind : Form) (version : Version) → HasRead kind version None (earlier_of (Decides version ∷ [])) []
 head-read form.List version = record { version_is = refl; name_is = refl; declared = refl; fallback = refl; entries = refl; table = refl }
 head-read form.Map version = record { version_is = refl; name_is = refl; declared = refl; fallback = refl; entries = refl; table = refl }

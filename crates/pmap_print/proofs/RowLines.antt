@@ -11,7 +11,7 @@ use Rattle.pmap_print.specs.Parts.{labels_at}
 use Rattle.pmap_print.specs.Rows.{LabelTexts, given_labels, label_fields, label_texts, row_fields, row_line, row_lines, title_line}
 use Rattle.pmap_print.specs.Table.{Line}
 
--- the lines of rows, with the labels that are given
+-- the lines of rows, with labels if they are given
 abbrev pub lines_of : List Row → Option (Bor (List RowLabels)) → List Line
 lines_of rows labels = row_lines (map row_view rows) (given_labels labels)
 

@@ -1,4 +1,4 @@
--- Fields at the beginning of a text, and from the last on in their columns.
+-- How the fields at the beginning of a text are moved to their columns, from the last to the first.
 use Rattle.std.proofs.Common.{ℕ, suc, ◌≡◌, ◌+◌, ◌-◌, ◌<◌, ◌≤◌, ◌∙◌, List, [], ◌∷◌, ◌++◌, length, map, take, drop, get_or, replicate, ap, sym, subst, refl, arith, append_assoc}
 use Rattle.std.specs.Prelude.{◌%◌, filter, slice_index}
 use Rattle.std.proofs.lemmas.Grind.{flat_map-append}
@@ -28,7 +28,7 @@ pub long-next : (texts : List Text) (long : List ℕ) (i : ℕ) → long ≡ fil
     → long ≡ filter is_long (map length (take i texts) ++ length (get_or texts i []) ∷ [])
 long-next texts long i is inside = is ∙ ap (filter is_long) (map_more length texts i [] inside)
 
--- texts after others
+-- the columns of texts that follow others
 spread-append : (widths : List ℕ) (i : ℕ) (xs ys : List Text) → spread widths i (xs ++ ys) ≡ spread widths i xs ++ spread widths (i + length xs) ys
 spread-append widths i [] ys = ap (λ k. spread widths k ys) (omega arith)
 spread-append widths i (x ∷ xs) ys =
@@ -40,7 +40,7 @@ spread-append widths i (x ∷ xs) ys =
 pub length-filled : (width : ℕ) (text : Text) → length (filled width text) ≡ (width - length text) + length text
 length-filled width text = omega (arith, length-append (replicate (width - length text) 32) text, length-replicate {A = ℕ} (width - length text) 32)
 
--- texts are no longer than in their columns
+-- texts are no longer than they are in their columns
 pub joined-le : (widths : List ℕ) (i : ℕ) (texts : List Text) → length (joined texts) ≤ length (spread widths i texts)
 joined-le widths i [] = omega arith
 joined-le widths i (t ∷ texts) =
@@ -53,7 +53,7 @@ joined-le widths i (t ∷ texts) =
       joined-le widths (i + 1) texts,
     )
 
--- the last of the texts before an index
+-- The text with the index i, when it is the next one to be moved.
 module _ (texts : List Text) (widths : List ℕ) (i : ℕ) (inside : i < length texts) where
   last : Text
   last = get_or texts i []
@@ -75,7 +75,7 @@ module _ (texts : List Text) (widths : List ℕ) (i : ℕ) (inside : i < length 
       ∙ ap (λ k. spread widths 0 (take i texts) ++ (filled (slice_index widths (k % length widths)) last ++ [])) here
       ∙ ap (λ (text : Text). spread widths 0 (take i texts) ++ text) (append-nil (filled width last))
 
-  -- the offset of the last text before and after it is moved
+  -- the offsets of the text's end before and after it is moved
   pub record Moves (text : Text) (from to : ℕ) : Type 0 where
     pub front : length (joined (take i texts)) + length (get_or texts i []) ≡ from
     pub back : length (spread widths 0 (take i texts)) + ((slice_index widths (i % length widths) - length (get_or texts i [])) + length (get_or texts i [])) ≡ to
@@ -91,7 +91,7 @@ module _ (texts : List Text) (widths : List ℕ) (i : ℕ) (inside : i < length 
     within = omega (arith, ap length is.back, length-append (spread widths 0 (take (i + 1) texts)) (drop to text), is.room, is.fills);
   }
 
-  -- the last text is moved
+  -- the text is moved
   pub moved : (text new : Text) (from to column : ℕ) (long others : List ℕ) (begin end n spaces : ℕ)
       → IsSpread texts widths text from to column long (i + 1)
       → n ≡ length (get_or texts i []) → spaces ≡ slice_index widths (i % length widths) - n → begin + n ≡ from → end + (spaces + n) ≡ to
@@ -130,7 +130,7 @@ module _ (texts : List Text) (widths : List ℕ) (i : ℕ) (inside : i < length 
         fills = len ∙ is.fills;
       }
 
--- the length that is noted at an index, and what it says of the move
+-- the noted length of the text with the index i, and the offsets of its end before and after it is moved
 pub record IsNext (texts : List Text) (c : Columns) (text : Text) (from to column : ℕ) (long : List ℕ) (i n : ℕ) (before : List ℕ) : Type 0 where
   pub inside : i < length texts
   pub size : n ≡ length (get_or texts i [])

@@ -1,4 +1,4 @@
--- Stretches, neighbours of one label joined, are the runs of their labels.
+-- The runs of the labels are the stretches, with neighbours of the same label joined.
 use Rattle.std.proofs.Common.{◌≡◌, ◌≢◌, ℕ, ◌+◌, ◌^◌, ◌<◌, ◌≤◌, ◌==◌, ◌⊎◌, inl, inr, true, false, List, [], ◌∷◌, ◌++◌, Option, Some, None, refl, sym, ◌∙◌, ap, subst, arith, length, option_and_then, option_map, slice_get, append_assoc}
 use Rattle.std.proofs.lemmas.List.{append-nil}
 use Rattle.std.specs.List.{flat_map}
@@ -24,14 +24,14 @@ use Rattle.pmap_print.specs.Stretches.{IsPrinted, IsPrintedTo, Numbered, is_same
 use Rattle.pmap_print.specs.declared.runs.Stretch.{Stretch}
 use Rattle.pmap_print.specs.Table.{Text, line_text}
 
--- one number or another
+-- labels with the same number are the same
 pub same-number : (x y : Option ℕ) → is_same_number x y ≡ true → x ≡ y
 same-number None None e = refl
 same-number None (Some j) e = absurd (both_ways false refl e)
 same-number (Some i) None e = absurd (both_ways false refl e)
 same-number (Some i) (Some j) e = ap Some (eqb-true i j e)
 
--- in a table without equal texts other numbers have other texts
+-- in a table of distinct texts, labels with different numbers have different texts
 none-text : (table : List Label) (j : ℕ) → j < length table → None ≢ slice_get table j
 none-text table j known same = let h : None ≡ Some (text_at table j) = same ∙ known_text table j known in cc
 
@@ -51,7 +51,7 @@ other-label table is None (Some j) kx ky e = none-text table j (ky j refl)
 other-label table is (Some i) None kx ky e = λ same. none-text table i (kx i refl) (sym same)
 other-label table is (Some i) (Some j) kx ky e = other-text table is i j (kx i refl) (ky j refl) e
 
--- a stretch that another of the same label is joined to
+-- a stretch joined to one with the same label has that label
 pub one-joined : (f : ℕ → Option Label) (table : List Label) (s t : Numbered) → HasOneLabel f (run_of table s) → HasOneLabel f (run_of table t)
     → t.low ≡ s.high + 1 → s.label ≡ t.label → HasOneLabel f (run_of table (record s { high = t.high }))
 one-joined f table s t one more follows same =
@@ -61,12 +61,12 @@ one-joined f table s t one more follows same =
     by a ge le (inl behind) = more.each a (omega (arith, follows, behind)) le ∙ ap (option_and_then (slice_get table)) (sym same)
     by a ge le (inr within) = one.each a ge within
 
--- the label of a stretch has a text
+-- the number of a known label is known
 number_of_known : (n : ℕ) (label : Option LabelId) → ForSome label (λ id. id.0 < n) → ForSome (option_map (λ id. id.0) label) (λ i. i < n)
 number_of_known n None known = λ i e. absurd (none-some i e)
 number_of_known n (Some id) known = λ i e. subst (λ (j : ℕ). j < n) (same_Some id.0 i e) (known id refl)
 
--- the first stretch
+-- the first stretch begins the first run
 pub printed_first : (f : ℕ → Option Label) (table : List Label) (v : Version) (end : ℕ) (out : Text) (s : Numbered) → s.low ≡ 0
     → IsPrinted f table v end out out s
 printed_first f table v end out s first = record {
@@ -75,12 +75,12 @@ printed_first f table v end out s first = record {
   goes_on = λ high rest are. subst (λ (from : ℕ). AreRuns f from end (run_of table (record s { high = high }) ∷ rest)) first are;
 }
 
--- one that is joined
+-- joining a stretch to the run prints nothing
 pub printed_joined : (f : ℕ → Option Label) (table : List Label) (v : Version) (end high : ℕ) (before out : Text) (s : Numbered)
     → IsPrinted f table v end before out s → IsPrinted f table v end before out (record s { high = high })
 printed_joined f table v end high before out s is = record { runs = is.runs; text = is.text; goes_on = is.goes_on }
 
--- one that is printed, as the next has another label
+-- if the next stretch has another label, the run is printed
 pub printed_more : (f : ℕ → Option Label) (table : List Label) (v : Version) (end : ℕ) (before out new : Text) (s t : Numbered)
     → IsPrinted f table v end before out s → new ≡ out ++ run_text v (run_of table s) → HasOneLabel f (run_of table s) → t.low ≡ s.high + 1
     → (run_of table s).label ≢ (run_of table t).label → IsPrinted f table v end before new t
@@ -98,7 +98,7 @@ printed_more f table v end before out new s t is text one next other = record {
       ));
 }
 
--- the last one
+-- once the last run is printed, all runs are
 pub printed_last : (f : ℕ → Option Label) (table : List Label) (v : Version) (before out new : Text) (s : Numbered)
     → IsPrinted f table v (2 ^ width_of v) before out s → new ≡ out ++ run_text v (run_of table s) → HasOneLabel f (run_of table s)
     → s.high + 1 ≡ 2 ^ width_of v → before ≡ line_text run_titles → IsRunsText v f new
@@ -130,7 +130,7 @@ module _ (table : List Label) (s : StretchesModel) (every : HasEveryAddress s) (
     each = λ a ge le. text_at_index s every table a i (record { index = within; from = ge; to = le }) ∙ text_by_number table (label_at s i);
   }
 
-  -- what is known of a stretch that has the same addresses and the same label
+  -- what is known of a run that is the stretch with the index i
   module _ (i : ℕ) (within : i < length s.firsts) (run : Stretch) (view : stretch_view run ≡ view_at s i) where
     run_known : ForSome (stretch_view run).label (λ j. j < length table)
     run_known = subst (λ (n : Numbered). ForSome n.label (λ j. j < length table)) (sym view) (view_known i within)
@@ -165,7 +165,7 @@ module _ (table : List Label) (s : StretchesModel) (every : HasEveryAddress s) (
     low : next.low.value ≡ run.high.value + 1
     low = ap (λ (n : Numbered). n.low) view ∙ is.next within
 
-    -- the next stretch has the same label
+    -- if the next stretch has the same label, the run goes on
     pub run_goes_on : is_same_number (stretch_view run).label (stretch_view next).label ≡ true → IsPrintedTo table s (i + 1) before out (record run { high = next.high })
     run_goes_on e = record {
       low_version = is.low_version;
@@ -178,7 +178,7 @@ module _ (table : List Label) (s : StretchesModel) (every : HasEveryAddress s) (
       printed = printed_joined (text_held table s) table s.version (2 ^ width_of s.version) next.high.value before out (stretch_view run) is.printed;
     }
 
-    -- or another label, and the run so far is printed
+    -- if the next stretch has another label, the run is printed
     pub run_ends : (new : Text) → IsLabelTable table → next.low.version ≡ s.version → is_same_number (stretch_view run).label (stretch_view next).label ≡ false
         → new ≡ out ++ run_text run.low.version (run_of table (stretch_view run)) → IsPrintedTo table s (i + 1) before new next
     run_ends new distinct low_version e text = record {
@@ -193,7 +193,7 @@ module _ (table : List Label) (s : StretchesModel) (every : HasEveryAddress s) (
           (other-label table distinct (stretch_view run).label (stretch_view next).label is.known (run_known i within next view) e);
     }
 
-  -- the last run is printed
+  -- once the last run is printed, all runs are
   pub runs_end : (count : ℕ) (before out new : Text) (run : Stretch) → IsPrintedTo table s count before out run → length s.firsts ≤ count
       → before ≡ line_text run_titles → new ≡ out ++ run_text run.low.version (run_of table (stretch_view run))
       → IsRunsText s.version (text_held table s) new

@@ -27,7 +27,7 @@ pub length-row_line : (row : RowView) (labels : Option RowLabels) → length (ro
 length-row_line row None = refl
 length-row_line row (Some labels) = refl
 
--- what holds of noted columns, if a flag says that there are some
+-- a property of the columns may be shown from what holds if there are columns
 pub noted-if : (P : Columns → Type 0) (F : Type 0) (columns : Option Columns) (flag : Bool) → is_some columns ≡ flag → (flag ≡ true → F) → (F → ForSome columns P)
     → ForSome columns P
 noted-if P F columns flag same has given = λ x e. given (has (sym same ∙ ap is_some e)) x e

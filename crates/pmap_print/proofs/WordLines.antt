@@ -1,4 +1,4 @@
--- A printed line of a word and a label, as it is read: its content is itself, and its words are these two.
+-- A printed line of a word and a label is read as its content, and its words are these two.
 use Rattle.std.proofs.Common.{◌≡◌, ℕ, ◌+◌, ◌-◌, ◌^◌, ◌<◌, ◌≤◌, ◌==◌, ◌&&◌, ◌∙◌, Bool, true, false, not, cond, List, [], ◌∷◌, ◌++◌, All, drop, length, get_or, take, nat_le, nat_lt, refl, sym, ap, subst, arith, one-add}
 use Rattle.std.specs.Fmt.{decimal, digit_glyph, digits}
 use Rattle.std.specs.List.{before_first, list_all, position_or_len, suffix_len}
@@ -17,7 +17,7 @@ use Rattle.pmap_text.specs.Label.{is_blank, is_label, is_label_byte}
 use Rattle.pmap_text.specs.Lines.{behind_word, content_of, first_word, lines_of, trim_end, trim_start}
 use Rattle.pmap_print.specs.Table.{Text}
 
--- each printed line is read as one
+-- each printed line is read as one line
 one-line : (line rest : Text) → Lacks 10 line → lines_of ((line ++ 10 ∷ []) ++ rest) ≡ line ∷ lines_of rest
 one-line [] rest lacks = refl
 one-line (b ∷ bs) rest lacks =
@@ -29,7 +29,7 @@ lines-text (line ∷ lines) lacks =
     one-line line (text_of_lines lines) (All-head (Lacks 10) line lines lacks)
     ∙ ap (λ (ls : List Text). line ∷ ls) (lines-text lines (All-tail (Lacks 10) line lines lacks))
 
--- the first byte that passes a test follows a text
+-- if a byte passes a test and no byte of the text before it does, it is the first byte that passes
 first_behind : (test : ℕ → Bool) (front back : Text) (b : ℕ) → All (λ c. test c ≡ false) front → test b ≡ true
     → position_or_len test (front ++ b ∷ back) ≡ length front
 first_behind test front back b none is =
@@ -52,7 +52,7 @@ trim_end-same text some e =
     ap (suffix_len is_blank) (sym whole) ∙ suffix_len-take_no is_blank text (length text) 0 some (omega arith) e in
     take_all (length text - suffix_len is_blank text) text (omega arith)
 
--- the parts of a label's form
+-- what a well-formed label is
 pub record LabelParts (label : Text) : Type 0 where
   pub some : 0 < length label
   pub bytes : All (λ b. is_label_byte b ≡ true) label
@@ -85,14 +85,14 @@ label-lacks_feed label is = All-weaker (λ b. is_label_byte b ≡ true) (λ b. (
 label-lacks_hash : (label : Text) → is_label label ≡ true → Lacks 35 label
 label-lacks_hash label is = All-weaker (λ b. is_label_byte b ≡ true) (λ b. (b == 35) ≡ false) label_byte-hash label (label-parts label is).bytes
 
--- the words of a printed line: no byte in them is below the hyphen, so none ends a word or a line or begins a comment
+-- no byte of a printed word is below the hyphen, so none ends a word or a line or begins a comment
 pub high-other : (c b : ℕ) → c < 45 → 45 ≤ b → (b == c) ≡ false
 high-other c b low high = ne_eqb b c (λ e. omega (arith, low, high, e))
 
 high-blank : (b : ℕ) → 45 ≤ b → is_blank b ≡ false
 high-blank b high = rw (high-other 32 b (omega arith) high, high-other 9 b (omega arith) high, high-other 13 b (omega arith) high) refl
 
--- of a word, a space and a label the first word is the word, and the label follows it
+-- A word, a space and a label: the first word is the word, and the label follows it.
 module _ (word label : Text) (some : 0 < length word) (high : All (λ b. 45 ≤ b) word) (is : is_label label ≡ true) where
   no_blank : All (λ b. is_blank b ≡ false) word
   no_blank = All-weaker (λ b. 45 ≤ b) (λ b. is_blank b ≡ false) high-blank word high
@@ -147,7 +147,7 @@ module _ (word label : Text) (some : 0 < length word) (high : All (λ b. 45 ≤ 
       ap (λ t. trim_end (trim_start t)) whole ∙ ap trim_end (begins word (32 ∷ label) some high)
       ∙ trim_end-same (word ++ 32 ∷ label) (omega (arith, some, length-append word (32 ∷ label))) ends
 
--- the bytes of blocks
+-- no byte of a printed block is below the hyphen
 glyph-high : (d : ℕ) → 45 ≤ digit_glyph false d
 glyph-high d = by (nat_lt d 10)
   where

@@ -1,4 +1,4 @@
--- How the lengths of a table's fields are noted, and its fields spread to columns.
+-- How the lengths of a table's fields are noted, and its fields moved to columns.
 use Rattle.std.specs.Prelude.{◌≡◌, ℕ, ◌+◌, ◌<◌, ◌%◌, List, [], ◌∷◌, ◌++◌, All, Bool, filter, is_some, length, map, nat_le, slice_index, take, if◌then◌else◌}
 use Rattle.std.specs.List.{flat_map}
 use Rattle.std.specs.Option.{ForSome}
@@ -10,19 +10,19 @@ use Rattle.pmap_print.specs.Table.{Line, Text, column_width, filled, line_text}
 abbrev pub sizes : Line → List ℕ
 sizes fields = map (λ f. length f + 1) fields
 
--- whether a length is noted in full, and the byte that notes it
+-- whether a length doesn't fit in the byte that notes it, and that byte
 abbrev pub is_long : ℕ → Bool
 is_long n = nat_le 255 n
 
 abbrev pub noted : ℕ → ℕ
 noted n = if is_long n then 255 else n
 
--- these lengths are noted
+-- the bytes and the long lengths note these lengths
 pub record AreNoted (lengths : List ℕ) (short long : List ℕ) : Type 0 where
   pub bytes : short ≡ map noted lengths
   pub others : long ≡ filter is_long lengths
 
--- lines of so many fields are noted
+-- the columns note these lines, each of `count` fields
 pub record IsNoted (count : ℕ) (lines : List Line) (c : Columns) : Type 0 where
   pub some : 0 < count
   pub even : All (λ line. length line ≡ count) lines
@@ -34,12 +34,12 @@ pub record IsNoted (count : ℕ) (lines : List Line) (c : Columns) : Type 0 wher
 abbrev pub has_columns : Table → Bool
 has_columns t = is_some t.columns
 
--- the table has these lines, each of so many fields
+-- the table has these lines, each of `count` fields
 pub record IsTable (count : ℕ) (lines : List Line) (t : Table) : Type 0 where
   pub text : t.text.items ≡ flat_map line_text lines
   pub noted : ForSome t.columns (IsNoted count lines)
 
--- texts one after the other, and so from an index on, each filled to the width of its column
+-- texts one after the other and, with the first at an index, with each filled to the width of its column
 abbrev pub joined : List Text → Text
 joined texts = flat_map (λ text. text) texts
 
@@ -47,7 +47,7 @@ abbrev pub spread : List ℕ → ℕ → List Text → Text
 spread widths index [] = []
 spread widths index (text ∷ texts) = filled (slice_index widths (index % length widths)) text ++ spread widths (index + 1) texts
 
--- the texts at the beginning of a text are noted lines, and spread they fill the text
+-- the text begins with texts whose lengths are noted, and the texts filled to their columns are as long as the text
 pub record CanSpread (texts : List Text) (c : Columns) (plain : ℕ) (text : Text) : Type 0 where
   pub some : 0 < length c.widths.items
   pub even : length texts % length c.widths.items ≡ 0

@@ -7,25 +7,25 @@ use Rattle.flow_uniq.specs.Groups.{GroupModel}
 use Rattle.flow_uniq.specs.Key.{KeyPartModel, AddressPart, NumberPart, LabelPart}
 use Rattle.pmap_print.specs.Table.{Text, Line, table_text}
 
--- the column names of groups: the names of the fields, followed by those of the totals
+-- the column names of totals, and of groups by these fields
 abbrev pub total_titles : Line
 total_titles = codes "records" ∷ codes "packets" ∷ codes "bytes" ∷ []
 
 abbrev pub group_titles : List KeyField → Line
 group_titles fields = map field_name fields ++ total_titles
 
--- a part of a key: the field is empty if there is no label
+-- the text of a part of a key, which is empty for a missing label
 abbrev pub part_text : KeyPartModel → Text
 part_text (AddressPart address) = address_text address.0 address.1
 part_text (NumberPart number) = decimal number
 part_text (LabelPart label) = unwrap_or label []
 
--- the fields of a group
+-- the fields of a group's line
 abbrev pub group_fields : GroupModel → Line
 group_fields g =
     map part_text g.key ++ decimal g.totals.records ∷ decimal g.totals.packets ∷ decimal g.totals.octets ∷ []
 
--- the lines of groups
+-- the header and the line of each group
 abbrev pub group_lines : List KeyField → List GroupModel → List Line
 group_lines fields groups = group_titles fields ∷ map group_fields groups
 

@@ -1,4 +1,4 @@
--- How the lines of rows come about, one by one.
+-- How the lines of rows are printed, one by one.
 use Rattle.std.specs.Prelude.{ℕ, List, [], ◌∷◌, ◌++◌, Bool, Option, None, decimal, option_map, slice_index_or, if◌then◌else◌}
 use Rattle.flow_rows.specs.Row.{RowView}
 use Rattle.flow_uniq.specs.declared.totals.Totals.{Totals}

@@ -12,7 +12,7 @@ use Rattle.pmap_text.specs.MapModel.{Label, MapModel, Mapping, map_label}
 use Rattle.pmap_text.specs.Reading.{label_limit, mapping_limit, unknown}
 use Rattle.pmap_print.specs.Order.{in_order}
 
--- the entry has a block of the version, and its label has the form of one
+-- the entry has a block of the version and a well-formed label
 pub record IsPrintedEntry (version : Version) (p : Prefix) : Type 0 where
   pub block : HasBlock (width_of version) p
   pub label : IsTrue (is_label p.label)
@@ -21,7 +21,7 @@ pub record IsPrintedEntry (version : Version) (p : Prefix) : Type 0 where
 abbrev pub labels_of : List Prefix → List Label
 labels_of prefixes = fold with_label [] (map (λ p. p.label) prefixes)
 
--- each entry has a block and a label, no two have one block, and the name has the form of a label
+-- each entry has a block and a well-formed label, no two blocks are equal, and the name is well formed
 pub record IsWellFormed (l : ListModel) : Type 0 where
   pub entries : All (IsPrintedEntry l.version) l.prefixes
   pub distinct : HasDistinctPrefixes (width_of l.version) l.prefixes
@@ -33,20 +33,20 @@ pub record CanBeReadAgain (l : ListModel) : Type 0 where
   pub few_entries : length l.prefixes ≤ mapping_limit
   pub few_labels : length (labels_of (in_order l.prefixes)) ≤ label_limit
 
--- of addresses of W bits, the statement that a block has the label
+-- the statement that the addresses of an entry's block, which have W bits, have the entry's label
 abbrev pub mapping_of_prefix : ℕ → Prefix → Mapping
 mapping_of_prefix W p =
     record { low = p.start; high = last_of W p.bits (block_number W p.bits p.start); label = p.label }
 
--- what the printed text of a list says, read as a list: the same name and version, and the entries in order with their
--- labels
+-- The printed text of `l`, read as a list, gives `r`: the same name and version, and the entries in order with their
+-- labels.
 pub record IsListAgain (l r : ListModel) : Type 0 where
   pub version : r.version ≡ l.version
   pub name : r.name ≡ l.name
   pub prefixes : r.prefixes ≡ in_order l.prefixes
 
--- and read as a map: each address has the label that the list gives it, and without one the label of a map without a
--- default
+-- The printed text of `l`, read as a map, gives `m`: each address has the label that the list gives it, or the label of
+-- a map without a default if the list gives none.
 pub record IsMapAgain (l : ListModel) (m : MapModel) : Type 0 where
   pub version : m.version ≡ l.version
   pub name : m.name ≡ l.name

@@ -7,7 +7,7 @@ use Rattle.flow_rows.specs.Row.{RowView}
 use Rattle.pmap_print.specs.declared.labels.RowLabels.{RowLabels}
 use Rattle.pmap_print.specs.Table.{Text, Line, table_text}
 
--- the column names of rows, and of the columns of labels after them
+-- the names of a row's columns, and of the label columns that follow them
 abbrev pub row_titles : Line
 row_titles =
     codes "sip" ∷ codes "dip" ∷ codes "sport" ∷ codes "dport" ∷ codes "proto" ∷ codes "flags" ∷ codes "packets"
@@ -33,7 +33,7 @@ label_texts labels = (option_copied labels.src, option_copied labels.dst)
 abbrev pub given_labels : Option (Bor (List RowLabels)) → Option (List LabelTexts)
 given_labels labels = option_map (λ given. map label_texts given.now) labels
 
--- the fields of labels: a field without a label is empty
+-- the fields of a row's labels; that of a missing label is empty
 abbrev pub label_fields : LabelTexts → Line
 label_fields labels = unwrap_or labels.0 [] ∷ unwrap_or labels.1 [] ∷ []
 
@@ -47,7 +47,7 @@ abbrev pub row_line : RowView → Option LabelTexts → Line
 row_line row None = row_fields row
 row_line row (Some labels) = row_fields row ++ label_fields labels
 
--- the lines of rows, and of rows with labels
+-- the header and the lines of rows, with labels if they are given
 abbrev pub row_lines : List RowView → Option (List LabelTexts) → List Line
 row_lines rows None = row_titles ∷ map row_fields rows
 row_lines rows (Some labels) =

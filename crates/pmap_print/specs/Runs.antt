@@ -7,11 +7,11 @@ use Rattle.pmap_text.specs.MapModel.{Label}
 use Rattle.label_trie.specs.Runs.{AreRunsOf, Run}
 use Rattle.pmap_print.specs.Table.{Line, Text, line_text}
 
--- the titles of the columns
+-- the names of the columns
 abbrev pub run_titles : Line
 run_titles = codes "low" ∷ codes "high" ∷ codes "label" ∷ []
 
--- the fields of a run: the last is empty if there is no label
+-- the fields of a run; the last one is empty if there is no label
 abbrev pub run_fields : Version → Run → Line
 run_fields version run =
     address_text version run.low ∷ address_text version run.high ∷ unwrap_or run.label [] ∷ []
@@ -20,7 +20,7 @@ run_fields version run =
 abbrev pub run_text : Version → Run → Text
 run_text version run = line_text (run_fields version run)
 
--- the text of runs: a title, and a line for each run
+-- the text of runs: a header, and a line for each run
 abbrev pub runs_text : Version → List Run → Text
 runs_text version runs = flat_map line_text (run_titles ∷ map (run_fields version) runs)
 

@@ -2,6 +2,6 @@
 use Rattle.std.specs.Prelude.{ℕ, ◌+◌, ◌*◌}
 use Rattle.pmap_text.specs.declared.entry.Entry.{Entry}
 
--- a number by which entries rise in order: lengths are below 256
+-- a number that rises with the order of entries, as prefix lengths are below 256
 abbrev pub place_of : Entry → ℕ
 place_of e = e.block.value * 256 + e.block.len

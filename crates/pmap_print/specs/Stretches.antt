@@ -1,4 +1,4 @@
--- How the runs of stretches come about, one stretch after the other.
+-- How the runs of stretches are found, one stretch after the other.
 use Rattle.std.specs.Prelude.{◌≡◌, ℕ, ◌+◌, ◌^◌, ◌<◌, ◌≤◌, ◌==◌, Bool, true, false, List, ◌∷◌, ◌++◌, Option, Some, None, option_and_then, length, option_map, slice_get}
 use Rattle.std.specs.List.{flat_map}
 use Rattle.std.specs.Option.{ForSome}
@@ -17,33 +17,33 @@ pub record Numbered : Type 0 where
   pub high : ℕ
   pub label : Option ℕ
 
--- a stretch, and that with an index, as that
+-- a stretch, and the stretch with an index, as `Numbered`
 abbrev pub stretch_view : Stretch → Numbered
 stretch_view s = record { low = s.low.value; high = s.high.value; label = option_map (λ id. id.0) s.label }
 
 abbrev pub view_at : StretchesModel → ℕ → Numbered
 view_at s i = record { low = first_at s i; high = last_at s i; label = option_map (λ id. id.0) (label_at s i) }
 
--- both have this number, or neither has one
+-- both labels have the same number, or both are missing
 abbrev pub is_same_number : Option ℕ → Option ℕ → Bool
 is_same_number None None = true
 is_same_number None (Some j) = false
 is_same_number (Some i) None = false
 is_same_number (Some i) (Some j) = i == j
 
--- a stretch as a run with its label text
+-- a stretch as a run, with the text of its label
 abbrev pub run_of : List Label → Numbered → Run
 run_of table s = record { low = s.low; high = s.high; label = option_and_then (slice_get table) s.label }
 
--- Runs are printed up to the stretch `s`, with which another run begins, wherever it ends: it and the following ones
--- are the runs of the labelling up to `end` if they are so from the stretch on.
+-- The runs before the stretch `s` are printed. If `s`, extended to any end, and the runs after it are the labelling's
+-- runs from `s` up to `end`, then they and the printed ones are its runs from 0 up to `end`.
 pub record IsPrinted (label_of : ℕ → Option Label) (table : List Label) (version : Version) (end : ℕ) (before out : Text) (s : Numbered) : Type 0 where
   pub runs : List Run
   pub text : out ≡ before ++ flat_map (run_text version) runs
   pub goes_on : (high : ℕ) (rest : List Run) → AreRuns label_of s.low end (run_of table (record s { high = high }) ∷ rest)
       → AreRuns label_of 0 end (runs ++ run_of table (record s { high = high }) ∷ rest)
 
--- The runs of so many stretches are printed, except the last run, which lasts until the next stretch begins.
+-- The runs of the first `count` stretches are printed, except the last one, which ends before the next stretch.
 pub record IsPrintedTo (table : List Label) (s : StretchesModel) (count : ℕ) (before out : Text) (run : Stretch) : Type 0 where
   pub low_version : run.low.version ≡ s.version
   pub high_version : run.high.version ≡ s.version

@@ -1,19 +1,19 @@
--- Tables: lines of fields with `|` between.
+-- Tables: lines of fields with `|` between them.
 use Rattle.std.specs.Prelude.{ℕ, ◌-◌, max, List, [], ◌∷◌, ◌++◌, length, map, fold, replicate, slice_index_or, Bool, if◌then◌else◌}
 use Rattle.std.specs.List.{enumerate_from, flat_map, join_with_byte}
 
--- a field, and a line of them
+-- a field, and the fields of a line
 abbrev pub Text : Type 0
 Text = List ℕ
 
 abbrev pub Line : Type 0
 Line = List Text
 
--- a line: its fields with `|` between, and a line feed
+-- the text of a line: its fields with `|` between them, and a line feed
 abbrev pub line_text : Line → Text
 line_text fields = join_with_byte 124 fields ++ 10 ∷ []
 
--- the width of a column: the greatest length of the fields at this place of the lines
+-- the width of a column: the length of its longest field
 abbrev pub column_width : List Line → ℕ → ℕ
 column_width lines place = fold max 0 (map (λ fields. length (slice_index_or fields place [])) lines)
 
@@ -21,7 +21,7 @@ column_width lines place = fold max 0 (map (λ fields. length (slice_index_or fi
 abbrev pub filled : ℕ → Text → Text
 filled width field = replicate (width - length field) 32 ++ field
 
--- a line with each field filled to the width of its place
+-- a line with each field filled to the width of its column
 abbrev pub filled_line : (ℕ → ℕ) → Line → Line
 filled_line width fields = map (λ e. filled (width e.0) e.1) (enumerate_from 0 fields)
 
@@ -29,6 +29,6 @@ filled_line width fields = map (λ e. filled (width e.0) e.1) (enumerate_from 0 
 abbrev pub table_lines : Bool → List Line → List Line
 table_lines columns lines = if columns then map (filled_line (column_width lines)) lines else lines
 
--- a table, whose first line is its title
+-- the text of a table, whose first line is its header
 abbrev pub table_text : Bool → List Line → Text
 table_text columns lines = flat_map line_text (table_lines columns lines)

@@ -1,4 +1,4 @@
-//! The columns of a table.
+//! The widths of a table's columns, and the padding of its fields.
 ghost use Rattle.std.specs.Prelude.{◌≡◌, ℕ, ◌+◌, ◌-◌, ◌*◌, ◌/◌, ◌%◌, ◌<◌, ◌≤◌, List, [], ◌∷◌, ◌++◌, IfOk, IfSome, OnOk, drop, filter, length, map, replicate, sum, take, true};
 ghost use Rattle.std.specs.List.{flat_map};
 ghost use Rattle.pmap_print.specs.Columns.{AreNoted, CanSpread, IsNoted, is_long, noted, sizes, spread};
@@ -6,21 +6,21 @@ ghost use Rattle.pmap_print.specs.Table.{Line, Text, line_text, table_text};
 
 use std::alloc::{AllocError, Global};
 
-// The least length that doesn't fit in a byte beside this mark.
+// The least length that doesn't fit in `short`, and the mark for all such lengths there.
 const LONG: usize = 255;
 
-/// The lengths of the fields of a table's lines, each with the byte that ends the field.
+/// The lengths in bytes of the fields of a table's lines. Each includes the byte that ends the field.
 #[derive(Drop)]
 pub struct Columns {
-    // The length of each field, or `LONG` for one at least so long.
+    // The length of each field, or `LONG` if the length is at least that.
     short: Vec<u8>,
-    // The lengths of the fields that are at least so long.
+    // The lengths that are at least `LONG`, in order.
     long: Vec<usize>,
     // The greatest length in each column.
     widths: Vec<usize>,
 }
 
-// Returns the length that the last byte notes, and the long lengths before it.
+// Returns the length that `byte` notes, and the long lengths of the fields before it.
 #[inline(always)]
 fn last_length(byte: u8, long: &[usize]) -> (usize, &[usize])
     ensures { (ns : List ℕ) → (n : ℕ) → byte ≡ noted n → long.now ≡ filter is_long (ns ++ n ∷ [])
@@ -36,7 +36,7 @@ fn last_length(byte: u8, long: &[usize]) -> (usize, &[usize])
     }
 }
 
-// Returns the column before one of `count`. Before the first is the last one of the previous line.
+// Returns the column before one of `count` columns. Before the first is the last one of the line above.
 #[inline]
 fn column_before(column: usize, count: usize) -> usize
     requires { 0 < count }
@@ -60,7 +60,7 @@ fn copy_right(text: &mut [u8], from: usize, count: usize, to: usize)
     }
 }
 
-// Moves a part of a text to the right, and puts spaces before it.
+// Writes `spaces` spaces at `to`, followed by the `count` bytes of the text at `from`.
 #[inline(always)]
 fn move_right(text: &mut [u8], from: usize, count: usize, to: usize, spaces: usize)
     requires right { from ≤ to }
@@ -83,12 +83,11 @@ impl Columns {
         Ok(Columns {
             short: Vec::new(alloc),
             long: Vec::new(alloc),
-            // The byte that ends a field counts.
+            // An empty field still has the byte that ends it.
             widths: vec![in alloc; 1usize; count]?,
         })
     }
 
-    // Notes a length.
     #[inline(always)]
     fn note_length(&mut self, size: usize) -> Result<(), AllocError>
         ensures widths { self.new.widths ≡ self.old.widths }
@@ -118,7 +117,7 @@ impl Columns {
         Ok(())
     }
 
-    // Returns the length of the lines in columns, or `None` if no text can be so long.
+    // Returns the length of the padded lines, or `None` if it doesn't fit in a `usize`.
     fn spread_length(&self) -> Option<usize>
         requires { 0 < length self.now.widths.items }
         ensures { IfSome result (λ n. n
@@ -131,7 +130,7 @@ impl Columns {
         line.checked_mul(self.short.len() / self.widths.len())
     }
 
-    // Moves the fields, with which the text begins, each to its column, from the last to the first.
+    // Moves the fields, which are the first `plain` bytes of the text, to their columns, from the last to the first.
     fn spread(&self, text: &mut [u8], plain: usize)
         requires { (texts : List Text) × CanSpread texts self.now plain text.old }
         ensures { (texts : List Text) → CanSpread texts self.now plain text.old

@@ -1,4 +1,4 @@
-//! The text of groups.
+//! The printed text of groups.
 ghost use Rattle.std.specs.Prelude.{◌≡◌, ℕ, ◌+◌, ◌≤◌, List, [], ◌∷◌, ◌++◌, All, IfOk, OnOk, length, map, true};
 ghost use Rattle.flow_uniq.specs.Kept.{group_model};
 ghost use Rattle.flow_uniq.specs.Parts.{part_model};
@@ -14,7 +14,7 @@ use flow_uniq::{Group, Groups, KeyField, KeyPart, Totals};
 use prefix_keys::print_addr;
 use std::alloc::{AllocError, Global};
 
-// Appends the text of a part of a key, which is empty if there is no label.
+// Appends the text of a part of a key. The text of a missing label is empty.
 fn print_part(out: &mut Vec<u8>, part: KeyPart<'_>) -> Result<(), AllocError>
     ensures { OnOk result (out.new.items ≡ out.old.items ++ part_text (part_model part.entry)) }
 {
@@ -25,10 +25,10 @@ fn print_part(out: &mut Vec<u8>, part: KeyPart<'_>) -> Result<(), AllocError>
     }
 }
 
-// How many columns the totals of a group have.
+// The number of columns of a group's totals.
 const TOTALS: usize = 3;
 
-// Appends the header of groups by these fields, and the lengths of its fields, each with the byte that ends it.
+// Appends the header of groups by these fields, and the length of each of its fields with the byte that ends it.
 fn print_title(
     out: &mut Vec<u8>,
     lengths: &mut Vec<usize>,
@@ -48,7 +48,7 @@ fn print_title(
     lengths.extend_from_slice(&[8usize, 8, 6])
 }
 
-// Appends the totals of a group, and the end of its line.
+// Appends the totals of a group and the end of its line. Returns their lengths, each with the byte that ends it.
 fn print_totals(out: &mut Vec<u8>, totals: &Totals) -> Result<[usize; TOTALS], AllocError>
     ensures text { OnOk result (out.new.items ≡ out.old.items ++ line_text (total_fields totals.now)) }
     ensures lengths { IfOk result (λ lengths. lengths ≡ sizes (total_fields totals.now)) }
@@ -65,7 +65,7 @@ fn print_totals(out: &mut Vec<u8>, totals: &Totals) -> Result<[usize; TOTALS], A
     Ok([packets - begin, octets - packets, out.len() - octets])
 }
 
-// Appends the line of a group, and if they are to be noted the lengths of its fields, each with the byte that ends it.
+// Appends the line of a group and, if `noted`, the lengths of its fields, each with the byte that ends it.
 fn print_group(
     out: &mut Vec<u8>,
     lengths: &mut Vec<usize>,
@@ -93,7 +93,7 @@ fn print_group(
     Ok(())
 }
 
-// Adds the line of a group.
+// Adds the line of a group to a table. Replaces the lengths in `lengths`.
 fn add_group(
     table: &mut Table,
     lengths: &mut Vec<usize>,
@@ -113,7 +113,7 @@ fn add_group(
     Ok(())
 }
 
-// A table of no groups by these fields.
+// Returns a table of groups by these fields that has only its header.
 fn table_of_none(
     alloc: Global,
     lengths: &mut Vec<usize>,
@@ -132,8 +132,8 @@ fn table_of_none(
 
 /// Returns the text of groups: a header, and a line for each group with the parts of its key and its totals.
 ///
-/// The lines are in the order of the groups' first rows, or `sorted` by their keys. With `columns` each field is padded
-/// with spaces on the left to the width of its column.
+/// The lines are in the order of the groups' first rows or, if `sorted`, of their keys. With `columns` each field is
+/// padded with spaces on the left to the width of its column.
 ///
 /// # Errors
 /// If an allocation fails.

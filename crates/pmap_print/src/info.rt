@@ -1,4 +1,4 @@
-//! The text of counts.
+//! The printed text of counts.
 ghost use Rattle.std.specs.Prelude.{◌≡◌, ◌++◌, IfOk, OnOk};
 ghost use Rattle.flow_rows.specs.Counts.{counts_view};
 ghost use Rattle.pmap_print.specs.Info.{count_text, info_text};
@@ -7,7 +7,7 @@ use crate::number::print_number;
 use flow_rows::Counts;
 use std::alloc::{AllocError, Global};
 
-// Appends the line of a count.
+// Appends the line of a count: its name and its number.
 fn print_count(out: &mut Vec<u8>, name: &[u8], number: u64) -> Result<(), AllocError>
     ensures { OnOk result (out.new.items ≡ out.old.items ++ count_text name.now number) }
 {
@@ -18,7 +18,7 @@ fn print_count(out: &mut Vec<u8>, name: &[u8], number: u64) -> Result<(), AllocE
     Ok(())
 }
 
-/// The text of counts: a line for each, with its name and its number.
+/// Returns the text of counts: a line for each, with its name and its number.
 pub fn print_info(alloc: Global, counts: &Counts) -> Result<Vec<u8>, AllocError>
     ensures { IfOk result (λ out. out.items ≡ info_text (counts_view counts.now)) }
 {

@@ -1,4 +1,4 @@
-/// The labels of a row's two addresses, if they have one.
+/// The labels of a row's source and destination address. An address without a label has `None`.
 #[derive(Clone, Copy, Debug)]
 pub struct RowLabels<'a> {
     /// The label of the source.

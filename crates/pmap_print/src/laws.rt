@@ -22,8 +22,8 @@ ghost use Rattle.pmap_print.specs.ReadBack.{CanBeReadAgain, IsListAgain, IsMapAg
 ghost use Rattle.pmap_print.specs.Runs.{IsRunsText};
 ghost use Rattle.pmap_print.specs.Table.{Text};
 
-/// A labelling of a version's addresses has one text of its runs, and labellings that agree on each address have the
-/// same. So a list that labels each address as a map does has the map's.
+/// The text of the runs of a labelling is unique, and labellings that agree on each address have the same text. So a
+/// list that labels each address as a map does has the map's text.
 pub fn labelling_has_one_runs_text()
     ensures one { (v : Version) (f : ℕ → Option Label) (text other : Text) →
         IsRunsText v f text → IsRunsText v f other → text ≡ other }
@@ -34,7 +34,7 @@ pub fn labelling_has_one_runs_text()
         IsRunsText m.version (λ a. Some (map_label m a)) other → text ≡ other }
 {}
 
-/// A list is printed in the one order in which each entry precedes all that follow it. Entries in order keep theirs.
+/// A list is printed in the only order in which each entry precedes all that follow it. A list in that order keeps it.
 pub fn printed_order_is_one()
     ensures entries { (ps : List Prefix) → IsPermutation ps (in_order ps) }
     ensures order { (ps : List Prefix) → IsDistinct starts_alike ps → IsInOrder (in_order ps) }
@@ -43,9 +43,9 @@ pub fn printed_order_is_one()
     ensures kept { (ps : List Prefix) → IsInOrder ps → in_order ps ≡ ps }
 {}
 
-/// The printed text of a list is read back: as a list it has the same name, version and entries, and as a map the same
-/// label at each address that the list gives one. This holds of each list of distinct blocks, with labels and within the
-/// limits of a text.
+/// The printed text of a list of distinct blocks, with well-formed labels and within the limits of a text, is read
+/// back. As a list it has the same name, version and entries, and as a map it has the same label at each address that
+/// the list labels.
 pub fn printed_list_is_read_back()
     ensures list { (l : ListModel) → CanBeReadAgain l →
         (r : ListModel) × ReadsList (list_text l) r × IsListAgain l r }
@@ -63,17 +63,17 @@ pub fn printed_list_is_equivalent()
 {}
 
 /// The printed text of a prefix list is within the limits of a text if the list has at most 1,000,000 entries with at
-/// most 65,535 label texts. `Labels::len` and `Name::as_bytes` say that its table and its name are labels.
+/// most 65,535 label texts. `Labels::len` and `Name::as_bytes` prove that its table and its name are labels.
 pub fn prefix_list_can_be_read_again()
     ensures { (l : PrefixList) → IsLabelTable l.labels → ForSome l.name (λ name. IsTrue (is_label name)) →
         length l.entries ≤ mapping_limit → length (labels_of (in_order (list_of l).prefixes)) ≤ label_limit →
         CanBeReadAgain (list_of l) }
 {}
 
-/// The list of a minimal pair of a map text is well formed: its blocks are distinct, and its labels and its name have
-/// the form of labels. So it can be printed and read again if it has at most 1,000,000 entries with at most 65,535
-/// label texts. The map text doesn't imply these limits: a range can take several blocks, and a text of 65,535 labels
-/// may leave `UNKNOWN` unstated.
+/// The list of a minimal pair of a map text is well formed: its blocks are distinct, and its labels and its name are
+/// well formed. So it can be printed and read again if it has at most 1,000,000 entries with at most 65,535 label
+/// texts. The map text doesn't imply these limits: a range may need several blocks, and a text with 65,535 labels may
+/// also use `UNKNOWN` without stating it.
 pub fn minimal_list_can_be_read_again()
     ensures form { (text : List ℕ) (m : MapModel) (l : ListModel) (c : CertificateModel) → ReadsMap text m →
         IsMinimalPair m l c → IsWellFormed l }
@@ -82,16 +82,16 @@ pub fn minimal_list_can_be_read_again()
         CanBeReadAgain l }
 {}
 
-/// The entries of a minimal pair's list have no more label texts than the map's table, if that has the map's labels, as
-/// that of a map text does. So a map text of at most 65,535 labels, `UNKNOWN` counted if it has no default, keeps that
-/// limit.
+/// The entries of a minimal pair's list have no more label texts than the map's table, if the table has the map's
+/// labels, as that of a map text does. So the list keeps the limit if the map text has at most 65,535 labels, counting
+/// `UNKNOWN` if it has no default.
 pub fn minimal_list_has_few_labels()
     ensures { (m : MapModel) (l : ListModel) (c : CertificateModel) → IsMinimalPair m l c → HasItsLabels m →
         length (labels_of l.prefixes) ≤ length m.table }
 {}
 
-/// The printed list of a minimal pair of a map text, within these limits, is read as a list of as many entries for
-/// which the pair's certificate is accepted.
+/// If the list of a minimal pair of a map text is within these limits, its printed text is read as a list with as many
+/// entries, and the pair's certificate is accepted for that list.
 pub fn minimal_list_is_accepted_again()
     ensures { (text : List ℕ) (m : MapModel) (l : ListModel) (c : CertificateModel) → ReadsMap text m →
         IsMinimalPair m l c → length l.prefixes ≤ mapping_limit → length (labels_of l.prefixes) ≤ label_limit →

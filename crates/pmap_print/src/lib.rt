@@ -4,18 +4,18 @@
 //! use pmap_print::print_list;
 //! use pmap_text::read_list;
 //!
-//! // Entries are printed by rising first address, of one address the shorter block first.
+//! // Of two entries with the same first address, the one with the shorter prefix is printed first.
 //! let list = read_list(alloc, b"10.0.0.0/16 B\n10.0.0.0/8 A\n")?;
 //! let text = print_list(alloc, &list)?;
 //! assert!(rt; text.as_slice() == b"mode ipv4\n10.0.0.0/8 A\n10.0.0.0/16 B\n".as_slice());
 //! ```
 //!
-//! It depends on the crates of what it prints. `print_rows` returns the text of flow rows, with labels or without, in
-//! columns or not, and a `Table` makes it row by row. `print_groups` returns the text of groups, `print_info` that of
-//! counts, `print_list` that of a prefix list, and `print_runs` that of the runs of stretches. The layer above may rely
-//! on this: the text is the function of the printed value that the definitions state, byte for byte, and the only error
-//! is out of memory. By the laws the printed text of a list is read back, and that of a minimal pair's list as one for
-//! which the pair's certificate is accepted.
+//! It depends on the crates of what it prints. `print_rows` returns the text of flow rows, with or without labels and
+//! columns, and a `Table` builds it row by row. `print_groups` returns the text of groups, `print_info` that of counts,
+//! `print_list` that of a prefix list, and `print_runs` that of the runs of stretches. The layer above may rely on
+//! this: the text is, byte for byte, what the definitions state for the printed value, and the only error is out of
+//! memory. By the laws, the printed text of a list is read back, and a minimal pair's certificate is accepted for the
+//! list that is read.
 #![tactic(auto)]
 
 mod columns;

@@ -1,4 +1,4 @@
-//! The text of a prefix list.
+//! The printed text of a prefix list.
 ghost use Rattle.std.specs.Prelude.{◌≡◌, ◌++◌, ◌∷◌, [], All, IfOk, List, OnOk, map};
 ghost use Rattle.std.specs.List.Sorted.{IsNonDecreasingBy, IsPermutation};
 ghost use Rattle.std.specs.Ordering.{nat_cmp};
@@ -15,7 +15,7 @@ use prefix_keys::{Version, print_block};
 use std::alloc::{AllocError, Global};
 use std::cmp::Ordering;
 
-// Appends the lines that say what the list is called, if it has a name, and its version.
+// Appends the line of the list's name, if it has one, and the line of its version.
 fn print_head(out: &mut Vec<u8>, list: &PrefixList) -> Result<(), AllocError>
     ensures { OnOk result (out.new.items
         ≡ out.old.items ++ text_of_lines (name_lines list.now.name ++ mode_line list.now.version ∷ [])) }
@@ -31,7 +31,7 @@ fn print_head(out: &mut Vec<u8>, list: &PrefixList) -> Result<(), AllocError>
     })
 }
 
-// Appends the line of an entry.
+// Appends the line of an entry: its block and its label.
 fn print_entry(out: &mut Vec<u8>, entry: &Entry, labels: &Labels) -> Result<(), AllocError>
     ensures { OnOk result (out.new.items
         ≡ out.old.items ++ (entry_line entry.now.block.version (prefix_of labels.now entry.now) ++ 10 ∷ [])) }
@@ -43,7 +43,6 @@ fn print_entry(out: &mut Vec<u8>, entry: &Entry, labels: &Labels) -> Result<(), 
     Ok(())
 }
 
-// Appends the lines of entries.
 fn print_entries(
     out: &mut Vec<u8>,
     entries: &[Entry],
@@ -60,7 +59,7 @@ fn print_entries(
     Ok(())
 }
 
-// Which of two entries is printed first: the one with the lower first address, of one address the shorter block.
+// Compares entries by their first addresses and, if these are equal, by the lengths of their prefixes.
 fn by_place(entry: &Entry, other: &Entry) -> Ordering
     ensures { result ≡ nat_cmp (place_of entry.now) (place_of other.now) }
 {
@@ -80,7 +79,7 @@ fn sort_by_place(entries: &mut Vec<Entry>) -> Result<(), AllocError>
     Ok(())
 }
 
-// The entries in the order in which they are printed.
+// Returns the entries in the order in which they are printed.
 fn sorted_entries(alloc: Global, entries: &[Entry]) -> Result<Vec<Entry>, AllocError>
     requires { HasDistinctBlocks entries.now }
     ensures same { IfOk result (λ sorted. IsPermutation entries.now sorted.items) }
@@ -92,8 +91,8 @@ fn sorted_entries(alloc: Global, entries: &[Entry]) -> Result<Vec<Entry>, AllocE
     Ok(sorted)
 }
 
-/// The text of a prefix list: a line with its name, if it has one, a line with its version, and a line for each entry,
-/// by rising first address, of one address the shorter block first.
+/// Returns the text of a prefix list: a line with its name, if it has one, a line with its version, and the entries in
+/// order of their first addresses. Of two entries with the same one, the shorter prefix is first.
 pub fn print_list(alloc: Global, list: &PrefixList) -> Result<Vec<u8>, AllocError>
     ensures { IfOk result (λ out. out.items ≡ list_text (list_of list.now)) }
 {

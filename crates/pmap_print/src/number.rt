@@ -13,7 +13,7 @@ pub fn print_number(out: &mut Vec<u8>, number: u64) -> Result<(), AllocError>
     out.extend_from_slice(buffer.format(number).as_bytes())
 }
 
-/// Appends a number that may have more than 64 bits, in decimal.
+/// Appends a number of up to 128 bits in decimal.
 pub fn print_total(out: &mut Vec<u8>, total: u128) -> Result<(), AllocError>
     ensures { OnOk result (out.new.items ≡ out.old.items ++ decimal total) }
 {

@@ -1,4 +1,4 @@
-//! The text of flow rows.
+//! The printed text of flow rows.
 ghost use Rattle.std.specs.Prelude.{◌≡◌, ℕ, ◌+◌, ◌<◌, ◌≤◌, List, [], ◌∷◌, ◌++◌, IfOk, OnOk, drop, is_some, length, map, option_map, take, unwrap_or};
 ghost use Rattle.std.specs.Fmt.{decimal};
 ghost use Rattle.std.specs.Option.{ForSome};
@@ -15,18 +15,18 @@ use itoa::write_digits;
 use prefix_keys::print_addr;
 use std::alloc::{AllocError, Global};
 
-// How many columns rows have, and how many with labels.
+// The number of columns of rows, without labels and with them.
 const COLUMNS: usize = 10;
 
 const COLUMNS_WITH_LABELS: usize = 12;
 
-// The eight numbers of a row, each after a `|`, and the byte after them take at most so many bytes.
+// The most bytes that the eight numbers of a row, each after a `|`, and the byte after them take.
 const NUMBERS: usize = 169;
 
 // The lengths of the fields of the header, each with the byte that ends it.
 const TITLE_LENGTHS: [usize; COLUMNS_WITH_LABELS] = [4, 4, 6, 6, 6, 6, 8, 6, 6, 6, 10, 10];
 
-// Appends the header of rows, and of their labels if they have some.
+// Appends the header of rows, with the names of the label columns if `labelled`.
 fn print_title(out: &mut Vec<u8>, labelled: bool) -> Result<(), AllocError>
     ensures { OnOk result (out.new.items ≡ out.old.items ++ line_text (title_line labelled)) }
 {
@@ -39,7 +39,7 @@ fn print_title(out: &mut Vec<u8>, labelled: bool) -> Result<(), AllocError>
     }
 }
 
-// Writes a number after a `|` so that it ends at `end`, and returns the index of the `|`.
+// Writes a `|` and a number so that the number ends at `end`, and returns the index of the `|`.
 #[inline(always)]
 fn write_number(number: u64, buf: &mut [u8], end: usize) -> usize
     requires room { 21 ≤ end }
@@ -53,8 +53,8 @@ fn write_number(number: u64, buf: &mut [u8], end: usize) -> usize
     at
 }
 
-// Appends the numbers of a row, each after a `|`, and then a byte. Returns the lengths of the numbers, each with the
-// byte after it.
+// Appends the numbers of a row, each after a `|`, and then the byte `last`. Returns the lengths of the numbers, each
+// with the byte after it.
 #[inline(always)]
 fn print_numbers(out: &mut Vec<u8>, row: &Row, last: u8) -> Result<[usize; 8], AllocError>
     ensures text { OnOk result (out.new.items ≡ out.old.items ++ barred (number_fields (row_view row.now)) (last ∷ [])) }
@@ -102,7 +102,7 @@ fn label_length(label: Option<&[u8]>) -> usize
     label.unwrap_or(b"").len() + 1
 }
 
-// Appends the line of a row, and of its labels if it has some. Returns the lengths of its fields, each with the byte
+// Appends the line of a row, with its labels if they are given. Returns the lengths of its fields, each with the byte
 // that ends it.
 #[inline(always)]
 fn print_row(
@@ -152,7 +152,7 @@ fn column_count(labelled: bool) -> usize
 }
 
 impl Table {
-    /// Returns a table of no rows, with labels or without.
+    /// Returns a table of rows that has only its header, with the names of the label columns if `labelled`.
     ///
     /// With `columns` each field is padded with spaces on the left to the width of its column.
     ///
@@ -169,7 +169,7 @@ impl Table {
         Ok(table)
     }
 
-    /// Adds the line of a row, and of its labels if it has some.
+    /// Adds the line of a row, with its labels if the table has columns for them.
     ///
     /// # Errors
     /// If an allocation fails. The table may then end with a part of the line, and must not be used any more.
@@ -201,8 +201,8 @@ fn labels_at<'a>(labels: Option<&[RowLabels<'a>]>, index: usize) -> Option<RowLa
 
 /// Returns the text of rows: a header, and a line for each row.
 ///
-/// If labels are given, each line ends with the labels of its row. With `columns` each field is padded with spaces on
-/// the left to the width of its column.
+/// If labels are given, there are as many as rows, and each line ends with the labels of its row. With `columns` each
+/// field is padded with spaces on the left to the width of its column.
 ///
 /// # Errors
 /// If an allocation fails.

@@ -8,7 +8,7 @@ use pmap_text::{LabelId, Labels, Stretches};
 use prefix_keys::{Addr, print_addr};
 use std::alloc::{AllocError, Global};
 
-// The addresses from one to another, with the number of their label, if they have one.
+// The addresses from `low` to `high`, with the number of their label, if they have one.
 #[derive(Clone, Copy)]
 struct Stretch {
     low: Addr,
@@ -16,7 +16,7 @@ struct Stretch {
     label: Option<LabelId>,
 }
 
-// The stretch with the index.
+// Returns the stretch with an index.
 fn stretch_at(stretches: &Stretches, index: usize) -> Stretch
     requires { index < length stretches.now.firsts }
     ensures low { result.low.version ≡ stretches.now.version }
@@ -40,8 +40,8 @@ fn stretch_at(stretches: &Stretches, index: usize) -> Stretch
     }
 }
 
-// Returns `true` if both are the same number, or neither is a number. The texts of a label table are distinct, so the
-// texts are equal exactly in these cases.
+// Returns `true` if both labels have the same number, or both are missing. The texts of a label table are distinct, so
+// the texts are equal exactly in these cases.
 fn is_same(label: Option<LabelId>, other: Option<LabelId>) -> bool
     ensures { result ≡ is_same_number (option_map (λ id. id.0) label) (option_map (λ id. id.0) other) }
 {
@@ -52,7 +52,7 @@ fn is_same(label: Option<LabelId>, other: Option<LabelId>) -> bool
     }
 }
 
-// Appends the line of a stretch.
+// Appends the line of a stretch: its first and last address, and its label.
 fn print_stretch(out: &mut Vec<u8>, stretch: &Stretch, labels: &Labels) -> Result<(), AllocError>
     requires { stretch.now.high.version ≡ stretch.now.low.version }
     ensures { OnOk result (out.new.items
@@ -69,7 +69,7 @@ fn print_stretch(out: &mut Vec<u8>, stretch: &Stretch, labels: &Labels) -> Resul
     Ok(())
 }
 
-// Appends the lines of the runs of the stretches, after the titles.
+// Appends the lines of the runs of the stretches to the header.
 fn push_runs(out: &mut Vec<u8>, stretches: &Stretches, labels: &Labels) -> Result<(), AllocError>
     requires title { out.old.items ≡ line_text run_titles }
     requires known { AreLabelsBelow (length labels.now) stretches.now }
@@ -91,8 +91,8 @@ fn push_runs(out: &mut Vec<u8>, stretches: &Stretches, labels: &Labels) -> Resul
     print_stretch(out, &stretch, labels)
 }
 
-/// The text of the runs of stretches: the titles, and a line for each maximal range of consecutive addresses that have
-/// one label or have none, with its first and its last address and the label.
+/// Returns the text of the runs of stretches: a header, and a line for each maximal range of consecutive addresses with
+/// the same label or with none. The line has the first and the last address and the label.
 pub fn print_runs(
     alloc: Global,
     stretches: &Stretches,

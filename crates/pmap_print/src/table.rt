@@ -7,12 +7,12 @@ ghost use Rattle.pmap_print.specs.Table.{Line, table_text};
 use crate::columns::Columns;
 use std::alloc::{AllocError, Global};
 
-/// The lines of a table, which are padded to columns or not.
+/// A table that is built line by line. Its fields are padded to columns, or are not.
 #[derive(Drop)]
 pub struct Table {
-    // The lines as they are.
+    // The lines, without padding.
     pub(crate) text: Vec<u8>,
-    // What is noted of them, if they are to be padded.
+    // The lengths of the fields, if they are to be padded.
     pub(crate) columns: Option<Columns>,
 }
 
@@ -53,7 +53,7 @@ impl Table {
         }
     }
 
-    /// Returns the text of the table.
+    /// Returns the text of the table, padded if the table has columns.
     ///
     /// # Errors
     /// If an allocation fails.

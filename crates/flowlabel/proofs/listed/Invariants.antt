@@ -1,4 +1,4 @@
--- The words are those in the list, followed by those still to come.
+-- The words are those in the list, followed by those that aren't listed yet.
 use Rattle.std.proofs.Common.{◌≡◌, ◌++◌}
 use Rattle.std.specs.Vec.Iter.{into_iter_items}
 use Rattle.flowlabel.proofs.listed.Given as goal

@@ -1,4 +1,4 @@
-//! What `cat` prints.
+//! The output of `cat`.
 ghost use Rattle.std.specs.Prelude.{◌≡◌, IfOk};
 ghost use Rattle.pmap_text.specs.MapText.{map_of};
 ghost use Rattle.pmap_text.specs.PrefixList.{list_of};
@@ -25,14 +25,14 @@ fn runs_of_map(alloc: Global, map: &MapText) -> Result<Vec<u8>, AllocError>
 fn runs_of_list(alloc: Global, list: &PrefixList) -> Result<Vec<u8>, AllocError>
     ensures { IfOk result (λ out. HasRunsText (labelling_of_list (list_of list.now)) out.items) }
 {
-    // Provides the law above.
+    // Provides the law that labellings that agree on each address have one text of their runs.
     labelling_has_one_runs_text();
     let statements = statements_of_list(alloc, list)?;
     let stretches = Stretches::new(alloc, list.version, None, &list.labels, &statements)?;
     print_runs(alloc, &stretches, &list.labels)
 }
 
-/// The text of the runs of the labels of a map or a list.
+/// Returns the text of the runs of addresses with the same label under a map or a list.
 pub fn runs_text(alloc: Global, labels: LoadedLabels<'_>) -> Result<Vec<u8>, AllocError>
     ensures { IfOk result (λ out. HasRunsText (labelling_of_either labels.entry) out.items) }
 {

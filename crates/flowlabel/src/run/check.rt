@@ -1,4 +1,4 @@
-//! What `check` prints.
+//! The output of `check`.
 ghost use Rattle.std.specs.Prelude.{◌≡◌, [], Ok, Err, false, IfErr, IfOk};
 ghost use Rattle.pmap_text.specs.MapText.{map_of};
 ghost use Rattle.pmap_text.specs.PrefixList.{list_of};
@@ -20,14 +20,14 @@ use pmap_cert::Certificate;
 use pmap_text::{MapText, PrefixList};
 use std::alloc::{AllocError, Global};
 
-// The line of the number of a shortest list's entries.
+// The line with the number of a shortest list's entries.
 fn minimal_line(alloc: Global, count: u64) -> Result<Vec<u8>, AllocError>
     ensures { IfOk result (λ out. out.items ≡ minimal_text count) }
 {
     Ok(format!(in alloc; "minimal {count}\n")?.into_bytes())
 }
 
-// The number of a list's entries, if a certificate shows that the list is a shortest one for a map.
+// Returns the line of `check`, if the certificate shows that the list is a shortest one for the map.
 fn checked(
     alloc: Global,
     map: &MapText,
@@ -42,7 +42,7 @@ fn checked(
     Ok(minimal_line(alloc, count)?)
 }
 
-/// Checks the three files that are loaded. A fault names the certificate's file.
+/// Checks the loaded files, and returns the line of `check`. A fault names the certificate's file.
 pub fn check_loaded<'a, R: Input>(
     alloc: Global,
     loaded: &Loaded,

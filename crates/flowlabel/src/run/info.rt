@@ -1,4 +1,4 @@
-//! What `info` prints.
+//! The output of `info`.
 ghost use Rattle.std.specs.Prelude.{◌≡◌};
 
 use crate::run::report::Report;
@@ -8,7 +8,7 @@ use label_lookup::Labeller;
 use pmap_print::print_info;
 use std::alloc::{AllocError, Global};
 
-/// The counts of messages.
+/// The report of `info`: counts of the messages and of what they have.
 #[derive(Clone, Copy, Debug)]
 pub struct InfoReport;
 

@@ -1,4 +1,4 @@
-//! What `label` prints.
+//! The output of `label`.
 ghost use Rattle.std.specs.Prelude.{◌≡◌, [], IfOk, option_map, unwrap_or};
 ghost use Rattle.label_lookup.specs.Labelling.{labelling};
 ghost use Rattle.flowlabel.specs.Loading.{labelling_of_either};
@@ -9,7 +9,7 @@ use label_lookup::{Labeller, ListScan, Scan};
 use prefix_keys::{Addr, convert};
 use std::alloc::{AllocError, Global};
 
-// The line of a label: the line feed alone if there is none.
+// The line of a label. Without a label it is the line feed alone.
 fn line(alloc: Global, label: Option<&[u8]>) -> Result<Vec<u8>, AllocError>
     ensures { IfOk result (λ out. out.items ≡ line_of (unwrap_or (option_map (λ t. t.now) label.entry) [])) }
 {
@@ -32,8 +32,8 @@ fn line_by<L: Labeller>(alloc: Global, labels: &L, addr: Addr) -> Result<Vec<u8>
     }
 }
 
-/// The line of the label that a map or a list gives an address. One search among all statements or entries finds it,
-/// which takes less time than an index would take to build.
+/// Returns the line of the label that a map or a list gives an address. It searches all statements or entries once,
+/// which takes less time than building an index.
 pub fn label_line(
     alloc: Global,
     labels: LoadedLabels<'_>,

@@ -14,7 +14,7 @@ use pmap_print::{
     printed_list_is_equivalent, printed_list_is_read_back, printed_order_is_one,
 };
 
-/// A request has one output at most over the texts of its files.
+/// A request has at most one output over the texts of its files.
 pub fn one_output()
     ensures { OneOutput }
 {
@@ -64,9 +64,9 @@ pub fn check_accepts_minimal()
     compact_keeps_acceptance();
 }
 
-/// What `recert` prints of a certificate, whoever made it, is as good: it has no more node lines, `recert` prints it
-/// unchanged, and if `check` prints a number over a map text, a list text and the certificate, it prints the same over
-/// what `recert` printed.
+/// A certificate that `recert` prints is as good as the one that it read, whoever made that one: it has no more node
+/// lines, `recert` prints it unchanged, and if `check` prints a number over a map text, a list text and the certificate
+/// that was read, it prints the same number over the printed one.
 pub fn recert_is_as_good()
     ensures { RecertIsAsGood }
 {
@@ -100,10 +100,10 @@ pub fn output_keeps_headline()
     same_under_equivalents();
 }
 
-/// What `shrink` prints for each map text is right and least: the list labels every address as the map does, no list
-/// that does so has fewer entries, and the certificate is accepted for the two, compacted or not. If the list is within
-/// the limits of a text, what is printed is read again as the same list, and `check` over the map text, that list and
-/// the certificate, compacted or not, prints the number of its entries.
+/// For each map text, `shrink` prints a list that labels every address as the map does, and no list that does so has
+/// fewer entries. The certificate that it prints, compacted or not, is accepted for the map and the list. If the list
+/// is within the limits of a text, the printed text is read again as the same list, and `check` over the map text, that
+/// list and the certificate, compacted or not, prints the number of its entries.
 pub fn shrunk_list_is_least()
     ensures { ShrunkIsLeast }
 {

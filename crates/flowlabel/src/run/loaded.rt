@@ -4,7 +4,7 @@ ghost use Rattle.flowlabel.specs.Loading.{labelling_loaded, labelling_of_either}
 use pmap_cert::Certificate;
 use pmap_text::{MapText, PrefixList};
 
-/// The files that a run decodes whole before it reads flows: those that its command needs.
+/// The files that a run decodes before it reads flows. A file that its command doesn't need is `None`.
 #[derive(Drop)]
 pub struct Loaded {
     pub map: Option<MapText>,
@@ -12,7 +12,7 @@ pub struct Loaded {
     pub certificate: Option<Certificate>,
 }
 
-/// What has labels: a prefix map, or a prefix list.
+/// A prefix map or a prefix list, which labels come from.
 #[derive(Clone, Copy)]
 pub enum LoadedLabels<'a> {
     Map(&'a MapText),
@@ -20,7 +20,7 @@ pub enum LoadedLabels<'a> {
 }
 
 impl Loaded {
-    /// The labels of the map, or otherwise of the list. No command reads both for its labels.
+    /// Returns the labels of the map, or otherwise of the list. No command reads both for its labels.
     pub fn labels(&self) -> Option<LoadedLabels<'_>>
         ensures { option_map labelling_of_either result ≡ labelling_loaded self.now }
     {

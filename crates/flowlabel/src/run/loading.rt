@@ -1,4 +1,4 @@
-//! From files to what they hold: each is read whole and decoded before the next.
+//! Reads the map, the list and the certificate of a command. Each is read whole and decoded before the next one.
 ghost use Rattle.std.specs.Prelude.{◌≡◌, ℕ, List, Some, false, IfErr, IfOk, is_some};
 ghost use Rattle.flowlabel.specs.BytesFault.{is_answer_of_calls, is_want_of_memory};
 ghost use Rattle.flowlabel.specs.Loading.{AreLoaded, ArePresent, Holds, IsFirstFault};
@@ -16,15 +16,15 @@ use pmap_cert::{Certificate, read_cert_with_hashing};
 use pmap_text::{KeyHashing, MapText, PrefixList, read_list_with_hashing, read_map_with_hashing};
 use std::alloc::Global;
 
-// What the text of a file is decoded to.
+// A value that the text of a file is decoded to.
 trait Decode {
     // The turn of the file among those that a run reads.
     ghost turn: { Turn };
 
-    // The value is what the text is read as.
+    // The text is read as this value.
     ghost reads: { List ℕ → Self → Type 0 };
 
-    // What the text is read as, or its first fault. Labels are hashed by these numbers.
+    // Returns the value that the text is read as, or its first fault. Labels are hashed by `hashing`.
     fn decode(alloc: Global, text: &[u8], hashing: KeyHashing) -> Result<Self, BytesFault>
         ensures ok { IfOk result (reads text.now) }
         ensures turn { IfErr result (λ fault. turn_of fault ≡ turn) }
@@ -84,7 +84,7 @@ impl Decode for Certificate {
     }
 }
 
-/// The whole text of a file.
+/// Reads the rest of a file, and returns its text.
 pub fn text_of_file<'a, R: Input>(
     alloc: Global,
     source: &mut Source<'a, R>,
@@ -102,7 +102,7 @@ pub fn text_of_file<'a, R: Input>(
     }
 }
 
-// The decoded file of an input, if the input is there.
+// Reads and decodes the file of an input, if the input is there.
 fn load_one<'a, R: Input, T: Decode>(
     alloc: Global,
     source: &mut Option<Source<'a, R>>,
@@ -125,8 +125,8 @@ fn load_one<'a, R: Input, T: Decode>(
     }
 }
 
-/// Reads and decodes the map, the list and the certificate that are there, in this order. The first fault ends it, and
-/// the files after that one are not read.
+/// Reads and decodes the map, the list and the certificate that are there, in this order. After a fault no further file
+/// is read.
 pub fn load<'a, R: Input>(
     alloc: Global,
     inputs: &mut Inputs<'a, R>,

@@ -1,4 +1,4 @@
-//! What `recert` prints.
+//! The output of `recert`.
 ghost use Rattle.std.specs.Prelude.{[], Ok, IfOk};
 ghost use Rattle.pmap_cert.specs.Certificate.{certificate_of};
 ghost use Rattle.flowlabel.specs.Loading.{ArePresent, ComesOf};
@@ -9,7 +9,7 @@ use crate::run::loaded::Loaded;
 use pmap_cert::{Certificate, compact, write_cert};
 use std::alloc::{AllocError, Global};
 
-// The text of a certificate compacted.
+// The text of a certificate, compacted.
 fn compact_text(alloc: Global, certificate: &Certificate) -> Result<Vec<u8>, AllocError>
     ensures { IfOk result (λ out. PrintsCompact (certificate_of certificate.now) (Ok out.items)) }
 {
@@ -17,7 +17,7 @@ fn compact_text(alloc: Global, certificate: &Certificate) -> Result<Vec<u8>, All
     write_cert(alloc, &compacted)
 }
 
-/// The text of the certificate that is loaded, compacted.
+/// Returns the text of the loaded certificate, compacted.
 pub fn compact_loaded(alloc: Global, loaded: &Loaded) -> Result<Vec<u8>, AllocError>
     requires { ArePresent (needs_of (recert [])) loaded.now }
     ensures { IfOk result (λ out. ComesOf (recert []) loaded.now [] (Ok out.items)) }

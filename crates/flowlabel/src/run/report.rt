@@ -1,4 +1,4 @@
-//! What is printed of an IPFIX File, under labels or without any.
+//! Reports on an IPFIX File, with labels or without.
 ghost use Rattle.std.specs.Prelude.{◌≡◌, ◌≤◌, ◌<◌, ◌++◌, ◌∷◌, [], ℕ, List, OnOk, Option, Ok, Some, false, true, IfErr, IfOk, is_some, length, option_map};
 ghost use Rattle.ipfix_read.specs.Message.{MessageView};
 ghost use Rattle.ipfix_read.specs.Messages.{is_read_fault};
@@ -19,18 +19,18 @@ use ipfix_read::{Buffer, Message, Progress, ReadFault, ReadFaultKind};
 use label_lookup::{Labeller, StretchIndex};
 use std::alloc::{AllocError, Global};
 
-/// What may be printed of the messages of a File, which are taken one after the other.
+/// A report on the messages of a File, which takes them one after the other.
 pub trait Report {
-    /// What is had of the messages that are taken.
+    /// The state of a report after the messages that it has taken.
     type Taken: Drop;
 
-    /// The text of messages under a labelling, or without one.
+    /// The text of the report on messages, under a labelling or without one.
     ghost text: { Self → Option Labelling → List MessageView → List ℕ };
 
-    // The report of these messages under the labelling.
+    // The state is that after these messages, under the labelling or without one.
     ghost is_of: { Self → Option Labelling → List MessageView → Self.Taken → Type 0 };
 
-    /// The report of no message, with the labels of this labeller, if there is one.
+    /// Returns the state before the first message. The labels, if any, are those of this labeller.
     fn begin<L: Labeller>(
         &self,
         alloc: Global,
@@ -38,7 +38,7 @@ pub trait Report {
     ) -> Result<Self::Taken, AllocError>
         ensures { IfOk result (is_of self.now (labelling_lent L.version_of L.label labels.entry) []) };
 
-    /// Takes one message more.
+    /// Takes the next message.
     fn take<L: Labeller>(
         &self,
         taken: &mut Self::Taken,
@@ -51,7 +51,7 @@ pub trait Report {
             → is_of self.now (labelling_lent L.version_of L.label labels.entry) messages taken.old
             → OnOk result (is_of self.now (labelling_lent L.version_of L.label labels.entry) (messages ++ message.now ∷ []) taken.new) };
 
-    /// Prints the report on the messages that are taken.
+    /// Returns the text of the report on the messages taken.
     fn finish<L: Labeller>(
         &self,
         alloc: Global,
@@ -63,7 +63,7 @@ pub trait Report {
             → IfOk result (λ out. out.items ≡ text self.now (labelling_lent L.version_of L.label labels.entry) messages) };
 }
 
-// Takes the messages of the File that a reader still gives, one at a time, into one buffer.
+// Reads the rest of a File into one buffer, message by message, and lets the report take each message.
 fn take_messages<R: Input, P: Report, L: Labeller>(
     alloc: Global,
     reader: &mut R,
@@ -79,7 +79,7 @@ fn take_messages<R: Input, P: Report, L: Labeller>(
     ensures first { IfErr result IsFirstAnswer }
     ensures device { R.failed reader.new ≡ is_read_fault result }
 {
-    // Provides the law that the calls so far and the next one are the whole File.
+    // Provides the law that the calls so far and the next one read the whole File.
     ipfix_read::calls_join_file();
     let mut buffer = Buffer::new(alloc)?;
     let mut progress = Progress::new(alloc);
@@ -89,7 +89,7 @@ fn take_messages<R: Input, P: Report, L: Labeller>(
     Ok(())
 }
 
-// The fault of the file with this name, if its messages can't be read.
+// The fault of the file with this name, whose messages can't be read.
 fn fault_of_messages(file: &str, fault: ReadFault) -> RunFault<'_>
     requires { IsFirstAnswer fault }
     ensures { IsFaultOfReading file.entry fault result }
@@ -100,7 +100,7 @@ fn fault_of_messages(file: &str, fault: ReadFault) -> RunFault<'_>
     }
 }
 
-// The report on a File, with the labels of this labeller, if there is one.
+// Returns the report on a File, with the labels of the labeller, if there is one.
 fn report_of_file<'a, R: Input, P: Report, L: Labeller>(
     alloc: Global,
     source: &mut Source<'a, R>,
@@ -120,7 +120,7 @@ fn report_of_file<'a, R: Input, P: Report, L: Labeller>(
     }
 }
 
-// What finds the labels of a map or a list, if there is one.
+// Returns an index of the labels of a map or a list, if there is one.
 fn index_of<'a>(
     alloc: Global,
     labels: Option<LoadedLabels<'a>>,
@@ -134,7 +134,7 @@ fn index_of<'a>(
     }
 }
 
-/// The report on the File that is there, under the labels of a map or a list, if there is one.
+/// Returns the report on the File of the inputs, under the labels of a map or a list, if there is one.
 pub fn report_under<'a, R: Input, P: Report>(
     alloc: Global,
     labels: Option<LoadedLabels<'_>>,

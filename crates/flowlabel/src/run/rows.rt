@@ -1,4 +1,4 @@
-//! What `rows` prints.
+//! The output of `rows`.
 ghost use Rattle.std.specs.Prelude.{◌≡◌, ◌++◌, List, OnOk, is_some, map, option_map};
 ghost use Rattle.flow_rows.specs.Row.{RowView, row_view};
 ghost use Rattle.pmap_print.specs.Columns.{IsTable, has_columns};
@@ -15,14 +15,14 @@ use label_lookup::{Labeller, label_row};
 use pmap_print::{RowLabels, Table};
 use std::alloc::{AllocError, Global};
 
-/// The rows of messages that pass a filter, in columns of even width or not.
+/// The report of `rows`: the rows that pass a filter, padded to columns if `columns`.
 #[derive(Clone, Copy, Debug)]
 pub struct RowsReport<'a> {
     pub filter: &'a Filter<'a>,
     pub columns: bool,
 }
 
-/// The rows that pass so far, as a table, and room for the rows of a message.
+/// The table of the rows that passed so far, and room for the rows of a message.
 #[derive(Drop)]
 pub struct RowsTaken {
     pub table: Table,
@@ -74,7 +74,7 @@ impl<'a> Report for RowsReport<'a> {
     }
 }
 
-// Adds the lines of rows, with the labels of a labeller, if there is one.
+// Adds the lines of rows, with their labels if there is a labeller.
 fn add_each<L: Labeller>(
     table: &mut Table,
     rows: &[Row],

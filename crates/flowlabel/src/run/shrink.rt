@@ -1,4 +1,4 @@
-//! What `shrink` prints.
+//! The output of `shrink`.
 ghost use Rattle.std.specs.Prelude.{IfOk, Ok};
 ghost use Rattle.pmap_text.specs.MapText.{map_of};
 ghost use Rattle.flowlabel.specs.Output.{PrintsMinimal};
@@ -9,7 +9,7 @@ use pmap_print::print_list;
 use pmap_text::MapText;
 use std::alloc::{AllocError, Global};
 
-/// The text of a map's shortest list, or in its place of the certificate of that, compacted or not.
+/// Returns the text of a map's shortest list, or of its certificate, compacted or not.
 pub fn shrunk_text(alloc: Global, map: &MapText, printed: Shrunk) -> Result<Vec<u8>, AllocError>
     ensures { IfOk result (λ out. PrintsMinimal printed (map_of map.now) (Ok out.items)) }
 {

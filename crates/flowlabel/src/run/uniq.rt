@@ -1,4 +1,4 @@
-//! What `uniq` prints.
+//! The output of `uniq`.
 use crate::run::report::Report;
 use flow_filter::Filter;
 use flow_rows::Row;
@@ -9,8 +9,8 @@ use pmap_print::print_groups;
 use pmap_text::KeyHashing;
 use std::alloc::{AllocError, Global};
 
-/// The groups of the rows of messages that pass a filter, by fields of them: sorted or in the order of their first
-/// rows, in columns of even width or not.
+/// The report of `uniq`: the groups, by fields, of the rows that pass a filter. They are sorted or in the order of
+/// their first rows, and padded to columns or not.
 #[derive(Clone, Copy)]
 pub struct UniqReport<'a> {
     pub keys: &'a Keys,

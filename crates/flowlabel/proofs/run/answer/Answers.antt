@@ -1,4 +1,4 @@
--- What comes of a command's request comes of the command, and the labels that it prints with are those loaded.
+-- An outcome of a command's request is one of the command, and the labels that it prints are the loaded ones.
 use Rattle.std.proofs.Common.{◌≡◌, ◌∙◌, ℕ, List, Option, Ok, ap, refl, subst, sym}
 use Rattle.std.specs.Prelude.{None, IfErr, IfOk, option_map}
 use Rattle.std.proofs.lemmas.Result.{IfOk-weaker}

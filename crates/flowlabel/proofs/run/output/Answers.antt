@@ -1,4 +1,4 @@
--- What comes of the loaded files is the request's output, and a fault of loading is its first one.
+-- The outcome over the loaded files is the request's output, and a fault of loading is its first fault.
 use Rattle.std.proofs.Common.{◌≡◌, List, Option, Ok, Err, subst, sym}
 use Rattle.std.proofs.lemmas.Result.{IfErr-weaker, IfOk-weaker}
 use Rattle.flowlabel.specs.Loading.{ComesOf, IsFirstFault}

@@ -1,4 +1,4 @@
--- The parts so far are printed, and the others and the totals are to follow.
+-- The parts so far are printed, and the other parts and the totals follow.
 use Rattle.std.proofs.Common.{◌≡◌, ◌++◌, length, map, true}
 use Rattle.flow_uniq.specs.Kept.{group_model, key_model}
 use Rattle.pmap_print.specs.Columns.{sizes}

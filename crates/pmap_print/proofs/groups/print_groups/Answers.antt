@@ -14,7 +14,7 @@ use Rattle.pmap_print.proofs.GroupLines.{first_lines, line_added, listed_at, par
 use Rattle.pmap_print.proofs.groups.print_groups.Goals as goal
 use Rattle.pmap_print.proofs.groups.print_groups.Goals.{in-Some+in_ok-add_group-2, in_default}
 
--- the list of shown groups has keys of so many parts
+-- the keys of the shown groups have `count` parts
 shown_parts : (count : ℕ) (groups : List GroupModel) (shown items : List Group) → All (λ g. length g.key ≡ count) groups
     → map group_model shown ≡ sorted_groups groups → items ≡ shown → All (λ g. length g.key ≡ count) (map group_model items)
 shown_parts count groups shown items all is same =

@@ -1,4 +1,4 @@
--- The names of the fields before the index are printed, and the others and those of the totals are to follow.
+-- The names of the fields before the index are printed, and the other names and those of the totals follow.
 use Rattle.std.proofs.Common.{◌≡◌, ◌++◌, drop, map}
 use Rattle.flow_uniq.specs.Field.{field_name}
 use Rattle.pmap_print.specs.Columns.{sizes}

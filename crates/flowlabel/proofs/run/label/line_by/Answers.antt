@@ -1,4 +1,4 @@
--- The place of an address is one of the version, so its label is one at addresses alone.
+-- A converted address is one of the labels' version, so its label is that of the labelling.
 use Rattle.std.proofs.Common.{◌≡◌, ◌∙◌, ◌<◌, ◌^◌, ℕ, [], Option, Some, ap, subst, sym}
 use Rattle.std.specs.Prelude.{option_and_then, option_map, unwrap_or}
 use Rattle.std.proofs.lemmas.Result.{IfOk-weaker}

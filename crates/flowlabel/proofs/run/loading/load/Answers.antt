@@ -1,4 +1,4 @@
--- A file that is loaded is read, so what a later one's reading says it says of the files up to its own.
+-- A file that is loaded is read without fault, so a fault of a later file comes after it.
 use Rattle.std.proofs.Common.{◌∙◌, Option, refl}
 use Rattle.pmap_text.specs.MapText.{map_of}
 use Rattle.pmap_text.specs.PrefixList.{list_of}

@@ -1,4 +1,4 @@
--- What is taken is the report of the messages that are read so far.
+-- The state of the report is that after the messages that are read so far.
 use Rattle.std.proofs.Common.{◌≡◌, ◌-◌, false}
 use Rattle.ipfix_read.specs.declared.state.State.TheVariants.{Going}
 use Rattle.label_lookup.specs.Labelling.{labelling_lent}
