@@ -5,8 +5,8 @@ use Rattle.std.proofs.lemmas.Nat.{pow_pos}
 use Rattle.std.proofs.lemmas.Option.{same_Some}
 use Rattle.prefix_keys.specs.Block.{block_number, first_of, last_of}
 use Rattle.prefix_keys.specs.Version.{width_of}
+use Rattle.prefix_keys.proofs.Groups.{width-le}
 use Rattle.prefix_keys.specs.declared.version.Version.{Version}
-use Rattle.prefix_keys.specs.declared.version.Version.TheVariants.{V4, V6}
 use Rattle.pmap_text.specs.MapModel.{MapModel}
 use Rattle.pmap_text.specs.MapText.{map_of, text_at}
 use Rattle.pmap_text.specs.declared.label.LabelId.{LabelId}
@@ -25,15 +25,11 @@ use Rattle.label_trie.proofs.Parted.{parted_two}
 use Rattle.label_trie.proofs.Sums.{sum_most}
 
 -- the maximum number of blocks that statements part
-width_most : (v : Version) → width_of v ≤ 128
-width_most V4 = omega arith
-width_most V6 = omega arith
-
 pub parted_most : (W : ℕ) (ss : List Statement) → parted_sum W W 0 0 ss ≤ 2 * W * length ss
 parted_most W ss = sum_most W (2 * W) ss (λ k d below. parted_two W W 0 0 (get_or ss k d).span (omega arith))
 
 few_parted : (v : Version) (ss : List Statement) → length ss ≤ 1000000 → parted_sum (width_of v) (width_of v) 0 0 ss ≤ 256000000
-few_parted v ss few = omega (arith, few, parted_most (width_of v) ss, mul-le-mul_right (length ss) (width_most v))
+few_parted v ss few = omega (arith, few, parted_most (width_of v) ss, mul-le-mul_right (length ss) (width-le v))
 
 no_number : (P : ℕ) → 0 / P ≡ 0
 no_number P = omega arith

@@ -12,7 +12,7 @@ use Rattle.label_trie.specs.declared.kind.Kind.{Kind}
 use Rattle.label_trie.specs.declared.kind.Kind.TheVariants.{Divided, Leaf}
 use Rattle.label_trie.specs.declared.node.Node.{Node}
 use Rattle.label_trie.specs.declared.node.Node.TheVariants.{Inner}
-use Rattle.label_trie.proofs.Encoded.{leaf_is_not_inner, leaf_tree, size_leaves, size_pos}
+use Rattle.label_trie.proofs.Encoded.{leaf_is_not_inner, leaf_tree, length_nodes, size_leaves, size_pos}
 use Rattle.label_trie.proofs.NodeLeaves.{length_leaves}
 use Rattle.label_trie.proofs.Places.{whole_nodes}
 
@@ -53,16 +53,19 @@ tree_from nodes models at (Fork low high) n q number here known from to =
           }
     ]
 
+pub within-nodes : (W : ℕ) (nodes : List Node) (number : ℕ) → IsTrie W nodes → number < length (nodes_of (tree_of nodes) 0 0) → number < length nodes
+within-nodes W nodes number trie inside = let all = trie.all in omega (arith, length_nodes (tree_of nodes) 0 0)
+
 -- the tree of the node with a number, from the node that is read
-module _ (W : ℕ) (nodes : List Node) (number : ℕ) (x : Node) (trie : IsTrie W nodes) (inside : number < length nodes) (is : x ≡ get_or nodes number x) where
+module _ (W : ℕ) (nodes : List Node) (number : ℕ) (x : Node) (trie : IsTrie W nodes) (inside : number < length (nodes_of (tree_of nodes) 0 0)) (is : x ≡ get_or nodes number x) where
   abbrev pub models : List NodeModel
   models = nodes_of (tree_of nodes) 0 0
 
   tree_there : HasTree nodes models number
-  tree_there = tree_from nodes models 0 (tree_of nodes) 0 0 number trie.here (whole_nodes (tree_of nodes)) (omega arith) (omega (arith, trie.all))
+  tree_there = tree_from nodes models 0 (tree_of nodes) 0 0 number trie.here (whole_nodes (tree_of nodes)) (omega arith) (omega (arith, length_nodes (tree_of nodes) 0 0))
 
   there-is : slice_get nodes number ≡ Some x
-  there-is = slice_get-get_or nodes number x inside ∙ ap Some (sym is)
+  there-is = slice_get-get_or nodes number x (within-nodes W nodes number trie inside) ∙ ap Some (sym is)
 
   top-known : (t : Tree) (n q : ℕ) → HasNodes models number t n q → slice_get models number ≡ Some (top_of t n q)
   top-known (Tip label) n q known = known

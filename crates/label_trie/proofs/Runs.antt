@@ -36,14 +36,6 @@ not_shorter f from to r s (t ∷ rs) ss ar bs h =
     let same_low : r.low ≡ s.low = ar.0 ∙ sym bs.0 in
     ar.2 (sym (first-label f r ar.1) ∙ ap f same_low ∙ first-label f s bs.1 ∙ sym inside ∙ first-label f t ar.3.1)
 
-made : ℕ → ℕ → Option Label → Run
-made low high label = record { low = low; high = high; label = label }
-
-run-same : (r s : Run) → r.low ≡ s.low → r.high ≡ s.high → r.label ≡ s.label → r ≡ s
-unfolding made
-run-same r s low high label =
-    ap (λ (l : ℕ). made l r.high r.label) low ∙ ap (λ (h : ℕ). made s.low h r.label) high ∙ ap (λ (x : Option Label). made s.low s.high x) label
-
 -- there is only one list of runs
 pub runs-one : (f : ℕ → Option Label) (from to : ℕ) (rs ss : List Run) → AreRuns f from to rs → AreRuns f from to ss → rs ≡ ss
 runs-one f from to [] [] ar bs = refl
@@ -62,7 +54,7 @@ runs-one f from to (r ∷ rs) (s ∷ ss) ar bs = by (runs-one f (r.high + 1) to 
     by ih (inr ge) (inl more) = absurd (not_shorter f from to s r ss rs bs ar more)
     by ih (inr ge) (inr le) =
         let high : r.high ≡ s.high = omega (arith, ge, le) in
-        let head : r ≡ s = run-same r s low high label in
+        let head : r ≡ s = λ i. record { low = low i; high = high i; label = label i } in
         let rest : AreRuns f (r.high + 1) to ss = subst (λ h. AreRuns f (h + 1) to ss) (sym high) bs.3 in
         ap (λ (h : Run). h ∷ rs) head ∙ ap (λ (t : List Run). s ∷ t) (ih rest)
 

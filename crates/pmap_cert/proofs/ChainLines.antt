@@ -11,15 +11,8 @@ use Rattle.std.proofs.lemmas.Slice.Eq.{bytes_eq-Decides}
 use Rattle.pmap_cert.specs.CertificateForm.{IsRising}
 use Rattle.pmap_cert.specs.CertificateText.{bit_digits}
 use Rattle.pmap_cert.specs.FormatReading.{ChainLine, DueLine, InnerLine, LeafLine, NodeLine, PlainLine, bits_of, both, chain_by, due_words, node_words, number_below, rising_numbers}
-use Rattle.pmap_cert.proofs.NodeLines.{SaysNode, both_some, node_words-found, node_words-inner, node_words-leaf}
+use Rattle.pmap_cert.proofs.NodeLines.{SaysDue, both_some, node_words-found, node_words-inner, node_words-leaf}
 use Rattle.pmap_cert.proofs.Numbers.{number_below-decimal, number_below-found, option_map_some, rising_numbers-decimals, rising_numbers-found}
-
--- the words are those of this line, which fits the format, `count` labels and addresses of `most` bits
-abbrev pub SaysDue : ℕ → ℕ → ℕ → DueLine → List (List ℕ) → Type 0
-SaysDue format most count (PlainLine line) words = SaysNode count line words
-SaysDue format most count (ChainLine cost bits side numbers) words =
-    (words ≡ codes "c" ∷ decimal cost ∷ bit_digits bits ∷ decimal side ∷ map decimal numbers) × (format ≡ 2) × (cost < 2 ^ 32)
-    × (0 < length bits) × (length bits ≤ most) × (side < count) × IsRising count 0 numbers
 
 -- the byte is a digit of a chain's bits
 abbrev is_digit : ℕ → Bool
@@ -101,12 +94,7 @@ chain-found format most count word (cost ∷ bits ∷ side ∷ numbers) line is 
     let are_numbers = rising_numbers-found count 0 numbers found.0.1.1 back.1 in
     subst (λ (line : DueLine). SaysDue format most count line (word ∷ cost ∷ bits ∷ side ∷ numbers)) found.2 (
       (λ i. is i ∷ is_cost.0 i ∷ are_bits.0 i ∷ is_side.0 i ∷ are_numbers.0 i),
-      two,
-      is_cost.1,
-      are_bits.1,
-      are_bits.2,
-      is_side.1,
-      are_numbers.1,
+      (two, is_cost.1, are_bits.1, are_bits.2, is_side.1, are_numbers.1),
     )
 
 -- words that are read as a node's line are those of this line
@@ -127,7 +115,7 @@ due_words-found format most count (word ∷ words) line e = by (format == 2 && b
         let found = option_map_some PlainLine (node_words count (word ∷ words)) line
         (sym (cond-false (format == 2 && bytes_eq word (codes "c")) (chain_by most count words) plain h) ∙ e) in
         subst (λ (line : DueLine). SaysDue format most count line (word ∷ words)) found.2
-        (node_words-found count (word ∷ words) found.0 found.1)
+        (node_words-found format most count (word ∷ words) found.0 found.1)
 
 none-and : (a b : Bool) → b ≡ false → (a && b) ≡ false
 none-and true b e = e

@@ -1,4 +1,4 @@
-use Rattle.std.proofs.Common.{◌≡◌, ℕ, zero, suc, ◌+◌, ◌*◌, ◌<◌, ◌≤◌, Bool, true, false, cond, ◌&&◌, ◌||◌, List, [], ◌∷◌, IsTrue, arith, length, refl, sym, ap₂, ◌∙◌, subst, bytes_eq}
+use Rattle.std.proofs.Common.{◌≡◌, ℕ, zero, suc, ◌+◌, ◌*◌, ◌<◌, ◌≤◌, Bool, true, false, cond, List, [], ◌∷◌, IsTrue, arith, length, refl, sym, ap₂, ◌∙◌, subst, bytes_eq}
 use Rattle.std.proofs.lemmas.Bool.{or_left}
 use Rattle.pmap_text.specs.ListModel.{ListModel, Prefix}
 use Rattle.pmap_text.specs.MapModel.{Label, MapModel}
@@ -24,25 +24,6 @@ same-then a b c e f = record { cost = e.cost ∙ f.cost; labels = λ x. e.labels
 same-itself : (a : Pair) → IsSamePair a a
 same-itself a = record { cost = refl; labels = λ x. refl }
 
--- if a set has the side label, what it has in common with the side leaf's set is that label
-both-own : (a b : Bool) → (a ≡ true → b ≡ true) → a ≡ (a && b)
-both-own a b h = grind arith
-
-both-own-after : (a b : Bool) → (a ≡ true → b ≡ true) → a ≡ (b && a)
-both-own-after a b h = grind arith
-
-none-own : (a b : Bool) → (a ≡ true → b ≡ false) → (a && b) ≡ false
-none-own a b h = grind arith
-
-none-own-after : (a b : Bool) → (a ≡ true → b ≡ false) → (b && a) ≡ false
-none-own-after a b h = grind arith
-
-or-either : (a b : Bool) → (a || b) ≡ ((a || false) || b)
-or-either a b = grind arith
-
-or-either-after : (a b : Bool) → (a || b) ≡ (b || (a || false))
-or-either-after a b = grind arith
-
 -- a set has or lacks each label of the side leaf's set as it has or lacks the side label
 at-own : (s : List Label) (side x : Label) (b : Bool) → has s side ≡ b → has (side ∷ []) x ≡ true → has s x ≡ b
 at-own s side x b known own = subst (λ (y : Label). has s y ≡ b) (has-single side x own) known
@@ -54,13 +35,13 @@ link-has true side p known =
     let h = exact_pair-common (side_pair side) p side (has-own side) known in
     record {
       cost = omega (arith, h.cost);
-      labels = λ x. both-own (has (side ∷ []) x) (has p.labels x) (at-own p.labels side x true known) ∙ sym (h.labels x);
+      labels = λ x. let own = at-own p.labels side x true known in let both = h.labels x in grind arith;
     }
 link-has false side p known =
     let h = exact_pair-common p (side_pair side) side known (has-own side) in
     record {
       cost = omega (arith, h.cost);
-      labels = λ x. both-own-after (has (side ∷ []) x) (has p.labels x) (at-own p.labels side x true known) ∙ sym (h.labels x);
+      labels = λ x. let own = at-own p.labels side x true known in let both = h.labels x in grind arith;
     }
 
 -- the exact pair of a side leaf and a node whose set lacks the side label
@@ -68,17 +49,17 @@ link-lacks : (bit : Bool) (side : Label) (p : Pair) → has p.labels side ≡ fa
     IsSamePair (record { cost = p.cost + 1; labels = side ∷ p.labels }) (link_pair bit side p)
 link-lacks true side p known =
     let h = exact_pair-apart (side_pair side) p
-    (λ x. none-own (has (side ∷ []) x) (has p.labels x) (at-own p.labels side x false known)) in
+    (λ x. let own = at-own p.labels side x false known in grind arith) in
     record {
       cost = omega (arith, h.cost);
-      labels = λ x. or-either (bytes_eq x side) (has p.labels x) ∙ sym (h.labels x);
+      labels = λ x. let either = h.labels x in grind arith;
     }
 link-lacks false side p known =
     let h = exact_pair-apart p (side_pair side)
-    (λ x. none-own-after (has (side ∷ []) x) (has p.labels x) (at-own p.labels side x false known)) in
+    (λ x. let own = at-own p.labels side x false known in grind arith) in
     record {
       cost = omega (arith, h.cost);
-      labels = λ x. or-either-after (bytes_eq x side) (has p.labels x) ∙ sym (h.labels x);
+      labels = λ x. let either = h.labels x in grind arith;
     }
 
 -- the exact pairs of links of the same pairs are the same

@@ -1,35 +1,31 @@
 -- A compacted certificate has a text if the original has one.
-use Rattle.std.proofs.Common.{◌≡◌, ℕ, zero, suc, ◌<◌, Bool, true, false, cond, List, [], ◌∷◌, Some, inr, arith, length, refl, subst}
+use Rattle.std.proofs.Common.{◌≡◌, ℕ, zero, suc, ◌<◌, List, Some, inr, arith, length, refl, subst}
 use Rattle.std.proofs.lemmas.Bool.{leb-true}
 use Rattle.std.proofs.lemmas.Option.{none-some, same_Some}
 use Rattle.prefix_keys.specs.Version.{width_of}
 use Rattle.pmap_text.specs.MapModel.{Label}
 use Rattle.pmap_cert.specs.CertificateForm.{HasFormatText, HasNodeForm, HasRoomBelow}
-use Rattle.pmap_cert.specs.CertificateModel.{CertificateModel, ChainNode, InnerNode, LeafNode, Tree}
+use Rattle.pmap_cert.specs.CertificateModel.{CertificateModel, ChainNode, InnerNode, LeafNode, Pair, Tree}
 use Rattle.pmap_cert.specs.CertificateText.{place_of}
 use Rattle.pmap_cert.specs.Chain.{IsPlain}
-use Rattle.pmap_cert.specs.Compacting.{compact, compacted_in, is_side, line_count, run_bits, run_end, side_of}
+use Rattle.pmap_cert.specs.Compacting.{compact, compacted_in, line_count, run_bits, run_end, side_of}
 use Rattle.pmap_cert.proofs.ChainWords.{other-room}
 use Rattle.pmap_cert.proofs.Compacts.{by_format}
-use Rattle.pmap_cert.proofs.Runs.{by_run, plain-run}
+use Rattle.pmap_cert.proofs.Runs.{by_run, by_steps, plain-run}
 
 module _ (table : List Label) where
+  halves-form : (claim : Pair) (lower upper : Tree) (room : ℕ) → HasNodeForm table (InnerNode claim lower upper) room →
+      (left : ℕ) × (room ≡ suc left) × HasNodeForm table lower left × HasNodeForm table upper left
+  halves-form claim lower upper zero h = absurd h
+  halves-form claim lower upper (suc room) h = (room, refl, h.2, h.3)
+
   -- the end of a run is well formed in the room that the run's bits leave
   form-run : (side : Label) (t : Tree) (room : ℕ) → HasNodeForm table t room →
       HasRoomBelow (HasNodeForm table (run_end side t)) (run_bits side t) room
-  form-run side (LeafNode x) room h = h
-  form-run side (ChainNode claim bits s end) room h = h
-  form-run side (InnerNode claim lower upper) zero h = absurd h
-  form-run side (InnerNode claim lower upper) (suc room) h =
-      by_test (is_side side lower) (is_side side upper) (form-run side lower room h.2) (form-run side upper room h.3)
-    where
-      by_test : (b c : Bool) → HasRoomBelow (HasNodeForm table (run_end side lower)) (run_bits side lower) room →
-          HasRoomBelow (HasNodeForm table (run_end side upper)) (run_bits side upper) room →
-          HasRoomBelow (HasNodeForm table (cond b (run_end side upper) (cond c (run_end side lower) (InnerNode claim lower upper))))
-          (cond b (true ∷ run_bits side upper) (cond c (false ∷ run_bits side lower) [])) (suc room)
-      by_test true c low up = up
-      by_test false true low up = low
-      by_test false false low up = h
+  form-run side t =
+      by_steps side (λ t bits end. (room : ℕ) → HasNodeForm table t room → HasRoomBelow (HasNodeForm table end) bits room) (λ t room h. h)
+      (λ claim lower upper bits end e below room h. let half = halves-form claim lower upper room h in rw half.1 (below half.0 half.3))
+      (λ claim lower upper bits end e below room h. let half = halves-form claim lower upper room h in rw half.1 (below half.0 half.2)) t
 
   -- the side label of a run is in the table, as it is that of a leaf
   side-known : (lower upper : Tree) (room : ℕ) (side : Label) → HasNodeForm table lower room → HasNodeForm table upper room →

@@ -2,7 +2,7 @@
 use Rattle.std.proofs.Common.{◌≡◌, ◌++◌, ℕ, zero, suc, ◌<◌, ◌≤◌, ◌∙◌, ◌==◌, Bool, true, false, List, [], ◌∷◌, Option, Some, None, cond, length, map, nat_le, option_map, refl, sym, ap, subst, arith}
 use Rattle.std.specs.Option.{option_or}
 use Rattle.std.specs.Str.{bytes_eq}
-use Rattle.std.proofs.lemmas.Bool.{cond-false, cond-true, eqb-true, le-leb, lt-leb}
+use Rattle.std.proofs.lemmas.Bool.{both_ways, cond-false, cond-true, eq-eqb, eqb-true, false_from_ne_true, le-leb, lt-leb}
 use Rattle.std.proofs.lemmas.List.{append_assoc}
 use Rattle.std.proofs.lemmas.Option.{none-some, same_Some}
 use Rattle.std.proofs.lemmas.Slice.Eq.{bytes_eq-Decides}
@@ -24,24 +24,17 @@ use Rattle.pmap_cert.specs.declared.format.Format.TheVariants.{One, Two}
 use Rattle.pmap_cert.proofs.ChainWords.{end-room, other-room}
 use Rattle.pmap_cert.proofs.Compacts.{compact-again, compact-first}
 use Rattle.pmap_cert.proofs.Runs.{compacted-inner, compacted-leaf}
-use Rattle.pmap_cert.proofs.Sets.{bytes_eq-same}
 use Rattle.pmap_cert.proofs.Tables.{place_of-text_at}
 
 -- labels of a table are equal exactly if their numbers are
 pub label-same : (table : List Label) (a b : ℕ) → IsLabelTable table → a < length table → b < length table → bytes_eq (text_at table a) (text_at table b) ≡ (a == b)
-label-same table a b ok first second = by (a == b) (bytes_eq (text_at table a) (text_at table b)) refl refl
+label-same table a b ok first second = by (a == b) refl
   where
-    same-number : text_at table a ≡ text_at table b → a ≡ b
-    same-number e = sym (place_of-text_at table a ok first) ∙ ap (place_of table) e ∙ place_of-text_at table b ok second
-
-    by : (p q : Bool) → (a == b) ≡ p → bytes_eq (text_at table a) (text_at table b) ≡ q → bytes_eq (text_at table a) (text_at table b) ≡ (a == b)
-    by true q e f =
-        subst (λ (n : ℕ). bytes_eq (text_at table a) (text_at table n) ≡ true) (eqb-true a b e) (bytes_eq-same (text_at table a)) ∙ sym e
-    by false true e f = absurd (ne-self e (same-number ((bytes_eq-Decides (text_at table a) (text_at table b)).0 f)))
-      where
-        ne-self : (a == b) ≡ false → a ≡ b → ⊥
-        ne-self e is = grind (arith, e, is)
-    by false false e f = f ∙ sym e
+    by : (q : Bool) → (a == b) ≡ q → bytes_eq (text_at table a) (text_at table b) ≡ q
+    by true e = (bytes_eq-Decides (text_at table a) (text_at table b)).1 (ap (text_at table) (eqb-true a b e))
+    by false e = false_from_ne_true (bytes_eq (text_at table a) (text_at table b)) (λ t.
+        both_ways (a == b) e (eq-eqb a b
+        (sym (place_of-text_at table a ok first) ∙ ap (place_of table) ((bytes_eq-Decides (text_at table a) (text_at table b)).0 t) ∙ place_of-text_at table b ok second)))
 
 -- the run of a node's tree is the run of the node
 module _ (table : List Label) (ok : IsLabelTable table) (side : ℕ) (known : side < length table) where

@@ -1,5 +1,5 @@
 -- The line of a node that a text begins with is the line that the specification reads.
-use Rattle.std.proofs.Common.{◌≡◌, ℕ, zero, suc, ◌+◌, ◌^◌, ◌<◌, ◌≤◌, ◌==◌, ◌∙◌, Bool, false, List, [], ◌∷◌, ◌++◌, Option, None, Some, Ok, Err, cond, length, map, refl, sym, ap, subst, arith, codes}
+use Rattle.std.proofs.Common.{◌≡◌, ℕ, zero, suc, ◌+◌, ◌^◌, ◌<◌, ◌≤◌, ◌==◌, ◌∙◌, false, List, [], ◌∷◌, ◌++◌, Option, None, Some, Ok, Err, cond, length, map, refl, sym, ap, subst, arith, codes}
 use Rattle.std.specs.Fmt.{decimal}
 use Rattle.std.specs.List.{AllByRecursion, join_with_byte}
 use Rattle.std.specs.Option.{option_map}
@@ -8,26 +8,22 @@ use Rattle.std.proofs.lemmas.List.{length-append}
 use Rattle.std.proofs.lemmas.List.Splits.{join_with_byte-slice_split, slice_split_at}
 use Rattle.std.proofs.lemmas.Option.{none-some}
 use Rattle.prefix_keys.proofs.Printed.{Lacks}
-use Rattle.pmap_cert.specs.CertificateText.{bit_digits, line_of}
-use Rattle.pmap_cert.specs.FormatReading.{ChainLine, DueLine, InnerLine, LeafLine, Place, PlainLine, due_words, fault_at, is_ended, line_due_at, line_due_by, line_from, or_fault, pieces_of, words_of}
+use Rattle.pmap_cert.specs.CertificateText.{bit_digits, spaced}
+use Rattle.pmap_cert.specs.FormatReading.{ChainLine, DueLine, InnerLine, LeafLine, Place, PlainLine, due_words, fault_at, is_ended, line_due_at, line_from, or_fault, pieces_of, value_by, words_of}
 use Rattle.pmap_cert.specs.LineTexts.{BeginsWithLine, FitsLine, Reads}
 use Rattle.pmap_cert.specs.Node.{line_text}
 use Rattle.pmap_cert.specs.Words.{due_or_missing}
 use Rattle.pmap_cert.specs.declared.fault.CertFault.{CertFault}
 use Rattle.pmap_cert.specs.declared.fault.CertFaultKind.TheVariants.{BadNode, NodesMissing}
-use Rattle.pmap_cert.proofs.ChainLines.{SaysDue, due_words-chain, due_words-found, due_words-inner, due_words-leaf}
+use Rattle.pmap_cert.proofs.ChainLines.{due_words-chain, due_words-found, due_words-inner, due_words-leaf}
 use Rattle.pmap_cert.proofs.ChainWords.{Lacks-bits}
 use Rattle.pmap_cert.proofs.Headers.{Lacks-line}
+use Rattle.pmap_cert.proofs.NodeLines.{line_words}
 use Rattle.pmap_cert.proofs.Numbers.{Lacks-decimal, Lacks-decimals}
-use Rattle.pmap_cert.proofs.Pieces.{is_ended-two, line-words, line_from-cons, split_some, words-line}
+use Rattle.pmap_cert.proofs.Pieces.{line-words, split_some, words-line}
+use Rattle.pmap_cert.proofs.Tables.{value_at-again}
 
--- the words of a node's line
-abbrev line_words : DueLine → List (List ℕ)
-line_words (PlainLine (LeafLine number)) = codes "l" ∷ decimal number ∷ []
-line_words (PlainLine (InnerLine cost numbers)) = codes "n" ∷ decimal cost ∷ map decimal numbers
-line_words (ChainLine cost bits side numbers) = codes "c" ∷ decimal cost ∷ bit_digits bits ∷ decimal side ∷ map decimal numbers
-
-text-words : (line : DueLine) → line_text line ≡ line_of (line_words line)
+text-words : (line : DueLine) → line_text line ≡ spaced (line_words line)
 text-words (PlainLine (LeafLine number)) = refl
 text-words (PlainLine (InnerLine cost numbers)) = refl
 text-words (ChainLine cost bits side numbers) = refl
@@ -35,11 +31,6 @@ text-words (ChainLine cost bits side numbers) = refl
 module _ (format most count : ℕ) where
   abbrev Fits : DueLine → Type 0
   Fits = FitsLine format most count
-
-  fits : (line : DueLine) (words : List (List ℕ)) → SaysDue format most count line words → (words ≡ line_words line) × Fits line
-  fits (PlainLine (LeafLine number)) words says = (says.0, says.1)
-  fits (PlainLine (InnerLine cost numbers)) words says = (says.0, (says.1, says.2))
-  fits (ChainLine cost bits side numbers) words says = (says.0, (says.1, says.2, says.3, says.4, says.5, says.6))
 
   module _ (few : count ≤ 2 ^ 32) where
     -- no word of a line has a byte below the digits
@@ -93,8 +84,8 @@ module _ (format most count : ℕ) where
     pub due-again : (line : DueLine) (number : ℕ) (rest : List (List ℕ)) → Fits line → 0 < length rest
         → line_due_at format most count (at number (line_text line ∷ rest)) ≡ Ok (line, at (number + 1) rest)
     due-again line number rest h some =
-        ap (line_due_by format most count (at number (line_text line ∷ rest))) (line_from-cons number (line_text line) rest some)
-        ∙ ap (or_fault (fault_at (at number (line_text line ∷ rest)) BadNode) (at (number + 1) rest)) (line-said line h)
+        value_at-again (cond (is_ended (line_text line ∷ rest)) NodesMissing BadNode) (λ line. due_words format most count (words_of line))
+        number (line_text line) rest line (line-said line h) some
 
     module _ (number : ℕ) (text : List ℕ) where
       abbrev place : Place
@@ -116,7 +107,7 @@ module _ (format most count : ℕ) where
       nowhere : ((line : DueLine) (rest : List ℕ) → Begins line rest → ⊥) → line_due_at format most count place ≡ Err missing
       nowhere never = by (pieces_of text) refl
         where
-          by : (pieces : List (List ℕ)) → pieces_of text ≡ pieces → line_due_by format most count place (line_from number pieces) ≡ Err missing
+          by : (pieces : List (List ℕ)) → pieces_of text ≡ pieces → value_by missing (λ line. due_words format most count (words_of line)) (line_from number pieces) ≡ Err missing
           by [] is = refl
           by (line ∷ []) is = refl
           by (line ∷ piece ∷ pieces) is = by_words (due_words format most count (words_of line)) refl
@@ -124,16 +115,11 @@ module _ (format most count : ℕ) where
               after : Place
               after = at (number + 1) (piece ∷ pieces)
 
-              fault : fault_at place BadNode ≡ missing
-              fault =
-                  sym (ap (λ (b : Bool). fault_at place (cond b NodesMissing BadNode))
-                  (ap is_ended is ∙ is_ended-two (line ∷ piece ∷ pieces) (omega arith)))
-
               by_words : (found : Option DueLine) → due_words format most count (words_of line) ≡ found
-                  → or_fault (fault_at place BadNode) after (due_words format most count (words_of line)) ≡ Err missing
-              by_words None e = ap (or_fault (fault_at place BadNode) after) e ∙ ap Err fault
+                  → or_fault missing after (due_words format most count (words_of line)) ≡ Err missing
+              by_words None e = ap (or_fault missing after) e
               by_words (Some due) e =
-                  let said = fits due (words_of line) (due_words-found format most count (words_of line) due e) in
+                  let said = due_words-found format most count (words_of line) due e in
                   absurd (never due (join_with_byte 10 (piece ∷ pieces)) (record {
                     whole =
                         sym (join_with_byte-slice_split 10 text) ∙ ap (join_with_byte 10) is

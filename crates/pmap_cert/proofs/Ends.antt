@@ -5,8 +5,7 @@ use Rattle.std.proofs.lemmas.Bool.Decides.{nat_tests}
 use Rattle.std.proofs.lemmas.Nat.{mul-le}
 use Rattle.prefix_keys.specs.Block.{first_of, last_of}
 use Rattle.prefix_keys.specs.Version.{width_of}
-use Rattle.prefix_keys.specs.declared.version.Version.{Version}
-use Rattle.prefix_keys.specs.declared.version.Version.TheVariants.{V4, V6}
+use Rattle.prefix_keys.proofs.Groups.{width-le}
 use Rattle.pmap_text.proofs.Blocks.{first_of-lower, pow-half}
 use Rattle.pmap_text.proofs.LastSuch.{last_such-cases, last_such-passes}
 use Rattle.pmap_text.proofs.Settled.{unsettled-halves}
@@ -140,15 +139,11 @@ cost-ends m (InnerNode p l r) (suc left) n q e stands =
     (ends-halves m n q (omega arith))
     (ends-unsettled_by (width_of m.version) n q m.fallback m.mappings (last_such (meets (width_of m.version) n q) m.mappings) refl stands.0)
 
-width-most : (v : Version) → width_of v ≤ 128
-width-most V4 = omega arith
-width-most V6 = omega arith
-
 -- a node costs less than 2 ^ 32 if its map has at most as many mappings as a text may have
 pub cost-fits : (m : MapModel) (t : Tree) (left n q : ℕ) → length m.mappings ≤ mapping_limit → n + left ≡ width_of m.version → StandsFor m t n q
     → (claim_of t).cost < 2 ^ 32
 cost-fits m t left n q few e stands =
-    let wide = width-most m.version in
+    let wide = width-le m.version in
     let all = cost-ends m t left n q e stands in
     let most = ends-few (first_of (width_of m.version) n q) (last_of (width_of m.version) n q) m.mappings in
     let product : block_ends m n q * left ≤ 2000000 * 128 = mul-le (block_ends m n q) left 2000000 128 (omega arith) (omega arith) in

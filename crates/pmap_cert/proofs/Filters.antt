@@ -1,4 +1,5 @@
 use Rattle.std.proofs.Common.{◌≡◌, Bool, true, false, cond, List, [], ◌∷◌, Option, Some, filter, find, slice_get, ◌++◌, refl, ap₂, ◌∙◌, sym, true≢false}
+use Rattle.std.specs.List.{AllByRecursion}
 use Rattle.std.proofs.lemmas.List.Elements.{filter-append}
 
 -- Filters of lists, and the first element that passes a test.
@@ -32,3 +33,12 @@ pub filter-three : {X : Type 0} (test : X → Bool) (a b c a' b' c' : List X) �
     filter test c ≡ c' → filter test (a ++ (b ++ c)) ≡ a' ++ (b' ++ c')
 filter-three test a b c a' b' c' e f g =
     filter-append test a (b ++ c) ∙ ap₂ ◌++◌ e (filter-append test b c ∙ ap₂ ◌++◌ f g)
+
+-- what holds of the elements of two lists holds of those of the joined list
+pub all-append : {X : Type 0} (P : X → Type 0) (xs ys : List X) → AllByRecursion P xs → AllByRecursion P ys → AllByRecursion P (xs ++ ys)
+all-append P [] ys all more = more
+all-append P (x ∷ xs) ys all more = (all.0, all-append P xs ys all.1 more)
+
+pub all-weaker : {X : Type 0} (P Q : X → Type 0) → ((x : X) → P x → Q x) → (xs : List X) → AllByRecursion P xs → AllByRecursion Q xs
+all-weaker P Q weaker [] all = tt
+all-weaker P Q weaker (x ∷ xs) all = (weaker x all.0, all-weaker P Q weaker xs all.1)

@@ -1,5 +1,5 @@
 -- The header of a certificate of either format.
-use Rattle.std.proofs.Common.{◌≡◌, ℕ, ◌+◌, ◌<◌, ◌∙◌, ◌⊎◌, inl, inr, Bool, true, false, List, [], ◌∷◌, Option, Some, None, Ok, length, refl, sym, ap, subst, arith, cond, codes, ◌==◌}
+use Rattle.std.proofs.Common.{◌≡◌, ℕ, ◌+◌, ◌<◌, ◌∙◌, ◌⊎◌, inl, inr, Bool, true, false, List, [], ◌∷◌, Option, Some, None, Ok, length, refl, sym, ap, subst, arith, codes, ◌==◌}
 use Rattle.std.specs.Fmt.{decimal}
 use Rattle.std.specs.List.{AllByRecursion}
 use Rattle.std.specs.Str.{bytes_eq}
@@ -10,14 +10,13 @@ use Rattle.prefix_keys.proofs.Printed.{Lacks}
 use Rattle.prefix_keys.specs.declared.version.Version.{Version}
 use Rattle.prefix_keys.specs.declared.version.Version.TheVariants.{V4, V6}
 use Rattle.pmap_cert.specs.CertificateText.{format_header, format_word, version_word}
-use Rattle.pmap_cert.specs.FormatReading.{Place, both, fault_at, format_header_at, format_header_by, format_header_of, line_from, named_format, named_version, number_below, or_fault, words_of}
-use Rattle.pmap_cert.specs.declared.fault.CertFault.{CertFault}
+use Rattle.pmap_cert.specs.FormatReading.{Place, both, format_header_at, format_header_of, named_format, named_version, number_below, words_of}
 use Rattle.pmap_cert.specs.declared.fault.CertFaultKind.TheVariants.{BadHeader}
 use Rattle.pmap_cert.proofs.Headers.{Lacks-line, Lacks-tested, named_version-found, named_version-word}
 use Rattle.pmap_cert.proofs.NodeLines.{both_some}
 use Rattle.pmap_cert.proofs.Numbers.{Lacks-decimal, number_below-decimal, number_below-found}
-use Rattle.pmap_cert.proofs.Pieces.{line-words, line_from-cons, words-line, split_some}
-use Rattle.pmap_cert.proofs.Tables.{ok_is}
+use Rattle.pmap_cert.proofs.Pieces.{either-word, line-words, words-line, split_some}
+use Rattle.pmap_cert.proofs.Tables.{value_at-again, value_at-found}
 
 format_header_of-more : (a b c d : List ℕ) (words : List (List ℕ)) → 0 < length words → format_header_of (a ∷ b ∷ c ∷ d ∷ words) ≡ None
 format_header_of-more a b c d [] h = absurd (omega arith)
@@ -32,26 +31,10 @@ IsNumbered format = (format ≡ 1) ⊎ (format ≡ 2)
 
 -- a word that names a format is the format's word
 named_format-found : (word : List ℕ) (format : ℕ) → named_format word ≡ Some format → (word ≡ format_word format) × IsNumbered format
-named_format-found word format e = by (bytes_eq word (codes "1")) (bytes_eq word (codes "2")) refl refl
-  where
-    two : Option ℕ
-    two = cond (bytes_eq word (codes "2")) (Some 2) None
-
-    at : (known : ℕ) → ◌≡◌ {A = Option ℕ} (Some known) (Some format) → word ≡ format_word known → IsNumbered known →
-        (word ≡ format_word format) × IsNumbered format
-    at known same is numbered =
-        subst (λ (f : ℕ). (word ≡ format_word f) × IsNumbered f) (same_Some known format same) (is, numbered)
-
-    by : (b c : Bool) → bytes_eq word (codes "1") ≡ b → bytes_eq word (codes "2") ≡ c → (word ≡ format_word format) × IsNumbered format
-    by true c first second =
-        at 1 (sym (cond-true (bytes_eq word (codes "1")) (Some 1) two first) ∙ e)
-        ((bytes_eq-Decides word (codes "1")).0 first) (inl refl)
-    by false true first second =
-        at 2 (sym (cond-false (bytes_eq word (codes "1")) (Some 1) two first ∙ cond-true (bytes_eq word (codes "2")) (Some 2) None second) ∙ e)
-        ((bytes_eq-Decides word (codes "2")).0 second) (inr refl)
-    by false false first second =
-        absurd (none-some format
-        (sym (cond-false (bytes_eq word (codes "1")) (Some 1) two first ∙ cond-false (bytes_eq word (codes "2")) (Some 2) None second) ∙ e))
+named_format-found word format e = elim (either-word word (codes "1") (codes "2") (Some 1) (Some 2) format e) [
+  | inl one ↦ subst (λ (f : ℕ). (word ≡ format_word f) × IsNumbered f) (same_Some 1 format one.1) (one.0, inl refl)
+  | inr two ↦ subst (λ (f : ℕ). (word ≡ format_word f) × IsNumbered f) (same_Some 2 format two.1) (two.0, inr refl)
+]
 
 named_format-word : (format : ℕ) → IsNumbered format → named_format (format_word format) ≡ Some format
 named_format-word format (inl e) = subst (λ (f : ℕ). named_format (format_word f) ≡ Some f) (sym e) refl
@@ -99,33 +82,14 @@ format_header_of-words format version count numbered h =
     ∙ ap (λ (o : Option Version). both (Some format) (both o (number_below 65537 (decimal count)))) (named_version-word version)
     ∙ ap (λ (o : Option ℕ). both (Some format) (both (Some version) o)) (number_below-decimal 65537 count h (omega arith))
 
--- a value that is read is that of the line, and the given rest follows
-pub or_fault-parts : {A : Type 0} (fault : CertFault) (after : Place) (o : Option A) (x : A × Place) → or_fault fault after o ≡ Ok x →
-    (o ≡ Some x.0) × (after ≡ x.1)
-or_fault-parts fault after None x e = absurd cc
-or_fault-parts fault after (Some y) x e =
-    let same = ok_is (y, after) x e in
-    (ap (λ (z : _ × Place). Some z.0) same, ap (λ (z : _ × Place). z.1) same)
-
 abbrev IsHeader : List (List ℕ) → Said × Place → Type 0
 IsHeader pieces x = (pieces ≡ format_header x.0.0 x.0.1.0 x.0.1.1 ∷ x.1.pieces) × (x.0.1.1 < 65537) × IsNumbered x.0.0
 
-format_header_by-found : (place : Place) (number : ℕ) (pieces : List (List ℕ)) (x : Said × Place) →
-    format_header_by place (line_from number pieces) ≡ Ok x → IsHeader pieces x
-format_header_by-found place number [] x e = absurd cc
-format_header_by-found place number (line ∷ []) x e = absurd cc
-format_header_by-found place number (line ∷ piece ∷ pieces) x e =
-    let found = or_fault-parts (fault_at place BadHeader) (record { number = number + 1; pieces = piece ∷ pieces })
-    (format_header_of (words_of line)) x e in
-    let words = format_header_of-found (words_of line) x.0 found.0 in (
-      ap (λ (t : List ℕ). t ∷ piece ∷ pieces) (line-words line (format_words x.0.0 x.0.1.0 x.0.1.1) words.0)
-          ∙ ap (λ (after : Place). format_header x.0.0 x.0.1.0 x.0.1.1 ∷ after.pieces) found.1,
-      words.1,
-      words.2,
-    )
-
 pub format_header_at-found : (place : Place) (x : Said × Place) → format_header_at place ≡ Ok x → IsHeader place.pieces x
-format_header_at-found place x e = format_header_by-found place place.number place.pieces x e
+format_header_at-found place x e =
+    let found = value_at-found BadHeader (λ line. format_header_of (words_of line)) place x e in
+    let words = format_header_of-found (words_of found.0) x.0 found.2 in
+    (found.1 ∙ ap (λ (t : List ℕ). t ∷ x.1.pieces) (line-words found.0 (format_words x.0.0 x.0.1.0 x.0.1.1) words.0), words.1, words.2)
 
 -- no word of a header has a space or a line feed
 version-lacks : (c : ℕ) (version : Version) → Lacks c (codes "ipv4") → Lacks c (codes "ipv6") → Lacks c (version_word version)
@@ -161,8 +125,5 @@ pub format_header_at-again : (format : ℕ) (version : Version) (count number : 
     format_header_at (record { number = number; pieces = format_header format version count ∷ rest })
     ≡ Ok ((format, (version, count)), record { number = number + 1; pieces = rest })
 format_header_at-again format version count number rest numbered h some =
-    let place : Place = record { number = number; pieces = format_header format version count ∷ rest } in
-    let after : Place = record { number = number + 1; pieces = rest } in
-    ap (format_header_by place) (line_from-cons number (format_header format version count) rest some)
-    ∙ ap (or_fault (fault_at place BadHeader) after)
-    (ap format_header_of (format_words-line format version count numbered h) ∙ format_header_of-words format version count numbered h)
+    value_at-again BadHeader (λ line. format_header_of (words_of line)) number (format_header format version count) rest (format, (version, count))
+    (ap format_header_of (format_words-line format version count numbered h) ∙ format_header_of-words format version count numbered h) some

@@ -5,38 +5,28 @@ use Rattle.std.proofs.lemmas.Bool.{cond-false, cond-true, le-leb, leb-true}
 use Rattle.std.proofs.lemmas.List.{append_assoc, length-append}
 use Rattle.pmap_text.specs.Label.{IsLabelTable}
 use Rattle.pmap_text.specs.MapModel.{Label}
+use Rattle.pmap_text.specs.Reading.{◌>>=◌}
 use Rattle.pmap_text.specs.MapText.{text_at}
 use Rattle.pmap_cert.specs.CertificateForm.{HasNodeForm, IsRising}
 use Rattle.pmap_cert.specs.CertificateModel.{ChainNode, InnerNode, LeafNode, Pair, Tree}
 use Rattle.pmap_cert.specs.CertificateText.{bit_digits, chain_line, inner_line, leaf_line, node_lines, place_of}
 use Rattle.pmap_cert.specs.Chain.{IsPlain}
-use Rattle.pmap_cert.specs.FormatReading.{◌>>=◌, ChainLine, DueLine, InnerLine, LeafLine, Place, PlainLine, due_node, due_words, fault_at, line_due_at, line_due_by, line_from, nodes_at, words_of}
+use Rattle.pmap_cert.specs.FormatReading.{ChainLine, DueLine, InnerLine, LeafLine, Place, PlainLine, due_node, due_words, fault_at, is_ended, line_due_at, nodes_at, words_of}
 use Rattle.pmap_cert.specs.declared.fault.CertFault.{CertFault}
-use Rattle.pmap_cert.specs.declared.fault.CertFaultKind.TheVariants.{BadNode, TooDeep}
-use Rattle.pmap_cert.proofs.ChainLines.{SaysDue, due_words-found}
+use Rattle.pmap_cert.specs.declared.fault.CertFaultKind.TheVariants.{BadNode, NodesMissing, TooDeep}
+use Rattle.pmap_cert.proofs.ChainLines.{due_words-found}
+use Rattle.pmap_cert.proofs.NodeLines.{SaysDue}
 use Rattle.pmap_cert.proofs.ChainWords.{left-room, room-left}
 use Rattle.pmap_cert.proofs.DueLines.{due-again}
-use Rattle.pmap_cert.proofs.FormatHeaders.{or_fault-parts}
 use Rattle.pmap_cert.proofs.Pieces.{line-words}
-use Rattle.pmap_cert.proofs.Tables.{bind_ok, ok_is, place_of-text_at, places-texts, text_at-place_of, texts-places}
+use Rattle.pmap_cert.proofs.Tables.{bind_ok, ok_is, place_of-text_at, places-texts, text_at-place_of, texts-places, value_at-found}
 
 -- the words of a line that is read are those of the value read
-line_due_by-found : (format most count : ℕ) (place : Place) (number : ℕ) (pieces : List (List ℕ)) (x : DueLine × Place) →
-    line_due_by format most count place (line_from number pieces) ≡ Ok x →
-    (text : List ℕ) × (pieces ≡ text ∷ x.1.pieces) × SaysDue format most count x.0 (words_of text)
-line_due_by-found format most count place number [] x e = absurd cc
-line_due_by-found format most count place number (text ∷ []) x e = absurd cc
-line_due_by-found format most count place number (text ∷ piece ∷ pieces) x e =
-    let found = or_fault-parts (fault_at place BadNode) (record { number = number + 1; pieces = piece ∷ pieces })
-    (due_words format most count (words_of text)) x e in (
-      text,
-      ap (λ (after : Place). text ∷ after.pieces) found.1,
-      due_words-found format most count (words_of text) x.0 found.0,
-    )
-
 pub line_due-found : (format most count : ℕ) (place : Place) (x : DueLine × Place) → line_due_at format most count place ≡ Ok x →
     (text : List ℕ) × (place.pieces ≡ text ∷ x.1.pieces) × SaysDue format most count x.0 (words_of text)
-line_due-found format most count place x e = line_due_by-found format most count place place.number place.pieces x e
+line_due-found format most count place x e =
+    let found = value_at-found (cond (is_ended place.pieces) NodesMissing BadNode) (λ line. due_words format most count (words_of line)) place x e in
+    (found.0, found.1, due_words-found format most count (words_of found.0) x.0 found.2)
 
 -- the lines that were read are those of the tree, which is well formed and has no chain in format 1
 abbrev pub IsReadIn : List Label → ℕ → ℕ → Place → Tree × Place → Type 0
@@ -91,13 +81,13 @@ module _ (table : List Label) (ok : IsLabelTable table) (format most : ℕ) wher
       IsReadIn table format room after lower → IsReadIn table format room lower.1 upper →
       (InnerNode (claim_at cost numbers) lower.0 upper.0, upper.1) ≡ x → IsReadIn table format (suc room) place x
   inner-read room cost numbers text place after x lower upper pieces says low up e =
-      let places = places-texts table 0 numbers ok says.2 in
+      let places = places-texts table 0 numbers ok says.1.1 in
       subst (IsReadIn table format (suc room) place) e (
         pieces
             ∙ (λ i. (line-words text (codes "n" ∷ decimal cost ∷ map decimal numbers) says.0 ∙ ap (inner_line cost) (sym places)) i
             ∷ (low.0 ∙ ap (λ (more : List (List ℕ)). node_lines table lower.0 ++ more) up.0
             ∙ sym (append_assoc (node_lines table lower.0) (node_lines table upper.0) upper.1.pieces)) i),
-        (says.1, rw places says.2, low.1, up.1),
+        (says.1.0, rw places says.1.1, low.1, up.1),
         λ first. (low.2 first, up.2 first),
       )
 
@@ -109,20 +99,20 @@ module _ (table : List Label) (ok : IsLabelTable table) (format most : ℕ) wher
       room ≡ length bits + left → IsReadIn table format left after last →
       (ChainNode (claim_at cost numbers) bits (text_at table side) last.0, last.1) ≡ x → IsReadIn table format room place x
   chain-read room left cost bits side numbers text place after x last pieces says deep end e =
-      let places = places-texts table 0 numbers ok says.6 in
-      let side_is : place_of table (text_at table side) ≡ side = place_of-text_at table side ok says.5 in
+      let places = places-texts table 0 numbers ok says.1.5 in
+      let side_is : place_of table (text_at table side) ≡ side = place_of-text_at table side ok says.1.4 in
       subst (IsReadIn table format room place) e (
         pieces
             ∙ (λ i. (line-words text (codes "c" ∷ decimal cost ∷ bit_digits bits ∷ decimal side ∷ map decimal numbers) says.0
             ∙ (λ j. chain_line cost bits (sym side_is j) (sym places j))) i ∷ end.0 i),
         (
-          says.2,
-          rw places says.6,
-          rw side_is says.5,
-          says.3,
+          says.1.1,
+          rw places says.1.5,
+          rw side_is says.1.4,
+          says.1.2,
           room-left (HasNodeForm table last.0) bits room left deep end.1,
         ),
-        λ first. absurd (not-both first says.1),
+        λ first. absurd (not-both first says.1.0),
       )
 
   -- a node that is read `down` levels below another is well formed in the room that is left

@@ -7,16 +7,18 @@ use Rattle.prefix_keys.specs.Version.{width_of}
 use Rattle.prefix_keys.specs.declared.version.Version.{Version}
 use Rattle.pmap_text.specs.Label.{IsLabelTable}
 use Rattle.pmap_text.specs.MapModel.{Label}
+use Rattle.pmap_text.specs.Reading.{◌>>=◌}
 use Rattle.pmap_cert.specs.Certificate.{certificate_of}
 use Rattle.pmap_cert.specs.CertificateForm.{HasFormatText, HasNodeForm}
 use Rattle.pmap_cert.specs.CertificateModel.{CertificateModel, Tree, ChainNode, InnerNode, LeafNode}
 use Rattle.pmap_cert.specs.CertificateText.{certificate_lines, certificate_text, format_header, node_lines, bit_digits, place_of}
 use Rattle.pmap_cert.specs.Chain.{IsOfFormat, IsPlain}
-use Rattle.pmap_cert.specs.FormatReading.{◌>>=◌, DueLine, Place, ended_by, fault_at, format_header_at, format_reading, is_ended, labels_at, line_due_at, nodes_at, pieces_of, start_of}
+use Rattle.pmap_cert.specs.FormatReading.{DueLine, Place, ended_by, fault_at, format_header_at, format_reading, is_ended, labels_at, line_due_at, nodes_at, pieces_of, start_of}
 use Rattle.pmap_cert.specs.declared.certificate.Certificate.{Certificate}
 use Rattle.pmap_cert.specs.declared.fault.CertFault.{CertFault}
 use Rattle.pmap_cert.specs.declared.fault.CertFaultKind.{CertFaultKind}
 use Rattle.pmap_cert.specs.declared.fault.CertFaultKind.TheVariants.{BadHeader, BadLabelTable, BadNode, NoMemory, NodesLeft, NodesMissing, TooDeep}
+use Rattle.pmap_cert.proofs.Filters.{all-append}
 use Rattle.pmap_cert.proofs.FormatHeaders.{IsNumbered, format_header-no_feed, format_header_at-again, format_header_at-found}
 use Rattle.pmap_cert.proofs.FormatTrees.{IsKind, nodes_at-again, nodes_at-found}
 use Rattle.pmap_cert.proofs.Headers.{table-lacks, Lacks-line, Lacks-tested}
@@ -50,10 +52,6 @@ ended_by-found c place x e = by (is_ended place.pieces) refl
     by false h = absurd (failed (sym (cond-false (is_ended place.pieces) (Ok c) (Err (fault_at place NodesLeft)) h) ∙ e))
 
 -- no line of a certificate has a line feed inside
-pub lacks-append : (c : ℕ) (lines more : List (List ℕ)) → AllByRecursion (Lacks c) lines → AllByRecursion (Lacks c) more → AllByRecursion (Lacks c) (lines ++ more)
-lacks-append c [] more all rest = rest
-lacks-append c (line ∷ lines) more all rest = (all.0, lacks-append c lines more all.1 rest)
-
 pub nodes-lack : (table : List Label) (tree : Tree) (room : ℕ) → IsLabelTable table → HasNodeForm table tree room → AllByRecursion (Lacks 10) (node_lines table tree)
 nodes-lack table (LeafNode x) room ok form =
     let few = ok.few in
@@ -71,7 +69,7 @@ nodes-lack table (InnerNode claim lower upper) (suc room) ok form =
     let few = ok.few in (
       Lacks-line 10 (codes "n" ∷ decimal claim.cost ∷ map decimal (map (place_of table) claim.labels)) refl
           (Lacks-tested 10 (codes "n") refl, (Lacks-decimal 10 claim.cost (omega arith) (omega (arith, form.0)), Lacks-decimals 10 (length table) 0 (map (place_of table) claim.labels) (omega arith) (omega arith) form.1)),
-      lacks-append 10 (node_lines table lower) (node_lines table upper) (nodes-lack table lower room ok form.2) (nodes-lack table upper room ok form.3),
+      all-append (Lacks 10) (node_lines table lower) (node_lines table upper) (nodes-lack table lower room ok form.2) (nodes-lack table upper room ok form.3),
     )
 
 -- the format, the version and the number of labels of a header
@@ -158,7 +156,7 @@ format-again c form =
     let pieces : pieces_of (certificate_text c) ≡ format_header format version count ∷ (table ++ (nodes ++ [] ∷ [])) =
     pieces-lines (certificate_lines c) (
       format_header-no_feed format version count number (omega arith),
-      lacks-append 10 table nodes (table-lacks table form.table) (nodes-lack table c.root (width_of version) form.table form.root),
+      all-append (Lacks 10) table nodes (table-lacks table form.table) (nodes-lack table c.root (width_of version) form.table form.root),
     )
     ∙ ap (λ (rest : List (List ℕ)). format_header format version count ∷ rest) (append_assoc table nodes ([] ∷ [])) in
     let head = format_header_at-again format version count 0 (table ++ (nodes ++ [] ∷ [])) number (omega arith) (omega (arith, length-append table (nodes ++ [] ∷ []))) in

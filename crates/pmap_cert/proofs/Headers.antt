@@ -1,19 +1,18 @@
 -- The words of a certificate's header, and bytes that lines lack.
-use Rattle.std.proofs.Common.{◌≡◌, ℕ, zero, suc, ◌==◌, ◌∙◌, Bool, true, false, not, List, [], ◌∷◌, Option, Some, None, IsTrue, refl, sym, ap, subst, arith, cond, codes}
+use Rattle.std.proofs.Common.{◌≡◌, ℕ, zero, suc, ◌==◌, ◌∙◌, true, false, not, List, [], ◌∷◌, Some, IsTrue, inl, inr, refl, ap, subst, arith, codes}
 use Rattle.std.specs.List.{AllByRecursion, list_all, slice_get}
-use Rattle.std.specs.Str.{bytes_eq}
-use Rattle.std.proofs.lemmas.Bool.{and_parts, cond-false, cond-true, ne_eqb, not-true}
+use Rattle.std.proofs.lemmas.Bool.{and_parts, ne_eqb, not-true}
 use Rattle.std.proofs.lemmas.List.Elements.{All-append, All-cons, All-weaker}
 use Rattle.std.proofs.lemmas.List.Sums.{AllPass-from_list_all}
-use Rattle.std.proofs.lemmas.Option.{none-some}
-use Rattle.std.proofs.lemmas.Slice.Eq.{bytes_eq-Decides}
+use Rattle.std.proofs.lemmas.Option.{same_Some}
 use Rattle.prefix_keys.proofs.Printed.{Lacks}
+use Rattle.pmap_cert.proofs.Pieces.{either-word}
 use Rattle.prefix_keys.specs.declared.version.Version.{Version}
 use Rattle.prefix_keys.specs.declared.version.Version.TheVariants.{V4, V6}
 use Rattle.pmap_text.specs.Label.{IsLabelTable, is_label, is_label_byte}
 use Rattle.pmap_text.specs.MapModel.{Label}
 use Rattle.pmap_cert.specs.FormatReading.{named_version}
-use Rattle.pmap_cert.specs.CertificateText.{line_of, version_word}
+use Rattle.pmap_cert.specs.CertificateText.{spaced, version_word}
 
 -- a text whose bytes all pass the test lacks the byte
 pub Lacks-tested : (c : ℕ) (text : List ℕ) → list_all (λ b. not (b == c)) text ≡ true → Lacks c text
@@ -22,12 +21,12 @@ Lacks-tested c text passed =
     (AllPass-from_list_all (λ b. not (b == c)) text passed)
 
 -- a line lacks a byte, other than the space, that its words lack
-pub Lacks-line : (c : ℕ) (words : List (List ℕ)) → (32 == c) ≡ false → AllByRecursion (Lacks c) words → Lacks c (line_of words)
+pub Lacks-line : (c : ℕ) (words : List (List ℕ)) → (32 == c) ≡ false → AllByRecursion (Lacks c) words → Lacks c (spaced words)
 Lacks-line c [] apart all = λ k d h. absurd (omega arith)
 Lacks-line c (word ∷ []) apart all = all.0
 Lacks-line c (word ∷ next ∷ words) apart all =
-    All-append (λ b. (b == c) ≡ false) word (32 ∷ line_of (next ∷ words)) all.0
-    (All-cons (λ b. (b == c) ≡ false) 32 (line_of (next ∷ words)) apart (Lacks-line c (next ∷ words) apart all.1))
+    All-append (λ b. (b == c) ≡ false) word (32 ∷ spaced (next ∷ words)) all.0
+    (All-cons (λ b. (b == c) ≡ false) 32 (spaced (next ∷ words)) apart (Lacks-line c (next ∷ words) apart all.1))
 
 -- a label lacks line feeds
 no_feed : (b : ℕ) → is_label_byte b ≡ true → (b == 10) ≡ false
@@ -52,22 +51,10 @@ table-lacks table ok = labels-lack table ok.labels
 
 -- a word that names a version is the version's word
 pub named_version-found : (word : List ℕ) (v : Version) → named_version word ≡ Some v → word ≡ version_word v
-named_version-found word v e = by (bytes_eq word (codes "ipv4")) (bytes_eq word (codes "ipv6")) refl refl
-  where
-    some : (w : Version) → ◌≡◌ {A = Option Version} (Some w) (Some v) → w ≡ v
-    some w e = cc
-
-    by : (b c : Bool) → bytes_eq word (codes "ipv4") ≡ b → bytes_eq word (codes "ipv6") ≡ c → word ≡ version_word v
-    by true c four six =
-        (bytes_eq-Decides word (codes "ipv4")).0 four
-        ∙ ap version_word (some V4 (sym (cond-true (bytes_eq word (codes "ipv4")) (Some V4) (cond (bytes_eq word (codes "ipv6")) (Some V6) None) four) ∙ e))
-    by false true four six =
-        (bytes_eq-Decides word (codes "ipv6")).0 six
-        ∙ ap version_word (some V6 (sym (cond-false (bytes_eq word (codes "ipv4")) (Some V4) (cond (bytes_eq word (codes "ipv6")) (Some V6) None) four
-        ∙ cond-true (bytes_eq word (codes "ipv6")) (Some V6) None six) ∙ e))
-    by false false four six =
-        absurd (none-some v (sym (cond-false (bytes_eq word (codes "ipv4")) (Some V4) (cond (bytes_eq word (codes "ipv6")) (Some V6) None) four
-        ∙ cond-false (bytes_eq word (codes "ipv6")) (Some V6) None six) ∙ e))
+named_version-found word v e = elim (either-word word (codes "ipv4") (codes "ipv6") (Some V4) (Some V6) v e) [
+  | inl four ↦ four.0 ∙ ap version_word (same_Some V4 v four.1)
+  | inr six ↦ six.0 ∙ ap version_word (same_Some V6 v six.1)
+]
 
 pub named_version-word : (v : Version) → named_version (version_word v) ≡ Some v
 named_version-word V4 = refl

@@ -15,17 +15,9 @@ use Rattle.pmap_cert.proofs.Alike.{table-node}
 use Rattle.pmap_text.proofs.Blocks.{address-first, address-last, first_of-below, first_of-lower}
 use Rattle.pmap_cert.proofs.Counts.{is_within}
 use Rattle.pmap_cert.proofs.Entries.{filter-entries_of}
+use Rattle.pmap_cert.proofs.Filters.{all-append, all-weaker}
 use Rattle.pmap_cert.proofs.Handed.{has-least_label, inhabited}
 use Rattle.pmap_text.proofs.Settled.{unsettled-halves}
-
--- what holds of the entries of two lists holds of those of the joined list
-all-append : (P : Prefix → Type 0) (xs ys : List Prefix) → AllByRecursion P xs → AllByRecursion P ys → AllByRecursion P (xs ++ ys)
-all-append P [] ys all more = more
-all-append P (x ∷ xs) ys all more = (all.0, all-append P xs ys all.1 more)
-
-all-weaker : (P Q : Prefix → Type 0) → ((p : Prefix) → P p → Q p) → (xs : List Prefix) → AllByRecursion P xs → AllByRecursion Q xs
-all-weaker P Q weaker [] all = tt
-all-weaker P Q weaker (x ∷ xs) all = (weaker x all.0, all-weaker P Q weaker xs all.1)
 
 -- two lists in order are in order when joined if each entry of the first comes before each of the second
 in_order-append : (P Q : Prefix → Type 0) → ((p r : Prefix) → P p → Q r → is_before p r ≡ true) → (xs ys : List Prefix)

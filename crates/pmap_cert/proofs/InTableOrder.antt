@@ -131,4 +131,4 @@ module _ (m : MapModel) (inside : HasItsLabels m) where
 pub minimal-read : (text : List ℕ) (m : MapModel) → ReadsMap text m → (l : ListModel) × (c : CertificateModel) × IsMinimalPair m l c × HasTextForm c
 minimal-read text m read =
     let limits = limits-read text m read in
-    pair-listed m (labels-read text m read) limits.0 limits.1
+    pair-listed m (labels-read text m read) limits.table limits.mappings

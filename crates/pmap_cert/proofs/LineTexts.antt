@@ -7,7 +7,7 @@ use Rattle.std.specs.Str.{bytes_eq}
 use Rattle.std.proofs.Math.Seq.{drop-append_seam, take-append_seam}
 use Rattle.std.proofs.lemmas.Bool.{and_from, and_parts, cond-false, cond-true, eq-eqb, eqb-true, false≢true, ne_eqb}
 use Rattle.std.proofs.lemmas.Fmt.{decimal_digit, decimal_nonempty, first_decimal}
-use Rattle.std.proofs.lemmas.List.{append-nil, append_assoc, get_or_append_left, get_or-take, length-append, length-map, length-take-le, take-append-drop, take-append-le}
+use Rattle.std.proofs.lemmas.List.{append-nil, append_assoc, get_or_append_left, get_or-take, length-map, length-take-le, take-append-drop, take-append-le}
 use Rattle.std.proofs.lemmas.List.Concat.{flat_map-cons}
 use Rattle.std.proofs.lemmas.Option.{none-some, same_Some}
 use Rattle.std.proofs.lemmas.Slice.Eq.{bytes_eq-Decides}
@@ -16,7 +16,7 @@ use Rattle.pmap_cert.specs.CertificateForm.{IsRising}
 use Rattle.std.specs.Prelude.{IfSome}
 use Rattle.pmap_cert.specs.CertificateText.{bit_digits, chain_line, inner_line}
 use Rattle.pmap_cert.specs.FormatReading.{ChainLine, DueLine, InnerLine, LeafLine, PlainLine}
-use Rattle.pmap_cert.specs.LineTexts.{BeginsWithBits, BeginsWithChain, BeginsWithClaim, BeginsWithLeaf, BeginsWithLine, BeginsWithNumber, BeginsWithSet, GoesOnWithout, Reads, Then, after_byte, is_bit}
+use Rattle.pmap_cert.specs.LineTexts.{BeginsWithBits, BeginsWithChain, BeginsWithClaim, BeginsWithLine, BeginsWithNumber, BeginsWithSet, GoesOnWithout, Reads, Then, after_byte, is_bit}
 use Rattle.pmap_cert.proofs.ChainLines.{bits-back, bits-digits, digits-back}
 use Rattle.pmap_cert.proofs.Written.{joined-numbers}
 use Rattle.pmap_cert.proofs.Numbers.{decimal-digits, decimal_value-decimal, is_decimal-word}

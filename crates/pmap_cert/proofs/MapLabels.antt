@@ -1,5 +1,5 @@
 -- A map read from a text has all its labels in its table.
-use Rattle.std.proofs.Common.{◌≡◌, ℕ, ◌∙◌, ◌⊎◌, inl, inr, Bool, true, false, List, [], ◌∷◌, ◌++◌, Option, Some, None, Result, Ok, Err, IsTrue, fold, refl, sym, subst, bytes_eq}
+use Rattle.std.proofs.Common.{◌≡◌, ℕ, ◌∙◌, ◌⊎◌, inl, inr, Bool, true, false, List, [], ◌∷◌, ◌++◌, Option, Some, None, Ok, IsTrue, fold, refl, sym, subst, bytes_eq}
 use Rattle.std.specs.List.{AllByRecursion, flat_map}
 use Rattle.std.specs.Option.{option_or}
 use Rattle.std.proofs.lemmas.Bool.{false≢true, or_cases, or_left, or_right}
@@ -9,13 +9,14 @@ use Rattle.std.proofs.lemmas.Slice.Eq.{bytes_eq-Decides}
 use Rattle.pmap_text.proofs.LabelTexts.{has_label-with_label}
 use Rattle.pmap_text.specs.Label.{has_label, with_label}
 use Rattle.pmap_text.specs.MapModel.{Label, MapModel, Mapping}
-use Rattle.pmap_text.specs.Reading.{◌>>=◌, Decides, Declares, Defaults, Entry, Lists, Maps, Names, Nothing, ReadsMap, default_in, earlier_of, entries_from, last_in, map_from, mapping_in, text_in, unknown}
+use Rattle.pmap_text.specs.Reading.{Decides, Declares, Defaults, Entry, Lists, Maps, Names, Nothing, ReadsMap, default_in, earlier_of, entries_from, last_in, map_from, mapping_in, text_in, unknown}
 use Rattle.pmap_text.specs.Lines.{lines_of}
-use Rattle.pmap_text.specs.declared.fault.MapFault.{MapFault}
 use Rattle.pmap_text.specs.declared.form.Form.TheVariants as form
 use Rattle.pmap_cert.specs.CertificateModel.{has}
 use Rattle.pmap_cert.specs.MinimalPair.{HasItsLabels}
+use Rattle.pmap_cert.proofs.Filters.{all-weaker}
 use Rattle.pmap_cert.proofs.Sets.{bytes_eq-same, has-append}
+use Rattle.pmap_cert.proofs.Tables.{bind_ok, ok_is}
 
 -- a table keeps its labels when one is added, and has the added one
 has-kept : (table : List Label) (y x : Label) → has table x ≡ true → has (with_label table y) x ≡ true
@@ -47,9 +48,9 @@ abbrev Mapped : List Label → Mapping → Type 0
 Mapped texts m = has texts m.label ≡ true
 
 mapped-more : (front texts : List Label) (ms : List Mapping) → AllByRecursion (Mapped texts) ms → AllByRecursion (Mapped (front ++ texts)) ms
-mapped-more front texts [] all = tt
-mapped-more front texts (m ∷ ms) all =
-    (has-append front texts m.label ∙ or_right (has front m.label) (has texts m.label) all.0, mapped-more front texts ms all.1)
+mapped-more front texts =
+    all-weaker (Mapped texts) (Mapped (front ++ texts))
+    (λ m h. has-append front texts m.label ∙ or_right (has front m.label) (has texts m.label) h)
 
 mapped-entries : (entries : List Entry) → AllByRecursion (Mapped (flat_map text_in entries)) (flat_map mapping_in entries)
 mapped-entries [] = tt
@@ -80,11 +81,7 @@ default-in (entry ∷ entries) x e = by (last_in default_in entries) refl e (λ 
     by None none own rest = has-append (text_in entry) (flat_map text_in entries) x ∙ or_left (has (text_in entry) x) (has (flat_map text_in entries) x) (default-own entry x own)
     by (Some y) some own rest = has-append (text_in entry) (flat_map text_in entries) x ∙ or_right (has (text_in entry) x) (has (flat_map text_in entries) x) (rest (some ∙ own))
 
--- a table that has all texts has the labels of the mappings
-mapped-table : (table texts : List Label) → ((x : Label) → has texts x ≡ true → has table x ≡ true) → (ms : List Mapping) → AllByRecursion (Mapped texts) ms → AllByRecursion (Mapped table) ms
-mapped-table table texts more [] all = tt
-mapped-table table texts more (m ∷ ms) all = (more m.label all.0, mapped-table table texts more ms all.1)
-
+-- a table that has all texts has the labels of the mappings and the default
 has_its_labels : (entries : List Entry) → HasItsLabels (map_from (earlier_of entries))
 has_its_labels entries = by (last_in default_in entries) refl
   where
@@ -92,21 +89,16 @@ has_its_labels entries = by (last_in default_in entries) refl
     by None e = record {
       fallback = rw e (has-added (fold with_label [] (flat_map text_in entries)) unknown);
       mappings = rw e (All-from_recursion (λ p. IsTrue (has (with_label (fold with_label [] (flat_map text_in entries)) unknown) p.label)) (flat_map mapping_in entries)
-          (mapped-table (with_label (fold with_label [] (flat_map text_in entries)) unknown) (flat_map text_in entries)
-          (λ x h. has-kept (fold with_label [] (flat_map text_in entries)) unknown x (has-texts [] (flat_map text_in entries) x h)) (flat_map mapping_in entries) (mapped-entries entries)));
+          (all-weaker (Mapped (flat_map text_in entries)) (Mapped (with_label (fold with_label [] (flat_map text_in entries)) unknown))
+          (λ p h. has-kept (fold with_label [] (flat_map text_in entries)) unknown p.label (has-texts [] (flat_map text_in entries) p.label h)) (flat_map mapping_in entries) (mapped-entries entries)));
     }
     by (Some label) e = record {
       fallback = rw e (has-texts [] (flat_map text_in entries) label (default-in entries label e));
       mappings = rw e (All-from_recursion (λ p. IsTrue (has (fold with_label [] (flat_map text_in entries)) p.label)) (flat_map mapping_in entries)
-          (mapped-table (fold with_label [] (flat_map text_in entries)) (flat_map text_in entries) (λ x h. has-texts [] (flat_map text_in entries) x h) (flat_map mapping_in entries) (mapped-entries entries)));
+          (all-weaker (Mapped (flat_map text_in entries)) (Mapped (fold with_label [] (flat_map text_in entries))) (λ p h. has-texts [] (flat_map text_in entries) p.label h) (flat_map mapping_in entries) (mapped-entries entries)));
     }
 
-read-ok : (r : Result (List Entry) MapFault) (m : MapModel) → (r >>= (λ entries. Ok (map_from (earlier_of entries)))) ≡ Ok m → HasItsLabels m
-read-ok (Ok entries) m e = subst HasItsLabels (same_ok (map_from (earlier_of entries)) m e) (has_its_labels entries)
-  where
-    same_ok : (a b : MapModel) → ◌≡◌ {A = Result MapModel MapFault} (Ok a) (Ok b) → a ≡ b
-    same_ok a b e = cc
-read-ok (Err fault) m e = absurd cc
-
 pub labels-read : (text : List ℕ) (m : MapModel) → ReadsMap text m → HasItsLabels m
-labels-read text m e = read-ok (entries_from form.Map [] 0 (lines_of text)) m e
+labels-read text m read =
+    let found = bind_ok (entries_from form.Map [] 0 (lines_of text)) (λ (entries : List Entry). Ok (map_from (earlier_of entries))) m read in
+    subst HasItsLabels (ok_is (map_from (earlier_of found.0)) m found.2) (has_its_labels found.0)

@@ -1,4 +1,4 @@
-use Rattle.std.proofs.Common.{◌≡◌, ℕ, suc, ◌+◌, ◌*◌, ◌<◌, ◌≤◌, Bool, true, false, cond, ◌&&◌, ◌==◌, List, [], ◌∷◌, Option, Some, None, arith, filter, length, nat_le, nat_lt, option_map, slice_get, sym, refl, ap, ap₂, ◌∙◌, subst, append-nil, le_of_eq, eq-eqb, le-ltb}
+use Rattle.std.proofs.Common.{◌≡◌, ℕ, suc, ◌+◌, ◌*◌, ◌<◌, ◌≤◌, Bool, true, false, cond, ◌&&◌, ◌==◌, List, [], ◌∷◌, ◌++◌, Option, Some, None, arith, filter, length, nat_le, nat_lt, option_map, slice_get, sym, refl, ap, ap₂, ◌∙◌, subst, append-nil, le_of_eq, eq-eqb, le-ltb}
 use Rattle.std.specs.Option.{option_or}
 use Rattle.std.proofs.lemmas.Bool.{and_from, and_left, lt-leb}
 use Rattle.std.proofs.lemmas.Bool.Decides.{nat_tests}
@@ -103,62 +103,23 @@ module _ (m : MapModel) (table : List Label) (ps : List Prefix) where
         ∙ handed_on-leaf table x h;
   }
 
-  -- the entry of an inner node's own block, and those within its halves
-  inner-own : (claim : Pair) (lower upper : Tree) (h : Option Label) (n q : ℕ) → n < width_of m.version →
+  -- what a test keeps if it keeps all or none of an inner node's own entry, and of the entries within each half
+  inner-kept : (test : Prefix → Bool) (a b c : Bool) (claim : Pair) (lower upper : Tree) (h : Option Label) (n q : ℕ) → n < width_of m.version →
       StandsFor m (InnerNode claim lower upper) n q →
       filter (is_within (width_of m.version) n q) ps ≡ entries_of (width_of m.version) table (InnerNode claim lower upper) h n q →
-      filter (covers (width_of m.version) n (first_of (width_of m.version) n q)) ps
-      ≡ own_entry (width_of m.version) table claim.labels h n q
-  inner-own claim lower upper h n q below stands given =
-      filter-given n q _ (covers (width_of m.version) n (first_of (width_of m.version) n q)) (covers-within (width_of m.version) n q) given
-      ∙ filter-three (covers (width_of m.version) n (first_of (width_of m.version) n q)) _ _ _
-      (own_entry (width_of m.version) table claim.labels h n q) [] []
-      (filter-own_entry (width_of m.version) table (covers (width_of m.version) n (first_of (width_of m.version) n q)) true
-      claim.labels h n q (own-covers (width_of m.version) n q))
-      (filter-entries_of m table (covers (width_of m.version) n (first_of (width_of m.version) n q)) false lower
-      (handed_on table claim.labels h) (suc n) (2 * q) below stands.2
-      (within-longer (width_of m.version) n (2 * q) (first_of (width_of m.version) n q)))
-      (filter-entries_of m table (covers (width_of m.version) n (first_of (width_of m.version) n q)) false upper
-      (handed_on table claim.labels h) (suc n) (2 * q + 1) below stands.3
-      (within-longer (width_of m.version) n (2 * q + 1) (first_of (width_of m.version) n q)))
-      ∙ append-nil (own_entry (width_of m.version) table claim.labels h n q)
-
-  inner-lower : (claim : Pair) (lower upper : Tree) (h : Option Label) (n q : ℕ) → n < width_of m.version →
-      StandsFor m (InnerNode claim lower upper) n q →
-      filter (is_within (width_of m.version) n q) ps ≡ entries_of (width_of m.version) table (InnerNode claim lower upper) h n q →
-      filter (is_within (width_of m.version) (suc n) (2 * q)) ps
-      ≡ entries_of (width_of m.version) table lower (handed_on table claim.labels h) (suc n) (2 * q)
-  inner-lower claim lower upper h n q below stands given =
-      filter-given n q _ (is_within (width_of m.version) (suc n) (2 * q))
-      (is_within-half (width_of m.version) n q (2 * q) below (omega arith)) given
-      ∙ filter-three (is_within (width_of m.version) (suc n) (2 * q)) _ _ _
-      [] (entries_of (width_of m.version) table lower (handed_on table claim.labels h) (suc n) (2 * q)) []
-      (filter-own_entry (width_of m.version) table (is_within (width_of m.version) (suc n) (2 * q)) false
-      claim.labels h n q (own-half (width_of m.version) n q (2 * q)))
-      (filter-entries_of m table (is_within (width_of m.version) (suc n) (2 * q)) true lower
-      (handed_on table claim.labels h) (suc n) (2 * q) below stands.2 (λ p w. w))
-      (filter-entries_of m table (is_within (width_of m.version) (suc n) (2 * q)) false upper
-      (handed_on table claim.labels h) (suc n) (2 * q + 1) below stands.3
-      (within-other (width_of m.version) (suc n) (2 * q + 1) (2 * q) (omega arith)))
-      ∙ append-nil (entries_of (width_of m.version) table lower (handed_on table claim.labels h) (suc n) (2 * q))
-
-  inner-upper : (claim : Pair) (lower upper : Tree) (h : Option Label) (n q : ℕ) → n < width_of m.version →
-      StandsFor m (InnerNode claim lower upper) n q →
-      filter (is_within (width_of m.version) n q) ps ≡ entries_of (width_of m.version) table (InnerNode claim lower upper) h n q →
-      filter (is_within (width_of m.version) (suc n) (2 * q + 1)) ps
-      ≡ entries_of (width_of m.version) table upper (handed_on table claim.labels h) (suc n) (2 * q + 1)
-  inner-upper claim lower upper h n q below stands given =
-      filter-given n q _ (is_within (width_of m.version) (suc n) (2 * q + 1))
-      (is_within-half (width_of m.version) n q (2 * q + 1) below (omega arith)) given
-      ∙ filter-three (is_within (width_of m.version) (suc n) (2 * q + 1)) _ _ _
-      [] [] (entries_of (width_of m.version) table upper (handed_on table claim.labels h) (suc n) (2 * q + 1))
-      (filter-own_entry (width_of m.version) table (is_within (width_of m.version) (suc n) (2 * q + 1)) false
-      claim.labels h n q (own-half (width_of m.version) n q (2 * q + 1)))
-      (filter-entries_of m table (is_within (width_of m.version) (suc n) (2 * q + 1)) false lower
-      (handed_on table claim.labels h) (suc n) (2 * q) below stands.2
-      (within-other (width_of m.version) (suc n) (2 * q) (2 * q + 1) (omega arith)))
-      (filter-entries_of m table (is_within (width_of m.version) (suc n) (2 * q + 1)) true upper
-      (handed_on table claim.labels h) (suc n) (2 * q + 1) below stands.3 (λ p w. w))
+      ((p : Prefix) → test p ≡ true → is_within (width_of m.version) n q p ≡ true) →
+      ((x : Label) → test (record { start = first_of (width_of m.version) n q; bits = n; label = x }) ≡ a) →
+      ((p : Prefix) → is_within (width_of m.version) (suc n) (2 * q) p ≡ true → test p ≡ b) →
+      ((p : Prefix) → is_within (width_of m.version) (suc n) (2 * q + 1) p ≡ true → test p ≡ c) →
+      filter test ps ≡ cond a (own_entry (width_of m.version) table claim.labels h n q) []
+      ++ (cond b (entries_of (width_of m.version) table lower (handed_on table claim.labels h) (suc n) (2 * q)) []
+      ++ cond c (entries_of (width_of m.version) table upper (handed_on table claim.labels h) (suc n) (2 * q + 1)) [])
+  inner-kept test a b c claim lower upper h n q below stands given within own low up =
+      filter-given n q _ test within given
+      ∙ filter-three test _ _ _ _ _ _
+      (filter-own_entry (width_of m.version) table test a claim.labels h n q own)
+      (filter-entries_of m table test b lower (handed_on table claim.labels h) (suc n) (2 * q) below stands.2 low)
+      (filter-entries_of m table test c upper (handed_on table claim.labels h) (suc n) (2 * q + 1) below stands.3 up)
 
   -- a node that represents a block is accepted if the list's entries within the block are the node's
   pub accepted-node : (t : Tree) (h : Option Label) (n q : ℕ) → n ≤ width_of m.version → StandsFor m t n q →
@@ -168,17 +129,23 @@ module _ (m : MapModel) (table : List Label) (ps : List Prefix) where
   accepted-node (LeafNode x) h n q le stands given inherited = (stands, leaf-decided x h n q given inherited)
   accepted-node (ChainNode p bits side end) h n q le stands given inherited = absurd stands
   accepted-node (InnerNode claim lower upper) h n q le stands given inherited =
+      let W : ℕ = width_of m.version in
       let below : n < width_of m.version = unsettled-halves m n q le stands.0 in
-      let handed : label_below (width_of m.version) ps (suc n) (first_of (width_of m.version) n q) ≡ handed_on table claim.labels h =
-      label_below-own (width_of m.version) ps table claim.labels h n q
-      (inner-own claim lower upper h n q below stands given) inherited in (
+      let passed : Option Label = handed_on table claim.labels h in
+      let own = inner-kept (covers W n (first_of W n q)) true false false claim lower upper h n q below stands given (covers-within W n q)
+      (own-covers W n q) (within-longer W n (2 * q) (first_of W n q)) (within-longer W n (2 * q + 1) (first_of W n q)) in
+      let low = inner-kept (is_within W (suc n) (2 * q)) false true false claim lower upper h n q below stands given
+      (is_within-half W n q (2 * q) below (omega arith)) (own-half W n q (2 * q)) (λ p w. w)
+      (within-other W (suc n) (2 * q + 1) (2 * q) (omega arith)) in
+      let up = inner-kept (is_within W (suc n) (2 * q + 1)) false false true claim lower upper h n q below stands given
+      (is_within-half W n q (2 * q + 1) below (omega arith)) (own-half W n q (2 * q + 1))
+      (within-other W (suc n) (2 * q) (2 * q + 1) (omega arith)) (λ p w. w) in
+      let handed : label_below W ps (suc n) (first_of W n q) ≡ passed =
+      label_below-own W ps table claim.labels h n q (own ∙ append-nil (own_entry W table claim.labels h n q)) inherited in (
         below,
-        accepted-node lower (handed_on table claim.labels h) (suc n) (2 * q) below stands.2
-            (inner-lower claim lower upper h n q below stands given)
-            (label_below-lower (width_of m.version) ps n q below ∙ handed),
-        accepted-node upper (handed_on table claim.labels h) (suc n) (2 * q + 1) below stands.3
-            (inner-upper claim lower upper h n q below stands given)
-            (label_below-upper (width_of m.version) ps n q below ∙ handed),
+        accepted-node lower passed (suc n) (2 * q) below stands.2 (low ∙ append-nil (entries_of W table lower passed (suc n) (2 * q)))
+            (label_below-lower W ps n q below ∙ handed),
+        accepted-node upper passed (suc n) (2 * q + 1) below stands.3 up (label_below-upper W ps n q below ∙ handed),
         within-same claim (exact_pair (claim_of lower) (claim_of upper)) stands.1,
       )
 

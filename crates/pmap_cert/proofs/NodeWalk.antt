@@ -2,14 +2,7 @@
 use Rattle.std.proofs.Common.{◌≡◌, Bool, ℕ, zero, suc, ◌<◌, ◌≤◌, ◌∙◌, List, [], ◌∷◌, ◌++◌, length, drop, get_or, refl, sym, ap, subst, arith}
 use Rattle.std.proofs.lemmas.List.{append-nil, append_assoc}
 use Rattle.pmap_cert.specs.FormatReading.{ChainLine, DueLine, InnerLine, LeafLine, PlainLine}
-use Rattle.pmap_cert.specs.Node.{AreWhole, Chain, Inner, IsTree, Leaf, Node, bits_of, chained, cost_of, first_node, from_next_line, joined, label_of, line_bits, line_cost, line_label, line_set, line_side, lines_of, nodes_of, set_of, side_of}
-
-pub nodes-lines : (node : Node) (rest : List DueLine) → nodes_of (lines_of node ++ rest) ≡ node ∷ nodes_of rest
-nodes-lines (Leaf number) rest = refl
-nodes-lines (Inner cost set lower upper) rest =
-    ap (λ (ls : List DueLine). joined cost set (nodes_of ls)) (append_assoc (lines_of lower) (lines_of upper) rest)
-    ∙ ap (joined cost set) (nodes-lines lower (lines_of upper ++ rest) ∙ ap (λ (ns : List Node). lower ∷ ns) (nodes-lines upper rest))
-nodes-lines (Chain cost set bits side end) rest = ap (chained cost set bits side) (nodes-lines end rest)
+use Rattle.pmap_cert.specs.Node.{AreWhole, Chain, Inner, IsTree, Leaf, Node, bits_of, chained, cost_of, first_node, from_next_line, joined, label_of, line_bits, line_cost, line_label, line_set, line_side, lines_of, nodes-lines, nodes_of, set_of, side_of}
 
 pub whole-lines : (node : Node) (rest : List DueLine) → AreWhole rest → AreWhole (lines_of node ++ rest)
 whole-lines (Leaf number) rest whole = whole

@@ -1,4 +1,4 @@
-use Rattle.std.proofs.Common.{◌≡◌, ℕ, suc, ◌+◌, ◌*◌, ◌<◌, ◌≤◌, Bool, true, false, ◌&&◌, ◌||◌, List, [], ◌∷◌, ◌++◌, arith, length, sym, ap, ap₂, ◌∙◌, subst, bytes_eq}
+use Rattle.std.proofs.Common.{◌≡◌, ℕ, suc, ◌+◌, ◌*◌, ◌<◌, ◌≤◌, Bool, true, false, ◌&&◌, List, [], ◌∷◌, arith, length, sym, ap, ap₂, ◌∙◌, subst, bytes_eq}
 use Rattle.std.proofs.lemmas.Bool.{or_left}
 use Rattle.pmap_text.specs.ListModel.{Prefix}
 use Rattle.pmap_text.specs.MapModel.{Label, MapModel}
@@ -25,28 +25,6 @@ within-then a b c e f = record {
 own-first : (y : Label) (ys : List Label) → has (y ∷ ys) y ≡ true
 own-first y ys = or_left (bytes_eq y y) (has ys y) (bytes_eq-same y)
 
--- if two sums are equal and no part of the first is greater, the parts are equal
-less-apart : (k l k' l' : ℕ) → k ≤ k' → l ≤ l' → k + l + 1 ≡ k' + l' + 1 → (k ≡ k') × (l ≡ l')
-less-apart k l k' l' h h' e = (omega arith, omega arith)
-
-less-common : (k l k' l' : ℕ) → k ≤ k' → l ≤ l' → k + l ≡ k' + l' → (k ≡ k') × (l ≡ l')
-less-common k l k' l' h h' e = (omega arith, omega arith)
-
--- if the greater pairs have a common label and the pairs within them have none, one of the costs is less
-within-either : (k l k' l' : ℕ) (a b c d : Bool) → k ≤ k' → l ≤ l' → k + l + 1 ≡ k' + l' → (k ≡ k' → c ≡ true → a ≡ true) →
-    (l ≡ l' → d ≡ true → b ≡ true) → (c && d) ≡ true → (a || b) ≡ true
-within-either k l k' l' a b c d h h' e f g known = grind arith
-
-not-equal : (k l k' l' : ℕ) (a b c d : Bool) → k ≤ k' → l ≤ l' → (k ≡ k' → c ≡ true → a ≡ true) →
-    (l ≡ l' → d ≡ true → b ≡ true) → (c && d) ≡ true → (a && b) ≡ false → k + l + 1 ≤ k' + l'
-not-equal k l k' l' a b c d h h' f g known none = grind arith
-
-within-union : (a b c d e f : Bool) → e ≡ (a || b) → f ≡ (c || d) → (c ≡ true → a ≡ true) → (d ≡ true → b ≡ true) → f ≡ true → e ≡ true
-within-union a b c d e f is is' h h' known = grind arith
-
-within-common : (a b c d e f : Bool) → e ≡ (a && b) → f ≡ (c && d) → (c ≡ true → a ≡ true) → (d ≡ true → b ≡ true) → f ≡ true → e ≡ true
-within-common a b c d e f is is' h h' known = grind arith
-
 -- the list has exactly the labels that both pairs have
 abbrev IsCommon : Pair → Pair → List Label → Type 0
 IsCommon p r common = (x : Label) → has common x ≡ (has p.labels x && has r.labels x)
@@ -56,19 +34,29 @@ exact-within_by : (p r p' r' : Pair) (common common' : List Label) → IsCommon 
 exact-within_by p r p' r' [] [] both both' e f = record {
   cost = omega (arith, e.cost, f.cost);
   labels = λ cost x h.
-      let parts = less-apart p.cost r.cost p'.cost r'.cost e.cost f.cost cost in
-      within-union (has p.labels x) (has r.labels x) (has p'.labels x) (has r'.labels x) (has (p.labels ++ r.labels) x)
-      (has (p'.labels ++ r'.labels) x) (has-append p.labels r.labels x) (has-append p'.labels r'.labels x)
-      (e.labels parts.0 x) (f.labels parts.1 x) h;
+      let low = e.labels (omega (arith, e.cost, f.cost)) x in
+      let up = f.labels (omega (arith, e.cost, f.cost)) x in
+      let own = has-append p.labels r.labels x in
+      let given = has-append p'.labels r'.labels x in
+      grind arith;
 }
 exact-within_by p r p' r' [] (y ∷ ys) both both' e f = record {
   cost =
-      not-equal p.cost r.cost p'.cost r'.cost (has p.labels y) (has r.labels y) (has p'.labels y) (has r'.labels y) e.cost f.cost
-      (λ same. e.labels same y) (λ same. f.labels same y) (sym (both' y) ∙ own-first y ys) (sym (both y));
+      let low = λ (same : p.cost ≡ p'.cost). e.labels same y in
+      let up = λ (same : r.cost ≡ r'.cost). f.labels same y in
+      let least = e.cost in
+      let less = f.cost in
+      let given = sym (both' y) ∙ own-first y ys in
+      let none = both y in
+      grind arith;
   labels = λ cost x h.
-      has-append p.labels r.labels x
-      ∙ within-either p.cost r.cost p'.cost r'.cost (has p.labels x) (has r.labels x) (has p'.labels x) (has r'.labels x)
-      e.cost f.cost cost (λ same. e.labels same x) (λ same. f.labels same x) (sym (both' x) ∙ h);
+      let low = λ (same : p.cost ≡ p'.cost). e.labels same x in
+      let up = λ (same : r.cost ≡ r'.cost). f.labels same x in
+      let least = e.cost in
+      let less = f.cost in
+      let own = has-append p.labels r.labels x in
+      let given = both' x in
+      grind arith;
 }
 exact-within_by p r p' r' (y ∷ ys) [] both both' e f = record {
   cost = omega (arith, e.cost, f.cost);
@@ -77,9 +65,11 @@ exact-within_by p r p' r' (y ∷ ys) [] both both' e f = record {
 exact-within_by p r p' r' (y ∷ ys) (z ∷ zs) both both' e f = record {
   cost = omega (arith, e.cost, f.cost);
   labels = λ cost x h.
-      let parts = less-common p.cost r.cost p'.cost r'.cost e.cost f.cost cost in
-      within-common (has p.labels x) (has r.labels x) (has p'.labels x) (has r'.labels x) (has (y ∷ ys) x)
-      (has (z ∷ zs) x) (both x) (both' x) (e.labels parts.0 x) (f.labels parts.1 x) h;
+      let low = e.labels (omega (arith, e.cost, f.cost)) x in
+      let up = f.labels (omega (arith, e.cost, f.cost)) x in
+      let own = both x in
+      let given = both' x in
+      grind arith;
 }
 
 pub exact-within : (p r p' r' : Pair) → IsWithinExact p p' → IsWithinExact r r' → IsWithinExact (exact_pair p r) (exact_pair p' r')
@@ -94,9 +84,7 @@ link-within false side p r within =
 
 -- a node claims the same as the node that it opens to
 pub claim-opening : (c : Tree) (t : Tree) → OpensTo c t → claim_of t ≡ claim_of c
-claim-opening (LeafNode x) (LeafNode y) h = ap (λ (z : Label). claim_of (LeafNode z)) (sym h)
-claim-opening (LeafNode x) (InnerNode claim lower upper) h = absurd h
-claim-opening (LeafNode x) (ChainNode claim bits side end) h = absurd h
+claim-opening (LeafNode x) t h = ap claim_of h
 claim-opening (InnerNode claim lower upper) (ChainNode claim' bits side end) h = absurd h
 claim-opening (InnerNode claim lower upper) (LeafNode y) h = absurd h
 claim-opening (InnerNode claim lower upper) (InnerNode claim' lower' upper') h = sym h.0
@@ -111,33 +99,27 @@ module _ (m : MapModel) (ps : List Prefix) (side : Label) (IsEnd : Tree → Type
   IsAlong bits t n q = AreBitsAccepted m ps side IsEndAccepted bits n q × IsWithinExact (claim_of t) (pair_by_bits bits side e)
 
   module _ (claims : (t : Tree) → IsEnd t → claim_of t ≡ e) where
-    leaf-of : (x : Label) (n q : ℕ) → x ≡ side → IsNodeAccepted m ps (LeafNode x) n q → IsNodeAccepted m ps (LeafNode side) n q
-    leaf-of x n q is h = subst (λ (y : Label). IsNodeAccepted m ps (LeafNode y) n q) is h
-
-    step : (bit : Bool) (bits : List Bool) (claim p : Pair) (x : Label) → x ≡ side → IsWithinExact claim (link_pair bit x p) →
+    step : (bit : Bool) (bits : List Bool) (claim p : Pair) → IsWithinExact claim (link_pair bit side p) →
         IsWithinExact p (pair_by_bits bits side e) → IsWithinExact claim (pair_by_bits (bit ∷ bits) side e)
-    step bit bits claim p x is within rest =
-        within-then claim (link_pair bit side p) (pair_by_bits (bit ∷ bits) side e)
-        (subst (λ (y : Label). IsWithinExact claim (link_pair bit y p)) is within)
+    step bit bits claim p within rest =
+        within-then claim (link_pair bit side p) (pair_by_bits (bit ∷ bits) side e) within
         (link-within bit side p (pair_by_bits bits side e) rest)
 
     along : (bits : List Bool) (t : Tree) (n q : ℕ) → IsWay IsEnd side bits t → IsNodeAccepted m ps t n q → IsAlong bits t n q
     along [] t n q way h =
         ((t, way, h), subst (λ (p : Pair). IsWithinExact (claim_of t) p) (claims t way) (within-itself (claim_of t)))
-    along (true ∷ bits) (LeafNode x) n q way h = absurd way
-    along (true ∷ bits) (InnerNode claim (InnerNode p l r) upper) n q way h = absurd way
-    along (true ∷ bits) (InnerNode claim (ChainNode p bs s end) upper) n q way h = absurd way
-    along (true ∷ bits) (ChainNode p bs s end) n q way h = absurd way
-    along (false ∷ bits) (InnerNode claim lower (ChainNode p bs s end)) n q way h = absurd way
-    along (false ∷ bits) (ChainNode p bs s end) n q way h = absurd way
-    along (true ∷ bits) (InnerNode claim (LeafNode x) upper) n q way h =
-        let rest = along bits upper (suc n) (2 * q + 1) way.1 h.2 in
-        ((h.0, leaf-of x (suc n) (2 * q) way.0 h.1, rest.0), step true bits claim (claim_of upper) x way.0 h.3 rest.1)
-    along (false ∷ bits) (LeafNode x) n q way h = absurd way
-    along (false ∷ bits) (InnerNode claim lower (InnerNode p l r)) n q way h = absurd way
-    along (false ∷ bits) (InnerNode claim lower (LeafNode x)) n q way h =
-        let rest = along bits lower (suc n) (2 * q) way.1 h.1 in
-        ((h.0, leaf-of x (suc n) (2 * q + 1) way.0 h.2, rest.0), step false bits claim (claim_of lower) x way.0 h.3 rest.1)
+    along (bit ∷ bits) (LeafNode x) n q way h = absurd way
+    along (bit ∷ bits) (ChainNode p bs s end) n q way h = absurd way
+    along (true ∷ bits) (InnerNode claim lower upper) n q way h =
+        let rest = along bits upper (suc n) (2 * q + 1) way.1 h.2 in (
+          (h.0, subst (λ (t : Tree). IsNodeAccepted m ps t (suc n) (2 * q)) way.0 h.1, rest.0),
+          step true bits claim (claim_of upper) (subst (λ (t : Tree). IsWithinExact claim (exact_pair (claim_of t) (claim_of upper))) way.0 h.3) rest.1,
+        )
+    along (false ∷ bits) (InnerNode claim lower upper) n q way h =
+        let rest = along bits lower (suc n) (2 * q) way.1 h.1 in (
+          (h.0, subst (λ (t : Tree). IsNodeAccepted m ps t (suc n) (2 * q + 1)) way.0 h.2, rest.0),
+          step false bits claim (claim_of lower) (subst (λ (t : Tree). IsWithinExact claim (exact_pair (claim_of lower) (claim_of t))) way.0 h.3) rest.1,
+        )
 
 -- a claim that is within the exact pair taken bit by bit is within the chain's pair
 same-back : (p r : Pair) → IsSamePair p r → IsSamePair r p
@@ -153,9 +135,7 @@ within-chain claim (bit ∷ bits) side e some within =
 -- a node is accepted if the node that it opens to is
 pub opening-accepted : (m : MapModel) (ps : List Prefix) (c : Tree) (t : Tree) (n q : ℕ) → OpensTo c t →
     IsNodeAccepted m ps t n q → IsNodeAccepted m ps c n q
-opening-accepted m ps (LeafNode x) (LeafNode y) n q is h = subst (λ (z : Label). IsNodeAccepted m ps (LeafNode z) n q) (sym is) h
-opening-accepted m ps (LeafNode x) (InnerNode claim lower upper) n q is h = absurd is
-opening-accepted m ps (LeafNode x) (ChainNode p bs s end) n q is h = absurd is
+opening-accepted m ps (LeafNode x) t n q is h = subst (λ (z : Tree). IsNodeAccepted m ps z n q) is h
 opening-accepted m ps (InnerNode claim lower upper) (ChainNode p bs s end) n q is h = absurd is
 opening-accepted m ps (InnerNode claim lower upper) (LeafNode y) n q is h = absurd is
 opening-accepted m ps (InnerNode claim lower upper) (InnerNode claim' lower' upper') n q is h = (
@@ -178,23 +158,15 @@ opening-accepted m ps (ChainNode claim bits side end) t n q is h =
 lines-way : (IsEnd : Tree → Type 0) (side : Label) (k : ℕ) → ((t : Tree) → IsEnd t → k ≤ line_count t) → (bits : List Bool) (t : Tree) →
     IsWay IsEnd side bits t → k + 2 * length bits ≤ line_count t
 lines-way IsEnd side k ends [] t way = omega (arith, ends t way)
-lines-way IsEnd side k ends (true ∷ bits) (LeafNode x) way = absurd way
-lines-way IsEnd side k ends (true ∷ bits) (InnerNode claim (InnerNode p l r) upper) way = absurd way
-lines-way IsEnd side k ends (true ∷ bits) (InnerNode claim (ChainNode p bs s end) upper) way = absurd way
-lines-way IsEnd side k ends (true ∷ bits) (ChainNode p bs s end) way = absurd way
-lines-way IsEnd side k ends (false ∷ bits) (InnerNode claim lower (ChainNode p bs s end)) way = absurd way
-lines-way IsEnd side k ends (false ∷ bits) (ChainNode p bs s end) way = absurd way
-lines-way IsEnd side k ends (true ∷ bits) (InnerNode claim (LeafNode x) upper) way =
-    let rest = lines-way IsEnd side k ends bits upper way.1 in omega arith
-lines-way IsEnd side k ends (false ∷ bits) (LeafNode x) way = absurd way
-lines-way IsEnd side k ends (false ∷ bits) (InnerNode claim lower (InnerNode p l r)) way = absurd way
-lines-way IsEnd side k ends (false ∷ bits) (InnerNode claim lower (LeafNode x)) way =
-    let rest = lines-way IsEnd side k ends bits lower way.1 in omega arith
+lines-way IsEnd side k ends (bit ∷ bits) (LeafNode x) way = absurd way
+lines-way IsEnd side k ends (bit ∷ bits) (ChainNode p bs s end) way = absurd way
+lines-way IsEnd side k ends (true ∷ bits) (InnerNode claim lower upper) way =
+    let rest = lines-way IsEnd side k ends bits upper way.1 in omega (arith, ap line_count way.0)
+lines-way IsEnd side k ends (false ∷ bits) (InnerNode claim lower upper) way =
+    let rest = lines-way IsEnd side k ends bits lower way.1 in omega (arith, ap line_count way.0)
 
 pub lines-opening : (c : Tree) (t : Tree) → OpensTo c t → line_count c ≤ line_count t
-lines-opening (LeafNode x) (LeafNode y) is = omega arith
-lines-opening (LeafNode x) (InnerNode claim lower upper) is = absurd is
-lines-opening (LeafNode x) (ChainNode p bs s end) is = absurd is
+lines-opening (LeafNode x) t is = omega (arith, ap line_count is)
 lines-opening (InnerNode claim lower upper) (ChainNode p bs s end) is = absurd is
 lines-opening (InnerNode claim lower upper) (LeafNode y) is = absurd is
 lines-opening (InnerNode claim lower upper) (InnerNode claim' lower' upper') is =

@@ -1,11 +1,11 @@
 -- The lines of nodes as the code stores them.
-use Rattle.std.proofs.Common.{◌≡◌, ℕ, zero, suc, ◌+◌, ◌-◌, ◌<◌, ◌≤◌, ◌∙◌, Bool, List, [], ◌∷◌, ◌++◌, All, length, map, take, drop, get_or, refl, sym, ap, subst, arith, length-append, length-drop}
+use Rattle.std.proofs.Common.{◌≡◌, ℕ, zero, suc, ◌+◌, ◌-◌, ◌<◌, ◌≤◌, ◌∙◌, Bool, List, [], ◌∷◌, ◌++◌, All, length, map, take, drop, refl, sym, ap, subst, arith, length-append, length-drop}
 use Rattle.std.specs.List.{slice_range}
-use Rattle.std.proofs.lemmas.List.{drop-append-le, get_or-map, append-nil, get_or_append_left, get_or_push, length-map, map-append, take-append-le}
+use Rattle.std.proofs.lemmas.List.{drop-append-le, append-nil, get_or_append_left, get_or_push, map-append, take-append-le}
 use Rattle.std.proofs.Math.Seq.{drop-append_seam, take-length}
 use Rattle.std.proofs.lemmas.List.Elements.{All-head, All-push, All-tail, All-weaker}
 use Rattle.pmap_text.specs.declared.label.LabelId.{LabelId}
-use Rattle.pmap_cert.specs.FormatReading.{ChainLine, DueLine, InnerLine, LeafLine, PlainLine}
+use Rattle.pmap_cert.specs.FormatReading.{ChainLine, DueLine, InnerLine, PlainLine}
 use Rattle.pmap_cert.specs.Packed.{HasParts, HasSet, HasSetBy, IsGrown, IsHeld, IsPacked, Store, chain_at, chain_in, count_at, joined_halves, line_in, no_chain, set_by, set_in}
 use Rattle.pmap_cert.specs.declared.nodes.Packed.{Packed}
 use Rattle.pmap_cert.specs.declared.nodes.Packed.TheVariants.{Chain, Inner, Leaf}

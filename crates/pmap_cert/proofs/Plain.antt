@@ -1,12 +1,12 @@
 -- Trees without chains: those of minimal pairs, and those that the code keeps.
-use Rattle.std.proofs.Common.{◌≡◌, ℕ, zero, suc, ◌+◌, ◌*◌, List, inl, inr, refl, subst}
+use Rattle.std.proofs.Common.{ℕ, suc, ◌+◌, ◌*◌, List, inl, inr, refl}
 use Rattle.prefix_keys.specs.declared.version.Version.{Version}
 use Rattle.pmap_text.specs.MapModel.{Label, MapModel}
 use Rattle.pmap_cert.specs.CertificateModel.{ChainNode, InnerNode, LeafNode, Tree}
 use Rattle.pmap_cert.specs.Chain.{IsOfFormat, IsPlain}
 use Rattle.pmap_cert.specs.Format.{IsNodeOf, format_number}
 use Rattle.pmap_cert.specs.MinimalPair.{StandsFor}
-use Rattle.pmap_cert.specs.Node.{Chain, HasChainForm, HasNumberForm, Inner, IsPlainNode, Leaf, Node, tree_of}
+use Rattle.pmap_cert.specs.Node.{Chain, Inner, IsPlainNode, Leaf, Node, tree_of}
 use Rattle.pmap_cert.specs.declared.format.Format.{Format}
 use Rattle.pmap_cert.specs.declared.format.Format.TheVariants.{One, Two}
 
@@ -23,21 +23,6 @@ plain-tree_of table (Leaf number) plain = tt
 plain-tree_of table (Inner cost set lower upper) plain =
     (plain-tree_of table lower plain.0, plain-tree_of table upper plain.1)
 plain-tree_of table (Chain cost set bits side end) plain = absurd plain
-
--- a node in the form without chains has no chain
-pub number-plain : (count : ℕ) (node : Node) (room : ℕ) → HasNumberForm count node room → IsPlainNode node
-number-plain count (Leaf number) room form = tt
-number-plain count (Inner cost set lower upper) zero form = absurd form
-number-plain count (Inner cost set lower upper) (suc room) form =
-    (number-plain count lower room form.2, number-plain count upper room form.3)
-number-plain count (Chain cost set bits side end) room form = absurd form
-
-pub number-form : (count : ℕ) (node : Node) (room : ℕ) → HasNumberForm count node room → HasChainForm count node room
-number-form count (Leaf number) room form = form
-number-form count (Inner cost set lower upper) zero form = absurd form
-number-form count (Inner cost set lower upper) (suc room) form =
-    (form.0, form.1, number-form count lower room form.2, number-form count upper room form.3)
-number-form count (Chain cost set bits side end) room form = absurd form
 
 -- a certificate whose root is allowed in its format is of that format
 pub of-kind : (table : List Label) (format : Format) (node : Node) (version : Version) → IsNodeOf format node

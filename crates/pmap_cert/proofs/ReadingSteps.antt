@@ -3,14 +3,15 @@ use Rattle.std.proofs.Common.{◌≡◌, ℕ, zero, suc, ◌+◌, ◌-◌, ◌<�
 use Rattle.std.proofs.lemmas.Bool.{cond-false, cond-true, le-leb, lt-leb}
 use Rattle.std.proofs.lemmas.List.{append_assoc, length_push}
 use Rattle.pmap_text.specs.MapModel.{Label}
+use Rattle.pmap_text.specs.Reading.{◌>>=◌}
 use Rattle.pmap_text.specs.MapText.{text_at}
 use Rattle.pmap_cert.specs.CertificateModel.{ChainNode, InnerNode, LeafNode, Pair, Tree}
 use Rattle.pmap_cert.specs.Format.{IsNodeOf, format_number}
-use Rattle.pmap_cert.specs.FormatReading.{◌>>=◌, ChainLine, DueLine, InnerLine, LeafLine, Place, PlainLine, due_node, fault_at, label_at, labels_at, line_due_at, nodes_at}
+use Rattle.pmap_cert.specs.FormatReading.{ChainLine, DueLine, InnerLine, LeafLine, Place, PlainLine, due_node, fault_at, labels_at, line_due_at, new_label, nodes_at, value_at}
 use Rattle.pmap_cert.specs.Node.{Chain, HasChainForm, Inner, Leaf, Node, lines_of, tree_of}
 use Rattle.pmap_cert.specs.ReadNodes.{IsReadNode}
 use Rattle.pmap_cert.specs.declared.fault.CertFault.{CertFault}
-use Rattle.pmap_cert.specs.declared.fault.CertFaultKind.TheVariants.{TooDeep}
+use Rattle.pmap_cert.specs.declared.fault.CertFaultKind.TheVariants.{BadLabelTable, TooDeep}
 use Rattle.pmap_cert.specs.declared.format.Format.{Format}
 use Rattle.pmap_cert.specs.declared.format.Format.TheVariants.{One, Two}
 use Rattle.pmap_cert.proofs.ChainWords.{room-left}
@@ -22,12 +23,12 @@ module _ (count : ℕ) (table : List Label) (place : Place) (total : Result (Lis
   one_left : length table < count → count - length table ≡ suc (count - (length table + 1))
   one_left h = omega arith
 
-  pub labels_at-fault : (fault : CertFault) → length table < count → label_at table place ≡ Err fault → total ≡ Err fault
+  pub labels_at-fault : (fault : CertFault) → length table < count → value_at BadLabelTable (new_label table) place ≡ Err fault → total ≡ Err fault
   labels_at-fault fault h e =
       so_far ∙ ap (λ (n : ℕ). labels_at n table place) (one_left h)
       ∙ ap (λ (r : Result (Label × Place) CertFault). r >>= (λ label. labels_at (count - (length table + 1)) (table ++ label.0 ∷ []) label.1)) e
 
-  pub labels_at-next : (label : Label) (after : Place) → length table < count → label_at table place ≡ Ok (label, after) → total ≡ labels_at (count - length (table ++ label ∷ [])) (table ++ label ∷ []) after
+  pub labels_at-next : (label : Label) (after : Place) → length table < count → value_at BadLabelTable (new_label table) place ≡ Ok (label, after) → total ≡ labels_at (count - length (table ++ label ∷ [])) (table ++ label ∷ []) after
   labels_at-next label after h e =
       so_far ∙ ap (λ (n : ℕ). labels_at n table place) (one_left h)
       ∙ ap (λ (r : Result (Label × Place) CertFault). r >>= (λ label. labels_at (count - (length table + 1)) (table ++ label.0 ∷ []) label.1)) e
@@ -141,7 +142,7 @@ module _ (format : Format) (most : ℕ) (table : List Label) where
   pub chain-bits : (place after : Place) (cost : ℕ) (bits : List Bool) (side : ℕ) (numbers : List ℕ) → due_in place ≡ Ok (ChainLine cost bits side numbers, after)
       → 0 < length bits
   chain-bits place after cost bits side numbers is =
-      let said = line_due-found (format_number format) most (length table) place (ChainLine cost bits side numbers, after) is in said.2.3
+      let said = line_due-found (format_number format) most (length table) place (ChainLine cost bits side numbers, after) is in said.2.1.2
 
   -- a leaf that was read, and its line after the old ones
   pub read-leaf : (room : ℕ) (place after : Place) (number : ℕ) (old new : List DueLine) → due_in place ≡ Ok (PlainLine (LeafLine number), after)
@@ -165,7 +166,7 @@ module _ (format : Format) (most : ℕ) (table : List Label) where
       let node : Node = Inner cost numbers low.node up.node in record {
         node = node;
         read = node-inner due_in table place after cost numbers due room some (tree_of table low.node) middle low.read (tree_of table up.node) end up.read;
-        form = subst (HasChainForm (length table) node) more (said.2.1, said.2.2, low.form, up.form);
+        form = subst (HasChainForm (length table) node) more (said.2.1.0, said.2.1.1, low.form, up.form);
         kind = inner-kind format cost numbers low.node up.node low.kind up.kind;
         lines =
             up.lines ∙ ap (λ (ls : List DueLine). ls ++ lines_of up.node) (low.lines ∙ ap (λ (ls : List DueLine). ls ++ lines_of low.node) is)
@@ -178,19 +179,19 @@ module _ (format : Format) (most : ℕ) (table : List Label) where
       → IsReadNode format most table (room - length bits) after first second end → IsReadNode format most table room place old second end
   read-chain room place after end cost bits side numbers old first second due fits is last =
       let said = line_due-found (format_number format) most (length table) place (ChainLine cost bits side numbers, after) due in
-      let some = said.2.3 in record {
+      let some = said.2.1.2 in record {
         node = Chain cost numbers bits side last.node;
         read =
             chain-in due_in table place after cost numbers bits side room due fits some
             ∙ ap (end_then due_in table place after cost numbers bits side) last.read;
         form = (
-          said.2.2,
-          said.2.6,
-          said.2.5,
+          said.2.1.1,
+          said.2.1.5,
+          said.2.1.4,
           some,
           room-left (HasChainForm (length table) last.node) bits room (room - length bits) (omega arith) last.form,
         );
-        kind = chain-kind format cost numbers bits side last.node said.2.1;
+        kind = chain-kind format cost numbers bits side last.node said.2.1.0;
         lines =
             last.lines ∙ ap (λ (ls : List DueLine). ls ++ lines_of last.node) is
             ∙ append_assoc old (ChainLine cost bits side numbers ∷ []) (lines_of last.node);

@@ -1,5 +1,5 @@
 -- A compacted tree opens to the original and has no run left.
-use Rattle.std.proofs.Common.{◌≡◌, ℕ, zero, suc, ◌+◌, ◌*◌, ◌<◌, ◌≤◌, ◌∙◌, Bool, true, false, cond, ◌||◌, List, [], ◌∷◌, Option, Some, None, arith, length, nat_le, refl, sym, ap, ap₂, subst, bytes_eq}
+use Rattle.std.proofs.Common.{◌≡◌, ℕ, zero, suc, ◌+◌, ◌*◌, ◌<◌, ◌≤◌, ◌∙◌, Bool, true, false, cond, ◌||◌, List, [], ◌∷◌, Option, Some, None, arith, length, nat_le, refl, sym, ap, ap₂, subst}
 use Rattle.std.specs.Fmt.{digits}
 use Rattle.std.proofs.lemmas.Bool.{cond-false, cond-true, false≢true, le-leb, leb-true}
 use Rattle.std.proofs.lemmas.Option.{none-some, same_Some}
@@ -12,69 +12,54 @@ use Rattle.pmap_cert.specs.Compacting.{HasNoRun, IsSameShape, IsWay, OpensTo, co
 use Rattle.pmap_cert.specs.LastAddress.{last_address_certificate, last_address_lines, last_address_opened}
 use Rattle.pmap_cert.proofs.Sets.{bytes_eq-same}
 
+-- what holds of a run that ends at once, and of a longer run if it holds of the run from the chosen half, holds of each
+module _ (side : Label) (Is : Tree → List Bool → Tree → Type 0) (ended : (t : Tree) → Is t [] t)
+    (up-on : (claim : Pair) (lower upper : Tree) (bits : List Bool) (end : Tree) → is_side side lower ≡ true → Is upper bits end →
+        Is (InnerNode claim lower upper) (true ∷ bits) end)
+    (low-on : (claim : Pair) (lower upper : Tree) (bits : List Bool) (end : Tree) → is_side side upper ≡ true → Is lower bits end →
+        Is (InnerNode claim lower upper) (false ∷ bits) end) where
+  pub by_steps : (t : Tree) → Is t (run_bits side t) (run_end side t)
+  by_steps (LeafNode x) = ended (LeafNode x)
+  by_steps (ChainNode claim bits s end) = ended (ChainNode claim bits s end)
+  by_steps (InnerNode claim lower upper) =
+      by (is_side side lower) (is_side side upper) refl refl (by_steps lower) (by_steps upper)
+    where
+      by : (b c : Bool) → is_side side lower ≡ b → is_side side upper ≡ c →
+          Is lower (run_bits side lower) (run_end side lower) → Is upper (run_bits side upper) (run_end side upper) →
+          Is (InnerNode claim lower upper) (cond b (true ∷ run_bits side upper) (cond c (false ∷ run_bits side lower) []))
+          (cond b (run_end side upper) (cond c (run_end side lower) (InnerNode claim lower upper)))
+      by true c e f low up = up-on claim lower upper (run_bits side upper) (run_end side upper) e up
+      by false true e f low up = low-on claim lower upper (run_bits side lower) (run_end side lower) f low
+      by false false e f low up = ended (InnerNode claim lower upper)
+
+some-line : (t : Tree) → 1 ≤ line_count t
+some-line (LeafNode x) = omega arith
+some-line (InnerNode claim lower upper) = omega arith
+some-line (ChainNode claim bits side end) = omega arith
+
 -- each bit of a run takes at least two lines of the node
 pub lines-run : (side : Label) (node : Tree) → line_count (run_end side node) + 2 * length (run_bits side node) ≤ line_count node
-lines-run side (LeafNode x) = omega arith
-lines-run side (ChainNode claim bits s end) = omega arith
-lines-run side (InnerNode claim lower upper) =
-    by_test (is_side side lower) (is_side side upper) refl refl (lines-run side lower) (lines-run side upper)
-  where
-    some : (t : Tree) → 1 ≤ line_count t
-    some (LeafNode x) = omega arith
-    some (InnerNode claim lower upper) = omega arith
-    some (ChainNode claim bits side end) = omega arith
-
-    by_test : (b c : Bool) → is_side side lower ≡ b → is_side side upper ≡ c →
-        line_count (run_end side lower) + 2 * length (run_bits side lower) ≤ line_count lower →
-        line_count (run_end side upper) + 2 * length (run_bits side upper) ≤ line_count upper →
-        line_count (cond b (run_end side upper) (cond c (run_end side lower) (InnerNode claim lower upper)))
-        + 2 * length (cond b (true ∷ run_bits side upper) (cond c (false ∷ run_bits side lower) []))
-        ≤ 1 + line_count lower + line_count upper
-    by_test true c e f low up = let one = some lower in omega arith
-    by_test false true e f low up = let one = some upper in omega arith
-    by_test false false e f low up = omega arith
+lines-run side node =
+    by_steps side (λ t bits end. line_count end + 2 * length bits ≤ line_count t) (λ t. omega arith)
+    (λ claim lower upper bits end e le. let one = some-line lower in omega arith)
+    (λ claim lower upper bits end e le. let one = some-line upper in omega arith) node
 
 pub plain-run : (side : Label) (node : Tree) → IsPlain node → IsPlain (run_end side node)
-plain-run side (LeafNode x) h = h
-plain-run side (ChainNode claim bits s end) h = absurd h
-plain-run side (InnerNode claim lower upper) h =
-    by_test (is_side side lower) (is_side side upper) (plain-run side lower h.0) (plain-run side upper h.1)
-  where
-    by_test : (b c : Bool) → IsPlain (run_end side lower) → IsPlain (run_end side upper) →
-        IsPlain (cond b (run_end side upper) (cond c (run_end side lower) (InnerNode claim lower upper)))
-    by_test true c low up = up
-    by_test false true low up = low
-    by_test false false low up = h
+plain-run side node =
+    by_steps side (λ t bits end. IsPlain t → IsPlain end) (λ t h. h)
+    (λ claim lower upper bits end e below h. below h.1) (λ claim lower upper bits end e below h. below h.0) node
+
+side-leaf : (side : Label) (t : Tree) → is_side side t ≡ true → t ≡ LeafNode side
+side-leaf side (LeafNode x) is = ap LeafNode ((bytes_eq-Decides x side).0 is)
+side-leaf side (InnerNode p l r) is = absurd (false≢true is)
+side-leaf side (ChainNode p bs s end) is = absurd (false≢true is)
 
 -- the bits of a run are a way down the node
-module _ (IsEnd : Tree → Type 0) (side : Label) where
-  lower-way : (claim : Pair) (bits : List Bool) (lower upper : Tree) → is_side side lower ≡ true →
-      IsWay IsEnd side bits upper → IsWay IsEnd side (true ∷ bits) (InnerNode claim lower upper)
-  lower-way claim bits (LeafNode x) upper is way = ((bytes_eq-Decides x side).0 is, way)
-  lower-way claim bits (InnerNode p l r) upper is way = absurd (false≢true is)
-  lower-way claim bits (ChainNode p bs s end) upper is way = absurd (false≢true is)
-
-  upper-way : (claim : Pair) (bits : List Bool) (lower upper : Tree) → is_side side upper ≡ true →
-      IsWay IsEnd side bits lower → IsWay IsEnd side (false ∷ bits) (InnerNode claim lower upper)
-  upper-way claim bits lower (LeafNode x) is way = ((bytes_eq-Decides x side).0 is, way)
-  upper-way claim bits lower (InnerNode p l r) is way = absurd (false≢true is)
-  upper-way claim bits lower (ChainNode p bs s end) is way = absurd (false≢true is)
-
-  pub way-run : (node : Tree) → IsEnd (run_end side node) → IsWay IsEnd side (run_bits side node) node
-  way-run (LeafNode x) h = h
-  way-run (ChainNode claim bits s end) h = h
-  way-run (InnerNode claim lower upper) h =
-      by_test (is_side side lower) (is_side side upper) refl refl (way-run lower) (way-run upper) h
-    where
-      by_test : (b c : Bool) → is_side side lower ≡ b → is_side side upper ≡ c →
-          (IsEnd (run_end side lower) → IsWay IsEnd side (run_bits side lower) lower) →
-          (IsEnd (run_end side upper) → IsWay IsEnd side (run_bits side upper) upper) →
-          IsEnd (cond b (run_end side upper) (cond c (run_end side lower) (InnerNode claim lower upper))) →
-          IsWay IsEnd side (cond b (true ∷ run_bits side upper) (cond c (false ∷ run_bits side lower) []))
-          (InnerNode claim lower upper)
-      by_test true c e f low up h = lower-way claim (run_bits side upper) lower upper e (up h)
-      by_test false true e f low up h = upper-way claim (run_bits side lower) lower upper f (low h)
-      by_test false false e f low up h = h
+pub way-run : (IsEnd : Tree → Type 0) (side : Label) (node : Tree) → IsEnd (run_end side node) → IsWay IsEnd side (run_bits side node) node
+way-run IsEnd side node =
+    by_steps side (λ t bits end. IsEnd end → IsWay IsEnd side bits t) (λ t h. h)
+    (λ claim lower upper bits end e below h. (side-leaf side lower e, below h))
+    (λ claim lower upper bits end e below h. (side-leaf side upper e, below h)) node
 
 -- the way of a run leads to the run's end
 pub run-way : (side : Label) (node : Tree) → IsWay (λ end. end ≡ run_end side node) side (run_bits side node) node
@@ -83,38 +68,29 @@ run-way side node = way-run (λ end. end ≡ run_end side node) side node refl
 -- a node that is a leaf with the side label has no way with a bit
 no-bits : (side : Label) (bits : List Bool) (node : Tree) → is_side side node ≡ true → IsWay (λ end. Unit {0}) side bits node → length bits ≡ 0
 no-bits side [] node e way = refl
-no-bits side (true ∷ bits) (LeafNode x) e way = absurd way
-no-bits side (false ∷ bits) (LeafNode x) e way = absurd way
+no-bits side (bit ∷ bits) (LeafNode x) e way = absurd way
 no-bits side (bit ∷ bits) (InnerNode claim lower upper) e way = absurd (false≢true e)
 no-bits side (bit ∷ bits) (ChainNode claim bs s end) e way = absurd (false≢true e)
 
 pub run-longest : (side : Label) (node : Tree) (bits : List Bool) → IsWay (λ end. Unit {0}) side bits node →
     length bits ≤ length (run_bits side node)
 run-longest side node [] way = omega arith
-run-longest side (LeafNode x) (true ∷ bits) way = absurd way
-run-longest side (LeafNode x) (false ∷ bits) way = absurd way
-run-longest side (ChainNode claim bs s end) (true ∷ bits) way = absurd way
-run-longest side (ChainNode claim bs s end) (false ∷ bits) way = absurd way
-run-longest side (InnerNode claim (InnerNode p l r) upper) (true ∷ bits) way = absurd way
-run-longest side (InnerNode claim (ChainNode p bs s end) upper) (true ∷ bits) way = absurd way
-run-longest side (InnerNode claim (LeafNode x) upper) (true ∷ bits) way =
-    by_test (bytes_eq x side) ((bytes_eq-Decides x side).1 way.0) (run-longest side upper bits way.1)
+run-longest side (LeafNode x) (bit ∷ bits) way = absurd way
+run-longest side (ChainNode claim bs s end) (bit ∷ bits) way = absurd way
+run-longest side (InnerNode claim lower upper) (true ∷ bits) way =
+    let own : is_side side lower ≡ true = ap (is_side side) way.0 ∙ bytes_eq-same side in
+    let longest = run-longest side upper bits way.1 in
+    rw own (omega arith)
+run-longest side (InnerNode claim lower upper) (false ∷ bits) way =
+    by_test (is_side side lower) refl (run-longest side lower bits way.1)
   where
-    by_test : (b : Bool) → b ≡ true → length bits ≤ length (run_bits side upper) →
-        suc (length bits)
-        ≤ length (cond b (true ∷ run_bits side upper) (cond (is_side side upper) (false ∷ run_bits side (LeafNode x)) []))
-    by_test true e longest = omega arith
-    by_test false e longest = absurd (false≢true e)
-run-longest side (InnerNode claim lower (InnerNode p l r)) (false ∷ bits) way = absurd way
-run-longest side (InnerNode claim lower (ChainNode p bs s end)) (false ∷ bits) way = absurd way
-run-longest side (InnerNode claim lower (LeafNode x)) (false ∷ bits) way =
-    by_test (is_side side lower) (bytes_eq x side) refl ((bytes_eq-Decides x side).1 way.0) (run-longest side lower bits way.1)
-  where
-    by_test : (b c : Bool) → is_side side lower ≡ b → c ≡ true → length bits ≤ length (run_bits side lower) →
-        suc (length bits) ≤ length (cond b (true ∷ run_bits side (LeafNode x)) (cond c (false ∷ run_bits side lower) []))
-    by_test true c e f longest = let none = no-bits side bits lower e way.1 in omega arith
-    by_test false true e f longest = omega arith
-    by_test false false e f longest = absurd (false≢true f)
+    own : is_side side upper ≡ true
+    own = ap (is_side side) way.0 ∙ bytes_eq-same side
+
+    by_test : (b : Bool) → is_side side lower ≡ b → length bits ≤ length (run_bits side lower) →
+        suc (length bits) ≤ length (cond b (true ∷ run_bits side upper) (cond (is_side side upper) (false ∷ run_bits side lower) []))
+    by_test true e longest = let none = no-bits side bits lower e way.1 in omega arith
+    by_test false e longest = rw own (omega arith)
 
 -- a tree without chains opens to itself
 opens-itself : (t : Tree) → IsPlain t → OpensTo t t
@@ -171,20 +147,17 @@ compacted_in-opens (suc steps) (InnerNode claim lower upper) h =
     ))
     (λ short. (refl, compacted_in-opens steps lower h.0, compacted_in-opens steps upper h.1))
 
+leaf-shape : (x : Label) (t : Tree) → t ≡ LeafNode x → IsSameShape (LeafNode x) t
+leaf-shape x t is = subst (IsSameShape (LeafNode x)) (sym is) refl
+
 -- if a node opens to a tree, its opened node has the tree's shape and labels
 module _ (side : Label) (IsEnd : Tree → Type 0) (end : Tree) (shapes : (t : Tree) → IsEnd t → IsSameShape end t) where
   shape-way : (bits : List Bool) (t : Tree) → IsWay IsEnd side bits t → IsSameShape (links bits side end) t
   shape-way [] t way = shapes t way
-  shape-way (true ∷ bits) (LeafNode x) way = absurd way
-  shape-way (true ∷ bits) (InnerNode claim (LeafNode x) upper) way = (sym way.0, shape-way bits upper way.1)
-  shape-way (true ∷ bits) (InnerNode claim (InnerNode p l r) upper) way = absurd way
-  shape-way (true ∷ bits) (InnerNode claim (ChainNode p bs s e) upper) way = absurd way
-  shape-way (true ∷ bits) (ChainNode p bs s e) way = absurd way
-  shape-way (false ∷ bits) (LeafNode x) way = absurd way
-  shape-way (false ∷ bits) (InnerNode claim lower (LeafNode x)) way = (shape-way bits lower way.1, sym way.0)
-  shape-way (false ∷ bits) (InnerNode claim lower (InnerNode p l r)) way = absurd way
-  shape-way (false ∷ bits) (InnerNode claim lower (ChainNode p bs s e)) way = absurd way
-  shape-way (false ∷ bits) (ChainNode p bs s e) way = absurd way
+  shape-way (true ∷ bits) (InnerNode claim lower upper) way = (leaf-shape side lower way.0, shape-way bits upper way.1)
+  shape-way (false ∷ bits) (InnerNode claim lower upper) way = (shape-way bits lower way.1, leaf-shape side upper way.0)
+  shape-way (bit ∷ bits) (LeafNode x) way = absurd way
+  shape-way (bit ∷ bits) (ChainNode p bs s e) way = absurd way
 
   shape-chain : (claim : Pair) (bits : List Bool) (t : Tree) → 0 < length bits → IsWay IsEnd side bits t →
       IsSameShape (chain_opened claim bits side end) t
@@ -193,9 +166,7 @@ module _ (side : Label) (IsEnd : Tree → Type 0) (end : Tree) (shapes : (t : Tr
   shape-chain claim (false ∷ bits) t some way = shape-way (false ∷ bits) t way
 
 pub shape-opens : (c t : Tree) → OpensTo c t → IsSameShape (opened c) t
-shape-opens (LeafNode x) (LeafNode y) h = h
-shape-opens (LeafNode x) (InnerNode claim lower upper) h = absurd h
-shape-opens (LeafNode x) (ChainNode claim bits side end) h = absurd h
+shape-opens (LeafNode x) t h = leaf-shape x t h
 shape-opens (InnerNode claim lower upper) (LeafNode y) h = absurd h
 shape-opens (InnerNode claim lower upper) (ChainNode claim' bits side end) h = absurd h
 shape-opens (InnerNode claim lower upper) (InnerNode claim' lower' upper') h =
@@ -268,11 +239,6 @@ not-long : (claim : Pair) (lower upper : Tree) →
     ((side : Label) → side_of lower upper ≡ Some side → nat_le 2 (length (run_bits side (InnerNode claim lower upper))) ≡ false) →
     IsLong claim lower upper → ⊥
 not-long claim lower upper short long = false≢true (sym (short long.0 long.1) ∙ long.2)
-
-some-line : (t : Tree) → 1 ≤ line_count t
-some-line (LeafNode x) = omega arith
-some-line (InnerNode claim lower upper) = omega arith
-some-line (ChainNode claim bits side end) = omega arith
 
 -- the end of a run of two bits has fewer lines
 less-run : (claim : Pair) (lower upper : Tree) (side : Label) (steps : ℕ) → line_count (InnerNode claim lower upper) ≤ suc steps →

@@ -1,29 +1,31 @@
 -- Label tables: the numbers of their labels, and their lines.
-use Rattle.std.proofs.Common.{◌≡◌, ℕ, zero, suc, ◌+◌, ◌<◌, ◌≤◌, ◌∙◌, ◌&&◌, Bool, true, false, not, List, [], ◌∷◌, ◌++◌, Some, Result, Ok, Err, length, map, get_or, refl, sym, ap, subst, arith}
+use Rattle.std.proofs.Common.{◌≡◌, ℕ, zero, suc, ◌+◌, ◌<◌, ◌≤◌, ◌∙◌, ◌&&◌, Bool, true, false, not, List, [], ◌∷◌, ◌++◌, Option, None, Some, Result, Ok, Err, length, map, get_or, refl, sym, ap, subst, arith}
 use Rattle.std.specs.List.{position_or_len}
 use Rattle.std.specs.Str.{bytes_eq}
-use Rattle.std.proofs.lemmas.Bool.{and_from, and_parts, cond-true, cond-false, not-true, not_from_false, ltb-true}
+use Rattle.std.proofs.lemmas.Bool.{and_from, and_parts, cond-true, not-true, not_from_false, ltb-true}
 use Rattle.std.proofs.lemmas.List.{append-nil, append_assoc, get_or_at, length-append}
 use Rattle.std.proofs.lemmas.List.Sums.{passes_at_first}
-use Rattle.std.proofs.lemmas.Option.{slice_get-get_or, unwrap_or-slice_get}
+use Rattle.std.proofs.lemmas.Option.{cond_some, slice_get-get_or, unwrap_or-slice_get}
 use Rattle.std.proofs.lemmas.Slice.Eq.{bytes_eq-Decides}
 use Rattle.pmap_text.proofs.LabelTexts.{IsLabelTable-with_label, any_place, with_label-new}
 use Rattle.pmap_text.specs.Label.{IsLabelTable, has_label, is_label}
 use Rattle.pmap_text.specs.MapModel.{Label}
+use Rattle.pmap_text.specs.Reading.{◌>>=◌}
 use Rattle.pmap_text.specs.MapText.{text_at}
 use Rattle.pmap_cert.specs.CertificateForm.{IsRising}
-use Rattle.pmap_cert.specs.FormatReading.{◌>>=◌, Place, fault_at, label_at, label_by, labels_at, line_from}
+use Rattle.pmap_cert.specs.FormatReading.{Place, fault_at, labels_at, line_from, new_label, or_fault, value_at, value_by}
 use Rattle.pmap_cert.specs.CertificateText.{place_of}
 use Rattle.pmap_cert.specs.declared.fault.CertFault.{CertFault}
+use Rattle.pmap_cert.specs.declared.fault.CertFaultKind.{CertFaultKind}
 use Rattle.pmap_cert.specs.declared.fault.CertFaultKind.TheVariants.{BadLabelTable}
 use Rattle.pmap_cert.proofs.Pieces.{found_at, line_from-cons}
 
 -- if two steps succeed, the first has a value with which the second succeeds
-pub bind_ok : {A B : Type 0} (r : Result A CertFault) (f : A → Result B CertFault) (y : B) → (r >>= f) ≡ Ok y → (x : A) × (r ≡ Ok x) × (f x ≡ Ok y)
+pub bind_ok : {A B E : Type 0} (r : Result A E) (f : A → Result B E) (y : B) → (r >>= f) ≡ Ok y → (x : A) × (r ≡ Ok x) × (f x ≡ Ok y)
 bind_ok (Ok x) f y e = (x, refl, e)
 bind_ok (Err d) f y e = absurd cc
 
-pub ok_is : {A : Type 0} (x y : A) → ◌≡◌ {A = Result A CertFault} (Ok x) (Ok y) → x ≡ y
+pub ok_is : {A E : Type 0} (x y : A) → ◌≡◌ {A = Result A E} (Ok x) (Ok y) → x ≡ y
 ok_is x y e = cc
 
 -- the label of the table with the number n has the number n
@@ -49,26 +51,42 @@ texts-places table low [] rising = refl
 texts-places table low (x ∷ xs) rising =
     λ i. text_at-place_of table x rising.1 i ∷ texts-places table (place_of table x + 1) xs rising.2 i
 
--- a label that is read is the next line, a label, and not in the table
-label_by-found : (table : List Label) (place : Place) (number : ℕ) (pieces : List (List ℕ)) (x : Label × Place) → label_by table place (line_from number pieces) ≡ Ok x
-    → (pieces ≡ x.0 ∷ x.1.pieces) × (is_label x.0 ≡ true) × (has_label table x.0 ≡ false)
-label_by-found table place number [] x e = absurd cc
-label_by-found table place number (line ∷ []) x e = absurd cc
-label_by-found table place number (line ∷ piece ∷ pieces) x e = by (is_label line && not (has_label table line)) refl
+-- a value that is read is that of the next line, and the given rest follows
+pub value_at-found : {A : Type 0} (kind : CertFaultKind) (value_of : List ℕ → Option A) (place : Place) (x : A × Place) → value_at kind value_of place ≡ Ok x
+    → (line : List ℕ) × (place.pieces ≡ line ∷ x.1.pieces) × (value_of line ≡ Some x.0)
+value_at-found kind value_of place x e = by place.number place.pieces e
   where
-    after : Place
-    after = record { number = number + 1; pieces = piece ∷ pieces }
+    fault : CertFault
+    fault = fault_at place kind
 
-    by : (b : Bool) → (is_label line && not (has_label table line)) ≡ b → (line ∷ piece ∷ pieces ≡ x.0 ∷ x.1.pieces) × (is_label x.0 ≡ true) × (has_label table x.0 ≡ false)
-    by true h =
-        let tests = and_parts (is_label line) (not (has_label table line)) h in
-        subst (λ (x : Label × Place). (line ∷ piece ∷ pieces ≡ x.0 ∷ x.1.pieces) × (is_label x.0 ≡ true) × (has_label table x.0 ≡ false))
-        (ok_is (line, record { number = number + 1; pieces = piece ∷ pieces }) x (sym (cond-true (is_label line && not (has_label table line)) (Ok (line, record { number = number + 1; pieces = piece ∷ pieces })) (Err (fault_at place BadLabelTable)) h) ∙ e))
-        (refl, tests.0, not-true _ tests.1)
-    by false h = absurd (failed (sym (cond-false (is_label line && not (has_label table line)) (Ok (line, record { number = number + 1; pieces = piece ∷ pieces })) (Err (fault_at place BadLabelTable)) h) ∙ e))
+    by : (number : ℕ) (pieces : List (List ℕ)) → value_by fault value_of (line_from number pieces) ≡ Ok x
+        → (line : List ℕ) × (pieces ≡ line ∷ x.1.pieces) × (value_of line ≡ Some x.0)
+    by number [] e = absurd cc
+    by number (line ∷ []) e = absurd cc
+    by number (line ∷ piece ∷ pieces) e = by_value (value_of line) refl
       where
-        failed : ◌≡◌ {A = Result (Label × Place) CertFault} (Err (fault_at place BadLabelTable)) (Ok x) → ⊥
-        failed e = cc
+        by_value : (o : Option _) → value_of line ≡ o → (text : List ℕ) × (line ∷ piece ∷ pieces ≡ text ∷ x.1.pieces) × (value_of text ≡ Some x.0)
+        by_value None h = absurd (failed (sym (ap (or_fault fault (record { number = number + 1; pieces = piece ∷ pieces })) h) ∙ e))
+          where
+            failed : ◌≡◌ {A = Result _ CertFault} (Err fault) (Ok x) → ⊥
+            failed e = cc
+        by_value (Some y) h =
+            let same = ok_is (y, record { number = number + 1; pieces = piece ∷ pieces }) x (sym (ap (or_fault fault (record { number = number + 1; pieces = piece ∷ pieces })) h) ∙ e) in
+            (line, ap (λ (z : _ × Place). line ∷ z.1.pieces) same, h ∙ ap (λ (z : _ × Place). Some z.0) same)
+
+-- the value of a line is read if another piece follows
+pub value_at-again : {A : Type 0} (kind : CertFaultKind) (value_of : List ℕ → Option A) (number : ℕ) (line : List ℕ) (rest : List (List ℕ)) (x : A) → value_of line ≡ Some x → 0 < length rest
+    → value_at kind value_of (record { number = number; pieces = line ∷ rest }) ≡ Ok (x, record { number = number + 1; pieces = rest })
+value_at-again kind value_of number line rest x e some =
+    let fault = fault_at (record { number = number; pieces = line ∷ rest }) kind in
+    ap (value_by fault value_of) (line_from-cons number line rest some) ∙ ap (or_fault fault (record { number = number + 1; pieces = rest })) e
+
+-- a new label of a table is the line, a label, and not in the table
+new_label-is : (table : List Label) (line : List ℕ) (x : Label) → new_label table line ≡ Some x → (line ≡ x) × (is_label x ≡ true) × (has_label table x ≡ false)
+new_label-is table line x e =
+    let found = cond_some (is_label line && not (has_label table line)) line x e in
+    let tests = and_parts (is_label line) (not (has_label table line)) found.0 in
+    subst (λ (x : Label). (line ≡ x) × (is_label x ≡ true) × (has_label table x ≡ false)) found.1 (refl, tests.0, not-true _ tests.1)
 
 -- the labels that are read are those of the next lines, and the table with them is a label table
 pub labels_at-found : (left : ℕ) (table : List Label) (place : Place) (x : List Label × Place) → labels_at left table place ≡ Ok x → IsLabelTable table → length table + left ≤ 65536
@@ -77,14 +95,15 @@ labels_at-found zero table place x e ok few =
     subst (λ (x : List Label × Place). (new : List Label) × (x.0 ≡ table ++ new) × (place.pieces ≡ new ++ x.1.pieces) × IsLabelTable x.0 × (length new ≡ 0))
     (ok_is (table, place) x e) ([], sym (append-nil table), refl, ok, refl)
 labels_at-found (suc left) table place x e ok few =
-    let step = bind_ok (label_at table place) (λ (label : Label × Place). labels_at left (table ++ label.0 ∷ []) label.1) x e in
+    let step = bind_ok (value_at BadLabelTable (new_label table) place) (λ (label : Label × Place). labels_at left (table ++ label.0 ∷ []) label.1) x e in
     let label : Label = step.0.0 in
-    let found = label_by-found table place place.number place.pieces step.0 step.1 in
+    let read = value_at-found BadLabelTable (new_label table) place step.0 step.1 in
+    let found = new_label-is table read.0 label read.2 in
     let more : IsLabelTable (table ++ label ∷ []) = subst IsLabelTable (with_label-new table label found.2) (IsLabelTable-with_label table label ok found.1 (omega arith)) in
     let rest = labels_at-found left (table ++ label ∷ []) step.0.1 x step.2 more (omega (arith, length-append table (label ∷ []))) in (
       label ∷ rest.0,
       rest.1 ∙ append_assoc table (label ∷ []) rest.0,
-      found.0 ∙ ap (λ (pieces : List (List ℕ)). label ∷ pieces) rest.2,
+      read.1 ∙ (λ i. found.0 i ∷ rest.2 i),
       rest.3,
       omega (arith, rest.4),
     )
@@ -101,8 +120,8 @@ place-before p (x ∷ xs) ys h = by (p x) refl (λ less. place-before p xs ys le
         behind : 1 + position_or_len p xs < length (x ∷ xs) → position_or_len p xs < length xs
         behind h = omega arith
 
-new_label : (table : List Label) (x : Label) (new : List Label) → IsLabelTable (table ++ x ∷ new) → has_label table x ≡ false
-new_label table x new ok = by (has_label table x) refl
+lacks-label : (table : List Label) (x : Label) (new : List Label) → IsLabelTable (table ++ x ∷ new) → has_label table x ≡ false
+lacks-label table x new ok = by (has_label table x) refl
   where
     place : place_of (table ++ x ∷ new) x ≡ length table
     place =
@@ -128,12 +147,8 @@ pub labels_at-again : (new table : List Label) (number : ℕ) (rest : List (List
     → (n : ℕ) × (labels_at (length new) table (record { number = number; pieces = new ++ rest }) ≡ Ok (table ++ new, record { number = n; pieces = rest }))
 labels_at-again [] table number rest ok some = (number, ap (λ (t : List Label). Ok (t, record { number = number; pieces = rest })) (sym (append-nil table)))
 labels_at-again (x ∷ new) table number rest ok some =
-    let place : Place = record { number = number; pieces = x ∷ (new ++ rest) } in
-    let after : Place = record { number = number + 1; pieces = new ++ rest } in
-    let test : (is_label x && not (has_label table x)) ≡ true = and_from _ _ (is_label-in table x new ok) (not_from_false _ (new_label table x new ok)) in
-    let step : label_at table place ≡ Ok (x, after) =
-    ap (label_by table place) (line_from-cons number x (new ++ rest) (omega (arith, length-append new rest)))
-    ∙ cond-true (is_label x && not (has_label table x)) (Ok (x, after)) (Err (fault_at place BadLabelTable)) test in
+    let test : (is_label x && not (has_label table x)) ≡ true = and_from _ _ (is_label-in table x new ok) (not_from_false _ (lacks-label table x new ok)) in
+    let step = value_at-again BadLabelTable (new_label table) number x (new ++ rest) x (cond-true (is_label x && not (has_label table x)) (Some x) None test) (omega (arith, length-append new rest)) in
     let more = labels_at-again new (table ++ x ∷ []) (number + 1) rest (subst IsLabelTable (sym (append_assoc table (x ∷ []) new)) ok) some in (
       more.0,
       ap (λ (r : Result (Label × Place) CertFault). r >>= (λ label. labels_at (length new) (table ++ label.0 ∷ []) label.1)) step

@@ -15,8 +15,8 @@ abbrev pub place_of : List Label → Label → ℕ
 place_of table x = position_or_len (bytes_eq x) table
 
 -- the line of these words, with single spaces between
-abbrev pub line_of : List (List ℕ) → List ℕ
-line_of words = join_with_byte 32 words
+abbrev pub spaced : List (List ℕ) → List ℕ
+spaced words = join_with_byte 32 words
 
 abbrev pub version_word : Version → List ℕ
 version_word V4 = codes "ipv4"
@@ -28,19 +28,15 @@ format_word format = if format == 1 then codes "1" else codes "2"
 -- `flowlabel-cert FORMAT VERSION COUNT`
 abbrev pub format_header : ℕ → Version → ℕ → List ℕ
 format_header format version count =
-    line_of (codes "flowlabel-cert" ∷ format_word format ∷ version_word version ∷ decimal count ∷ [])
-
--- the header of format 1
-abbrev pub header_line : Version → ℕ → List ℕ
-header_line version count = format_header 1 version count
+    spaced (codes "flowlabel-cert" ∷ format_word format ∷ version_word version ∷ decimal count ∷ [])
 
 -- `l NUMBER`: a leaf with the number of its label
 abbrev pub leaf_line : ℕ → List ℕ
-leaf_line number = line_of (codes "l" ∷ decimal number ∷ [])
+leaf_line number = spaced (codes "l" ∷ decimal number ∷ [])
 
 -- `n COST NUMBER NUMBER ..`: an inner node with the cost that it claims and the numbers of its set
 abbrev pub inner_line : ℕ → List ℕ → List ℕ
-inner_line cost numbers = line_of (codes "n" ∷ decimal cost ∷ map decimal numbers)
+inner_line cost numbers = spaced (codes "n" ∷ decimal cost ∷ map decimal numbers)
 
 -- the digits of a chain's bits: 1 if the way continues in the upper half
 abbrev pub bit_digits : List Bool → List ℕ
@@ -50,7 +46,7 @@ bit_digits bits = map (λ bit. if bit then 49 else 48) bits
 -- the numbers of its set
 abbrev pub chain_line : ℕ → List Bool → ℕ → List ℕ → List ℕ
 chain_line cost bits side numbers =
-    line_of (codes "c" ∷ decimal cost ∷ bit_digits bits ∷ decimal side ∷ map decimal numbers)
+    spaced (codes "c" ∷ decimal cost ∷ bit_digits bits ∷ decimal side ∷ map decimal numbers)
 
 -- the lines of a node and of those below it in preorder: first the node, then all of the lower half, then all of the
 -- upper, or all of a chain's end

@@ -73,18 +73,18 @@ compact c =
 -- `IsEnd`.
 abbrev pub IsWay : (Tree → Type 0) → Label → List Bool → Tree → Type 0
 IsWay IsEnd side [] t = IsEnd t
-IsWay IsEnd side (true ∷ bits) (InnerNode claim (LeafNode x) upper) = (x ≡ side) × IsWay IsEnd side bits upper
-IsWay IsEnd side (false ∷ bits) (InnerNode claim lower (LeafNode x)) = (x ≡ side) × IsWay IsEnd side bits lower
-IsWay IsEnd side _ _ = ⊥
+IsWay IsEnd side (bit ∷ bits) (InnerNode claim lower upper) =
+    ((if bit then lower else upper) ≡ LeafNode side) × IsWay IsEnd side bits (if bit then upper else lower)
+IsWay IsEnd side (bit ∷ bits) _ = ⊥
 
 -- The second tree is the first with its chains opened: the labels are the same, and so are the claims, except at the
 -- inner nodes below a chain's top.
 abbrev pub OpensTo : Tree → Tree → Type 0
-OpensTo (LeafNode x) (LeafNode y) = x ≡ y
+OpensTo (LeafNode x) t = t ≡ LeafNode x
 OpensTo (InnerNode claim lower upper) (InnerNode claim' lower' upper') =
     (claim ≡ claim') × OpensTo lower lower' × OpensTo upper upper'
 OpensTo (ChainNode claim bits side end) t = (0 < length bits) × (claim ≡ claim_of t) × IsWay (OpensTo end) side bits t
-OpensTo _ _ = ⊥
+OpensTo (InnerNode claim lower upper) _ = ⊥
 
 -- two trees have the same shape and the same labels at their leaves, whatever their inner nodes claim
 abbrev pub IsSameShape : Tree → Tree → Type 0

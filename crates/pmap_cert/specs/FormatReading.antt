@@ -9,6 +9,7 @@ use Rattle.prefix_keys.specs.declared.version.Version.TheVariants.{V4, V6}
 use Rattle.pmap_text.specs.Label.{has_label, is_label}
 use Rattle.pmap_text.specs.MapModel.{Label}
 use Rattle.pmap_text.specs.MapText.{text_at}
+use Rattle.pmap_text.specs.Reading.{◌>>=◌}
 use Rattle.pmap_cert.specs.CertificateModel.{CertificateModel, InnerNode, LeafNode, Tree, ChainNode}
 use Rattle.pmap_cert.specs.declared.fault.CertFault.{CertFault}
 use Rattle.pmap_cert.specs.declared.fault.CertFaultKind.{CertFaultKind}
@@ -45,16 +46,18 @@ is_ended _ = false
 abbrev pub fault_at : Place → CertFaultKind → CertFault
 fault_at place kind = record { kind = kind; line = place.number + 1 }
 
--- the next step gets the result of the first; a fault of the first is a fault of both
-infixl 10 ◌>>=◌
-abbrev pub ◌>>=◌ : {A B : Type 0} → Result A CertFault → (A → Result B CertFault) → Result B CertFault
-(Ok x) >>= f = f x
-(Err e) >>= f = Err e
-
 -- the value of a line with the rest of the text, or the fault if the line has no such value
 abbrev pub or_fault : {A : Type 0} → CertFault → Place → Option A → Result (A × Place) CertFault
 or_fault fault after (Some x) = Ok (x, after)
 or_fault fault after None = Err fault
+
+abbrev pub value_by : {A : Type 0} → CertFault → (List ℕ → Option A) → Option (List ℕ × Place) → Result (A × Place) CertFault
+value_by fault value_of (Some (line, after)) = or_fault fault after (value_of line)
+value_by fault value_of None = Err fault
+
+-- reads the value of the next line; a fault of this kind if there is no line or it has no such value
+abbrev pub value_at : {A : Type 0} → CertFaultKind → (List ℕ → Option A) → Place → Result (A × Place) CertFault
+value_at kind value_of place = value_by (fault_at place kind) value_of (next_line place)
 
 -- the number whose decimal text the word is, if it is below the bound
 abbrev pub number_below : ℕ → List ℕ → Option ℕ
@@ -76,19 +79,15 @@ abbrev pub both : {A B : Type 0} → Option A → Option B → Option (A × B)
 both (Some x) (Some y) = Some (x, y)
 both _ _ = None
 
-abbrev pub label_by : List Label → Place → Option (List ℕ × Place) → Result (Label × Place) CertFault
-label_by table place (Some (line, after)) =
-    if is_label line && not (has_label table line) then Ok (line, after) else Err (fault_at place BadLabelTable)
-label_by table place None = Err (fault_at place BadLabelTable)
-
--- reads a label that the table doesn't have yet
-abbrev pub label_at : List Label → Place → Result (Label × Place) CertFault
-label_at table place = label_by table place (next_line place)
+-- the label of a line, if it is one that the table doesn't have yet
+abbrev pub new_label : List Label → List ℕ → Option Label
+new_label table line = if is_label line && not (has_label table line) then Some line else None
 
 -- reads `left` more labels of a table
 abbrev pub labels_at : ℕ → List Label → Place → Result (List Label × Place) CertFault
 labels_at zero table place = Ok (table, place)
-labels_at (suc left) table place = label_at table place >>= (λ label. labels_at left (table ++ label.0 ∷ []) label.1)
+labels_at (suc left) table place =
+    value_at BadLabelTable (new_label table) place >>= (λ label. labels_at left (table ++ label.0 ∷ []) label.1)
 
 -- a first number that is not below low, and those that follow it
 abbrev pub onto_numbers : ℕ → Option ℕ → (ℕ → Option (List ℕ)) → Option (List ℕ)
@@ -136,13 +135,9 @@ format_header_of (name ∷ format ∷ version ∷ count ∷ []) =
     else None
 format_header_of _ = None
 
-abbrev pub format_header_by : Place → Option (List ℕ × Place) → Result ((ℕ × (Version × ℕ)) × Place) CertFault
-format_header_by place (Some (line, after)) = or_fault (fault_at place BadHeader) after (format_header_of (words_of line))
-format_header_by place None = Err (fault_at place BadHeader)
-
 -- reads the header
 abbrev pub format_header_at : Place → Result ((ℕ × (Version × ℕ)) × Place) CertFault
-format_header_at place = format_header_by place (next_line place)
+format_header_at place = value_at BadHeader (λ line. format_header_of (words_of line)) place
 
 -- a line of a leaf or an inner node, or of a chain with its cost, its bits, and the numbers of its side label and its
 -- set
@@ -171,14 +166,10 @@ due_words format most count (word ∷ words) =
     if format == 2 && bytes_eq word (codes "c") then chain_by most count words else option_map PlainLine (node_words count (word ∷ words))
 due_words format most count [] = None
 
--- the line of the next node; if there is no line, the text has ended or its last line has no line feed
-abbrev pub line_due_by : ℕ → ℕ → ℕ → Place → Option (List ℕ × Place) → Result (DueLine × Place) CertFault
-line_due_by format most count place (Some (line, after)) = or_fault (fault_at place BadNode) after (due_words format most count (words_of line))
-line_due_by format most count place None = Err (fault_at place (if is_ended place.pieces then NodesMissing else BadNode))
-
--- reads the line of the next node
+-- reads the line of the next node; if there is none, the text has ended, or its next line is malformed
 abbrev pub line_due_at : ℕ → ℕ → ℕ → Place → Result (DueLine × Place) CertFault
-line_due_at format most count place = line_due_by format most count place (next_line place)
+line_due_at format most count place =
+    value_at (if is_ended place.pieces then NodesMissing else BadNode) (λ line. due_words format most count (words_of line)) place
 
 -- The node of a line, with at most `room` levels below it. `inside d` reads a node that is d + 1 levels below: a half
 -- of an inner node is one level below it, and a chain's end as many levels as the chain has bits.

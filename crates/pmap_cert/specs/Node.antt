@@ -1,5 +1,7 @@
 use Rattle.std.specs.Prelude.{◌≡◌, refl, ℕ, zero, suc, ◌^◌, ◌<◌, ◌≤◌, ◌⊎◌, Bool, List, [], ◌∷◌, ◌++◌, Option, None, Some, length, map}
 use mathlib.Core.Logic.{inl, inr}
+use Rattle.std.proofs.Common.{◌∙◌, ap}
+use Rattle.std.proofs.lemmas.List.{append_assoc}
 use Rattle.std.specs.Coded.{Coded, code_by, coded_bool, coded_list, coded_ℕ, coded×, coded⊎, le_prop}
 use Rattle.pmap_text.specs.MapModel.{Label}
 use Rattle.pmap_text.specs.MapText.{text_at}
@@ -61,16 +63,8 @@ IsPlainNode (Leaf number) = Unit {0}
 IsPlainNode (Inner cost set lower upper) = IsPlainNode lower × IsPlainNode upper
 IsPlainNode (Chain cost set bits side end) = ⊥
 
--- The node has no chain and at most `room` levels below it, its numbers are below count, those of each set rise, and
--- costs are below 2 ^ 32.
-abbrev pub HasNumberForm : ℕ → Node → ℕ → Type 0
-HasNumberForm count (Leaf number) room = number < count
-HasNumberForm count (Inner cost set lower upper) zero = ⊥
-HasNumberForm count (Inner cost set lower upper) (suc room) =
-    (cost < 2 ^ 32) × IsRising count 0 set × HasNumberForm count lower room × HasNumberForm count upper room
-HasNumberForm count (Chain cost set bits side end) room = ⊥
-
--- Like `HasNumberForm`, for a node that may have chains: each has at least one bit, and each bit counts as one level.
+-- The node has at most `room` levels below it, each bit of a chain counts as one level, and each chain has a bit. Its
+-- numbers are below count, those of each set rise, and costs are below 2 ^ 32.
 abbrev pub HasChainForm : ℕ → Node → ℕ → Type 0
 HasChainForm count (Leaf number) room = number < count
 HasChainForm count (Inner cost set lower upper) zero = ⊥
@@ -79,6 +73,10 @@ HasChainForm count (Inner cost set lower upper) (suc room) =
 HasChainForm count (Chain cost set bits side end) room =
     (cost < 2 ^ 32) × IsRising count 0 set × (side < count) × (0 < length bits)
     × HasRoomBelow (HasChainForm count end) bits room
+
+-- like `HasChainForm`, for a node without chains
+abbrev pub HasNumberForm : ℕ → Node → ℕ → Type 0
+HasNumberForm count node room = HasChainForm count node room × IsPlainNode node
 
 room-prop : (Fits : ℕ → Type 0) → ((room : ℕ) → IsProp (Fits room)) → (bits : List Bool) (room : ℕ) → IsProp (HasRoomBelow Fits bits room)
 room-prop Fits prop [] room = prop room
@@ -188,18 +186,15 @@ behind (node ∷ nodes) = nodes
 
 -- A node is coded as the list of its lines, and a line by its kind, bits and numbers.
 
-abbrev pub split_line : DueLine → (ℕ × (ℕ × List ℕ)) ⊎ ((ℕ × List Bool) × (ℕ × List ℕ))
-split_line (PlainLine (LeafLine number)) = inl (0, (number, []))
-split_line (PlainLine (InnerLine cost numbers)) = inl (1, (cost, numbers))
-split_line (ChainLine cost bits side numbers) = inr ((cost, bits), (side, numbers))
+abbrev pub split_line : DueLine → ℕ ⊎ ((ℕ × List ℕ) ⊎ ((ℕ × List Bool) × (ℕ × List ℕ)))
+split_line (PlainLine (LeafLine number)) = inl number
+split_line (PlainLine (InnerLine cost numbers)) = inr (inl (cost, numbers))
+split_line (ChainLine cost bits side numbers) = inr (inr ((cost, bits), (side, numbers)))
 
-abbrev pub plain_line : ℕ → ℕ → List ℕ → DueLine
-plain_line zero number numbers = PlainLine (LeafLine number)
-plain_line (suc kind) cost numbers = PlainLine (InnerLine cost numbers)
-
-abbrev pub join_line : (ℕ × (ℕ × List ℕ)) ⊎ ((ℕ × List Bool) × (ℕ × List ℕ)) → DueLine
-join_line (inl p) = plain_line p.0 p.1.0 p.1.1
-join_line (inr p) = ChainLine p.0.0 p.0.1 p.1.0 p.1.1
+abbrev pub join_line : ℕ ⊎ ((ℕ × List ℕ) ⊎ ((ℕ × List Bool) × (ℕ × List ℕ))) → DueLine
+join_line (inl number) = PlainLine (LeafLine number)
+join_line (inr (inl p)) = PlainLine (InnerLine p.0 p.1)
+join_line (inr (inr p)) = ChainLine p.0.0 p.0.1 p.1.0 p.1.1
 
 pub joined_line : (line : DueLine) → join_line (split_line line) ≡ line
 joined_line (PlainLine (LeafLine number)) = refl
@@ -208,22 +203,16 @@ joined_line (ChainLine cost bits side numbers) = refl
 
 abbrev pub line_code : Coded DueLine
 line_code =
-    code_by ((ℕ × (ℕ × List ℕ)) ⊎ ((ℕ × List Bool) × (ℕ × List ℕ)))
-    (coded⊎ (coded× coded_ℕ (coded× coded_ℕ (coded_list coded_ℕ))) (coded× (coded× coded_ℕ (coded_list coded_bool)) (coded× coded_ℕ (coded_list coded_ℕ))))
+    code_by (ℕ ⊎ ((ℕ × List ℕ) ⊎ ((ℕ × List Bool) × (ℕ × List ℕ))))
+    (coded⊎ coded_ℕ (coded⊎ (coded× coded_ℕ (coded_list coded_ℕ)) (coded× (coded× coded_ℕ (coded_list coded_bool)) (coded× coded_ℕ (coded_list coded_ℕ)))))
     split_line join_line joined_line
 
--- the lines of a node, followed by others
-abbrev pub lines_onto : Node → List DueLine → List DueLine
-lines_onto (Leaf number) lines = PlainLine (LeafLine number) ∷ lines
-lines_onto (Inner cost set lower upper) lines = PlainLine (InnerLine cost set) ∷ lines_onto lower (lines_onto upper lines)
-lines_onto (Chain cost set bits side end) lines = ChainLine cost bits side set ∷ lines_onto end lines
-
-pub nodes_onto : (node : Node) (lines : List DueLine) (nodes : List Node) → nodes_of lines ≡ nodes → nodes_of (lines_onto node lines) ≡ node ∷ nodes
-nodes_onto (Leaf number) lines nodes is = λ i. Leaf number ∷ is i
-nodes_onto (Inner cost set lower upper) lines nodes is =
-    λ i. joined cost set (nodes_onto lower (lines_onto upper lines) (upper ∷ nodes) (nodes_onto upper lines nodes is) i)
-nodes_onto (Chain cost set bits side end) lines nodes is =
-    λ i. chained cost set bits side (nodes_onto end lines nodes is i)
+pub nodes-lines : (node : Node) (rest : List DueLine) → nodes_of (lines_of node ++ rest) ≡ node ∷ nodes_of rest
+nodes-lines (Leaf number) rest = refl
+nodes-lines (Inner cost set lower upper) rest =
+    ap (λ (ls : List DueLine). joined cost set (nodes_of ls)) (append_assoc (lines_of lower) (lines_of upper) rest)
+    ∙ ap (joined cost set) (nodes-lines lower (lines_of upper ++ rest) ∙ ap (λ (ns : List Node). lower ∷ ns) (nodes-lines upper rest))
+nodes-lines (Chain cost set bits side end) rest = ap (chained cost set bits side) (nodes-lines end rest)
 
 abbrev pub node_code : Coded Node
-node_code = code_by (List DueLine) (coded_list line_code) (λ node. lines_onto node []) (λ lines. first_node (nodes_of lines)) (λ node i. first_node (nodes_onto node [] [] refl i))
+node_code = code_by (List DueLine) (coded_list line_code) (λ node. lines_of node ++ []) (λ lines. first_node (nodes_of lines)) (λ node. ap first_node (nodes-lines node []))

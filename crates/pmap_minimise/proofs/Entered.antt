@@ -107,9 +107,9 @@ pub leaf-adds : (x : LabelId) (block : Block) (inherited : Option LabelId) (old 
     → IsOwn ids block inherited old new id → AddsEntries (Leaf x.0) block inherited old new
 leaf-adds x block inherited old new ids id is own = record {
   texts = λ table ok known form.
-      (handed table ok ids block inherited old new id (subst (λ (l : List ℕ). IsRising (length table) 0 l) (sym is) (omega arith, form, tt)) known (x.0 ∷ []) is own).entries;
+      (handed table ok ids block inherited old new id (subst (λ (l : List ℕ). IsRising (length table) 0 l) (sym is) (omega arith, form.0, tt)) known (x.0 ∷ []) is own).entries;
   fit = λ count known form all.
-      (own-fit count ids block inherited old new id (subst (λ (l : List ℕ). IsRising count 0 l) (sym is) (omega arith, form, tt)) known own all).0;
+      (own-fit count ids block inherited old new id (subst (λ (l : List ℕ). IsRising count 0 l) (sym is) (omega arith, form.0, tt)) known own all).0;
 }
 
 -- the entries of a half depend only on these values
@@ -132,25 +132,25 @@ inner-adds (Chain cost set bits side end) left right block low high inherited ol
 inner-adds (Inner cost set l r) left right block low high inherited old new0 new1 new2 ids id halves is own low_half high_half lower upper = record {
   texts = λ table ok known form.
       let inner = opened (length table) form in
-      let up = subst (λ (ns : List ℕ). IsRising (length table) 0 ns) (sym is) inner.1 in
+      let up = subst (λ (ns : List ℕ). IsRising (length table) 0 ns) (sym is) inner.0.1 in
       let hand = handed table ok ids block inherited old new0 id up known set is own in
       joined-entries _ _ _ _ _ _ _ hand.entries
-      (lower.texts table ok (one-known (length table) id hand.known) (left_form (length table) inner.2)
+      (lower.texts table ok (one-known (length table) id hand.known) (left_form (length table) (inner.0.2, inner.1.0))
       ∙ ap (λ (ps : List Prefix). map (prefix_of table) new0 ++ ps)
       (ap (λ (n : Node). entries_of (width_of low.version) table (tree_of table n) (Some (text_at table id.0)) low.len (number_of low)) (sym halves.0)
       ∙ half-entries table (tree_of table l) (handed_on table (map (text_at table) set) (text_of table inherited)) (Some (text_at table id.0)) (width_of block.version) (width_of low.version) (suc block.len) low.len
       (2 * number_of block) (number_of low) (ap width_of low_half.version) (sym hand.label) (let e = low_half.len in omega arith) (let e = low_half.number in omega arith)))
-      (upper.texts table ok (one-known (length table) id hand.known) (right_form (length table) inner.3)
+      (upper.texts table ok (one-known (length table) id hand.known) (right_form (length table) (inner.0.3, inner.1.1))
       ∙ ap (λ (ps : List Prefix). map (prefix_of table) new1 ++ ps)
       (ap (λ (n : Node). entries_of (width_of high.version) table (tree_of table n) (Some (text_at table id.0)) high.len (number_of high)) (sym halves.1)
       ∙ half-entries table (tree_of table r) (handed_on table (map (text_at table) set) (text_of table inherited)) (Some (text_at table id.0)) (width_of block.version) (width_of high.version) (suc block.len) high.len
       (2 * number_of block + 1) (number_of high) (ap width_of high_half.version) (sym hand.label) (let e = high_half.len in omega arith) (let e = high_half.number in omega arith)));
   fit = λ count known form all.
       let inner = opened count form in
-      let own_all = own-fit count ids block inherited old new0 id (subst (λ (ns : List ℕ). IsRising count 0 ns) (sym is) inner.1) known own all in
-      let low_all = lower.fit count (one-known count id own_all.1) (left_form count inner.2)
+      let own_all = own-fit count ids block inherited old new0 id (subst (λ (ns : List ℕ). IsRising count 0 ns) (sym is) inner.0.1) known own all in
+      let low_all = lower.fit count (one-known count id own_all.1) (left_form count (inner.0.2, inner.1.0))
       (All-weaker (IsEntryOf block count) (IsEntryOf low count) (λ e fits. record { version = fits.version ∙ sym low_half.version; known = fits.known }) new0 own_all.0) in
-      let high_all = upper.fit count (one-known count id own_all.1) (right_form count inner.3)
+      let high_all = upper.fit count (one-known count id own_all.1) (right_form count (inner.0.3, inner.1.1))
       (All-weaker (IsEntryOf low count) (IsEntryOf high count) (λ e fits. record { version = fits.version ∙ low_half.version ∙ sym high_half.version; known = fits.known }) new1 low_all) in
       All-weaker (IsEntryOf high count) (IsEntryOf block count) (λ e fits. record { version = fits.version ∙ high_half.version; known = fits.known }) new2 high_all;
 }

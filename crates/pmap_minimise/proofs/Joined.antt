@@ -46,10 +46,10 @@ claim-cost table (Inner cost set left right) = refl
 claim-cost table (Chain cost set bits side end) = refl
 
 set-rising : (count : ℕ) (node : Node) (room : ℕ) → HasNumberForm count node room → IsRising count 0 (set_of node)
-set-rising count (Leaf id) room form = (omega arith, form, tt)
-set-rising count (Inner cost set left right) zero form = absurd form
-set-rising count (Inner cost set left right) (suc room) form = form.1
-set-rising count (Chain cost set bits side end) room form = absurd form
+set-rising count (Leaf id) room form = (omega arith, form.0, tt)
+set-rising count (Inner cost set left right) zero form = absurd form.0
+set-rising count (Inner cost set left right) (suc room) form = form.0.1
+set-rising count (Chain cost set bits side end) room form = absurd form.1
 
 pub set-some : (node : Node) (room : ℕ) → IsSound node room → 0 < length (set_of node)
 set-some (Leaf id) room sound = omega arith
@@ -78,7 +78,7 @@ leaf-certified n q h id = record {
   stands = λ m ok settled undivided.
       let own = All-head (IsSettledLeaf m) leaf [] settled in
       subst (λ (k : ℕ). IsSettled m n q (text_at m.table k)) (sym (same_Some id.0 own.id own.is)) own.settled;
-  form = λ count known. (All-head (IsKnownLeaf count) leaf [] known) id.0 refl;
+  form = λ count known. ((All-head (IsKnownLeaf count) leaf [] known) id.0 refl, tt);
   sound = tt;
   cost = omega arith;
 }
@@ -149,12 +149,11 @@ module _ (n q room : ℕ) (low_leaves high_leaves : List LeafModel) (low high : 
       subst (λ (child : Node). StandsFor m (tree_of m.table child) (suc n) (2 * q)) (sym joined.0) (stands_low m ok settled undivided),
       subst (λ (child : Node). StandsFor m (tree_of m.table child) (suc n) (2 * q + 1)) (sym joined.1) (stands_high m ok settled undivided),
     );
-    form = λ count known. (
-      (let small = cheap cost set joined.2 in omega arith),
-      rising count cost set known joined.2,
-      subst (λ (child : Node). HasNumberForm count child room) (sym joined.0) (low_form count known),
-      subst (λ (child : Node). HasNumberForm count child room) (sym joined.1) (high_form count known),
-    );
+    form = λ count known.
+        let small = cheap cost set joined.2 in
+        let low = subst (λ (child : Node). HasNumberForm count child room) (sym joined.0) (low_form count known) in
+        let up = subst (λ (child : Node). HasNumberForm count child room) (sym joined.1) (high_form count known) in
+        ((omega arith, rising count cost set known joined.2, low.0, up.0), (low.1, up.1));
     sound = (
       exact-some (cost_of low) (cost_of high) (set_of low) (set_of high) cost set (set-some low room lower.sound) joined.2,
       subst (λ (child : Node). IsSound child room) (sym joined.0) lower.sound,

@@ -25,7 +25,7 @@ use Rattle.label_trie.specs.Leaf.{number_of}
 use Rattle.label_trie.specs.TrieModel.{IsSettledLeaf, IsUndivided, LeafModel}
 use Rattle.pmap_cert.specs.CertificateForm.{HasTextForm}
 use Rattle.pmap_cert.proofs.CompactNodes.{compact-one}
-use Rattle.pmap_cert.proofs.Plain.{number-form, number-plain, plain-tree_of}
+use Rattle.pmap_cert.proofs.Plain.{plain-tree_of}
 use Rattle.pmap_cert.proofs.Written.{node_form, whole_text}
 use Rattle.pmap_text.specs.ListEntries.{HasDistinctBlocks}
 use Rattle.pmap_cert.specs.MinimalPair.{HasItsLabels, IsMinimalPair, StandsFor, entries_of}
@@ -100,9 +100,9 @@ root-form : (m : MapText) (root : Node) → HasNumberForm (length m.labels) root
 root-form m root form ok = record {
   first = refl;
   text = record {
-    format = inl (refl, plain-tree_of m.labels root (number-plain (length m.labels) root (width_of m.version) form));
+    format = inl (refl, plain-tree_of m.labels root form.1);
     table = ok;
-    root = node_form m.labels ok root (width_of m.version) (number-form (length m.labels) root (width_of m.version) form);
+    root = node_form m.labels ok root (width_of m.version) form.0;
   };
 }
 
@@ -124,14 +124,14 @@ certified-text m version leaves root head text certified same ok settled undivid
       root_certificate m root,
       minimal (map_of m) _ _ (tree_of m.labels root) (certified.stands (map_of m) ok settled undivided) refl refl,
       root-form m root form ok,
-      whole_text 1 m.version m.labels root (width_of m.version) (lines_of root) head text ok (number-form (length m.labels) root (width_of m.version) form) refl head_is text_is,
+      whole_text 1 m.version m.labels root (width_of m.version) (lines_of root) head text ok form.0 refl head_is text_is,
     )
 
 -- the numbers of a compacted root fit the map's label table
 pub compacted-form : (m : MapText) (version : Version) (leaves : List LeafModel) (root compacted : Node) → IsCertified 0 0 (width_of version) leaves root → IsCompactNode root compacted
     → version ≡ m.version → All (IsSettledLeaf (map_of m)) leaves → HasChainForm (length m.labels) compacted (width_of m.version)
 compacted-form m version leaves root compacted certified is same settled =
-    is.form (length m.labels) (width_of m.version) (number-form (length m.labels) root (width_of m.version) (certified-form m version leaves root certified same settled))
+    is.form (length m.labels) (width_of m.version) (certified-form m version leaves root certified same settled).0
 
 -- the text of a root's compacted certificate, which is part of the map's minimal pair
 pub compacted-text : (m : MapText) (version : Version) (leaves : List LeafModel) (root compacted : Node) (c : CertificateModel) (text : List ℕ) → IsCertified 0 0 (width_of version) leaves root
@@ -144,7 +144,7 @@ compacted-text m version leaves root compacted c text certified is same ok settl
       root_certificate m root,
       minimal (map_of m) _ _ (tree_of m.labels root) (certified.stands (map_of m) ok settled undivided) refl refl,
       root-form m root form ok,
-      text_is ∙ ap certificate_text (c_is ∙ compact-one One m.version m.labels root compacted ok (number-form (length m.labels) root (width_of m.version) form) refl is),
+      text_is ∙ ap certificate_text (c_is ∙ compact-one One m.version m.labels root compacted ok form.0 refl is),
     )
 
 -- the entries are those of a certificate's root, which represents the address space

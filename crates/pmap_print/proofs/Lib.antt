@@ -5,7 +5,6 @@ pub mod LastMatch
 pub mod ReadLines
 pub mod ReadList
 pub mod Again
-pub mod MapTexts
 pub mod FewLabels
 pub mod MinimalLists
 pub mod GroupLines

@@ -1,9 +1,10 @@
--- The list of a minimal pair of a map text can be printed and read again, and the list that is read is accepted.
-use Rattle.std.proofs.Common.{◌≡◌, ℕ, ◌+◌, ◌-◌, ◌*◌, ◌^◌, ◌<◌, ◌≤◌, ◌==◌, ◌⊎◌, ◌∙◌, inl, inr, true, false, List, [], ◌∷◌, All, IsTrue, length, sym, ap, subst, arith, bytes_eq, pow_pos}
+-- The list of a minimal pair of a map text can be printed and read again, and is accepted as it is read.
+use Rattle.std.proofs.Common.{◌≡◌, ℕ, ◌+◌, ◌-◌, ◌*◌, ◌^◌, ◌<◌, ◌≤◌, ◌==◌, ◌⊎◌, ◌∙◌, inl, inr, true, false, List, [], ◌∷◌, All, IsTrue, get_or, length, sym, ap, subst, arith, bytes_eq, pow_pos}
 use Rattle.std.specs.List.{AllByRecursion, IsDistinct}
 use Rattle.std.proofs.lemmas.Bool.{and_parts, eqb-true, false_from_ne_true, or_cases}
 use Rattle.std.proofs.lemmas.List.Elements.{recursion_from_All}
 use Rattle.std.proofs.lemmas.Map.Keys.{IsDistinct-cons}
+use Rattle.std.proofs.lemmas.Option.{slice_get-get_or}
 use Rattle.std.proofs.lemmas.Slice.Eq.{bytes_eq-Decides}
 use Rattle.prefix_keys.specs.Block.{block_number}
 use Rattle.prefix_keys.specs.Version.{width_of}
@@ -14,6 +15,7 @@ use Rattle.pmap_cert.specs.ListForm.{HasBlock, HasListForm, IsInOrder, is_before
 use Rattle.pmap_cert.specs.MinimalPair.{IsMinimalPair}
 use Rattle.pmap_cert.proofs.InOrder.{list-form}
 use Rattle.pmap_cert.proofs.MapLabels.{labels-read}
+use Rattle.pmap_cert.proofs.MapLimits.{IsLimited, limits-read}
 use Rattle.pmap_cert.proofs.Minimal.{accepted-minimal}
 use Rattle.pmap_text.specs.Label.{is_label}
 use Rattle.pmap_text.specs.ListModel.{ListModel, Prefix}
@@ -23,7 +25,6 @@ use Rattle.pmap_text.specs.Reading.{ReadsList, ReadsMap, label_limit, mapping_li
 use Rattle.pmap_print.specs.List.{list_text}
 use Rattle.pmap_print.specs.ReadBack.{CanBeReadAgain, IsPrintedEntry, IsWellFormed, labels_of}
 use Rattle.pmap_print.proofs.Again.{list-again}
-use Rattle.pmap_print.proofs.MapTexts.{HasLabelForms, map-forms}
 use Rattle.pmap_print.proofs.Order.{before-start, in_order-kept}
 
 -- blocks in order are distinct
@@ -74,13 +75,14 @@ module _ (text : List ℕ) (m : MapModel) (l : ListModel) (c : CertificateModel)
   list-has_form : HasListForm l
   list-has_form = list-form m l c pair (labels-read text m reads)
 
-  forms : HasLabelForms m
-  forms = map-forms text m reads
+  limits : IsLimited m
+  limits = limits-read text m reads
 
   table-texts : AllByRecursion (λ y. IsTrue (is_label y)) l.table
   table-texts =
       subst (λ (t : List Label). AllByRecursion (λ y. IsTrue (is_label y)) t) (sym pair.list_table)
-      (recursion_from_All (λ y. IsTrue (is_label y)) m.table forms.table)
+      (recursion_from_All (λ y. IsTrue (is_label y)) m.table
+      (λ k d below. limits.table.labels k (get_or m.table k d) (slice_get-get_or m.table k d below)))
 
   printed : All (IsPrintedEntry l.version) l.prefixes
   printed k d below = record {
@@ -93,7 +95,7 @@ module _ (text : List ℕ) (m : MapModel) (l : ListModel) (c : CertificateModel)
     entries = printed;
     distinct = order-distinct (width_of l.version) l.prefixes list-has_form.order
         (recursion_from_All (HasBlock (width_of l.version)) l.prefixes list-has_form.blocks);
-    name = λ x e. forms.name x (sym pair.list_name ∙ e);
+    name = λ x e. limits.name x (sym pair.list_name ∙ e);
   }
 
   module _ (few : length l.prefixes ≤ mapping_limit) (few_labels : length (labels_of l.prefixes) ≤ label_limit) where

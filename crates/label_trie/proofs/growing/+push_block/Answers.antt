@@ -1,4 +1,5 @@
-use Rattle.std.proofs.Common.{◌≡◌, ◌+◌, [], ◌∷◌, length, arith, length-append, length-set}
+use Rattle.std.proofs.Common.{◌≡◌, ◌∙◌, length, ap, arith, length-set}
+use Rattle.std.proofs.lemmas.List.{length_push}
 use Rattle.std.proofs.lemmas.Result.{on_ok_weaker}
 use Rattle.prefix_keys.specs.Version.{width_of}
 use Rattle.pmap_text.proofs.Ranges.{held_order}
@@ -29,8 +30,7 @@ pub push_block-requires : goal.push_block-requires
 push_block-requires t c =
     let room = c.requires.room in
     let split = part_split c.args.stretches.now c.args.part c.requires.part room.statements room.default room.are c.if-part.false in
-    let long = length-append c.args.nodes.now.items (Inner 0 ∷ []) in
-    let count : length c.push-2.new.self.items ≡ length c.args.nodes.now.items + 1 = rw c.in_ok-push-2.ensures.items (omega (arith, long)) in (
+    let count = ap length c.in_ok-push-2.ensures.items ∙ length_push c.args.nodes.now.items (Inner 0) in (
       omega (arith, split.some),
       (
         record {
@@ -53,8 +53,7 @@ overflow_cast-high t c =
     let s = c.args.stretches.now in
     let room = c.requires.room in
     let split = part_split s c.args.part c.requires.part room.statements room.default room.are c.if-part.false in
-    let long = length-append c.args.nodes.now.items (Inner 0 ∷ []) in
-    let count : length c.push-2.new.self.items ≡ length c.args.nodes.now.items + 1 = rw c.in_ok-push-2.ensures.items (omega (arith, long)) in
+    let count = ap length c.in_ok-push-2.ensures.items ∙ length_push c.args.nodes.now.items (Inner 0) in
     let most = added_most (width_of s.version) _ _ room.statements room.default c.push-2.new.self.items c.push_block.new.nodes.items
     (c.in_ok-push_block.ensures room.statements room.default room.are) in
     omega (arith, c.len-high.ensures, c.push_block.new.nodes.ok, most, count, room.room, split.sum)
@@ -62,8 +61,7 @@ overflow_cast-high t c =
 pub set_high-requires : goal.set_high-requires
 set_high-requires t c =
     let room = c.requires.room in
-    let long = length-append c.args.nodes.now.items (Inner 0 ∷ []) in
-    let count : length c.push-2.new.self.items ≡ length c.args.nodes.now.items + 1 = rw c.in_ok-push-2.ensures.items (omega (arith, long)) in
+    let count = ap length c.in_ok-push-2.ensures.items ∙ length_push c.args.nodes.now.items (Inner 0) in
     let least = added_least (width_of c.args.stretches.now.version) _ _ room.statements room.default c.push-2.new.self.items c.push_block.new.nodes.items
     (c.in_ok-push_block.ensures room.statements room.default room.are) in
     omega (arith, c.len-at.ensures, c.args.nodes.now.ok, least, count)
@@ -73,8 +71,7 @@ push_block-requires-2 t c =
     let s = c.args.stretches.now in
     let room = c.requires.room in
     let split = part_split s c.args.part c.requires.part room.statements room.default room.are c.if-part.false in
-    let long = length-append c.args.nodes.now.items (Inner 0 ∷ []) in
-    let count : length c.push-2.new.self.items ≡ length c.args.nodes.now.items + 1 = rw c.in_ok-push-2.ensures.items (omega (arith, long)) in
+    let count = ap length c.in_ok-push-2.ensures.items ∙ length_push c.args.nodes.now.items (Inner 0) in
     let most = added_most (width_of s.version) _ _ room.statements room.default c.push-2.new.self.items c.push_block.new.nodes.items
     (c.in_ok-push_block.ensures room.statements room.default room.are) in
     let same : length c.set_high.new.nodes.items ≡ length c.push_block.new.nodes.items = rw c.set_high.ensures (length-set c.push_block.new.nodes.items _ _) in (

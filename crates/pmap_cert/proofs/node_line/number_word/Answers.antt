@@ -1,4 +1,4 @@
-use Rattle.std.proofs.Common.{◌∙◌, ℕ, List, Option, Some, drop, subst, sym, arith}
+use Rattle.std.proofs.Common.{◌∙◌, ℕ, List, Some, subst, sym, arith}
 use Rattle.std.proofs.lemmas.List.{take_rest}
 use Rattle.pmap_cert.specs.LineTexts.{BeginsWithNumber, Reads}
 use Rattle.pmap_cert.proofs.LineTexts.{after_byte-found, number-large, number-plain, number-zero}
