@@ -10,7 +10,7 @@ use Rattle.ipfix_templates.specs.declared.field.Field.{Field}
 use Rattle.ipfix_templates.specs.Field.{has_bytes, is_variable}
 use Rattle.ipfix_templates.specs.Runs.{runs_behind}
 use Rattle.ipfix_read.specs.Value.{FieldValueView, value_at, values_at, whole_values}
-use Rattle.ipfix_read.proofs.Cuts.{filled_values, values_with_bytes, whole_is}
+use Rattle.ipfix_read.proofs.RecordValues.{filled_values, values_with_bytes, whole_is}
 use Rattle.flow_rows.specs.Element.{big_endian, element, element_lengths, is_usable}
 use Rattle.flow_rows.specs.Places.{AreThere, IsThere, elements_at, given, kept, number_there, place, place_in, place_of, said_there}
 use Rattle.flow_rows.specs.declared.elements.Elements.{Elements}

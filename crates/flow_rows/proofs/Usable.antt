@@ -8,7 +8,7 @@ use Rattle.std.proofs.lemmas.Bool.{and_parts, eqb-true, false_from_ne_true, leb-
 use Rattle.ipfix_templates.specs.declared.field.Field.{Field}
 use Rattle.ipfix_templates.specs.Field.{has_bytes}
 use Rattle.ipfix_read.specs.Value.{FieldValueView, value_at, whole_values}
-use Rattle.ipfix_read.proofs.Cuts.{values_with_bytes}
+use Rattle.ipfix_read.proofs.RecordValues.{values_with_bytes}
 use Rattle.flow_rows.specs.Element.{big_endian, element, element_lengths, fits, is_usable}
 
 -- an element of a row, with the lengths that its fields may have

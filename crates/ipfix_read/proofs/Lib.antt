@@ -1,15 +1,5 @@
-pub mod Cuts
-pub mod RecordBytes
-pub mod PackedRecords
-pub mod Events
+pub mod RecordValues
 pub mod Sets
-pub mod MessageLemmas
-pub mod Faults
-pub mod Contents
-pub mod SetReadings
-pub mod MessageReadings
-pub mod Headers
-pub mod Filling
+pub mod Readings
 pub mod Gathering
-pub mod Answering
 pub mod Joining

@@ -1,17 +1,27 @@
--- Consecutive sets.
-use Rattle.std.proofs.Common.{◌≡◌, ℕ, ◌+◌, ◌-◌, ◌<◌, ◌≤◌, false, eqb, List, [], ◌∷◌, ◌++◌, length, take, drop, refl, sym, ap, subst, ◌∙◌, inl, inr, append_assoc, arith, take-append-drop, length-drop}
-use Rattle.std.proofs.lemmas.List.{append-nil, take_all, get_or-take, get_or-drop, length-take-le}
+-- The template events of consecutive sets.
+use Rattle.std.proofs.Common.{◌≡◌, ℕ, ◌+◌, ◌<◌, List, [], ◌∷◌, ◌++◌, length, get_or, take, sym, ap, ◌∙◌, append_assoc, ◌-◌, ◌≤◌, false, eqb, drop, refl, subst, inl, inr, arith, take-append-drop, length-drop, None}
+use Rattle.std.proofs.lemmas.List.{map_push, take_more, append-nil, take_all, get_or-take, get_or-drop, length-take-le}
+use Rattle.ipfix_templates.specs.declared.event.TemplateEvent.{TemplateEvent}
+use Rattle.ipfix_read.specs.Set.{in_domain, events_of_set, events_of_sets, written_length, IsContent, HasContentFault, IsSet, HasSetFault, Place, ReadsSet, IsRefused, IsSets, HasSetsFault}
 use Rattle.std.proofs.lemmas.List.Concat.{flat_map-cons}
 use Rattle.std.proofs.lemmas.List.Sums.{sum_by-append, sum_by-cons}
 use Rattle.byteorder.specs.Endian.{big_number}
-use Rattle.ipfix_templates.specs.declared.event.TemplateEvent.{TemplateEvent}
 use Rattle.ipfix_templates.specs.Reads.{Reads}
 use Rattle.ipfix_templates.specs.Template.{TemplateView}
 use Rattle.ipfix_templates.specs.Table.{Follows}
 use Rattle.ipfix_read.specs.declared.set.Set.{Set}
 use Rattle.ipfix_read.specs.declared.fault.ReadFault.{ReadFault}
-use Rattle.ipfix_read.specs.Set.{events_of_set, events_of_sets, written_length, IsContent, HasContentFault, IsSet, HasSetFault, Place, ReadsSet, IsRefused}
-use Rattle.ipfix_read.specs.Message.{set_size, message_size}
+use Rattle.ipfix_read.specs.Message.{set_size, message_size, MessageView, IsMessage, HasHeader, HasMessageFault, header_fault}
+
+-- a history with one more event
+pub in_domain_more : (history : List (ℕ × TemplateEvent)) (domain : ℕ) (events : List TemplateEvent) (i : ℕ) (d : TemplateEvent) → i < length events
+    → (history ++ in_domain domain (take i events)) ++ (domain, get_or events i d) ∷ [] ≡ history ++ in_domain domain (take (i + 1) events)
+in_domain_more history domain events i d lt =
+    let more : in_domain domain (take (i + 1) events) ≡ in_domain domain (take i events) ++ (domain, get_or events i d) ∷ [] =
+    ap (in_domain domain) (take_more events i d lt) ∙ map_push (λ (event : TemplateEvent). (domain, event)) (take i events) (get_or events i d) in
+    append_assoc history (in_domain domain (take i events)) ((domain, get_or events i d) ∷ []) ∙ ap (λ (es : List (ℕ × TemplateEvent)). history ++ es) (sym more)
+
+-- ---- consecutive sets
 
 -- a fault of a part is a fault of the whole
 pub refused : (old at : List ((ℕ × ℕ) × TemplateView)) (has other : List (ℕ × TemplateEvent) → ReadFault → Type 0) (fault : ReadFault)
@@ -50,10 +60,7 @@ pub record Cut (bytes front after : List ℕ) (n : ℕ) : Type 0 where
   pub within : n ≤ length bytes
   pub whole : n ≡ written_length bytes
 
-pub cut_of : (bytes front after : List ℕ) (n : ℕ) → front ≡ take n bytes → after ≡ drop n bytes → 4 ≤ n → n ≤ length bytes → n ≡ written_length bytes → Cut bytes front after n
-cut_of bytes front after n front_is after_is least within whole = record { front_is = front_is; after_is = after_is; least = least; within = within; whole = whole }
-
-module _ (bytes front after : List ℕ) (n : ℕ) (cut : Cut bytes front after n) where
+module _ {bytes front after : List ℕ} {n : ℕ} (cut : Cut bytes front after n) where
   pub cut_parts : bytes ≡ front ++ after
   cut_parts = rw (cut.front_is, cut.after_is) (sym (take-append-drop n bytes))
 
@@ -88,3 +95,45 @@ sets_history domain start (set ∷ sets) end done =
 
 pub message_size_push : (sets : List Set) (set : Set) → message_size (sets ++ set ∷ []) ≡ message_size sets + set_size set
 message_size_push sets set = omega (arith, sum_by-append set_size sets (set ∷ []), sum_by-cons set_size set [])
+
+-- ---- consecutive messages
+
+-- the front that is cut off has a header with its length
+pub front_header : {bytes front after : List ℕ} {n : ℕ} → Cut bytes front after n → 16 ≤ n → n ≤ 65535 → big_number 2 bytes ≡ 10 → HasHeader front
+front_header {bytes = bytes} {n = n} cut least most version = record {
+  least = omega (arith, cut_length cut);
+  most = omega (arith, cut_length cut);
+  version = ap (λ (xs : List ℕ). big_number 2 xs) cut.front_is ∙ front_number n bytes (omega arith) ∙ version;
+  whole = cut_written cut;
+}
+
+-- bytes with such a header are the message that is read from them
+pub message_read : (bytes : List ℕ) (history : List (ℕ × TemplateEvent)) (m : MessageView) → HasHeader bytes
+    → m.export_time ≡ big_number 4 (take (length bytes - 4) (drop 4 bytes))
+    → m.sequence ≡ big_number 4 (take (length bytes - 8) (drop 8 bytes))
+    → m.domain ≡ big_number 4 (take (length bytes - 12) (drop 12 bytes))
+    → IsSets history m.domain (take (length bytes - 16) (drop 16 bytes)) m.sets → IsMessage history bytes m
+message_read bytes history m header time sequence domain sets = record {
+  header = header.least;
+  version = header.version;
+  whole = header.whole;
+  export_time = time ∙ ap (λ (xs : List ℕ). big_number 4 xs) (from_place 4 bytes);
+  sequence = sequence ∙ ap (λ (xs : List ℕ). big_number 4 xs) (from_place 8 bytes);
+  domain = domain ∙ ap (λ (xs : List ℕ). big_number 4 xs) (from_place 12 bytes);
+  sets = subst (λ (xs : List ℕ). IsSets history m.domain xs m.sets) (from_place 16 bytes) sets;
+}
+
+-- or have the fault of the sets there
+pub sets_fault : (bytes : List ℕ) (history : List (ℕ × TemplateEvent)) (domain base : ℕ) (fault : ReadFault)
+    → domain ≡ big_number 4 (take (length bytes - 12) (drop 12 bytes))
+    → HasSetsFault history domain (take (length bytes - 16) (drop 16 bytes)) base fault → HasSetsFault history (big_number 4 (drop 12 bytes)) (drop 16 bytes) base fault
+sets_fault bytes history domain base fault is found =
+    let at : HasSetsFault history (big_number 4 (drop 12 bytes)) (take (length bytes - 16) (drop 16 bytes)) base fault =
+    subst (λ (d : ℕ). HasSetsFault history d (take (length bytes - 16) (drop 16 bytes)) base fault) (is ∙ ap (λ (xs : List ℕ). big_number 4 xs) (from_place 12 bytes)) found in
+    subst (λ (xs : List ℕ). HasSetsFault history (big_number 4 (drop 12 bytes)) xs base fault) (from_place 16 bytes) at
+
+-- which is that of the message at the start
+pub message_fault : (history : List (ℕ × TemplateEvent)) (count base : ℕ) (bytes front after : List ℕ) (fault : ReadFault) → bytes ≡ front ++ after
+    → header_fault count bytes ≡ None → HasHeader front → HasSetsFault history (big_number 4 (drop 12 front)) (drop 16 front) (base + 16) fault
+    → HasMessageFault history count bytes base fault
+message_fault history count base bytes front after fault parts none header found = inr (front, after, parts, none, header.least, header.whole, found)

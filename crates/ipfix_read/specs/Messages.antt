@@ -7,8 +7,8 @@ use Rattle.ipfix_templates.specs.Table.{Follows}
 use Rattle.ipfix_read.specs.declared.fault.ReadFault.{ReadFault}
 use Rattle.ipfix_read.specs.declared.fault.ReadFaultKind.{ReadFaultKind}
 use Rattle.ipfix_read.specs.declared.fault.ReadFaultKind.TheVariants.{ReadFault as Unread}
-use Rattle.ipfix_read.specs.declared.state.State.{State}
-use Rattle.ipfix_read.specs.declared.state.State.TheVariants.{Going, Ended, Failed}
+use Rattle.ipfix_read.specs.declared.progress.State.{State}
+use Rattle.ipfix_read.specs.declared.progress.State.TheVariants.{Going, Ended, Failed}
 use Rattle.ipfix_read.specs.Fault.{out_of_memory, read_fault, is_of_reader}
 use Rattle.ipfix_read.specs.Set.{IsReadAfter}
 use Rattle.ipfix_read.specs.Message.{MessageView, IsMessage, HasHeader, HasMessageFault, header_fault, events_of_message}

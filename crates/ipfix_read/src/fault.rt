@@ -1,7 +1,6 @@
 ghost use Rattle.std.specs.Prelude.{◌≡◌};
 ghost use Rattle.ipfix_read.specs.Fault.{out_of_memory};
 
-use flow_io::DeviceFault;
 use ipfix_templates::TemplateFaultKind;
 use std::alloc::AllocError;
 use thiserror::Error;
@@ -43,16 +42,6 @@ pub enum ReadFaultKind {
     /// An earlier call for a message failed. `read_file` never returns this.
     #[error("Failed")]
     Failed,
-}
-
-impl From<DeviceFault> for ReadFaultKind {
-    ghost use Rattle.ipfix_read.specs.declared.fault.ReadFaultKind.TheVariants.{ReadFault as Unread};
-
-    ghost from_gives = { λ _ kind. kind ≡ Unread };
-
-    fn from(_fault: DeviceFault) -> ReadFaultKind {
-        ReadFaultKind::ReadFault
-    }
 }
 
 /// The first fault of a File.

@@ -33,7 +33,6 @@ mod messages;
 mod progress;
 mod record;
 mod set;
-mod state;
 mod value;
 
 pub use buffer::Buffer;
@@ -44,8 +43,7 @@ pub use laws::{
 };
 pub use message::{Message, MessageList};
 pub use messages::Messages;
-pub use progress::Progress;
+pub use progress::{Progress, State};
 pub use record::{Record, RecordList, Records};
 pub use set::{Set, SetList};
-pub use state::State;
 pub use value::{FieldValue, FieldValues, Values, read_value};

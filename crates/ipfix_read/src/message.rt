@@ -42,27 +42,6 @@ impl<'a> Model for Message<'a> {
 }
 
 impl<'a> Message<'a> {
-    /// Returns the time at which the message left the exporter, in seconds since 1970.
-    pub fn export_time(&self) -> u32
-        ensures { result ≡ self.now.export_time }
-    {
-        self.export_time
-    }
-
-    /// Returns the sequence number.
-    pub fn sequence(&self) -> u32
-        ensures { result ≡ self.now.sequence }
-    {
-        self.sequence
-    }
-
-    /// Returns the observation domain ID.
-    pub fn domain(&self) -> u32
-        ensures { result ≡ self.now.domain }
-    {
-        self.domain
-    }
-
     /// Returns the sets in order. The sets with their template events and data records are at most 65,535.
     pub fn sets(&self) -> &SetList<'a>
         ensures value { result.now ≡ self.now.sets }
@@ -135,7 +114,6 @@ pub fn whole_message<'a>(
 // header.
 fn message_length(count: u32, bytes: &[u8]) -> Result<usize, ReadFaultKind>
     ensures ok { OnOk result (header_fault count bytes.now ≡ None) }
-    ensures own { OnOk result (own_fault count bytes.now ≡ None) }
     ensures whole { IfOk result (λ size. size ≡ written_length bytes.now) }
     ensures within { IfOk result (λ size. size ≤ length bytes.now) }
     ensures most { IfOk result (λ size. size ≤ 65535) }

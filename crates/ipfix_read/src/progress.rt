@@ -1,16 +1,26 @@
 ghost use Rattle.std.specs.Prelude.{◌≡◌, ◌≤◌, ◌+◌, ◌⊎◌, false, IfErr, IfOk, IfSome, OnSome, Ok, Err, None};
-ghost use Rattle.ipfix_read.specs.declared.state.State.TheVariants.{Going, Ended, Failed};
+ghost use Rattle.ipfix_read.specs.declared.progress.State.TheVariants.{Going, Ended, Failed};
 ghost use Rattle.ipfix_read.specs.Fault.{failed_before, is_of_calls, read_fault};
 ghost use Rattle.ipfix_read.specs.Messages.{AnswersNext, at_start, is_read_fault};
 
 use crate::buffer::Buffer;
 use crate::fault::{ReadFault, ReadFaultKind};
 use crate::message::{Message, whole_message};
-use crate::state::State;
 use flow_io::Input;
 use ipfix_templates::TemplateTable;
 use std::alloc::Global;
 use std::marker::Model;
+
+/// Whether a call for the next message may return one.
+#[derive(Clone, Copy, Debug, PartialEq, Eq)]
+pub enum State {
+    /// Messages may follow.
+    Going,
+    /// The end of the File was reached.
+    Ended,
+    /// A call failed.
+    Failed,
+}
 
 /// The state between two calls for a message: the templates in force, the offset in the File, the number of messages
 /// read, and whether there may be more messages.
@@ -48,13 +58,6 @@ impl Progress {
         }
     }
 
-    /// Returns whether there may be more messages.
-    pub fn state(&self) -> State
-        ensures { result ≡ self.now.state }
-    {
-        self.state
-    }
-
     /// Returns the next message of the File, which borrows from the buffer. Returns `None` at the end of the File and
     /// in each call after it. The reader is asked for the missing bytes of the message's header, then for the missing
     /// bytes of the message, and for no others.
@@ -82,7 +85,7 @@ impl Progress {
             × (self.new.count ≤ 4294967295) × (self.new.state ≡ Going))) }
         ensures device { R.failed reader.old ≡ false → R.failed reader.new ≡ is_read_fault result }
     {
-        match self.state() {
+        match self.state {
             State::Going => self.read_next(reader, buffer),
             State::Ended => Ok(None),
             State::Failed => Err(ReadFault {

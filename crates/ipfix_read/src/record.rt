@@ -41,6 +41,7 @@ impl<'a> Model for RecordList<'a> {
 
 impl<'a> RecordList<'a> {
     // Returns the list of `count` consecutive records with these fields, which are these bytes.
+    #[tactic(auto, unfolding(crate::specs::WholeRecords::whole_records))]
     pub(crate) fn new(
         kind: Kind,
         fields: &Fields,
@@ -87,14 +88,10 @@ impl<'a> RecordList<'a> {
             All (λ r. map (λ v. v.field) r.fields ≡ fields.now) self.now) }
         ensures bound { IfSome result (λ fields. length fields.now ≤ 65535) }
     {
-        match &self.specifiers {
-            None => None,
-            Some(specifiers) => {
-                // Provides the bound on the number of fields.
-                let _most = specifiers.len();
-                Some(specifiers)
-            }
-        }
+        let specifiers = self.specifiers.as_ref()?;
+        // Provides the bound on the number of fields.
+        let _most = specifiers.len();
+        Some(specifiers)
     }
 
     /// Returns an iterator over the data records in order.
@@ -136,6 +133,7 @@ impl<'f, 'a> Iterator for Records<'f, 'a> {
 
     ghost remaining = { item_count (λ records. records) };
 
+    #[tactic(auto, unfolding(crate::specs::WholeRecords::whole_records))]
     fn next(&mut self) -> Option<Record<'f, 'a>> {
         let Some(specifiers) = self.specifiers else {
             return None;

@@ -89,33 +89,6 @@ fn fault_in_file(fault: TemplateFault, base: u64) -> ReadFault
     }
 }
 
-// Reads the content of a template set, whose events change the table. If an allocation fails, the table may have
-// changed by some of them.
-fn read_templates<'a>(
-    alloc: Global,
-    table: &mut TemplateTable,
-    domain: u32,
-    kind: Kind,
-    bytes: &'a [u8],
-    base: u64,
-) -> Result<Set<'a>, ReadFault>
-    requires { base + length bytes.now < 2 ^ 64 }
-    ensures ok { IfOk result (λ set. IsReadAfter table.old table.new (events_of_set domain set)
-        (λ history. IsContent history domain (set_id kind) bytes.now set)) }
-    ensures size { IfOk result (λ set. set_size set ≤ 1 + length bytes.now) }
-    ensures fault { IfErr result (IsRefused table.old (λ history. HasContentFault history domain (set_id kind) bytes.now base)) }
-{
-    // Provides two laws: a set has room for its events, and no bytes have the fault that an allocation failed.
-    events_fit();
-    memory_is_no_fault();
-    let events = match read_template_set(alloc, bytes, kind) {
-        Ok(events) => events,
-        Err(fault) => return Err(fault_in_file(fault, base)),
-    };
-    apply_events(table, domain, &events)?;
-    Ok(Set::Templates(kind, events))
-}
-
 // Reads the content of a set with this ID, which isn't the ID of template sets or options template sets.
 fn read_values_of<'a>(
     table: &TemplateTable,
@@ -163,13 +136,22 @@ fn read_content<'a>(
     ensures size { IfOk result (λ set. set_size set ≤ 1 + length bytes.now) }
     ensures fault { IfErr result (IsRefused table.old (λ history. HasContentFault history domain id bytes.now base)) }
 {
-    if id == Kind::Flow.set_id() {
-        return read_templates(alloc, table, domain, Kind::Flow, bytes, base);
-    }
-    if id == Kind::Options.set_id() {
-        return read_templates(alloc, table, domain, Kind::Options, bytes, base);
-    }
-    read_values_of(table, domain, id, bytes, base)
+    let kind = if id == Kind::Flow.set_id() {
+        Kind::Flow
+    } else if id == Kind::Options.set_id() {
+        Kind::Options
+    } else {
+        return read_values_of(table, domain, id, bytes, base);
+    };
+    // Provides two laws: a set has room for its events, and no bytes have the fault that an allocation failed.
+    events_fit();
+    memory_is_no_fault();
+    let events = match read_template_set(alloc, bytes, kind) {
+        Ok(events) => events,
+        Err(fault) => return Err(fault_in_file(fault, base)),
+    };
+    apply_events(table, domain, &events)?;
+    Ok(Set::Templates(kind, events))
 }
 
 // Reads the set at the start of the bytes, and returns it with the bytes after it. The events of a template set change

@@ -118,6 +118,7 @@ impl<'f, 'a> Iterator for Values<'f, 'a> {
 
     ghost remaining = { item_count (λ values. values) };
 
+    #[tactic(auto, unfolding(crate::specs::Value::whole_values))]
     fn next(&mut self) -> Option<FieldValue<'a>> {
         let (field, specifiers) = self.specifiers.split_first()?;
         let (value, bytes) = read_value(*field, self.bytes)?;

@@ -1,17 +1,46 @@
--- Tables in parts: maps of maps, and a table for each kind.
-use Rattle.std.proofs.Common.{◌≡◌, ℕ, ◌&&◌, not, Bool, true, false, cond, List, [], ◌∷◌, ◌++◌, map, Option, Some, None, Result, Ok, Err, refl, sym, ap, ◌∙◌}
+-- Maps in the order of numbers, by the equality of numbers.
+use Rattle.std.proofs.Common.{◌≡◌, ℕ, ◌<◌, Bool, true, false, cond, ltb, eqb, List, Option, refl, sym, ap, subst, arith, ◌&&◌, not, [], ◌∷◌, ◌++◌, map, Some, None, Result, Ok, Err, ◌∙◌}
 use Rattle.std.specs.Prelude.{nat_eq, option_and_then, OnErr}
+use Rattle.std.specs.declared.cmp.Ordering.TheVariants.{Less, Equal, Greater}
+use Rattle.std.specs.Ordering.{nat_cmp, is_eq, eq_by_cmp}
+use Rattle.std.specs.BTreeMap.{is_at, BTreeMap}
 use Rattle.std.specs.List.{IsDistinct, AllByRecursion}
+use Rattle.std.specs.List.Sorted.{IsStrictlySortedBy}
 use Rattle.std.specs.Map.{lookup, keys_of, set_value}
-use Rattle.std.specs.BTreeMap.{BTreeMap}
+use Rattle.std.proofs.lemmas.Bool.{ltb-true, ne_eqb, eqb-true}
+use Rattle.std.proofs.lemmas.Map.Keys.{IsDistinct-from_sorted}
 use Rattle.std.specs.Option.{option_or}
-use Rattle.std.proofs.lemmas.Bool.{eqb-true}
 use Rattle.ipfix_templates.specs.declared.kind.Kind.TheVariants.{Flow, Options}
 use Rattle.ipfix_templates.specs.Kind.{same_kind}
 use Rattle.ipfix_templates.specs.Template.{TemplateView}
 use Rattle.ipfix_templates.specs.InForce.{kept_where}
 use Rattle.ipfix_templates.specs.Table.{same_key, template_at, ChangesAt, DropsKind}
 use Rattle.ipfix_templates.specs.Parts.{entries_of, IsInItsPart, AreParted}
+
+same_test : (x y : ℕ) → is_eq (nat_cmp x y) ≡ nat_eq x y
+same_test x y =
+    elim (ltb x y) as (λ b. ltb x y ≡ b → is_eq (cond b Less (cond (eqb x y) Equal Greater)) ≡ eqb x y) [
+      | true ↦ λ below. let lt : x < y = ltb-true x y below in sym (ne_eqb x y (λ same. omega arith))
+      | false ↦ λ _. elim (eqb x y) as (λ b. is_eq (cond b Equal Greater) ≡ b) [ true ↦ refl | false ↦ refl ]
+    ] refl
+
+same_tests : eq_by_cmp nat_cmp ≡ nat_eq
+same_tests = λ i x y. same_test x y i
+
+pub apart : (ks : List ℕ) → IsStrictlySortedBy nat_cmp ks → IsDistinct nat_eq ks
+apart ks sorted = subst (λ (e : ℕ → ℕ → Bool). IsDistinct e ks) same_tests (IsDistinct-from_sorted nat_cmp ks sorted)
+
+pub at_number : {X : Type 0} (k : ℕ) (es : List (ℕ × X)) → lookup (is_at (nat_cmp k)) es ≡ lookup (nat_eq k) es
+at_number k es = ap (λ (e : ℕ → ℕ → Bool). lookup (e k) es) same_tests
+
+-- one change of a map
+pub by_number : {X : Type 0} (old new : List (ℕ × X)) (k : ℕ) (value : Option X)
+    → ((q : ℕ) → lookup (is_at (nat_cmp q)) new ≡ cond (is_at (nat_cmp k) q) value (lookup (is_at (nat_cmp q)) old))
+    → (q : ℕ) → lookup (nat_eq q) new ≡ cond (nat_eq k q) value (lookup (nat_eq q) old)
+by_number old new k value h =
+    subst (λ (e : ℕ → ℕ → Bool). (q : ℕ) → lookup (e q) new ≡ cond (e k q) value (lookup (e q) old)) same_tests h
+
+-- ---- tables in parts: maps of maps, and a table for each kind
 
 abbrev Entries : Type 0
 Entries = List ((ℕ × ℕ) × TemplateView)
@@ -119,38 +148,20 @@ same_entries test (x ∷ xs) m w e same =
 pub in_parts : (flow options : Entries) (d i : ℕ) → template_at (flow ++ options) d i ≡ option_or (template_at flow d i) (template_at options d i)
 in_parts flow options d i = lookup-append (same_key (d, i)) flow options
 
-put_first : (s : Bool) (t : TemplateView) (f o : Option TemplateView) → option_or (cond s (Some t) f) (cond s None o) ≡ cond s (Some t) (option_or f o)
-put_first true t f o = refl
-put_first false t f o = refl
+put_both : (s : Bool) (v w f o : Option TemplateView) → option_or (cond s v f) (cond s w o) ≡ cond s (option_or v w) (option_or f o)
+put_both true v w f o = refl
+put_both false v w f o = refl
 
-put_second : (s : Bool) (value f o : Option TemplateView) → option_or (cond s None f) (cond s value o) ≡ cond s value (option_or f o)
-put_second true value f o = refl
-put_second false value f o = refl
+part_both : (s : Bool) (v w f o : Option TemplateView) → IsInItsPart v w → IsInItsPart f o → IsInItsPart (cond s v f) (cond s w o)
+part_both true v w f o new old = new
+part_both false v w f o new old = old
 
-first_parted : (s : Bool) (t : TemplateView) (f o : Option TemplateView) → t.kind ≡ Flow → IsInItsPart f o → IsInItsPart (cond s (Some t) f) (cond s None o)
-first_parted true t f o is p = is
-first_parted false t f o is p = p
-
-second_parted : (s : Bool) (t : TemplateView) (f o : Option TemplateView) → t.kind ≡ Options → IsInItsPart f o → IsInItsPart (cond s None f) (cond s (Some t) o)
-second_parted true t f o is p = is
-second_parted false t f o is p = p
-
-none_parted : (s : Bool) (f o : Option TemplateView) → IsInItsPart f o → IsInItsPart (cond s None f) (cond s None o)
-none_parted true f o p = tt
-none_parted false f o p = p
-
-first_dropped : (b : Bool) (f o : Option TemplateView) → IsInItsPart f o → IsInItsPart (cond b None f) o
-first_dropped false f o p = p
-first_dropped true None o p = p
-first_dropped true (Some t) None p = tt
-first_dropped true (Some t) (Some u) p = absurd p
-
-second_dropped : (b : Bool) (f o : Option TemplateView) → IsInItsPart f o → IsInItsPart f (cond b None o)
-second_dropped false f o p = p
-second_dropped true None None p = tt
-second_dropped true None (Some u) p = tt
-second_dropped true (Some t) None p = p
-second_dropped true (Some t) (Some u) p = absurd p
+-- each part without the other
+parts_alone : (f o : Option TemplateView) → IsInItsPart f o → IsInItsPart None o × IsInItsPart f None
+parts_alone None None p = (tt, tt)
+parts_alone None (Some u) p = (p, tt)
+parts_alone (Some t) None p = (tt, p)
+parts_alone (Some t) (Some u) p = absurd p
 
 drops_first : (b : Bool) (f o : Option TemplateView) → IsInItsPart f o
     → option_or (cond b None f) o ≡ cond b (kept_where (λ t. not (same_kind Flow t.kind)) (option_or f o)) (option_or f o)
@@ -171,25 +182,14 @@ drops_second true (Some t) (Some u) p = absurd p
 abbrev Drops : Entries → Entries → ℕ → Type 0
 Drops old new domain = (d i : ℕ) → template_at new d i ≡ cond (nat_eq domain d) None (template_at old d i)
 
-module _ (f f' o o' : Entries) (domain : ℕ) where
-  pub flow_put : (id : ℕ) (t : TemplateView) → ChangesAt f f' domain id (Some t) → ChangesAt o o' domain id None → ChangesAt (f ++ o) (f' ++ o') domain id (Some t)
-  flow_put id t first second d i =
-      in_parts f' o' d i ∙ rw (first d i, second d i) (put_first (same_key (domain, id) (d, i)) t (template_at f d i) (template_at o d i))
-      ∙ ap (λ (p : Option TemplateView). cond (same_key (domain, id) (d, i)) (Some t) p) (sym (in_parts f o d i))
+module _ (f f' o o' : Entries) (domain id : ℕ) (v w : Option TemplateView) (first : ChangesAt f f' domain id v) (second : ChangesAt o o' domain id w) where
+  pub put : ChangesAt (f ++ o) (f' ++ o') domain id (option_or v w)
+  put d i =
+      in_parts f' o' d i ∙ rw (first d i, second d i) (put_both (same_key (domain, id) (d, i)) v w (template_at f d i) (template_at o d i))
+      ∙ ap (λ (p : Option TemplateView). cond (same_key (domain, id) (d, i)) (option_or v w) p) (sym (in_parts f o d i))
 
-  pub options_put : (id : ℕ) (value : Option TemplateView) → ChangesAt f f' domain id None → ChangesAt o o' domain id value → ChangesAt (f ++ o) (f' ++ o') domain id value
-  options_put id value first second d i =
-      in_parts f' o' d i ∙ rw (first d i, second d i) (put_second (same_key (domain, id) (d, i)) value (template_at f d i) (template_at o d i))
-      ∙ ap (λ (p : Option TemplateView). cond (same_key (domain, id) (d, i)) value p) (sym (in_parts f o d i))
-
-  pub flow_parted : (id : ℕ) (t : TemplateView) → t.kind ≡ Flow → ChangesAt f f' domain id (Some t) → ChangesAt o o' domain id None → AreParted f o → AreParted f' o'
-  flow_parted id t is first second p d i = rw (first d i, second d i) (first_parted (same_key (domain, id) (d, i)) t (template_at f d i) (template_at o d i) is (p d i))
-
-  pub options_parted : (id : ℕ) (t : TemplateView) → t.kind ≡ Options → ChangesAt f f' domain id None → ChangesAt o o' domain id (Some t) → AreParted f o → AreParted f' o'
-  options_parted id t is first second p d i = rw (first d i, second d i) (second_parted (same_key (domain, id) (d, i)) t (template_at f d i) (template_at o d i) is (p d i))
-
-  pub removed_parted : (id : ℕ) → ChangesAt f f' domain id None → ChangesAt o o' domain id None → AreParted f o → AreParted f' o'
-  removed_parted id first second p d i = rw (first d i, second d i) (none_parted (same_key (domain, id) (d, i)) (template_at f d i) (template_at o d i) (p d i))
+  pub parted : IsInItsPart v w → AreParted f o → AreParted f' o'
+  parted new p d i = rw (first d i, second d i) (part_both (same_key (domain, id) (d, i)) v w (template_at f d i) (template_at o d i) new (p d i))
 
 module _ (f o : Entries) (domain : ℕ) (p : AreParted f o) where
   pub flow_dropped : (f' : Entries) → Drops f f' domain → DropsKind (f ++ o) (f' ++ o) domain Flow
@@ -203,10 +203,12 @@ module _ (f o : Entries) (domain : ℕ) (p : AreParted f o) where
       ∙ ap (λ (q : Option TemplateView). cond (nat_eq domain d) (kept_where (λ t. not (same_kind Options t.kind)) q) q) (sym (in_parts f o d i))
 
   pub flow_dropped_parted : (f' : Entries) → Drops f f' domain → AreParted f' o
-  flow_dropped_parted f' first d i = rw (first d i) (first_dropped (nat_eq domain d) (template_at f d i) (template_at o d i) (p d i))
+  flow_dropped_parted f' first d i =
+      rw (first d i) (elim (nat_eq domain d) as (λ b. IsInItsPart (cond b None (template_at f d i)) (template_at o d i)) [ true ↦ (parts_alone _ _ (p d i)).0 | false ↦ p d i ])
 
   pub options_dropped_parted : (o' : Entries) → Drops o o' domain → AreParted f o'
-  options_dropped_parted o' second d i = rw (second d i) (second_dropped (nat_eq domain d) (template_at f d i) (template_at o d i) (p d i))
+  options_dropped_parted o' second d i =
+      rw (second d i) (elim (nat_eq domain d) as (λ b. IsInItsPart (template_at f d i) (cond b None (template_at o d i))) [ true ↦ (parts_alone _ _ (p d i)).1 | false ↦ p d i ])
 
 -- ---- the entries of a new table
 

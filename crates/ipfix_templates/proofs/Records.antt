@@ -1,9 +1,10 @@
--- The bytes that a record takes.
-use Rattle.std.proofs.Common.{◌≡◌, ℕ, zero, suc, ◌+◌, ◌*◌, ◌-◌, ◌≤◌, ◌||◌, true, false, cond, ltb, eqb, List, [], ◌∷◌, length, drop, Option, Some, None, Result, Ok, Err, ◌⊎◌, inl, inr, refl, sym, ap, ◌∙◌, arith, length-drop}
-use Rattle.std.specs.Prelude.{option_and_then}
+-- Reading one item after another, as a loop does.
+use Rattle.std.proofs.Common.{◌≡◌, ℕ, suc, ◌+◌, ◌-◌, ◌<◌, ◌≤◌, List, [], ◌∷◌, ◌++◌, length, true, false, Option, Some, None, refl, sym, ap, ◌∙◌, append_assoc, arith, zero, ◌*◌, ◌||◌, cond, ltb, eqb, drop, Result, Ok, Err, ◌⊎◌, inl, inr, length-drop}
+use Rattle.std.specs.Prelude.{is_some, option_and_then}
+use Rattle.ipfix_templates.specs.declared.field.Field.{Field}
+use Rattle.ipfix_templates.specs.Reading.{field_at, fields_at, defined_by, definition_at, withdrawal, followed_by, record_at, ReadsEvent, ReadsEvents, IsPadding, IsTemplateSet, IsRecordFault, HasTemplateFault}
 use Rattle.std.proofs.lemmas.Bool.{cases_lt, ltb-false}
 use Rattle.byteorder.specs.Endian.{big_number}
-use Rattle.ipfix_templates.specs.declared.field.Field.{Field}
 use Rattle.ipfix_templates.specs.declared.kind.Kind.{Kind}
 use Rattle.ipfix_templates.specs.declared.kind.Kind.TheVariants.{Flow, Options}
 use Rattle.ipfix_templates.specs.declared.event.TemplateEvent.{TemplateEvent}
@@ -12,10 +13,37 @@ use Rattle.ipfix_templates.specs.declared.fault.TemplateFault.{TemplateFault}
 use Rattle.ipfix_templates.specs.declared.fault.TemplateFaultKind.{TemplateFaultKind}
 use Rattle.ipfix_templates.specs.declared.fault.TemplateFaultKind.TheVariants.{Truncated, BadTemplateId, BadScope, NoMemory}
 use Rattle.ipfix_templates.specs.Kind.{set_id}
-use Rattle.ipfix_templates.specs.Reading.{field_at, fields_at, defined_by, definition_at, withdrawal, followed_by, record_at, ReadsEvent, ReadsEvents, IsPadding, IsTemplateSet, IsRecordFault, HasTemplateFault}
 use Rattle.ipfix_templates.specs.Laws.{HasReading, OneReading}
 use Rattle.ipfix_templates.proofs.Choice.{chosen, gave, some_is, ok_is}
 use Rattle.ipfix_templates.proofs.Reading.{reads_shorter, Goes, has_outcome, one_outcome}
+
+-- the fields that were read before, and those that are still to be read
+abbrev pub behind : List Field → Option (List Field × List ℕ) → Option (List Field × List ℕ)
+behind front read = option_and_then (λ x. Some (front ++ x.0, x.1)) read
+
+pub regroup : (front : List Field) (f : Field) (read : Option (List Field × List ℕ)) → behind front (option_and_then (λ x. Some (f ∷ x.0, x.1)) read) ≡ behind (front ++ f ∷ []) read
+regroup front f None = refl
+regroup front f (Some x) = ap (λ (fs : List Field). Some (fs, x.1)) (simp append_assoc)
+
+-- the fields at the start, from the field there
+pub next_field : (count i : ℕ) (bytes : List ℕ) (f : Field) (after : List ℕ) → i < count → field_at bytes ≡ Some (f, after)
+    → fields_at (count - i) bytes ≡ option_and_then (λ fs. Some (f ∷ fs.0, fs.1)) (fields_at (count - (i + 1)) after)
+unfolding fields_at
+next_field count i bytes f after lt h = let k : count - i ≡ suc (count - (i + 1)) = omega arith in rw (k, h) refl
+
+pub no_field : (count i : ℕ) (bytes : List ℕ) → i < count → field_at bytes ≡ None → fields_at (count - i) bytes ≡ None
+unfolding fields_at
+no_field count i bytes lt h = let k : count - i ≡ suc (count - (i + 1)) = omega arith in rw (k, h) refl
+
+pub all_fields : (count i : ℕ) (bytes : List ℕ) → count ≤ i → fields_at (count - i) bytes ≡ Some ([], bytes)
+unfolding fields_at
+all_fields count i bytes le = let k : count - i ≡ 0 = omega arith in rw k refl
+
+pub still : (f : Field) (read : Option (List Field × List ℕ)) → is_some {T = List Field × List ℕ} (option_and_then (λ x. Some (f ∷ x.0, x.1)) read) ≡ is_some read
+still f None = refl
+still f (Some x) = refl
+
+-- ---- the bytes that a record takes
 
 pub field_shorter : (bytes : List ℕ) (x : Field × List ℕ) → field_at bytes ≡ Some x → length x.1 + 4 ≤ length bytes
 unfolding field_at

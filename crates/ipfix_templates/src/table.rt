@@ -33,6 +33,7 @@ impl Model for TemplateTable {
 
 impl TemplateTable {
     /// Returns an empty table.
+    #[tactic(auto, unfolding(crate::specs::InForce::in_force))]
     pub fn new(alloc: Global) -> Self
         ensures empty { result ≡ [] }
         ensures follows { Follows result [] }

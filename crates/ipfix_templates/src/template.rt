@@ -45,13 +45,6 @@ impl Template {
         self.kind
     }
 
-    /// Returns the number of scope fields, which are the first fields.
-    pub fn scope_count(&self) -> u16
-        ensures { result ≡ self.now.scope_count }
-    {
-        self.scope_count
-    }
-
     /// Returns the fields, in the order of the values in a record.
     pub fn fields(&self) -> &Fields
         ensures { result.now ≡ self.now.fields }

@@ -1,41 +1,8 @@
 use Rattle.std.proofs.Common.{rules, ◌∙◌, inl, inr, refl, sym, arith}
 use Rattle.std.proofs.lemmas.Result.{err_from_is_err_and}
-use Rattle.ipfix_read.proofs.Headers.{own_sound}
-use Rattle.ipfix_read.proofs.Faults.{not_of_reader}
-use Rattle.ipfix_read.proofs.Gathering.{head_of, unread, nothing_left, short_header, faulty_header, short_message, gathered, holds_message}
+use Rattle.ipfix_read.proofs.Gathering.{own_sound, head_of, unread, nothing_left, short_header, faulty_header, short_message, gathered, holds_message}
+use Rattle.ipfix_read.proofs.Readings.{not_of_reader}
 use Rattle.ipfix_read.proofs.buffer.gather_at_front.Goals as goal
-
-pub returns-in_err-head-clause-gathers : goal.returns-in_err-head-clause-gathers
-returns-in_err-head-clause-gathers g c =
-    let p = err_from_is_err_and c.from_residual.result c.from_residual.ensures.1 in
-    rw (p.1, p.2) (unread _ c.args.count)
-
-pub returns-in_err-head-clause-device : goal.returns-in_err-head-clause-device
-returns-in_err-head-clause-device g c =
-    let p = err_from_is_err_and c.from_residual.result c.from_residual.ensures.1 in
-    rw (p.1, p.2) (λ none. c.in_err-head.ensures.err)
-
-pub returns-in_err-size-clause-gathers : goal.returns-in_err-size-clause-gathers
-returns-in_err-size-clause-gathers g c =
-    let p = err_from_is_err_and c.from_residual-in_err-size.result c.from_residual-in_err-size.ensures.1 in
-    let found = c.in_err-size.ensures.fault in
-    rw (p.1, p.2) (faulty_header _ _ c.args.count c.in_ok-head.head c.args.buffer.now c.fill.new.bytes c.in_err-size.field-0.0 c.in_ok-head.ensures.given (search rules) (search rules) found.0)
-
-pub returns-in_err-size-clause-device : goal.returns-in_err-size-clause-device
-returns-in_err-size-clause-device g c =
-    let p = err_from_is_err_and c.from_residual-in_err-size.result c.from_residual-in_err-size.ensures.1 in
-    let found = c.in_err-size.ensures.fault in
-    rw (p.1, p.2) (λ none. c.in_ok-head.ensures.ok ∙ none ∙ sym (not_of_reader c.in_err-size.field-0.0 found.1))
-
-pub returns-in_err-got-clause-gathers : goal.returns-in_err-got-clause-gathers
-returns-in_err-got-clause-gathers g c =
-    let p = err_from_is_err_and c.from_residual-in_err-got.result c.from_residual-in_err-got.ensures.1 in
-    rw (p.1, p.2) (unread _ c.args.count)
-
-pub returns-in_err-got-clause-device : goal.returns-in_err-got-clause-device
-returns-in_err-got-clause-device g c =
-    let p = err_from_is_err_and c.from_residual-in_err-got.result c.from_residual-in_err-got.ensures.1 in
-    rw (p.1, p.2) (λ none. c.in_err-got.ensures.err)
 
 pub returns-then-head-eq0-clause-gathers : goal.returns-then-head-eq0-clause-gathers
 returns-then-head-eq0-clause-gathers g c =
@@ -59,21 +26,29 @@ pub returns-clause-whole : goal.returns-clause-whole
 returns-clause-whole g c =
     holds_message c.in_ok-size.size c.args.buffer.now c.fill.new.bytes c.fill-2.new.bytes (search rules) (search rules) c.in_ok-size.ensures.most (own_sound c.args.count (head_of c.args.buffer.now c.fill.new.bytes) c.in_ok-size.ensures.ok).version c.in_ok-size.ensures.whole
 
-pub returns-in_err-head-clause-fault : goal.returns-in_err-head-clause-fault
-returns-in_err-head-clause-fault g c =
-    let p = err_from_is_err_and c.from_residual.result c.from_residual.ensures.1 in
-    rw (p.1, p.2) (inl refl)
-
-pub returns-in_err-size-clause-fault : goal.returns-in_err-size-clause-fault
-returns-in_err-size-clause-fault g c =
-    let p = err_from_is_err_and c.from_residual-in_err-size.result c.from_residual-in_err-size.ensures.1 in
-    let found = c.in_err-size.ensures.fault in
-    rw (p.1, p.2) (inr found.1)
-
-pub returns-in_err-got-clause-fault : goal.returns-in_err-got-clause-fault
-returns-in_err-got-clause-fault g c =
-    let p = err_from_is_err_and c.from_residual-in_err-got.result c.from_residual-in_err-got.ensures.1 in
-    rw (p.1, p.2) (inl refl)
-
 pub returns-clause-counted : goal.returns-clause-counted
 returns-clause-counted g c = (own_sound c.args.count (head_of c.args.buffer.now c.fill.new.bytes) c.in_ok-size.ensures.ok).counted
+
+pub returns-in_err-head : goal.returns-in_err-head
+returns-in_err-head g c =
+    let p = err_from_is_err_and c.from_residual.result c.from_residual.ensures.1 in
+    let failed = c.in_err-head.ensures.err in
+    rw (p.1, p.2, failed.0) (record { gathers = unread _ c.args.count; whole = tt; counted = tt; fault = inl refl; device = λ none. failed.1 })
+
+pub returns-in_err-got : goal.returns-in_err-got
+returns-in_err-got g c =
+    let p = err_from_is_err_and c.from_residual-in_err-got.result c.from_residual-in_err-got.ensures.1 in
+    let failed = c.in_err-got.ensures.err in
+    rw (p.1, p.2, failed.0) (record { gathers = unread _ c.args.count; whole = tt; counted = tt; fault = inl refl; device = λ none. failed.1 })
+
+pub returns-in_err-size : goal.returns-in_err-size
+returns-in_err-size g c =
+    let p = err_from_is_err_and c.from_residual-in_err-size.result c.from_residual-in_err-size.ensures.1 in
+    let found = c.in_err-size.ensures.fault in
+    rw (p.1, p.2) (record {
+      gathers = faulty_header _ _ c.args.count c.in_ok-head.head c.args.buffer.now c.fill.new.bytes c.in_err-size.field-0.0 c.in_ok-head.ensures.given (search rules) (search rules) found.0;
+      whole = tt;
+      counted = tt;
+      fault = inr found.1;
+      device = λ none. c.in_ok-head.ensures.ok ∙ none ∙ sym (not_of_reader c.in_err-size.field-0.0 found.1);
+    })

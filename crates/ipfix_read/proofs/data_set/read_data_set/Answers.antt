@@ -3,8 +3,7 @@ use Rattle.std.proofs.lemmas.Result.{err_from_is_err_and}
 use Rattle.ipfix_templates.specs.declared.field.Field.{Field}
 use Rattle.ipfix_templates.specs.declared.kind.Kind.{Kind}
 use Rattle.ipfix_read.specs.WholeRecords.{whole_records}
-use Rattle.ipfix_read.proofs.RecordBytes.{records_shorter}
-use Rattle.ipfix_read.proofs.PackedRecords.{first_stands, packed, packed_length}
+use Rattle.ipfix_read.proofs.RecordValues.{records_shorter, first_stands, packed, packed_length}
 use Rattle.ipfix_read.proofs.data_set.read_data_set.Goals as goal
 
 pub slice_bounds-whole-count : goal.slice_bounds-whole-count

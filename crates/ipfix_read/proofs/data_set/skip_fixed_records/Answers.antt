@@ -1,7 +1,7 @@
 use Rattle.std.proofs.Common.{◌*◌, ◌/◌, length, length-drop, arith}
 use Rattle.std.proofs.Math.Nat.{div-mul-le_self}
 use Rattle.ipfix_templates.specs.Field.{least_length}
-use Rattle.ipfix_read.proofs.PackedRecords.{few_left, fixed_records}
+use Rattle.ipfix_read.proofs.RecordValues.{few_left, fixed_records}
 use Rattle.ipfix_read.proofs.Sets.{from_place}
 use Rattle.ipfix_read.proofs.data_set.skip_fixed_records.Goals as goal
 

@@ -1,8 +1,7 @@
 use Rattle.std.proofs.Common.{◌∷◌, ◌++◌, [], length-append, arith}
 use Rattle.ipfix_templates.proofs.Reading.{reads_more}
 use Rattle.ipfix_read.specs.Record.{HasRoom, ReadsRecord}
-use Rattle.ipfix_read.proofs.RecordBytes.{record_shorter, records_shorter}
-use Rattle.ipfix_read.proofs.PackedRecords.{no_record, some_record}
+use Rattle.ipfix_read.proofs.RecordValues.{record_shorter, records_shorter, no_record, some_record}
 use Rattle.ipfix_read.proofs.data_set.skip_records.Goals as goal
 
 pub overflow_sub-result : goal.overflow_sub-result

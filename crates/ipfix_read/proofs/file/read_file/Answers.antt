@@ -8,7 +8,7 @@ use Rattle.ipfix_read.specs.Fault.{out_of_memory}
 use Rattle.ipfix_read.specs.Message.{HasMessageFault, events_of_message}
 use Rattle.ipfix_read.specs.File.{ReadsMessage, HasFileFault}
 use Rattle.ipfix_read.proofs.Sets.{not_empty}
-use Rattle.ipfix_read.proofs.Faults.{no_template}
+use Rattle.ipfix_read.proofs.Readings.{no_template}
 use Rattle.ipfix_read.proofs.file.read_file.Goals as goal
 
 pub loop-rest-init : goal.loop-rest-init
@@ -27,22 +27,19 @@ found c =
           inr (c.loop-rest.messages, (before.0, c.loop-rest.count, c.loop-rest.rest.now), before.1, (some, placed))
     ]
 
-pub returns-in_err-message-clause-fault : goal.returns-in_err-message-clause-fault
-returns-in_err-message-clause-fault c = let p = err_from_is_err_and c.from_residual.result c.from_residual.ensures.1 in rw (p.1, p.2) (found c)
-
-pub returns-in_err-message-clause-template : goal.returns-in_err-message-clause-template
-returns-in_err-message-clause-template c =
-    let p = err_from_is_err_and c.from_residual.result c.from_residual.ensures.1 in
-    rw (p.1, p.2) (elim (found c) [
-      | inl memory ↦ λ e. no_template (sym (ap (λ (f : ReadFault). f.kind) memory) ∙ e)
-      | inr fault ↦ (c.memory_is_no_fault.ensures [] 0 0 c.args.bytes.now _ fault).1
-    ])
-
-pub returns-in_err-message-clause-of_bytes : goal.returns-in_err-message-clause-of_bytes
-returns-in_err-message-clause-of_bytes c =
+pub returns-in_err-message : goal.returns-in_err-message
+returns-in_err-message c =
     let p = err_from_is_err_and c.from_residual.result c.from_residual.ensures.1 in
     let refused = c.in_err-message.ensures.fault in
-    rw (p.1, p.2) refused.0
+    rw (p.1, p.2) (record {
+      ok = tt;
+      fault = found c;
+      template = elim (found c) [
+        | inl memory ↦ λ e. no_template (sym (ap (λ (f : ReadFault). f.kind) memory) ∙ e)
+        | inr fault ↦ (c.memory_is_no_fault.ensures [] 0 0 c.args.bytes.now _ fault).1
+      ];
+      of_bytes = refused.0;
+    })
 
 pub loop-rest-preserved : goal.loop-rest-preserved
 loop-rest-preserved c =

@@ -1,4 +1,4 @@
-use Rattle.ipfix_read.proofs.MessageReadings.{first_and_rest}
+use Rattle.ipfix_read.proofs.Readings.{first_and_rest}
 use Rattle.ipfix_read.proofs.laws.first_message_and_rest.Goals as goal
 
 pub returns : goal.returns

@@ -1,4 +1,4 @@
-use Rattle.ipfix_read.proofs.MessageReadings.{has_reading}
+use Rattle.ipfix_read.proofs.Readings.{has_reading}
 use Rattle.ipfix_read.proofs.laws.has_reading.Goals as goal
 
 pub returns : goal.returns

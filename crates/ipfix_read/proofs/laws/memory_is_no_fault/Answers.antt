@@ -1,4 +1,4 @@
-use Rattle.ipfix_read.proofs.Faults.{memory_is_no_fault}
+use Rattle.ipfix_read.proofs.Readings.{memory_is_no_fault}
 use Rattle.ipfix_read.proofs.laws.memory_is_no_fault.Goals as goal
 
 pub returns : goal.returns

@@ -1,4 +1,4 @@
-use Rattle.ipfix_read.proofs.MessageReadings.{one_reading}
+use Rattle.ipfix_read.proofs.Readings.{one_reading}
 use Rattle.ipfix_read.proofs.laws.one_reading.Goals as goal
 
 pub returns : goal.returns

@@ -1,6 +1,6 @@
 use Rattle.std.proofs.Common.{refl, arith}
 use Rattle.std.proofs.lemmas.Result.{err_from_is_err_and}
-use Rattle.ipfix_read.proofs.Headers.{header_cut, header_none, header_own}
+use Rattle.ipfix_read.proofs.Gathering.{header_cut, header_none, header_own}
 use Rattle.ipfix_read.proofs.message.message_length.Goals as goal
 
 pub returns-in_err-size-clause-fault : goal.returns-in_err-size-clause-fault

@@ -3,8 +3,7 @@ use Rattle.std.proofs.lemmas.Result.{err_from_is_err_and}
 use Rattle.byteorder.specs.Endian.{big_number}
 use Rattle.ipfix_read.specs.Set.{HasSetsFault}
 use Rattle.ipfix_read.specs.Message.{MessageView}
-use Rattle.ipfix_read.proofs.Sets.{refused}
-use Rattle.ipfix_read.proofs.MessageLemmas.{message_read, sets_fault}
+use Rattle.ipfix_read.proofs.Sets.{refused, message_read, sets_fault}
 use Rattle.ipfix_read.proofs.message.whole_message.Goals as goal
 
 pub returns-in_err-sets-clause-fault : goal.returns-in_err-sets-clause-fault

@@ -1,8 +1,5 @@
-use Rattle.std.proofs.Common.{ℕ, List, sym, subst, arith}
-use Rattle.std.proofs.lemmas.List.{append-nil}
-use Rattle.ipfix_templates.specs.declared.event.TemplateEvent.{TemplateEvent}
-use Rattle.ipfix_templates.specs.Table.{Follows}
-use Rattle.ipfix_read.proofs.RecordBytes.{records_shorter}
+use Rattle.std.proofs.Common.{arith}
+use Rattle.ipfix_read.proofs.RecordValues.{records_shorter}
 use Rattle.ipfix_read.proofs.set.read_values_of.Goals as goal
 
 pub returns-in-Ok-clause-size : goal.returns-in-Ok-clause-size

@@ -1,8 +1,7 @@
 use Rattle.std.proofs.Common.{◌≡◌, ◌-◌, ℕ, List, [], length, take, Some, sym, ap, ◌∙◌, arith}
 use Rattle.ipfix_read.specs.Value.{FieldValueView, values_at, whole_values}
 use Rattle.ipfix_templates.proofs.Choice.{mapped}
-use Rattle.ipfix_read.proofs.RecordBytes.{values_shorter}
-use Rattle.ipfix_read.proofs.Cuts.{taken}
+use Rattle.ipfix_read.proofs.RecordValues.{values_shorter, taken}
 use Rattle.ipfix_read.proofs.value.read_values.Goals as goal
 
 -- the values that were read, and that the bytes after them are the rest

@@ -1,6 +1,6 @@
 use Rattle.std.proofs.Common.{ℕ, List, ap, ◌∙◌}
 use Rattle.ipfix_templates.specs.Runs.{last_run_behind}
-use Rattle.ipfix_read.proofs.Cuts.{behind_runs, runs_are}
+use Rattle.ipfix_read.proofs.RecordValues.{behind_runs, runs_are}
 use Rattle.ipfix_read.proofs.value.skip_values.Goals as goal
 
 pub loop-run-init : goal.loop-run-init

@@ -1,7 +1,7 @@
 use Rattle.std.proofs.Common.{◌≡◌, drop}
 use Rattle.ipfix_templates.specs.Runs.{last_run_behind}
 use Rattle.ipfix_read.specs.Value.{values_at}
-use Rattle.ipfix_read.proofs.Cuts.{left, behind_runs}
+use Rattle.ipfix_read.proofs.RecordValues.{left, behind_runs}
 use Rattle.ipfix_read.proofs.value.skip_values.Given as goal
 
 abbrev pub invariant-loop-run : goal.invariant-loop-run

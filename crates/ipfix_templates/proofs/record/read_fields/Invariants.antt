@@ -1,6 +1,6 @@
 use Rattle.std.proofs.Common.{◌≡◌, ◌-◌, length}
 use Rattle.ipfix_templates.specs.Reading.{fields_at}
-use Rattle.ipfix_templates.proofs.Loops.{behind}
+use Rattle.ipfix_templates.proofs.Records.{behind}
 use Rattle.ipfix_templates.proofs.record.read_fields.Given as goal
 
 abbrev pub invariant-loop : goal.invariant-loop

@@ -2,7 +2,7 @@ use Rattle.std.proofs.Common.{◌≡◌, ◌+◌, ◌-◌, ◌∙◌, ℕ, List,
 use Rattle.std.proofs.lemmas.List.{drop_all, drop_more}
 use Rattle.ipfix_templates.specs.declared.field.Field.{Field}
 use Rattle.ipfix_read.specs.Value.{value_at, whole_values}
-use Rattle.ipfix_read.proofs.Cuts.{none_more, none_whole, value_front}
+use Rattle.ipfix_read.proofs.RecordValues.{none_more, none_whole, value_front}
 use Rattle.flow_rows.proofs.Reading.{IsKnown, known_first, known_last, known_more}
 use Rattle.flow_rows.proofs.elements.Elements.of_record.Goals as goal
 

@@ -2,7 +2,7 @@ use Rattle.std.proofs.Common.{◌≡◌, ◌+◌, ◌≤◌, Ok, Err, Some, Opti
 use Rattle.std.specs.Prelude.{OnSome}
 use Rattle.ipfix_read.specs.Message.{MessageView}
 use Rattle.ipfix_read.specs.Messages.{AnswersNext}
-use Rattle.ipfix_read.specs.declared.state.State.TheVariants.{Going}
+use Rattle.ipfix_read.specs.declared.progress.State.TheVariants.{Going}
 use Rattle.label_lookup.specs.Labelling.{labelling_lent}
 use Rattle.flowlabel.specs.Taken.{IsFaultOfMessages}
 use Rattle.flowlabel.proofs.LoadingLemmas.{passed_on}

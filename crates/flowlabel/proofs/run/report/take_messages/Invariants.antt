@@ -1,6 +1,6 @@
 -- The state of the report is that after the messages that are read so far.
 use Rattle.std.proofs.Common.{◌≡◌, ◌-◌, false}
-use Rattle.ipfix_read.specs.declared.state.State.TheVariants.{Going}
+use Rattle.ipfix_read.specs.declared.progress.State.TheVariants.{Going}
 use Rattle.label_lookup.specs.Labelling.{labelling_lent}
 use Rattle.flowlabel.proofs.TakenLemmas.{Held}
 use Rattle.flowlabel.proofs.run.report.take_messages.Given as goal

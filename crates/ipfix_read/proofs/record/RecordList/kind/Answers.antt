@@ -1,6 +1,6 @@
 use Rattle.std.proofs.Common.{◌≡◌, All, List, subst}
 use Rattle.ipfix_read.specs.declared.record.Record.{Record}
-use Rattle.ipfix_read.proofs.PackedRecords.{packed_of_kind}
+use Rattle.ipfix_read.proofs.RecordValues.{packed_of_kind}
 use Rattle.ipfix_read.proofs.record.RecordList.kind.Goals as goal
 
 pub returns : goal.returns

@@ -1,7 +1,7 @@
 use Rattle.std.proofs.Common.{◌≡◌, ◌∙◌, List, [], Some, map, sym, ap}
 use Rattle.ipfix_templates.specs.declared.field.Field.{Field}
 use Rattle.ipfix_read.specs.Value.{FieldValueView, values_at}
-use Rattle.ipfix_read.proofs.PackedRecords.{fields_are}
+use Rattle.ipfix_read.proofs.RecordValues.{fields_are}
 use Rattle.ipfix_read.proofs.value.FieldValues.bytes.Goals as goal
 
 pub returns : goal.returns

@@ -1,5 +1,5 @@
 use Rattle.std.proofs.Common.{sym, ap, length, ◌∙◌}
-use Rattle.ipfix_read.proofs.PackedRecords.{as_many}
+use Rattle.ipfix_read.proofs.RecordValues.{as_many}
 use Rattle.ipfix_read.proofs.value.FieldValues.len.Goals as goal
 
 pub returns : goal.returns

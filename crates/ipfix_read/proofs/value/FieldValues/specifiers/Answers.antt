@@ -1,6 +1,6 @@
 use Rattle.std.proofs.Common.{◌∙◌, List, map, sym, ap}
 use Rattle.ipfix_read.specs.Value.{FieldValueView}
-use Rattle.ipfix_read.proofs.PackedRecords.{fields_are}
+use Rattle.ipfix_read.proofs.RecordValues.{fields_are}
 use Rattle.ipfix_read.proofs.value.FieldValues.specifiers.Goals as goal
 
 pub returns : goal.returns

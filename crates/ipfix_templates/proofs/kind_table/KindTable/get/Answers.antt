@@ -1,8 +1,7 @@
 use Rattle.std.proofs.Common.{ℕ, List, sym, ap, ◌∙◌}
 use Rattle.ipfix_templates.specs.Template.{TemplateView}
 use Rattle.ipfix_templates.specs.Table.{template_at}
-use Rattle.ipfix_templates.proofs.Order.{apart, at_number}
-use Rattle.ipfix_templates.proofs.Parts.{found, found_at}
+use Rattle.ipfix_templates.proofs.Parts.{apart, at_number, found, found_at}
 use Rattle.ipfix_templates.proofs.kind_table.KindTable.get.Goals as goal
 
 pub returns-in_err-get : goal.returns-in_err-get

@@ -1,8 +1,7 @@
 use Rattle.std.proofs.Common.{ℕ, List, None, cond, nat_eq, ap, ◌∙◌}
 use Rattle.ipfix_templates.specs.Template.{TemplateView}
 use Rattle.ipfix_templates.specs.Table.{template_at}
-use Rattle.ipfix_templates.proofs.Order.{apart, by_number}
-use Rattle.ipfix_templates.proofs.Parts.{dropped}
+use Rattle.ipfix_templates.proofs.Parts.{apart, by_number, dropped}
 use Rattle.ipfix_templates.proofs.kind_table.KindTable.remove_all.Goals as goal
 
 pub returns : goal.returns

@@ -1,19 +1,19 @@
 use Rattle.std.proofs.Common.{None, ◌++◌}
 use Rattle.ipfix_templates.specs.Table.{ChangesAt}
-use Rattle.ipfix_templates.proofs.Parts.{options_put, removed_parted, from_view}
-use Rattle.ipfix_templates.proofs.Tables.{follows_withdraw, keyed_removed}
+use Rattle.ipfix_templates.proofs.Parts.{put, parted, from_view}
+use Rattle.ipfix_templates.proofs.History.{follows_withdraw, keyed_removed}
 use Rattle.ipfix_templates.proofs.table.TemplateTable.withdraw.Goals as goal
 use Rattle.ipfix_templates.proofs.table.TemplateTable.withdraw.Goals.{After-remove-2}
 
 inside : (c : After-remove-2) → ChangesAt (c.self.inside.flow ++ c.self.inside.options) (c.remove.new.self ++ c.remove-2.new.self) c.args.domain c.args.id None
-inside c = options_put c.self.inside.flow c.remove.new.self c.self.inside.options c.remove-2.new.self c.args.domain c.args.id None c.remove.ensures c.remove-2.ensures
+inside c = put c.self.inside.flow c.remove.new.self c.self.inside.options c.remove-2.new.self c.args.domain c.args.id None None c.remove.ensures c.remove-2.ensures
 
 changes : (c : After-remove-2) → ChangesAt c.args.self.now (c.remove.new.self ++ c.remove-2.new.self) c.args.domain c.args.id None
 changes c = from_view _ c.args.self.now _ c.args.domain c.args.id None c.self.view_is (inside c)
 
 pub invariant_of-self : goal.invariant_of-self
 invariant_of-self c = (
-  removed_parted c.self.inside.flow c.remove.new.self c.self.inside.options c.remove-2.new.self c.args.domain c.args.id c.remove.ensures c.remove-2.ensures c.self.invariant.0,
+  parted c.self.inside.flow c.remove.new.self c.self.inside.options c.remove-2.new.self c.args.domain c.args.id None None c.remove.ensures c.remove-2.ensures tt c.self.invariant.0,
   keyed_removed _ _ c.args.domain c.args.id (inside c) c.self.invariant.1,
 )
 

@@ -2,7 +2,7 @@ use Rattle.std.proofs.Common.{ℕ, List, ◌++◌, subst}
 use Rattle.ipfix_templates.specs.Template.{TemplateView}
 use Rattle.ipfix_templates.specs.Table.{DropsKind}
 use Rattle.ipfix_templates.proofs.Parts.{flow_dropped, options_dropped, flow_dropped_parted, options_dropped_parted}
-use Rattle.ipfix_templates.proofs.Tables.{follows_withdraw_all, keyed_dropped}
+use Rattle.ipfix_templates.proofs.History.{follows_withdraw_all, keyed_dropped}
 use Rattle.ipfix_templates.proofs.table.TemplateTable.withdraw_all.Goals as goal
 
 flow_inside : (c : goal.After-remove_all) → DropsKind (c.self.inside.flow ++ c.self.inside.options) (c.remove_all.new.self ++ c.self.inside.options) c.args.domain c.args.kind

@@ -1,0 +1,458 @@
+-- The values at the start of bytes, and the bytes that they take.
+use Rattle.std.proofs.Common.{◌≡◌, ℕ, ◌+◌, ◌-◌, ◌<◌, ◌≤◌, Bool, true, false, not, cond, ltb, eqb, List, [], ◌∷◌, ◌++◌, length, take, drop, Option, Some, None, inl, inr, refl, sym, ap, subst, ◌∙◌, append_assoc, take-append-drop, length-append, length-drop, drop-drop, arith, zero, suc, ◌*◌, ◌/◌, All, map, is_some}
+use Rattle.std.specs.Prelude.{filter, option_and_then, option_map}
+use Rattle.std.specs.Option.{option_map_or}
+use Rattle.std.proofs.lemmas.Bool.{ltb-true, ltb-false, lt-ltb, le-ltb, eqb-true}
+use Rattle.std.proofs.lemmas.List.{append-nil, take_at, drop_at, length-take-le, length-map}
+use Rattle.byteorder.specs.Endian.{big_number}
+use Rattle.ipfix_templates.specs.declared.field.Field.{Field}
+use Rattle.ipfix_templates.specs.Field.{has_bytes, is_variable, least_field_length, least_length}
+use Rattle.ipfix_templates.specs.Runs.{runs_behind, last_run_behind}
+use Rattle.ipfix_read.specs.Value.{FieldValueView, bytes_at, variable_at, value_at, values_at, whole_values}
+use Rattle.ipfix_templates.proofs.Choice.{chosen, gave, some_is, mapped}
+use Rattle.std.proofs.lemmas.List.Sums.{sum_by-cons}
+use Rattle.ipfix_templates.specs.Template.{TemplateView}
+use Rattle.ipfix_read.specs.declared.record.Record.{Record}
+use Rattle.ipfix_read.specs.Record.{record_at, ReadsRecord, ReadsRecords, HasRecord}
+use Rattle.ipfix_templates.proofs.Reading.{reads_shorter}
+use Rattle.std.proofs.Math.Nat.{add-mul, le-div_iff_mul-le, suc-mul}
+use Rattle.std.proofs.lemmas.List.Elements.{All-cons, All-nil}
+use Rattle.ipfix_templates.specs.declared.kind.Kind.{Kind}
+use Rattle.ipfix_read.specs.WholeRecords.{packed_records, whole_records}
+
+-- the value that was read is at the start, and is read in the same way whatever follows it
+abbrev pub Front : {A : Type 0} → (List ℕ → Option (A × List ℕ)) → List ℕ → A × List ℕ → Type 0
+Front read bytes x = (front : List ℕ) × (bytes ≡ front ++ x.1) × ((more : List ℕ) → read (front ++ more) ≡ Some (x.0, more))
+
+at_front : (count : ℕ) (front more : List ℕ) → length front ≡ count → bytes_at count (front ++ more) ≡ Some (front, more)
+at_front count front more e =
+    rw (le-ltb (length (front ++ more)) count (omega (arith, length-append front more, e)), take_at front more count e, drop_at front more count e) refl
+
+bytes_front : (count : ℕ) (bytes : List ℕ) (x : List ℕ × List ℕ) → bytes_at count bytes ≡ Some x → Front (bytes_at count) bytes x
+bytes_front count bytes x e =
+    elim (chosen (ltb (length bytes) count) None _ (Some x) e) [
+      | inl p ↦ absurd (cc)
+      | inr p ↦
+          let long = length-take-le count bytes (ltb-false (length bytes) count p.0) in
+          subst (λ (y : List ℕ × List ℕ). Front (bytes_at count) bytes y) (some_is _ _ p.1) (take count bytes, sym (take-append-drop count bytes), λ more. at_front count (take count bytes) more long)
+    ]
+
+-- a length in two bytes, and the value
+abbrev long_at : List ℕ → Option (List ℕ × List ℕ)
+long_at bytes = cond (ltb (length bytes) 2) None (bytes_at (big_number 2 bytes) (drop 2 bytes))
+
+long_front : (bytes : List ℕ) (x : List ℕ × List ℕ) → long_at bytes ≡ Some x → Front long_at bytes x
+long_front [] x e = absurd (cc)
+long_front (a ∷ []) x e = absurd (cc)
+long_front (a ∷ b ∷ bytes) x e =
+    let size = big_number 2 (a ∷ b ∷ []) in
+    let short : (more : List ℕ) → long_at (a ∷ b ∷ more) ≡ bytes_at size more =
+    λ more. ap (λ (c : Bool). cond c None (bytes_at size more)) (le-ltb (length (a ∷ b ∷ more)) 2 (omega arith)) in
+    let f = bytes_front size bytes x (sym (short bytes) ∙ e) in
+    (a ∷ b ∷ f.0, ap (λ (ys : List ℕ). a ∷ b ∷ ys) f.1, λ more. short (f.0 ++ more) ∙ f.2 more)
+
+variable_front : (bytes : List ℕ) (x : List ℕ × List ℕ) → variable_at bytes ≡ Some x → Front variable_at bytes x
+variable_front [] x e = absurd (cc)
+variable_front (first ∷ bytes) x e =
+    elim (chosen (ltb first 255) (bytes_at first bytes) _ (Some x) e) [
+      | inl p ↦ let f = bytes_front first bytes x p.1 in (first ∷ f.0, ap (λ (ys : List ℕ). first ∷ ys) f.1, λ more. rw p.0 (f.2 more))
+      | inr p ↦ let f = long_front bytes x p.1 in (first ∷ f.0, ap (λ (ys : List ℕ). first ∷ ys) f.1, λ more. rw p.0 (f.2 more))
+    ]
+
+pub value_front : (field : Field) (bytes : List ℕ) (x : List ℕ × List ℕ) → value_at field bytes ≡ Some x → Front (value_at field) bytes x
+unfolding value_at
+value_front field bytes x e =
+    elim (eqb field.length 65535) as (λ b. cond b (variable_at bytes) (bytes_at field.length bytes) ≡ Some x → Front (λ bs. cond b (variable_at bs) (bytes_at field.length bs)) bytes x) [
+      | true ↦ λ p. variable_front bytes x p
+      | false ↦ λ p. bytes_front field.length bytes x p
+    ] e
+
+pub values_front : (fields : List Field) (bytes : List ℕ) (x : List FieldValueView × List ℕ) → values_at fields bytes ≡ Some x → Front (values_at fields) bytes x
+unfolding values_at
+values_front [] bytes x e = subst (λ (y : List FieldValueView × List ℕ). Front (values_at []) bytes y) (some_is ([], bytes) x e) ([], refl, λ more. refl)
+values_front (field ∷ fields) bytes x e =
+    let a = gave (value_at field bytes) (λ v. option_and_then (λ vs. Some (record { field = field; value = v.0 } ∷ vs.0, vs.1)) (values_at fields v.1)) x e in
+    let b = gave (values_at fields a.0.1) (λ vs. Some (record { field = field; value = a.0.0 } ∷ vs.0, vs.1)) x a.2 in
+    let f = value_front field bytes a.0 a.1 in
+    let g = values_front fields a.0.1 b.0 b.1 in
+    subst (λ (y : List FieldValueView × List ℕ). Front (values_at (field ∷ fields)) bytes y) (some_is _ _ b.2) (
+      f.0 ++ g.0,
+      f.1 ∙ ap (λ (ys : List ℕ). f.0 ++ ys) g.1 ∙ sym (append_assoc f.0 g.0 b.0.1),
+      λ more. rw (append_assoc f.0 g.0 more, f.2 (g.0 ++ more), g.2 more) refl,
+    )
+
+whole_step : (field : Field) (fields : List Field) (bytes : List ℕ) (v : List ℕ × List ℕ) → value_at field bytes ≡ Some v
+    → whole_values (field ∷ fields) bytes ≡ record { field = field; value = v.0 } ∷ whole_values fields v.1
+unfolding whole_values
+whole_step field fields bytes v e = rw e refl
+
+pub whole_is : (fields : List Field) (bytes : List ℕ) (x : List FieldValueView × List ℕ) → values_at fields bytes ≡ Some x → whole_values fields bytes ≡ x.0
+unfolding values_at whole_values
+whole_is [] bytes x e = ap (λ (y : List FieldValueView × List ℕ). y.0) (some_is ([], bytes) x e)
+whole_is (field ∷ fields) bytes x e =
+    let a = gave (value_at field bytes) (λ v. option_and_then (λ vs. Some (record { field = field; value = v.0 } ∷ vs.0, vs.1)) (values_at fields v.1)) x e in
+    let b = gave (values_at fields a.0.1) (λ vs. Some (record { field = field; value = a.0.0 } ∷ vs.0, vs.1)) x a.2 in
+    whole_step field fields bytes a.0 a.1 ∙ ap (λ (vs : List FieldValueView). record { field = field; value = a.0.0 } ∷ vs) (whole_is fields a.0.1 b.0 b.1)
+    ∙ ap (λ (y : List FieldValueView × List ℕ). y.0) (some_is _ _ b.2)
+
+-- the bytes before the remaining ones are those of the values
+pub taken : (fields : List Field) (bytes : List ℕ) (x : List FieldValueView × List ℕ) (n : ℕ) → values_at fields bytes ≡ Some x → n ≡ length bytes - length x.1
+    → (values_at fields (take n bytes) ≡ Some (whole_values fields (take n bytes), [])) × (whole_values fields (take n bytes) ≡ x.0)
+taken fields bytes x n e is =
+    let f = values_front fields bytes x e in
+    let front : take n bytes ≡ f.0 = ap (take n) f.1 ∙ take_at f.0 x.1 n (omega (arith, is, ap length f.1, length-append f.0 x.1)) in
+    let read : values_at fields (take n bytes) ≡ Some (x.0, []) = ap (values_at fields) (front ∙ sym (append-nil f.0)) ∙ f.2 [] in
+    let whole = whole_is fields (take n bytes) (x.0, []) read in
+    (read ∙ ap (λ (vs : List FieldValueView). Some (vs, [])) (sym whole), whole)
+
+-- ---- the bytes after values, run by run
+
+-- the remaining bytes of a reading
+abbrev pub left : Option (List FieldValueView × List ℕ) → Option (List ℕ)
+left read = option_map (λ x. x.1) read
+
+-- the remaining bytes after runs of bytes, each followed by a variable value, and a last run
+abbrev pub behind_runs : List ℕ → ℕ → List ℕ → Option (List ℕ)
+behind_runs [] last bytes = option_map (λ f. f.1) (bytes_at last bytes)
+behind_runs (n ∷ ns) last bytes = option_and_then (λ f. option_and_then (λ v. behind_runs ns last v.1) (variable_at f.1)) (bytes_at n bytes)
+
+then_alike : {A B : Type 0} (o : Option A) (f g : A → Option B) → ((x : A) → f x ≡ g x) → option_and_then f o ≡ option_and_then g o
+then_alike None f g alike = refl
+then_alike (Some x) f g alike = alike x
+
+then_left : (o : Option (List ℕ × List ℕ)) → option_map (λ f. f.1) o ≡ option_and_then (λ f. Some f.1) o
+then_left None = refl
+then_left (Some x) = refl
+
+left_step : (v : FieldValueView) (read : Option (List FieldValueView × List ℕ)) → left (option_and_then (λ vs. Some (v ∷ vs.0, vs.1)) read) ≡ left read
+left_step v None = refl
+left_step v (Some x) = refl
+
+-- the bytes after the value of a field, and those after the fields that follow it
+left_first : (field : Field) (fields : List Field) (read : Option (List ℕ × List ℕ))
+    → left (option_and_then (λ v. option_and_then (λ vs. Some (record { field = field; value = v.0 } ∷ vs.0, vs.1)) (values_at fields v.1)) read)
+    ≡ option_and_then (λ v. left (values_at fields v.1)) read
+left_first field fields None = refl
+left_first field fields (Some v) = left_step (record { field = field; value = v.0 }) (values_at fields v.1)
+
+left_cons : (field : Field) (fields : List Field) (bytes : List ℕ) → left (values_at (field ∷ fields) bytes) ≡ option_and_then (λ v. left (values_at fields v.1)) (value_at field bytes)
+unfolding values_at
+left_cons field fields bytes = left_first field fields (value_at field bytes)
+
+variable_is : (field : Field) (bytes : List ℕ) → is_variable field ≡ true → value_at field bytes ≡ variable_at bytes
+unfolding value_at
+variable_is field bytes is = rw is refl
+
+fixed_is : (field : Field) (bytes : List ℕ) → is_variable field ≡ false → value_at field bytes ≡ bytes_at field.length bytes
+unfolding value_at
+fixed_is field bytes is = rw is refl
+
+-- no bytes, followed by the next step
+no_bytes_first : (next : List ℕ → Option (List ℕ)) (bytes : List ℕ) → option_and_then (λ f. next f.1) (bytes_at 0 bytes) ≡ next bytes
+no_bytes_first next bytes = rw (le-ltb (length bytes) 0 (omega arith)) refl
+
+below_alike : (n a b : ℕ) → a ≤ n → ltb (n - a) b ≡ ltb n (a + b)
+below_alike n a b le =
+    elim (ltb n (a + b)) as (λ c. ltb n (a + b) ≡ c → ltb (n - a) b ≡ c) [
+      | true ↦ λ h. lt-ltb (n - a) b (omega (arith, ltb-true n (a + b) h))
+      | false ↦ λ h. le-ltb (n - a) b (omega (arith, ltb-false n (a + b) h))
+    ] refl
+
+-- the step after the given number of bytes
+abbrev then_next : (List ℕ → Option (List ℕ)) → Option (List ℕ × List ℕ) → Option (List ℕ)
+then_next next read = option_and_then (λ f. next f.1) read
+
+cut_alike : (next : List ℕ → Option (List ℕ)) (short : Bool) (front other after : List ℕ)
+    → then_next next (cond short None (Some (front, after))) ≡ then_next next (cond short None (Some (other, after)))
+cut_alike next true front other after = refl
+cut_alike next false front other after = refl
+
+-- two runs of bytes, followed by the next step
+both_first : (next : List ℕ → Option (List ℕ)) (a b : ℕ) (bytes : List ℕ)
+    → option_and_then (λ f. then_next next (bytes_at b f.1)) (bytes_at a bytes) ≡ then_next next (bytes_at (a + b) bytes)
+both_first next a b bytes =
+    elim (ltb (length bytes) a) as (λ c. ltb (length bytes) a ≡ c
+    → option_and_then (λ (f : List ℕ × List ℕ). then_next next (bytes_at b f.1)) (cond {A = Option (List ℕ × List ℕ)} c None (Some (take a bytes, drop a bytes))) ≡ then_next next (bytes_at (a + b) bytes)) [
+      | true ↦ λ h.
+          let short : length bytes < a = ltb-true (length bytes) a h in
+          rw (lt-ltb (length bytes) (a + b) (omega arith)) refl
+      | false ↦ λ h.
+          let long : a ≤ length bytes = ltb-false (length bytes) a h in
+          rw (length-drop a bytes, below_alike (length bytes) a b long, drop-drop b a bytes)
+          (cut_alike next (ltb (length bytes) (a + b)) (take b (drop a bytes)) (take (a + b) bytes) (drop (a + b) bytes))
+    ] refl
+
+-- the runs of fields lead to the bytes after the fields' values
+runs_behind_lem : (sum : ℕ) (fields : List Field) (bytes : List ℕ)
+    → behind_runs (runs_behind sum fields) (last_run_behind sum fields) bytes ≡ option_and_then (λ f. left (values_at fields f.1)) (bytes_at sum bytes)
+unfolding values_at
+runs_behind_lem sum [] bytes = then_left (bytes_at sum bytes)
+runs_behind_lem sum (field ∷ fields) bytes =
+    elim (is_variable field) as (λ c. is_variable field ≡ c
+    → behind_runs (cond c (sum ∷ runs_behind 0 fields) (runs_behind (sum + field.length) fields)) (cond c (last_run_behind 0 fields) (last_run_behind (sum + field.length) fields)) bytes
+    ≡ option_and_then (λ f. left (values_at (field ∷ fields) f.1)) (bytes_at sum bytes)) [
+      | true ↦ λ is. then_alike (bytes_at sum bytes) _ _ (λ f.
+          then_alike (variable_at f.1) _ _ (λ v. runs_behind_lem 0 fields v.1 ∙ no_bytes_first (λ bs. left (values_at fields bs)) v.1)
+          ∙ sym (left_cons field fields f.1 ∙ ap (λ (o : Option (List ℕ × List ℕ)). option_and_then (λ v. left (values_at fields v.1)) o) (variable_is field f.1 is)))
+      | false ↦ λ is.
+          runs_behind_lem (sum + field.length) fields bytes
+          ∙ sym (both_first (λ bs. left (values_at fields bs)) sum field.length bytes)
+          ∙ then_alike (bytes_at sum bytes) _ _ (λ f.
+          sym (left_cons field fields f.1 ∙ ap (λ (o : Option (List ℕ × List ℕ)). option_and_then (λ v. left (values_at fields v.1)) o) (fixed_is field f.1 is)))
+    ] refl
+
+pub runs_are : (fields : List Field) (bytes : List ℕ) → behind_runs (runs_behind 0 fields) (last_run_behind 0 fields) bytes ≡ left (values_at fields bytes)
+runs_are fields bytes = runs_behind_lem 0 fields bytes ∙ no_bytes_first (λ bs. left (values_at fields bs)) bytes
+
+-- ---- the values one by one
+
+pub none_whole : (fields : List Field) (bytes : List ℕ) → length fields ≡ 0 → whole_values fields bytes ≡ []
+unfolding whole_values
+none_whole [] bytes e = refl
+none_whole (field ∷ fields) bytes e = absurd (omega (arith, e))
+
+pub none_more : (field : Field) (fields : List Field) (bytes : List ℕ) → None ≡ value_at field bytes → whole_values (field ∷ fields) bytes ≡ []
+unfolding whole_values
+none_more field fields bytes e = rw (← e) refl
+
+-- ---- the values of fields that take bytes
+
+abbrev pub values_with_bytes : List FieldValueView → List FieldValueView
+values_with_bytes values = filter (λ v. has_bytes v.field) values
+
+nothing_is : (field : Field) (bytes : List ℕ) → field.length ≡ 0 → value_at field bytes ≡ Some ([], bytes)
+unfolding value_at
+nothing_is field bytes none = rw (none, le-ltb (length bytes) 0 (omega arith)) refl
+
+kept_step : (field : Field) (fields : List Field) (read : Option (List ℕ × List ℕ)) → has_bytes field ≡ true
+    → ((bytes : List ℕ) → whole_values (filter has_bytes fields) bytes ≡ values_with_bytes (whole_values fields bytes))
+    → option_map_or (λ v. record { field = field; value = v.0 } ∷ whole_values (filter has_bytes fields) v.1) read []
+    ≡ values_with_bytes (option_map_or (λ v. record { field = field; value = v.0 } ∷ whole_values fields v.1) read [])
+kept_step field fields None has rest = refl
+kept_step field fields (Some v) has rest = rw has (ap (λ (vs : List FieldValueView). record { field = field; value = v.0 } ∷ vs) (rest v.1))
+
+pub filled_values : (fields : List Field) (bytes : List ℕ) → whole_values (filter has_bytes fields) bytes ≡ values_with_bytes (whole_values fields bytes)
+unfolding whole_values
+filled_values [] bytes = refl
+filled_values (field ∷ fields) bytes =
+    elim (eqb field.length 0) as (λ c. eqb field.length 0 ≡ c → whole_values (cond (not c) (field ∷ filter has_bytes fields) (filter has_bytes fields)) bytes ≡ values_with_bytes (whole_values (field ∷ fields) bytes)) [
+      | true ↦ λ is.
+          let skips : values_with_bytes (whole_values (field ∷ fields) bytes) ≡ values_with_bytes (whole_values fields bytes) = rw (nothing_is field bytes (eqb-true field.length 0 is), is) refl in
+          filled_values fields bytes ∙ sym skips
+      | false ↦ λ is. kept_step field fields (value_at field bytes) (ap not is) (filled_values fields)
+    ] refl
+
+-- ---- the bytes that a data record takes
+
+bytes_shorter : (count : ℕ) (bytes : List ℕ) (x : List ℕ × List ℕ) → bytes_at count bytes ≡ Some x → length x.1 + count ≤ length bytes
+bytes_shorter count bytes x e =
+    elim (chosen (ltb (length bytes) count) None _ (Some x) e) [
+      | inl p ↦ absurd (cc)
+      | inr p ↦ omega (arith, ltb-false (length bytes) count p.0, length-drop count bytes, ap (λ (y : List ℕ × List ℕ). length y.1) (some_is _ _ p.1))
+    ]
+
+variable_shorter : (bytes : List ℕ) (x : List ℕ × List ℕ) → variable_at bytes ≡ Some x → length x.1 + 1 ≤ length bytes
+variable_shorter [] x e = absurd (cc)
+variable_shorter (first ∷ bytes) x e =
+    elim (chosen (ltb first 255) (bytes_at first bytes) _ (Some x) e) [
+      | inl p ↦ omega (arith, bytes_shorter first bytes x p.1)
+      | inr p ↦
+          elim (chosen (ltb (length bytes) 2) None _ (Some x) p.1) [
+            | inl q ↦ absurd (cc)
+            | inr q ↦ omega (arith, bytes_shorter (big_number 2 bytes) (drop 2 bytes) x q.1, length-drop 2 bytes)
+          ]
+    ]
+
+value_shorter : (field : Field) (bytes : List ℕ) (x : List ℕ × List ℕ) → value_at field bytes ≡ Some x → length x.1 + least_field_length field ≤ length bytes
+unfolding value_at
+value_shorter field bytes x e =
+    elim (eqb field.length 65535) as (λ b. cond b (variable_at bytes) (bytes_at field.length bytes) ≡ Some x → length x.1 + cond b 1 field.length ≤ length bytes) [
+      | true ↦ λ p. variable_shorter bytes x p
+      | false ↦ λ p. bytes_shorter field.length bytes x p
+    ] e
+
+-- a record takes at least its template's least length
+pub values_shorter : (fields : List Field) (bytes : List ℕ) (x : List FieldValueView × List ℕ) → values_at fields bytes ≡ Some x → length x.1 + least_length fields ≤ length bytes
+unfolding values_at
+values_shorter [] bytes x e = omega (arith, ap (λ (y : List FieldValueView × List ℕ). length y.1) (some_is ([], bytes) x e))
+values_shorter (field ∷ fields) bytes x e =
+    let a = gave (value_at field bytes) (λ v. option_and_then (λ vs. Some (record { field = field; value = v.0 } ∷ vs.0, vs.1)) (values_at fields v.1)) x e in
+    let b = gave (values_at fields a.0.1) (λ vs. Some (record { field = field; value = a.0.0 } ∷ vs.0, vs.1)) x a.2 in
+    omega (arith, sum_by-cons least_field_length field fields, value_shorter field bytes a.0 a.1, values_shorter fields a.0.1 b.0 b.1, ap (λ (y : List FieldValueView × List ℕ). length y.1) (some_is _ _ b.2))
+
+pub record_shorter : (t : TemplateView) (bytes : List ℕ) (x : Record × List ℕ) → record_at t bytes ≡ Some x → length x.1 + least_length t.fields ≤ length bytes
+record_shorter t bytes x e =
+    let a = mapped (values_at t.fields bytes) (λ v. (record { kind = t.kind; fields = v.0 }, v.1)) x e in
+    omega (arith, values_shorter t.fields bytes a.0 a.1, ap (λ (y : Record × List ℕ). length y.1) a.2)
+
+-- records take at least one byte each
+pub records_shorter : (t : TemplateView) (bytes : List ℕ) (records : List Record) (rest : List ℕ) → ReadsRecords t bytes records rest → length records + length rest ≤ length bytes
+records_shorter t bytes records rest read =
+    omega (arith, reads_shorter (ReadsRecord t) length 1 (λ s r after h. let has = h.0 in omega (arith, has.0, record_shorter t s (r, after) h.1)) bytes records rest read)
+
+-- ---- records that are stored as their bytes, their fields and their number
+
+-- the fields of values are those by which they were read
+pub fields_are : (fields : List Field) (bytes : List ℕ) (x : List FieldValueView × List ℕ) → values_at fields bytes ≡ Some x → map (λ v. v.field) x.0 ≡ fields
+unfolding values_at
+fields_are [] bytes x e = sym (ap (λ (y : List FieldValueView × List ℕ). map (λ v. v.field) y.0) (some_is ([], bytes) x e))
+fields_are (field ∷ fields) bytes x e =
+    let a = gave (value_at field bytes) (λ v. option_and_then (λ vs. Some (record { field = field; value = v.0 } ∷ vs.0, vs.1)) (values_at fields v.1)) x e in
+    let b = gave (values_at fields a.0.1) (λ vs. Some (record { field = field; value = a.0.0 } ∷ vs.0, vs.1)) x a.2 in
+    sym (ap (λ (y : List FieldValueView × List ℕ). map (λ v. v.field) y.0) (some_is _ _ b.2))
+    ∙ ap (λ (fs : List Field). field ∷ fs) (fields_are fields a.0.1 b.0 b.1)
+
+-- a value for each field
+pub as_many : (fields : List Field) (bytes : List ℕ) (x : List FieldValueView × List ℕ) → values_at fields bytes ≡ Some x → length x.0 ≡ length fields
+as_many fields bytes x e = sym (length-map x.0 (λ v. v.field)) ∙ ap length (fields_are fields bytes x e)
+
+-- ---- consecutive records
+
+none_first : (kind : Kind) (fields : List Field) (count : ℕ) (bytes : List ℕ) → values_at fields bytes ≡ None → whole_records kind fields count bytes ≡ []
+unfolding whole_records
+none_first kind fields zero bytes e = refl
+none_first kind fields (suc count) bytes e = rw e refl
+
+some_first : (kind : Kind) (fields : List Field) (count : ℕ) (bytes : List ℕ) (x : List FieldValueView × List ℕ) → values_at fields bytes ≡ Some x
+    → whole_records kind fields (suc count) bytes ≡ record { kind = kind; fields = x.0 } ∷ whole_records kind fields count x.1
+unfolding whole_records
+some_first kind fields count bytes x e = rw e refl
+
+no_count : (kind : Kind) (fields : List Field) (bytes : List ℕ) → whole_records kind fields zero bytes ≡ []
+unfolding whole_records
+no_count kind fields bytes = refl
+
+-- what is true of each complete record is true of all
+all_of : (P : Record → Type 0) (kind : Kind) (fields : List Field) → ((bytes : List ℕ) (x : List FieldValueView × List ℕ) → values_at fields bytes ≡ Some x → P (record { kind = kind; fields = x.0 }))
+    → (count : ℕ) (bytes : List ℕ) → All P (whole_records kind fields count bytes)
+all_of P kind fields each zero bytes = rw (no_count kind fields bytes) (All-nil P)
+all_of P kind fields each (suc count) bytes =
+    elim (values_at fields bytes) as (λ o. values_at fields bytes ≡ o → All P (whole_records kind fields (suc count) bytes)) [
+      | None ↦ λ e. rw (none_first kind fields (suc count) bytes e) (All-nil P)
+      | Some x ↦ λ e. rw (some_first kind fields count bytes x e)
+          (All-cons P (record { kind = kind; fields = x.0 }) (whole_records kind fields count x.1) (each bytes x e) (all_of P kind fields each count x.1))
+    ] refl
+
+pub all_of_fields : (kind : Kind) (fields : List Field) (count : ℕ) (bytes : List ℕ) → All (λ r. map (λ v. v.field) r.fields ≡ fields) (whole_records kind fields count bytes)
+all_of_fields kind fields = all_of (λ r. map (λ v. v.field) r.fields ≡ fields) kind fields (fields_are fields)
+
+pub packed_of_kind : (kind : Kind) (fields : Option (List Field)) (count : ℕ) (bytes : List ℕ) → All (λ r. r.kind ≡ kind) (packed_records kind fields count bytes)
+packed_of_kind kind None count bytes = All-nil (λ (r : Record). r.kind ≡ kind)
+packed_of_kind kind (Some fields) count bytes = all_of (λ r. r.kind ≡ kind) kind fields (λ _ _ _. refl) count bytes
+
+-- ---- records as they are read from a set
+
+-- the record at the start has the values at the start
+record_is : (t : TemplateView) (bytes : List ℕ) (x : List FieldValueView × List ℕ) → values_at t.fields bytes ≡ Some x → record_at t bytes ≡ Some (record { kind = t.kind; fields = x.0 }, x.1)
+record_is t bytes x e = ap (option_map (λ v. (record { kind = t.kind; fields = v.0 }, v.1))) e
+
+-- a record that is read consists of its values
+values_of : (t : TemplateView) (bytes after : List ℕ) (r : Record) → record_at t bytes ≡ Some (r, after) → (x : List FieldValueView × List ℕ) × (values_at t.fields bytes ≡ Some x) × (r ≡ record { kind = t.kind; fields = x.0 }) × (after ≡ x.1)
+values_of t bytes after r e =
+    let m = mapped (values_at t.fields bytes) (λ v. (record { kind = t.kind; fields = v.0 }, v.1)) (r, after) e in
+    (m.0, m.1, ap (λ (y : Record × List ℕ). y.0) (sym m.2), ap (λ (y : Record × List ℕ). y.1) (sym m.2))
+
+-- the records that are read are at the start, and are read in the same way whatever follows them
+reads_front : (t : TemplateView) (bytes : List ℕ) (records : List Record) (rest : List ℕ) → ReadsRecords t bytes records rest
+    → (front : List ℕ) × (bytes ≡ front ++ rest) × ((more : List ℕ) → whole_records t.kind t.fields (length records) (front ++ more) ≡ records)
+reads_front t bytes [] rest done = ([], done, λ more. no_count t.kind t.fields more)
+reads_front t bytes (r ∷ rs) rest done =
+    let one = done.1 in
+    let v = values_of t bytes done.0 r one.1 in
+    let f = values_front t.fields bytes v.0 v.1 in
+    let g = reads_front t done.0 rs rest done.2 in (
+      f.0 ++ g.0,
+      f.1 ∙ ap (λ (ys : List ℕ). f.0 ++ ys) (sym v.3 ∙ g.1) ∙ sym (append_assoc f.0 g.0 rest),
+      λ more.
+          ap (λ (ys : List ℕ). whole_records t.kind t.fields (suc (length rs)) ys) (append_assoc f.0 g.0 more)
+          ∙ some_first t.kind t.fields (length rs) (f.0 ++ (g.0 ++ more)) (v.0.0, g.0 ++ more) (f.2 (g.0 ++ more))
+          ∙ ap (λ (ys : List Record). record { kind = t.kind; fields = v.0.0 } ∷ ys) (g.2 more)
+          ∙ ap (λ (y : Record). y ∷ rs) (sym v.2),
+    )
+
+-- the bytes before the remaining ones are the records
+pub packed : (t : TemplateView) (bytes : List ℕ) (records : List Record) (rest : List ℕ) (count n : ℕ) → ReadsRecords t bytes records rest → length records ≡ count
+    → n ≡ length bytes - length rest → whole_records t.kind t.fields count (take n bytes) ≡ records
+packed t bytes records rest count n done counted is =
+    let g = reads_front t bytes records rest done in
+    let front : take n bytes ≡ g.0 = ap (take n) g.1 ∙ take_at g.0 rest n (omega (arith, is, ap length g.1, length-append g.0 rest)) in
+    ap (λ (c : ℕ). whole_records t.kind t.fields c (take n bytes)) (sym counted)
+    ∙ ap (λ (ys : List ℕ). whole_records t.kind t.fields (length records) ys) (front ∙ sym (append-nil g.0))
+    ∙ g.2 []
+
+pub packed_length : (t : TemplateView) (bytes : List ℕ) (records : List Record) (rest : List ℕ) (count n : ℕ) → ReadsRecords t bytes records rest → length records ≡ count
+    → n ≡ length bytes - length rest → length (whole_records t.kind t.fields count (take n bytes)) ≡ count
+packed_length t bytes records rest count n done counted is = ap length (packed t bytes records rest count n done counted is) ∙ counted
+
+-- if there are records, the first is complete at the start
+pub first_stands : (t : TemplateView) (bytes : List ℕ) (records : List Record) (rest : List ℕ) (count : ℕ) → ReadsRecords t bytes records rest → length records ≡ count → 0 < count → HasRecord t bytes
+first_stands t bytes [] rest count done counted some = absurd (omega (arith, counted, some))
+first_stands t bytes (r ∷ rs) rest count done counted some = let one = done.1 in ([], bytes, refl, one.0, ap is_some one.1)
+
+-- ---- without variable fields
+
+no_runs_last : (sum : ℕ) (fields : List Field) → runs_behind sum fields ≡ [] → last_run_behind sum fields ≡ sum + least_length fields
+no_runs_last sum [] e = omega arith
+no_runs_last sum (f ∷ fs) e =
+    elim (is_variable f) as (λ c. is_variable f ≡ c → cond c (sum ∷ runs_behind 0 fs) (runs_behind (sum + f.length) fs) ≡ []
+    → cond c (last_run_behind 0 fs) (last_run_behind (sum + f.length) fs) ≡ sum + least_length (f ∷ fs)) [
+      | true ↦ λ is h. absurd (cc)
+      | false ↦ λ is h.
+          let fixed : least_field_length f ≡ f.length = ap (λ (c : Bool). cond c 1 f.length) is in
+          omega (arith, no_runs_last (sum + f.length) fs h, sum_by-cons least_field_length f fs, fixed)
+    ] refl e
+
+-- the length of values of fixed lengths is the sum of these
+fixed_values : (fields : List Field) (bytes : List ℕ) → runs_behind 0 fields ≡ [] → least_length fields ≤ length bytes
+    → (x : List FieldValueView × List ℕ) × (values_at fields bytes ≡ Some x) × (x.1 ≡ drop (least_length fields) bytes)
+fixed_values fields bytes none enough =
+    let last : last_run_behind 0 fields ≡ least_length fields = omega (arith, no_runs_last 0 fields none) in
+    let cut : bytes_at (least_length fields) bytes ≡ Some (take (least_length fields) bytes, drop (least_length fields) bytes) =
+    ap (λ (c : Bool). cond c None (Some (take (least_length fields) bytes, drop (least_length fields) bytes))) (le-ltb (length bytes) (least_length fields) enough) in
+    let behind : left (values_at fields bytes) ≡ Some (drop (least_length fields) bytes) =
+    sym (runs_are fields bytes)
+    ∙ ap (λ (rs : List ℕ). behind_runs rs (last_run_behind 0 fields) bytes) none
+    ∙ ap (λ (n : ℕ). behind_runs [] n bytes) last
+    ∙ ap (option_map (λ f. f.1)) cut in
+    mapped (values_at fields bytes) (λ x. x.1) (drop (least_length fields) bytes) behind
+
+-- as many records as fit
+pub fixed_records : (t : TemplateView) (count : ℕ) (bytes : List ℕ) → runs_behind 0 t.fields ≡ [] → 0 < least_length t.fields → count * least_length t.fields ≤ length bytes
+    → (records : List Record) × (length records ≡ count) × ReadsRecords t bytes records (drop (count * least_length t.fields) bytes)
+fixed_records t zero bytes none some room =
+    let nothing : 0 ≡ 0 * least_length t.fields = omega arith in
+    ([], refl, ap (λ (n : ℕ). drop n bytes) nothing)
+fixed_records t (suc count) bytes none some room =
+    let least = least_length t.fields in
+    let split : suc count * least ≡ count * least + least = suc-mul count least in
+    let v = fixed_values t.fields bytes none (omega (arith, room, split)) in
+    let more = fixed_records t count v.0.1 none some (omega (arith, room, split, ap length v.2, length-drop least bytes)) in
+    let behind : drop (count * least) v.0.1 ≡ drop (suc count * least) bytes = ap (drop (count * least)) v.2 ∙ drop-drop (count * least) least bytes ∙ ap (λ (n : ℕ). drop n bytes) (omega (arith, split)) in (
+      record { kind = t.kind; fields = v.0.0 } ∷ more.0,
+      ap (λ (n : ℕ). suc n) more.1,
+      (v.0.1, ((some, omega (arith, room, split)), record_is t bytes v.0 v.1), subst (λ (rest : List ℕ). ReadsRecords t v.0.1 more.0 rest) behind more.2),
+    )
+
+-- after as many records as fit, there is no room for one more
+pub few_left : (n least : ℕ) → 0 < least → n / least * least + least ≤ n → ⊥
+few_left n least some room =
+    let one_more : (n / least + 1) * least ≤ n = omega (arith, room, add-mul (n / least) 1 least) in
+    omega (arith, (le-div_iff_mul-le {k = least} {x = n / least + 1} {y = n} some).1 one_more)
+
+-- ---- a record, from the bytes after its values
+
+none_from_left : (o : Option (List FieldValueView × List ℕ)) → None ≡ option_map (λ x. x.1) o → o ≡ None
+none_from_left None e = refl
+none_from_left (Some x) e = absurd (cc)
+
+pub no_record : (t : TemplateView) (fields : List Field) (bytes : List ℕ) → fields ≡ t.fields → None ≡ option_map (λ x. x.1) (values_at fields bytes) → record_at t bytes ≡ None
+no_record t fields bytes same e =
+    ap (option_map (λ v. (record { kind = t.kind; fields = v.0 }, v.1))) (ap (λ (fs : List Field). values_at fs bytes) (sym same) ∙ none_from_left (values_at fields bytes) e)
+
+pub some_record : (t : TemplateView) (fields : List Field) (bytes after : List ℕ) → fields ≡ t.fields → Some after ≡ option_map (λ x. x.1) (values_at fields bytes)
+    → (r : Record) × (record_at t bytes ≡ Some (r, after))
+some_record t fields bytes after same e =
+    let m = mapped (values_at fields bytes) (λ x. x.1) after (sym e) in (
+      record { kind = t.kind; fields = m.0.0 },
+      record_is t bytes m.0 (ap (λ (fs : List Field). values_at fs bytes) (sym same) ∙ m.1) ∙ ap (λ (rest : List ℕ). Some (record { kind = t.kind; fields = m.0.0 }, rest)) m.2,
+    )

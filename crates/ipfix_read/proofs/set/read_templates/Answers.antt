@@ -1,5 +1,0 @@
-use Rattle.std.proofs.Common.{arith}
-use Rattle.ipfix_read.proofs.set.read_templates.Goals as goal
-
-pub returns-clause-size : goal.returns-clause-size
-returns-clause-size c = omega (arith, c.events_fit.ensures c.args.kind c.args.bytes.now c.in-Ok.events c.in-Ok.ensures.ok)
