@@ -17,11 +17,11 @@ use Rattle.pmap_text.specs.declared.prefix_list.PrefixList.{PrefixList}
 use Rattle.pmap_text.proofs.Blocks.{address-between, address-first, address-last, block_number-shorter, pow-half}
 use Rattle.pmap_cert.proofs.Longest.{label_below-same}
 use Rattle.pmap_cert.specs.Chain.{chosen_half, side_half}
+use Rattle.pmap_cert.specs.Ways.{LeadsTo, way_number}
 use Rattle.cert_check.specs.Carrying.{number_of}
 use Rattle.cert_check.specs.Checking.{bits_fault, fault_at, is_decided, is_label_of, leaf_fault}
 use Rattle.cert_check.specs.Halves.{IsHalf}
 use Rattle.cert_check.specs.Parts.{IsHandedDown, IsListPart, IsSettledBetween, LiesIn, last_in, text_of}
-use Rattle.cert_check.specs.Ways.{IsWay, way_number}
 use Rattle.cert_check.specs.declared.fault.CheckFault.{CheckFault}
 use Rattle.cert_check.specs.declared.fault.CheckFaultKind.{CheckFaultKind}
 use Rattle.cert_check.specs.declared.fault.CheckFaultKind.TheVariants.{LeafNotUniform, ListDiffers}
@@ -102,7 +102,7 @@ module _ (m : MapModel) (ps : List Prefix) (x : Label) (W from first last begin 
           let on = way-ends W bits (suc n) (2 * q) k (omega (arith, is)) le in
           clear (suc n) (2 * q + 1) (omega (arith, deep)) (omega (arith, less')) (omega (arith, begins, side)) (omega (arith, ends, side')) (inr (omega (arith, before, on, to)))
 
-pub way-within : (b end : Block) (bits : List Bool) → IsWay b end bits → 0 < length bits → IsWithin b end
+pub way-within : (b end : Block) (bits : List Bool) → LeadsTo b end bits → 0 < length bits → IsWithin b end
 way-within b end bits way some =
     let W = width_of b.version in
     let fits : end.len ≤ W = subst (λ (v : _). end.len ≤ width_of v) way.version end.len_in_range in
@@ -119,31 +119,6 @@ way-within b end bits way some =
       first = omega (arith, begins, first, first');
       last = omega (arith, ends, last);
     }
-
--- the second block is where the first i bits lead from the first block
-pub record IsOnWay (b at : Block) (bits : List Bool) (i : ℕ) : Type 0 where
-  pub version : at.version ≡ b.version
-  pub len : at.len ≡ b.len + i
-  pub number : number_of at ≡ way_number (take i bits) (number_of b)
-
-way-more : (bits : List Bool) (bit : Bool) (q : ℕ) → way_number (bits ++ bit ∷ []) q ≡ chosen_half bit (way_number bits q)
-way-more [] bit q = refl
-way-more (b ∷ bits) bit q = way-more bits bit (chosen_half b q)
-
-pub way-on : (b at half next : Block) (bits : List Bool) (bit : Bool) (i : ℕ) → next ≡ half → i < length bits → get_or bits i false ≡ bit
-    → IsHalf at half (chosen_half bit (number_of at)) → at.version ≡ b.version → at.len ≡ b.len + i → number_of at ≡ way_number (take i bits) (number_of b)
-    → IsOnWay b next bits (i + 1)
-way-on b at half next bits bit i is less one on version len number =
-    subst (λ (d : Block). IsOnWay b d bits (i + 1)) (sym is)
-    (record {
-      version = on.version ∙ version;
-      len = omega (arith, on.len, len);
-      number = half-number at half (chosen_half bit (number_of at)) on ∙ ap (chosen_half bit) number ∙ sym (way-more (take i bits) bit (number_of b))
-          ∙ ap (λ (xs : List Bool). way_number xs (number_of b)) (sym more);
-    })
-  where
-    more : take (i + 1) bits ≡ take i bits ++ bit ∷ []
-    more = take_more bits i false less ∙ ap (λ (d : Bool). take i bits ++ d ∷ []) one
 
 -- The entries strictly inside a block all lie in an inner one.
 module _ (l : PrefixList) (b : Block) (version : b.version ≡ l.version) (end : Block) (w : IsWithin b end) (within : List Entry) (above : Option LabelId)
@@ -272,7 +247,7 @@ module _ (l : PrefixList) (b : Block) (version : b.version ≡ l.version) (end :
         ap₂ (λ (s d : Bool). cond s (cond d None (Some ListDiffers)) (Some LeafNotUniform)) settled decided
 
   -- the first fault along the bits to the inner block is that of the inner block
-  pub clear-way : (bits : List Bool) → IsWay b end bits → (m : MapModel) (x : Label) → m.version ≡ b.version → is_label_of (text_of l.labels above) x ≡ true
+  pub clear-way : (bits : List Bool) → LeadsTo b end bits → (m : MapModel) (x : Label) → m.version ≡ b.version → is_label_of (text_of l.labels above) x ≡ true
       → IsSettledBetween m b.value end.value x → IsSettledBetween m (last_in end + 1) (last_in b + 1) x
       → (k : ℕ) (below : ℕ → ℕ → Option CheckFault) → bits_fault m (list_of l).prefixes x k below bits b.len (number_of b) ≡ below end.len (number_of end)
   clear-way bits way m x same is before after k below =

@@ -5,5 +5,4 @@ pub mod Sources
 pub mod Halves
 pub mod Kept
 pub mod Parts
-pub mod Ways
 pub mod Descent

@@ -6,6 +6,7 @@ ghost use Rattle.pmap_text.specs.PrefixList.{list_of};
 ghost use Rattle.pmap_cert.specs.Acceptance.{IsAccepted, IsLeast};
 ghost use Rattle.pmap_cert.specs.Certificate.{certificate_of};
 ghost use Rattle.pmap_cert.specs.Node.{first_node, from_next_line, label_of, side_of};
+ghost use Rattle.pmap_cert.specs.Packed.{bits_in};
 ghost use Rattle.cert_check.specs.Checking.{first_fault, node_fault, told};
 ghost use Rattle.cert_check.specs.Descent.{IsAtEnd, IsAtNode, IsNodeAnswer, IsOutcome, IsWayAnswer, answer_of};
 ghost use Rattle.cert_check.specs.Kept.{AreSources};
@@ -19,7 +20,7 @@ use crate::labels::numbers_in;
 use crate::laws::no_fault_is_acceptance;
 use crate::part::Part;
 use crate::sources::Sources;
-use pmap_cert::{Certificate, Cursor, acceptance_is_enough};
+use pmap_cert::{Certificate, Cursor, Way, acceptance_is_enough};
 use pmap_text::{Entry, LabelId, MapText, PrefixList, Stretches};
 use prefix_keys::whole_space;
 use std::alloc::Global;
@@ -109,9 +110,9 @@ fn check_chain<'a>(
     requires chain { side_of (first_node line.now.node) ≡ Some side.0 }
     ensures { IsNodeAnswer sources.now line.now part.now result }
 {
-    let bits = line.node.bits();
+    let way = line.node.way();
     let end = next_line(line);
-    let next = check_below(sources, line.number, &end, side, bits, part)?;
+    let next = check_below(sources, line.number, &end, side, &way, part)?;
     let labels = &sources.certificate.labels;
     let fault = chain_fault(labels, &line.node, &end.node, side);
     unless_fault(fault, line.number, next)
@@ -124,16 +125,16 @@ fn check_below<'a>(
     number: u64,
     end: &NodeLine<'a>,
     side: LabelId,
-    bits: &[bool],
+    way: &Way,
     part: &Part,
 ) -> Result<NodeLine<'a>, CheckFault>
-    requires end { IsAtEnd sources.now end.now number side.0 bits.now part.now }
-    requires some { 0 < length bits.now }
-    ensures { IsWayAnswer sources.now end.now number side.0 bits.now part.now result }
+    requires end { IsAtEnd sources.now end.now number side.0 (bits_in way.now) part.now }
+    requires some { 0 < length (bits_in way.now) }
+    ensures { IsWayAnswer sources.now end.now number side.0 (bits_in way.now) part.now result }
 {
-    match part.clear_end(sources, bits, side) {
+    match part.clear_end(sources, way, side) {
         Some(below) => check_node(sources, end, &below),
-        None => check_way(sources, number, end, side, bits, part),
+        None => check_way(sources, number, end, side, way, part),
     }
 }
 
@@ -145,17 +146,17 @@ fn check_way<'a>(
     number: u64,
     end: &NodeLine<'a>,
     side: LabelId,
-    bits: &[bool],
+    way: &Way,
     part: &Part,
 ) -> Result<NodeLine<'a>, CheckFault>
-    requires end { IsAtEnd sources.now end.now number side.0 bits.now part.now }
-    ensures { IsWayAnswer sources.now end.now number side.0 bits.now part.now result }
+    requires end { IsAtEnd sources.now end.now number side.0 (bits_in way.now) part.now }
+    ensures { IsWayAnswer sources.now end.now number side.0 (bits_in way.now) part.now result }
 {
-    let Some(bit) = bits.first() else {
+    let Some((bit, rest)) = way.split_first() else {
         return check_node(sources, end, part);
     };
-    let (chosen, beside) = part.step(sources, *bit);
-    let next = check_way(sources, number, end, side, &bits[1..], &chosen)?;
+    let (chosen, beside) = part.step(sources, bit);
+    let next = check_way(sources, number, end, side, &rest, &chosen)?;
     unless_fault(beside.leaf_fault(sources, side), number, next)
 }
 

@@ -195,7 +195,7 @@ pub fn chain_fault(
     if has_one(beneath, side) {
         return fault_by(cost, below, has_side);
     }
-    if chain.bits().len() == 1 {
+    if chain.way().len() == 1 {
         fault_by(cost, below + 1, has_side && has_all(set, beneath))
     } else {
         fault_by(cost, below + 1, has_side)

@@ -7,18 +7,20 @@ ghost use Rattle.pmap_text.specs.PrefixList.{list_of};
 ghost use Rattle.pmap_text.specs.declared.entry.Entry.{Entry};
 ghost use Rattle.pmap_text.specs.declared.prefix_list.PrefixList.{PrefixList};
 ghost use Rattle.pmap_cert.specs.Chain.{chosen_half, side_half};
+ghost use Rattle.pmap_cert.specs.Packed.{bits_in};
+ghost use Rattle.pmap_cert.specs.Ways.{LeadsTo};
 ghost use Rattle.pmap_text.specs.Stretches.{HoldsAddress};
 ghost use Rattle.cert_check.specs.Carrying.{number_of};
 ghost use Rattle.cert_check.specs.Checking.{bits_fault, is_decided as is_decided_of, is_label_of, leaf_fault as leaf_fault_of};
 ghost use Rattle.cert_check.specs.Halves.{AreHalves, IsHalf};
 ghost use Rattle.cert_check.specs.Kept.{AreSources};
 ghost use Rattle.cert_check.specs.Parts.{AreRising, IsListPart, IsPart, IsSettledBetween, LiesIn, last_in};
-ghost use Rattle.cert_check.specs.Ways.{IsWay};
 ghost use Rattle.cert_check.specs.declared.fault.CheckFault.{CheckFault};
 
 use crate::entry_order::by_rank;
 use crate::fault::CheckFaultKind;
 use crate::sources::Sources;
+use pmap_cert::Way;
 use pmap_text::{Entry, LabelId};
 use prefix_keys::Block;
 
@@ -32,21 +34,6 @@ pub struct Part<'a> {
     pub to: usize,
     pub entries: &'a [Entry],
     pub above: Option<LabelId>,
-}
-
-// Returns the block that the bits lead to from a block.
-fn way_end(block: &Block, bits: &[bool]) -> Block
-    requires room { length bits.now ≤ width_of block.now.version - block.now.len }
-    ensures { IsWay block.now result bits.now }
-{
-    let mut end = *block;
-    for bit in bits {
-        let Some((low, high)) = end.halves() else {
-            unreachable!()
-        };
-        end = if *bit { high } else { low };
-    }
-    end
 }
 
 // Whether all of the entries, which are in order, are for the block or for blocks inside it.
@@ -232,20 +219,20 @@ impl<'a> Part<'a> {
 
     /// Returns the part of the block that the bits lead to if one look shows that the blocks beside the way have no
     /// fault as leaves with the certificate's label `side`. If it returns `None`, they must be checked one by one.
-    pub fn clear_end(&self, sources: &Sources, bits: &[bool], side: LabelId) -> Option<Part<'a>>
+    pub fn clear_end(&self, sources: &Sources, way: &Way, side: LabelId) -> Option<Part<'a>>
         requires sources { AreSources sources.now }
         requires part { IsPart sources.now self.now }
-        requires some { 0 < length bits.now }
-        requires room { length bits.now ≤ width_of self.now.block.version - self.now.block.len }
+        requires some { 0 < length (bits_in way.now) }
+        requires room { self.now.block.len + way.now.count ≤ width_of self.now.block.version }
         requires known { side.0 < length sources.now.certificate.now.labels }
         ensures part { IfSome result (IsPart sources.now) }
-        ensures way { IfSome result (λ end. IsWay self.now.block end.block bits.now) }
+        ensures way { IfSome result (λ end. LeadsTo self.now.block end.block (bits_in way.now)) }
         ensures clear { IfSome result (λ end. (k : ℕ) (below : ℕ → ℕ → Option CheckFault) →
             bits_fault (map_of sources.now.map.now) (list_of sources.now.list.now).prefixes
-            (text_at sources.now.certificate.now.labels side.0) k below bits.now self.now.block.len
+            (text_at sources.now.certificate.now.labels side.0) k below (bits_in way.now) self.now.block.len
             (number_of self.now.block) ≡ below end.block.len (number_of end.block)) }
     {
-        let end = way_end(&self.block, bits);
+        let end = way.end(&self.block);
         let (inside, above) = self.inside();
         if !lie_in(inside, &end) || !sources.is_of_list(above, side) {
             return None;

@@ -80,7 +80,7 @@ sides-same table lower upper =
     (λ i. option_or (label-leaf table lower i) (label-leaf table upper i)) ∙ either-map (text_at table) (label_of lower) (label_of upper)
 
 -- the end of a run is well formed in the room that the run's bits leave
-form-down : (count side : ℕ) (node : Node) (room : ℕ) → HasChainForm count node room → HasRoomBelow (HasChainForm count (end_down side node)) (bits_down side node) room
+pub form-down : (count side : ℕ) (node : Node) (room : ℕ) → HasChainForm count node room → HasRoomBelow (HasChainForm count (end_down side node)) (bits_down side node) room
 form-down count side (Leaf number) room h = h
 form-down count side (Chain cost set bits s end) room h = h
 form-down count side (Inner cost set lower upper) zero h = absurd h

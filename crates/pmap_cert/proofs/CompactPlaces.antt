@@ -2,12 +2,13 @@
 use Rattle.std.proofs.Common.{◌≡◌, ℕ, zero, suc, ◌+◌, ◌<◌, ◌≤◌, ◌∙◌, ◌==◌, Bool, true, false, List, [], ◌∷◌, ◌++◌, All, Option, Some, None, cond, drop, get_or, length, option_map, refl, sym, ap, subst, arith, slice_index}
 use Rattle.pmap_text.specs.declared.label.LabelId.{LabelId}
 use Rattle.std.proofs.lemmas.Option.{none-some, same_Some}
-use Rattle.std.proofs.lemmas.List.{append-nil}
 use Rattle.std.proofs.lemmas.List.Elements.{All-append, All-cons, All-head, All-nil, All-tail}
 use Rattle.pmap_cert.specs.FormatReading.{ChainLine, DueLine, InnerLine, LeafLine, PlainLine}
-use Rattle.pmap_cert.specs.Node.{AreWhole, Inner, IsPlainNode, Chain, Leaf, Node, behind, first_node, joined, label_of, line_label, lines_of, nodes_of}
-use Rattle.pmap_cert.specs.Placing.{AreEndsFrom, ArePlain, EndsAt, HasHalves, HasPlace, IsPlainLine, IsRunEnd, IsStep, bits_down, end_down, is_leaf, node_from}
-use Rattle.pmap_cert.proofs.NodeWalk.{IsLineOf, line-here, root-of, whole-lines, whole-next, within}
+use Rattle.pmap_cert.specs.Node.{AreWhole, Inner, HasChainForm, IsPlainNode, Chain, Leaf, Node, behind, first_node, from_next_line, joined, label_of, line_label, lines_of, nodes_of}
+use Rattle.pmap_cert.specs.Placing.{AreEndsFrom, ArePlain, EndsAt, HasHalves, HasPlace, IsPlainLine, IsRunEnd, IsShallow, IsStep, bits_down, end_down, is_leaf, node_from}
+use Rattle.pmap_cert.proofs.ChainWords.{left-room}
+use Rattle.pmap_cert.proofs.CompactNodes.{form-down}
+use Rattle.pmap_cert.proofs.NodeWalk.{IsLineOf, line-here, nodes-next, root-of, tree-whole, whole-next, within}
 
 -- a node without chains has no line of a chain
 pub plain-lines : (node : Node) → IsPlainNode node → All IsPlainLine (lines_of node)
@@ -170,13 +171,41 @@ leaf-none (Leaf n) side label = absurd (none-of-leaf n label)
 leaf-none (Inner cost set lower upper) side label = refl
 leaf-none (Chain cost set bits x end) side label = refl
 
--- the lines of a node without chains are plain
-pub plain-of : (node : Node) (lines : List DueLine) → lines ≡ lines_of node → IsPlainNode node → ArePlain lines
-plain-of node lines is plain =
-    subst ArePlain (sym is) (record {
-      whole = subst AreWhole (append-nil (lines_of node)) (whole-lines node [] tt);
-      plain = plain-lines node plain;
-    })
+-- nodes below shallow ones are shallow, and so are those from a line on
+below-shallow : (nodes : List Node) → All IsShallow nodes → All IsShallow (from_next_line nodes)
+below-shallow [] all = all
+below-shallow (node ∷ nodes) all = by node (All-head IsShallow node nodes all) (All-tail IsShallow node nodes all)
+  where
+    by : (node : Node) → IsShallow node → All IsShallow nodes → All IsShallow (from_next_line (node ∷ nodes))
+    by (Leaf number) shallow rest = rest
+    by (Inner cost set lower upper) (count, zero, few, form) rest = absurd form
+    by (Inner cost set lower upper) (count, suc room, few, form) rest =
+        All-cons IsShallow lower (upper ∷ nodes) (count, room, omega (arith, few), form.2)
+        (All-cons IsShallow upper nodes (count, room, omega (arith, few), form.3) rest)
+    by (Chain cost set bits side end) (count, room, few, form) rest =
+        let last = left-room (HasChainForm count end) bits room form.4 in
+        All-cons IsShallow end nodes (count, last.0, omega (arith, few, last.1), last.2) rest
+
+shallow-from : (lines : List DueLine) (k : ℕ) → AreWhole lines → All IsShallow (nodes_of lines) → All IsShallow (nodes_of (drop k lines))
+shallow-from lines zero whole all = all
+shallow-from lines (suc k) whole all =
+    subst (All IsShallow) (sym (nodes-next lines k (whole-drop lines k whole))) (below-shallow (nodes_of (drop k lines)) (shallow-from lines k whole all))
+
+first-short : (side : ℕ) (nodes : List Node) → All IsShallow nodes → length (bits_down side (first_node nodes)) ≤ 128
+first-short side [] all = omega arith
+first-short side (node ∷ nodes) all =
+    let shallow = All-head IsShallow node nodes all in
+    let last = left-room (HasChainForm shallow.0 (end_down side node)) (bits_down side node) shallow.1 (form-down shallow.0 side node shallow.1 shallow.3) in
+    omega (arith, shallow.2, last.1)
+
+-- the lines of a shallow node without chains are plain
+pub plain-of : (node : Node) (lines : List DueLine) → lines ≡ lines_of node → IsPlainNode node → IsShallow node → ArePlain lines
+plain-of node lines is plain shallow = record {
+  whole = tree-whole lines node is;
+  plain = subst (All IsPlainLine) (sym is) (plain-lines node plain);
+  short = λ k side. first-short side (nodes_of (drop k lines))
+      (shallow-from lines k (tree-whole lines node is) (subst (All IsShallow) (sym (root-of lines node is)) (All-cons IsShallow node [] shallow (All-nil IsShallow))));
+}
 
 pub root-at : (node : Node) (lines : List DueLine) → lines ≡ lines_of node → node_from lines 0 ≡ node
 root-at node lines is = ap first_node (root-of lines node is)

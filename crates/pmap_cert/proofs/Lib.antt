@@ -15,6 +15,7 @@ pub mod Numbers
 pub mod NodeLines
 pub mod Tables
 pub mod Headers
+pub mod Ways
 pub mod PackedLines
 pub mod NodeWalk
 pub mod ReadingSteps

@@ -1,12 +1,11 @@
 -- The lines of nodes as the code stores them.
-use Rattle.std.proofs.Common.{◌≡◌, ℕ, zero, suc, ◌+◌, ◌-◌, ◌<◌, ◌≤◌, ◌∙◌, Bool, List, [], ◌∷◌, ◌++◌, All, length, map, take, drop, refl, sym, ap, subst, arith, length-append, length-drop}
+use Rattle.std.proofs.Common.{◌≡◌, ℕ, zero, suc, ◌+◌, ◌-◌, ◌<◌, ◌≤◌, ◌∙◌, List, [], ◌∷◌, ◌++◌, All, length, map, take, drop, refl, sym, ap, subst, arith, length-append, length-drop}
 use Rattle.std.specs.List.{slice_range}
 use Rattle.std.proofs.lemmas.List.{drop-append-le, append-nil, get_or_append_left, get_or_push, map-append, take-append-le}
-use Rattle.std.proofs.Math.Seq.{drop-append_seam, take-length}
 use Rattle.std.proofs.lemmas.List.Elements.{All-head, All-push, All-tail, All-weaker}
 use Rattle.pmap_text.specs.declared.label.LabelId.{LabelId}
 use Rattle.pmap_cert.specs.FormatReading.{ChainLine, DueLine, InnerLine, PlainLine}
-use Rattle.pmap_cert.specs.Packed.{HasParts, HasSet, HasSetBy, IsGrown, IsHeld, IsPacked, Store, chain_at, chain_in, count_at, joined_halves, line_in, no_chain, set_by, set_in}
+use Rattle.pmap_cert.specs.Packed.{HasSet, HasSetBy, IsGrown, IsHeld, IsPacked, Store, bits_in, chain_at, chain_in, count_at, joined_halves, line_in, no_chain, set_by, set_in}
 use Rattle.pmap_cert.specs.declared.nodes.Packed.{Packed}
 use Rattle.pmap_cert.specs.declared.nodes.Packed.TheVariants.{Chain, Inner, Leaf}
 use Rattle.pmap_cert.specs.declared.nodes.PackedChain.{PackedChain}
@@ -41,18 +40,17 @@ held-more old new id numbers grown is =
     subst (λ (pool : List LabelId). IsHeld pool id numbers) (sym grown.1)
     (record { whole = still-set_by old grown.0 id.low.0 id.high is.whole; set = same-set_by old grown.0 id.low.0 id.high is.whole ∙ is.set })
 
--- the second store is the first with more sets, chains and bits appended
+-- the second store is the first with more sets and chains appended
 pub record IsMore (s s' : Store) : Type 0 where
   pub labels : IsGrown s.labels s'.labels
   pub chains : IsGrown s.chains s'.chains
-  pub bits : IsGrown s.bits s'.bits
 
 pub same-grown : {A : Type 0} (old new : List A) → new ≡ old → IsGrown old new
 same-grown old new same = ([], same ∙ sym (append-nil old))
 
-pub more-of : (s : Store) (labels : List LabelId) (chains : List PackedChain) (bits : List Bool) → IsGrown s.labels labels → IsGrown s.chains chains → IsGrown s.bits bits
-    → IsMore s (record { labels = labels; chains = chains; bits = bits })
-more-of s labels chains bits a b c = record { labels = a; chains = b; bits = c }
+pub more-of : (labels labels' : List LabelId) (chains chains' : List PackedChain) → IsGrown labels labels' → IsGrown chains chains'
+    → IsMore (record { labels = labels; chains = chains }) (record { labels = labels'; chains = chains' })
+more-of labels labels' chains chains' a b = record { labels = a; chains = b }
 
 same-set : (s s' : Store) (id : SetId) → IsMore s s' → HasSet s.labels id → set_in s'.labels id ≡ set_in s.labels id
 same-set s s' id m has =
@@ -68,23 +66,12 @@ module _ (s s' : Store) (m : IsMore s s') where
   same-chain_at n inside =
       ap (λ (cs : List PackedChain). chain_at cs n) m.chains.1 ∙ get_or_append_left s.chains m.chains.0 no_chain n inside
 
-  same-chain : (c : PackedChain) → HasParts s c → chain_in s' c ≡ chain_in s c
-  same-chain c has =
-      let bits = ap (λ (bs : List Bool). slice_range bs c.start c.end) m.bits.1 ∙ same-piece s.bits m.bits.0 c.start c.end has.rising has.within in
-      λ i. ChainLine c.cost (bits i) c.side.0 (same-set s s' c.set m has.set i)
-
-  still-parts : (c : PackedChain) → HasParts s c → HasParts s' c
-  still-parts c has =
-      let more = ap length m.bits.1 ∙ length-append s.bits m.bits.0 in
-      let within = has.within in
-      record { set = still-set s s' c.set m has.set; rising = has.rising; within = omega arith }
-
   same-line : (p : Packed) → IsPacked s p → line_in s' p ≡ line_in s p
   same-line (Leaf id) has = refl
   same-line (Inner cost set) has = ap (λ (ns : List ℕ). PlainLine (InnerLine cost ns)) (same-set s s' set m has)
   same-line (Chain low high) has =
-      let n = joined_halves low high in
-      ap (chain_in s') (same-chain_at n has.0) ∙ same-chain (chain_at s.chains n) has.1
+      let c = chain_at s.chains (joined_halves low high) in
+      ap (chain_in s') (same-chain_at (joined_halves low high) has.0) ∙ (λ i. ChainLine c.cost (bits_in c.way) c.side.0 (same-set s s' c.set m has.1 i))
 
   still-packed : (p : Packed) → IsPacked s p → IsPacked s' p
   still-packed (Leaf id) has = tt
@@ -93,7 +80,7 @@ module _ (s s' : Store) (m : IsMore s s') where
       let n = joined_halves low high in
       let more = ap length m.chains.1 ∙ length-append s.chains m.chains.0 in
       let inside = has.0 in
-      (omega arith, subst (HasParts s') (sym (same-chain_at n has.0)) (still-parts (chain_at s.chains n) has.1))
+      (omega arith, subst (λ (c : PackedChain). HasSet s'.labels c.set) (sym (same-chain_at n has.0)) (still-set s s' (chain_at s.chains n).set m has.1))
 
   same-lines : (ps : List Packed) → All (IsPacked s) ps → map (line_in s') ps ≡ map (line_in s) ps
   same-lines [] has = refl
@@ -125,18 +112,13 @@ module _ (s s' : Store) (ps : List Packed) (lines : List DueLine) (m : IsMore s 
       })
 
   -- one more chain and its packed line represent one more line of a chain
-  pub chain-pushed : (ps' : List Packed) (low high : ℕ) (c : PackedChain) (bits : List Bool) (numbers : List ℕ) → IsHeld s'.labels c.set numbers
-      → joined_halves low high ≡ length s.chains → s'.chains ≡ s.chains ++ c ∷ [] → c.start ≡ length s.bits → c.end ≡ length s'.bits → s'.bits ≡ s.bits ++ bits
-      → ps' ≡ ps ++ Chain low high ∷ [] → ArePackedAs s' ps' (lines ++ ChainLine c.cost bits c.side.0 numbers ∷ [])
-  chain-pushed ps' low high c bits numbers held number chains start stop are pushed =
+  pub chain-pushed : (ps' : List Packed) (low high : ℕ) (c : PackedChain) (numbers : List ℕ) → IsHeld s'.labels c.set numbers
+      → joined_halves low high ≡ length s.chains → s'.chains ≡ s.chains ++ c ∷ []
+      → ps' ≡ ps ++ Chain low high ∷ [] → ArePackedAs s' ps' (lines ++ ChainLine c.cost (bits_in c.way) c.side.0 numbers ∷ [])
+  chain-pushed ps' low high c numbers held number chains pushed =
       let here : chain_at s'.chains (joined_halves low high) ≡ c =
       ap (λ (cs : List PackedChain). chain_at cs (joined_halves low high)) chains ∙ get_or_push s.chains c no_chain (joined_halves low high) (sym number) in
       let count = ap length chains ∙ length-append s.chains (c ∷ []) in
-      let longer = ap length are ∙ length-append s.bits bits in
-      let piece : slice_range s'.bits c.start c.end ≡ bits =
-      (λ i. slice_range (are i) (start i) (stop i))
-      ∙ ap (λ (n : ℕ). take n (drop (length s.bits) (s.bits ++ bits))) (omega arith)
-      ∙ ap (take (length bits)) (drop-append_seam s.bits bits) ∙ take-length bits in
-      line-pushed ps' (Chain low high) (ChainLine c.cost bits c.side.0 numbers)
-      (omega arith, subst (HasParts s') (sym here) (record { set = held.whole; rising = omega arith; within = omega arith }))
-      (ap (chain_in s') here ∙ (λ i. ChainLine c.cost (piece i) c.side.0 (held.set i))) pushed
+      line-pushed ps' (Chain low high) (ChainLine c.cost (bits_in c.way) c.side.0 numbers)
+      (omega arith, subst (λ (chain : PackedChain). HasSet s'.labels chain.set) (sym here) held.whole)
+      (ap (chain_in s') here ∙ (λ i. ChainLine c.cost (bits_in c.way) c.side.0 (held.set i))) pushed

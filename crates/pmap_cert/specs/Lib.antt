@@ -12,6 +12,7 @@ pub mod CertificateForm
 pub mod FormatReading
 pub mod Node
 pub mod Packed
+pub mod Ways
 pub mod Format
 pub mod Certificate
 pub mod Words

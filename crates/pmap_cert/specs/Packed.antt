@@ -1,4 +1,5 @@
 use Rattle.std.specs.Prelude.{◌≡◌, ℕ, zero, suc, ◌+◌, ◌*◌, ◌^◌, ◌<◌, ◌≤◌, Bool, List, [], ◌∷◌, ◌++◌, length, map, slice_index_or}
+use Rattle.std.proofs.Common.{lit≤}
 use Rattle.std.specs.List.{slice_range}
 use Rattle.pmap_text.specs.declared.label.LabelId.{LabelId}
 use Rattle.pmap_cert.specs.FormatReading.{ChainLine, DueLine, InnerLine, LeafLine, PlainLine}
@@ -6,6 +7,8 @@ use Rattle.pmap_cert.specs.declared.nodes.Packed.{Packed}
 use Rattle.pmap_cert.specs.declared.nodes.Packed.TheVariants.{Chain, Inner, Leaf}
 use Rattle.pmap_cert.specs.declared.nodes.PackedChain.{PackedChain}
 use Rattle.pmap_cert.specs.declared.pool.SetId.{SetId}
+use Rattle.pmap_cert.specs.declared.way.Way.{Way}
+use Rattle.pmap_cert.specs.Ways.{way_to}
 
 -- How the code stores the lines of nodes, for the contracts of private functions.
 
@@ -46,21 +49,24 @@ pub record IsHeld (pool : List LabelId) (id : SetId) (numbers : List ℕ) : Type
   pub whole : HasSet pool id
   pub set : set_in pool id ≡ numbers
 
--- the pool of sets, the chains, and the bits of the chains
+-- the pool of sets, and the chains
 pub record Store : Type 0 where
   pub labels : List LabelId
   pub chains : List PackedChain
-  pub bits : List Bool
 
 -- a placeholder for a missing chain
 abbrev pub no_chain : PackedChain
-no_chain = record { cost = 0; side = record { 0 = 0 }; set = record { low = record { 0 = 0 }; high = 0 }; start = 0; end = 0 }
+no_chain = record { cost = 0; side = record { 0 = 0 }; set = record { low = record { 0 = 0 }; high = 0 }; way = record { value = 0; count = 0; few = lit≤ tt } }
 
 abbrev pub chain_at : List PackedChain → ℕ → PackedChain
 chain_at chains number = slice_index_or chains number no_chain
 
+-- the bits of a chain
+abbrev pub bits_in : Way → List Bool
+bits_in way = way_to way.value way.count
+
 abbrev pub chain_in : Store → PackedChain → DueLine
-chain_in s c = ChainLine c.cost (slice_range s.bits c.start c.end) c.side.0 (set_in s.labels c.set)
+chain_in s c = ChainLine c.cost (bits_in c.way) c.side.0 (set_in s.labels c.set)
 
 -- the line that a packed line represents
 abbrev pub line_in : Store → Packed → DueLine
@@ -68,15 +74,9 @@ line_in s (Leaf id) = PlainLine (LeafLine id.0)
 line_in s (Inner cost set) = PlainLine (InnerLine cost (set_in s.labels set))
 line_in s (Chain low high) = chain_in s (chain_at s.chains (joined_halves low high))
 
--- the store has the chain's set and bits
-pub record HasParts (s : Store) (c : PackedChain) : Type 0 where
-  pub set : HasSet s.labels c.set
-  pub rising : c.start ≤ c.end
-  pub within : c.end ≤ length s.bits
-
 -- the store has all that the line refers to
 abbrev pub IsPacked : Store → Packed → Type 0
 IsPacked s (Leaf id) = Unit {0}
 IsPacked s (Inner cost set) = HasSet s.labels set
 IsPacked s (Chain low high) =
-    (joined_halves low high < length s.chains) × HasParts s (chain_at s.chains (joined_halves low high))
+    (joined_halves low high < length s.chains) × HasSet s.labels (chain_at s.chains (joined_halves low high)).set

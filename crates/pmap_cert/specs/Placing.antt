@@ -15,14 +15,29 @@ abbrev pub IsPlainLine : DueLine → Type 0
 IsPlainLine (PlainLine line) = Unit {0}
 IsPlainLine (ChainLine cost bits side numbers) = ⊥
 
--- the lines are those of whole nodes without chains
-pub record ArePlain (lines : List DueLine) : Type 0 where
-  pub whole : AreWhole lines
-  pub plain : All IsPlainLine lines
-
 -- the node at line `number`
 abbrev pub node_from : List DueLine → ℕ → Node
 node_from lines number = first_node (nodes_of (drop number lines))
+
+-- the node is a leaf with this label
+abbrev pub is_leaf : ℕ → Node → Bool
+is_leaf side (Leaf number) = number == side
+is_leaf side (Inner cost set lower upper) = false
+is_leaf side (Chain cost set bits x end) = false
+
+-- the bits of the run of a side label from a node down
+abbrev pub bits_down : ℕ → Node → List Bool
+bits_down side (Inner cost set lower upper) =
+    if is_leaf side lower then true ∷ bits_down side upper
+    else (if is_leaf side upper then false ∷ bits_down side lower else [])
+bits_down side (Leaf number) = []
+bits_down side (Chain cost set bits x end) = []
+
+-- the lines are those of whole nodes without chains, whose runs have at most 128 bits
+pub record ArePlain (lines : List DueLine) : Type 0 where
+  pub whole : AreWhole lines
+  pub plain : All IsPlainLine lines
+  pub short : (k side : ℕ) → length (bits_down side (node_from lines k)) ≤ 128
 
 -- The lines of the node at line `number` and of those below it end before line `end`.
 pub record EndsAt (lines : List DueLine) (number end : ℕ) : Type 0 where
@@ -56,20 +71,6 @@ pub record HasHalves (lines : List DueLine) (all : List ℕ) (number lower upper
 abbrev pub IsBelow : List DueLine → List ℕ → ℕ → Below → Type 0
 IsBelow lines all number (Nothing id) = node_from lines number ≡ Leaf id.0
 IsBelow lines all number (Halves lower upper) = HasHalves lines all number lower upper
-
--- the node is a leaf with this label
-abbrev pub is_leaf : ℕ → Node → Bool
-is_leaf side (Leaf number) = number == side
-is_leaf side (Inner cost set lower upper) = false
-is_leaf side (Chain cost set bits x end) = false
-
--- the bits of the run of a side label from a node down
-abbrev pub bits_down : ℕ → Node → List Bool
-bits_down side (Inner cost set lower upper) =
-    if is_leaf side lower then true ∷ bits_down side upper
-    else (if is_leaf side upper then false ∷ bits_down side lower else [])
-bits_down side (Leaf number) = []
-bits_down side (Chain cost set bits x end) = []
 
 -- the node at the end of the run of a side label from a node down
 abbrev pub end_down : ℕ → Node → Node
@@ -125,3 +126,7 @@ pub record IsCompacted (node : Node) (old new : List DueLine) : Type 0 where
   pub compact : Node
   pub is : IsCompactNode node compact
   pub lines : new ≡ old ++ lines_of compact
+
+-- the node has at most 128 levels below it
+abbrev pub IsShallow : Node → Type 0
+IsShallow node = (count : ℕ) × (room : ℕ) × (room ≤ 128) × HasChainForm count node room

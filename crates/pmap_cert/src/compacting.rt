@@ -4,12 +4,14 @@ ghost use Rattle.std.specs.Option.{option_or};
 ghost use Rattle.pmap_cert.specs.Certificate.{certificate_of};
 ghost use Rattle.pmap_cert.specs.Compacting.{compact};
 ghost use Rattle.pmap_cert.specs.Node.{IsPlainNode, label_of};
-ghost use Rattle.pmap_cert.specs.Placing.{AreEndsFrom, ArePlain, EndsAt, HasHalves, HasPlace, IsBelow, IsCompactNode, IsCompacted, IsLong, IsRun, IsRunEnd, IsShort, IsStep, is_leaf, node_from};
+ghost use Rattle.pmap_cert.specs.Packed.{bits_in};
+ghost use Rattle.pmap_cert.specs.Placing.{AreEndsFrom, ArePlain, EndsAt, HasHalves, HasPlace, IsBelow, IsCompactNode, IsCompacted, IsLong, IsRun, IsRunEnd, IsShallow, IsShort, IsStep, is_leaf, node_from};
 
 use crate::certificate::Certificate;
 use crate::format::Format;
 use crate::nodes::Nodes;
 use crate::root::Root;
+use crate::way::Way;
 use pmap_text::LabelId;
 use std::alloc::{AllocError, Global};
 
@@ -90,24 +92,18 @@ fn step(nodes: &Nodes, ends: &[usize], number: usize, side: LabelId) -> Option<(
     }
 }
 
-// Follows a run of the side label from line `first`, stores its bits, and returns the line of the node at its end.
-fn go_down(
-    bits: &mut Vec<bool>,
-    nodes: &Nodes,
-    ends: &[usize],
-    first: usize,
-    side: LabelId,
-) -> Result<usize, AllocError>
+// Follows a run of the side label from line `first`, and returns its bits and the line of the node at its end.
+fn go_down(nodes: &Nodes, ends: &[usize], first: usize, side: LabelId) -> (Way, usize)
     requires { HasPlace nodes.now ends.now first }
-    ensures { IfOk result (λ end. IsRun nodes.now ends.now side.0 first bits.new.items end) }
+    ensures { IsRun nodes.now ends.now side.0 first (bits_in result.0) result.1 }
 {
-    bits.clear();
+    let mut way = Way { value: 0, count: 0 };
     let mut number = first;
     while let Some((bit, chosen)) = step(nodes, ends, number, side) {
-        bits.push(bit)?;
+        way = way.with(bit);
         number = chosen;
     }
-    Ok(number)
+    (way, number)
 }
 
 // The side label of the run of an inner node whose halves have these lines.
@@ -124,34 +120,30 @@ fn side_of(nodes: &Nodes, lower: usize, upper: usize) -> Option<LabelId>
     }
 }
 
-// Returns the side label and the end's line of the run from an inner node whose halves have these lines, and stores the
-// run's bits. Returns `None` if the run has fewer than two bits.
+// Returns the bits, the side label and the end's line of the run from an inner node whose halves have these lines, or
+// `None` if the run has fewer than two bits.
 fn run_of(
-    bits: &mut Vec<bool>,
     nodes: &Nodes,
     ends: &[usize],
     number: usize,
     halves: (usize, usize),
-) -> Result<Option<(LabelId, usize)>, AllocError>
+) -> Option<(Way, LabelId, usize)>
     requires place { HasPlace nodes.now ends.now number }
     requires halves { HasHalves nodes.now ends.now number halves.0 halves.1 }
-    ensures { IfOk result (λ found. MatchOption found (IsShort (node_from nodes.now number))
-        (λ x. IsLong nodes.now ends.now number x.0.0 bits.new.items x.1)) }
+    ensures { MatchOption result (IsShort (node_from nodes.now number))
+        (λ x. IsLong nodes.now ends.now number x.1.0 (bits_in x.0) x.2) }
 {
-    let Some(side) = side_of(nodes, halves.0, halves.1) else {
-        return Ok(None);
-    };
-    let end = go_down(bits, nodes, ends, number, side)?;
-    if bits.len() < 2 {
-        return Ok(None);
+    let side = side_of(nodes, halves.0, halves.1)?;
+    let (way, end) = go_down(nodes, ends, number, side);
+    if way.len() < 2 {
+        return None;
     }
-    Ok(Some((side, end)))
+    Some((way, side, end))
 }
 
 // Compacts the node at line `number` and adds the result to `out`.
 fn compact_node(
     out: &mut Nodes,
-    bits: &mut Vec<bool>,
     nodes: &Nodes,
     ends: &[usize],
     number: usize,
@@ -164,16 +156,16 @@ fn compact_node(
             out.push_leaf(id)?;
             Ok(())
         }
-        Below::Halves(lower, upper) => match run_of(bits, nodes, ends, number, (lower, upper))? {
-            Some((side, end)) => {
-                out.push_chain(nodes.cost(number), bits.as_slice(), side, nodes.set(number))?;
-                compact_node(out, bits, nodes, ends, end)?;
+        Below::Halves(lower, upper) => match run_of(nodes, ends, number, (lower, upper)) {
+            Some((way, side, end)) => {
+                out.push_chain(nodes.cost(number), way, side, nodes.set(number))?;
+                compact_node(out, nodes, ends, end)?;
                 Ok(())
             }
             None => {
                 out.push_inner(nodes.cost(number), nodes.set(number))?;
-                compact_node(out, bits, nodes, ends, lower)?;
-                compact_node(out, bits, nodes, ends, upper)?;
+                compact_node(out, nodes, ends, lower)?;
+                compact_node(out, nodes, ends, upper)?;
                 Ok(())
             }
         },
@@ -182,14 +174,14 @@ fn compact_node(
 
 // Compacts a root.
 fn compact_root(alloc: Global, root: &Root) -> Result<Root, AllocError>
-    requires { IsPlainNode root.now }
+    requires plain { IsPlainNode root.now }
+    requires shallow { IsShallow root.now }
     ensures { IfOk result (λ found. IsCompactNode root.now found) }
 {
     let nodes = root.nodes();
     let ends = ends_of(alloc, nodes)?;
     let mut out = Nodes::new(alloc);
-    let mut bits = Vec::new(alloc);
-    compact_node(&mut out, &mut bits, nodes, ends.as_slice(), 0)?;
+    compact_node(&mut out, nodes, ends.as_slice(), 0)?;
     Ok(Root::new(out))
 }
 

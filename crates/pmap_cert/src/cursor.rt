@@ -1,8 +1,10 @@
 ghost use Rattle.std.specs.Prelude.{◌≡◌, ◌<◌, ◌∷◌, [], length, map, option_map};
+ghost use Rattle.pmap_cert.specs.Packed.{bits_in};
 ghost use Rattle.pmap_cert.specs.Node.{bits_of, cost_of, first_node, from_next_line, label_of, set_of, side_of};
 
 use crate::nodes::Nodes;
 use crate::root::Root;
+use crate::way::Way;
 use pmap_text::LabelId;
 use std::marker::Model;
 
@@ -64,11 +66,11 @@ impl<'a> Cursor<'a> {
     }
 
     /// Returns the bits of the node: at least one for a chain, none for another node.
-    pub fn bits(&self) -> &'a [bool]
+    pub fn way(&self) -> Way
         requires { 0 < length self.now }
-        ensures { result.now ≡ bits_of (first_node self.now) }
+        ensures { bits_in result ≡ bits_of (first_node self.now) }
     {
-        self.nodes.bits(self.number)
+        self.nodes.way(self.number)
     }
 
     /// Returns the side label of the node if it is a chain.

@@ -36,6 +36,7 @@ mod node_line;
 mod nodes;
 mod pool;
 mod root;
+mod way;
 mod words;
 mod writing;
 
@@ -60,4 +61,5 @@ pub use laws::{
 pub use nodes::Nodes;
 pub use pool::{SetId, SetPool};
 pub use root::Root;
+pub use way::Way;
 pub use writing::{push_head, push_inner_line, push_leaf_line, write_cert};

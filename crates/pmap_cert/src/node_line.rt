@@ -2,18 +2,20 @@
 ghost use Rattle.std.specs.Prelude.{◌≡◌, ◌≢◌, ◌^◌, ◌<◌, ◌≤◌, ◌⊎◌, ◌∷◌, IfOk, IsTrue, false, length, map, option_map, slice_index};
 ghost use Rattle.pmap_cert.specs.Format.{format_number};
 ghost use Rattle.pmap_cert.specs.LineTexts.{BeginsWithBits, BeginsWithChain, BeginsWithClaim, BeginsWithLeaf, BeginsWithLine, BeginsWithNumber, BeginsWithSet, Reads, after_byte as after_byte_of};
+ghost use Rattle.pmap_cert.specs.Packed.{bits_in};
 ghost use Rattle.pmap_cert.specs.Words.{line_model};
 
 use crate::format::Format;
+use crate::way::Way;
 use pmap_text::{LabelId, Labels};
 use std::alloc::AllocError;
 
-/// The line of a node without its set and bits: a leaf's label, an inner node's cost, or a chain's cost and side label.
+/// The line of a node without its set: a leaf's label, an inner node's cost, or a chain's cost, bits and side label.
 #[derive(Clone, Copy)]
 pub enum NodeLine {
     Leaf(LabelId),
     Inner(u32),
-    Chain(u32, LabelId),
+    Chain(u32, Way, LabelId),
 }
 
 /// The limits of node lines: the format, the number of bits of an address, and the label table.
@@ -22,13 +24,7 @@ pub struct Frame<'a> {
     pub format: Format,
     pub width: u32,
     pub labels: &'a Labels,
-}
-
-/// The set and the bits of the line that was read last.
-#[derive(Drop)]
-pub struct Kept {
-    pub set: Vec<LabelId>,
-    pub bits: Vec<bool>,
+    ghost narrow: { width ≤ 128 },
 }
 
 // Returns what follows this byte, if the text begins with it.
@@ -80,29 +76,27 @@ fn number_word(text: &[u8], bound: u64) -> Option<(u32, &[u8])>
     None
 }
 
-// Reads a space and 1 to `most` bits, stores the bits, and returns the text after them.
-fn bits_word<'a>(
-    bits: &mut Vec<bool>,
-    text: &'a [u8],
-    most: u32,
-) -> Result<Option<&'a [u8]>, AllocError>
-    ensures { IfOk result (λ found. Reads (BeginsWithBits most text.entry.now)
-        (option_map (λ rest. (bits.new.items, rest.now)) found)) }
+// Reads a space and 1 to `most` bits, and returns the bits and the text after them.
+fn bits_word(text: &[u8], most: u32) -> Option<(Way, &[u8])>
+    requires { most ≤ 128 }
+    ensures { Reads (BeginsWithBits most text.now) (option_map (λ x. (bits_in x.0, x.1.now)) result) }
 {
-    bits.clear();
-    let Some(digits) = after_byte(text, b' ') else {
-        return Ok(None);
-    };
+    let digits = after_byte(text, b' ')?;
+    let mut way = Way { value: 0, count: 0 };
     for (at, byte) in digits.iter().enumerate() {
         if *byte != b'0' && *byte != b'1' {
-            return Ok(if at == 0 { None } else { Some(&digits[at..]) });
+            return if at == 0 {
+                None
+            } else {
+                Some((way, &digits[at..]))
+            };
         }
         if at >= most as usize {
-            return Ok(None);
+            return None;
         }
-        bits.push(*byte == b'1')?;
+        way = way.with(*byte == b'1');
     }
-    Ok(None)
+    None
 }
 
 // Reads a set of rising numbers to the end of the line, stores it, and returns the text after the line.
@@ -167,34 +161,34 @@ fn claim<'a>(
     }
 }
 
-// Reads a chain's line after its letter, stores bits and set, and returns cost, side label and the text after the line.
+// Reads a chain's line after its letter, stores the set, and returns cost, bits, side label and the text after the line.
 fn chain<'a>(
-    kept: &mut Kept,
+    set: &mut Vec<LabelId>,
     text: &'a [u8],
     most: u32,
     count: u64,
-) -> Result<Option<((u32, LabelId), &'a [u8])>, AllocError>
-    requires { count ≤ 2 ^ 32 }
+) -> Result<Option<((u32, Way, LabelId), &'a [u8])>, AllocError>
+    requires few { most ≤ 128 }
+    requires count { count ≤ 2 ^ 32 }
     ensures { IfOk result (λ found. Reads (BeginsWithChain most count text.entry.now)
-        (option_map (λ x. ((x.0.0, (kept.new.bits.items, (x.0.1.0, map (λ id. id.0) kept.new.set.items))), x.1.now))
-        found)) }
+        (option_map (λ x. ((x.0.0, (bits_in x.0.1, (x.0.2.0, map (λ id. id.0) set.new.items))), x.1.now)) found)) }
 {
     let Some((cost, rest)) = number_word(text, 1 << 32) else {
         return Ok(None);
     };
-    let Some(rest) = bits_word(&mut kept.bits, rest, most)? else {
+    let Some((way, rest)) = bits_word(rest, most) else {
         return Ok(None);
     };
-    match claim(&mut kept.set, rest, count, count)? {
-        Some((side, rest)) => Ok(Some(((cost, LabelId(side)), rest))),
+    match claim(set, rest, count, count)? {
+        Some((side, rest)) => Ok(Some(((cost, way, LabelId(side)), rest))),
         None => Ok(None),
     }
 }
 
 /// Reads the node line at the beginning of a text, and returns it with the text after it, or `None` if it is malformed
-/// for `count` labels. `kept` gets the set of an inner node or a chain, and the bits of a chain.
+/// for `count` labels. Stores the set of an inner node or a chain.
 pub fn node_line<'a>(
-    kept: &mut Kept,
+    set: &mut Vec<LabelId>,
     frame: &Frame,
     text: &'a [u8],
     count: u64,
@@ -202,7 +196,7 @@ pub fn node_line<'a>(
     requires { count ≤ 2 ^ 32 }
     ensures { IfOk result (λ found. Reads
         (BeginsWithLine (format_number frame.now.format) frame.now.width count text.entry.now)
-        (option_map (λ x. (line_model kept.new.set.items kept.new.bits.items x.0, x.1.now)) found)) }
+        (option_map (λ x. (line_model set.new.items x.0, x.1.now)) found)) }
 {
     if let Some(rest) = after_byte(text, b'l') {
         match leaf(rest, count) {
@@ -210,13 +204,13 @@ pub fn node_line<'a>(
             None => Ok(None),
         }
     } else if let Some(rest) = after_byte(text, b'n') {
-        match claim(&mut kept.set, rest, 1 << 32, count)? {
+        match claim(set, rest, 1 << 32, count)? {
             Some((cost, rest)) => Ok(Some((NodeLine::Inner(cost), rest))),
             None => Ok(None),
         }
     } else if let (Format::Two, Some(rest)) = (frame.format, after_byte(text, b'c')) {
-        match chain(kept, rest, frame.width, count)? {
-            Some(((cost, side), rest)) => Ok(Some((NodeLine::Chain(cost, side), rest))),
+        match chain(set, rest, frame.width, count)? {
+            Some(((cost, way, side), rest)) => Ok(Some((NodeLine::Chain(cost, way, side), rest))),
             None => Ok(None),
         }
     } else {

@@ -1,8 +1,10 @@
 ghost use Rattle.std.specs.Prelude.{◌≡◌, ◌<◌, ◌++◌, ◌∷◌, [], IfOk, None, OnErr, OnOk, length, map, option_map, slice_index_or};
 ghost use Rattle.pmap_cert.specs.FormatReading.{ChainLine, InnerLine, LeafLine, PlainLine};
 ghost use Rattle.pmap_cert.specs.Node.{line_bits, line_cost, line_label, line_set, line_side};
+ghost use Rattle.pmap_cert.specs.Packed.{bits_in};
 
 use crate::pool::{SetId, SetPool, halves, joined_halves};
+use crate::way::Way;
 use pmap_text::LabelId;
 use std::alloc::{AllocError, Global};
 use std::marker::Model;
@@ -16,24 +18,22 @@ enum Packed {
     Chain(u32, u32),
 }
 
-// A chain: its claim, its side label, and the range of its bits.
+// A chain: its claim, its side label, and its bits.
 #[derive(Clone, Copy)]
 struct PackedChain {
     cost: u32,
     side: LabelId,
     set: SetId,
-    start: usize,
-    end: usize,
+    way: Way,
 }
 
-/// The nodes of a certificate in the order of their lines. Each takes 16 bytes, a chain 32 more and one per bit. A pool
-/// has the labels of the sets that don't have exactly one.
+/// The nodes of a certificate in the order of their lines. Each takes 16 bytes, a chain 48 more. A pool has the labels
+/// of the sets that don't have exactly one.
 #[derive(Drop)]
 pub struct Nodes {
     lines: Vec<Packed>,
     chains: Vec<PackedChain>,
     sets: SetPool,
-    bits: Vec<bool>,
 }
 
 impl Model for Nodes {
@@ -47,13 +47,11 @@ impl Model for Nodes {
     ghost view = { λ n. map (line_in (record {
       labels = n.sets;
       chains = n.chains.items;
-      bits = n.bits.items;
     })) n.lines.items };
 
     ghost invariant = { λ n. All (IsPacked (record {
       labels = n.sets;
       chains = n.chains.items;
-      bits = n.bits.items;
     })) n.lines.items };
 }
 
@@ -66,7 +64,6 @@ impl Nodes {
             lines: Vec::new(alloc),
             chains: Vec::new(alloc),
             sets: SetPool::new(alloc),
-            bits: Vec::new(alloc),
         }
     }
 
@@ -102,24 +99,21 @@ impl Nodes {
     pub fn push_chain(
         &mut self,
         cost: u32,
-        bits: &[bool],
+        way: Way,
         side: LabelId,
         set: &[LabelId],
     ) -> Result<(), AllocError>
         ensures ok { OnOk result (self.new
-            ≡ self.old ++ ChainLine cost bits.now side.0 (map (λ id. id.0) set.now) ∷ []) }
+            ≡ self.old ++ ChainLine cost (bits_in way) side.0 (map (λ id. id.0) set.now) ∷ []) }
         ensures err { OnErr result (self.new ≡ self.old) }
     {
         let set = self.sets.hold(set)?;
-        let start = self.bits.len();
-        self.bits.extend_from_slice(bits)?;
         let (low, high) = halves(self.chains.len());
         self.chains.push(PackedChain {
             cost,
             side,
             set,
-            start,
-            end: self.bits.len(),
+            way,
         })?;
         self.lines.push(Packed::Chain(low, high))?;
         Ok(())
@@ -133,8 +127,7 @@ impl Nodes {
     {
         match self.lines[number] {
             Packed::Leaf(id) => Some(id),
-            Packed::Inner(_, _) => None,
-            Packed::Chain(_, _) => None,
+            Packed::Inner(_, _) | Packed::Chain(_, _) => None,
         }
     }
 
@@ -166,17 +159,13 @@ impl Nodes {
     }
 
     /// Returns the bits of the node at line `number`, none if it isn't a chain.
-    pub fn bits(&self, number: usize) -> &[bool]
+    pub fn way(&self, number: usize) -> Way
         requires { number < length self.now }
-        ensures { result.now ≡ line_bits (slice_index_or self.now number (PlainLine (LeafLine 0))) }
+        ensures { bits_in result ≡ line_bits (slice_index_or self.now number (PlainLine (LeafLine 0))) }
     {
         match self.lines[number] {
-            Packed::Leaf(_) => &self.bits[..0],
-            Packed::Inner(_, _) => &self.bits[..0],
-            Packed::Chain(low, high) => {
-                let chain = self.chains[joined_halves(low, high)];
-                &self.bits[chain.start..chain.end]
-            }
+            Packed::Leaf(_) | Packed::Inner(_, _) => Way { value: 0, count: 0 },
+            Packed::Chain(low, high) => self.chains[joined_halves(low, high)].way,
         }
     }
 
@@ -187,8 +176,7 @@ impl Nodes {
             ≡ line_side (slice_index_or self.now number (PlainLine (LeafLine 0))) }
     {
         match self.lines[number] {
-            Packed::Leaf(_) => None,
-            Packed::Inner(_, _) => None,
+            Packed::Leaf(_) | Packed::Inner(_, _) => None,
             Packed::Chain(low, high) => Some(self.chains[joined_halves(low, high)].side),
         }
     }
@@ -201,7 +189,6 @@ impl Nodes {
             lines: Vec::from_slice(alloc, self.lines.as_slice())?,
             chains: Vec::from_slice(alloc, self.chains.as_slice())?,
             sets: self.sets.copy(alloc)?,
-            bits: Vec::from_slice(alloc, self.bits.as_slice())?,
         })
     }
 }

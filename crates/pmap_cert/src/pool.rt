@@ -1,5 +1,5 @@
 //! A pool of sets of labels.
-ghost use Rattle.std.specs.Prelude.{◌≡◌, ◌<◌, IfOk, length, map};
+ghost use Rattle.std.specs.Prelude.{◌≡◌, ◌<◌, [], IfOk, length, map};
 ghost use Rattle.pmap_cert.specs.Packed.{HasSet, IsGrown, IsHeld, joined_halves, set_in};
 
 use pmap_text::LabelId;
@@ -51,7 +51,9 @@ pub fn halves(number: usize) -> (u32, u32)
 
 impl SetPool {
     /// Constructs an empty pool.
-    pub fn new(alloc: Global) -> SetPool {
+    pub fn new(alloc: Global) -> SetPool
+        ensures { result ≡ [] }
+    {
         SetPool {
             labels: Vec::new(alloc),
         }

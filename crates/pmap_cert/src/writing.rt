@@ -7,10 +7,12 @@ ghost use Rattle.pmap_cert.specs.CertificateText.{bit_digits, certificate_text, 
 ghost use Rattle.pmap_cert.specs.Format.{format_number};
 ghost use Rattle.pmap_cert.specs.FormatReading.{LeafLine, PlainLine};
 ghost use Rattle.pmap_cert.specs.Node.{line_text};
+ghost use Rattle.pmap_cert.specs.Packed.{bits_in};
 
 use crate::certificate::Certificate;
 use crate::format::Format;
 use crate::nodes::Nodes;
+use crate::way::Way;
 use itoa::Buffer;
 use pmap_text::{LabelId, Labels};
 use prefix_keys::Version;
@@ -62,12 +64,14 @@ pub fn push_inner_line(out: &mut Vec<u8>, cost: u32, set: &[LabelId]) -> Result<
 }
 
 // Appends a space and the bits as digits 0 and 1.
-fn push_bits(out: &mut Vec<u8>, bits: &[bool]) -> Result<(), AllocError>
-    ensures { OnOk result (out.new.items ≡ out.old.items ++ 32 ∷ bit_digits bits.now) }
+fn push_bits(out: &mut Vec<u8>, way: Way) -> Result<(), AllocError>
+    ensures { OnOk result (out.new.items ≡ out.old.items ++ 32 ∷ bit_digits (bits_in way)) }
 {
     out.push(b' ')?;
-    for bit in bits {
-        out.push(if *bit { b'1' } else { b'0' })?;
+    let mut rest = way;
+    while let Some((bit, after)) = rest.split_first() {
+        out.push(if bit { b'1' } else { b'0' })?;
+        rest = after;
     }
     Ok(())
 }
@@ -76,16 +80,16 @@ fn push_bits(out: &mut Vec<u8>, bits: &[bool]) -> Result<(), AllocError>
 fn push_chain(
     out: &mut Vec<u8>,
     cost: u32,
-    bits: &[bool],
+    way: Way,
     side: LabelId,
     set: &[LabelId],
 ) -> Result<(), AllocError>
     ensures { OnOk result (out.new.items
-        ≡ out.old.items ++ (chain_line cost bits.now side.0 (map (λ id. id.0) set.now) ++ 10 ∷ [])) }
+        ≡ out.old.items ++ (chain_line cost (bits_in way) side.0 (map (λ id. id.0) set.now) ++ 10 ∷ [])) }
 {
     out.push(b'c')?;
     push_number(out, cost)?;
-    push_bits(out, bits)?;
+    push_bits(out, way)?;
     push_number(out, side.0)?;
     push_set(out, set)?;
     out.push(b'\n')?;
@@ -104,7 +108,7 @@ fn push_line(out: &mut Vec<u8>, nodes: &Nodes, number: usize) -> Result<(), Allo
     let cost = nodes.cost(number);
     let set = nodes.set(number);
     match nodes.side(number) {
-        Some(side) => push_chain(out, cost, nodes.bits(number), side, set),
+        Some(side) => push_chain(out, cost, nodes.way(number), side, set),
         None => push_inner_line(out, cost, set),
     }
 }

@@ -22,7 +22,8 @@ use Rattle.label_trie.specs.Nodes.{encode, leaf_node}
 use Rattle.label_trie.specs.Tree.{Fork, Tip, Tree}
 use Rattle.label_trie.proofs.Grown.{IsSplit, block_some, is_split, leaf_added}
 use Rattle.pmap_minimise.specs.Areas.{AreFew, AreHalvesOf, IsArea, IsMade, IsRun, IsStep, IsStop, StepsHigh, StepsLow, IsTreeOf, number_at, own_label}
-use Rattle.pmap_minimise.specs.Built.{cost_above, digit, node_over, set_above, way_node, way_to}
+use Rattle.pmap_cert.specs.Ways.{digit, way_to}
+use Rattle.pmap_minimise.specs.Built.{cost_above, node_over, set_above, way_node}
 use Rattle.pmap_minimise.specs.Numbers.{IsExact}
 use Rattle.pmap_minimise.specs.declared.area.Area.{Area}
 use Rattle.pmap_minimise.proofs.Ways.{above-rising, down-high, down-low, down-none, way-high, way-low, way-set}

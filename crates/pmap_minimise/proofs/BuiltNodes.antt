@@ -28,7 +28,9 @@ use Rattle.label_trie.proofs.Built.{map_layers, parted_most}
 use Rattle.label_trie.proofs.NodeLeaves.{fits_HasRoom, leaves_settled, leaves_undivided, length_leaves}
 use Rattle.pmap_minimise.specs.Areas.{AreHalvesOf, IsArea, IsMade, IsRun, IsLongRun, IsRunTo, IsShortRun, IsStop, IsTreeOf, StepsHigh, StepsLow, number_at, own_label}
 use Rattle.pmap_minimise.specs.Building.{AddsChain, AddsInner, AddsLeaf, HasRisingSet, exact_cost}
-use Rattle.pmap_minimise.specs.Built.{HasGrown, IsAt, IsBuilt, IsBuiltFor, cost_above, way_node, way_to}
+use Rattle.pmap_cert.specs.Ways.{way_to}
+use Rattle.pmap_cert.proofs.Ways.{way-length}
+use Rattle.pmap_minimise.specs.Built.{HasGrown, IsAt, IsBuilt, IsBuiltFor, cost_above, way_node}
 use Rattle.pmap_minimise.specs.Numbers.{IsExact, IsExactBy, IsExactSet, IsExactSetBy, common_numbers, has_number}
 use Rattle.pmap_minimise.specs.declared.area.Area.{Area}
 use Rattle.pmap_minimise.specs.declared.built.Built.{Built}
@@ -40,7 +42,7 @@ use Rattle.pmap_text.proofs.Ranges.{ordered_at}
 use Rattle.pmap_minimise.proofs.Areas.{AreSameHalves, area-split, halves-made, leaf-made, made-side, made-stop, run-below, run-down, run-made, same-halves, way_tree}
 use Rattle.pmap_minimise.proofs.TreeNodes.{node-cost, tree-certified}
 use Rattle.pmap_minimise.proofs.Texts.{exact-rising}
-use Rattle.pmap_minimise.proofs.Halves.{width-most}
+use Rattle.prefix_keys.proofs.Groups.{width-le}
 use Rattle.pmap_minimise.proofs.Ways.{down-high, down-low, way-cost, way-set}
 
 -- an item of a list keeps its index if more items are appended
@@ -257,11 +259,7 @@ module _ (s : StretchesModel) (a low high : Area) (low_tree high_tree : Tree) (l
               omega arith
       by (suc (suc count)) few is = absurd (omega arith)
 
-way-length : (value bits : ℕ) → length (way_to value bits) ≡ bits
-way-length value zero = refl
-way-length value (suc bits) = let rest = way-length value bits in omega arith
-
--- an inner node's line completes a block with two halves and a short run
+-- a block of two halves, whose run is short
 pub halves-built : (s : StretchesModel) (a low high : Area) (old middle after new : Built) (above below claim : Claim) → IsArea s a → AreHalvesOf s a low high
     → IsShortRun s a (option_or (own_label s low) (own_label s high)) → IsBuilt s high old middle above → IsBuilt s low middle after below → AddsInner below above after new claim
     → IsBuilt s a old new claim
@@ -351,7 +349,7 @@ chain-built s a low high end old middle new below claim side number bits_are is 
         side_is = refl;
         bits_are = λ i. way_to (sym number_is i) (sym bits_is i);
         long = long;
-        few = let inside = run.area.within in let len = run.len in omega (arith, width-most s.version);
+        few = let inside = run.area.within in let len = run.len in omega (arith, width-le s.version);
         node_is = λ i. way_node side.0 (sym number_is i) (sym bits_is i) built.node;
       };
       grown = grown-again old middle new built.grown grown;
@@ -384,7 +382,7 @@ whole-built m s a old new claim version are first len none built =
     let layers = map_layers m m.statements refl in
     let fits = tree_is.fits (map_of m) layers in
     let labelled = tree_is.labelled refl in
-    let most = mul-le-mul_right (length m.statements) (width-most v) in
+    let most = mul-le-mul_right (length m.statements) (width-le v) in
     let few = rw all at tree_is.few in
     record {
       leaves = leaves_of built.tree 0 0;
@@ -406,7 +404,7 @@ pub whole-few : (m : MapText) → parted_sum (width_of m.version) (width_of m.ve
 whole-few m =
     let W = width_of m.version in
     let all : W - 0 ≡ W = omega arith in
-    let most = mul-le-mul_right (length m.statements) (width-most m.version) in
+    let most = mul-le-mul_right (length m.statements) (width-le m.version) in
     rw all (omega (arith, parted_most W m.statements, most, m.within_limit))
 
 -- a block's first stretch has a label

@@ -1,20 +1,15 @@
--- The widths of addresses, and the halves of a block.
+-- The halves of a block.
 use Rattle.std.proofs.Common.{◌≡◌, ℕ, ◌+◌, ◌-◌, ◌*◌, ◌%◌, ◌^◌, ◌<◌, ◌≤◌, refl, arith}
 use Rattle.prefix_keys.specs.Block.{block_number}
 use Rattle.prefix_keys.specs.Version.{width_of}
 use Rattle.prefix_keys.specs.declared.block.Block.{Block}
 use Rattle.prefix_keys.specs.declared.version.Version.{Version}
-use Rattle.prefix_keys.specs.declared.version.Version.TheVariants.{V4, V6}
 use Rattle.prefix_keys.proofs.Quotients.{are_halves}
 use Rattle.label_trie.specs.Leaf.{number_of}
 use Rattle.label_trie.specs.Parts.{IsHalf}
 use Rattle.label_trie.proofs.Divided.{is_half}
 
-pub width-most : (v : Version) → width_of v ≤ 128
-width-most V4 = omega arith
-width-most V6 = omega arith
-
--- the block with these parts
+-- a block by its parts
 abbrev made : (version : Version) (value len : ℕ) → len ≤ width_of version → value < 2 ^ width_of version → value % 2 ^ (width_of version - len) ≡ 0 → Block
 made version value len inside fits free =
     record { version = version; value = value; len = len; len_in_range = inside; in_range = fits; no_host_bit = free }

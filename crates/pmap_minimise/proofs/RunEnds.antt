@@ -19,7 +19,7 @@ use Rattle.label_trie.specs.Layers.{IsBlock}
 use Rattle.label_trie.proofs.Grown.{are_halves, number_at as first-number}
 use Rattle.pmap_minimise.specs.Areas.{AreHalvesOf, HasLabel, IsArea, IsRun, IsRunTo, IsStop, number_at, own_label}
 use Rattle.pmap_minimise.specs.declared.area.Area.{Area}
-use Rattle.pmap_minimise.proofs.Halves.{width-most}
+use Rattle.prefix_keys.proofs.Groups.{width-le}
 use Rattle.pmap_minimise.proofs.Areas.{are-halves, area-split, block-order, one-index, own-is, own-single, run-below, same-area}
 
 -- How many first bits two numbers share, by their exclusive or.
@@ -507,7 +507,7 @@ pub trimmed : (s : StretchesModel) (side : ℕ) (a : Area) (is : IsArea s a) →
     → x ≡ max a.first (first_at s i) → y ≡ min a.last (last_at s j) → (HasLabel s side i → ⊥) → (HasLabel s side j → ⊥) → IsTrimmed s side a x y i j
 trimmed s side a is divided b d x y i j first last index index' is_x is_y low high =
     let inside = is-inside s side a is divided b d x y i j first last index index' is_x is_y low high in
-    let most = width-most s.version in
+    let most = width-le s.version in
     record { inside = inside; shared = is-shared x y (width_of s.version - a.len) (omega arith) (near s side a is x y i j 0 inside) }
 
 -- the last address of a block of `len` bits with the address x

@@ -1,13 +1,10 @@
 -- The entries of a block from which a run leads down.
-use Rattle.std.proofs.Common.{◌≡◌, ℕ, zero, suc, ◌+◌, ◌-◌, ◌*◌, ◌/◌, ◌%◌, ◌^◌, ◌<◌, ◌≤◌, ◌==◌, ◌||◌, ◌∙◌, Bool, true, false, cond, List, [], ◌∷◌, ◌++◌, Option, Some, None, length, map, get_or, slice_get, refl, sym, ap, subst, arith}
+use Rattle.std.proofs.Common.{◌≡◌, ℕ, zero, suc, ◌+◌, ◌-◌, ◌*◌, ◌<◌, ◌≤◌, ◌==◌, ◌||◌, ◌∙◌, Bool, true, false, cond, List, [], ◌∷◌, ◌++◌, Option, Some, None, length, map, get_or, slice_get, refl, sym, ap, subst, arith}
 use Rattle.std.proofs.lemmas.Bool.{eq-eqb, eqb-true}
-use Rattle.std.proofs.Math.Nat.{mod-lt, mul-le-mul_right, mul-mod_left, pow-suc}
 use Rattle.std.proofs.lemmas.List.Elements.{All-weaker}
-use Rattle.std.proofs.lemmas.Nat.{mod-pow-add, pow-add, pow_pos, shl-shr}
 use Rattle.std.proofs.lemmas.Option.{get_or_from_slice_get, same_Some}
 use Rattle.prefix_keys.specs.Version.{width_of}
 use Rattle.prefix_keys.specs.declared.block.Block.{Block}
-use Rattle.prefix_keys.proofs.Quotients.{block_end, whole}
 use Rattle.pmap_text.specs.declared.entry.Entry.{Entry}
 use Rattle.pmap_text.specs.declared.label.LabelId.{LabelId}
 use Rattle.pmap_text.specs.PrefixList.{prefix_of}
@@ -16,15 +13,16 @@ use Rattle.pmap_cert.specs.MinimalPair.{entries_of}
 use Rattle.pmap_cert.specs.Node.{HasNumberForm, Inner, Leaf, Node, lines_of, set_of, tree_of}
 use Rattle.label_trie.specs.Leaf.{number_of}
 use Rattle.label_trie.specs.Parts.{IsHalf}
-use Rattle.pmap_minimise.specs.Built.{cost_above, digit, node_over, set_above, way_node, way_to, with_number}
+use Rattle.pmap_cert.specs.Chain.{chosen_half}
+use Rattle.pmap_cert.specs.Ways.{LeadsTo, digit, way_number, way_to}
+use Rattle.pmap_minimise.specs.Built.{cost_above, node_over, set_above, way_node, with_number}
 use Rattle.pmap_minimise.specs.Entered.{AddsEntries, IsEntryOf, text_of}
-use Rattle.pmap_minimise.specs.Listing.{IsDown}
 use Rattle.pmap_minimise.specs.Numbers.{IsOwn, IsOwnBy, IsSound, has_number, keeps, numbers_of}
 use Rattle.pmap_minimise.specs.declared.built.Built.{Built}
 use Rattle.pmap_minimise.specs.declared.built.Chain.{Chain as ChainParts}
 use Rattle.pmap_minimise.proofs.Compacted.{IsChainNode}
 use Rattle.pmap_minimise.proofs.Entered.{inner-adds, leaf-adds}
-use Rattle.pmap_minimise.proofs.Halves.{HasHalves, has-halves, width-most}
+use Rattle.pmap_minimise.proofs.Halves.{HasHalves, has-halves}
 use Rattle.pmap_minimise.proofs.Ways.{with-has}
 
 -- a node has the same entries for equal blocks
@@ -44,9 +42,9 @@ same-adds node block end inherited old new version len number adds =
 record IsDownBy (value bits : ℕ) (block end : Block) : Type 0 where
   half : Block
   is : IsHalf (digit value bits) block half
-  rest : IsDown value bits half end
+  rest : LeadsTo half end (way_to value bits)
 
-down-step : (value bits : ℕ) (block end : Block) → IsDown value (suc bits) block end → IsDownBy value bits block end
+down-step : (value bits : ℕ) (block end : Block) → LeadsTo block end (way_to value (suc bits)) → IsDownBy value bits block end
 down-step value bits block end down = by (digit value bits) refl (omega arith)
   where
     halves : HasHalves block
@@ -56,88 +54,27 @@ down-step value bits block end down = by (digit value bits) refl (omega arith)
         let width : width_of end.version ≡ width_of block.version = ap width_of down.version in
         has-halves block (omega arith)
 
-    rest : (d : ℕ) (half : Block) → digit value bits ≡ d → IsHalf d block half → IsDownBy value bits block end
-    rest d half same is =
+    rest : (d : ℕ) (half : Block) → digit value bits ≡ d → IsHalf d block half → chosen_half (d == 1) (number_of block) ≡ 2 * number_of block + d → IsDownBy value bits block end
+    rest d half same is chosen =
         let len = down.len in
         let len' = is.len in
-        let number = down.number in
-        let number' = is.number in
-        let twice : 2 ^ suc bits ≡ 2 ^ bits * 2 = pow-suc 2 bits in
-        let next : 1 + bits ≡ suc bits = omega arith in
-        let digits : value % 2 ^ suc bits ≡ digit value bits * 2 ^ bits + value % 2 ^ bits = ap (λ (n : ℕ). value % 2 ^ n) (sym next) ∙ mod-pow-add value 1 bits in
         record {
           half = half;
           is = subst (λ (e : ℕ). IsHalf e block half) (sym same) is;
           rest = record {
             version = down.version ∙ sym is.version;
             len = omega arith;
-            number = joined (number_of end) (number_of half) (number_of block) (2 ^ bits) (2 ^ suc bits) (value % 2 ^ bits) (value % 2 ^ suc bits) d twice number number'
-                (digits ∙ ap (λ (e : ℕ). e * 2 ^ bits + value % 2 ^ bits) same);
+            number = down.number ∙ (λ i. way_number (way_to value bits) (chosen_half (same i == 1) (number_of block)))
+                ∙ ap (way_number (way_to value bits)) (chosen ∙ sym is.number);
           };
         }
-      where
-        joined : (end half whole size double low all d : ℕ) → double ≡ size * 2 → end ≡ whole * double + all → half ≡ 2 * whole + d → all ≡ d * size + low → end ≡ half * size + low
-        joined end half whole size double low all d twice number number' digits = rw (number, number', digits, twice) (omega arith)
 
     by : (d : ℕ) → digit value bits ≡ d → d < 2 → IsDownBy value bits block end
-    by zero same small = rest 0 halves.low same halves.low_half
-    by (suc zero) same small = rest 1 halves.high same halves.high_half
+    by zero same small = rest 0 halves.low same halves.low_half (omega arith)
+    by (suc zero) same small = rest 1 halves.high same halves.high_half refl
     by (suc (suc d)) same small = absurd (omega arith)
 
--- the address begins the block at the end of a way, which is the last `bits` bits of the number
-pub record IsEnd (W n value number bits end : ℕ) : Type 0 where
-  pub fits : end < 2 ^ W
-  pub free : end % 2 ^ (W - (n + bits)) ≡ 0
-  pub number_is : end / 2 ^ (W - (n + bits)) ≡ value / 2 ^ (W - n) * 2 ^ bits + number % 2 ^ bits
-
--- The block at the end of a way. The way's bits are shifted to the top of 128 bits, and then down to their places.
-module _ (W n value number bits : ℕ) (wide : W ≤ 128) (deep : n + bits ≤ W) where
-  abbrev low : ℕ
-  low = number % 2 ^ bits
-
-  moved : number * 2 ^ (128 - bits) % 2 ^ 128 / 2 ^ (128 - W + n) ≡ low * 2 ^ (W - (n + bits))
-  moved =
-      let all : bits + (128 - bits) ≡ 128 = omega arith in
-      let up : number * 2 ^ (128 - bits) % 2 ^ 128 ≡ low * 2 ^ (128 - bits) =
-      ap (λ (k : ℕ). number * 2 ^ (128 - bits) % 2 ^ k) (sym all) ∙ mod-pow-add (number * 2 ^ (128 - bits)) bits (128 - bits)
-      ∙ (λ i. (shl-shr number (128 - bits) i % 2 ^ bits) * 2 ^ (128 - bits) + mul-mod_left number (2 ^ (128 - bits)) i) ∙ omega arith in
-      let split : 128 - bits ≡ W - (n + bits) + (128 - W + n) = omega arith in
-      let size : 2 ^ (128 - bits) ≡ 2 ^ (W - (n + bits)) * 2 ^ (128 - W + n) = ap (λ (k : ℕ). 2 ^ k) split ∙ pow-add 2 (W - (n + bits)) (128 - W + n) in
-      ap (λ (m : ℕ). m / 2 ^ (128 - W + n)) (up ∙ ap (λ (m : ℕ). low * m) size ∙ omega arith) ∙ shl-shr (low * 2 ^ (W - (n + bits))) (128 - W + n)
-
-  is-end : value < 2 ^ W → value % 2 ^ (W - n) ≡ 0 → IsEnd W n value number bits (value + low * 2 ^ (W - (n + bits)))
-  is-end fits free =
-      let q : ℕ = value / 2 ^ (W - n) in
-      let size : ℕ = 2 ^ (W - (n + bits)) in
-      let some : 0 < size = pow_pos (W - (n + bits)) in
-      let split : W - n ≡ bits + (W - (n + bits)) = omega arith in
-      let all : 2 ^ (W - n) ≡ 2 ^ bits * size = ap (λ (k : ℕ). 2 ^ k) split ∙ pow-add 2 bits (W - (n + bits)) in
-      let sum : value + low * size ≡ (q * 2 ^ bits + low) * size = joined value q (2 ^ (W - n)) (2 ^ bits) size low (sym (whole value (2 ^ (W - n)) (pow_pos (W - n)) free)) all in
-      let small : low + 1 ≤ 2 ^ bits = let less = mod-lt number (pow_pos bits) in omega arith in
-      let most = mul-le-mul_right size small in
-      let end = block_end W n value (omega arith) fits free in
-      record {
-        fits = omega (arith, most, end, all, some);
-        free = ap (λ (m : ℕ). m % size) sum ∙ mul-mod_left (q * 2 ^ bits + low) size;
-        number_is = ap (λ (m : ℕ). m / size) sum ∙ shl-shr (q * 2 ^ bits + low) (W - (n + bits));
-      }
-    where
-      joined : (value q all times size low : ℕ) → value ≡ q * all → all ≡ times * size → value + low * size ≡ (q * times + low) * size
-      joined value q all times size low is product = is_product (ap (λ (m : ℕ). q * m) product)
-        where
-          is_product : q * all ≡ q * (times * size) → value + low * size ≡ (q * times + low) * size
-          is_product same = omega (arith, is, same)
-
--- the code finds the block at the end of a way
-pub at-end : (block : Block) (number bits width : ℕ) → block.len + bits ≤ width_of block.version → width ≡ width_of block.version
-    → IsEnd (width_of block.version) block.len block.value number bits (block.value + number * 2 ^ (128 - bits) % 2 ^ 128 / 2 ^ (128 - width + block.len))
-at-end block number bits width deep is =
-    let wide = width-most block.version in
-    let offset = ap (λ (w : ℕ). number * 2 ^ (128 - bits) % 2 ^ 128 / 2 ^ (128 - w + block.len)) is ∙ moved (width_of block.version) block.len block.value number bits wide deep in
-    subst (λ (n : ℕ). IsEnd (width_of block.version) block.len block.value number bits (block.value + n)) (sym offset)
-    (is-end (width_of block.version) block.len block.value number bits wide deep block.in_range block.no_host_bit)
-
--- a node that has the inherited label adds no entry and passes that label on
+-- a set that has the label that is inherited adds nothing and hands that on
 keeps-own : (ids : List LabelId) (block : Block) (side : LabelId) (entries : List Entry) → keeps ids (Some side) ≡ true → IsOwn ids block (Some side) entries entries side
 keeps-own ids block side entries kept = subst (λ (b : Bool). IsOwnBy b ids block (Some side) entries entries side) (sym kept) (refl, refl)
 
@@ -202,7 +139,7 @@ module _ (side : LabelId) (last : Node) (value : ℕ) where
   digit-small bits = omega arith
 
   -- if the side's label is inherited, the entries are those of the end
-  way-adds : (bits : ℕ) (block end : Block) (old new : List Entry) → IsDown value bits block end → AddsEntries last end (Some side) old new → AddsEntries (way bits) block (Some side) old new
+  way-adds : (bits : ℕ) (block end : Block) (old new : List Entry) → LeadsTo block end (way_to value bits) → AddsEntries last end (Some side) old new → AddsEntries (way bits) block (Some side) old new
   way-adds zero block end old new down adds =
       let len = down.len in
       let number = down.number in
@@ -224,7 +161,7 @@ module _ (side : LabelId) (last : Node) (value : ℕ) where
 
   -- a chain's entries are the own one of its block and those of its end
   pub chain-adds : (bits : ℕ) (block end : Block) (inherited : Option LabelId) (old middle new : List Entry) (handed : LabelId) → 2 ≤ bits → IsOwn (side ∷ []) block inherited old middle handed
-      → IsDown value bits block end → AddsEntries last end (Some handed) middle new → AddsEntries (way bits) block inherited old new
+      → LeadsTo block end (way_to value bits) → AddsEntries last end (Some handed) middle new → AddsEntries (way bits) block inherited old new
   chain-adds zero block end inherited old middle new handed long own down adds = absurd (omega arith)
   chain-adds (suc zero) block end inherited old middle new handed long own down adds = absurd (omega arith)
   chain-adds (suc (suc bits)) block end inherited old middle new handed long own down adds =
@@ -280,7 +217,7 @@ module _ (b : Built) (compact node : Node) (number from to : ℕ) (is : IsChainN
   read-deep room sound = way-sound read.side.0 read.end read.bits is.chain.end room (subst (λ (n : Node). IsSound n room) read-node sound)
 
   pub read-entries : (here end : Block) (inherited : Option LabelId) (old middle new : List Entry) (handed : LabelId) → IsOwn (read.side ∷ []) here inherited old middle handed
-      → IsDown read.end read.bits here end → AddsEntries is.chain.end end (Some handed) middle new → AddsEntries node here inherited old new
+      → LeadsTo here end (way_to read.end read.bits) → AddsEntries is.chain.end end (Some handed) middle new → AddsEntries node here inherited old new
   read-entries here end inherited old middle new handed own down adds =
       subst (λ (n : Node). AddsEntries n here inherited old new) (sym read-node)
       (chain-adds read.side is.chain.end read.end read.bits here end inherited old middle new handed read-long own down adds)

@@ -1,4 +1,4 @@
-use Rattle.std.specs.Prelude.{◌≡◌, ℕ, zero, suc, ◌+◌, ◌/◌, ◌%◌, ◌^◌, ◌≤◌, ◌==◌, Bool, List, [], ◌∷◌, ◌++◌, Some, All, if◌then◌else◌, length, nat_lt, slice_get}
+use Rattle.std.specs.Prelude.{◌≡◌, ℕ, zero, suc, ◌+◌, ◌≤◌, Bool, List, [], ◌∷◌, ◌++◌, Some, All, if◌then◌else◌, length, nat_lt, slice_get}
 use Rattle.prefix_keys.specs.Version.{width_of}
 use Rattle.prefix_keys.specs.declared.version.Version.{Version}
 use Rattle.pmap_text.specs.MapText.{map_of}
@@ -7,6 +7,7 @@ use Rattle.pmap_text.specs.Stretches.{StretchesModel}
 use Rattle.pmap_cert.specs.Node.{Chain as ChainNode, Inner, Leaf, Node, cost_of, set_of}
 use Rattle.pmap_cert.specs.Packed.{IsGrown, IsHeld}
 use Rattle.pmap_cert.specs.Placing.{IsCompactNode}
+use Rattle.pmap_cert.specs.Ways.{digit, way_to}
 use Rattle.pmap_cert.specs.declared.pool.SetId.{SetId}
 use Rattle.label_trie.specs.Tree.{Tree}
 use Rattle.label_trie.specs.TrieModel.{IsSettledLeaf, IsUndivided, LeafModel}
@@ -21,14 +22,6 @@ use Rattle.pmap_minimise.specs.declared.built.Line.{Line}
 use Rattle.pmap_minimise.specs.declared.built.Line.TheVariants.{Chain as ChainLine, Inner as InnerLine, Leaf as LeafLine}
 
 -- The compact certificate as it is built: the lines of a node come after those of its halves, the higher half's first.
-
--- the binary digit of a number at a place, counted from 0 at the end, and its last `bits` digits as bits
-abbrev pub digit : ℕ → ℕ → ℕ
-digit value place = (value / 2 ^ place) % 2
-
-abbrev pub way_to : ℕ → ℕ → List Bool
-way_to value zero = []
-way_to value (suc bits) = (digit value bits == 1) ∷ way_to value bits
 
 -- the set with one more number, in rising order
 abbrev pub with_number : ℕ → List ℕ → List ℕ

@@ -1,7 +1,8 @@
 use Rattle.std.specs.Prelude.{◌≡◌, ℕ, zero, suc, ◌++◌, ◌∷◌, [], List, map}
 use Rattle.pmap_cert.specs.CertificateText.{inner_line, leaf_line, text_of_lines}
 use Rattle.pmap_cert.specs.Node.{Node, line_text, lines_of}
-use Rattle.pmap_minimise.specs.Built.{digit, set_above}
+use Rattle.pmap_cert.specs.Ways.{digit}
+use Rattle.pmap_minimise.specs.Built.{set_above}
 use Rattle.pmap_minimise.specs.declared.built.Chain.{Chain}
 
 -- the text of a node's lines

@@ -4,34 +4,18 @@ ghost use Rattle.prefix_keys.specs.Version.{width_of};
 ghost use Rattle.pmap_cert.specs.Node.{Node};
 ghost use Rattle.label_trie.specs.TrieModel.{LeafModel};
 ghost use Rattle.pmap_minimise.specs.Built.{HasLinesTo, IsAt, IsBuiltOf};
-ghost use Rattle.pmap_minimise.specs.Listing.{AddsAt, IsDown, IsListedBy};
+ghost use Rattle.pmap_minimise.specs.Listing.{AddsAt, IsListedBy};
 ghost use Rattle.pmap_minimise.specs.Numbers.{IsSound};
 
 use crate::built::{Built, Line};
 use crate::entering::push_own;
+use pmap_cert::Way;
 use pmap_text::{Entry, LabelId};
 use prefix_keys::{Block, Version, whole_space};
 use std::alloc::{AllocError, Global};
 use std::slice;
 
-// Returns the block `bits` levels below `block`. The last `bits` bits of `number` choose the halves.
-fn end_block(block: Block, number: u128, bits: u32) -> Block
-    requires deep { block.len + bits ≤ width_of block.version }
-    ensures { IsDown number bits block result }
-{
-    if bits == 0 {
-        return block;
-    }
-    let (version, len) = (block.version, block.len);
-    let offset = (number << (128 - bits)) >> (128 - version.width() + len);
-    Block {
-        version,
-        value: block.value + offset,
-        len: len + bits,
-    }
-}
-
-// Adds the entries of the node for the block `here`, whose lines end before `to`, and returns where the lines begin.
+// Adds the entries of the node whose lines end here and which represents the block, and returns where they begin.
 fn push_entries(
     entries: &mut Vec<Entry>,
     built: &Built,
@@ -60,7 +44,11 @@ fn push_entries(
         Line::Chain(number) => {
             let chain = built.chains[number as usize];
             let side = push_own(entries, slice::from_ref(&chain.side), *here, inherited)?;
-            let end = end_block(*here, chain.end, chain.bits);
+            let way = Way {
+                value: chain.end,
+                count: chain.bits,
+            };
+            let end = way.end(here);
             push_entries(entries, built, to - 1, &end, Some(side))
         }
     }

@@ -7,17 +7,19 @@ use Rattle.pmap_text.specs.declared.label.LabelId.{LabelId}
 use Rattle.pmap_cert.specs.CertificateForm.{HasRoomBelow}
 use Rattle.pmap_cert.specs.Chain.{chain_pair, chosen_half}
 use Rattle.pmap_cert.specs.Node.{HasChainForm, behind, bits_of, first_node}
+use Rattle.pmap_cert.specs.Packed.{bits_in}
+use Rattle.pmap_cert.proofs.Ways.{way-length}
 use Rattle.cert_check.specs.Carrying.{number_of}
 use Rattle.cert_check.specs.Checking.{bits_fault, claim_fault, fault_at, node_fault, told}
 use Rattle.cert_check.specs.Descent.{IsNodeAnswer, IsWayAnswer, line_fault, tree_at, way_fault}
-use Rattle.cert_check.proofs.Lists.{first-is, first-none, slice-from}
 use Rattle.cert_check.proofs.Nodes.{chain-at, count_of, end-rising, end-room, fault_of, half-is, half-room, inner-at, later-answer, or-first, or-second, own-answer, pair_of, rising-of, room-long, room-rest, way-step}
 use Rattle.cert_check.proofs.checking.+nodes.Goals as goal
 
 pub check_below-clear_end-requires-clause-room : goal.check_below-clear_end-requires-clause-room
 check_below-clear_end-requires-clause-room t c =
     let b = c.args.part.now.block in
-    room-long (HasChainForm (length c.args.sources.now.certificate.now.labels) (first_node c.args.end.now.node)) c.args.bits.now (width_of b.version - b.len) c.requires.end.form
+    let long = room-long (HasChainForm (length c.args.sources.now.certificate.now.labels) (first_node c.args.end.now.node)) (bits_in c.args.way.now) (width_of b.version - b.len) c.requires.end.form in
+    omega (arith, long, way-length c.args.way.now.value c.args.way.now.count, b.len_in_range)
 
 pub check_below-check_node-requires : goal.check_below-check_node-requires
 check_below-check_node-requires t c =
@@ -25,13 +27,13 @@ check_below-check_node-requires t c =
     let end = c.in-Some.below.block in
     let way = c.in-Some.ensures.way in
     let width : width_of end.version ≡ width_of b.version = ap width_of way.version in
-    let room : width_of b.version - b.len ≡ (width_of end.version - end.len) + length c.args.bits.now = omega (arith, width, way.len, end.len_in_range) in (
+    let room : width_of b.version - b.len ≡ (width_of end.version - end.len) + length (bits_in c.args.way.now) = omega (arith, width, way.len, end.len_in_range) in (
       omega (arith, width, way.len, end.len_in_range, c.requires.some),
       record {
         sources = c.requires.end.sources;
         part = c.in-Some.ensures.part;
         here = c.requires.end.here;
-        form = end-room (HasChainForm (length c.args.sources.now.certificate.now.labels) (first_node c.args.end.now.node)) c.args.bits.now
+        form = end-room (HasChainForm (length c.args.sources.now.certificate.now.labels) (first_node c.args.end.now.node)) (bits_in c.args.way.now)
             (width_of b.version - b.len) (width_of end.version - end.len) room c.requires.end.form;
       },
     )
@@ -43,7 +45,7 @@ pub check_below-returns-in-Some : goal.check_below-returns-in-Some
 check_below-returns-in-Some t c =
     let s = c.args.sources.now in
     let end = c.args.end.now in
-    later-answer (way_fault s end c.args.side.0 c.args.bits.now c.args.part.now) (line_fault s end c.in-Some.below) c.args.number end.number
+    later-answer (way_fault s end c.args.side.0 (bits_in c.args.way.now) c.args.part.now) (line_fault s end c.in-Some.below) c.args.number end.number
     (count_of s.certificate.now.labels end.node) (behind end.node) c.check_node.result c.requires.end.next
     (λ k. c.in-Some.ensures.clear k (node_fault (map_of s.map.now) (list_of s.list.now).prefixes (tree_at s end) (k + 1))) c.check_node.ensures
 
@@ -60,11 +62,11 @@ check_chain-check_below-requires t c =
           sources = c.requires.node.sources;
           part = c.requires.node.part;
           here = at.here;
-          form = subst (λ (bits : List Bool). HasRoomBelow (HasChainForm (length labels) (first_node end.node)) bits room) (sym c.bits-bits.ensures) at.form;
+          form = subst (λ (bits : List Bool). HasRoomBelow (HasChainForm (length labels) (first_node end.node)) bits room) (sym c.way-way.ensures) at.form;
           known = at.known;
           next = c.next_line-end.ensures.number;
         },
-        subst (λ (bits : List Bool). 0 < length bits) (sym c.bits-bits.ensures) at.some,
+        subst (λ (bits : List Bool). 0 < length bits) (sym c.way-way.ensures) at.some,
       ),
     )
 
@@ -100,7 +102,7 @@ check_chain-returns t c =
     let count : k + (1 + count_of labels end.node) ≡ k + count_of labels line.node = ap (λ (n : ℕ). k + n) (sym at.count) in (
       at.fault m ps k b.len (number_of b)
           ∙ or-second (along bits) (option_map (fault_at k) (claim_fault (pair_of labels line.node) (chain_pair (length bits) (text_at labels side) (pair_of labels end.node))))
-          (option_map (fault_at k) fault) (ap along (sym c.bits-bits.ensures) ∙ below.0) (ap (option_map (fault_at k)) (sym c.chain_fault-fault.ensures)),
+          (option_map (fault_at k) fault) (ap along (sym c.way-way.ensures) ∙ below.0) (ap (option_map (fault_at k)) (sym c.chain_fault-fault.ensures)),
       below.1 ∙ ap told count,
     )))
 
@@ -305,8 +307,8 @@ check_node-check_inner-requires t c = (
 pub check_way-check_node-requires : goal.check_way-check_node-requires
 check_way-check_node-requires t c =
     let b = c.args.part.now.block in
-    let none = first-none c.args.bits.now c.in_default.ensures.value in
-    let long : length c.args.bits.now ≡ 0 = ap (λ (xs : List Bool). length xs) none in (
+    let none = c.in_default.ensures.bits in
+    let long : length (bits_in c.args.way.now) ≡ 0 = ap (λ (xs : List Bool). length xs) none in (
       omega (arith, long),
       record {
         sources = c.requires.end.sources;
@@ -322,29 +324,29 @@ check_way-returns-in_default t c =
     let s = c.args.sources.now in
     let p = c.args.part.now in
     let end = c.args.end.now in
-    let none = first-none c.args.bits.now c.in_default.ensures.value in
-    later-answer (way_fault s end c.args.side.0 c.args.bits.now p) (line_fault s end p) c.args.number end.number (count_of s.certificate.now.labels end.node)
+    let none = c.in_default.ensures.bits in
+    later-answer (way_fault s end c.args.side.0 (bits_in c.args.way.now) p) (line_fault s end p) c.args.number end.number (count_of s.certificate.now.labels end.node)
     (behind end.node) c.check_node.result c.requires.end.next (λ k. ap (λ (xs : List Bool). way_fault s end c.args.side.0 xs p k) none) c.check_node.ensures
 
 pub check_way-step-requires-clause-room : goal.check_way-step-requires-clause-room
 check_way-step-requires-clause-room t c =
     let b = c.args.part.now.block in
-    let bits = c.args.bits.now in
-    let bit = c.in-Some.bit.now in
-    let less = room-rest (HasChainForm (length c.args.sources.now.certificate.now.labels) (first_node c.args.end.now.node)) bits bit (drop 1 bits)
-    (width_of b.version - b.len) (first-is bits bit c.in-Some.ensures.value) c.requires.end.form in
+    let bits = bits_in c.args.way.now in
+    let bit = c.in-Some.bit in
+    let less = room-rest (HasChainForm (length c.args.sources.now.certificate.now.labels) (first_node c.args.end.now.node)) bits bit (bits_in c.in-Some.rest)
+    (width_of b.version - b.len) c.in-Some.ensures.bits c.requires.end.form in
     omega (arith, less.1)
 
 pub check_way-check_way-requires : goal.check_way-check_way-requires
 check_way-check_way-requires t c =
     let labels = c.args.sources.now.certificate.now.labels in
     let b = c.args.part.now.block in
-    let bits = c.args.bits.now in
-    let bit = c.in-Some.bit.now in
-    let rest = take (length bits - 1) (drop 1 bits) in
+    let bits = bits_in c.args.way.now in
+    let bit = c.in-Some.bit in
+    let rest = bits_in c.in-Some.rest in
     let chosen = c.step.result.0.block in
     let Fits = HasChainForm (length labels) (first_node c.args.end.now.node) in
-    let is : bits ≡ bit ∷ rest = first-is bits bit c.in-Some.ensures.value ∙ ap (λ (xs : List Bool). bit ∷ xs) (sym (slice-from bits 1)) in
+    let is : bits ≡ bit ∷ rest = c.in-Some.ensures.bits in
     let less = room-rest Fits bits bit rest (width_of b.version - b.len) is c.requires.end.form in
     let room = half-room b chosen (chosen_half bit (number_of b)) less.0 c.step.ensures.chosen_half less.1 in (
       omega (arith, room, less.1),
@@ -366,13 +368,13 @@ check_way-returns-in_err-next t c =
     let ps = (list_of s.list.now).prefixes in
     let p = c.args.part.now in
     let b = p.block in
-    let bits = c.args.bits.now in
-    let bit = c.in-Some.bit.now in
-    let rest = take (length bits - 1) (drop 1 bits) in
+    let bits = bits_in c.args.way.now in
+    let bit = c.in-Some.bit in
+    let rest = bits_in c.in-Some.rest in
     let chosen = c.step.result.0.block in
     let beside = c.step.result.1.block in
     let x = text_at labels c.args.side.0 in
-    let is : bits ≡ bit ∷ rest = first-is bits bit c.in-Some.ensures.value ∙ ap (λ (xs : List Bool). bit ∷ xs) (sym (slice-from bits 1)) in
+    let is : bits ≡ bit ∷ rest = c.in-Some.ensures.bits in
     let found = c.in_err-next.field-0.0 in
     let e = err_from_is_err_and c.from_residual.result c.from_residual.ensures.1 in
     rw (e.1, e.2)
@@ -389,13 +391,13 @@ check_way-returns t c =
     let ps = (list_of s.list.now).prefixes in
     let p = c.args.part.now in
     let b = p.block in
-    let bits = c.args.bits.now in
-    let bit = c.in-Some.bit.now in
-    let rest = take (length bits - 1) (drop 1 bits) in
+    let bits = bits_in c.args.way.now in
+    let bit = c.in-Some.bit in
+    let rest = bits_in c.in-Some.rest in
     let chosen = c.step.result.0.block in
     let beside = c.step.result.1.block in
     let x = text_at labels c.args.side.0 in
-    let is : bits ≡ bit ∷ rest = first-is bits bit c.in-Some.ensures.value ∙ ap (λ (xs : List Bool). bit ∷ xs) (sym (slice-from bits 1)) in
+    let is : bits ≡ bit ∷ rest = c.in-Some.ensures.bits in
     let line = c.args.end.now in
     let fault = c.leaf_fault.result in
     subst (IsWayAnswer s line c.args.number c.args.side.0 bits p) (sym c.unless_fault.ensures)

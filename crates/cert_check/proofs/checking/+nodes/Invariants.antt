@@ -1,5 +1,6 @@
 use Rattle.std.proofs.Common.{◌+◌, ◌*◌, ◌-◌, length}
 use Rattle.prefix_keys.specs.Version.{width_of}
+use Rattle.pmap_cert.specs.Ways.{way_to}
 use Rattle.cert_check.proofs.checking.+nodes.Given as goal
 
 -- Halves of a block and ends of ways have more bits than the block. At one block, a way without bits comes before the
@@ -17,4 +18,4 @@ abbrev pub decreases-check_below : goal.decreases-check_below
 decreases-check_below l = 8 * (width_of l.part.now.block.version - l.part.now.block.len) + 3
 
 abbrev pub decreases-check_way : goal.decreases-check_way
-decreases-check_way l = 8 * (width_of l.part.now.block.version - l.part.now.block.len) + (7 - 7 * length l.bits.now)
+decreases-check_way l = 8 * (width_of l.part.now.block.version - l.part.now.block.len) + (7 - 7 * length (way_to l.way.now.value l.way.now.count))

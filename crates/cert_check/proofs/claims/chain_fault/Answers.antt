@@ -31,13 +31,13 @@ returns-then-has_one c =
     c.requires.chain c.requires.end c.requires.side c.set-set.ensures c.set-beneath.ensures (c.from-cost.ensures ∙ c.cost.ensures) (c.from-below.ensures ∙ c.cost-2.ensures)
     (sym c.has_one.ensures ∙ c.if-has_one.true) c.has_one-has_side.ensures
 
-pub returns-else-bits-eq1 : goal.returns-else-bits-eq1
-returns-else-bits-eq1 c =
-    c.fault_by-else-bits-eq1.ensures
+pub returns-else-len-eq1 : goal.returns-else-len-eq1
+returns-else-len-eq1 c =
+    c.fault_by-else-len-eq1.ensures
     ∙ node-more c.args.labels.now c.len-count.ensures.table (length (bits_of (first_node c.args.chain.now))) c.args.side.0
     (first_node c.args.chain.now) (first_node c.args.end.now) c.set-set.result.now c.set-beneath.result.now c.from-cost.result c.from-below.result c.has_one-has_side.result
     c.requires.chain c.requires.end c.requires.side c.set-set.ensures c.set-beneath.ensures (c.from-cost.ensures ∙ c.cost.ensures) (c.from-below.ensures ∙ c.cost-2.ensures)
-    (sym c.has_one.ensures ∙ c.if-has_one.false) (λ one. c.if-bits-eq1.false (ap length c.bits.ensures ∙ one)) c.has_one-has_side.ensures
+    (sym c.has_one.ensures ∙ c.if-has_one.false) (λ one. c.if-len-eq1.false (c.len.ensures ∙ ap length c.way.ensures ∙ one)) c.has_one-has_side.ensures
 
 pub returns-after-has_side : goal.returns-after-has_side
 returns-after-has_side c =
@@ -49,8 +49,8 @@ returns-after-has_side c =
       | then-has_side w ↦ w.fault_by-is ∙ w.has_all.ensures ∙ ap (λ (b : Bool). b && all) (sym (sym c.has_one-has_side.ensures ∙ w.if-has_side.true))
       | else-has_side w ↦ w.fault_by-is ∙ w.if-has_side.false ∙ ap (λ (b : Bool). b && all) (sym (sym c.has_one-has_side.ensures ∙ w.if-has_side.false))
     ] in
-    c.fault_by-then-bits-eq1.ensures
+    c.fault_by-then-len-eq1.ensures
     ∙ node-one c.args.labels.now c.len-count.ensures.table (length (bits_of (first_node c.args.chain.now))) c.args.side.0
     (first_node c.args.chain.now) (first_node c.args.end.now) set beneath c.from-cost.result c.from-below.result c.if-has_side.fault_by
     c.requires.chain c.requires.end c.requires.side c.set-set.ensures c.set-beneath.ensures (c.from-cost.ensures ∙ c.cost.ensures) (c.from-below.ensures ∙ c.cost-2.ensures)
-    (sym c.has_one.ensures ∙ c.if-has_one.false) (sym (ap length c.bits.ensures) ∙ c.if-bits-eq1.true) full
+    (sym c.has_one.ensures ∙ c.if-has_one.false) (sym (c.len.ensures ∙ ap length c.way.ensures) ∙ c.if-len-eq1.true) full

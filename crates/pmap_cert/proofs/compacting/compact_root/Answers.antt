@@ -6,11 +6,11 @@ use Rattle.pmap_cert.proofs.CompactPlaces.{ends-later, plain-of, root-at, some-l
 use Rattle.pmap_cert.proofs.compacting.compact_root.Goals as goal
 
 pub ends_of-requires : goal.ends_of-requires
-ends_of-requires c = plain-of c.args.root.now c.nodes-nodes.result.now c.nodes-nodes.ensures c.requires
+ends_of-requires c = plain-of c.args.root.now c.nodes-nodes.result.now c.nodes-nodes.ensures c.requires.plain c.requires.shallow
 
 pub compact_node-requires : goal.compact_node-requires
 compact_node-requires c = record {
-  plain = plain-of c.args.root.now c.nodes-nodes.result.now c.nodes-nodes.ensures c.requires;
+  plain = plain-of c.args.root.now c.nodes-nodes.result.now c.nodes-nodes.ensures c.requires.plain c.requires.shallow;
   within = some-lines c.args.root.now c.nodes-nodes.result.now c.nodes-nodes.ensures;
   ends =
       ends-later c.nodes-nodes.result.now c.as_slice.result.now 0 1

@@ -1,6 +1,11 @@
-use Rattle.std.proofs.Common.{◌≡◌, ◌++◌, ◌∷◌, take}
+use Rattle.std.proofs.Common.{◌≡◌, ◌++◌, ◌∷◌}
 use Rattle.pmap_cert.specs.CertificateText.{bit_digits}
+use Rattle.pmap_cert.specs.Packed.{bits_in}
 use Rattle.pmap_cert.proofs.writing.push_bits.Given as goal
 
 abbrev pub invariant-loop-bit : goal.invariant-loop-bit
-invariant-loop-bit l = l.out.items ≡ l.fn.out.items ++ 32 ∷ bit_digits (take l.bit-index l.bits)
+invariant-loop-bit l =
+    l.out.items ++ bit_digits (bits_in l.rest) ≡ l.fn.out.items ++ 32 ∷ bit_digits (bits_in l.fn.way)
+
+abbrev pub decreases-loop-bit : goal.decreases-loop-bit
+decreases-loop-bit l = l.rest.count

@@ -1,10 +1,11 @@
-use Rattle.std.proofs.Common.{◌≡◌, ◌-◌, ◌∙◌, ◌++◌, ℕ, Bool, List, [], ◌∷◌, ap, arith, map, subst, sym}
+use Rattle.std.proofs.Common.{◌≡◌, ◌-◌, ◌∙◌, ◌++◌, ℕ, List, [], ◌∷◌, ap, arith, map, subst, sym}
 use Rattle.std.proofs.lemmas.List.{append_assoc}
 use Rattle.std.proofs.lemmas.Option.{slice_get_within}
 use Rattle.pmap_text.specs.declared.label.LabelId.{LabelId}
 use Rattle.pmap_cert.specs.FormatReading.{ChainLine, DueLine, InnerLine, PlainLine}
 use Rattle.pmap_cert.specs.Node.{lines_of}
-use Rattle.pmap_minimise.specs.Built.{IsAt, way_to}
+use Rattle.pmap_cert.specs.Ways.{way_to}
+use Rattle.pmap_minimise.specs.Built.{IsAt}
 use Rattle.pmap_cert.specs.Packed.{HasSet, set_in}
 use Rattle.pmap_minimise.specs.Numbers.{numbers_of}
 use Rattle.pmap_cert.specs.declared.pool.SetId.{SetId}
@@ -79,12 +80,12 @@ index-requires-in-Chain t c =
     let same = chain.number_is in
     omega arith
 
-pub push_way-requires : goal.push_way-requires
-push_way-requires t c =
+pub invariant_of-way : goal.invariant_of-way
+invariant_of-way t c =
     let lines = c.requires in
     let b = c.args.built.now in
     let chain = read-chained b lines.compact lines.node lines.from c.args.to lines.at c.index.result.now c.in-Chain.number c.index.ensures c.in-Chain.is in
-    read-few b lines.compact lines.node c.in-Chain.number lines.from c.args.to chain c.index-in-Chain.result.now c.index-in-Chain.ensures
+    record { few = read-few b lines.compact lines.node c.in-Chain.number lines.from c.args.to chain c.index-in-Chain.result.now c.index-in-Chain.ensures }
 
 pub push_node-requires-in-Chain : goal.push_node-requires-in-Chain
 push_node-requires-in-Chain t c =
@@ -135,13 +136,11 @@ returns-in_ok-push_chain-in-Chain t c =
     let chain = read-chained b compact node start c.args.to is c.index.result.now c.in-Chain.number c.index.ensures c.in-Chain.is in
     let last : chain.chain.last ≡ c.args.to - 1 = let e = chain.chain.to_is in omega arith in
     let below = done chain.end chain.chain.end start (subst (IsAt b chain.end chain.chain.end start) last chain.chain.below) in
-    let bits : c.as_slice.result.now ≡ way_to read.end read.bits =
-    c.as_slice.ensures.value ∙ c.in_ok-push_way-in-Chain.ensures ∙ ap (λ (bs : List Bool). bs ++ way_to read.end read.bits) c.clear.ensures.items in
     let set : map (λ (id : LabelId). id.0) c.from_ref.result.now ≡ read.side.0 ∷ [] = ap numbers_of c.from_ref.ensures.value in
     record {
       start_is = below.start_is;
       lines_are = below.lines_are ∙ ap (λ (ls : List DueLine). ls ++ lines_of chain.end)
-          (c.in_ok-push_chain-in-Chain.ensures.ok ∙ (λ i. c.args.out.now ++ ChainLine read.cost (bits i) read.side.0 (set i) ∷ []))
+          (c.in_ok-push_chain-in-Chain.ensures.ok ∙ (λ i. c.args.out.now ++ ChainLine read.cost (way_to read.end read.bits) read.side.0 (set i) ∷ []))
           ∙ append_assoc c.args.out.now (ChainLine read.cost (way_to read.end read.bits) read.side.0 (read.side.0 ∷ []) ∷ []) (lines_of chain.end)
           ∙ ap (λ (ls : List DueLine). c.args.out.now ++ ls) (sym (read-lines b compact node c.in-Chain.number start c.args.to chain read c.index-in-Chain.ensures));
     })

@@ -5,6 +5,7 @@ use Rattle.prefix_keys.specs.Block.{block_number}
 use Rattle.prefix_keys.specs.Version.{width_of}
 use Rattle.pmap_text.specs.declared.label.LabelId.{LabelId}
 use Rattle.pmap_cert.specs.Node.{Node, set_of}
+use Rattle.pmap_cert.proofs.Ways.{way-length}
 use Rattle.label_trie.specs.Leaf.{number_of}
 use Rattle.label_trie.specs.Parts.{IsHalf}
 use Rattle.label_trie.proofs.Divided.{is_half}
@@ -16,7 +17,7 @@ use Rattle.pmap_cert.specs.declared.pool.SetId.{SetId}
 use Rattle.pmap_minimise.proofs.Compacted.{at-last, if_ok, line-inside, read-chained, read-inner, read-leaf, to-some}
 use Rattle.pmap_minimise.proofs.Entered.{inner-adds, leaf-adds, sound-halves}
 use Rattle.pmap_minimise.proofs.Joined.{set-some}
-use Rattle.pmap_minimise.proofs.WayEntries.{no-room, read-deep, read-entries}
+use Rattle.pmap_minimise.proofs.WayEntries.{no-room, read-deep, read-entries, read-few}
 use Rattle.pmap_minimise.proofs.listing.+push_entries.Goals as goal
 
 pub overflow_sub-to : goal.overflow_sub-to
@@ -116,8 +117,15 @@ index-requires-in-Chain t c =
     let same = chain.number_is in
     omega arith
 
-pub end_block-end-requires : goal.end_block-end-requires
-end_block-end-requires t c =
+pub invariant_of-way : goal.invariant_of-way
+invariant_of-way t c =
+    let lines = c.requires.0 in
+    let b = c.args.built.now in
+    let chain = read-chained b lines.compact lines.node lines.from c.args.to lines.at c.index.result.now c.in-Chain.number c.index.ensures c.in-Chain.is in
+    record { few = read-few b lines.compact lines.node c.in-Chain.number lines.from c.args.to chain c.index-in-Chain.result.now c.index-in-Chain.ensures }
+
+pub end-end-requires : goal.end-end-requires
+end-end-requires t c =
     let lines = c.requires.0 in
     let b = c.args.built.now in
     let chain = read-chained b lines.compact lines.node lines.from c.args.to lines.at c.index.result.now c.in-Chain.number c.index.ensures c.in-Chain.is in
@@ -136,10 +144,11 @@ push_entries-requires-in-Chain t c =
     (width_of c.args.here.now.version - c.args.here.now.len) c.requires.1 in
     let room = deep.room_is in
     let within = c.args.here.now.len_in_range in
-    let end = c.end_block-end.ensures in
+    let end = c.end-end.ensures in
     let len = end.len in
-    let width : width_of c.end_block-end.result.version ≡ width_of c.args.here.now.version = ap width_of end.version in
-    let left : deep.left ≡ width_of c.end_block-end.result.version - c.end_block-end.result.len = omega arith in
+    let count = way-length c.index-in-Chain.result.now.end c.index-in-Chain.result.now.bits in
+    let width : width_of c.end-end.result.version ≡ width_of c.args.here.now.version = ap width_of end.version in
+    let left : deep.left ≡ width_of c.end-end.result.version - c.end-end.result.len = omega arith in
     let less = c.decreases in
     let last : chain.chain.last ≡ c.args.to - 1 = let e = chain.chain.to_is in omega arith in
     let some = to-some b lines.compact lines.node lines.from c.args.to lines.at in (
@@ -194,8 +203,8 @@ returns-in_ok-side-in-Chain t c =
     let below = done chain.end chain.chain.end start (subst (IsAt b chain.end chain.chain.end start) last chain.chain.below) in
     record {
       start_is = below.start_is;
-      adds = read-entries b compact node c.in-Chain.number start c.args.to chain c.index-in-Chain.result.now c.index-in-Chain.ensures c.args.here.now c.end_block-end.result c.args.inherited
+      adds = read-entries b compact node c.in-Chain.number start c.args.to chain c.index-in-Chain.result.now c.index-in-Chain.ensures c.args.here.now c.end-end.result c.args.inherited
           c.args.entries.now.items c.push_own-in-Chain.new.entries.items c.push_entries-in-Chain.new.entries.items c.in_ok-side-in-Chain.side
           (subst (λ (ids : List LabelId). IsOwn ids c.args.here.now c.args.inherited c.args.entries.now.items c.push_own-in-Chain.new.entries.items c.in_ok-side-in-Chain.side) c.from_ref-in-Chain.ensures.value c.in_ok-side-in-Chain.ensures)
-          c.end_block-end.ensures below.adds;
+          c.end-end.ensures below.adds;
     })
