@@ -1,10 +1,10 @@
 -- The first index at which a test passes.
-use Rattle.std.proofs.Common.{◌≡◌, ℕ, ◌+◌, ◌<◌, ◌≤◌, ◌||◌, Bool, true, false, not, List, [], ◌∷◌, ◌++◌, length, take, drop, get_or, length-take-le, Option, ap, refl, arith, unwrap_or, eqb, true≢false}
-use Rattle.std.proofs.lemmas.Bool.{ltb-false}
-use Rattle.std.proofs.lemmas.List.{take-append-drop}
-use Rattle.std.proofs.lemmas.List.Sums.{prefix_len-le-length}
+use Rattle.std.proofs.Common.{◌≡◌, ℕ, ◌+◌, ◌<◌, ◌≤◌, ◌||◌, Bool, true, false, not, List, [], ◌∷◌, length, take, drop, get_or, Option, None, Some, ap, sym, refl, arith, unwrap_or, eqb, true≢false}
+use Rattle.std.proofs.lemmas.Bool.{false_from_ne_true, ltb-false}
+use Rattle.std.proofs.lemmas.List.Sums.{position_or_len_is, prefix_len-le-length}
+use Rattle.memchr.specs.Find.{IsFirstByte}
 use Rattle.std.proofs.Math.Numerals.{one-add, add-one}
-use Rattle.std.specs.List.{before_first, list_any, position_or_len}
+use Rattle.std.specs.List.{before_first, position_or_len}
 use Rattle.std.specs.Prelude.{position, nat_lt}
 use Rattle.pmap_text.specs.Lines.{lines_of}
 
@@ -51,24 +51,12 @@ lines_of-no_feed b (b' ∷ bs) h = by (eqb b 10) refl (lines_of-no_feed b' bs)
         let ih' = ih (omega (arith, k)) in
         rw (e, ih') refl
 
--- if no element of a front passes, the first index is after the front
-place_behind : {X : Type 0} (p : X → Bool) (xs ys : List X) → list_any p xs ≡ false → position_or_len p (xs ++ ys) ≡ length xs + position_or_len p ys
-place_behind p [] ys h = omega arith
-place_behind {X} p (x ∷ xs) ys h = by (p x) refl (place_behind p xs ys)
-  where
-    by : (b : Bool) → p x ≡ b → (list_any p xs ≡ false → position_or_len p (xs ++ ys) ≡ length xs + position_or_len p ys)
-        → position_or_len p ((x ∷ xs) ++ ys) ≡ length (x ∷ xs) + position_or_len p ys
-    by true e ih = let k : true ≡ false = rw e at h in absurd (true≢false k)
-    by false e ih = let k : list_any p xs ≡ false = rw e at h in rw e (omega (arith, ih k))
-
--- if none of the first n elements passes, the first index is after them
-pub place_front : {X : Type 0} (p : X → Bool) (xs : List X) (n : ℕ) → n ≤ length xs → list_any p (take n xs) ≡ false
-    → position_or_len p xs ≡ n + position_or_len p (drop n xs)
-place_front p xs n within none =
-    let long : length (take n xs) ≡ n = length-take-le n xs within in
-    let behind = place_behind p (take n xs) (drop n xs) none in
-    let whole : position_or_len p (take n xs ++ drop n xs) ≡ position_or_len p xs = ap (position_or_len p) (take-append-drop n xs) in
-    omega (arith, behind, whole, long)
+-- the index that a search found, or the length, is the first index
+pub place_from_search : (p : ℕ → Bool) (text : List ℕ) (found : Option ℕ) → IsFirstByte p text found → unwrap_or found (length text) ≡ position_or_len p text
+place_from_search p text None none =
+    sym (position_or_len_is p text (length text) 0 (omega arith) (λ k within. false_from_ne_true _ (none k (omega arith) within)) (λ past. absurd (omega (arith, past))))
+place_from_search p text (Some k) some =
+    sym (position_or_len_is p text k 0 (omega (arith, some.0.high)) (λ j before. false_from_ne_true _ (some.0.before j (omega arith) before)) (λ within. some.1))
 
 -- the index of the first line feed or `#`, or the length
 abbrev pub end_at : List ℕ → ℕ

@@ -1,6 +1,6 @@
-use Rattle.std.specs.Prelude.{◌≡◌, ℕ, ◌<◌, ◌≤◌, ◌||◌, ◌==◌, Bool, true, false, List, ◌∷◌, ◌++◌, Some, Ok, length, take}
+use Rattle.std.specs.Prelude.{◌≡◌, ℕ, ◌||◌, ◌==◌, Bool, true, false, List, ◌∷◌, ◌++◌, Some, Ok}
 use Rattle.std.specs.List.{list_all, list_any}
-use Rattle.prefix_keys.specs.Text.{address_of, block_of_text, decimal_value, dotted_address, is_digit, is_hex_digit, short_number}
+use Rattle.prefix_keys.specs.Text.{address_of, block_of_text, dotted_address, is_digit, is_hex_digit, short_number}
 use Rattle.prefix_keys.specs.declared.addr.Addr.{Addr}
 use Rattle.pmap_text.specs.Label.{is_blank}
 use Rattle.pmap_text.specs.declared.leading.Word.{Word}
@@ -11,14 +11,6 @@ use Rattle.pmap_text.specs.declared.leading.Word.TheVariants.{Address, Block as 
 -- a byte of an address, in either form
 abbrev pub is_address_byte : ℕ → Bool
 is_address_byte b = is_hex_digit b || (b == 46 || b == 58)
-
--- the text begins with the digits of a number, one to three of them, and continues after them
-pub record BeginsWithDigits (text : List ℕ) (number count : ℕ) : Type 0 where
-  pub some : 0 < count
-  pub short : count ≤ 3
-  pub within : count < length text
-  pub digits : list_all is_digit (take count text) ≡ true
-  pub value : number ≡ decimal_value (take count text)
 
 -- the text is a number, at most the limit, followed by the rest
 pub record BeginsWithNumber (text rest : List ℕ) (limit number : ℕ) : Type 0 where

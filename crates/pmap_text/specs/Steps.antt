@@ -1,4 +1,4 @@
-use Rattle.std.specs.Prelude.{◌≡◌, ◌≢◌, ℕ, ◌&&◌, Bool, true, false, slice_get, List, [], ◌∷◌, ◌++◌, Some, Result, Ok, Err, IfErr, OnErr, OnOk}
+use Rattle.std.specs.Prelude.{◌≡◌, ◌≢◌, ℕ, ◌&&◌, Bool, true, false, List, [], ◌∷◌, ◌++◌, Some, Result, Ok, Err, IfErr, IfOk, OnErr, OnOk}
 use Rattle.std.specs.Option.{option_or}
 use Rattle.pmap_text.specs.Declarations.{meant_text, with_declared}
 use Rattle.pmap_text.specs.Filed.{HasDistinctKeys, IsFirstRepeat}
@@ -68,16 +68,12 @@ pub record Reads (old new : Earlier) (line : Result Entry MapFaultKind) (result 
 abbrev pub has_label_room : Earlier → Bool → Label → Bool
 has_label_room earlier room label = room && has_room earlier.table (meant_text earlier.declared label)
 
--- the first entry with the block of an earlier one is the first fault of the text, at the line noted for it
-abbrev pub NotesRepeats : Form → List (List ℕ) → List Prefix → List ℕ → Type 0
-NotesRepeats form text ps noted =
-    (i line : ℕ) → slice_get noted i ≡ Some line → IsFirstRepeat ps (Some i)
-    → entries_from form [] 0 text ≡ Err (record { kind = DuplicateBlock; line = line })
-
--- the lines of a text were read up to a fault, except for repeated blocks
-pub record HasRead (form : Form) (text : List (List ℕ)) (reading : Earlier) (noted : List ℕ) (result : Result (Unit {0}) MapFault) : Type 0 where
-  pub repeats : NotesRepeats form text reading.prefixes noted
-  pub ok : OnOk result (HasDistinctKeys reading.prefixes
+-- the lines of a text were read up to a fault, except for repeated blocks, or until there were more entries than the
+-- limit; if the last entry of these lines is then the first with the block of an earlier one, it is the first fault
+pub record HasRead (form : Form) (text : List (List ℕ)) (limit : ℕ) (reading : Earlier) (result : Result ℕ MapFault) : Type 0 where
+  pub ok : OnOk result (limit ≡ 18446744073709551615 → HasDistinctKeys reading.prefixes
       → (entries : List Entry) × (entries_from form [] 0 text ≡ Ok entries) × (reading ≡ earlier_of entries))
+  pub repeat : IfOk result (λ number. IsFirstRepeat reading.prefixes (Some limit)
+      → entries_from form [] 0 text ≡ Err (record { kind = DuplicateBlock; line = number }))
   pub err : IfErr result (λ fault. HasDistinctKeys reading.prefixes → fault.kind ≢ NoMemory → entries_from form [] 0 text ≡ Err fault)
   pub memory : IfErr result (λ fault. fault.kind ≡ NoMemory → fault.line ≡ 0)

@@ -26,6 +26,9 @@ pub fn block_in(version: Version, block: Block) -> Result<Block, MapFaultKind>
     ensures ok { IfOk result (λ b. number_in version (block.version, block.value) ≡ Ok b.value) }
     ensures err { IfErr result (λ kind. number_in version (block.version, block.value) ≡ Err kind) }
 {
+    if block.version == version {
+        return Ok(block);
+    }
     let low = addr_in(version, block.low())?;
     let len = block.len + (version.width() - block.version.width());
     Ok(block_of(low, len))

@@ -1,7 +1,7 @@
 //! Addresses and blocks at the start of a text, read in one pass over its bytes. If a function here returns `None`,
 //! only the functions that read whole words can decide what the text is.
-ghost use Rattle.std.specs.Prelude.{◌≡◌, ◌≤◌, ◌∷◌, ℕ, List, IfSome};
-ghost use Rattle.pmap_text.specs.Leading.{BeginsWithAddress, BeginsWithBlank, BeginsWithDigits, BeginsWithDotted, BeginsWithNumber, IsWord};
+ghost use Rattle.std.specs.Prelude.{◌≡◌, ◌≤◌, ◌∷◌, IfSome};
+ghost use Rattle.pmap_text.specs.Leading.{BeginsWithAddress, BeginsWithBlank, BeginsWithDotted, BeginsWithNumber, IsWord};
 ghost use Rattle.pmap_text.specs.Lines.{behind_word, first_word, trim_start};
 
 use crate::label::is_blank;
@@ -22,59 +22,14 @@ fn leading_number(text: &[u8], limit: u32) -> Option<(u32, &[u8])>
     ensures number { IfSome result (λ r. BeginsWithNumber text.now r.1.now limit r.0) }
     ensures limited { IfSome result (λ r. r.0 ≤ limit) }
 {
-    let (number, count) = front_digits(text)?;
-    if number <= limit {
-        Some((number, &text[count..]))
-    } else {
-        None
-    }
-}
-
-// Returns the number of one to three digits at the start of a text, and the number of digits.
-#[inline(always)]
-fn front_digits(text: &[u8]) -> Option<(u32, usize)>
-    ensures { IfSome result (λ r. BeginsWithDigits text.now r.0 r.1) }
-{
-    match text {
-        [a, b, c, d, ..] => digits_of(*a, *b, *c, *d),
-        _ => last_digits(text),
-    }
-}
-
-// Returns the number of the one to three digits at the start of four bytes, and the number of digits. Returns `None` if
-// the first byte isn't a digit, or if all four are. No branch depends on the number of digits, which is hard to
-// predict.
-#[inline(always)]
-fn digits_of(a: u8, b: u8, c: u8, d: u8) -> Option<(u32, usize)>
-    ensures { IfSome result (λ r. (rest : List ℕ) → BeginsWithDigits (a ∷ b ∷ c ∷ d ∷ rest) r.0 r.1) }
-{
-    let has_two = b.is_ascii_digit();
-    let has_three = has_two && c.is_ascii_digit();
-    if !a.is_ascii_digit() || has_three && d.is_ascii_digit() {
-        return None;
-    }
-    let first = u32::from(a - b'0');
-    if has_three {
-        Some((
-            first * 100 + u32::from(b - b'0') * 10 + u32::from(c - b'0'),
-            3,
-        ))
-    } else if has_two {
-        Some((first * 10 + u32::from(b - b'0'), 2))
-    } else {
-        Some((first, 1))
-    }
-}
-
-// Returns the number of the one to three digits at the start of a text, and the number of digits. Returns `None` unless
-// a byte that isn't a digit follows them.
-fn last_digits(text: &[u8]) -> Option<(u32, usize)>
-    ensures { IfSome result (λ r. BeginsWithDigits text.now r.0 r.1) }
-{
     let mut number = 0;
     for (at, byte) in text.iter().enumerate() {
         if !byte.is_ascii_digit() {
-            return if at > 0 { Some((number, at)) } else { None };
+            return if at > 0 && number <= limit {
+                Some((number, &text[at..]))
+            } else {
+                None
+            };
         }
         if at == 3 {
             return None;

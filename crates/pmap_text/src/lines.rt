@@ -1,14 +1,12 @@
 //! The lines of a text and the words of a line.
-ghost use Rattle.std.specs.Prelude.{◌≡◌, ◌+◌, ◌<◌, ◌≤◌, ◌∷◌, ◌==◌, ◌||◌, ℕ, Bool, IsTrue, List, [], drop, false, length, not, position, take};
-ghost use Rattle.std.specs.List.{before_first, list_any, position_or_len};
+ghost use Rattle.std.specs.Prelude.{◌≡◌, ◌+◌, ◌<◌, ◌≤◌, ◌∷◌, ◌==◌, ◌||◌, ℕ, Bool, List, [], length, not, position, take};
+ghost use Rattle.std.specs.List.{before_first, position_or_len};
 ghost use Rattle.pmap_text.specs.Label.{is_blank as is_blank_byte};
 ghost use Rattle.pmap_text.specs.Lines.{behind_word, content_of, first_word, lines_of, trim_end, trim_start};
 
 use crate::label::is_blank;
+use memchr::memchr2;
 use prefix_keys::find_byte;
-
-// The number of bytes of a line that are examined together.
-const STEP: usize = 16;
 
 // Returns the index of the first blank.
 fn find_blank(text: &[u8]) -> Option<usize>
@@ -60,46 +58,13 @@ fn split_at_feed(text: &[u8], end: usize) -> (&[u8], &[u8])
     }
 }
 
-// Returns `true` if a line feed or a `#` is among the bytes. The loop visits all of them and has no early exit, so that
-// several bytes are compared at a time.
-#[inline(always)]
-fn has_end(text: &[u8]) -> bool
-    ensures { result ≡ list_any (λ b. b == 10 || b == 35) text.now }
-{
-    let mut found = false;
-    for byte in text {
-        found |= *byte == b'\n' || *byte == b'#';
-    }
-    found
-}
-
-// Returns the index of the first line feed or `#`.
-#[inline(always)]
-fn find_end(text: &[u8]) -> Option<usize>
-    ensures { result ≡ position (λ b. b == 10 || b == 35) text.now }
-{
-    text.iter().position(|b| *b == b'\n' || *b == b'#')
-}
-
-// Returns `true` if neither byte is among the first bytes, and there are enough of them to examine together.
-#[inline(always)]
-fn begins_plain(text: &[u8]) -> bool
-    ensures { IsTrue result → (16 ≤ length text.now) × (list_any (λ b. b == 10 || b == 35) (take 16 text.now) ≡ false) }
-{
-    text.len() >= STEP && !has_end(&text[..STEP])
-}
-
 // Returns the index of the first line feed or `#`, or the length.
 #[inline(always)]
 fn content_end(text: &[u8]) -> usize
     ensures place { result ≡ position_or_len (λ b. b == 10 || b == 35) text.now }
     ensures within { result ≤ length text.now }
 {
-    let mut rest = text;
-    while begins_plain(rest) {
-        rest = &rest[STEP..];
-    }
-    text.len() - rest.len() + place_or_end(find_end(rest), rest)
+    memchr2(b'\n', b'#', text).unwrap_or(text.len())
 }
 
 /// Returns the content of the first line of a text (`content`), and the text after its line feed.

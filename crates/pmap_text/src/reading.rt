@@ -306,6 +306,7 @@ impl Reading {
 
     /// Adds an entry of the text's version. Its version decides that of the text if nothing decided before. An earlier
     /// entry may have the same block.
+    #[inline(always)]
     pub fn add_entry(&mut self, block: Block, label: LabelId) -> Result<(), MapFaultKind>
         requires version { version_at_of self.old block.version ≡ block.version }
         requires label { label.0 < length self.old.table }

@@ -40,7 +40,7 @@ fn place_of(text: &[u8]) -> usize
 {
     let mut place = 0;
     for byte in &text[text.len().saturating_sub(4)..] {
-        place = (place * 29 + usize::from(*byte)) % PLACES;
+        place = (place * 27 + usize::from(*byte)) % PLACES;
     }
     place
 }

@@ -1,10 +1,10 @@
 //! Reading map texts and list texts line by line.
-ghost use Rattle.std.specs.Prelude.{◌≡◌, ◌≢◌, ◌++◌, ◌∷◌, [], List, Some, Ok, Err, IfOk, IfErr, IsTrue, false, if◌then◌else◌, length, nat_lt, slice_get};
+ghost use Rattle.std.specs.Prelude.{◌≡◌, ◌≢◌, [], List, Ok, Err, IfOk, IfErr};
 ghost use Rattle.pmap_text.specs.Filed.{HasDistinctKeys};
 ghost use Rattle.pmap_text.specs.Lines.{lines_of};
 ghost use Rattle.pmap_text.specs.Reading.{Entry, ReturnsList, ReturnsMap, earlier_of, entries_from};
 ghost use Rattle.pmap_text.specs.Steps.{HasRead};
-ghost use Rattle.pmap_text.specs.declared.fault.MapFaultKind.TheVariants.{DuplicateBlock, NoMemory};
+ghost use Rattle.pmap_text.specs.declared.fault.MapFaultKind.TheVariants.{NoMemory};
 
 use crate::fault::{MapFault, MapFaultKind};
 use crate::form::Form;
@@ -29,67 +29,39 @@ fn fault_at(kind: MapFaultKind, number: u64) -> MapFault
     MapFault { kind, line }
 }
 
-// Notes the line of an entry if fewer lines are noted than there are entries. Returns `false` if an allocation fails.
-fn note(noted: &mut Vec<u64>, count: usize, number: u64) -> bool
-    ensures stored { IsTrue result → noted.new.items
-        ≡ (if nat_lt (length noted.old.items) count then noted.old.items ++ number ∷ [] else noted.old.items) }
-    ensures same { result ≡ false → noted.new.items ≡ noted.old.items }
-{
-    if noted.len() < count {
-        noted.push(number).is_ok()
-    } else {
-        true
-    }
-}
-
-// Reads the lines of a text of this form up to the first fault, and notes the line of each entry. An entry may have the
-// block of an earlier one.
-fn read_on(
-    reading: &mut Reading,
-    noted: &mut Vec<u64>,
-    form: Form,
-    text: &[u8],
-) -> Result<(), MapFault>
-    requires nothing { reading.old ≡ earlier_of [] }
-    requires none { noted.old.items ≡ [] }
-    ensures { HasRead form (lines_of text.now) reading.new noted.new.items result }
+// Reads the lines of a text of this form up to the first fault, or until there are more entries than the limit. Returns
+// the number of these lines. An entry may have the block of an earlier one.
+fn read_on(reading: &mut Reading, form: Form, text: &[u8], limit: usize) -> Result<u64, MapFault>
+    requires { reading.old ≡ earlier_of [] }
+    ensures { HasRead form (lines_of text.now) limit reading.new result }
 {
     let mut rest = text;
     let mut number = 0;
-    while !rest.is_empty() {
+    while !rest.is_empty() && reading.entry_count() <= limit {
         let (content, after) = split_content(rest);
         number += 1;
         if let Err(kind) = reading.read_content(form, content) {
             return Err(fault_at(kind, number));
         }
-        let stored = note(noted, reading.entry_count(), number);
-        if !stored {
-            return Err(MapFault {
-                kind: MapFaultKind::NoMemory,
-                line: 0,
-            });
-        }
         rest = after;
     }
-    Ok(())
+    Ok(number)
 }
 
-// Returns the fault of the line of an entry with the block of an earlier one. If the line wasn't noted, an allocation
-// failed.
-fn repeat_at(noted: &[u64], index: usize) -> MapFault
-    ensures found { result.kind ≢ NoMemory → (slice_get noted.now index ≡ Some result.line)
-        × (result ≡ record { kind = DuplicateBlock; line = result.line }) }
+// Returns the fault of the first entry with the block of an earlier one, given its index. Its line is found by reading
+// the text again up to this entry.
+fn repeat_at(alloc: Global, form: Form, text: &[u8], hashing: KeyHashing, index: usize) -> MapFault
+    ensures err { result.kind ≢ NoMemory → entries_from form [] 0 (lines_of text.now) ≡ Err result }
     ensures memory { result.kind ≡ NoMemory → result.line ≡ 0 }
 {
-    match noted.get(index) {
-        Some(line) => MapFault {
+    let mut reading = Reading::new(alloc, hashing);
+    let end = read_on(&mut reading, form, text, index);
+    match (end, reading.first_repeat()) {
+        (Ok(line), Ok(Some(first))) if first == index => MapFault {
             kind: MapFaultKind::DuplicateBlock,
-            line: *line,
+            line,
         },
-        None => MapFault {
-            kind: MapFaultKind::NoMemory,
-            line: 0,
-        },
+        _ => fault_at(MapFaultKind::NoMemory, 0),
     }
 }
 
@@ -108,14 +80,13 @@ fn read_lines(
     ensures memory { IfErr result (λ fault. fault.kind ≡ NoMemory → fault.line ≡ 0) }
 {
     let mut reading = Reading::new(alloc, hashing);
-    let mut noted = Vec::new(alloc);
-    let end = read_on(&mut reading, &mut noted, form, text);
+    let end = read_on(&mut reading, form, text, usize::MAX);
     match reading.first_repeat() {
         Ok(None) => match end {
-            Ok(()) => Ok(reading),
+            Ok(_) => Ok(reading),
             Err(fault) => Err(fault),
         },
-        Ok(Some(index)) => Err(repeat_at(noted.as_slice(), index)),
+        Ok(Some(index)) => Err(repeat_at(alloc, form, text, hashing, index)),
         Err(_) => Err(fault_at(MapFaultKind::NoMemory, 0)),
     }
 }

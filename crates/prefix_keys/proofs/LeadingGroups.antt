@@ -1,19 +1,19 @@
 -- The groups at the start of a text.
-use Rattle.std.proofs.Common.{◌≡◌, ℕ, ◌+◌, ◌-◌, ◌*◌, ◌^◌, ◌<◌, ◌≤◌, ◌&&◌, ◌||◌, ◌==◌, Bool, true, false, List, [], ◌∷◌, ◌++◌, Option, Some, None, All, length, take, ap, sym, refl, ◌∙◌, arith, inl, inr, nat_le, le-leb, option_map, if◌then◌else◌}
+use Rattle.std.proofs.Common.{◌≡◌, ℕ, ◌+◌, ◌-◌, ◌*◌, ◌^◌, ◌<◌, ◌&&◌, ◌==◌, Bool, true, false, List, [], ◌∷◌, ◌++◌, Option, Some, None, length, ap, sym, refl, ◌∙◌, arith, inl, inr, nat_le, option_map, if◌then◌else◌}
 use Rattle.std.specs.List.{list_all, list_any, slice_split}
 use Rattle.std.proofs.lemmas.Bool.{and_from, and_right, cond-true, cond-false, cases_Bool, eq-eqb, true_from_ne_false}
-use Rattle.std.proofs.lemmas.List.{append_assoc, append-nil, length-take-le, length-append}
+use Rattle.std.proofs.lemmas.List.{append_assoc, append-nil, length-append}
 use Rattle.std.proofs.lemmas.List.Folds.{list_all-append}
 use Rattle.std.proofs.lemmas.List.Splits.{slice_split_at, slice_split_none, length-slice_split}
 use Rattle.prefix_keys.specs.Leading.{BeginsWithColon, BeginsWithGroup, BeginsWithSide, behind, is_colon_byte}
 use Rattle.prefix_keys.specs.Steps.{more_groups}
-use Rattle.prefix_keys.specs.Text.{around_gap, around_address, colon_address, gap_address, groups_of, hex_group, hex_value, is_hex_digit, last_groups, onto_groups, side_groups, text_groups, two_groups, whole_address, dotted_address}
+use Rattle.prefix_keys.specs.Text.{around_gap, around_address, colon_address, groups_of, hex_group, hex_value, is_hex_digit, last_groups, onto_groups, side_groups, text_groups, two_groups, whole_address, dotted_address}
 use Rattle.prefix_keys.proofs.ColonPieces.{is_colon, groups_of-more, more-next}
 use Rattle.prefix_keys.proofs.Gaps.{address-around}
 use Rattle.prefix_keys.proofs.GroupNumbers.{counted-count, gap-some, whole-some}
 use Rattle.prefix_keys.proofs.Bytes.{all-weaker, apart, each-fails, lacks, none-passes}
 use Rattle.prefix_keys.proofs.Printed.{Lacks}
-use Rattle.prefix_keys.proofs.PrintedGaps.{around-piece, behind-behind, behind-nil, colon-begins, onto-behind, skip}
+use Rattle.prefix_keys.proofs.PrintedGaps.{around-piece, behind-behind, behind-nil, colon-begins, skip}
 
 -- a group consists of one or more hexadecimal digits
 pub group-digits : (text : List ℕ) (g : ℕ) → hex_group text ≡ Some g → list_all is_hex_digit text ≡ true

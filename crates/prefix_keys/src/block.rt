@@ -11,8 +11,8 @@ use crate::version::Version;
 #[derive(Clone, Copy, Debug, PartialEq, Eq, Hash)]
 pub struct Block {
     pub version: Version,
-    pub value: u128,
     pub len: u32,
+    pub value: u128,
     ghost len_in_range: { len ≤ width_of version },
     ghost in_range: { value < 2 ^ width_of version },
     ghost no_host_bit: { value % 2 ^ (width_of version - len) ≡ 0 },

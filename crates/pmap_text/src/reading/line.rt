@@ -183,6 +183,7 @@ impl Reading {
 
     // Reads a block in the text's version followed by a label, as an entry, given the text after the block. A repeated
     // block is found here if the line has another fault, and otherwise after the last line.
+    #[inline(always)]
     fn read_prefix(&mut self, block: Block, rest: &[u8]) -> Result<(), MapFaultKind>
         requires { version_at_of self.old block.version ≡ block.version }
         ensures { Reads self.old self.new (prefix_line self.old block.version block.value block.len rest.now) result }
@@ -199,6 +200,7 @@ impl Reading {
     }
 
     // Reads a label for a block in the text's version, given the text after the block.
+    #[inline(always)]
     fn read_placed(&mut self, form: Form, block: Block, rest: &[u8]) -> Result<(), MapFaultKind>
         requires { version_at_of self.old block.version ≡ block.version }
         ensures { Reads self.old self.new

@@ -53,11 +53,14 @@ fn digit_value(byte: u8) -> Option<u32>
     ensures value { result ≡ if is_hex_digit byte then Some (hex_digit_value byte) else None }
     ensures limited { IfSome result (λ digit. digit < 16) }
 {
-    match byte {
-        b'0'..=b'9' => Some(u32::from(byte - b'0')),
-        b'A'..=b'F' => Some(u32::from(byte - b'A') + 10),
-        b'a'..=b'f' => Some(u32::from(byte - b'a') + 10),
-        _ => None,
+    if byte.is_ascii_digit() {
+        Some(u32::from(byte - b'0'))
+    } else if b'a' <= byte && byte <= b'f' {
+        Some(u32::from(byte - b'a') + 10)
+    } else if b'A' <= byte && byte <= b'F' {
+        Some(u32::from(byte - b'A') + 10)
+    } else {
+        None
     }
 }
 

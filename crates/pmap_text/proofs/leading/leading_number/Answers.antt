@@ -1,17 +1,17 @@
 use Rattle.std.proofs.Common.{ℕ, ◌≡◌, Some, List, take, sym, subst, arith}
 use Rattle.std.proofs.lemmas.List.{take_rest, take-append-drop}
 use Rattle.prefix_keys.specs.Text.{short_number}
-use Rattle.pmap_text.specs.Leading.{BeginsWithDigits, BeginsWithNumber}
+use Rattle.pmap_text.specs.Leading.{BeginsWithNumber}
 use Rattle.pmap_text.proofs.LeadingWords.{number-some}
 use Rattle.pmap_text.proofs.leading.leading_number.Goals as goal
 
 pub returns-then-number-limit-clause-number : goal.returns-then-number-limit-clause-number
 returns-then-number-limit-clause-number c =
     let text : List ℕ = c.args.text.now in
-    let at : ℕ = c.in_ok-number.count in
-    let number : ℕ = c.in_ok-number.number in
-    let begins : BeginsWithDigits text number at = c.in_ok-number.ensures in
+    let at : ℕ = c.loop-at.at in
+    let number : ℕ = c.loop-at.number in
+    let digits = c.loop-at.invariant in
     let reads : short_number c.args.limit (take at text) ≡ Some number =
-    number-some c.args.limit text at number begins.value begins.digits begins.some begins.short (omega (arith, begins.within)) c.if-number-limit.true in
+    number-some c.args.limit text at number digits.value digits.digits c.if-at-gt0.true digits.short (omega arith) c.if-number-limit.true in
     subst (λ (rest : List ℕ). BeginsWithNumber text rest c.args.limit number) (sym (take_rest text at))
     (record { front = take at text; whole = sym (take-append-drop at text); reads = reads })

@@ -4,11 +4,11 @@ use Rattle.pmap_text.proofs.Entering.{HasReadTo}
 use Rattle.pmap_text.proofs.texts.read_on.Given as goal
 
 -- facts about the lines so far
-abbrev pub invariant-loop-rest : goal.invariant-loop-rest
-invariant-loop-rest l = record {
+abbrev pub invariant-loop-reading : goal.invariant-loop-reading
+invariant-loop-reading l = record {
   fits : l.number + length l.rest ≤ length l.text;
-  so_far : HasReadTo l.form (lines_of l.text) l.reading l.noted.items l.number (lines_of l.rest);
+  so_far : HasReadTo l.form (lines_of l.text) l.limit l.reading l.number (lines_of l.rest);
 }
 
-abbrev pub decreases-loop-rest : goal.decreases-loop-rest
-decreases-loop-rest l = length l.rest
+abbrev pub decreases-loop-reading : goal.decreases-loop-reading
+decreases-loop-reading l = length l.rest

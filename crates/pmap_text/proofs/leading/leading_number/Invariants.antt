@@ -1,7 +1,7 @@
 use Rattle.std.proofs.Common.{◌≡◌, ◌≤◌, ◌<◌, ◌^◌, true, take}
 use Rattle.std.specs.List.{list_all}
 use Rattle.prefix_keys.specs.Text.{is_digit, decimal_value}
-use Rattle.pmap_text.proofs.leading.last_digits.Given as goal
+use Rattle.pmap_text.proofs.leading.leading_number.Given as goal
 
 -- the number of the at most three digits so far
 abbrev pub invariant-loop-at : goal.invariant-loop-at
