@@ -5,7 +5,6 @@ use Rattle.std.proofs.Math.Nat.{pow-suc}
 use Rattle.std.proofs.lemmas.Nat.{pow_pos}
 use Rattle.std.proofs.lemmas.Option.{none-some, same_Some}
 use Rattle.std.specs.Option.{option_or}
-use Rattle.std.specs.Prelude.{◌⊎◌}
 use Rattle.prefix_keys.specs.Block.{block_number, first_of, last_of}
 use Rattle.prefix_keys.specs.Version.{width_of}
 use Rattle.prefix_keys.specs.declared.version.Version.{Version}
@@ -17,13 +16,12 @@ use Rattle.pmap_text.proofs.Ranges.{ends_before, held_index, last_end, next_firs
 use Rattle.pmap_cert.specs.CertificateForm.{IsRising}
 use Rattle.pmap_cert.specs.Node.{Inner, Leaf, Node, label_of, set_of}
 use Rattle.pmap_cert.specs.Placing.{bits_down, end_down, side_below}
-use Rattle.label_trie.specs.Layers.{IsBlock}
+use Rattle.label_trie.specs.Layers.{IsBlock, parted_sum}
 use Rattle.label_trie.specs.Nodes.{encode, leaf_node}
 use Rattle.label_trie.specs.Tree.{Fork, Tip, Tree}
 use Rattle.label_trie.proofs.Grown.{IsSplit, block_some, is_split, leaf_added}
-use Rattle.pmap_minimise.specs.Areas.{AreFew, AreHalvesOf, IsArea, IsMade, IsRun, IsStep, IsStop, StepsHigh, StepsLow, IsTreeOf, number_at, own_label}
-use Rattle.pmap_cert.specs.Ways.{digit, way_to}
-use Rattle.pmap_minimise.specs.Built.{cost_above, node_over, set_above, way_node}
+use Rattle.pmap_minimise.specs.Areas.{AreFew, AreHalvesOf, IsArea, IsChoice, IsMade, IsRun, IsStep, IsStop, IsTreeOf, number_at, own_label}
+use Rattle.pmap_minimise.specs.Built.{cost_above, digit, node_over, set_above, way_node, way_to}
 use Rattle.pmap_minimise.specs.Numbers.{IsExact}
 use Rattle.pmap_minimise.specs.declared.area.Area.{Area}
 use Rattle.pmap_minimise.proofs.Ways.{above-rising, down-high, down-low, down-none, way-high, way-low, way-set}
@@ -125,33 +123,14 @@ module _ (s : StretchesModel) (a : Area) (is : IsArea s a) where
       high_block : IsBlock W high.first high.last high.len (number_at s high)
       high_block = rw (high_first, high_last, high_len) own_split.halves.high
 
-      low_few : AreFew s low
-      low_few =
-          let sum = own_split.sum in
-          let few = is.few.few in
-          record {
-            statements = is.few.statements;
-            default = is.few.default;
-            labelled = is.few.labelled;
-            stretches = is.few.stretches;
-            few = rw (low_first, low_len) (omega arith);
-          }
-
-      high_few : AreFew s high
-      high_few =
-          let sum = own_split.sum in
-          let few = is.few.few in
-          record {
-            statements = is.few.statements;
-            default = is.few.default;
-            labelled = is.few.labelled;
-            stretches = is.few.stretches;
-            few = rw (high_first, high_len) (omega arith);
-          }
+      half_few : (h : Area) → parted_sum W (W - h.len) h.len (number_at s h) is.few.statements + 1 < 2 ^ 32 → AreFew s h
+      half_few h few = record { statements = is.few.statements; default = is.few.default; labelled = is.few.labelled; stretches = is.few.stretches; few = few }
 
       pub are-halves : AreHalvesOf s a low high
       are-halves =
           let below = own_split.below in
+          let sum = own_split.sum in
+          let few = is.few.few in
           record {
             divided = divided;
             low_area = record {
@@ -160,7 +139,7 @@ module _ (s : StretchesModel) (a : Area) (is : IsArea s a) where
               ordered = low_order;
               start = rw (low_first, low_from) is.start;
               end = low_end;
-              few = low_few;
+              few = half_few low (rw (low_first, low_len) (omega arith));
             };
             high_area = record {
               within = omega arith;
@@ -168,7 +147,7 @@ module _ (s : StretchesModel) (a : Area) (is : IsArea s a) where
               ordered = high_order;
               start = high_start;
               end = rw (high_last, high_to) is.end;
-              few = high_few;
+              few = half_few high (rw (high_first, high_len) (omega arith));
             };
             low_first = low_first;
             low_last = low_last;
@@ -261,13 +240,7 @@ halves-made s a low high low_tree high_tree lower upper cost set is are low_made
       subst (λ (n : ℕ). IsTreeOf s.version ss default n (2 * number_at s a + 1) high_tree) (are.high_len ∙ next)
       (subst (λ (n : ℕ). IsTreeOf s.version ss default high.len n high_tree) are.high_number (high_made.tree_of ss default stretches)) in
       fork-tree s.version ss default a.len a.first a.last low_tree high_tree (area-split s a is are.divided ss default stretches) low_is high_is;
-  node_is = record {
-    low = lower;
-    high = upper;
-    low_is = low_made.node_is;
-    high_is = high_made.node_is;
-    joined = (refl, refl, exact);
-  };
+  node_is = (lower, upper, low_made.node_is, high_made.node_is, (refl, refl, exact));
   rising = rising;
   own = sym (own-none s a are.divided);
   single = λ same. let divided = are.divided in absurd (omega arith);
@@ -354,48 +327,46 @@ step-by s side a chosen step = by step.choice
     halves : AreHalvesOf s a step.low step.high
     halves = step.halves
 
-    by : StepsHigh s side step.low step.high chosen ⊎ StepsLow s side step.low step.high chosen → IsStepBy s side a chosen
-    by (inl high) =
-        subst (IsStepBy s side a) (sym high.chosen_is)
-        (let order = block-order s step.high halves.high_area in
+    smaller : (step.high.last - step.high.first + 1 ≤ a.last - a.first) × (step.low.last - step.low.first + 1 ≤ a.last - a.first)
+    smaller =
+        let order = block-order s step.high halves.high_area in
         let lower = block-order s step.low halves.low_area in
         let low_first = halves.low_first in
         let low_last = halves.low_last in
         let high_first = halves.high_first in
         let high_last = halves.high_last in
-        record {
+        (omega arith, omega arith)
+
+    by : IsChoice s side step.low step.high chosen → IsStepBy s side a chosen
+    by (inl high) =
+        subst (IsStepBy s side a) (sym high.0)
+        (record {
           digit = 1;
           small = omega arith;
           number = halves.high_number;
           len = halves.high_len;
           area = halves.high_area;
           divided = halves.divided;
-          smaller = omega arith;
+          smaller = smaller.0;
         })
     by (inr low) =
-        subst (IsStepBy s side a) (sym low.chosen_is)
-        (let order = block-order s step.high halves.high_area in
-        let lower = block-order s step.low halves.low_area in
-        let low_first = halves.low_first in
-        let low_last = halves.low_last in
-        let high_first = halves.high_first in
-        let high_last = halves.high_last in
-        record {
+        subst (IsStepBy s side a) (sym low.0)
+        (record {
           digit = 0;
           small = omega arith;
           number = halves.low_number ∙ omega arith;
           len = halves.low_len;
           area = halves.low_area;
           divided = halves.divided;
-          smaller = omega arith;
+          smaller = smaller.1;
         })
 
 pub run-below : (s : StretchesModel) (side count : ℕ) (a end : Area) → IsArea s a → IsRun s side count a end → IsBelow s count a end
 run-below s side zero a end is run =
     subst (IsBelow s zero a) (sym run) (record { len = omega arith; number = omega arith; area = is; smaller = omega arith })
 run-below s side (suc count) a end is run =
-    let step = step-by s side a run.chosen run.step in
-    let rest = run-below s side count run.chosen end step.area run.rest in
+    let step = step-by s side a run.0 run.1 in
+    let rest = run-below s side count run.0 end step.area run.2 in
     let len = rest.len in
     let len' = step.len in
     let smaller = rest.smaller in
@@ -441,28 +412,28 @@ module _ (s : StretchesModel) (side : ℕ) (fits : side < 2 ^ 32) (end : Area) (
   pub run-made : (count : ℕ) (a : Area) → IsArea s a → IsRun s side count a end → IsMade s a (tree_of count) (node_of count)
   run-made zero a is run = subst (λ (b : Area). IsMade s b tree node) run made
   run-made (suc count) a is run =
-      let step = step-by s side a run.chosen run.step in
-      by (run-below s side count run.chosen end step.area run.rest) (run-made count run.chosen step.area run.rest) run.step.choice
+      let step = step-by s side a run.0 run.1 in
+      by (run-below s side count run.0 end step.area run.2) (run-made count run.0 step.area run.2) run.1.choice
     where
-      halves : AreHalvesOf s a run.step.low run.step.high
-      halves = run.step.halves
+      halves : AreHalvesOf s a run.1.low run.1.high
+      halves = run.1.halves
 
-      by : IsBelow s count run.chosen end → IsMade s run.chosen (tree_of count) (node_of count)
-          → StepsHigh s side run.step.low run.step.high run.chosen ⊎ StepsLow s side run.step.low run.step.high run.chosen → IsMade s a (tree_of (suc count)) (node_of (suc count))
+      by : IsBelow s count run.0 end → IsMade s run.0 (tree_of count) (node_of count)
+          → IsChoice s side run.1.low run.1.high run.0 → IsMade s a (tree_of (suc count)) (node_of (suc count))
       by below rest (inl high) =
-          let number = below.number ∙ ap (number_at s) high.chosen_is ∙ halves.high_number in
+          let number = below.number ∙ ap (number_at s) high.0 ∙ halves.high_number in
           over-made a count 1
-          (halves-made s a run.step.low run.step.high (Tip (Some (id_of side))) (tree_of count) (Leaf side) (node_of count) (cost_above side node) (set_above side (set_of node) count) is halves
-          (leaf-made s run.step.low side halves.low_area high.side_is fits)
-          (subst (λ (b : Area). IsMade s b (tree_of count) (node_of count)) high.chosen_is rest)
+          (halves-made s a run.1.low run.1.high (Tip (Some (id_of side))) (tree_of count) (Leaf side) (node_of count) (cost_above side node) (set_above side (set_of node) count) is halves
+          (leaf-made s run.1.low side halves.low_area high.1 fits)
+          (subst (λ (b : Area). IsMade s b (tree_of count) (node_of count)) high.0 rest)
           (way-high side fits node made.rising value count) (above-rising side fits node made.rising count))
           (omega arith)
       by below rest (inr low) =
-          let number = below.number ∙ ap (number_at s) low.chosen_is ∙ halves.low_number in
+          let number = below.number ∙ ap (number_at s) low.0 ∙ halves.low_number in
           over-made a count 0
-          (halves-made s a run.step.low run.step.high (tree_of count) (Tip (Some (id_of side))) (node_of count) (Leaf side) (cost_above side node) (set_above side (set_of node) count) is halves
-          (subst (λ (b : Area). IsMade s b (tree_of count) (node_of count)) low.chosen_is rest)
-          (leaf-made s run.step.high side halves.high_area low.side_is fits)
+          (halves-made s a run.1.low run.1.high (tree_of count) (Tip (Some (id_of side))) (node_of count) (Leaf side) (cost_above side node) (set_above side (set_of node) count) is halves
+          (subst (λ (b : Area). IsMade s b (tree_of count) (node_of count)) low.0 rest)
+          (leaf-made s run.1.high side halves.high_area low.2 fits)
           (way-low side fits node made.rising value count) (above-rising side fits node made.rising count))
           (omega arith)
 
@@ -501,17 +472,17 @@ module _ (s : StretchesModel) (side : ℕ) (fits : side < 2 ^ 32) (end : Area) (
     pub run-down : (count : ℕ) (a : Area) → IsArea s a → IsRun s side count a end → GoesDown count
     run-down zero a is run = stop-down
     run-down (suc count) a is run =
-        let step = step-by s side a run.chosen run.step in
-        by (run-below s side count run.chosen end step.area run.rest) (run-made count run.chosen step.area run.rest) (run-down count run.chosen step.area run.rest) run.step.choice
+        let step = step-by s side a run.0 run.1 in
+        by (run-below s side count run.0 end step.area run.2) (run-made count run.0 step.area run.2) (run-down count run.0 step.area run.2) run.1.choice
       where
-        by : IsBelow s count run.chosen end → IsMade s run.chosen (tree_of count) (node_of count) → GoesDown count
-            → StepsHigh s side run.step.low run.step.high run.chosen ⊎ StepsLow s side run.step.low run.step.high run.chosen → GoesDown (suc count)
+        by : IsBelow s count run.0 end → IsMade s run.0 (tree_of count) (node_of count) → GoesDown count
+            → IsChoice s side run.1.low run.1.high run.0 → GoesDown (suc count)
         by below chosen rest (inl high) =
-            let number = below.number ∙ ap (number_at s) high.chosen_is ∙ run.step.halves.high_number in
+            let number = below.number ∙ ap (number_at s) high.0 ∙ run.1.halves.high_number in
             over-down count 1 (omega arith) (omega arith) (λ none. absurd (omega arith)) rest
         by below chosen rest (inr low) =
-            let number = below.number ∙ ap (number_at s) low.chosen_is ∙ run.step.halves.low_number in
-            over-down count 0 (omega arith) (omega arith) (λ none e. low.other (ap (own_label s) (sym low.chosen_is) ∙ sym chosen.own ∙ e)) rest
+            let number = below.number ∙ ap (number_at s) low.0 ∙ run.1.halves.low_number in
+            over-down count 0 (omega arith) (omega arith) (λ none e. low.1 (ap (own_label s) (sym low.0) ∙ sym chosen.own ∙ e)) rest
 
 -- the side label of a run is that of a leaf right below the run's first node
 pub made-side : (s : StretchesModel) (a low high : Area) (tree : Tree) (node : Node) → IsMade s a tree node → AreHalvesOf s a low high

@@ -1,7 +1,6 @@
 -- What a block adds to the compact certificate that is built.
 use Rattle.std.proofs.Common.{◌≡◌, ℕ, zero, suc, ◌+◌, ◌-◌, ◌*◌, ◌/◌, ◌^◌, ◌<◌, ◌≤◌, ◌∙◌, inl, inr, cond, Bool, List, [], ◌∷◌, ◌++◌, Option, Some, None, IsSome, length, slice_get, get_or, refl, sym, ap, subst, arith, length-append}
 use Rattle.std.specs.Option.{option_or}
-use Rattle.std.specs.Prelude.{◌⊎◌}
 use Rattle.std.proofs.Math.Seq.{get_or-append_seam}
 use Rattle.std.proofs.Math.Nat.{mul-le-mul_right, zero-div}
 use Rattle.std.proofs.lemmas.List.{append-nil, append_assoc, get_or_append_left}
@@ -26,7 +25,7 @@ use Rattle.label_trie.specs.Layers.{parted_sum}
 use Rattle.label_trie.specs.Tree.{Fork, Tip, Tree, leaves_of}
 use Rattle.label_trie.proofs.Built.{map_layers, parted_most}
 use Rattle.label_trie.proofs.NodeLeaves.{fits_HasRoom, leaves_settled, leaves_undivided, length_leaves}
-use Rattle.pmap_minimise.specs.Areas.{AreHalvesOf, IsArea, IsMade, IsRun, IsLongRun, IsRunTo, IsShortRun, IsStop, IsTreeOf, StepsHigh, StepsLow, number_at, own_label}
+use Rattle.pmap_minimise.specs.Areas.{AreHalvesOf, IsArea, IsChoice, IsMade, IsRun, IsRunTo, IsStop, IsTreeOf, number_at, own_label}
 use Rattle.pmap_minimise.specs.Building.{AddsChain, AddsInner, AddsLeaf, HasRisingSet, exact_cost}
 use Rattle.pmap_cert.specs.Ways.{way_to}
 use Rattle.pmap_cert.proofs.Ways.{way-length}
@@ -34,9 +33,7 @@ use Rattle.pmap_minimise.specs.Built.{HasGrown, IsAt, IsBuilt, IsBuiltFor, cost_
 use Rattle.pmap_minimise.specs.Numbers.{IsExact, IsExactBy, IsExactSet, IsExactSetBy, common_numbers, has_number}
 use Rattle.pmap_minimise.specs.declared.area.Area.{Area}
 use Rattle.pmap_minimise.specs.declared.built.Built.{Built}
-use Rattle.pmap_minimise.specs.declared.built.Chain.{Chain as ChainParts}
 use Rattle.pmap_minimise.specs.declared.built.Claim.{Claim}
-use Rattle.pmap_minimise.specs.declared.built.Line.{Line}
 use Rattle.pmap_minimise.specs.declared.built.Line.TheVariants.{Chain as ChainLine, Inner as InnerLine, Leaf as LeafLine}
 use Rattle.pmap_text.proofs.Ranges.{ordered_at}
 use Rattle.pmap_minimise.proofs.Areas.{AreSameHalves, area-split, halves-made, leaf-made, made-side, made-stop, run-below, run-down, run-made, same-halves, way_tree}
@@ -65,23 +62,21 @@ listed-last {X} front whole x is =
 pub rising-held : (pool : List LabelId) (id : SetId) (set : List ℕ) → IsHeld pool id set → IsRising (2 ^ 32) 0 set → HasRisingSet pool id
 rising-held pool id set is rising = record { has = is.whole; rising = subst (IsRising (2 ^ 32) 0) (sym is.set) rising }
 
-pool-again : (old middle new : List LabelId) → IsGrown old middle → IsGrown middle new → IsGrown old new
-pool-again old middle new first second =
-    (first.0 ++ second.0, second.1 ∙ ap (λ (l : List LabelId). l ++ second.0) first.1 ∙ append_assoc old first.0 second.0)
+grown-twice : {X : Type 0} (old middle new : List X) → IsGrown old middle → IsGrown middle new → IsGrown old new
+grown-twice {X} old middle new first second =
+    (first.0 ++ second.0, second.1 ∙ ap (λ (l : List X). l ++ second.0) first.1 ∙ append_assoc old first.0 second.0)
 
 grown-again : (old middle new : Built) → HasGrown old middle → HasGrown middle new → HasGrown old new
 grown-again old middle new first second = record {
-  sets = pool-again old.sets middle.sets new.sets first.sets second.sets;
-  lines = first.lines ++ second.lines;
-  lines_are = second.lines_are ∙ ap (λ (l : List Line). l ++ second.lines) first.lines_are ∙ append_assoc old.lines.items first.lines second.lines;
-  chains = first.chains ++ second.chains;
-  chains_are = second.chains_are ∙ ap (λ (l : List ChainParts). l ++ second.chains) first.chains_are ∙ append_assoc old.chains.items first.chains second.chains;
+  sets = grown-twice old.sets middle.sets new.sets first.sets second.sets;
+  lines = grown-twice old.lines.items middle.lines.items new.lines.items first.lines second.lines;
+  chains = grown-twice old.chains.items middle.chains.items new.chains.items first.chains second.chains;
 }
 
 -- the lines of a node stay when others are appended
 pub at-grown : (old new : Built) (compact node : Node) (from to : ℕ) → HasGrown old new → IsAt old compact node from to → IsAt new compact node from to
 at-grown old new (Leaf label) node from to grown is = record {
-  line_is = listed-grown old.lines.items grown.lines new.lines.items from _ grown.lines_are is.line_is;
+  line_is = listed-grown old.lines.items grown.lines.0 new.lines.items from _ grown.lines.1 is.line_is;
   to_is = is.to_is;
   node_is = is.node_is;
 }
@@ -93,7 +88,7 @@ at-grown old new (Inner cost set lower upper) node from to grown is = record {
   upper = is.upper;
   high = at-grown old new upper is.upper from is.middle grown is.high;
   low = at-grown old new lower is.lower is.middle is.last grown is.low;
-  line_is = listed-grown old.lines.items grown.lines new.lines.items is.last _ grown.lines_are is.line_is;
+  line_is = listed-grown old.lines.items grown.lines.0 new.lines.items is.last _ grown.lines.1 is.line_is;
   to_is = is.to_is;
   set_is = held-more old.sets new.sets is.id set grown.sets is.set_is;
   node_is = is.node_is;
@@ -104,9 +99,9 @@ at-grown old new (Chain cost set bits side end) node from to grown is = record {
   last = is.last;
   end = is.end;
   below = at-grown old new end is.end from is.last grown is.below;
-  line_is = listed-grown old.lines.items grown.lines new.lines.items is.last _ grown.lines_are is.line_is;
+  line_is = listed-grown old.lines.items grown.lines.0 new.lines.items is.last _ grown.lines.1 is.line_is;
   to_is = is.to_is;
-  listed = listed-grown old.chains.items grown.chains new.chains.items is.number is.chain grown.chains_are is.listed;
+  listed = listed-grown old.chains.items grown.chains.0 new.chains.items is.number is.chain grown.chains.1 is.listed;
   cost_is = is.cost_is;
   price_is = is.price_is;
   set_is = is.set_is;
@@ -129,10 +124,8 @@ pub leaf-added : (id : LabelId) (old new : Built) (claim : Claim) → AddsLeaf i
 leaf-added id old new claim adds = record {
   grown = record {
     sets = adds.held.grown;
-    lines = LeafLine id ∷ [];
-    lines_are = adds.lines_are;
-    chains = [];
-    chains_are = adds.chains_are ∙ sym (append-nil old.chains.items);
+    lines = (LeafLine id ∷ [], adds.lines_are);
+    chains = ([], adds.chains_are ∙ sym (append-nil old.chains.items));
   };
   at = record {
     line_is = listed-last old.lines.items new.lines.items (LeafLine id) adds.lines_are;
@@ -158,10 +151,8 @@ pub inner-added : (old new : Built) (below above claim : Claim) (low lower high 
 inner-added old new below above claim low lower high upper from middle high_at low_at low_cost high_cost low_set high_set adds =
     let grown : HasGrown old new = record {
       sets = adds.held.held.grown;
-      lines = InnerLine claim.cost claim.set ∷ [];
-      lines_are = adds.lines_are;
-      chains = [];
-      chains_are = adds.chains_are ∙ sym (append-nil old.chains.items);
+      lines = (InnerLine claim.cost claim.set ∷ [], adds.lines_are);
+      chains = ([], adds.chains_are ∙ sym (append-nil old.chains.items));
     } in
     let exact : IsExactSet (set_of lower) (set_of upper) adds.apart adds.held.set =
     subst (λ (l : List ℕ). IsExactSet l (set_of upper) adds.apart adds.held.set) low_set.set
@@ -233,31 +224,40 @@ module _ (s : StretchesModel) (a low high : Area) (low_tree high_tree : Tree) (l
           let none = made-stop s side a tree whole made (subst (IsStop s side) is run.stop) in
           let count = ap length none.0 in
           omega arith
-      by (suc zero) few is = go is.step.choice
+      by (suc zero) few is = go is.1.choice
         where
-          own : (x : Area) → is.chosen ≡ x → IsStop s side x
-          own x same = subst (IsStop s side) (is.rest ∙ same) run.stop
+          own : (x : Area) → is.0 ≡ x → IsStop s side x
+          own x same = subst (IsStop s side) (is.2 ∙ same) run.stop
 
-          same : AreSameHalves is.step.low is.step.high low high
-          same = same-halves s a is.step.low is.step.high low high is.step.halves are
+          same : AreSameHalves is.1.low is.1.high low high
+          same = same-halves s a is.1.low is.1.high low high is.1.halves are
 
-          go : StepsHigh s side is.step.low is.step.high is.chosen ⊎ StepsLow s side is.step.low is.step.high is.chosen → length (bits_down side whole) < 2
+          go : IsChoice s side is.1.low is.1.high is.0 → length (bits_down side whole) < 2
           go (inl up) =
-              let none = made-stop s side high high_tree upper high_made (own high (up.chosen_is ∙ same.high_is)) in
-              let leaf : lower ≡ Leaf side = leaf-of lower side (low_made.own ∙ ap (own_label s) (sym same.low_is) ∙ up.side_is) in
+              let none = made-stop s side high high_tree upper high_made (own high (up.0 ∙ same.high_is)) in
+              let leaf : lower ≡ Leaf side = leaf-of lower side (low_made.own ∙ ap (own_label s) (sym same.low_is) ∙ up.1) in
               let bits = ap (λ (n : Node). bits_down side (Inner cost set n upper)) leaf ∙ (down-high side cost set upper).0 in
               let count = ap length bits in
               let count' = ap length none.0 in
               omega arith
           go (inr down) =
-              let none = made-stop s side low low_tree lower low_made (own low (down.chosen_is ∙ same.low_is)) in
-              let leaf : upper ≡ Leaf side = leaf-of upper side (high_made.own ∙ ap (own_label s) (sym same.high_is) ∙ down.side_is) in
+              let none = made-stop s side low low_tree lower low_made (own low (down.0 ∙ same.low_is)) in
+              let leaf : upper ≡ Leaf side = leaf-of upper side (high_made.own ∙ ap (own_label s) (sym same.high_is) ∙ down.2) in
               let bits = ap (λ (n : Node). bits_down side (Inner cost set lower n)) leaf
-              ∙ (down-low side cost set lower (λ e. down.other (ap (own_label s) same.low_is ∙ sym low_made.own ∙ e))).0 in
+              ∙ (down-low side cost set lower (λ e. down.1 (ap (own_label s) same.low_is ∙ sym low_made.own ∙ e))).0 in
               let count = ap length bits in
               let count' = ap length none.0 in
               omega arith
       by (suc (suc count)) few is = absurd (omega arith)
+
+-- the run from a block has fewer than two bits, by the side label of its halves, if they have one
+abbrev pub IsShortRun : StretchesModel → Area → Option ℕ → Type 0
+IsShortRun s a None = Unit {0}
+IsShortRun s a (Some side) = (end : Area) × (run : IsRunTo s side a end) × (run.count < 2)
+
+way-length : (value bits : ℕ) → length (way_to value bits) ≡ bits
+way-length value zero = refl
+way-length value (suc bits) = let rest = way-length value bits in omega arith
 
 -- a block of two halves, whose run is short
 pub halves-built : (s : StretchesModel) (a low high : Area) (old middle after new : Built) (above below claim : Claim) → IsArea s a → AreHalvesOf s a low high
@@ -294,22 +294,16 @@ halves-built s a low high old middle after new above below claim is are short up
 
 -- a chain's line completes a block from which a run of two bits or more leads to its end
 pub chain-built : (s : StretchesModel) (a low high end : Area) (old middle new : Built) (below claim : Claim) (side : LabelId) (number bits : ℕ) → IsArea s a → AreHalvesOf s a low high
-    → IsLongRun s a low high side.0 end → bits ≡ end.len - a.len → number ≡ number_at s end
+    → option_or (own_label s low) (own_label s high) ≡ Some side.0 → (run : IsRunTo s side.0 a end) → 2 ≤ run.count → bits ≡ end.len - a.len → number ≡ number_at s end
     → IsBuilt s end old middle below → AddsChain below side number bits middle new claim → IsBuilt s a old new claim
-chain-built s a low high end old middle new below claim side number bits_are is are long_run bits_same number_is built adds =
-    let run = long_run.run in
-    let label = long_run.side_is in
-    let bits : ℕ = bits_are in
+chain-built s a low high end old middle new below claim side number bits is are label run more bits_same number_is built adds =
     let len = run.len in
-    let more = long_run.long in
     let bits_is : bits ≡ run.count = omega (arith, bits_same) in
     let long : 2 ≤ bits = omega arith in
     let grown : HasGrown middle new = record {
       sets = adds.held.grown;
-      lines = ChainLine (length middle.chains.items) ∷ [];
-      lines_are = adds.lines_are;
-      chains = record { cost = claim.cost; side = side; end = number; bits = bits } ∷ [];
-      chains_are = adds.chains_are;
+      lines = (ChainLine (length middle.chains.items) ∷ [], adds.lines_are);
+      chains = (record { cost = claim.cost; side = side; end = number; bits = bits } ∷ [], adds.chains_are);
     } in
     let value : ℕ = number_at s end in
     let count : ℕ = run.count in
@@ -418,12 +412,11 @@ area-label s a is none =
     seen None None some e = absurd cc
     seen default (Some x) some e = absurd (none-some x.label (sym e))
 
--- the end of a run of two bits or more has fewer addresses than the run's first block
-pub end-smaller : (s : StretchesModel) (a low high end : Area) (side : ℕ) → IsArea s a → IsLongRun s a low high side end → end.last - end.first + 2 ≤ a.last - a.first
-end-smaller s a low high end side is long =
-    let below = run-below s side long.run.count a end is long.run.run in
+-- a run's end has fewer addresses
+pub end-smaller : (s : StretchesModel) (a end : Area) (side : ℕ) → IsArea s a → (run : IsRunTo s side a end) → 2 ≤ run.count → end.last - end.first + 2 ≤ a.last - a.first
+end-smaller s a end side is run more =
+    let below = run-below s side run.count a end is run.run in
     let smaller = below.smaller in
-    let more = long.long in
     omega arith
 
 -- the costs of two halves and one more can be counted

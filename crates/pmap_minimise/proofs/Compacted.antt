@@ -1,12 +1,14 @@
 -- What is read off the lines that were built.
-use Rattle.std.proofs.Common.{◌≡◌, ℕ, ◌+◌, ◌-◌, ◌<◌, ◌≤◌, ◌∙◌, Bool, List, Some, Result, length, get_or, slice_get, refl, sym, ap, subst, arith}
+use Rattle.std.proofs.Common.{◌≡◌, ℕ, ◌+◌, ◌-◌, ◌<◌, ◌≤◌, ◌∙◌, List, [], ◌∷◌, Some, Result, length, get_or, slice_get, sym, ap, subst, arith}
 use Rattle.std.specs.Prelude.{IfOk, OnOk}
 use Rattle.std.proofs.lemmas.Option.{same_Some, slice_get-get_or, slice_get_within}
 use Rattle.std.proofs.lemmas.Result.{IfOk-weaker}
 use Rattle.pmap_text.specs.declared.label.LabelId.{LabelId}
 use Rattle.pmap_cert.specs.Node.{Chain, Inner, Leaf, Node}
 use Rattle.pmap_cert.specs.declared.pool.SetId.{SetId}
-use Rattle.pmap_minimise.specs.Built.{IsAt, IsChainAt, IsInnerAt}
+use Rattle.pmap_cert.specs.Packed.{IsHeld}
+use Rattle.pmap_minimise.specs.Built.{IsAt, cost_above, way_node, way_to}
+use Rattle.pmap_minimise.specs.declared.built.Chain.{Chain as ChainParts}
 use Rattle.pmap_minimise.specs.declared.built.Built.{Built}
 use Rattle.pmap_minimise.specs.declared.built.Line.{Line}
 use Rattle.pmap_minimise.specs.declared.built.Line.TheVariants.{Chain as ChainLine, Inner as InnerLine, Leaf as LeafLine}
@@ -48,23 +50,31 @@ pub record IsLeafNode (b : Built) (compact node : Node) (label from to : ℕ) : 
   pub node_is : node ≡ Leaf label
   pub to_is : to ≡ from + 1
 
-pub record IsInnerNode (b : Built) (compact node : Node) (cost : ℕ) (id : SetId) (from to : ℕ) : Type 0 where
+pub record IsInnerNode (b : Built) (compact node : Node) (cost : ℕ) (id : SetId) (from last : ℕ) : Type 0 where
   pub set : List ℕ
   pub low : Node
   pub high : Node
+  pub lower : Node
+  pub upper : Node
+  pub middle : ℕ
   pub compact_is : compact ≡ Inner cost set low high
-  pub inner : IsInnerAt b cost set (IsAt b low) (IsAt b high) node from to
-  pub id_is : inner.id ≡ id
+  pub node_is : node ≡ Inner cost set lower upper
+  pub high_at : IsAt b high upper from middle
+  pub low_at : IsAt b low lower middle last
+  pub before : middle < last
+  pub held : IsHeld b.sets id set
 
-pub record IsChainNode (b : Built) (compact node : Node) (number from to : ℕ) : Type 0 where
-  pub cost : ℕ
-  pub set : List ℕ
-  pub bits : List Bool
-  pub side : ℕ
+pub record IsChainNode (b : Built) (compact node : Node) (number from last : ℕ) : Type 0 where
+  pub chain : ChainParts
   pub end : Node
-  pub compact_is : compact ≡ Chain cost set bits side end
-  pub chain : IsChainAt b cost set bits side (IsAt b end) node from to
-  pub number_is : chain.number ≡ number
+  pub opened : Node
+  pub compact_is : compact ≡ Chain chain.cost (chain.side.0 ∷ []) (way_to chain.end chain.bits) chain.side.0 end
+  pub node_is : node ≡ way_node chain.side.0 chain.end chain.bits opened
+  pub below : IsAt b end opened from last
+  pub listed : slice_get b.chains.items number ≡ Some chain
+  pub price_is : chain.cost ≡ cost_above chain.side.0 opened
+  pub long : 2 ≤ chain.bits
+  pub few : chain.bits ≤ 128
 
 same-line : (b : Built) (last : ℕ) (x y : Line) → slice_get b.lines.items last ≡ Some x → slice_get b.lines.items last ≡ Some y → x ≡ y
 same-line b last x y first second = same_Some x y (sym first ∙ second)
@@ -88,24 +98,35 @@ module _ (b : Built) (from to last : ℕ) (to_is : to ≡ last + 1) where
   leaf-there (Chain cost set bits side end) node label is there =
       let same : ChainLine is.number ≡ LeafLine (record { 0 = label }) = same-line b last _ _ (at is.last _ is.to_is is.line_is) there in absurd cc
 
-  pub inner-there : (compact node : Node) (cost : ℕ) (id : SetId) → IsAt b compact node from to → slice_get b.lines.items last ≡ Some (InnerLine cost id) → IsInnerNode b compact node cost id from to
+  pub inner-there : (compact node : Node) (cost : ℕ) (id : SetId) → IsAt b compact node from to → slice_get b.lines.items last ≡ Some (InnerLine cost id) → IsInnerNode b compact node cost id from last
   inner-there (Leaf own) node cost id is there =
       let same : LeafLine (record { 0 = own }) ≡ InnerLine cost id = same-line b last _ _ (at from _ is.to_is is.line_is) there in absurd cc
   inner-there (Inner own set low high) node cost id is there =
       let same : InnerLine own is.id ≡ InnerLine cost id = same-line b last _ _ (at is.last _ is.to_is is.line_is) there in
       let number : own ≡ cost = cc in
       let id_is : is.id ≡ id = cc in
-      inner-with own cost number set low high is id_is
-    where
-      inner-with : (own cost : ℕ) → own ≡ cost → (set : List ℕ) (low high : Node) → (is : IsInnerAt b own set (IsAt b low) (IsAt b high) node from to) → is.id ≡ id
-          → IsInnerNode b (Inner own set low high) node cost id from to
-      inner-with own cost same set low high is id_is =
-          subst (λ (k : ℕ). IsInnerNode b (Inner own set low high) node k id from to) same
-          (record { set = set; low = low; high = high; compact_is = refl; inner = is; id_is = id_is })
+      let place = same-last is.last to last is.to_is to_is in
+      let below = at-last b low is.lower is.middle is.last is.low in
+      let after = below.after in
+      let end = below.to_is in
+      record {
+        set = set;
+        low = low;
+        high = high;
+        lower = is.lower;
+        upper = is.upper;
+        middle = is.middle;
+        compact_is = ap (λ (k : ℕ). Inner k set low high) number;
+        node_is = is.node_is ∙ ap (λ (k : ℕ). Inner k set is.lower is.upper) number;
+        high_at = is.high;
+        low_at = subst (IsAt b low is.lower is.middle) place is.low;
+        before = omega arith;
+        held = subst (λ (i : SetId). IsHeld b.sets i set) id_is is.set_is;
+      }
   inner-there (Chain own set bits side end) node cost id is there =
       let same : ChainLine is.number ≡ InnerLine cost id = same-line b last _ _ (at is.last _ is.to_is is.line_is) there in absurd cc
 
-  pub chain-there : (compact node : Node) (number : ℕ) → IsAt b compact node from to → slice_get b.lines.items last ≡ Some (ChainLine number) → IsChainNode b compact node number from to
+  pub chain-there : (compact node : Node) (number : ℕ) → IsAt b compact node from to → slice_get b.lines.items last ≡ Some (ChainLine number) → IsChainNode b compact node number from last
   chain-there (Leaf own) node number is there =
       let same : LeafLine (record { 0 = own }) ≡ ChainLine number = same-line b last _ _ (at from _ is.to_is is.line_is) there in absurd cc
   chain-there (Inner cost set low high) node number is there =
@@ -113,7 +134,18 @@ module _ (b : Built) (from to last : ℕ) (to_is : to ≡ last + 1) where
   chain-there (Chain cost set bits side end) node number is there =
       let same : ChainLine is.number ≡ ChainLine number = same-line b last _ _ (at is.last _ is.to_is is.line_is) there in
       let number_is : is.number ≡ number = cc in
-      record { cost = cost; set = set; bits = bits; side = side; end = end; compact_is = refl; chain = is; number_is = number_is }
+      record {
+        chain = is.chain;
+        end = end;
+        opened = is.end;
+        compact_is = λ i. Chain (is.cost_is i) ((is.set_is ∙ ap (λ (n : ℕ). n ∷ []) is.side_is) i) (is.bits_are i) (is.side_is i) end;
+        node_is = is.node_is ∙ ap (λ (n : ℕ). way_node n is.chain.end is.chain.bits is.end) is.side_is;
+        below = subst (IsAt b end is.end from) (same-last is.last to last is.to_is to_is) is.below;
+        listed = subst (λ (n : ℕ). slice_get b.chains.items n ≡ Some is.chain) number_is is.listed;
+        price_is = is.price_is;
+        long = is.long;
+        few = is.few;
+      }
 
 -- A node, by its own line.
 module _ (b : Built) (compact node : Node) (from to : ℕ) (is : IsAt b compact node from to) where
@@ -132,8 +164,8 @@ module _ (b : Built) (compact node : Node) (from to : ℕ) (is : IsAt b compact 
   pub read-leaf : (read : Line) (id : LabelId) → read ≡ get_or b.lines.items (to - 1) read → read ≡ LeafLine id → IsLeafNode b compact node id.0 from to
   read-leaf read id read_is is_line = leaf-there b from to (to - 1) to-last compact node id.0 is (there read (LeafLine id) read_is is_line)
 
-  pub read-inner : (read : Line) (cost : ℕ) (id : SetId) → read ≡ get_or b.lines.items (to - 1) read → read ≡ InnerLine cost id → IsInnerNode b compact node cost id from to
+  pub read-inner : (read : Line) (cost : ℕ) (id : SetId) → read ≡ get_or b.lines.items (to - 1) read → read ≡ InnerLine cost id → IsInnerNode b compact node cost id from (to - 1)
   read-inner read cost id read_is is_line = inner-there b from to (to - 1) to-last compact node cost id is (there read (InnerLine cost id) read_is is_line)
 
-  pub read-chained : (read : Line) (number : ℕ) → read ≡ get_or b.lines.items (to - 1) read → read ≡ ChainLine number → IsChainNode b compact node number from to
+  pub read-chained : (read : Line) (number : ℕ) → read ≡ get_or b.lines.items (to - 1) read → read ≡ ChainLine number → IsChainNode b compact node number from (to - 1)
   read-chained read number read_is is_line = chain-there b from to (to - 1) to-last compact node number is (there read (ChainLine number) read_is is_line)

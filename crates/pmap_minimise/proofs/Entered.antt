@@ -23,9 +23,15 @@ use Rattle.pmap_cert.specs.Node.{Chain, HasNumberForm, Inner, Leaf, Node, set_of
 use Rattle.label_trie.specs.Leaf.{number_of}
 use Rattle.label_trie.specs.Parts.{IsHalf}
 use Rattle.pmap_minimise.specs.Entered.{AddsEntries, IsEntryOf, text_of}
-use Rattle.pmap_minimise.specs.Numbers.{IsOwn, IsOwnBy, IsSound, keeps, numbers_of, HasHalves}
+use Rattle.pmap_minimise.specs.Numbers.{IsOwn, IsOwnBy, IsSound, keeps, numbers_of}
 use Rattle.pmap_minimise.proofs.Joined.{half-room}
 use Rattle.pmap_minimise.proofs.Texts.{keeps-texts, least-texts}
+
+-- the node is an inner one with these two nodes
+abbrev pub HasHalves : Node → Node → Node → Type 0
+HasHalves (Leaf id) low high = ⊥
+HasHalves (Inner cost set left right) low high = (left ≡ low) × (right ≡ high)
+HasHalves (Chain cost set bits side end) low high = ⊥
 
 -- a block begins at its first address
 block-first : (block : Block) → block.value ≡ first_of (width_of block.version) block.len (number_of block)

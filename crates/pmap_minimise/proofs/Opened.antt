@@ -1,5 +1,6 @@
 -- The text of the certificate's nodes, with each chain of what was built opened.
-use Rattle.std.proofs.Common.{◌≡◌, ℕ, zero, suc, ◌<◌, ◌≤◌, ◌∙◌, Bool, cond, List, [], ◌∷◌, ◌++◌, map, refl, sym, ap, arith}
+use Rattle.std.proofs.Common.{◌≡◌, ℕ, zero, suc, ◌-◌, ◌<◌, ◌≤◌, ◌∙◌, Bool, cond, List, [], ◌∷◌, ◌++◌, drop, length, length-append, map, refl, sym, take, ap, arith}
+use Rattle.std.proofs.Math.Seq.{drop-append_seam, take-length}
 use Rattle.std.proofs.lemmas.Bool.{cond_above, cond_below}
 use Rattle.std.proofs.lemmas.List.{append-nil, append_assoc, map-append}
 use Rattle.pmap_cert.proofs.Written.{text_of_lines-append}
@@ -10,7 +11,7 @@ use Rattle.pmap_minimise.specs.declared.built.Chain.{Chain}
 use Rattle.pmap_cert.specs.Ways.{digit}
 use Rattle.pmap_minimise.specs.Built.{cost_above, node_over, set_above, way_node, with_number}
 use Rattle.pmap_minimise.specs.Numbers.{has_number}
-use Rattle.pmap_minimise.specs.Opening.{node_text, side_after, side_before, text_down, text_up}
+use Rattle.pmap_minimise.specs.Opening.{node_text, side_after, side_before, text_down, text_up, way_line}
 
 -- a line with its end
 abbrev ended : List ℕ → List ℕ
@@ -118,3 +119,16 @@ with-first side x xs less = sym (cond_below side x (side ∷ x ∷ xs) (x ∷ wi
 
 pub with-later : (side x : ℕ) (xs : List ℕ) → x ≤ side → with_number side (x ∷ xs) ≡ x ∷ with_number side xs
 with-later side x xs most = sym (cond_above side x (side ∷ x ∷ xs) (x ∷ with_number side xs) (x ∷ with_number side xs) most refl)
+
+-- a node's line above the last one, with that of the side block if it comes before the end
+pub way-added : (chain : Chain) (set : List ℕ) (place d : ℕ) (out new all : List ℕ) → 0 < place → digit chain.end place ≡ d → new ≡ out ++ (way_line chain ++ side_before chain.side.0 d)
+    → out ++ text_down chain set (suc place) ≡ all → new ++ text_down chain set place ≡ all
+way-added chain set place d out new all some same is rest =
+    down-added chain set place d out (out ++ way_line chain) new all same (ap (λ (s : List ℕ). out ++ ended (inner_line chain.cost s)) (sym (above-more chain.side.0 set place some)))
+    (is ∙ sym (append_assoc out (way_line chain) (side_before chain.side.0 d))) rest
+
+-- the text after another one
+pub text-after : (front back whole : List ℕ) (n : ℕ) → whole ≡ front ++ back → n ≡ length front → take (length whole - n) (drop n whole) ≡ back
+text-after front back whole n is n_is =
+    let count : length whole - n ≡ length back = omega (arith, ap length is ∙ length-append front back) in
+    (λ i. take (count i) (drop (n_is i) (is i))) ∙ ap (take (length back)) (drop-append_seam front back) ∙ take-length back

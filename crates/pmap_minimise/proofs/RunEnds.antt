@@ -226,21 +226,20 @@ module _ (s : StretchesModel) (side : ℕ) (a : Area) (is : IsArea s a) (x y i j
             let high_last = are.high_last in
             let len' = are.low_len in
             let between = inside.ordered in
-            let begin = inside.right halves.high.first (omega arith) (omega arith) in
-            record {
-              chosen = halves.low;
-              step = record {
+            let begin = inside.right halves.high.first (omega arith) (omega arith) in (
+              halves.low,
+              record {
                 low = halves.low;
                 high = halves.high;
                 halves = are;
-                choice = inr (record {
-                  chosen_is = refl;
-                  other = own-other halves.low are.low_area x i (omega arith) (omega arith) inside.low inside.low_other;
-                  side_is = own-side halves.high are.high_area a.to begin.0 (subst (λ (p : ℕ). HoldsAddress s p a.to) (sym high_last) out.0) out.1;
-                });
-              };
-              rest = go halves.low are.low_area (omega arith) (omega arith) (omega arith) (omega arith) (omega arith);
-            }
+                choice = inr (
+                  refl,
+                  own-other halves.low are.low_area x i (omega arith) (omega arith) inside.low inside.low_other,
+                  own-side halves.high are.high_area a.to begin.0 (subst (λ (p : ℕ). HoldsAddress s p a.to) (sym high_last) out.0) out.1,
+                );
+              },
+              go halves.low are.low_area (omega arith) (omega arith) (omega arith) (omega arith) (omega arith),
+            )
         by go (inr high) =
             let some = ends in
             let out = inside.left c.first first (omega arith) in
@@ -251,20 +250,16 @@ module _ (s : StretchesModel) (side : ℕ) (a : Area) (is : IsArea s a) (x y i j
             let high_first = are.high_first in
             let high_last = are.high_last in
             let len' = are.high_len in
-            let end = inside.left halves.low.last (omega arith) (omega arith) in
-            record {
-              chosen = halves.high;
-              step = record {
+            let end = inside.left halves.low.last (omega arith) (omega arith) in (
+              halves.high,
+              record {
                 low = halves.low;
                 high = halves.high;
                 halves = are;
-                choice = inl (record {
-                  chosen_is = refl;
-                  side_is = own-side halves.low are.low_area a.from (subst (λ (p : ℕ). HoldsAddress s p a.from) (sym low_first) out.0) end.0 out.1;
-                });
-              };
-              rest = go halves.high are.high_area (omega arith) (omega arith) (omega arith) (omega arith) (omega arith);
-            }
+                choice = inl (refl, own-side halves.low are.low_area a.from (subst (λ (p : ℕ). HoldsAddress s p a.from) (sym low_first) out.0) end.0 out.1);
+              },
+              go halves.high are.high_area (omega arith) (omega arith) (omega arith) (omega arith) (omega arith),
+            )
 
     -- if no smaller block than b has both addresses, the run ends at b
     module _ (apart : (h : ℕ) → suc h ≡ W - b.len → x / 2 ^ h ≡ y / 2 ^ h → ⊥) where

@@ -22,9 +22,9 @@ pub node-cost : (tree : Tree) (node : Node) → IsNodeFor tree node → cost_of 
 node-cost (Tip None) node is = absurd is
 node-cost (Tip (Some id)) node is = subst (λ (n : Node). cost_of n < 1) (sym is) (omega arith)
 node-cost (Fork low high) node is =
-    let a = node-cost low is.low is.low_is in
-    let b = node-cost high is.high is.high_is in
-    let c = joined-cost is.low is.high node is.joined in
+    let a = node-cost low is.0 is.2 in
+    let b = node-cost high is.1 is.3 in
+    let c = joined-cost is.0 is.1 node is.4 in
     omega arith
 
 -- each leaf has a label
@@ -57,6 +57,6 @@ tree-certified (Fork low high) n q h node room is few =
     let count = length-append low_leaves high_leaves in
     let one : suc (h - 1) ≡ h = omega arith in
     subst (λ (k : ℕ). IsCertified n q k (low_leaves ++ high_leaves) node) one
-    (joined-certified n q (h - 1) low_leaves high_leaves is.low is.high (λ m undivided. inner_unsettled m low high n q undivided) few
-    (tree-certified low (suc n) (2 * q) (h - 1) is.low room.1 is.low_is (omega arith))
-    (tree-certified high (suc n) (2 * q + 1) (h - 1) is.high room.2 is.high_is (omega arith)) node is.joined)
+    (joined-certified n q (h - 1) low_leaves high_leaves is.0 is.1 (λ m undivided. inner_unsettled m low high n q undivided) few
+    (tree-certified low (suc n) (2 * q) (h - 1) is.0 room.1 is.2 (omega arith))
+    (tree-certified high (suc n) (2 * q + 1) (h - 1) is.1 room.2 is.3 (omega arith)) node is.4)

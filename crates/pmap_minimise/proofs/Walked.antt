@@ -24,7 +24,7 @@ use Rattle.pmap_minimise.specs.Building.{AddsInner, AddsLeaf, HasRisingSet}
 use Rattle.pmap_minimise.specs.Built.{HasGrown, IsAt}
 use Rattle.pmap_minimise.specs.Certified.{IsCertified}
 use Rattle.pmap_minimise.specs.Entered.{AddsEntries}
-use Rattle.pmap_minimise.specs.Numbers.{HasHalves, IsOwn, IsSound, numbers_of}
+use Rattle.pmap_minimise.specs.Numbers.{IsOwn, IsSound, numbers_of}
 use Rattle.pmap_minimise.specs.Shortest.{IsWhole}
 use Rattle.pmap_minimise.specs.Walks.{AddsAll, AreStacked, IsChosenFrom, IsClaimOf, IsClaimed, IsClaimedFrom, IsDueFor, all_lines, from_next, trees_from}
 use Rattle.pmap_minimise.specs.declared.built.Built.{Built}
@@ -34,7 +34,7 @@ use Rattle.pmap_minimise.specs.declared.built.Line.TheVariants.{Chain as ChainLi
 use Rattle.pmap_minimise.specs.declared.walks.Due.{Due}
 use Rattle.pmap_minimise.proofs.BuiltNodes.{at-grown, inner-added, leaf-added, rising-held}
 use Rattle.pmap_minimise.proofs.Compacted.{IsInnerNode, at-last, chain-there, inner-there, leaf-there}
-use Rattle.pmap_minimise.proofs.Entered.{inner-adds, leaf-adds, sound-halves}
+use Rattle.pmap_minimise.proofs.Entered.{HasHalves, inner-adds, leaf-adds, sound-halves}
 use Rattle.pmap_minimise.proofs.Texts.{exact-rising}
 use Rattle.pmap_minimise.proofs.TreeNodes.{node-cost, tree-certified}
 
@@ -289,7 +289,7 @@ module _ (t : TrieModel) (number : ℕ) (b : Built) (claims : List Claim) (from 
             stack_is = refl;
             is = record {
               node = Inner claim.cost adds.held.set two.low_is.node two.high_is.node;
-              node_is = record { low = two.low_is.node; high = two.high_is.node; low_is = two.low_is.node_is; high_is = two.high_is.node_is; joined = (refl, refl, added.exact) };
+              node_is = (two.low_is.node, two.high_is.node, two.low_is.node_is, two.high_is.node_is, (refl, refl, added.exact));
               at = added.at;
               cost_is = refl;
               set_is = adds.held.held.stands;
@@ -438,21 +438,18 @@ module _ (b : Built) (version : Version) (root : Node) (number : ℕ) (entries :
             (subst (λ (n : Node). AddsEntries n here.block here.inherited entries new) (sym leaf.node_is) (leaf-adds id here.block here.inherited entries new ids own ids_are adds)) after;
       }
 
-  pub inner-read : (read : Line) (cost : ℕ) (id : SetId) → read ≡ get_or b.lines.items number read → read ≡ InnerEntry cost id → IsInnerNode b is.node is.node cost id is.from (number + 1)
+  pub inner-read : (read : Line) (cost : ℕ) (id : SetId) → read ≡ get_or b.lines.items number read → read ≡ InnerEntry cost id → IsInnerNode b is.node is.node cost id is.from number
   inner-read read cost id read_is is_line = inner-there b is.from (number + 1) number refl is.node is.node cost id is.at (there read (InnerEntry cost id) read_is is_line)
 
-  module _ (cost : ℕ) (id : SetId) (node : IsInnerNode b is.node is.node cost id is.from (number + 1)) where
+  module _ (cost : ℕ) (id : SetId) (node : IsInnerNode b is.node is.node cost id is.from number) where
     pub chosen-inner : (low_block high_block : Block) (ids : List LabelId) (new : List Entry) (own : LabelId) → numbers_of ids ≡ node.set → IsHalf 0 here.block low_block → IsHalf 1 here.block high_block
         → IsOwn ids here.block here.inherited entries new own
         → IsChosenFrom b version root number new (lines ++ PlainLine (InnerLine cost (numbers_of ids)) ∷ [])
         ((rest ++ record { block = high_block; inherited = Some own } ∷ []) ++ record { block = low_block; inherited = Some own } ∷ [])
     chosen-inner low_block high_block ids new own ids_are low_half high_half adds =
-        let inner = node.inner in
-        let both : Inner cost node.set node.low node.high ≡ Inner cost node.set inner.lower inner.upper = sym node.compact_is ∙ inner.node_is in
-        let low_same : inner.lower ≡ node.low = cc in
-        let high_same : inner.upper ≡ node.high = cc in
-        let to = inner.to_is in
-        let last : inner.last ≡ number = omega arith in
+        let both : Inner cost node.set node.low node.high ≡ Inner cost node.set node.lower node.upper = sym node.compact_is ∙ node.node_is in
+        let low_same : node.lower ≡ node.low = cc in
+        let high_same : node.upper ≡ node.high = cc in
         let low_due : Due = record { block = low_block; inherited = Some own } in
         let high_due : Due = record { block = high_block; inherited = Some own } in
         let halves : HasHalves is.node node.low node.high = subst (λ (n : Node). HasHalves n node.low node.high) (sym node.compact_is) (refl, refl) in
@@ -462,20 +459,17 @@ module _ (b : Built) (version : Version) (root : Node) (number : ℕ) (entries :
           whole = is.whole;
           nodes = node.low ∷ node.high ∷ is.others;
           stacked = record {
-            from = inner.middle;
+            from = node.middle;
             rest = rest ++ high_due ∷ [];
             top = low_due;
             stack_is = refl;
-            is = record {
-              at = subst (IsAt b node.low node.low inner.middle) last (subst (λ (n : Node). IsAt b node.low n inner.middle inner.last) low_same inner.low);
-              sound = sound.0;
-            };
+            is = record { at = subst (λ (n : Node). IsAt b node.low n node.middle number) low_same node.low_at; sound = sound.0 };
             below = record {
               from = is.from;
               rest = rest;
               top = high_due;
               stack_is = refl;
-              is = record { at = subst (λ (n : Node). IsAt b node.high n is.from inner.middle) high_same inner.high; sound = sound.1 };
+              is = record { at = subst (λ (n : Node). IsAt b node.high n is.from node.middle) high_same node.high_at; sound = sound.1 };
               below = is.below;
             };
           };

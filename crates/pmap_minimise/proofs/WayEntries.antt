@@ -1,5 +1,5 @@
 -- The entries of a block from which a run leads down.
-use Rattle.std.proofs.Common.{◌≡◌, ℕ, zero, suc, ◌+◌, ◌-◌, ◌*◌, ◌<◌, ◌≤◌, ◌==◌, ◌||◌, ◌∙◌, Bool, true, false, cond, List, [], ◌∷◌, ◌++◌, Option, Some, None, length, map, get_or, slice_get, refl, sym, ap, subst, arith}
+use Rattle.std.proofs.Common.{◌≡◌, ℕ, zero, suc, ◌+◌, ◌-◌, ◌*◌, ◌/◌, ◌%◌, ◌^◌, ◌<◌, ◌≤◌, ◌==◌, ◌||◌, ◌∙◌, Bool, true, false, cond, List, [], ◌∷◌, ◌++◌, Option, Some, None, length, map, get_or, refl, sym, ap, subst, arith}
 use Rattle.std.proofs.lemmas.Bool.{eq-eqb, eqb-true}
 use Rattle.std.proofs.lemmas.List.Elements.{All-weaker}
 use Rattle.std.proofs.lemmas.Option.{get_or_from_slice_get, same_Some}
@@ -192,42 +192,35 @@ way-sound side value (suc bits) last room sound =
     let more = rest.room_is in
     record { left = rest.left; room_is = omega arith; sound = rest.sound }
 
--- A chain's node, by the chain with this number.
-module _ (b : Built) (compact node : Node) (number from to : ℕ) (is : IsChainNode b compact node number from to) (read : ChainParts) (read_is : read ≡ get_or b.chains.items number read) where
-  pub read-chain : read ≡ is.chain.chain
-  read-chain =
-      let listed : slice_get b.chains.items number ≡ Some is.chain.chain = subst (λ (n : ℕ). slice_get b.chains.items n ≡ Some is.chain.chain) is.number_is is.chain.listed in
-      read_is ∙ get_or_from_slice_get b.chains.items number is.chain.chain read listed
+-- a chain's node, its number being read
+module _ (b : Built) (compact node : Node) (number from last : ℕ) (is : IsChainNode b compact node number from last) (read : ChainParts) (read_is : read ≡ get_or b.chains.items number read) where
+  pub read-chain : read ≡ is.chain
+  read-chain = read_is ∙ get_or_from_slice_get b.chains.items number is.chain read is.listed
 
-  pub read-node : node ≡ way_node read.side.0 read.end read.bits is.chain.end
-  read-node =
-      is.chain.node_is ∙ ap (λ (side : ℕ). way_node side is.chain.chain.end is.chain.chain.bits is.chain.end) is.chain.side_is
-      ∙ ap (λ (c : ChainParts). way_node c.side.0 c.end c.bits is.chain.end) (sym read-chain)
+  pub read-node : node ≡ way_node read.side.0 read.end read.bits is.opened
+  read-node = is.node_is ∙ ap (λ (c : ChainParts). way_node c.side.0 c.end c.bits is.opened) (sym read-chain)
 
   pub read-long : 2 ≤ read.bits
-  read-long = subst (λ (c : ChainParts). 2 ≤ c.bits) (sym read-chain) is.chain.long
+  read-long = subst (λ (c : ChainParts). 2 ≤ c.bits) (sym read-chain) is.long
 
   pub read-few : read.bits ≤ 128
-  read-few = subst (λ (c : ChainParts). c.bits ≤ 128) (sym read-chain) is.chain.few
+  read-few = subst (λ (c : ChainParts). c.bits ≤ 128) (sym read-chain) is.few
 
-  pub read-price : read.cost ≡ cost_above read.side.0 is.chain.end
-  read-price = subst (λ (c : ChainParts). c.cost ≡ cost_above c.side.0 is.chain.end) (sym read-chain) is.chain.price_is
+  pub read-price : read.cost ≡ cost_above read.side.0 is.opened
+  read-price = subst (λ (c : ChainParts). c.cost ≡ cost_above c.side.0 is.opened) (sym read-chain) is.price_is
 
-  pub read-deep : (room : ℕ) → IsSound node room → IsDeep is.chain.end read.bits room
-  read-deep room sound = way-sound read.side.0 read.end read.bits is.chain.end room (subst (λ (n : Node). IsSound n room) read-node sound)
+  pub read-deep : (room : ℕ) → IsSound node room → IsDeep is.opened read.bits room
+  read-deep room sound = way-sound read.side.0 read.end read.bits is.opened room (subst (λ (n : Node). IsSound n room) read-node sound)
 
   pub read-entries : (here end : Block) (inherited : Option LabelId) (old middle new : List Entry) (handed : LabelId) → IsOwn (read.side ∷ []) here inherited old middle handed
-      → LeadsTo here end (way_to read.end read.bits) → AddsEntries is.chain.end end (Some handed) middle new → AddsEntries node here inherited old new
+      → IsDown read.end read.bits here end → AddsEntries is.opened end (Some handed) middle new → AddsEntries node here inherited old new
   read-entries here end inherited old middle new handed own down adds =
       subst (λ (n : Node). AddsEntries n here inherited old new) (sym read-node)
-      (chain-adds read.side is.chain.end read.end read.bits here end inherited old middle new handed read-long own down adds)
+      (chain-adds read.side is.opened read.end read.bits here end inherited old middle new handed read-long own down adds)
 
   -- the lines of the compact node are the chain's line and those of its end
   pub read-lines : lines_of compact ≡ ChainLine read.cost (way_to read.end read.bits) read.side.0 (read.side.0 ∷ []) ∷ lines_of is.end
-  read-lines =
-      ap lines_of is.compact_is
-      ∙ (λ i. ChainLine (is.chain.cost_is i) (is.chain.bits_are i) (is.chain.side_is i) ((is.chain.set_is ∙ ap (λ (side : ℕ). side ∷ []) is.chain.side_is) i) ∷ lines_of is.end)
-      ∙ ap (λ (c : ChainParts). ChainLine c.cost (way_to c.end c.bits) c.side.0 (c.side.0 ∷ []) ∷ lines_of is.end) (sym read-chain)
+  read-lines = ap lines_of is.compact_is ∙ ap (λ (c : ChainParts). ChainLine c.cost (way_to c.end c.bits) c.side.0 (c.side.0 ∷ []) ∷ lines_of is.end) (sym read-chain)
 
 -- a block without host bits has no inner node
 pub no-room : (block : Block) (node : Node) (cost : ℕ) (set : List ℕ) (lower upper : Node) → node ≡ Inner cost set lower upper → block.len ≡ width_of block.version

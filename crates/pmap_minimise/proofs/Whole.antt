@@ -32,7 +32,7 @@ use Rattle.pmap_cert.specs.MinimalPair.{HasItsLabels, IsMinimalPair, StandsFor, 
 use Rattle.pmap_cert.proofs.InOrder.{list-form}
 use Rattle.pmap_cert.proofs.Sets.{bytes_eq-same}
 use Rattle.pmap_minimise.specs.Entered.{AddsEntries, IsEntryOf}
-use Rattle.pmap_minimise.specs.Shortest.{IsWhole, list_with, shortest_list}
+use Rattle.pmap_minimise.specs.Shortest.{IsWhole, list_with}
 use Rattle.pmap_minimise.proofs.Distinct.{order-distinct}
 use Rattle.pmap_minimise.proofs.Entered.{half-entries}
 use Rattle.pmap_minimise.specs.Certified.{IsCertified, IsKnownLeaf}
@@ -40,6 +40,15 @@ use Rattle.pmap_minimise.specs.Listing.{IsListedBy}
 use Rattle.pmap_minimise.specs.Walks.{IsClaimed}
 use Rattle.pmap_minimise.specs.declared.built.Built.{Built}
 use Rattle.pmap_minimise.proofs.Joined.{settled-known, whole-number}
+
+-- the map's prefix list with the entries of a certificate's root
+abbrev pub shortest_list : MapModel → Tree → ListModel
+shortest_list m root = record {
+  version = m.version;
+  name = m.name;
+  prefixes = entries_of (width_of m.version) m.table root None 0 0;
+  table = m.table;
+}
 
 table-has : (table : List Label) (n : ℕ) → n < length table → IsTrue (has table (text_at table n))
 table-has table n known =

@@ -1,5 +1,4 @@
 use Rattle.std.specs.Prelude.{◌≡◌, ◌≢◌, ℕ, zero, suc, ◌+◌, ◌-◌, ◌*◌, ◌/◌, ◌^◌, ◌<◌, ◌≤◌, ◌==◌, ◌⊎◌, List, Option, None, Some, IsSome, if◌then◌else◌, option_map}
-use Rattle.std.specs.Option.{option_or}
 use Rattle.prefix_keys.specs.Block.{block_number}
 use Rattle.prefix_keys.specs.Version.{width_of}
 use Rattle.prefix_keys.specs.declared.version.Version.{Version}
@@ -61,30 +60,21 @@ HasLabel s label i = option_map (λ id. id.0) (label_at s i) ≡ Some label
 
 -- The step of a run: to the higher half if the lower one has the side label alone, otherwise to the lower one if the
 -- higher one has it alone.
-pub record StepsHigh (s : StretchesModel) (side : ℕ) (low high chosen : Area) : Type 0 where
-  pub chosen_is : chosen ≡ high
-  pub side_is : own_label s low ≡ Some side
-
-pub record StepsLow (s : StretchesModel) (side : ℕ) (low high chosen : Area) : Type 0 where
-  pub chosen_is : chosen ≡ low
-  pub other : own_label s low ≢ Some side
-  pub side_is : own_label s high ≡ Some side
+abbrev pub IsChoice : StretchesModel → ℕ → Area → Area → Area → Type 0
+IsChoice s side low high chosen =
+    ((chosen ≡ high) × (own_label s low ≡ Some side))
+    ⊎ ((chosen ≡ low) × (own_label s low ≢ Some side) × (own_label s high ≡ Some side))
 
 pub record IsStep (s : StretchesModel) (side : ℕ) (a chosen : Area) : Type 0 where
   pub low : Area
   pub high : Area
   pub halves : AreHalvesOf s a low high
-  pub choice : StepsHigh s side low high chosen ⊎ StepsLow s side low high chosen
-
-pub record IsRunOver (Step Rest : Area → Type 0) : Type 0 where
-  pub chosen : Area
-  pub step : Step chosen
-  pub rest : Rest chosen
+  pub choice : IsChoice s side low high chosen
 
 -- a run of `count` steps leads from the block to the end
 abbrev pub IsRun : StretchesModel → ℕ → ℕ → Area → Area → Type 0
 IsRun s side zero a end = end ≡ a
-IsRun s side (suc count) a end = IsRunOver (IsStep s side a) (λ chosen. IsRun s side count chosen end)
+IsRun s side (suc count) a end = (chosen : Area) × IsStep s side a chosen × IsRun s side count chosen end
 
 -- neither half of the block has the side label alone, so no step leads on
 pub record HasNoSide (s : StretchesModel) (side : ℕ) (a : Area) : Type 0 where
@@ -104,17 +94,6 @@ pub record IsRunTo (s : StretchesModel) (side : ℕ) (a end : Area) : Type 0 whe
   pub stop : IsStop s side end
   pub area : IsArea s end
   pub len : end.len ≡ a.len + count
-
--- the run from the block has fewer than two bits, or there is no side label
-abbrev pub IsShortRun : StretchesModel → Area → Option ℕ → Type 0
-IsShortRun s a None = Unit {0}
-IsShortRun s a (Some side) = (end : Area) × (run : IsRunTo s side a end) × (run.count < 2)
-
--- the run from the block with these halves has two bits or more, and leads to the end
-pub record IsLongRun (s : StretchesModel) (a low high : Area) (side : ℕ) (end : Area) : Type 0 where
-  pub side_is : option_or (own_label s low) (own_label s high) ≡ Some side
-  pub run : IsRunTo s side a end
-  pub long : 2 ≤ run.count
 
 -- the tree of the statements for the block of n bits with the number q
 pub record IsTreeOf (v : Version) (ss : List Statement) (default : Option LabelId) (n q : ℕ) (tree : Tree) : Type 0 where

@@ -1,4 +1,4 @@
-use Rattle.std.specs.Prelude.{◌≡◌, ℕ, zero, suc, ◌+◌, ◌≤◌, Bool, List, [], ◌∷◌, ◌++◌, Some, All, if◌then◌else◌, length, nat_lt, slice_get}
+use Rattle.std.specs.Prelude.{◌≡◌, ℕ, zero, suc, ◌+◌, ◌/◌, ◌%◌, ◌^◌, ◌≤◌, ◌==◌, Bool, List, [], ◌∷◌, Some, All, if◌then◌else◌, length, nat_lt, slice_get}
 use Rattle.prefix_keys.specs.Version.{width_of}
 use Rattle.prefix_keys.specs.declared.version.Version.{Version}
 use Rattle.pmap_text.specs.MapText.{map_of}
@@ -18,7 +18,6 @@ use Rattle.pmap_minimise.specs.declared.area.Area.{Area}
 use Rattle.pmap_minimise.specs.declared.built.Built.{Built}
 use Rattle.pmap_minimise.specs.declared.built.Chain.{Chain}
 use Rattle.pmap_minimise.specs.declared.built.Claim.{Claim}
-use Rattle.pmap_minimise.specs.declared.built.Line.{Line}
 use Rattle.pmap_minimise.specs.declared.built.Line.TheVariants.{Chain as ChainLine, Inner as InnerLine, Leaf as LeafLine}
 
 -- The compact certificate as it is built: the lines of a node come after those of its halves, the higher half's first.
@@ -94,10 +93,8 @@ IsAt b (ChainNode cost set bits side end) = IsChainAt b cost set bits side (IsAt
 -- sets, and lines and chains after the old ones, may have been added
 pub record HasGrown (old new : Built) : Type 0 where
   pub sets : IsGrown old.sets new.sets
-  pub lines : List Line
-  pub lines_are : new.lines.items ≡ old.lines.items ++ lines
-  pub chains : List Chain
-  pub chains_are : new.chains.items ≡ old.chains.items ++ chains
+  pub lines : IsGrown old.lines.items new.lines.items
+  pub chains : IsGrown old.chains.items new.chains.items
 
 -- the compacted lines of the block's node were added, and this is the node's claim
 pub record IsBuilt (s : StretchesModel) (a : Area) (old new : Built) (claim : Claim) : Type 0 where

@@ -8,19 +8,12 @@ use Rattle.label_trie.specs.Tree.{Fork, Tip, Tree}
 use Rattle.label_trie.specs.TrieModel.{IsSettledLeaf, IsUndivided, LeafModel}
 use Rattle.pmap_minimise.specs.Numbers.{IsJoined, IsSound}
 
--- the node is the inner one of two nodes for which these hold
-pub record IsNodeOver (Low High : Node → Type 0) (node : Node) : Type 0 where
-  pub low : Node
-  pub high : Node
-  pub low_is : Low low
-  pub high_is : High high
-  pub joined : IsJoined low high node
-
 -- the node is the certificate's for the tree
 abbrev pub IsNodeFor : Tree → Node → Type 0
 IsNodeFor (Tip None) node = ⊥
 IsNodeFor (Tip (Some id)) node = node ≡ Leaf id.0
-IsNodeFor (Fork low high) node = IsNodeOver (IsNodeFor low) (IsNodeFor high) node
+IsNodeFor (Fork low high) node =
+    (lower : Node) × (upper : Node) × IsNodeFor low lower × IsNodeFor high upper × IsJoined lower upper node
 
 -- the leaf has a label, if any, whose number is below `count`
 abbrev pub IsKnownLeaf : ℕ → LeafModel → Type 0

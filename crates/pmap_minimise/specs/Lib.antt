@@ -3,7 +3,6 @@ pub mod Certified
 pub mod Entered
 pub mod Shortest
 pub mod Listing
-pub mod Compacting
 pub mod Areas
 pub mod Built
 pub mod Building

@@ -1,9 +1,8 @@
-use Rattle.std.specs.Prelude.{◌≡◌, ℕ, List, [], None, Option}
+use Rattle.std.specs.Prelude.{◌≡◌, ℕ, ◌+◌, ◌*◌, ◌%◌, ◌^◌, List, [], None}
 use Rattle.prefix_keys.specs.Version.{width_of}
 use Rattle.prefix_keys.specs.declared.block.Block.{Block}
 use Rattle.prefix_keys.specs.declared.version.Version.{Version}
 use Rattle.pmap_text.specs.declared.entry.Entry.{Entry}
-use Rattle.pmap_text.specs.declared.label.LabelId.{LabelId}
 use Rattle.pmap_cert.specs.Node.{Node}
 use Rattle.label_trie.specs.TrieModel.{LeafModel}
 use Rattle.pmap_minimise.specs.Certified.{IsCertified}
@@ -19,7 +18,8 @@ pub record IsListedBy (version : Version) (leaves : List LeafModel) (node : Node
   pub certified : IsCertified 0 0 (width_of version) leaves node
   pub adds : AddsEntries node block None [] entries
 
--- the entries of the node for the block are added, and its lines begin there
-pub record AddsAt (node : Node) (block : Block) (inherited : Option LabelId) (old new : List Entry) (start from : ℕ) : Type 0 where
-  pub start_is : from ≡ start
-  pub adds : AddsEntries node block inherited old new
+-- a way of so many bits, which are the last digits of the value, leads from the block to the end
+pub record IsDown (value bits : ℕ) (block end : Block) : Type 0 where
+  pub version : end.version ≡ block.version
+  pub len : end.len ≡ block.len + bits
+  pub number : number_of end ≡ number_of block * 2 ^ bits + value % 2 ^ bits

@@ -50,13 +50,7 @@ IsJoined low high (Leaf id) = ⊥
 IsJoined low high (Inner cost set left right) = (left ≡ low) × (right ≡ high) × IsExact low high cost set
 IsJoined low high (Chain cost set bits side end) = ⊥
 
--- the node is an inner one with these two nodes
-abbrev pub HasHalves : Node → Node → Node → Type 0
-HasHalves (Leaf id) low high = ⊥
-HasHalves (Inner cost set left right) low high = (left ≡ low) × (right ≡ high)
-HasHalves (Chain cost set bits side end) low high = ⊥
-
--- the node has no chain, each of its sets has a number, and at most `room` inner nodes are nested
+-- there is no chain, each set has a number, and at most so many inner nodes are nested
 abbrev pub IsSound : Node → ℕ → Type 0
 IsSound (Leaf id) room = Unit {0}
 IsSound (Inner cost set left right) zero = ⊥

@@ -1,4 +1,4 @@
-use Rattle.std.specs.Prelude.{◌≡◌, ℕ, zero, suc, ◌++◌, ◌∷◌, [], List, map}
+use Rattle.std.specs.Prelude.{ℕ, zero, suc, ◌++◌, ◌∷◌, [], List, map}
 use Rattle.pmap_cert.specs.CertificateText.{inner_line, leaf_line, text_of_lines}
 use Rattle.pmap_cert.specs.Node.{Node, line_text, lines_of}
 use Rattle.pmap_cert.specs.Ways.{digit}
@@ -9,10 +9,12 @@ use Rattle.pmap_minimise.specs.declared.built.Chain.{Chain}
 abbrev pub node_text : Node → List ℕ
 node_text node = text_of_lines (map line_text (lines_of node))
 
--- the text of the node was appended, and its built lines begin at `from`
-pub record AddsText (node : Node) (old new : List ℕ) (start from : ℕ) : Type 0 where
-  pub start_is : from ≡ start
-  pub text_is : new ≡ old ++ node_text node
+-- the line of a chain's node that claims the side label alone, and that of a side block
+abbrev pub way_line : Chain → List ℕ
+way_line chain = inner_line chain.cost (chain.side.0 ∷ []) ++ 10 ∷ []
+
+abbrev pub side_line : Chain → List ℕ
+side_line chain = leaf_line chain.side.0 ++ 10 ∷ []
 
 -- a side block's line if it comes before the chain's end, and if it comes after it, by the digit of the chain there
 abbrev pub side_before : ℕ → ℕ → List ℕ

@@ -1,5 +1,5 @@
-//! Blocks with the stretches at their ends, and runs: steps down to the half whose sibling has the side label alone.
-ghost use Rattle.std.specs.Prelude.{◌≡◌, ◌+◌, ◌^◌, ◌<◌, ◌≤◌, ◌↔◌, IfSome, IsTrue, MatchOption, Some, length, option_map};
+//! Blocks of addresses with the stretches that have their ends, and the runs down from them.
+ghost use Rattle.std.specs.Prelude.{◌≡◌, ◌+◌, ◌^◌, ◌<◌, ◌≤◌, ◌↔◌, IsTrue, MatchOption, Some, length, option_map};
 ghost use Rattle.prefix_keys.specs.Version.{width_of};
 ghost use Rattle.pmap_minimise.specs.Areas.{AreHalvesOf, HasLabel, IsArea, IsRunTo, IsStep, IsStop, own_label};
 ghost use Rattle.pmap_text.specs.Stretches.{HoldsAddress};
@@ -143,21 +143,20 @@ fn stepwise_end(stretches: &Stretches, area: &Area, side: LabelId) -> Area
     }
 }
 
-// Finds the end of the run of the side label in one step: the smallest block with all addresses of `area` but those of
-// a first or last stretch that has the side label. Returns `None` if `area` is in one stretch, or if the remaining
-// addresses begin or end with another stretch that has the side label.
+/// The block at the end of the run of the side label from a block with addresses of two stretches or more. It is found
+/// in one step: the smallest block with all addresses that are not in the first or last stretch of this block if that
+/// stretch has the side label. If the addresses inside begin or end with one more stretch that has it, the end is found
+/// bit by bit.
 #[inline(always)]
-fn direct_end(stretches: &Stretches, area: &Area, side: LabelId) -> Option<Area>
-    requires { IsArea stretches.now area.now }
-    ensures { IfSome result (IsRunTo stretches.now side.0 area.now) }
+pub fn run_end(stretches: &Stretches, area: &Area, side: LabelId) -> Area
+    requires area { IsArea stretches.now area.now }
+    requires divided { area.now.from < area.now.to }
+    ensures { IsRunTo stretches.now side.0 area.now result }
 {
-    if area.from == area.to {
-        return None;
-    }
     let from = area.from + usize::from(is_side(stretches, area.from, side));
     let to = area.to - usize::from(is_side(stretches, area.to, side));
     if is_side(stretches, from, side) || is_side(stretches, to, side) {
-        return None;
+        return stepwise_end(stretches, area, side);
     }
     let low = area.first.max(stretches.first(from));
     let high = area.last.min(stretches.last(to));
@@ -171,23 +170,13 @@ fn direct_end(stretches: &Stretches, area: &Area, side: LabelId) -> Option<Area>
         len,
     );
     let (first, last) = (block.value, block.high().value);
-    Some(Area {
+    let from = if first == low { from } else { area.from };
+    let to = if last == high { to } else { area.to };
+    Area {
         first,
         last,
         len,
-        from: if first == low { from } else { area.from },
-        to: if last == high { to } else { area.to },
-    })
-}
-
-/// Returns the block at the end of the run of the side label.
-#[inline(always)]
-pub fn run_end(stretches: &Stretches, area: &Area, side: LabelId) -> Area
-    requires { IsArea stretches.now area.now }
-    ensures { IsRunTo stretches.now side.0 area.now result }
-{
-    match direct_end(stretches, area, side) {
-        Some(end) => end,
-        None => stepwise_end(stretches, area, side),
+        from,
+        to,
     }
 }

@@ -1,8 +1,8 @@
-//! Builds the nodes of the compact certificate of a map's minimal pair from the map's stretches.
-ghost use Rattle.std.specs.Prelude.{◌≡◌, ◌+◌, ◌^◌, ◌<◌, IfOk, MatchOption, if◌then◌else◌, option_map};
+//! The nodes of the compact certificate of a map's minimal pair, from the map's stretches.
+ghost use Rattle.std.specs.Prelude.{◌≡◌, ◌+◌, ◌^◌, ◌<◌, IfOk, if◌then◌else◌, option_map};
 ghost use Rattle.std.specs.Option.{option_or};
 ghost use Rattle.pmap_cert.specs.Packed.{HasSet};
-ghost use Rattle.pmap_minimise.specs.Areas.{AreHalvesOf, IsArea, IsLongRun, IsShortRun, number_at, own_label};
+ghost use Rattle.pmap_minimise.specs.Areas.{IsArea, number_at, own_label};
 ghost use Rattle.pmap_minimise.specs.Building.{AddsChain, AddsInner, AddsLeaf, HasRisingSet};
 ghost use Rattle.pmap_minimise.specs.Built.{IsBuilt, IsBuiltFor};
 ghost use Rattle.pmap_minimise.specs.Numbers.{has_number, numbers_of};
@@ -114,23 +114,17 @@ fn push_divided(
     ensures { IfOk result (IsBuilt stretches.now area.now built.old built.new) }
 {
     let (low, high) = halves(stretches, area);
-    match run_of(stretches, area, &low, &high) {
-        Some((side, end)) => {
+    if let Some(side) = side_of(stretches, &low, &high) {
+        let end = run_end(stretches, area, side);
+        let bits = end.len - area.len;
+        if bits >= 2 {
             let below = push_area(alloc, built, stretches, &end)?;
-            push_chain(
-                built,
-                below,
-                side,
-                number_of(stretches, &end),
-                end.len - area.len,
-            )
-        }
-        None => {
-            let above = push_area(alloc, built, stretches, &high)?;
-            let below = push_area(alloc, built, stretches, &low)?;
-            push_inner(alloc, built, below, above)
+            return push_chain(built, below, side, number_of(stretches, &end), bits);
         }
     }
+    let above = push_area(alloc, built, stretches, &high)?;
+    let below = push_area(alloc, built, stretches, &low)?;
+    push_inner(alloc, built, below, above)
 }
 
 // Returns the number of a block among the blocks of its size. The block is not the whole address space.
@@ -142,27 +136,7 @@ fn number_of(stretches: &Stretches, area: &Area) -> u128
     area.first >> (stretches.version().width() - area.len)
 }
 
-// Returns the side label and the end of the run from the block with these halves, if the run has two bits or more.
-#[inline(always)]
-fn run_of(stretches: &Stretches, area: &Area, low: &Area, high: &Area) -> Option<(LabelId, Area)>
-    requires area { IsArea stretches.now area.now }
-    requires halves { AreHalvesOf stretches.now area.now low.now high.now }
-    ensures { MatchOption result
-        (IsShortRun stretches.now area.now
-        (option_or (own_label stretches.now low.now) (own_label stretches.now high.now)))
-        (λ x. IsLongRun stretches.now area.now low.now high.now x.0.0 x.1) }
-{
-    let Some(side) = side_of(stretches, low, high) else {
-        return None;
-    };
-    let end = run_end(stretches, area, side);
-    if end.len - area.len < 2 {
-        return None;
-    }
-    Some((side, end))
-}
-
-// Returns the side label of the run from the block with these halves: the first label that a half has alone.
+// The side label of the run from the block with these halves.
 #[inline(always)]
 fn side_of(stretches: &Stretches, low: &Area, high: &Area) -> Option<LabelId>
     requires low { IsArea stretches.now low.now }

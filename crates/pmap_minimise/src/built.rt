@@ -12,9 +12,9 @@ pub struct Claim {
 /// count of its bits, which are the last ones of that number. Its set is the side label alone.
 #[derive(Clone, Copy)]
 pub struct Chain {
+    pub end: u128,
     pub cost: u32,
     pub side: LabelId,
-    pub end: u128,
     pub bits: u32,
 }
 

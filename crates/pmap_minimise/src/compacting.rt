@@ -1,11 +1,10 @@
 //! The compact certificate's nodes by what was built.
 ghost use Rattle.std.specs.Prelude.{ℕ, List, IfOk};
 ghost use Rattle.prefix_keys.specs.declared.version.Version.{Version as AnyVersion};
-ghost use Rattle.pmap_cert.specs.Node.{Node};
+ghost use Rattle.pmap_cert.specs.Node.{Node, lines_of};
 ghost use Rattle.pmap_cert.specs.Placing.{IsCompactNode};
 ghost use Rattle.label_trie.specs.TrieModel.{LeafModel};
-ghost use Rattle.pmap_minimise.specs.Built.{HasLinesTo, IsAt, IsBuiltOf};
-ghost use Rattle.pmap_minimise.specs.Compacting.{AddsLines};
+ghost use Rattle.pmap_minimise.specs.Built.{HasLinesTo, IsAt, IsBuiltOf, way_to};
 
 use crate::built::{Built, Line};
 use pmap_cert::{Nodes, Root, Way};
@@ -16,26 +15,30 @@ use std::slice;
 fn push_node(out: &mut Nodes, built: &Built, to: usize) -> Result<usize, AllocError>
     requires { HasLinesTo built.now to }
     ensures { IfOk result (λ from. (compact node : Node) (start : ℕ) → IsAt built.now compact node start to
-        → AddsLines compact out.old out.new start from) }
+        → (from ≡ start) × (out.new ≡ out.old ++ lines_of compact)) }
 {
-    match built.lines[to - 1] {
+    let last = to - 1;
+    match built.lines[last] {
         Line::Leaf(id) => {
             out.push_leaf(id)?;
-            Ok(to - 1)
+            Ok(last)
         }
         Line::Inner(cost, set) => {
             out.push_inner(cost, built.sets.labels(&set))?;
-            let middle = push_node(out, built, to - 1)?;
-            push_node(out, built, middle)
+            let middle = push_node(out, bits, built, last)?;
+            push_node(out, bits, built, middle)
         }
         Line::Chain(number) => {
             let chain = built.chains[number as usize];
-            let way = Way {
-                value: chain.end,
-                count: chain.bits,
-            };
-            out.push_chain(chain.cost, way, chain.side, slice::from_ref(&chain.side))?;
-            push_node(out, built, to - 1)
+            bits.clear();
+            push_way(bits, &chain)?;
+            out.push_chain(
+                chain.cost,
+                bits.as_slice(),
+                chain.side,
+                slice::from_ref(&chain.side),
+            )?;
+            push_node(out, bits, built, last)
         }
     }
 }

@@ -1,10 +1,11 @@
-//! Reads the entries of a map's shortest list off the compact certificate that was built, from the root down.
-ghost use Rattle.std.specs.Prelude.{◌+◌, ◌-◌, ◌≤◌, ℕ, List, IfOk};
+//! The entries of a map's shortest list, from the root down, by the compact certificate that was built.
+ghost use Rattle.std.specs.Prelude.{◌≡◌, ◌+◌, ◌-◌, ◌≤◌, ℕ, List, IfOk};
 ghost use Rattle.prefix_keys.specs.Version.{width_of};
 ghost use Rattle.pmap_cert.specs.Node.{Node};
 ghost use Rattle.label_trie.specs.TrieModel.{LeafModel};
 ghost use Rattle.pmap_minimise.specs.Built.{HasLinesTo, IsAt, IsBuiltOf};
-ghost use Rattle.pmap_minimise.specs.Listing.{AddsAt, IsListedBy};
+ghost use Rattle.pmap_minimise.specs.Entered.{AddsEntries};
+ghost use Rattle.pmap_minimise.specs.Listing.{IsDown, IsListedBy};
 ghost use Rattle.pmap_minimise.specs.Numbers.{IsSound};
 
 use crate::built::{Built, Line};
@@ -26,30 +27,27 @@ fn push_entries(
     requires { (lines : HasLinesTo built.now to)
         × IsSound lines.node (width_of here.now.version - here.now.len) }
     ensures { IfOk result (λ from. (compact node : Node) (start : ℕ) → IsAt built.now compact node start to
-        → AddsAt node here.now inherited entries.old.items entries.new.items start from) }
+        → (from ≡ start) × AddsEntries node here.now inherited entries.old.items entries.new.items) }
 {
-    match built.lines[to - 1] {
+    let last = to - 1;
+    match built.lines[last] {
         Line::Leaf(id) => {
             push_own(entries, slice::from_ref(&id), *here, inherited)?;
-            Ok(to - 1)
+            Ok(last)
         }
         Line::Inner(_, set) => {
             let label = push_own(entries, built.sets.labels(&set), *here, inherited)?;
             let Some((low, high)) = here.halves() else {
                 unreachable!()
             };
-            let middle = push_entries(entries, built, to - 1, &low, Some(label))?;
+            let middle = push_entries(entries, built, last, &low, Some(label))?;
             push_entries(entries, built, middle, &high, Some(label))
         }
         Line::Chain(number) => {
             let chain = built.chains[number as usize];
             let side = push_own(entries, slice::from_ref(&chain.side), *here, inherited)?;
-            let way = Way {
-                value: chain.end,
-                count: chain.bits,
-            };
-            let end = way.end(here);
-            push_entries(entries, built, to - 1, &end, Some(side))
+            let end = end_block(*here, chain.end, chain.bits);
+            push_entries(entries, built, last, &end, Some(side))
         }
     }
 }

@@ -106,6 +106,12 @@ pub fn joined(
     requires high { HasRisingSet sets.old high }
     ensures { IfOk result (λ half. IsHalfHeld low high sets.old sets.new half.0 half.1) }
 {
+    // An optimisation: halves that claim one and the same label are frequent.
+    if let ([x], [y]) = (sets.labels(&low), sets.labels(&high))
+        && x.0 == y.0
+    {
+        return Ok((low, false));
+    }
     let (set, apart) = exact_set(alloc, sets, &low, &high)?;
     let half = sets.hold(set.as_slice())?;
     Ok((half, apart))

@@ -16,7 +16,7 @@ returns-in-Some t c =
     let len' = c.stepwise_end.ensures.len in
     record {
       count = suc c.stepwise_end.ensures.count;
-      run = record { chosen = c.in-Some.chosen; step = c.in-Some.ensures; rest = c.stepwise_end.ensures.run };
+      run = (c.in-Some.chosen, c.in-Some.ensures, c.stepwise_end.ensures.run);
       stop = c.stepwise_end.ensures.stop;
       area = c.stepwise_end.ensures.area;
       len = omega arith;

@@ -6,11 +6,7 @@ returns-then-has_side-2 c = record {
   low = c.halves.result.0;
   high = c.halves.result.1;
   halves = c.halves.ensures;
-  choice = inr (record {
-    chosen_is = refl;
-    other = λ own. absurd (true≢false (sym (c.has_side.ensures.1 own) ∙ c.if-has_side.false));
-    side_is = c.has_side-else-has_side.ensures.0 c.if-has_side-2.true;
-  });
+  choice = inr (refl, λ own. absurd (true≢false (sym (c.has_side.ensures.1 own) ∙ c.if-has_side.false)), c.has_side-else-has_side.ensures.0 c.if-has_side-2.true);
 }
 
 pub returns-else-has_side-2 : goal.returns-else-has_side-2

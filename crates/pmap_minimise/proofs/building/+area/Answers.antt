@@ -1,13 +1,15 @@
-use Rattle.std.proofs.Common.{◌∙◌, ◌≡◌, ◌-◌, Option, Some, option_map, ap, arith, refl, sym}
+use Rattle.std.proofs.Common.{◌∙◌, ◌≡◌, ◌-◌, Option, Some, option_map, ap, arith, refl, subst, sym}
+use Rattle.std.specs.Option.{option_or}
 use Rattle.pmap_text.specs.declared.label.LabelId.{LabelId}
 use Rattle.pmap_cert.specs.Node.{set_of}
 use Rattle.pmap_cert.proofs.PackedLines.{held-more}
 use Rattle.pmap_minimise.specs.Areas.{own_label}
 use Rattle.pmap_minimise.specs.Built.{IsBuilt}
 use Rattle.pmap_minimise.proofs.Areas.{own-is}
-use Rattle.pmap_minimise.proofs.BuiltNodes.{both-cost, chain-built, end-smaller, halves-built, leaf-built, made-cost, rising-held}
+use Rattle.pmap_minimise.proofs.BuiltNodes.{IsShortRun, both-cost, chain-built, end-smaller, halves-built, leaf-built, made-cost, rising-held}
 use Rattle.pmap_minimise.proofs.Compacted.{if_ok}
 use Rattle.pmap_minimise.proofs.building.+area.Goals as goal
+use Rattle.pmap_minimise.proofs.building.+area.Goals.{push_divided-in-Some+else-bits-ge2, push_divided-in_default}
 
 pub push_area-returns : goal.push_area-returns
 push_area-returns t c =
@@ -23,47 +25,61 @@ push_area-returns t c =
 pub push_divided-push_area-requires : goal.push_divided-push_area-requires
 push_divided-push_area-requires t c =
     let s = c.args.stretches.now in
-    let long = c.in-Some.ensures in
-    let smaller = end-smaller s c.args.area.now c.halves.result.0 c.halves.result.1 c.in-Some.end c.in-Some.side.0 c.requires.area long in
+    let run = c.run_end-end.ensures in
+    let len = run.len in
+    let long = c.if-bits-ge2.true in
+    let smaller = end-smaller s c.args.area.now c.run_end-end.result c.in-Some.side.0 c.requires.area run (omega arith) in
     let less = c.decreases in
-    (omega arith, long.run.area)
+    (omega arith, run.area)
 
 pub push_divided-push_chain-requires-clause-few : goal.push_divided-push_chain-requires-clause-few
 push_divided-push_chain-requires-clause-few t c =
-    let s = c.args.stretches.now in
-    let built = c.in_ok-below-in-Some.ensures in
-    let is = c.in-Some.ensures.run.area in
-    let cost = made-cost s c.in-Some.end built.tree built.node is built.made in
+    let built = c.in_ok-below.ensures in
+    let is = c.run_end-end.ensures.area in
+    let cost = made-cost c.args.stretches.now c.run_end-end.result built.tree built.node is built.made in
     let few = is.few.few in
     omega (arith, built.cost_is)
 
 pub push_divided-push_inner-requires-clause-few : goal.push_divided-push_inner-requires-clause-few
 push_divided-push_inner-requires-clause-few t c =
-    let s = c.args.stretches.now in
-    let halves = c.halves.ensures in
-    let above = c.in_ok-above-in-None.ensures in
-    let below = c.in_ok-below-in-None.ensures in
-    both-cost s c.args.area.now c.halves.result.0 c.halves.result.1 below.tree above.tree below.node above.node c.in_ok-below-in-None.below.cost c.in_ok-above-in-None.above.cost
-    c.requires.area halves below.made above.made below.cost_is above.cost_is
+    let above = c.in_ok-above.ensures in
+    let below = c.in_ok-below-2.ensures in
+    both-cost c.args.stretches.now c.args.area.now c.halves.result.0 c.halves.result.1 below.tree above.tree below.node above.node c.in_ok-below-2.below.cost c.in_ok-above.above.cost
+    c.requires.area c.halves.ensures below.made above.made below.cost_is above.cost_is
 
 pub push_divided-push_inner-requires-clause-high : goal.push_divided-push_inner-requires-clause-high
 push_divided-push_inner-requires-clause-high t c =
-    let above = c.in_ok-above-in-None.ensures in
-    let below = c.in_ok-below-in-None.ensures in
-    let id = c.in_ok-above-in-None.above.set in
-    rising-held c.push_area-in-None-2.new.built.sets id (set_of above.node)
-    (held-more c.push_area-in-None.new.built.sets c.push_area-in-None-2.new.built.sets id (set_of above.node) below.grown.sets above.set_is) above.made.rising
+    let above = c.in_ok-above.ensures in
+    let below = c.in_ok-below-2.ensures in
+    let id = c.in_ok-above.above.set in
+    rising-held c.push_area-3.new.built.sets id (set_of above.node)
+    (held-more c.push_area-2.new.built.sets c.push_area-3.new.built.sets id (set_of above.node) below.grown.sets above.set_is) above.made.rising
 
-pub push_divided-returns-in_ok-below-in-Some : goal.push_divided-returns-in_ok-below-in-Some
-push_divided-returns-in_ok-below-in-Some t c =
+pub push_divided-returns-then-bits-ge2 : goal.push_divided-returns-then-bits-ge2
+push_divided-returns-then-bits-ge2 t c =
     let s = c.args.stretches.now in
+    let run = c.run_end-end.ensures in
+    let len = run.len in
+    let long = c.if-bits-ge2.true in
     if_ok c.push_chain.result _ (IsBuilt s c.args.area.now c.args.built.now c.push_chain.new.built) c.push_chain.ensures
-    (λ claim adds. chain-built s c.args.area.now c.halves.result.0 c.halves.result.1 c.in-Some.end c.args.built.now c.push_area.new.built c.push_chain.new.built
-    c.in_ok-below-in-Some.below claim c.in-Some.side c.number_of.result (c.in-Some.end.len - c.args.area.now.len) c.requires.area c.halves.ensures c.in-Some.ensures refl c.number_of.ensures c.in_ok-below-in-Some.ensures adds)
+    (λ claim adds. chain-built s c.args.area.now c.halves.result.0 c.halves.result.1 c.run_end-end.result c.args.built.now c.push_area.new.built c.push_chain.new.built
+    c.in_ok-below.below claim c.in-Some.side c.number_of.result (c.run_end-end.result.len - c.args.area.now.len) c.requires.area c.halves.ensures
+    (sym c.in-Some.ensures) run (omega arith) refl c.number_of.ensures c.in_ok-below.ensures adds)
 
-pub push_divided-returns-in_ok-below-in-None : goal.push_divided-returns-in_ok-below-in-None
-push_divided-returns-in_ok-below-in-None t c =
+pub push_divided-returns : goal.push_divided-returns
+push_divided-returns t c =
     let s = c.args.stretches.now in
+    let low = c.halves.result.0 in
+    let high = c.halves.result.1 in
+    let short : IsShortRun s c.args.area.now (option_or (own_label s low) (own_label s high)) =
+    elim c.match-side_of.branch [
+      | push_divided-in-Some+else-bits-ge2 w ↦
+          let len = w.run_end-end.ensures.len in
+          let few = w.if-bits-ge2.false in
+          let run : IsShortRun s c.args.area.now (Some w.in-Some.side.0) = (w.run_end-end.result, w.run_end-end.ensures, omega arith) in
+          subst (IsShortRun s c.args.area.now) w.in-Some.ensures run
+      | push_divided-in_default w ↦ subst (IsShortRun s c.args.area.now) w.in_default.ensures tt
+    ] in
     if_ok c.push_inner.result _ (IsBuilt s c.args.area.now c.args.built.now c.push_inner.new.built) c.push_inner.ensures
-    (λ claim adds. halves-built s c.args.area.now c.halves.result.0 c.halves.result.1 c.args.built.now _ _ c.push_inner.new.built
-    c.in_ok-above-in-None.above c.in_ok-below-in-None.below claim c.requires.area c.halves.ensures c.in-None.ensures c.in_ok-above-in-None.ensures c.in_ok-below-in-None.ensures adds)
+    (λ claim adds. halves-built s c.args.area.now low high c.args.built.now _ _ c.push_inner.new.built
+    c.in_ok-above.above c.in_ok-below-2.below claim c.requires.area c.halves.ensures short c.in_ok-above.ensures c.in_ok-below-2.ensures adds)

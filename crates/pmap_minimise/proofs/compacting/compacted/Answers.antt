@@ -18,12 +18,12 @@ new-requires c =
     let is = c.requires.3 in
     let same_len : length b.lines.items ≡ c.len.result = omega (arith, c.len.ensures, b.lines.ok) in
     let done = c.in_ok-push_node.ensures is.compact c.requires.2 0 (subst (λ (n : ℕ). IsAt b is.compact c.requires.2 0 n) same_len is.at) in
-    record { node = is.compact; is = done.lines_are ∙ ap (λ (ls : List DueLine). ls ++ lines_of is.compact) c.new-out.ensures }
+    record { node = is.compact; is = done.1 ∙ ap (λ (ls : List DueLine). ls ++ lines_of is.compact) c.new-out.ensures }
 
 pub returns : goal.returns
 returns c version leaves node is =
     let b = c.args.built.now in
     let same_len : length b.lines.items ≡ c.len.result = omega (arith, c.len.ensures, b.lines.ok) in
     let done = c.in_ok-push_node.ensures is.compact node 0 (subst (λ (n : ℕ). IsAt b is.compact node 0 n) same_len is.at) in
-    let same = c.new.ensures is.compact (done.lines_are ∙ ap (λ (ls : List DueLine). ls ++ lines_of is.compact) c.new-out.ensures) in
+    let same = c.new.ensures is.compact (done.1 ∙ ap (λ (ls : List DueLine). ls ++ lines_of is.compact) c.new-out.ensures) in
     subst (IsCompactNode node) (sym same) is.compact_is

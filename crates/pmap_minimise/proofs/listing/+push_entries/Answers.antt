@@ -11,32 +11,15 @@ use Rattle.label_trie.specs.Parts.{IsHalf}
 use Rattle.label_trie.proofs.Divided.{is_half}
 use Rattle.pmap_minimise.specs.Built.{IsAt}
 use Rattle.pmap_minimise.specs.Entered.{AddsEntries}
-use Rattle.pmap_cert.specs.Packed.{HasSet, set_in}
-use Rattle.pmap_minimise.specs.Numbers.{HasHalves, IsOwn, IsSound, numbers_of}
-use Rattle.pmap_cert.specs.declared.pool.SetId.{SetId}
-use Rattle.pmap_minimise.proofs.Compacted.{at-last, if_ok, line-inside, read-chained, read-inner, read-leaf, to-some}
-use Rattle.pmap_minimise.proofs.Entered.{inner-adds, leaf-adds, sound-halves}
+use Rattle.pmap_minimise.specs.Numbers.{IsOwn, IsSound, numbers_of}
+use Rattle.pmap_minimise.proofs.Compacted.{if_ok, line-inside, read-chained, read-inner, read-leaf, to-some}
+use Rattle.pmap_minimise.proofs.Entered.{HasHalves, inner-adds, leaf-adds, sound-halves}
 use Rattle.pmap_minimise.proofs.Joined.{set-some}
 use Rattle.pmap_minimise.proofs.WayEntries.{no-room, read-deep, read-entries, read-few}
 use Rattle.pmap_minimise.proofs.listing.+push_entries.Goals as goal
 
-pub overflow_sub-to : goal.overflow_sub-to
-overflow_sub-to t c =
-    let lines = c.requires.0 in
-    to-some c.args.built.now lines.compact lines.node lines.from c.args.to lines.at
-
-pub overflow_sub-result : goal.overflow_sub-result
-overflow_sub-result t c =
-    let lines = c.requires.0 in
-    to-some c.args.built.now lines.compact lines.node lines.from c.args.to lines.at
-
-pub overflow_sub-to-in-Inner : goal.overflow_sub-to-in-Inner
-overflow_sub-to-in-Inner t c =
-    let lines = c.requires.0 in
-    to-some c.args.built.now lines.compact lines.node lines.from c.args.to lines.at
-
-pub overflow_sub-to-in-Chain : goal.overflow_sub-to-in-Chain
-overflow_sub-to-in-Chain t c =
+pub overflow_sub-last : goal.overflow_sub-last
+overflow_sub-last t c =
     let lines = c.requires.0 in
     to-some c.args.built.now lines.compact lines.node lines.from c.args.to lines.at
 
@@ -51,7 +34,7 @@ labels-requires t c =
     let lines = c.requires.0 in
     let b = c.args.built.now in
     let inner = read-inner b lines.compact lines.node lines.from c.args.to lines.at c.index.result.now _ c.in-Inner.set c.index.ensures c.in-Inner.is in
-    subst (λ (id : SetId). HasSet b.sets id) inner.id_is inner.inner.set_is.whole
+    inner.held.whole
 
 pub push_own-requires-in-Inner : goal.push_own-requires-in-Inner
 push_own-requires-in-Inner t c =
@@ -59,7 +42,7 @@ push_own-requires-in-Inner t c =
     let b = c.args.built.now in
     let inner = read-inner b lines.compact lines.node lines.from c.args.to lines.at c.index.result.now _ c.in-Inner.set c.index.ensures c.in-Inner.is in
     let set : numbers_of c.labels.result.now ≡ set_of lines.node =
-    c.labels.ensures ∙ ap (set_in b.sets) (sym inner.id_is) ∙ inner.inner.set_is.set ∙ sym (ap set_of inner.inner.node_is) in
+    c.labels.ensures ∙ inner.held.set ∙ sym (ap set_of inner.node_is) in
     let some = set-some lines.node (width_of c.args.here.now.version - c.args.here.now.len) c.requires.1 in
     let count = ap length set in
     omega (arith, length-map c.labels.result.now (λ (id : LabelId). id.0))
@@ -70,7 +53,7 @@ unreachable-requires t c =
     let b = c.args.built.now in
     let inner = read-inner b lines.compact lines.node lines.from c.args.to lines.at c.index.result.now _ c.in-Inner.set c.index.ensures c.in-Inner.is in
     let full = c.in_default.ensures.full.0 refl in
-    no-room c.args.here.now lines.node _ inner.set inner.inner.lower inner.inner.upper inner.inner.node_is full c.requires.1
+    no-room c.args.here.now lines.node _ inner.set inner.lower inner.upper inner.node_is full c.requires.1
 
 pub push_entries-requires : goal.push_entries-requires
 push_entries-requires t c =
@@ -81,12 +64,11 @@ push_entries-requires t c =
     let number : block_number (width_of block.version) (block.len + 1) c.in-Some.low.value ≡ 2 * number_of block + 0 = omega (arith, c.in-Some.ensures.lower_number) in
     let low : IsHalf 0 block c.in-Some.low = is_half 0 block c.in-Some.low c.in-Some.ensures.versions.0 c.in-Some.ensures.lens.0 number in
     let high : IsHalf 1 block c.in-Some.high = is_half 1 block c.in-Some.high c.in-Some.ensures.versions.1 c.in-Some.ensures.lens.1 c.in-Some.ensures.upper_number in
-    let own : HasHalves lines.node inner.inner.lower inner.inner.upper = subst (λ (n : Node). HasHalves n inner.inner.lower inner.inner.upper) (sym inner.inner.node_is) (refl, refl) in
-    let sound = sound-halves lines.node inner.inner.lower inner.inner.upper block c.in-Some.low c.in-Some.high own low high c.requires.1 in
+    let own : HasHalves lines.node inner.lower inner.upper = subst (λ (n : Node). HasHalves n inner.lower inner.upper) (sym inner.node_is) (refl, refl) in
+    let sound = sound-halves lines.node inner.lower inner.upper block c.in-Some.low c.in-Some.high own low high c.requires.1 in
     let less = c.decreases in
-    let last : inner.inner.last ≡ c.args.to - 1 = let e = inner.inner.to_is in omega arith in
     let some = to-some b lines.compact lines.node lines.from c.args.to lines.at in
-    (omega arith, (record { compact = inner.low; node = inner.inner.lower; from = inner.inner.middle; at = subst (IsAt b inner.low inner.inner.lower inner.inner.middle) last inner.inner.low }, sound.0))
+    (omega arith, (record { compact = inner.low; node = inner.lower; from = inner.middle; at = inner.low_at }, sound.0))
 
 pub push_entries-requires-in-Inner : goal.push_entries-requires-in-Inner
 push_entries-requires-in-Inner t c =
@@ -97,24 +79,21 @@ push_entries-requires-in-Inner t c =
     let number : block_number (width_of block.version) (block.len + 1) c.in-Some.low.value ≡ 2 * number_of block + 0 = omega (arith, c.in-Some.ensures.lower_number) in
     let low : IsHalf 0 block c.in-Some.low = is_half 0 block c.in-Some.low c.in-Some.ensures.versions.0 c.in-Some.ensures.lens.0 number in
     let high : IsHalf 1 block c.in-Some.high = is_half 1 block c.in-Some.high c.in-Some.ensures.versions.1 c.in-Some.ensures.lens.1 c.in-Some.ensures.upper_number in
-    let own : HasHalves lines.node inner.inner.lower inner.inner.upper = subst (λ (n : Node). HasHalves n inner.inner.lower inner.inner.upper) (sym inner.inner.node_is) (refl, refl) in
-    let sound = sound-halves lines.node inner.inner.lower inner.inner.upper block c.in-Some.low c.in-Some.high own low high c.requires.1 in
-    let last : inner.inner.last ≡ c.args.to - 1 = let e = inner.inner.to_is in omega arith in
-    let first = c.in_ok-middle-in-Inner.ensures inner.low inner.inner.lower inner.inner.middle (subst (IsAt b inner.low inner.inner.lower inner.inner.middle) last inner.inner.low) in
+    let own : HasHalves lines.node inner.lower inner.upper = subst (λ (n : Node). HasHalves n inner.lower inner.upper) (sym inner.node_is) (refl, refl) in
+    let sound = sound-halves lines.node inner.lower inner.upper block c.in-Some.low c.in-Some.high own low high c.requires.1 in
+    let first = c.in_ok-middle-in-Inner.ensures inner.low inner.lower inner.middle inner.low_at in
     let less = c.decreases in
-    let after = (at-last b inner.low inner.inner.lower inner.inner.middle inner.inner.last inner.inner.low).after in
-    let after' = (at-last b inner.low inner.inner.lower inner.inner.middle inner.inner.last inner.inner.low).to_is in
-    let start = first.start_is in
+    let before = inner.before in
+    let start = first.0 in
     let some = to-some b lines.compact lines.node lines.from c.args.to lines.at in
-    (omega arith, (record { compact = inner.high; node = inner.inner.upper; from = lines.from; at = subst (IsAt b inner.high inner.inner.upper lines.from) (sym first.start_is) inner.inner.high }, sound.1))
+    (omega arith, (record { compact = inner.high; node = inner.upper; from = lines.from; at = subst (IsAt b inner.high inner.upper lines.from) (sym first.0) inner.high_at }, sound.1))
 
 pub index-requires-in-Chain : goal.index-requires-in-Chain
 index-requires-in-Chain t c =
     let lines = c.requires.0 in
     let b = c.args.built.now in
     let chain = read-chained b lines.compact lines.node lines.from c.args.to lines.at c.index.result.now c.in-Chain.number c.index.ensures c.in-Chain.is in
-    let inside = slice_get_within b.chains.items chain.chain.number chain.chain.chain chain.chain.listed in
-    let same = chain.number_is in
+    let inside = slice_get_within b.chains.items c.in-Chain.number chain.chain chain.listed in
     omega arith
 
 pub invariant_of-way : goal.invariant_of-way
@@ -129,7 +108,7 @@ end-end-requires t c =
     let lines = c.requires.0 in
     let b = c.args.built.now in
     let chain = read-chained b lines.compact lines.node lines.from c.args.to lines.at c.index.result.now c.in-Chain.number c.index.ensures c.in-Chain.is in
-    let deep = read-deep b lines.compact lines.node c.in-Chain.number lines.from c.args.to chain c.index-in-Chain.result.now c.index-in-Chain.ensures
+    let deep = read-deep b lines.compact lines.node c.in-Chain.number lines.from _ chain c.index-in-Chain.result.now c.index-in-Chain.ensures
     (width_of c.args.here.now.version - c.args.here.now.len) c.requires.1 in
     let room = deep.room_is in
     let within = c.args.here.now.len_in_range in
@@ -140,7 +119,7 @@ push_entries-requires-in-Chain t c =
     let lines = c.requires.0 in
     let b = c.args.built.now in
     let chain = read-chained b lines.compact lines.node lines.from c.args.to lines.at c.index.result.now c.in-Chain.number c.index.ensures c.in-Chain.is in
-    let deep = read-deep b lines.compact lines.node c.in-Chain.number lines.from c.args.to chain c.index-in-Chain.result.now c.index-in-Chain.ensures
+    let deep = read-deep b lines.compact lines.node c.in-Chain.number lines.from _ chain c.index-in-Chain.result.now c.index-in-Chain.ensures
     (width_of c.args.here.now.version - c.args.here.now.len) c.requires.1 in
     let room = deep.room_is in
     let within = c.args.here.now.len_in_range in
@@ -150,12 +129,11 @@ push_entries-requires-in-Chain t c =
     let width : width_of c.end-end.result.version ≡ width_of c.args.here.now.version = ap width_of end.version in
     let left : deep.left ≡ width_of c.end-end.result.version - c.end-end.result.len = omega arith in
     let less = c.decreases in
-    let last : chain.chain.last ≡ c.args.to - 1 = let e = chain.chain.to_is in omega arith in
     let some = to-some b lines.compact lines.node lines.from c.args.to lines.at in (
       omega arith,
       (
-        record { compact = chain.end; node = chain.chain.end; from = lines.from; at = subst (IsAt b chain.end chain.chain.end lines.from) last chain.chain.below },
-        subst (IsSound chain.chain.end) left deep.sound,
+        record { compact = chain.end; node = chain.opened; from = lines.from; at = chain.below },
+        subst (IsSound chain.opened) left deep.sound,
       ),
     )
 
@@ -164,12 +142,11 @@ returns-in_ok-push_own-in-Leaf t c compact node start is =
     let b = c.args.built.now in
     let leaf = read-leaf b compact node start c.args.to is c.index.result.now c.in-Leaf.id c.index.ensures c.in-Leaf.is in
     let ids : numbers_of c.from_ref.result.now ≡ c.in-Leaf.id.0 ∷ [] = ap numbers_of c.from_ref.ensures.value in
-    let to = leaf.to_is in
-    record {
-      start_is = omega arith;
-      adds = subst (λ (n : Node). AddsEntries n c.args.here.now c.args.inherited c.args.entries.now.items c.push_own.new.entries.items) (sym leaf.node_is)
-          (leaf-adds c.in-Leaf.id c.args.here.now c.args.inherited c.args.entries.now.items c.push_own.new.entries.items c.from_ref.result.now c.in_ok-push_own-in-Leaf.field-0 ids c.in_ok-push_own-in-Leaf.ensures);
-    }
+    let to = leaf.to_is in (
+      omega arith,
+      subst (λ (n : Node). AddsEntries n c.args.here.now c.args.inherited c.args.entries.now.items c.push_own.new.entries.items) (sym leaf.node_is)
+          (leaf-adds c.in-Leaf.id c.args.here.now c.args.inherited c.args.entries.now.items c.push_own.new.entries.items c.from_ref.result.now c.in_ok-push_own-in-Leaf.field-0 ids c.in_ok-push_own-in-Leaf.ensures),
+    )
 
 pub returns-in_ok-middle-in-Inner : goal.returns-in_ok-middle-in-Inner
 returns-in_ok-middle-in-Inner t c =
@@ -181,17 +158,15 @@ returns-in_ok-middle-in-Inner t c =
     let number : block_number (width_of block.version) (block.len + 1) c.in-Some.low.value ≡ 2 * number_of block + 0 = omega (arith, c.in-Some.ensures.lower_number) in
     let low : IsHalf 0 block c.in-Some.low = is_half 0 block c.in-Some.low c.in-Some.ensures.versions.0 c.in-Some.ensures.lens.0 number in
     let high : IsHalf 1 block c.in-Some.high = is_half 1 block c.in-Some.high c.in-Some.ensures.versions.1 c.in-Some.ensures.lens.1 c.in-Some.ensures.upper_number in
-    let last : inner.inner.last ≡ c.args.to - 1 = let e = inner.inner.to_is in omega arith in
-    let first = c.in_ok-middle-in-Inner.ensures inner.low inner.inner.lower inner.inner.middle (subst (IsAt b inner.low inner.inner.lower inner.inner.middle) last inner.inner.low) in
-    let second = done inner.high inner.inner.upper start (subst (IsAt b inner.high inner.inner.upper start) (sym first.start_is) inner.inner.high) in
+    let first = c.in_ok-middle-in-Inner.ensures inner.low inner.lower inner.middle inner.low_at in
+    let second = done inner.high inner.upper start (subst (IsAt b inner.high inner.upper start) (sym first.0) inner.high_at) in
     let set : numbers_of c.labels.result.now ≡ set_of node =
-    c.labels.ensures ∙ ap (set_in b.sets) (sym inner.id_is) ∙ inner.inner.set_is.set ∙ sym (ap set_of inner.inner.node_is) in
-    let own : HasHalves node inner.inner.lower inner.inner.upper = subst (λ (n : Node). HasHalves n inner.inner.lower inner.inner.upper) (sym inner.inner.node_is) (refl, refl) in
-    record {
-      start_is = second.start_is;
-      adds = inner-adds node inner.inner.lower inner.inner.upper block c.in-Some.low c.in-Some.high c.args.inherited c.args.entries.now.items c.push_own-in-Inner.new.entries.items
-          c.push_entries.new.entries.items c.push_entries-in-Inner.new.entries.items c.labels.result.now c.in_ok-label-in-Inner.label own set c.in_ok-label-in-Inner.ensures low high first.adds second.adds;
-    })
+    c.labels.ensures ∙ inner.held.set ∙ sym (ap set_of inner.node_is) in
+    let own : HasHalves node inner.lower inner.upper = subst (λ (n : Node). HasHalves n inner.lower inner.upper) (sym inner.node_is) (refl, refl) in (
+      second.0,
+      inner-adds node inner.lower inner.upper block c.in-Some.low c.in-Some.high c.args.inherited c.args.entries.now.items c.push_own-in-Inner.new.entries.items
+          c.push_entries.new.entries.items c.push_entries-in-Inner.new.entries.items c.labels.result.now c.in_ok-label-in-Inner.label own set c.in_ok-label-in-Inner.ensures low high first.1 second.1,
+    ))
 
 pub returns-in_ok-side-in-Chain : goal.returns-in_ok-side-in-Chain
 returns-in_ok-side-in-Chain t c =
@@ -199,12 +174,10 @@ returns-in_ok-side-in-Chain t c =
     (λ from done compact node start is.
     let b = c.args.built.now in
     let chain = read-chained b compact node start c.args.to is c.index.result.now c.in-Chain.number c.index.ensures c.in-Chain.is in
-    let last : chain.chain.last ≡ c.args.to - 1 = let e = chain.chain.to_is in omega arith in
-    let below = done chain.end chain.chain.end start (subst (IsAt b chain.end chain.chain.end start) last chain.chain.below) in
-    record {
-      start_is = below.start_is;
-      adds = read-entries b compact node c.in-Chain.number start c.args.to chain c.index-in-Chain.result.now c.index-in-Chain.ensures c.args.here.now c.end-end.result c.args.inherited
+    let below = done chain.end chain.opened start chain.below in (
+      below.0,
+      read-entries b compact node c.in-Chain.number start _ chain c.index-in-Chain.result.now c.index-in-Chain.ensures c.args.here.now c.end_block-end.result c.args.inherited
           c.args.entries.now.items c.push_own-in-Chain.new.entries.items c.push_entries-in-Chain.new.entries.items c.in_ok-side-in-Chain.side
           (subst (λ (ids : List LabelId). IsOwn ids c.args.here.now c.args.inherited c.args.entries.now.items c.push_own-in-Chain.new.entries.items c.in_ok-side-in-Chain.side) c.from_ref-in-Chain.ensures.value c.in_ok-side-in-Chain.ensures)
-          c.end-end.ensures below.adds;
-    })
+          c.end_block-end.ensures below.1,
+    ))

@@ -27,5 +27,5 @@ returns c leaves node is =
       block = c.whole_space-whole.result;
       whole = record { version_is = c.whole_space-whole.ensures.version; start = c.whole_space-whole.ensures.value; bits = c.whole_space-whole.ensures.len };
       certified = is.certified;
-      adds = subst (λ (l : List Entry). AddsEntries node c.whole_space-whole.result None l c.push_entries.new.entries.items) c.new-entries.ensures.items done.adds;
+      adds = subst (λ (l : List Entry). AddsEntries node c.whole_space-whole.result None l c.push_entries.new.entries.items) c.new-entries.ensures.items done.1;
     }

@@ -20,4 +20,4 @@ returns c =
     let text = c.in_ok-push_text.ensures built.built.compact built.node 0 (subst (λ (n : ℕ). IsAt b built.built.compact built.node 0 n) same_len built.built.at) in
     certified-text m m.version built.leaves built.node c.push_head.new.out.items c.push_text.new.out.items built.built.certified refl c.len-labels.ensures.table built.settled built.undivided
     (c.in_ok-push_head.ensures ∙ ap (λ out. out ++ text_of_lines (format_header 1 m.version (length m.labels) ∷ m.labels)) c.new-out.ensures.items)
-    text.text_is
+    text.1

@@ -1,34 +1,19 @@
-use Rattle.std.proofs.Common.{◌≡◌, ◌-◌, ◌∙◌, ◌∷◌, ◌++◌, [], ℕ, List, ap, arith, subst, sym}
+use Rattle.std.proofs.Common.{◌≡◌, ◌+◌, ◌∙◌, ◌∷◌, ◌++◌, [], ℕ, List, ap, arith, length, length-append, subst, sym, take}
+use Rattle.std.proofs.Math.Seq.{take-append_seam}
+use Rattle.std.proofs.lemmas.List.{append_assoc}
 use Rattle.std.proofs.lemmas.Option.{slice_get_within}
 use Rattle.pmap_cert.specs.CertificateText.{inner_line}
 use Rattle.pmap_cert.specs.Node.{Node}
 use Rattle.pmap_minimise.specs.Built.{IsAt}
-use Rattle.pmap_cert.specs.Packed.{HasSet, set_in}
 use Rattle.pmap_minimise.specs.Numbers.{numbers_of}
-use Rattle.pmap_minimise.specs.Opening.{node_text, text_down}
-use Rattle.pmap_cert.specs.declared.pool.SetId.{SetId}
-use Rattle.pmap_minimise.proofs.Compacted.{at-last, if_ok, line-inside, read-chained, read-inner, read-leaf, to-some}
-use Rattle.pmap_minimise.proofs.Opened.{chain-added, inner-added, leaf-added}
-use Rattle.pmap_minimise.proofs.WayEntries.{read-few, read-node, read-price}
+use Rattle.pmap_minimise.specs.Opening.{node_text, side_line, text_down, way_line}
+use Rattle.pmap_minimise.proofs.Compacted.{if_ok, line-inside, read-chained, read-inner, read-leaf, to-some}
+use Rattle.pmap_minimise.proofs.Opened.{chain-added, inner-added, leaf-added, text-after}
+use Rattle.pmap_minimise.proofs.WayEntries.{read-few, read-long, read-node, read-price}
 use Rattle.pmap_minimise.proofs.opening.+push_node.Goals as goal
 
-pub overflow_sub-to : goal.overflow_sub-to
-overflow_sub-to t c =
-    let lines = c.requires in
-    to-some c.args.built.now lines.compact lines.node lines.from c.args.to lines.at
-
-pub overflow_sub-result : goal.overflow_sub-result
-overflow_sub-result t c =
-    let lines = c.requires in
-    to-some c.args.built.now lines.compact lines.node lines.from c.args.to lines.at
-
-pub overflow_sub-to-in-Inner : goal.overflow_sub-to-in-Inner
-overflow_sub-to-in-Inner t c =
-    let lines = c.requires in
-    to-some c.args.built.now lines.compact lines.node lines.from c.args.to lines.at
-
-pub overflow_sub-to-in-Chain : goal.overflow_sub-to-in-Chain
-overflow_sub-to-in-Chain t c =
+pub overflow_sub-last : goal.overflow_sub-last
+overflow_sub-last t c =
     let lines = c.requires in
     to-some c.args.built.now lines.compact lines.node lines.from c.args.to lines.at
 
@@ -43,7 +28,7 @@ labels-requires t c =
     let lines = c.requires in
     let b = c.args.built.now in
     let inner = read-inner b lines.compact lines.node lines.from c.args.to lines.at c.index.result.now c.in-Inner.cost c.in-Inner.set c.index.ensures c.in-Inner.is in
-    subst (λ (id : SetId). HasSet b.sets id) inner.id_is inner.inner.set_is.whole
+    inner.held.whole
 
 pub push_node-requires : goal.push_node-requires
 push_node-requires t c =
@@ -51,60 +36,82 @@ push_node-requires t c =
     let b = c.args.built.now in
     let inner = read-inner b lines.compact lines.node lines.from c.args.to lines.at c.index.result.now c.in-Inner.cost c.in-Inner.set c.index.ensures c.in-Inner.is in
     let less = c.decreases in
-    let last : inner.inner.last ≡ c.args.to - 1 = let e = inner.inner.to_is in omega arith in
     let some = to-some b lines.compact lines.node lines.from c.args.to lines.at in
-    (omega arith, record { compact = inner.low; node = inner.inner.lower; from = inner.inner.middle; at = subst (IsAt b inner.low inner.inner.lower inner.inner.middle) last inner.inner.low })
+    (omega arith, record { compact = inner.low; node = inner.lower; from = inner.middle; at = inner.low_at })
 
 pub push_node-requires-in-Inner : goal.push_node-requires-in-Inner
 push_node-requires-in-Inner t c =
     let lines = c.requires in
     let b = c.args.built.now in
     let inner = read-inner b lines.compact lines.node lines.from c.args.to lines.at c.index.result.now c.in-Inner.cost c.in-Inner.set c.index.ensures c.in-Inner.is in
-    let last : inner.inner.last ≡ c.args.to - 1 = let e = inner.inner.to_is in omega arith in
-    let first = c.in_ok-middle-in-Inner.ensures inner.low inner.inner.lower inner.inner.middle (subst (IsAt b inner.low inner.inner.lower inner.inner.middle) last inner.inner.low) in
+    let first = c.in_ok-middle-in-Inner.ensures.adds inner.low inner.lower inner.middle inner.low_at in
     let less = c.decreases in
-    let own = at-last b inner.low inner.inner.lower inner.inner.middle inner.inner.last inner.inner.low in
-    let after = own.after in
-    let after' = own.to_is in
-    let start = first.start_is in
+    let before = inner.before in
+    let start = first.0 in
     let some = to-some b lines.compact lines.node lines.from c.args.to lines.at in
-    (omega arith, record { compact = inner.high; node = inner.inner.upper; from = lines.from; at = subst (IsAt b inner.high inner.inner.upper lines.from) (sym first.start_is) inner.inner.high })
+    (omega arith, record { compact = inner.high; node = inner.upper; from = lines.from; at = subst (IsAt b inner.high inner.upper lines.from) (sym first.0) inner.high_at })
 
 pub index-requires-in-Chain : goal.index-requires-in-Chain
 index-requires-in-Chain t c =
     let lines = c.requires in
     let b = c.args.built.now in
     let chain = read-chained b lines.compact lines.node lines.from c.args.to lines.at c.index.result.now c.in-Chain.number c.index.ensures c.in-Chain.is in
-    let inside = slice_get_within b.chains.items chain.chain.number chain.chain.chain chain.chain.listed in
-    let same = chain.number_is in
+    let inside = slice_get_within b.chains.items c.in-Chain.number chain.chain chain.listed in
     omega arith
 
-pub set_to-requires : goal.set_to-requires
-set_to-requires t c =
+pub set_to-end-requires : goal.set_to-end-requires
+set_to-end-requires t c =
     let lines = c.requires in
     let b = c.args.built.now in
     let chain = read-chained b lines.compact lines.node lines.from c.args.to lines.at c.index.result.now c.in-Chain.number c.index.ensures c.in-Chain.is in
-    let last : chain.chain.last ≡ c.args.to - 1 = let e = chain.chain.to_is in omega arith in
-    record { compact = chain.end; node = chain.chain.end; from = lines.from; at = subst (IsAt b chain.end chain.chain.end lines.from) last chain.chain.below }
+    record { compact = chain.end; node = chain.opened; from = lines.from; at = chain.below }
 
-pub push_down-requires : goal.push_down-requires
-push_down-requires t c =
+pub push_down-requires-clause-bits : goal.push_down-requires-clause-bits
+push_down-requires-clause-bits t c =
     let lines = c.requires in
     let b = c.args.built.now in
     let chain = read-chained b lines.compact lines.node lines.from c.args.to lines.at c.index.result.now c.in-Chain.number c.index.ensures c.in-Chain.is in
-    read-few b lines.compact lines.node c.in-Chain.number lines.from c.args.to chain c.index-in-Chain.result.now c.index-in-Chain.ensures
+    let long = read-long b lines.compact lines.node c.in-Chain.number lines.from _ chain c.index-in-Chain.result.now c.index-in-Chain.ensures in
+    (omega arith, read-few b lines.compact lines.node c.in-Chain.number lines.from _ chain c.index-in-Chain.result.now c.index-in-Chain.ensures)
 
-pub push_up-requires : goal.push_up-requires
-push_up-requires t c =
+pub push_down-requires-clause-both : goal.push_down-requires-clause-both
+push_down-requires-clause-both t c =
+    let old = c.args.texts.now.items in
+    let chain = c.index-in-Chain.result.now in
+    let node : c.push_inner_line-in-Chain.new.out.items ≡ old ++ way_line chain =
+    c.in_ok-push_inner_line-in-Chain.ensures ∙ ap (λ (s : List ℕ). old ++ (inner_line chain.cost s ++ 10 ∷ [])) (ap numbers_of c.from_ref.ensures.value) in
+    text-after old (way_line chain ++ side_line chain) c.deref.result.now c.len-start.result
+    (c.deref.ensures.value ∙ c.in_ok-push_leaf_line-in-Chain.ensures ∙ ap (λ (l : List ℕ). l ++ side_line chain) node ∙ append_assoc old (way_line chain) (side_line chain))
+    (omega (arith, c.len-start.ensures, c.args.texts.now.ok))
+
+pub push_down-requires-clause-len : goal.push_down-requires-clause-len
+push_down-requires-clause-len t c =
+    let old = c.args.texts.now.items in
+    let chain = c.index-in-Chain.result.now in
+    let node : c.push_inner_line-in-Chain.new.out.items ≡ old ++ way_line chain =
+    c.in_ok-push_inner_line-in-Chain.ensures ∙ ap (λ (s : List ℕ). old ++ (inner_line chain.cost s ++ 10 ∷ [])) (ap numbers_of c.from_ref.ensures.value) in
+    let length : length c.push_inner_line-in-Chain.new.out.items ≡ length old + length (way_line chain) = ap length node ∙ length-append old (way_line chain) in
+    omega (arith, c.len-start.ensures, c.args.texts.now.ok, c.len-leaf.ensures, c.push_inner_line-in-Chain.new.out.ok)
+
+pub push_up-requires-clause-leaf : goal.push_up-requires-clause-leaf
+push_up-requires-clause-leaf t c =
+    text-after c.push_inner_line-in-Chain.new.out.items (side_line c.index-in-Chain.result.now) c.deref-in-Chain.result.now c.len-leaf.result
+    (c.deref-in-Chain.ensures.value ∙ c.in_ok-from-in-Chain.ensures.kept ∙ c.in_ok-push_leaf_line-in-Chain.ensures)
+    (omega (arith, c.len-leaf.ensures, c.push_inner_line-in-Chain.new.out.ok))
+
+pub returns-in_ok-push_up-in-Chain-clause-kept : goal.returns-in_ok-push_up-in-Chain-clause-kept
+returns-in_ok-push_up-in-Chain-clause-kept t c =
+    let old = c.args.texts.now.items in
+    let start : c.len-start.result ≡ length old = omega (arith, c.len-start.ensures, c.args.texts.now.ok) in
+    let all = c.in_ok-from-in-Chain.ensures.kept ∙ c.in_ok-push_leaf_line-in-Chain.ensures ∙ ap (λ (l : List ℕ). l ++ side_line c.index-in-Chain.result.now) c.in_ok-push_inner_line-in-Chain.ensures in
+    c.truncate.ensures.items ∙ (λ i. take (start i) (all i)) ∙ ap (take (length old)) (append_assoc old _ _) ∙ take-append_seam old _
+
+pub push_up-requires-clause-bits : goal.push_up-requires-clause-bits
+push_up-requires-clause-bits t c =
     let lines = c.requires in
     let b = c.args.built.now in
     let chain = read-chained b lines.compact lines.node lines.from c.args.to lines.at c.index.result.now c.in-Chain.number c.index.ensures c.in-Chain.is in
-    read-few b lines.compact lines.node c.in-Chain.number lines.from c.args.to chain c.index-in-Chain.result.now c.index-in-Chain.ensures
-
-pub overflow_sub-to-in-Chain-2 : goal.overflow_sub-to-in-Chain-2
-overflow_sub-to-in-Chain-2 t c =
-    let lines = c.requires in
-    to-some c.args.built.now lines.compact lines.node lines.from c.args.to lines.at
+    read-few b lines.compact lines.node c.in-Chain.number lines.from _ chain c.index-in-Chain.result.now c.index-in-Chain.ensures
 
 pub push_node-requires-in-Chain : goal.push_node-requires-in-Chain
 push_node-requires-in-Chain t c =
@@ -112,52 +119,45 @@ push_node-requires-in-Chain t c =
     let b = c.args.built.now in
     let chain = read-chained b lines.compact lines.node lines.from c.args.to lines.at c.index.result.now c.in-Chain.number c.index.ensures c.in-Chain.is in
     let less = c.decreases in
-    let last : chain.chain.last ≡ c.args.to - 1 = let e = chain.chain.to_is in omega arith in
     let some = to-some b lines.compact lines.node lines.from c.args.to lines.at in
-    (omega arith, record { compact = chain.end; node = chain.chain.end; from = lines.from; at = subst (IsAt b chain.end chain.chain.end lines.from) last chain.chain.below })
+    (omega arith, record { compact = chain.end; node = chain.opened; from = lines.from; at = chain.below })
 
-pub returns-in_ok-push_leaf_line-in-Leaf : goal.returns-in_ok-push_leaf_line-in-Leaf
-returns-in_ok-push_leaf_line-in-Leaf t c compact node start is =
+pub returns-in_ok-push_leaf_line-in-Leaf-clause-adds : goal.returns-in_ok-push_leaf_line-in-Leaf-clause-adds
+returns-in_ok-push_leaf_line-in-Leaf-clause-adds t c compact node start is =
     let b = c.args.built.now in
     let leaf = read-leaf b compact node start c.args.to is c.index.result.now c.in-Leaf.id c.index.ensures c.in-Leaf.is in
-    let to = leaf.to_is in
-    record {
-      start_is = omega arith;
-      text_is = leaf-added c.in-Leaf.id.0 c.args.out.now.items c.push_leaf_line.new.out.items c.in_ok-push_leaf_line-in-Leaf.ensures
-          ∙ ap (λ (n : Node). c.args.out.now.items ++ node_text n) (sym leaf.node_is);
-    }
+    let to = leaf.to_is in (
+      omega arith,
+      leaf-added c.in-Leaf.id.0 c.args.out.now.items c.push_leaf_line.new.out.items c.in_ok-push_leaf_line-in-Leaf.ensures
+          ∙ ap (λ (n : Node). c.args.out.now.items ++ node_text n) (sym leaf.node_is),
+    )
 
-pub returns-in_ok-middle-in-Inner : goal.returns-in_ok-middle-in-Inner
-returns-in_ok-middle-in-Inner t c =
-    if_ok c.push_node-in-Inner.result _ _ c.push_node-in-Inner.ensures
+pub returns-in_ok-middle-in-Inner-clause-adds : goal.returns-in_ok-middle-in-Inner-clause-adds
+returns-in_ok-middle-in-Inner-clause-adds t c =
+    if_ok c.push_node-in-Inner.result _ _ c.push_node-in-Inner.ensures.adds
     (λ from done compact node start is.
     let b = c.args.built.now in
     let old = c.args.out.now.items in
     let inner = read-inner b compact node start c.args.to is c.index.result.now c.in-Inner.cost c.in-Inner.set c.index.ensures c.in-Inner.is in
-    let last : inner.inner.last ≡ c.args.to - 1 = let e = inner.inner.to_is in omega arith in
-    let first = c.in_ok-middle-in-Inner.ensures inner.low inner.inner.lower inner.inner.middle (subst (IsAt b inner.low inner.inner.lower inner.inner.middle) last inner.inner.low) in
-    let second = done inner.high inner.inner.upper start (subst (IsAt b inner.high inner.inner.upper start) (sym first.start_is) inner.inner.high) in
-    let set : numbers_of c.labels.result.now ≡ inner.set = c.labels.ensures ∙ ap (set_in b.sets) (sym inner.id_is) ∙ inner.inner.set_is.set in
-    let own = c.in_ok-push_inner_line-in-Inner.ensures ∙ ap (λ (s : List ℕ). old ++ (inner_line c.in-Inner.cost s ++ 10 ∷ [])) set in
-    record {
-      start_is = second.start_is;
-      text_is = inner-added c.in-Inner.cost inner.set inner.inner.lower inner.inner.upper old c.push_inner_line.new.out.items c.push_node.new.out.items c.push_node-in-Inner.new.out.items own first.text_is second.text_is
-          ∙ ap (λ (n : Node). old ++ node_text n) (sym inner.inner.node_is);
-    })
+    let first = c.in_ok-middle-in-Inner.ensures.adds inner.low inner.lower inner.middle inner.low_at in
+    let second = done inner.high inner.upper start (subst (IsAt b inner.high inner.upper start) (sym first.0) inner.high_at) in
+    let set : numbers_of c.labels.result.now ≡ inner.set = c.labels.ensures ∙ inner.held.set in
+    let own = c.in_ok-push_inner_line-in-Inner.ensures ∙ ap (λ (s : List ℕ). old ++ (inner_line c.in-Inner.cost s ++ 10 ∷ [])) set in (
+      second.0,
+      inner-added c.in-Inner.cost inner.set inner.lower inner.upper old c.push_inner_line.new.out.items c.push_node.new.out.items c.push_node-in-Inner.new.out.items own first.1 second.1
+          ∙ ap (λ (n : Node). old ++ node_text n) (sym inner.node_is),
+    ))
 
-pub returns-in_ok-push_up-in-Chain : goal.returns-in_ok-push_up-in-Chain
-returns-in_ok-push_up-in-Chain t c compact node start is =
+pub returns-in_ok-push_up-in-Chain-clause-adds : goal.returns-in_ok-push_up-in-Chain-clause-adds
+returns-in_ok-push_up-in-Chain-clause-adds t c compact node start is =
     let b = c.args.built.now in
     let old = c.args.out.now.items in
     let read = c.index-in-Chain.result.now in
     let chain = read-chained b compact node start c.args.to is c.index.result.now c.in-Chain.number c.index.ensures c.in-Chain.is in
-    let last : chain.chain.last ≡ c.args.to - 1 = let e = chain.chain.to_is in omega arith in
-    let at : IsAt b chain.end chain.chain.end start (c.args.to - 1) = subst (IsAt b chain.end chain.chain.end start) last chain.chain.below in
-    let below = c.in_ok-from-in-Chain.ensures chain.end chain.chain.end start at in
-    let price = read-price b compact node c.in-Chain.number start c.args.to chain read c.index-in-Chain.ensures in
-    record {
-      start_is = below.start_is;
-      text_is = chain-added read chain.chain.end price read.bits old c.push_down.new.out.items c.push_node-in-Chain.new.out.items c.push_up.new.out.items
-          (c.in_ok-push_down-in-Chain.ensures ∙ ap (λ (set : List ℕ). old ++ text_down read set read.bits) (c.set_to.ensures chain.end chain.chain.end start at)) below.text_is c.in_ok-push_up-in-Chain.ensures
-          ∙ ap (λ (n : Node). old ++ node_text n) (sym (read-node b compact node c.in-Chain.number start c.args.to chain read c.index-in-Chain.ensures));
-    }
+    let below = c.in_ok-from-in-Chain.ensures.adds chain.end chain.opened start chain.below in
+    let price = read-price b compact node c.in-Chain.number start _ chain read c.index-in-Chain.ensures in (
+      below.0,
+      chain-added read chain.opened price read.bits old c.push_down.new.out.items c.push_node-in-Chain.new.out.items c.push_up.new.out.items
+          (c.in_ok-push_down-in-Chain.ensures ∙ ap (λ (set : List ℕ). old ++ text_down read set read.bits) (c.set_to-end.ensures chain.end chain.opened start chain.below)) below.1 c.in_ok-push_up-in-Chain.ensures
+          ∙ ap (λ (n : Node). old ++ node_text n) (sym (read-node b compact node c.in-Chain.number start _ chain read c.index-in-Chain.ensures)),
+    )

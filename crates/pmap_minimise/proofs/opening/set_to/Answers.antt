@@ -1,10 +1,8 @@
-use Rattle.std.proofs.Common.{◌∙◌, ap, arith, subst, sym}
+use Rattle.std.proofs.Common.{◌∙◌, ap, arith, sym}
 use Rattle.std.proofs.lemmas.Option.{slice_get_within}
 use Rattle.pmap_cert.specs.Node.{set_of}
-use Rattle.pmap_cert.specs.Packed.{HasSet, set_in}
 use Rattle.pmap_minimise.specs.Numbers.{numbers_of}
 use Rattle.pmap_minimise.specs.declared.built.Chain.{Chain}
-use Rattle.pmap_cert.specs.declared.pool.SetId.{SetId}
 use Rattle.pmap_minimise.proofs.Compacted.{line-inside, read-chained, read-inner, read-leaf, to-some}
 use Rattle.pmap_minimise.proofs.Opened.{long-set}
 use Rattle.pmap_minimise.proofs.WayEntries.{read-long, read-node}
@@ -26,15 +24,14 @@ labels-requires c =
     let lines = c.requires in
     let b = c.args.built.now in
     let inner = read-inner b lines.compact lines.node lines.from c.args.to lines.at c.index.result.now _ c.in-Inner.set c.index.ensures c.in-Inner.is in
-    subst (λ (id : SetId). HasSet b.sets id) inner.id_is inner.inner.set_is.whole
+    inner.held.whole
 
 pub index-requires-in-Chain : goal.index-requires-in-Chain
 index-requires-in-Chain c =
     let lines = c.requires in
     let b = c.args.built.now in
     let chain = read-chained b lines.compact lines.node lines.from c.args.to lines.at c.index.result.now c.in-Chain.number c.index.ensures c.in-Chain.is in
-    let inside = slice_get_within b.chains.items chain.chain.number chain.chain.chain chain.chain.listed in
-    let same = chain.number_is in
+    let inside = slice_get_within b.chains.items c.in-Chain.number chain.chain chain.listed in
     omega arith
 
 pub returns-in-Leaf : goal.returns-in-Leaf
@@ -46,7 +43,7 @@ pub returns-in-Inner : goal.returns-in-Inner
 returns-in-Inner c compact node start is =
     let b = c.args.built.now in
     let inner = read-inner b compact node start c.args.to is c.index.result.now _ c.in-Inner.set c.index.ensures c.in-Inner.is in
-    c.labels.ensures ∙ ap (set_in b.sets) (sym inner.id_is) ∙ inner.inner.set_is.set ∙ sym (ap set_of inner.inner.node_is)
+    c.labels.ensures ∙ inner.held.set ∙ sym (ap set_of inner.node_is)
 
 pub returns-in-Chain : goal.returns-in-Chain
 returns-in-Chain c compact node start is =
@@ -54,5 +51,5 @@ returns-in-Chain c compact node start is =
     let read : Chain = c.index-in-Chain.result.now in
     let chain = read-chained b compact node start c.args.to is c.index.result.now c.in-Chain.number c.index.ensures c.in-Chain.is in
     ap numbers_of c.from_ref-in-Chain.ensures.value
-    ∙ sym (ap set_of (read-node b compact node c.in-Chain.number start c.args.to chain read c.index-in-Chain.ensures)
-    ∙ long-set read.side.0 read.end read.bits chain.chain.end (read-long b compact node c.in-Chain.number start c.args.to chain read c.index-in-Chain.ensures))
+    ∙ sym (ap set_of (read-node b compact node c.in-Chain.number start _ chain read c.index-in-Chain.ensures)
+    ∙ long-set read.side.0 read.end read.bits chain.opened (read-long b compact node c.in-Chain.number start _ chain read c.index-in-Chain.ensures))

@@ -8,10 +8,8 @@ use Rattle.pmap_cert.specs.Node.{set_of}
 use Rattle.label_trie.specs.Leaf.{number_of}
 use Rattle.label_trie.specs.Parts.{IsHalf}
 use Rattle.label_trie.proofs.Divided.{is_half}
-use Rattle.pmap_cert.specs.Packed.{HasSet, set_in}
 use Rattle.pmap_minimise.specs.Numbers.{numbers_of}
 use Rattle.pmap_minimise.specs.Walks.{IsChosenFrom}
-use Rattle.pmap_cert.specs.declared.pool.SetId.{SetId}
 use Rattle.pmap_minimise.specs.declared.walks.Due.{Due}
 use Rattle.pmap_minimise.proofs.Compacted.{on_ok}
 use Rattle.pmap_minimise.proofs.Joined.{set-some}
@@ -32,7 +30,7 @@ pub labels-set-requires : goal.labels-set-requires
 labels-set-requires c =
     let is = here-is c.args.built.now _ _ c.args.number _ _ c.args.due.now.items c.requires.2 c.pop-here.new.stack.items c.pop-here.result c.pop-here.ensures in
     let inner = inner-read c.args.built.now _ _ c.args.number _ _ _ c.pop-here.result is c.index.result.now _ c.in-Inner.set c.index.ensures c.in-Inner.is in
-    subst (λ (id : SetId). HasSet c.args.built.now.sets id) inner.id_is inner.inner.set_is.whole
+    inner.held.whole
 
 pub push_own-requires-in-Inner : goal.push_own-requires-in-Inner
 push_own-requires-in-Inner c =
@@ -40,7 +38,7 @@ push_own-requires-in-Inner c =
     let is = here-is b _ _ c.args.number _ _ c.args.due.now.items c.requires.2 c.pop-here.new.stack.items c.pop-here.result c.pop-here.ensures in
     let inner = inner-read b _ _ c.args.number _ _ _ c.pop-here.result is c.index.result.now _ c.in-Inner.set c.index.ensures c.in-Inner.is in
     let set : numbers_of c.labels-set.result.now ≡ set_of is.node =
-    c.labels-set.ensures ∙ ap (set_in b.sets) (sym inner.id_is) ∙ inner.inner.set_is.set ∙ sym (ap set_of inner.compact_is) in
+    c.labels-set.ensures ∙ inner.held.set ∙ sym (ap set_of inner.compact_is) in
     let some = set-some is.node (width_of c.pop-here.result.block.version - c.pop-here.result.block.len) is.sound in
     let count = ap length set in
     omega (arith, length-map c.labels-set.result.now (λ (id : LabelId). id.0))
@@ -74,7 +72,7 @@ returns-in_ok-push-in-Inner-2 c =
     let block = c.pop-here.result.block in
     let is = here-is b version root c.args.number c.args.entries.now.items c.args.nodes.now c.args.due.now.items from c.pop-here.new.stack.items c.pop-here.result c.pop-here.ensures in
     let inner = inner-read b version root c.args.number c.args.entries.now.items c.args.nodes.now c.pop-here.new.stack.items c.pop-here.result is c.index.result.now c.in-Inner.cost c.in-Inner.set c.index.ensures c.in-Inner.is in
-    let set : numbers_of c.labels-set.result.now ≡ inner.set = c.labels-set.ensures ∙ ap (set_in b.sets) (sym inner.id_is) ∙ inner.inner.set_is.set in
+    let set : numbers_of c.labels-set.result.now ≡ inner.set = c.labels-set.ensures ∙ inner.held.set in
     let number : block_number (width_of block.version) (block.len + 1) c.in-Some.low.value ≡ 2 * number_of block + 0 = omega (arith, c.in-Some.ensures.lower_number) in
     let low : IsHalf 0 block c.in-Some.low = is_half 0 block c.in-Some.low c.in-Some.ensures.versions.0 c.in-Some.ensures.lens.0 number in
     let high : IsHalf 1 block c.in-Some.high = is_half 1 block c.in-Some.high c.in-Some.ensures.versions.1 c.in-Some.ensures.lens.1 c.in-Some.ensures.upper_number in

@@ -5,16 +5,15 @@ use Rattle.prefix_keys.specs.Block.{block_number, first_of}
 use Rattle.prefix_keys.specs.Version.{width_of}
 use Rattle.prefix_keys.specs.declared.version.Version.{Version}
 use Rattle.pmap_minimise.proofs.RunEnds.{block-last, direct-end, trimmed}
-use Rattle.pmap_minimise.proofs.area.direct_end.Goals as goal
-use Rattle.pmap_minimise.proofs.area.direct_end.Goals.{then-first-low, else-first-low}
+use Rattle.pmap_minimise.proofs.area.run_end.Goals as goal
+use Rattle.pmap_minimise.proofs.area.run_end.Goals.{then-first-low, else-first-low}
 
 pub overflow_sub-len-2 : goal.overflow_sub-len-2
 overflow_sub-len-2 c =
     let s = c.args.stretches.now in
     let a = c.args.area.now in
-    let is = c.requires in
-    let ordered = is.ordered in
-    let inner = trimmed s c.args.side.0 a is (omega (arith, c.if-area.false, ordered)) c.is_side.result c.is_side-2.result c.max-low.result c.min-high.result (a.from + c.from.result) (a.to - c.from-2.result)
+    let is = c.requires.area in
+    let inner = trimmed s c.args.side.0 a is c.requires.divided c.is_side.result c.is_side-2.result c.max-low.result c.min-high.result (a.from + c.from.result) (a.to - c.from-2.result)
     c.is_side.ensures.0 c.is_side-2.ensures.0 (ap (λ (n : ℕ). a.from + n) c.from.ensures) (ap (λ (n : ℕ). a.to - n) c.from-2.ensures)
     (c.max-low.ensures ∙ ap (max a.first) c.first.ensures) (c.min-high.ensures ∙ ap (min a.last) c.last.ensures)
     (λ own. absurd (true≢false (sym (c.is_side-3.ensures.1 own) ∙ c.if-is_side.false))) (λ own. absurd (true≢false (sym (c.is_side-else-is_side.ensures.1 own) ∙ c.if-is_side-2.false))) in
@@ -26,9 +25,8 @@ pub returns-then-last-high : goal.returns-then-last-high
 returns-then-last-high c =
     let s = c.args.stretches.now in
     let a = c.args.area.now in
-    let is = c.requires in
-    let ordered = is.ordered in
-    let inner = trimmed s c.args.side.0 a is (omega (arith, c.if-area.false, ordered)) c.is_side.result c.is_side-2.result c.max-low.result c.min-high.result (a.from + c.from.result) (a.to - c.from-2.result)
+    let is = c.requires.area in
+    let inner = trimmed s c.args.side.0 a is c.requires.divided c.is_side.result c.is_side-2.result c.max-low.result c.min-high.result (a.from + c.from.result) (a.to - c.from-2.result)
     c.is_side.ensures.0 c.is_side-2.ensures.0 (ap (λ (n : ℕ). a.from + n) c.from.ensures) (ap (λ (n : ℕ). a.to - n) c.from-2.ensures)
     (c.max-low.ensures ∙ ap (max a.first) c.first.ensures) (c.min-high.ensures ∙ ap (min a.last) c.last.ensures)
     (λ own. absurd (true≢false (sym (c.is_side-3.ensures.1 own) ∙ c.if-is_side.false))) (λ own. absurd (true≢false (sym (c.is_side-else-is_side.ensures.1 own) ∙ c.if-is_side-2.false))) in
@@ -42,8 +40,8 @@ returns-then-last-high c =
     (block-last s.version c.block_of-block.result len c.max-low.result c.high.result.value (block.version ∙ v) block.len
     (subst (λ (v : Version). block_number (width_of v) len c.block_of-block.result.value ≡ block_number (width_of v) len c.max-low.result) v block.covering) c.high.ensures.last)
     (elim c.if-first-low.branch [
-      | then-first-low w ↦ inl (w.if-first-low.true, w.result-is)
-      | else-first-low w ↦ inr (w.if-first-low.false, w.result-is)
+      | then-first-low w ↦ inl (w.if-first-low.true, w.from-is)
+      | else-first-low w ↦ inr (w.if-first-low.false, w.from-is)
     ])
     (inl (c.if-last-high.true, refl))
 
@@ -51,9 +49,8 @@ pub returns-else-last-high : goal.returns-else-last-high
 returns-else-last-high c =
     let s = c.args.stretches.now in
     let a = c.args.area.now in
-    let is = c.requires in
-    let ordered = is.ordered in
-    let inner = trimmed s c.args.side.0 a is (omega (arith, c.if-area.false, ordered)) c.is_side.result c.is_side-2.result c.max-low.result c.min-high.result (a.from + c.from.result) (a.to - c.from-2.result)
+    let is = c.requires.area in
+    let inner = trimmed s c.args.side.0 a is c.requires.divided c.is_side.result c.is_side-2.result c.max-low.result c.min-high.result (a.from + c.from.result) (a.to - c.from-2.result)
     c.is_side.ensures.0 c.is_side-2.ensures.0 (ap (λ (n : ℕ). a.from + n) c.from.ensures) (ap (λ (n : ℕ). a.to - n) c.from-2.ensures)
     (c.max-low.ensures ∙ ap (max a.first) c.first.ensures) (c.min-high.ensures ∙ ap (min a.last) c.last.ensures)
     (λ own. absurd (true≢false (sym (c.is_side-3.ensures.1 own) ∙ c.if-is_side.false))) (λ own. absurd (true≢false (sym (c.is_side-else-is_side.ensures.1 own) ∙ c.if-is_side-2.false))) in
@@ -67,7 +64,7 @@ returns-else-last-high c =
     (block-last s.version c.block_of-block.result len c.max-low.result c.high.result.value (block.version ∙ v) block.len
     (subst (λ (v : Version). block_number (width_of v) len c.block_of-block.result.value ≡ block_number (width_of v) len c.max-low.result) v block.covering) c.high.ensures.last)
     (elim c.if-first-low.branch [
-      | then-first-low w ↦ inl (w.if-first-low.true, w.result-is)
-      | else-first-low w ↦ inr (w.if-first-low.false, w.result-is)
+      | then-first-low w ↦ inl (w.if-first-low.true, w.from-is)
+      | else-first-low w ↦ inr (w.if-first-low.false, w.from-is)
     ])
     (inr (c.if-last-high.false, refl))
