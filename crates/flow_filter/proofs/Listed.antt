@@ -2,8 +2,7 @@
 use Rattle.std.proofs.Common.{◌≡◌, ℕ, List, ◌++◌, Option, Result, map, option_map}
 use Rattle.std.specs.Prelude.{IfOk}
 use Rattle.std.specs.Option.{is_some}
-use Rattle.flow_filter.specs.Cut.{parts_of}
-use Rattle.flow_filter.specs.Texts.{each_some}
+use Rattle.flow_filter.specs.Texts.{each_some, parts_of}
 
 -- the items that were read, followed by those of the remaining parts
 abbrev pub as_read : {X : Type 0} → (List ℕ → Option X) → List X → Option (List ℕ) → Option (List X)

@@ -1,6 +1,7 @@
 -- The rows that pass of a message, and rows that others are added to.
-use Rattle.std.proofs.Common.{◌≡◌, ◌∙◌, ◌+◌, ◌*◌, ◌≤◌, Bool, false, true, List, [], ◌∷◌, ◌++◌, Option, Some, None, Result, Ok, Err, OnOk, arith, filter, length, map, take, true≢false, refl, sym, ap}
-use Rattle.std.proofs.lemmas.List.{length-append, length-map, length-take, take-take}
+use Rattle.std.proofs.Common.{◌≡◌, ◌+◌, ◌*◌, ◌≤◌, Bool, false, true, List, [], ◌∷◌, ◌++◌, Option, Some, None, Result, Ok, Err, OnOk, arith, filter, length, map, take, true≢false, refl, ap}
+use Rattle.std.proofs.lemmas.Grind.{common_steps}
+use Rattle.std.proofs.lemmas.List.{length-append, length-map}
 use Rattle.std.proofs.lemmas.List.Concat.{length-flat_map}
 use Rattle.std.proofs.lemmas.List.Sums.{count_by-le-length, length-filter, sum_by-le-sum_by}
 use Rattle.std.specs.List.{flat_map}
@@ -16,11 +17,8 @@ use Rattle.flow_rows.specs.Row.{RowView, row_view}
 use Rattle.flow_rows.specs.declared.row.Row.{Row}
 
 -- the rows at the start are unchanged when more are added
-front_within : {X : Type 0} (a b : List X) → take (length a) b ≡ a → length a ≤ length b
-front_within a b h = omega (arith, length-take (length a) b, ap length h)
-
 pub front_stays : {X : Type 0} (a b c : List X) → take (length a) b ≡ a → take (length b) c ≡ b → take (length a) c ≡ a
-front_stays a b c h k = sym (take-take (length a) (length b) c (front_within a b h)) ∙ ap (take (length a)) k ∙ h
+front_stays a b c h k = grind (arith, common_steps)
 
 -- if each row passes, all do
 pub all_pass : (p : RowView → Bool) → ((row : RowView) → p row ≡ true) → (rows : List RowView) → filter p rows ≡ rows

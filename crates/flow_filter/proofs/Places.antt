@@ -6,6 +6,7 @@ use Rattle.std.proofs.lemmas.Bool.{and_from, and_parts, both_ways, eqb-true, fal
 use Rattle.std.proofs.lemmas.List.{map-append, take_more}
 use Rattle.std.proofs.lemmas.List.Folds.{list_any-append}
 use Rattle.std.proofs.lemmas.Nat.{pow_pos}
+use Rattle.std.proofs.lemmas.Option.{same_Some}
 use Rattle.prefix_keys.specs.Block.{block_number, first_of, last_of}
 use Rattle.prefix_keys.specs.Conversion.{converted, mapped_prefix}
 use Rattle.prefix_keys.specs.Text.{AddressOf}
@@ -22,14 +23,8 @@ use Rattle.flow_filter.specs.declared.range.Range.{Range}
 
 -- the number that a conversion to IPv6 gives
 pub place_is : (version : Version) (value : ℕ) (place : AddressOf) → Some place ≡ converted V6 (version, value) → place.1 ≡ mapped_number (version, value)
-place_is V4 value place e = ap (λ (a : AddressOf). a.1) (same_some place (V6, value + mapped_prefix) e)
-  where
-    same_some : (a b : AddressOf) → Some a ≡ Some b → a ≡ b
-    same_some a b e = cc
-place_is V6 value place e = ap (λ (a : AddressOf). a.1) (same_some place (V6, value) e)
-  where
-    same_some : (a b : AddressOf) → Some a ≡ Some b → a ≡ b
-    same_some a b e = cc
+place_is V4 value place e = ap (λ (a : AddressOf). a.1) (same_Some place _ e)
+place_is V6 value place e = ap (λ (a : AddressOf). a.1) (same_Some place _ e)
 
 pub place_there : (version : Version) (value : ℕ) → None ≡ converted V6 (version, value) → ⊥
 place_there V4 value e = absurd (cc)

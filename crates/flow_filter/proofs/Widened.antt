@@ -65,25 +65,22 @@ module _ (ranges : List Range) (count : ℕ) (wide : List Range) (high : ℕ) (u
   added : (n : ℕ) → in_range n next ≡ true → in_range n r ≡ false → in_ranges wide n ≡ true
   added n h fails =
       let parts = in_range-true n next h in
-      elim (cases_lt high r.high) [
-        | inl more ↦ absurd (both_ways (in_range n r) fails (in_range-from n r parts.0 (omega (arith, parts.1, one more))))
-        | inr less ↦
-            let top_high : high' ≡ high = other less in
-            elim (cases_lt r.high n) [
-              | inl beyond ↦
-                  let some : 0 < count = elim (cases_eq count 0) [
-                    | inl none ↦ absurd (omega (arith, so_far.none none, beyond, parts.1, top_high))
-                    | inr some ↦ omega (arith, some)
-                  ] in
-                  let k = count - 1 in
-                  let low : (get_or ranges k r).low ≤ (get_or ranges count r).low = up k count r (omega arith) within in
-                  let low' : (get_or ranges k r).low ≤ r.low = subst (λ (x : Range). (get_or ranges k r).low ≤ x.low) (sym is) low in
-                  let begins : (get_or wide k r).low ≤ n = omega (arith, so_far.lows k r (omega (arith, some)), low', parts.0) in
-                  let ends : n ≤ (get_or wide k r).high = omega (arith, so_far.top r some, top_high, parts.1) in
-                  list_any_at (in_range n) wide k r (omega (arith, some, so_far.long)) (in_range-from n (get_or wide k r) begins ends)
-              | inr not_beyond ↦ absurd (both_ways (in_range n r) fails (in_range-from n r parts.0 not_beyond))
-            ]
-      ]
+      let beyond : r.high < n = grind (arith, nat_tests) in
+      let less : r.high ≤ high = elim (cases_lt high r.high) [
+        | inl more ↦ absurd (omega (arith, one more, beyond, parts.1))
+        | inr less ↦ less
+      ] in
+      let top_high = other less in
+      let some : 0 < count = elim (cases_eq count 0) [
+        | inl none ↦ absurd (omega (arith, so_far.none none, beyond, parts.1, top_high))
+        | inr some ↦ omega (arith, some)
+      ] in
+      let k = count - 1 in
+      let low : (get_or ranges k r).low ≤ (get_or ranges count r).low = up k count r (omega arith) within in
+      let low' : (get_or ranges k r).low ≤ r.low = subst (λ (x : Range). (get_or ranges k r).low ≤ x.low) (sym is) low in
+      let begins : (get_or wide k r).low ≤ n = omega (arith, so_far.lows k r (omega (arith, some)), low', parts.0) in
+      let ends : n ≤ (get_or wide k r).high = omega (arith, so_far.top r some, top_high, parts.1) in
+      list_any_at (in_range n) wide k r (omega (arith, some, so_far.long)) (in_range-from n (get_or wide k r) begins ends)
 
   same_more : (n : ℕ) → (in_ranges wide n || in_range n next) ≡ (in_ranges wide n || in_range n r)
   same_more n = by (in_range n r) refl (in_range n next) refl

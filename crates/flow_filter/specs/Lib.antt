@@ -1,5 +1,4 @@
 pub mod Ranges
-pub mod Cut
 pub mod Texts
 pub mod Blocks
 pub mod Condition

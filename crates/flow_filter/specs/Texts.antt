@@ -1,12 +1,25 @@
-use Rattle.std.specs.Prelude.{ℕ, ◌&&◌, ◌==◌, Bool, false, List, [], ◌∷◌, Option, Some, None, Result, Ok, Err, length, map, nat_le, option_map, if◌then◌else◌}
-use Rattle.std.specs.List.{before_first, list_all, list_any, slice_split}
+use Rattle.std.specs.Prelude.{ℕ, suc, ◌&&◌, ◌==◌, Bool, false, List, [], ◌∷◌, Option, Some, None, Result, Ok, Err, length, map, nat_le, option_map, if◌then◌else◌}
+use Rattle.std.specs.List.{after_first, before_first, list_all, list_any, slice_split}
 use Rattle.prefix_keys.specs.Text.{AddressOf, BlockOf, address_of, block_of_text, decimal_value, is_digit}
 use Rattle.prefix_keys.specs.Version.{width_of}
 use Rattle.prefix_keys.specs.declared.text.BlockFault.{BlockFault}
-use Rattle.flow_filter.specs.Cut.{after_byte}
 use Rattle.flow_filter.specs.declared.range.Range.{Range}
 
 -- The written forms of filters.
+
+-- the text after the first byte with this value, if there is one
+abbrev pub after_byte : ℕ → List ℕ → Option (List ℕ)
+after_byte byte text = if list_any (λ b. b == byte) text then Some (after_first (λ b. b == byte) text) else None
+
+-- the parts of the remaining text, if there is one
+abbrev pub parts_of : ℕ → Option (List ℕ) → List (List ℕ)
+parts_of byte None = []
+parts_of byte (Some text) = slice_split (λ b. b == byte) text
+
+-- the size of the remaining text
+abbrev pub size_of : Option (List ℕ) → ℕ
+size_of None = 0
+size_of (Some text) = suc (length text)
 
 -- a number of 1 to 20 digits, at most the limit
 abbrev pub bounded_number : ℕ → List ℕ → Option ℕ

@@ -1,7 +1,7 @@
 //! Texts cut at a byte.
 ghost use Rattle.std.specs.Prelude.{◌≡◌, ◌+◌, ◌<◌, ◌∷◌, ◌==◌, option_map, length};
 ghost use Rattle.std.specs.List.{before_first, slice_split};
-ghost use Rattle.flow_filter.specs.Cut.{after_byte, parts_of, size_of};
+ghost use Rattle.flow_filter.specs.Texts.{after_byte, parts_of, size_of};
 
 /// Returns the bytes before the first byte with this value, and the bytes after it. If there is no such byte, returns
 /// the whole text and `None`.

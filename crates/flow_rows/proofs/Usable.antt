@@ -1,9 +1,10 @@
 -- Fields that are usable for an element: their lengths, and the element's number in the values.
-use Rattle.std.proofs.Common.{◌≡◌, ◌∙◌, ℕ, ◌≤◌, Bool, true, false, not, cond, List, [], ◌∷◌, Option, Some, None, refl, sym, ap}
+use Rattle.std.proofs.Common.{arith, ◌≡◌, ◌∙◌, ℕ, ◌≤◌, Bool, true, false, not, cond, List, [], ◌∷◌, Option, Some, None, refl, sym, ap}
 use Rattle.std.specs.Prelude.{◌&&◌, ◌==◌, nat_eq, nat_le, option_map}
 use Rattle.std.specs.List.{list_all}
 use Rattle.std.specs.Map.{lookup}
 use Rattle.std.specs.Option.{option_eq, option_map_or}
+use Rattle.std.proofs.lemmas.Bool.Decides.{nat_tests}
 use Rattle.std.proofs.lemmas.Bool.{and_parts, eqb-true, false_from_ne_true, leb-true, not-true, true≢false}
 use Rattle.ipfix_templates.specs.declared.field.Field.{Field}
 use Rattle.ipfix_templates.specs.Field.{has_bytes}
@@ -57,9 +58,7 @@ has_bytes_usable direction number f usable = ap not (has_other_length 0 refl dir
 
 -- a number that isn't an element's has no value
 not_usable : (p q : Bool) → (p && (q && false)) ≡ false
-not_usable true true = refl
-not_usable true false = refl
-not_usable false q = refl
+not_usable p q = grind (arith, nat_tests)
 
 pub element-unlisted : (direction : Option ℕ) (number : ℕ) → lookup (λ n. n == number) element_lengths ≡ None
     → (values : List FieldValueView) → element direction values number ≡ None

@@ -1,8 +1,8 @@
 -- The bytes that are written for a key are read back as this key.
-use Rattle.std.proofs.Common.{◌≡◌, ℕ, zero, suc, ◌+◌, ◌^◌, ◌<◌, ◌≤◌, Bool, true, false, if◌then◌else◌, List, [], ◌∷◌, ◌++◌, length, take, drop, nat_lt, slice_index, get_or, map, replicate, Option, Some, None, Result, Ok, Err, is_err, true≢false, refl, sym, ap, subst, ◌∙◌, arith}
-use Rattle.std.proofs.lemmas.List.{append-nil, append_assoc, drop_all, drop-append-le, length-append, length-drop, map_push, take_all, take-append-le, take_more}
+use Rattle.std.proofs.Common.{◌≡◌, ℕ, zero, suc, ◌+◌, ◌^◌, ◌<◌, ◌≤◌, Bool, true, false, if◌then◌else◌, List, [], ◌∷◌, ◌++◌, length, take, drop, nat_lt, slice_index, get_or, map, Option, Some, None, Result, Ok, Err, is_err, true≢false, refl, sym, ap, subst, ◌∙◌, arith}
+use Rattle.std.proofs.lemmas.List.{append-nil, append_assoc, drop_all, drop-append-le, length-append, length-drop, take_all, take-append-le}
 use Rattle.std.proofs.lemmas.Bool.Decides.{nat_tests}
-use Rattle.std.proofs.lemmas.Grind.{flat_map-append}
+use Rattle.std.proofs.lemmas.Grind.{common_steps}
 use Rattle.std.proofs.lemmas.Nat.{from_be_bytes-to_be_bytes_2, from_be_bytes-to_be_bytes_4, from_be_bytes-to_be_bytes_8}
 use Rattle.std.specs.Int.{w16, w32, w64, w128, from_be_bytes, to_be_bytes}
 use Rattle.std.specs.Result.{OnOk}
@@ -26,16 +26,10 @@ drop-front n xs r e = drop-append-le n xs r (omega (arith, e)) ∙ ap (λ (l : L
 
 -- bytes that were written are read back
 front_bytes-back : (n : ℕ) (xs r : List ℕ) → length xs ≡ n → front_bytes n (xs ++ r) ≡ (xs, r)
-front_bytes-back n xs r e =
-    ap (λ (b : Bool). let R : List ℕ × List ℕ = if b then (replicate n 0, xs ++ r) else (take n (xs ++ r), drop n (xs ++ r)) in R)
-    (not_less (length (xs ++ r)) n (omega (arith, e, length-append xs r)))
-    ∙ (λ i. (take-front n xs r e i, drop-front n xs r e i))
+front_bytes-back n xs r e = rw (not_less (length (xs ++ r)) n (omega (arith, e, length-append xs r)), take-front n xs r e, drop-front n xs r e) refl
 
 text_front-back : (t r : List ℕ) → text_front (length t) (t ++ r) ≡ (Some t, r)
-text_front-back t r =
-    ap (λ (b : Bool). let R : Option Label × List ℕ = if b then (None, t ++ r) else (Some (take (length t) (t ++ r)), drop (length t) (t ++ r)) in R)
-    (not_less (length (t ++ r)) (length t) (omega (arith, length-append t r)))
-    ∙ (λ i. (Some (take-front (length t) t r refl i), drop-front (length t) t r refl i))
+text_front-back t r = rw (not_less (length (t ++ r)) (length t) (omega (arith, length-append t r)), take-front (length t) t r refl, drop-front (length t) t r refl) refl
 
 wide_back : (n : ℕ) → n < 2 ^ 128 → from_be_bytes w128 (to_be_bytes w128 n) ≡ n
 wide_back n h =
@@ -75,11 +69,7 @@ parts_in-back (AddressPart (V6, v)) most r h =
 one_byte : (p : KeyPartModel) → 1 ≤ length (part_code p)
 one_byte (NumberPart n) = omega arith
 one_byte (LabelPart None) = omega arith
-one_byte (LabelPart (Some t)) = by (nat_lt (length t) 256)
-  where
-    by : (b : Bool) → 1 ≤ length ((if b then 2 ∷ length t ∷ [] else 3 ∷ to_be_bytes w64 (length t)) ++ t)
-    by true = omega arith
-    by false = omega arith
+one_byte (LabelPart (Some t)) = grind (arith, nat_tests)
 one_byte (AddressPart (V4, v)) = omega arith
 one_byte (AddressPart (V6, v)) = omega arith
 
@@ -120,18 +110,10 @@ when_ok (Err e) h p = absurd (true≢false h)
 
 -- the rest is no longer than the bytes
 front_shorter : (n : ℕ) (code : List ℕ) → length (front_bytes n code).1 ≤ length code
-front_shorter n code = by (nat_lt (length code) n)
-  where
-    by : (b : Bool) → (let R : List ℕ × List ℕ = if b then (replicate n 0, code) else (take n code, drop n code) in length R.1 ≤ length code)
-    by true = omega arith
-    by false = omega (arith, length-drop n code)
+front_shorter n code = grind (arith, nat_tests, length-drop n code)
 
 text_shorter : (n : ℕ) (code : List ℕ) → length (text_front n code).1 ≤ length code
-text_shorter n code = by (nat_lt (length code) n)
-  where
-    by : (b : Bool) → (let R : Option Label × List ℕ = if b then (None, code) else (Some (take n code), drop n code) in length R.1 ≤ length code)
-    by true = omega arith
-    by false = omega (arith, length-drop n code)
+text_shorter n code = grind (arith, nat_tests, length-drop n code)
 
 rest_shorter : (kind : ℕ) (code : List ℕ) → length (part_after kind code).1 ≤ length code
 rest_shorter kind code =
@@ -169,17 +151,11 @@ small-push (q ∷ k) p h s = (h.0, small-push k p h.1 s)
 module _ (f : KeyField → KeyPartModel) (fields : List KeyField) (i : ℕ) (d : KeyField) (p : KeyPartModel) (is : p ≡ f (get_or fields i d))
     (within : i < length fields) where
   one_more : map f (take (i + 1) fields) ≡ map f (take i fields) ++ p ∷ []
-  one_more =
-      ap (map f) (take_more fields i d within) ∙ map_push f (take i fields) (get_or fields i d)
-      ∙ ap (λ (q : KeyPartModel). map f (take i fields) ++ q ∷ []) (sym is)
+  one_more = grind (arith, common_steps)
 
   pub more_small : AreSmall (map f (take i fields)) → IsSmall p → AreSmall (map f (take (i + 1) fields))
   more_small all small = subst AreSmall (sym one_more) (small-push (map f (take i fields)) p all small)
 
   pub more_code : (before out new : List ℕ) → out ≡ before ++ key_code (map f (take i fields)) → new ≡ out ++ part_code p
       → new ≡ before ++ key_code (map f (take (i + 1) fields))
-  more_code before out new e h =
-      h ∙ ap (λ (l : List ℕ). l ++ part_code p) e ∙ append_assoc before (key_code (map f (take i fields))) (part_code p)
-      ∙ ap (λ (l : List ℕ). before ++ (key_code (map f (take i fields)) ++ l)) (sym (append-nil (part_code p)))
-      ∙ ap (λ (l : List ℕ). before ++ l) (sym (flat_map-append part_code (map f (take i fields)) (p ∷ [])))
-      ∙ ap (λ (k : Key). before ++ key_code k) (sym one_more)
+  more_code before out new e h = rw one_more (grind (arith, common_steps))

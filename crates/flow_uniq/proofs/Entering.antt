@@ -1,5 +1,5 @@
 -- How a row changes the groups that are stored.
-use Rattle.std.proofs.Common.{◌≡◌, ℕ, ◌+◌, ◌-◌, ◌*◌, ◌^◌, ◌<◌, ◌≤◌, Bool, true, false, ◌||◌, cond, if◌then◌else◌, List, [], ◌∷◌, ◌++◌, length, map, All, Option, Some, None, unwrap_or, is_some, sum_by, refl, sym, ap, subst, ◌∙◌, arith}
+use Rattle.std.proofs.Common.{◌≡◌, ℕ, ◌+◌, ◌-◌, ◌*◌, ◌^◌, ◌<◌, ◌≤◌, Bool, true, false, ◌||◌, cond, if◌then◌else◌, List, [], ◌∷◌, ◌++◌, length, map, All, Option, Some, None, is_some, sum_by, refl, sym, ap, subst, ◌∙◌, arith}
 use Rattle.std.proofs.lemmas.Cmp.{nat_list_eq_equiv, on_equiv}
 use Rattle.std.proofs.lemmas.List.{append-nil, get_or-map, length-map, map_push}
 use Rattle.std.proofs.lemmas.List.Elements.{All-head, All-map, All-push, All-tail}
@@ -8,7 +8,7 @@ use Rattle.std.proofs.lemmas.Map.{keys-set_value, lookup-none}
 use Rattle.std.proofs.lemmas.Map.Entries.{All-lookup, none_past_head, sum_by-set_value}
 use Rattle.std.proofs.lemmas.Map.Keys.{IsDistinct-tail}
 use Rattle.std.proofs.lemmas.Map.Views.{All-values-set_value}
-use Rattle.std.proofs.lemmas.Option.{none-some}
+use Rattle.std.proofs.lemmas.Option.{none-some, same_Some}
 use Rattle.std.specs.List.{IsDistinct, list_any}
 use Rattle.std.specs.Option.{IfSome}
 use Rattle.std.specs.Map.{keys_of, lookup, set_value, values_of}
@@ -35,9 +35,6 @@ pub parts-kept : (count : ℕ) (es : Entries) → AreKept count es → All (λ g
 parts-kept count es kept =
     All-map (λ (g : GroupModel). length g.key ≡ count) (λ (e : Key × Totals). record { key = e.0; totals = e.1 }) es
     (All-each (λ (key : Key). length key ≡ count) (λ e. e.0) es kept.long)
-
-some-same : {A : Type 0} {a b : A} → Some a ≡ Some b → a ≡ b
-some-same {A} {a} {b} e = ap (λ (o : Option A). unwrap_or o a) e
 
 module _ (k : Key) (row : RowView) (small : AreSmall k) where
   -- the first key has the code if and only if it is the key
@@ -72,7 +69,7 @@ module _ (k : Key) (row : RowView) (small : AreSmall k) where
           → kept_groups (cond b ((e.0, with_row t row) ∷ es) (e ∷ set_value (same_code k) es (with_row t row)))
           ≡ map (grown k row) (kept_groups (e ∷ es))
       by true is ih =
-          let same : e.1 ≡ t = some-same (sym (looked_up e es true is) ∙ found) in
+          let same : e.1 ≡ t = same_Some _ _ (sym (looked_up e es true is) ∙ found) in
           let past = lookup-none (same_code k) es (none_past_head (on_equiv key_code nat_list_eq_equiv) k e es once is) in
           let rest : map (grown k row) (kept_groups es) ≡ kept_groups es = none_grown es (All-tail AreSmall e.0 (keys_of es) all) past in
           sym (λ i. record { key = e.0; totals = if at_front e es true all is i then with_row (same i) row else same i } ∷ rest i)

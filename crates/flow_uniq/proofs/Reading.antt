@@ -1,12 +1,13 @@
 -- The result of reading a text that names fields.
-use Rattle.std.proofs.Common.{◌≡◌, ℕ, ◌+◌, Bool, true, false, true≢false, cond, ◌||◌, if◌then◌else◌, List, [], ◌∷◌, Option, Some, None, Result, Ok, Err, map, arith, refl, sym, ap, ◌∙◌}
+use Rattle.std.proofs.Common.{◌≡◌, ℕ, ◌+◌, Bool, false, true≢false, cond, ◌||◌, if◌then◌else◌, List, [], ◌∷◌, Option, Some, None, Result, Ok, Err, map, arith, refl, sym, ap, ◌∙◌}
 use Rattle.std.proofs.lemmas.Bool.Decides.{nat_tests}
-use Rattle.std.specs.Prelude.{IfErr, count_by, find, is_none, is_some, nat_lt, option_map, filter, length, unwrap_or}
+use Rattle.std.specs.Prelude.{IfErr, count_by, find, is_none, is_some, nat_lt, option_map, filter, length}
 use Rattle.std.specs.List.{cons_option, list_any, slice_get}
 use Rattle.std.specs.Str.{bytes_eq}
 use Rattle.std.proofs.lemmas.List.Folds.{fold-map}
 use Rattle.std.proofs.lemmas.List.Sums.{length-filter}
 use Rattle.std.proofs.lemmas.Slice.Eq.{bytes_eq-Decides}
+use Rattle.pmap_text.proofs.Finds.{find_passes}
 use Rattle.pmap_text.proofs.LabelTexts.{list_any-map}
 use Rattle.flow_uniq.specs.declared.field.KeyField.{KeyField}
 use Rattle.flow_uniq.specs.declared.fault.KeyFault.{KeyFault}
@@ -26,18 +27,8 @@ repetition_is fields =
 -- a field that is found by a text has this name
 has_name : (text : List ℕ) (fields : List KeyField) (found : KeyField) → find (λ field. bytes_eq (field_name field) text) fields ≡ Some found
     → field_name found ≡ text
-has_name text [] found is = absurd (true≢false (sym (ap (λ (o : Option KeyField). is_some o) is)))
-has_name text (field ∷ fields) found is = by (bytes_eq (field_name field) text) refl (has_name text fields found)
-  where
-    left : (b : Bool) → bytes_eq (field_name field) text ≡ b
-        → cond b (Some field) (find (λ other. bytes_eq (field_name other) text) fields) ≡ Some found
-    left b e = ap (λ c. cond c (Some field) (find (λ other. bytes_eq (field_name other) text) fields)) (sym e) ∙ is
-
-    by : (b : Bool) → bytes_eq (field_name field) text ≡ b
-        → (find (λ other. bytes_eq (field_name other) text) fields ≡ Some found → field_name found ≡ text) → field_name found ≡ text
-    by true e rest =
-        ap field_name (ap (λ (o : Option KeyField). unwrap_or o field) (sym (left true e))) ∙ (bytes_eq-Decides (field_name field) text).0 e
-    by false e rest = rest (left false e)
+has_name text fields found is =
+    (bytes_eq-Decides (field_name found) text).0 (find_passes (λ field. bytes_eq (field_name field) text) fields found is).1
 
 -- if items all name fields, they are the names of these fields
 names_are : (items : List (List ℕ)) → has_unnamed items ≡ false → map field_name (named_fields items) ≡ items

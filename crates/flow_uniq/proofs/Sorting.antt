@@ -1,17 +1,12 @@
 -- A list in order is the only list that rises and keeps the order of elements that tie.
 use Rattle.std.proofs.Common.{◌≡◌, suc, ◌+◌, ◌<◌, Bool, true, false, not, ◌&&◌, cond, if◌then◌else◌, List, [], ◌∷◌, length, map, filter, All, true≢false, refl, sym, ap, subst, ◌∙◌, arith}
+use Rattle.std.proofs.lemmas.Bool.{and_parts, both_ways, false_from_ne_true, not-true}
 use Rattle.std.proofs.lemmas.List.{get_or-map, length-map}
 use Rattle.std.proofs.lemmas.List.Elements.{All-cons, All-filter, All-from_get_or, All-head, All-nil, All-tail, All-weaker}
 use Rattle.std.proofs.lemmas.List.Sorted.{sorted_far}
 use Rattle.std.specs.Cmp.{IsStrictWeakOrder}
 use Rattle.std.specs.List.Sorted.{IsSortedBy, IsStableBy, ties}
 use Rattle.flow_uniq.specs.Sorted.{in_order, with_in_order}
-
--- neither holds
-both_not : (a b : Bool) → (not a && not b) ≡ true → (a ≡ false) × (b ≡ false)
-both_not true b e = absurd (true≢false (sym e))
-both_not false true e = absurd (true≢false (sym e))
-both_not false false e = (refl, refl)
 
 -- two elements at the start of a list are swapped if not both are kept
 swapped : {X : Type 0} (x y : X) (xs : List X) (a b : Bool) → (a ≡ true → b ≡ true → ⊥)
@@ -23,14 +18,10 @@ swapped x y xs false false h = refl
 
 module _ {X : Type 0} (lt : X → X → Bool) (o : IsStrictWeakOrder lt) where
   irreflexive : (x : X) → lt x x ≡ false
-  irreflexive x = by (lt x x) refl
-    where
-      by : (b : Bool) → lt x x ≡ b → lt x x ≡ false
-      by false e = e
-      by true e = o.one_way x x e
+  irreflexive x = false_from_ne_true (lt x x) (λ e. both_ways (lt x x) (o.one_way x x e) e)
 
   ties_parts : (x y : X) → ties lt x y ≡ true → (lt x y ≡ false) × (lt y x ≡ false)
-  ties_parts x y e = both_not (lt x y) (lt y x) e
+  ties_parts x y e = let p = and_parts (not (lt x y)) (not (lt y x)) e in (not-true (lt x y) p.0, not-true (lt y x) p.1)
 
   ties_from : (x y : X) → lt x y ≡ false → lt y x ≡ false → ties lt x y ≡ true
   ties_from x y p q = ap (λ b. not b && not (lt y x)) p ∙ ap (λ b. not b) q

@@ -3,14 +3,14 @@ use Rattle.std.proofs.Common.{◌≡◌, ℕ, suc, ◌-◌, ◌%◌, ◌^◌, �
 use Rattle.std.specs.List.{IsDistinct}
 use Rattle.std.specs.List.Sorted.{IsPermutation}
 use Rattle.std.specs.Option.{ForSome}
-use Rattle.std.proofs.lemmas.Bool.{and_from, and_parts, both_ways, eq-eqb, eqb-true, false_from_ne_true, not-true}
+use Rattle.std.proofs.lemmas.Bool.Decides.{nat_tests}
+use Rattle.std.proofs.lemmas.Bool.{and_from, both_ways, eq-eqb, false_from_ne_true, not-true}
 use Rattle.std.proofs.lemmas.List.{length-append, length-map}
 use Rattle.std.proofs.lemmas.List.Elements.{All-append, All-cons, All-contains, All-map, All-nil, All-weaker}
 use Rattle.std.proofs.lemmas.List.Sorted.{All-permutation, length_permutation}
 use Rattle.std.proofs.lemmas.List.Sums.{AllPass-from_list_all}
 use Rattle.std.proofs.lemmas.Map.Keys.{IsDistinct-IsPermutation, IsDistinct-from_apart, apart_from_distinct}
 use Rattle.std.specs.Fmt.{decimal}
-use Rattle.prefix_keys.specs.Block.{block_number}
 use Rattle.prefix_keys.specs.Print.{address_text, block_text}
 use Rattle.prefix_keys.specs.Version.{width_of}
 use Rattle.prefix_keys.specs.declared.version.Version.{Version}
@@ -37,8 +37,8 @@ use Rattle.pmap_print.specs.List.{entry_line, list_lines, list_text, mode_line, 
 use Rattle.pmap_print.specs.Order.{in_order, starts_alike}
 use Rattle.pmap_print.specs.ReadBack.{CanBeReadAgain, IsListAgain, IsMapAgain, IsPrintedEntry, labels_of, mapping_of_prefix}
 use Rattle.pmap_print.proofs.LastMatch.{last-found, match-in}
-use Rattle.pmap_print.proofs.Order.{alike-flips, in_order-moves, in_order-order}
-use Rattle.pmap_print.proofs.ReadLines.{name-high, short}
+use Rattle.pmap_print.proofs.Order.{alike-flips, in_order-moves, in_order-order, short}
+use Rattle.pmap_print.proofs.ReadLines.{name-high}
 use Rattle.pmap_print.proofs.ReadList.{HasRead, lines-read}
 use Rattle.pmap_print.proofs.WordLines.{high-block, line-lacks_feed, lines-text}
 
@@ -61,7 +61,7 @@ entry-feed : (version : Version) (p : Prefix) → IsPrintedEntry version p → L
 entry-feed version p is =
     line-lacks_feed (block_text version p.start p.bits) p.label
     (omega (arith, length-append (address_text version p.start) (47 ∷ decimal p.bits)))
-    (high-block version p.start p.bits (short version p.bits is.block.bits)) is.label
+    (high-block version p.start p.bits (omega (arith, short version p.bits is.block.bits))) is.label
 
 lines-feed : (version : Version) (name : Option Label) (ps : List Prefix) → ForSome name (λ n. IsTrue (is_label n)) → All (IsPrintedEntry version) ps
     → All (Lacks 10) (name_lines name ++ mode_line version ∷ map (entry_line version) ps)
@@ -74,11 +74,9 @@ lines-feed version name ps label each =
 -- entries that begin alike have the same block, so entries with distinct blocks don't begin alike
 alike-same : (W : ℕ) (p r : Prefix) → starts_alike p r ≡ true → is_same_prefix W p r ≡ true
 alike-same W p r e =
-    let parts = and_parts (p.start == r.start) (p.bits == r.bits) e in
-    let start : p.start ≡ r.start = eqb-true p.start r.start parts.0 in
-    let bits : p.bits ≡ r.bits = eqb-true p.bits r.bits parts.1 in
-    and_from (p.bits == r.bits) (block_number W p.bits p.start == block_number W r.bits r.start) parts.1
-    (eq-eqb _ _ (ap (λ n. block_number W n p.start) bits ∙ ap (block_number W r.bits) start))
+    let start : p.start ≡ r.start = grind (arith, nat_tests) in
+    let bits : p.bits ≡ r.bits = grind (arith, nat_tests) in
+    rw (start, bits) (and_from (r.bits == r.bits) _ (eq-eqb r.bits r.bits refl) (eq-eqb _ _ refl))
 
 alike-distinct : (W : ℕ) (ps : List Prefix) → IsDistinct (is_same_prefix W) ps → IsDistinct starts_alike ps
 alike-distinct W ps distinct =

@@ -1,45 +1,27 @@
 -- A minimal pair's list has no more label texts than the map's table.
-use Rattle.std.proofs.Common.{◌≡◌, ◌≤◌, ◌⊎◌, ◌∙◌, inl, inr, Bool, true, false, cond, List, [], ◌∷◌, ◌++◌, fold, length, map, refl, sym, ap, subst, bytes_eq}
-use Rattle.std.specs.Cmp.{IsEquivalence}
+use Rattle.std.proofs.lemmas.Cmp.{nat_list_eq_equiv}
+use Rattle.std.proofs.Common.{◌≡◌, ◌≤◌, ◌⊎◌, ◌∙◌, inl, inr, Bool, true, false, cond, List, [], ◌∷◌, ◌++◌, fold, length, map, refl, sym, subst, bytes_eq}
 use Rattle.std.specs.List.{AllByRecursion, IsDistinct}
-use Rattle.std.proofs.lemmas.Bool.{both_ways, false_from_ne_true, false≢true, or_cases}
+use Rattle.std.proofs.lemmas.Bool.{false≢true, or_cases}
 use Rattle.std.proofs.lemmas.List.Elements.{All-map, recursion_from_All}
 use Rattle.std.proofs.lemmas.Map.Keys.{IsDistinct-push}
 use Rattle.std.proofs.lemmas.Map.Made.{length-le_from_is_member}
-use Rattle.std.proofs.lemmas.Slice.Eq.{bytes_eq-Decides}
 use Rattle.pmap_cert.specs.CertificateModel.{CertificateModel, has}
 use Rattle.pmap_cert.specs.MinimalPair.{HasItsLabels, IsMinimalPair}
 use Rattle.pmap_cert.proofs.InOrder.{list-form}
-use Rattle.pmap_cert.proofs.Sets.{bytes_eq-same, has-append, has-single}
+use Rattle.pmap_cert.proofs.Sets.{has-append, has-single}
 use Rattle.pmap_text.specs.Label.{with_label}
 use Rattle.pmap_text.specs.ListModel.{ListModel, Prefix}
 use Rattle.pmap_text.specs.MapModel.{Label, MapModel}
 use Rattle.pmap_print.specs.ReadBack.{labels_of}
 
--- equality of texts is an equivalence
-same-flips : (x y : Label) → bytes_eq x y ≡ bytes_eq y x
-same-flips x y = by (bytes_eq x y) refl
-  where
-    by : (b : Bool) → bytes_eq x y ≡ b → b ≡ bytes_eq y x
-    by true e = sym ((bytes_eq-Decides y x).1 (sym ((bytes_eq-Decides x y).0 e)))
-    by false e =
-        sym (false_from_ne_true (bytes_eq y x)
-        (λ h. both_ways (bytes_eq x y) e ((bytes_eq-Decides x y).1 (sym ((bytes_eq-Decides y x).0 h)))))
-
-texts-equivalence : IsEquivalence bytes_eq
-texts-equivalence = record {
-  refl = bytes_eq-same;
-  symm = same-flips;
-  congr = λ x y z e. ap (λ (w : Label). bytes_eq w z) ((bytes_eq-Decides x y).0 e);
-}
-
--- each new text is added once, and is in the whole table, so there are no more texts than the table has
+-- each new text is added once, and is one of the whole table, so that they are no more than it has
 distinct-more : (table : List Label) (x : Label) → IsDistinct bytes_eq table → IsDistinct bytes_eq (with_label table x)
 distinct-more table x distinct = by (has table x) refl
   where
     by : (b : Bool) → has table x ≡ b → IsDistinct bytes_eq (cond b table (table ++ x ∷ []))
     by true e = distinct
-    by false e = IsDistinct-push texts-equivalence table x distinct e
+    by false e = IsDistinct-push nat_list_eq_equiv table x distinct e
 
 within-more : (all table : List Label) (x : Label) → ((y : Label) → has table y ≡ true → has all y ≡ true) → has all x ≡ true
     → (y : Label) → has (with_label table x) y ≡ true → has all y ≡ true
@@ -55,7 +37,7 @@ within-more all table x within inside y = by (has table x)
 
 few-texts : (all table texts : List Label) → IsDistinct bytes_eq table → ((y : Label) → has table y ≡ true → has all y ≡ true)
     → AllByRecursion (λ x. has all x ≡ true) texts → length (fold with_label table texts) ≤ length all
-few-texts all table [] distinct within each = length-le_from_is_member texts-equivalence table all distinct within
+few-texts all table [] distinct within each = length-le_from_is_member nat_list_eq_equiv table all distinct within
 few-texts all table (x ∷ texts) distinct within each =
     few-texts all (with_label table x) texts (distinct-more table x distinct) (within-more all table x within each.0) each.1
 

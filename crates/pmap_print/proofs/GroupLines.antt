@@ -1,15 +1,13 @@
 -- The lines of groups, one by one.
-use Rattle.std.proofs.Common.{ℕ, Bool, true, false, subst, if◌then◌else◌, ◌≡◌, ◌+◌, ◌<◌, ◌∙◌, List, [], ◌∷◌, ◌++◌, All, Some, length, map, take, get_or, slice_get, ap, sym, arith}
+use Rattle.std.proofs.Common.{ℕ, subst, ◌≡◌, ◌+◌, ◌<◌, ◌∙◌, List, [], ◌∷◌, ◌++◌, All, Some, length, map, take, get_or, slice_get, ap, sym, arith}
 use Rattle.std.specs.Prelude.{decimal}
 use Rattle.std.proofs.lemmas.List.{get_or-map, length-append, length-map, map_push, take_more}
-use Rattle.std.proofs.lemmas.List.Elements.{All-cons, All-head, All-nil, All-tail}
 use Rattle.std.proofs.lemmas.Option.{get_or_from_slice_get, slice_get-get_or, slice_get_within}
 use Rattle.flow_uniq.specs.declared.field.KeyField.{KeyField}
 use Rattle.flow_uniq.specs.declared.group.Group.{Group}
 use Rattle.flow_uniq.specs.Field.{field_name}
 use Rattle.flow_uniq.specs.Groups.{GroupModel}
 use Rattle.flow_uniq.specs.Kept.{group_model}
-use Rattle.flow_uniq.specs.Sorted.{in_order, is_before, shown_groups, with_in_order}
 use Rattle.pmap_print.specs.Groups.{group_fields, group_titles, part_text, total_titles}
 use Rattle.pmap_print.specs.Table.{Line}
 
@@ -43,23 +41,3 @@ pub listed_at : (groups : List Group) (i : ℕ) (d : Group) → i < length group
 listed_at groups i d inside =
     slice_get-get_or (map group_model groups) i (group_model d) (omega (arith, inside, length-map groups group_model))
     ∙ ap Some (get_or-map group_model groups i d (group_model d) inside)
-
--- what holds of all elements holds of them in order
-module _ {X : Type 0} (lt : X → X → Bool) (P : X → Type 0) where
-  All-with_in_order : (x : X) (ys : List X) → P x → All P ys → All P (with_in_order lt x ys)
-  All-with_in_order x [] here all = All-cons P x [] here (All-nil P)
-  All-with_in_order x (y ∷ ys) here all = by (lt y x) (All-with_in_order x ys here (All-tail P y ys all))
-    where
-      by : (b : Bool) → All P (with_in_order lt x ys) → All P (if b then y ∷ with_in_order lt x ys else x ∷ y ∷ ys)
-      by true ih = All-cons P y (with_in_order lt x ys) (All-head P y ys all) ih
-      by false ih = All-cons P x (y ∷ ys) here all
-
-  All-in_order : (xs : List X) → All P xs → All P (in_order lt xs)
-  All-in_order [] all = all
-  All-in_order (x ∷ xs) all = All-with_in_order x (in_order lt xs) (All-head P x xs all) (All-in_order xs (All-tail P x xs all))
-
--- the keys of shown groups have `count` parts
-pub shown_all : (count : ℕ) (sorted : Bool) (groups : List GroupModel) → All (λ g. length g.key ≡ count) groups
-    → All (λ g. length g.key ≡ count) (shown_groups sorted groups)
-shown_all count true groups all = All-in_order is_before (λ (g : GroupModel). length g.key ≡ count) groups all
-shown_all count false groups all = all

@@ -1,5 +1,6 @@
 -- Lines that are printed field by field.
-use Rattle.std.proofs.Common.{ℕ, ◌≡◌, ◌∙◌, List, [], ◌∷◌, ◌++◌, ap, append_assoc, sym}
+use Rattle.std.proofs.lemmas.Grind.{common_steps}
+use Rattle.std.proofs.Common.{arith, ℕ, ◌≡◌, ◌∙◌, List, [], ◌∷◌, ◌++◌, ap, append_assoc}
 use Rattle.std.specs.List.{join_with_byte}
 use Rattle.pmap_print.specs.Table.{Line, Text, line_text}
 
@@ -12,10 +13,7 @@ line_more p (q ∷ qs) x rest = append_assoc p (124 ∷ join_with_byte 124 (q �
 pub field_more : (out printed new all : Text) (p : Text) (ps : Line) (x : Text) (rest : Line)
     → out ++ line_text (p ∷ (ps ++ x ∷ rest)) ≡ all → printed ≡ out ++ p → new ≡ printed ++ 124 ∷ [] → new ++ line_text (ps ++ x ∷ rest) ≡ all
 field_more out printed new all p ps x rest so_far is bar =
-    let line : Text = line_text (ps ++ x ∷ rest) in
-    ap (λ (l : Text). l ++ line) (bar ∙ ap (λ (l : Text). l ++ 124 ∷ []) is)
-    ∙ append_assoc (out ++ p) (124 ∷ []) line ∙ append_assoc out p (124 ∷ line)
-    ∙ ap (λ (l : Text). out ++ l) (sym (line_more p ps x rest)) ∙ so_far
+    let one : line_text (p ∷ (ps ++ x ∷ rest)) ≡ p ++ 124 ∷ line_text (ps ++ x ∷ rest) = line_more p ps x rest in grind (arith, common_steps)
 
 -- the length of one more field is noted
 pub size_more : (lengths new all ns : List ℕ) (n : ℕ) → lengths ++ n ∷ ns ≡ all → new ≡ lengths ++ n ∷ [] → new ++ ns ≡ all

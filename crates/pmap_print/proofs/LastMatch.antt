@@ -1,6 +1,7 @@
 -- If entries that enclose others come first, the last statement that covers an address is the longest match.
 use Rattle.std.proofs.Common.{◌≡◌, ℕ, ◌-◌, ◌^◌, ◌<◌, ◌≤◌, ◌⊎◌, ◌∙◌, inl, inr, Bool, true, false, List, [], ◌∷◌, All, Contains, Some, None, map, nat_le, refl, sym, ap, subst, arith, pow_pos}
-use Rattle.std.proofs.lemmas.Bool.{and_from, and_parts, both_ways, cases_lt, le-leb, leb-true}
+use Rattle.std.proofs.lemmas.Bool.Decides.{nat_tests}
+use Rattle.std.proofs.lemmas.Bool.{and_parts, both_ways, cases_lt, leb-true}
 use Rattle.std.proofs.lemmas.List.Elements.{All-cons, All-contains, All-from_recursion, All-head, All-nil, All-tail, All-weaker, Contains-append_right}
 use Rattle.prefix_keys.specs.Block.{block_number, first_of, last_of}
 use Rattle.prefix_keys.proofs.Quotients.{whole}
@@ -11,17 +12,16 @@ use Rattle.pmap_text.specs.MapModel.{last_such, spans}
 use Rattle.pmap_text.proofs.Blocks.{address-between, address-first, address-last, block_number-shorter}
 use Rattle.pmap_text.proofs.Finds.{Contains-first}
 use Rattle.pmap_print.specs.ReadBack.{mapping_of_prefix}
-use Rattle.pmap_print.proofs.Order.{before-start}
+
+pub block-start : (W : ℕ) (p : Prefix) → HasBlock W p → first_of W p.bits (block_number W p.bits p.start) ≡ p.start
+block-start W p has = whole p.start (2 ^ (W - p.bits)) (pow_pos (W - p.bits)) has.no_host_bit
 
 module _ (W a : ℕ) where
-  -- the statement of an entry covers the address exactly if the entry's block does
-  block-start : (p : Prefix) → HasBlock W p → first_of W p.bits (block_number W p.bits p.start) ≡ p.start
-  block-start p has = whole p.start (2 ^ (W - p.bits)) (pow_pos (W - p.bits)) has.no_host_bit
-
+  -- the statement of an entry covers the address if the entry's block does
   spans-covers : (p : Prefix) → HasBlock W p → spans a (mapping_of_prefix W p) ≡ true → CoversAddress W a p
   spans-covers p has is =
       let parts = and_parts (nat_le p.start a) (nat_le a (last_of W p.bits (block_number W p.bits p.start))) is in
-      let low : first_of W p.bits (block_number W p.bits p.start) ≤ a = rw (block-start p has) (leb-true p.start a parts.0) in
+      let low : first_of W p.bits (block_number W p.bits p.start) ≤ a = rw (block-start W p has) (leb-true p.start a parts.0) in
       record {
         fits = has.bits;
         number = sym (address-between W p.bits (block_number W p.bits p.start) a low (leb-true a (last_of W p.bits (block_number W p.bits p.start)) parts.1));
@@ -29,24 +29,23 @@ module _ (W a : ℕ) where
 
   covers-spans : (p : Prefix) → HasBlock W p → CoversAddress W a p → spans a (mapping_of_prefix W p) ≡ true
   covers-spans p has is =
-      let low : p.start ≤ a = subst (λ k. k ≤ a) (block-start p has) (address-first W p.bits (block_number W p.bits p.start) a (sym is.number)) in
-      and_from (nat_le p.start a) (nat_le a (last_of W p.bits (block_number W p.bits p.start))) (le-leb p.start a low)
-      (le-leb a (last_of W p.bits (block_number W p.bits p.start)) (address-last W p.bits (block_number W p.bits p.start) a (sym is.number)))
+      let low : p.start ≤ a = subst (λ k. k ≤ a) (block-start W p has) (address-first W p.bits (block_number W p.bits p.start) a (sym is.number)) in
+      let high = address-last W p.bits (block_number W p.bits p.start) a (sym is.number) in
+      grind (arith, nat_tests)
 
   -- of two entries that cover the address, the first one has the shorter prefix
   first-shorter : (p r : Prefix) → HasBlock W p → HasBlock W r → is_before p r ≡ true → CoversAddress W a p → CoversAddress W a r → p.bits < r.bits
-  first-shorter p r hp hr before cp cr = by (cases_lt p.bits r.bits) (before-start p r before)
+  first-shorter p r hp hr before cp cr = by (cases_lt p.bits r.bits)
     where
       starts : r.bits ≤ p.bits → r.start ≤ p.start
       starts le =
           let same : block_number W r.bits p.start ≡ block_number W r.bits a = block_number-shorter W r.bits p.bits p.start a le cp.fits cp.number in
-          subst (λ k. k ≤ p.start) (block-start r hr)
+          subst (λ k. k ≤ p.start) (block-start W r hr)
           (address-first W r.bits (block_number W r.bits r.start) p.start (same ∙ sym cr.number))
 
-      by : (p.bits < r.bits) ⊎ (r.bits ≤ p.bits) → (p.start < r.start) ⊎ ((p.start ≡ r.start) × (p.bits < r.bits)) → p.bits < r.bits
-      by (inl less) start = less
-      by (inr ge) (inl lower) = absurd (omega (arith, lower, starts ge))
-      by (inr ge) (inr same) = same.1
+      by : (p.bits < r.bits) ⊎ (r.bits ≤ p.bits) → p.bits < r.bits
+      by (inl less) = less
+      by (inr ge) = let le : r.start ≤ p.start = starts ge in grind (arith, nat_tests)
 
   -- the last of the entries' statements that covers the address is the longest match, or no entry covers the address
   abbrev Found : List Prefix → Type 0

@@ -1,6 +1,7 @@
 -- The list of a minimal pair of a map text can be printed and read again, and is accepted as it is read.
-use Rattle.std.proofs.Common.{◌≡◌, ℕ, ◌+◌, ◌-◌, ◌*◌, ◌^◌, ◌<◌, ◌≤◌, ◌==◌, ◌⊎◌, ◌∙◌, inl, inr, true, false, List, [], ◌∷◌, All, IsTrue, get_or, length, sym, ap, subst, arith, bytes_eq, pow_pos}
+use Rattle.std.proofs.Common.{◌≡◌, ℕ, ◌+◌, ◌-◌, ◌*◌, ◌^◌, ◌≤◌, ◌==◌, ◌⊎◌, ◌∙◌, inl, inr, true, false, List, [], ◌∷◌, All, IsTrue, length, sym, ap, subst, arith, bytes_eq}
 use Rattle.std.specs.List.{AllByRecursion, IsDistinct}
+use Rattle.std.proofs.lemmas.Bool.Decides.{nat_tests}
 use Rattle.std.proofs.lemmas.Bool.{and_parts, eqb-true, false_from_ne_true, or_cases}
 use Rattle.std.proofs.lemmas.List.Elements.{recursion_from_All}
 use Rattle.std.proofs.lemmas.Map.Keys.{IsDistinct-cons}
@@ -8,7 +9,6 @@ use Rattle.std.proofs.lemmas.Option.{slice_get-get_or}
 use Rattle.std.proofs.lemmas.Slice.Eq.{bytes_eq-Decides}
 use Rattle.prefix_keys.specs.Block.{block_number}
 use Rattle.prefix_keys.specs.Version.{width_of}
-use Rattle.prefix_keys.proofs.Quotients.{whole}
 use Rattle.pmap_cert.specs.Acceptance.{IsAccepted, IsNodeAccepted}
 use Rattle.pmap_cert.specs.CertificateModel.{CertificateModel, claim_of, has}
 use Rattle.pmap_cert.specs.ListForm.{HasBlock, HasListForm, IsInOrder, is_before}
@@ -25,17 +25,16 @@ use Rattle.pmap_text.specs.Reading.{ReadsList, ReadsMap, label_limit, mapping_li
 use Rattle.pmap_print.specs.List.{list_text}
 use Rattle.pmap_print.specs.ReadBack.{CanBeReadAgain, IsPrintedEntry, IsWellFormed, labels_of}
 use Rattle.pmap_print.proofs.Again.{list-again}
-use Rattle.pmap_print.proofs.Order.{before-start, in_order-kept}
+use Rattle.pmap_print.proofs.MapTexts.{HasLabelForms, map-forms}
+use Rattle.pmap_print.proofs.LastMatch.{block-start}
+use Rattle.pmap_print.proofs.Order.{in_order-kept}
 
 -- blocks in order are distinct
-start-is : (W : ℕ) (p : Prefix) → HasBlock W p → block_number W p.bits p.start * 2 ^ (W - p.bits) ≡ p.start
-start-is W p has = whole p.start (2 ^ (W - p.bits)) (pow_pos (W - p.bits)) has.no_host_bit
-
 same-start : (W : ℕ) (p r : Prefix) → HasBlock W p → HasBlock W r → p.bits ≡ r.bits
     → block_number W p.bits p.start ≡ block_number W r.bits r.start → p.start ≡ r.start
 same-start W p r hp hr bits number =
-    sym (start-is W p hp) ∙ ap (λ (k : ℕ). k * 2 ^ (W - p.bits)) number
-    ∙ ap (λ (n : ℕ). block_number W r.bits r.start * 2 ^ (W - n)) bits ∙ start-is W r hr
+    sym (block-start W p hp) ∙ ap (λ (k : ℕ). k * 2 ^ (W - p.bits)) number
+    ∙ ap (λ (n : ℕ). block_number W r.bits r.start * 2 ^ (W - n)) bits ∙ block-start W r hr
 
 before-apart : (W : ℕ) (p r : Prefix) → HasBlock W p → HasBlock W r → is_before p r ≡ true → is_same_prefix W p r ≡ false
 before-apart W p r hp hr before =
@@ -45,11 +44,7 @@ before-apart W p r hp hr before =
     let bits : p.bits ≡ r.bits = eqb-true p.bits r.bits parts.0 in
     let start : p.start ≡ r.start =
     same-start W p r hp hr bits (eqb-true (block_number W p.bits p.start) (block_number W r.bits r.start) parts.1) in
-    never bits start (before-start p r before))
-  where
-    never : p.bits ≡ r.bits → p.start ≡ r.start → (p.start < r.start) ⊎ ((p.start ≡ r.start) × (p.bits < r.bits)) → ⊥
-    never bits start (inl lower) = omega (arith, start, lower)
-    never bits start (inr shorter) = omega (arith, bits, shorter.1)
+    grind (arith, nat_tests))
 
 all-apart : (W : ℕ) (p : Prefix) (ps : List Prefix) → HasBlock W p → AllByRecursion (HasBlock W) ps → AllByRecursion (λ r. IsTrue (is_before p r)) ps
     → AllByRecursion (λ r. is_same_prefix W p r ≡ false) ps

@@ -1,9 +1,9 @@
 -- One more line whose lengths are noted.
-use Rattle.std.proofs.Common.{ℕ, ◌≡◌, ◌+◌, ◌<◌, ◌∙◌, max, List, [], ◌∷◌, ◌++◌, length, map, get_or, ap, sym, subst, arith}
+use Rattle.std.proofs.Common.{ℕ, ◌≡◌, ◌+◌, ◌<◌, ◌∙◌, max, List, [], ◌∷◌, ◌++◌, length, map, get_or, ap, subst, arith}
 use Rattle.std.specs.Prelude.{fold, slice_index}
 use Rattle.std.specs.List.{flat_map}
-use Rattle.std.proofs.lemmas.Grind.{flat_map-append, fold-append}
-use Rattle.std.proofs.lemmas.List.{append-nil, get_or-map, map_push}
+use Rattle.std.proofs.lemmas.Grind.{common_steps, fold-append}
+use Rattle.std.proofs.lemmas.List.{get_or-map, map_push}
 use Rattle.std.proofs.lemmas.List.Elements.{All-append, All-cons, All-nil}
 use Rattle.pmap_print.specs.Columns.{AreNoted, IsNoted, sizes}
 use Rattle.pmap_print.specs.declared.columns.Columns.{Columns}
@@ -21,8 +21,7 @@ pub noted-more : (count : ℕ) (lines : List Line) (line : Line) (old new : Colu
     → IsNoted count (lines ++ line ∷ []) new
 noted-more count lines line old new are all same more wide =
     let P : Line → Type 0 = λ l. length l ≡ count in
-    let flat : flat_map sizes lines ++ sizes line ≡ flat_map sizes (lines ++ line ∷ []) =
-    ap (λ (ns : List ℕ). flat_map sizes lines ++ ns) (sym (append-nil (sizes line))) ∙ sym (flat_map-append sizes lines (line ∷ [])) in
+    let flat : flat_map sizes lines ++ sizes line ≡ flat_map sizes (lines ++ line ∷ []) = grind (arith, common_steps) in
     record {
       some = are.some;
       even = All-append P lines (line ∷ []) are.even (All-cons P line [] all (All-nil P));

@@ -1,9 +1,9 @@
--- The order of a printed list is the only one in which each entry precedes all that follow it.
-use Rattle.std.proofs.Common.{◌≡◌, ℕ, suc, ◌<◌, ◌≤◌, ◌==◌, ◌&&◌, ◌⊎◌, inl, inr, Bool, true, false, cond, List, [], ◌∷◌, Contains, map, nat_lt, refl, sym, ◌∙◌, ap, subst, arith}
+-- The order of a printed list: it is the one order in which each entry precedes all that follow it.
+use Rattle.std.proofs.Common.{All, get_or, ◌≡◌, ℕ, suc, ◌≤◌, ◌⊎◌, inl, inr, Bool, true, false, cond, List, [], ◌∷◌, Contains, map, refl, sym, ◌∙◌, ap, subst, arith}
 use Rattle.std.specs.List.{AllByRecursion, IsDistinct}
 use Rattle.std.specs.List.Sorted.{IsNonDecreasingBy, IsPermutation}
-use Rattle.std.proofs.lemmas.Bool.{and_from, and_parts, both_ways, cases_lt, eq-eqb, eqb-true, lt-ltb, ltb-true, or_cases, or_left, or_right}
-use Rattle.std.proofs.lemmas.List.Elements.{All-contains, All-from_recursion}
+use Rattle.std.proofs.lemmas.Bool.Decides.{nat_tests}
+use Rattle.std.proofs.lemmas.List.Elements.{All-contains, All-from_recursion, All-map, recursion_from_All}
 use Rattle.std.proofs.lemmas.List.Sorted.{Contains-permutation, IsPermutation-cons, IsPermutation-map, IsPermutation-middle, IsPermutation-refl, IsPermutation-sym, IsPermutation-trans}
 use Rattle.std.proofs.lemmas.Map.Keys.{IsDistinct-IsPermutation, IsDistinct-head, IsDistinct-tail}
 use Rattle.prefix_keys.specs.Version.{width_of}
@@ -21,73 +21,14 @@ use Rattle.pmap_print.specs.Order.{in_order, placed, starts_alike}
 use Rattle.pmap_print.specs.Sorting.{place_of}
 
 -- one entry precedes another
-Before : Prefix → Prefix → Type 0
-Before p r = (p.start < r.start) ⊎ ((p.start ≡ r.start) × (p.bits < r.bits))
-
-before-parts : (p r : Prefix) → (nat_lt p.start r.start ≡ true) ⊎ ((p.start == r.start && nat_lt p.bits r.bits) ≡ true) → Before p r
-unfolding Before
-before-parts p r (inl lower) = inl (ltb-true p.start r.start lower)
-before-parts p r (inr shorter) =
-    let parts = and_parts (p.start == r.start) (nat_lt p.bits r.bits) shorter in
-    inr (eqb-true p.start r.start parts.0, ltb-true p.bits r.bits parts.1)
-
-before-is : (p r : Prefix) → is_before p r ≡ true → Before p r
-before-is p r e = before-parts p r (or_cases (nat_lt p.start r.start) (p.start == r.start && nat_lt p.bits r.bits) e)
-
-open-parts : (p r : Prefix) → Before p r → (p.start < r.start) ⊎ ((p.start ≡ r.start) × (p.bits < r.bits))
-unfolding Before
-open-parts p r is = is
-
-pub before-start : (p r : Prefix) → is_before p r ≡ true → (p.start < r.start) ⊎ ((p.start ≡ r.start) × (p.bits < r.bits))
-before-start p r e = open-parts p r (before-is p r e)
-
-before-from : (p r : Prefix) → Before p r → is_before p r ≡ true
-unfolding Before
-before-from p r (inl lower) = or_left (nat_lt p.start r.start) (p.start == r.start && nat_lt p.bits r.bits) (lt-ltb _ _ lower)
-before-from p r (inr shorter) =
-    or_right (nat_lt p.start r.start) (p.start == r.start && nat_lt p.bits r.bits)
-    (and_from (p.start == r.start) (nat_lt p.bits r.bits) (eq-eqb _ _ shorter.0) (lt-ltb _ _ shorter.1))
-
-trans-parts : (p r s : Prefix) → Before p r → Before r s → Before p s
-unfolding Before
-trans-parts p r s (inl a) (inl b) = inl (omega (arith, a, b))
-trans-parts p r s (inl a) (inr b) = inl (omega (arith, a, b.0))
-trans-parts p r s (inr a) (inl b) = inl (omega (arith, a.0, b))
-trans-parts p r s (inr a) (inr b) = inr (a.0 ∙ b.0, omega (arith, a.1, b.1))
-
-never-parts : (p r : Prefix) → Before p r → Before r p → ⊥
-unfolding Before
-never-parts p r (inl a) (inl b) = omega (arith, a, b)
-never-parts p r (inl a) (inr b) = omega (arith, a, b.0)
-never-parts p r (inr a) (inl b) = omega (arith, a.0, b)
-never-parts p r (inr a) (inr b) = omega (arith, a.1, b.1)
-
 before-trans : (p r s : Prefix) → is_before p r ≡ true → is_before r s ≡ true → is_before p s ≡ true
-before-trans p r s a b = before-from p s (trans-parts p r s (before-is p r a) (before-is r s b))
+before-trans p r s a b = grind (arith, nat_tests)
 
 before-once : (p r : Prefix) → is_before p r ≡ true → is_before r p ≡ true → ⊥
-before-once p r a b = never-parts p r (before-is p r a) (before-is r p b)
-
--- of two entries with different starts or lengths, one precedes the other
-other-parts : (p r : Prefix) → (p.start < r.start) ⊎ (r.start ≤ p.start) → (r.start < p.start) ⊎ (p.start ≤ r.start)
-    → (p.bits < r.bits) ⊎ (r.bits ≤ p.bits) → (r.bits < p.bits) ⊎ (p.bits ≤ r.bits) → starts_alike p r ≡ false → Before p r ⊎ Before r p
-unfolding Before
-other-parts p r (inl a) b c d ne = inl (inl a)
-other-parts p r (inr a) (inl b) c d ne = inr (inl b)
-other-parts p r (inr a) (inr b) (inl c) d ne = inl (inr (omega (arith, a, b), c))
-other-parts p r (inr a) (inr b) (inr c) (inl d) ne = inr (inr (omega (arith, a, b), d))
-other-parts p r (inr a) (inr b) (inr c) (inr d) ne =
-    absurd (both_ways (starts_alike p r) ne
-    (and_from (p.start == r.start) (p.bits == r.bits) (eq-eqb _ _ (omega (arith, a, b))) (eq-eqb _ _ (omega (arith, c, d)))))
-
-or-other : (p r : Prefix) → is_before p r ≡ false → Before p r ⊎ Before r p → is_before r p ≡ true
-or-other p r not (inl is) = absurd (both_ways (is_before p r) not (before-from p r is))
-or-other p r not (inr is) = before-from r p is
+before-once p r a b = grind (arith, nat_tests)
 
 before-other : (p r : Prefix) → is_before p r ≡ false → starts_alike p r ≡ false → is_before r p ≡ true
-before-other p r not ne =
-    or-other p r not
-    (other-parts p r (cases_lt p.start r.start) (cases_lt r.start p.start) (cases_lt p.bits r.bits) (cases_lt r.bits p.bits) ne)
+before-other p r not ne = grind (arith, nat_tests)
 
 -- two lists in order with the same entries are equal
 after-first : (p r : Prefix) (ps : List Prefix) → IsInOrder (p ∷ ps) → Contains ps r → is_before p r ≡ true
@@ -175,33 +116,12 @@ in_order-one ps rs distinct moved ordered =
     order-one rs (in_order ps) ordered (in_order-order ps distinct) (λ s. Contains-permutation rs (in_order ps) s both)
     (λ s. Contains-permutation (in_order ps) rs s (IsPermutation-sym rs (in_order ps) both))
 
--- entries that rise by `place_of` are in order
-lower-first : (p r : Prefix) → p.start < r.start → Before p r
-unfolding Before
-lower-first p r lower = inl lower
-
-shorter-first : (p r : Prefix) → p.start ≡ r.start → p.bits < r.bits → Before p r
-unfolding Before
-shorter-first p r same shorter = inr (same, shorter)
-
+-- entries that rise by their places are in order
 place-before : (table : List Label) (d e : Entry) → d.block.len ≤ 128 → e.block.len ≤ 128 → place_of d ≤ place_of e → same_block d e ≡ false
     → is_before (prefix_of table d) (prefix_of table e) ≡ true
-place-before table d e short short' le ne = by (cases_lt d.block.value e.block.value)
-  where
-    equal : d.block.value ≡ e.block.value → d.block.len ≡ e.block.len → ⊥
-    equal v l = both_ways (same_block d e) ne (and_from (d.block.value == e.block.value) (d.block.len == e.block.len) (eq-eqb _ _ v) (eq-eqb _ _ l))
+place-before table d e short short' le ne = grind (arith, nat_tests)
 
-    longer : d.block.value ≡ e.block.value → (d.block.len < e.block.len) ⊎ (e.block.len ≤ d.block.len) → d.block.len < e.block.len
-    longer v (inl less) = less
-    longer v (inr ge) = absurd (equal v (omega (arith, le, v, ge)))
-
-    by : (d.block.value < e.block.value) ⊎ (e.block.value ≤ d.block.value) → is_before (prefix_of table d) (prefix_of table e) ≡ true
-    by (inl lower) = before-from (prefix_of table d) (prefix_of table e) (lower-first (prefix_of table d) (prefix_of table e) lower)
-    by (inr ge) =
-        let v : d.block.value ≡ e.block.value = omega (arith, le, ge, short, short') in
-        before-from (prefix_of table d) (prefix_of table e) (shorter-first (prefix_of table d) (prefix_of table e) v (longer v (cases_lt d.block.len e.block.len)))
-
-short : (v : Version) (len : ℕ) → len ≤ width_of v → len ≤ 128
+pub short : (v : Version) (len : ℕ) → len ≤ width_of v → len ≤ 128
 short V4 len le = omega (arith, le)
 short V6 len le = le
 
@@ -211,23 +131,14 @@ short-block e = short e.block.version e.block.len e.block.len_in_range
 pub entries-order : (table : List Label) (es : List Entry) → IsNonDecreasingBy place_of es → HasDistinctBlocks es
     → IsInOrder (map (prefix_of table) es)
 entries-order table [] rising distinct = tt
-entries-order table (e ∷ es) rising distinct = (
-  each es (λ d in'. place-before table e d (short-block e) (short-block d) (first-le d in') (first-other d in')),
-  entries-order table es (λ i j d le lt. rising (suc i) (suc j) d (omega (arith, le)) (omega (arith, lt))) (IsDistinct-tail same_block e es distinct),
-)
-  where
-    first-le : (d : Entry) → Contains es d → place_of e ≤ place_of d
-    first-le d in' = subst (λ (x : Entry). place_of e ≤ place_of x) in'.2 (rising 0 (suc in'.0) d (omega arith) (omega (arith, in'.1)))
-
-    first-other : (d : Entry) → Contains es d → same_block e d ≡ false
-    first-other d in' =
-        All-contains (λ (x : Entry). same_block e x ≡ false) es d
-        (All-from_recursion (λ (x : Entry). same_block e x ≡ false) es (IsDistinct-head same_block e es distinct)) in'
-
-    each : (ds : List Entry) → ((d : Entry) → Contains ds d → is_before (prefix_of table e) (prefix_of table d) ≡ true)
-        → AllByRecursion (λ p. is_before (prefix_of table e) p ≡ true) (map (prefix_of table) ds)
-    each [] is = tt
-    each (d ∷ ds) is = (is d (Contains-first d ds), each ds (λ x in'. is x (Contains-later d ds x in')))
+entries-order table (e ∷ es) rising distinct =
+    let P : Prefix → Type 0 = λ p. is_before (prefix_of table e) p ≡ true in
+    let other = All-from_recursion (λ (d : Entry). same_block e d ≡ false) es (IsDistinct-head same_block e es distinct) in
+    let each : All (λ d. P (prefix_of table d)) es = λ k d below.
+    place-before table e (get_or es k d) (short-block e) (short-block (get_or es k d)) (rising 0 (suc k) d (omega arith) (omega (arith, below))) (other k d below) in (
+      recursion_from_All P (map (prefix_of table) es) (All-map P (prefix_of table) es each),
+      entries-order table es (λ i j d le lt. rising (suc i) (suc j) d (omega (arith, le)) (omega (arith, lt))) (IsDistinct-tail same_block e es distinct),
+    )
 
 -- the sorted entries are those of the list in its order
 flips : (d e : Entry) → same_block d e ≡ same_block e d

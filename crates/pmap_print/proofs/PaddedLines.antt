@@ -1,11 +1,12 @@
 -- Lines whose fields are spread are the lines of a table with columns.
-use Rattle.std.proofs.Common.{ℕ, zero, suc, ◌≡◌, ◌+◌, ◌-◌, ◌*◌, ◌<◌, ◌≤◌, ◌∙◌, max, All, List, [], ◌∷◌, ◌++◌, length, map, take, drop, get_or, replicate, add-zero, ap, sym, subst, refl, arith, append_assoc, drop-cons}
+use Rattle.std.proofs.Common.{mod-eq_of_lt, ℕ, zero, suc, ◌≡◌, ◌+◌, ◌-◌, ◌*◌, ◌<◌, ◌≤◌, ◌∙◌, max, All, List, [], ◌∷◌, ◌++◌, length, map, take, drop, get_or, replicate, add-zero, ap, sym, subst, refl, arith, append_assoc, drop-cons}
 use Rattle.std.specs.Prelude.{◌%◌, ◌/◌, fold, slice_index, sum, true}
 use Rattle.std.specs.List.{enumerate_from, flat_map, join_with_byte}
 use Rattle.std.proofs.Math.Nat.{add-mod_right, mul-div_cancel}
-use Rattle.std.proofs.lemmas.Grind.{flat_map-append}
+use Rattle.std.proofs.lemmas.Grind.{common_steps, flat_map-append}
 use Rattle.std.proofs.lemmas.Nat.{mod-mul-add}
 use Rattle.std.proofs.lemmas.List.{append-nil, drop_all, get_or-map, length-append, length-map, map-append, take_all, take_at}
+use Rattle.std.proofs.lemmas.List.Sums.{sum_by-cons}
 use Rattle.std.proofs.lemmas.List.Elements.{All-head, All-tail}
 use Rattle.pmap_print.specs.Columns.{AreNoted, CanSpread, IsNoted, joined, noted, sizes, spread}
 use Rattle.pmap_print.specs.declared.columns.Columns.{Columns}
@@ -20,13 +21,6 @@ whole_slice len new given old n m e =
     let all : length new ≤ len = omega (arith, n, m) in
     ap (λ (l : List ℕ). take len (new ++ l)) (drop_all (length new) old short)
     ∙ ap (λ (l : List ℕ). take len l) (append-nil new) ∙ take_all len new all
-
-sum-from : (a b : ℕ) (ns : List ℕ) → fold (λ a x. a + x) (a + b) ns ≡ a + fold (λ a x. a + x) b ns
-sum-from a b [] = refl
-sum-from a b (n ∷ ns) = ap (λ m. fold (λ a x. a + x) m ns) (omega arith) ∙ sum-from a (b + n) ns
-
-sum-cons : (n : ℕ) (ns : List ℕ) → sum (n ∷ ns) ≡ n + sum ns
-sum-cons n ns = ap (λ m. fold (λ a x. a + x) m ns) (omega arith) ∙ sum-from n 0 ns
 
 -- the fields of a line, each with the byte that ends it
 abbrev pub pieces : Line → List Text
@@ -47,10 +41,7 @@ length-pieces (f ∷ g ∷ fs) =
 joined-pieces : (line : Line) → 0 < length line → joined (pieces line) ≡ line_text line
 joined-pieces [] some = absurd (omega (arith, some))
 joined-pieces (f ∷ []) some = append-nil (f ++ 10 ∷ [])
-joined-pieces (f ∷ g ∷ fs) some =
-    ap (λ (text : Text). (f ++ 124 ∷ []) ++ text) (joined-pieces (g ∷ fs) (omega arith))
-    ∙ append_assoc f (124 ∷ []) (line_text (g ∷ fs))
-    ∙ sym (append_assoc f (124 ∷ join_with_byte 124 (g ∷ fs)) (10 ∷ []))
+joined-pieces (f ∷ g ∷ fs) some = let rest : joined (pieces (g ∷ fs)) ≡ line_text (g ∷ fs) = joined-pieces (g ∷ fs) (omega arith) in grind (arith, common_steps)
 
 filled-piece : (width : ℕ) (f : Text) (end : ℕ) → filled (width + 1) (f ++ end ∷ []) ≡ filled width f ++ end ∷ []
 filled-piece width f end =
@@ -66,15 +57,12 @@ period widths i (t ∷ texts) =
     ∙ ap (λ k. filled (slice_index widths (i % length widths)) t ++ spread widths k texts) next
     ∙ ap (λ (text : Text). filled (slice_index widths (i % length widths)) t ++ text) (period widths (i + 1) texts)
 
-below : (i n : ℕ) → i < n → i % n ≡ i
-below i n h = let same : i ≡ 0 * n + i = omega arith in ap (λ k. k % n) same ∙ mod-mul-add 0 n i h
-
 module _ (widths : List ℕ) (width : ℕ → ℕ) (same : (k : ℕ) → k < length widths → slice_index widths k ≡ width k + 1) where
   -- a field filled to the width of its column
   here : (k : ℕ) (f : Text) (end : ℕ) → k < length widths
       → filled (slice_index widths (k % length widths)) (f ++ end ∷ []) ≡ filled (width k) f ++ end ∷ []
   here k f end inside =
-      ap (λ n. filled (slice_index widths n) (f ++ end ∷ [])) (below k (length widths) inside)
+      ap (λ n. filled (slice_index widths n) (f ++ end ∷ [])) (mod-eq_of_lt inside)
       ∙ ap (λ n. filled n (f ++ end ∷ [])) (same k inside) ∙ filled-piece (width k) f end
 
   spread-line : (k : ℕ) (line : Line) (more : List Text) → 0 < length line → k + length line ≡ length widths
@@ -112,12 +100,12 @@ module _ (widths : List ℕ) (width : ℕ → ℕ) (same : (k : ℕ) → k < len
   unfolding filled_from
   length-line k [] some all narrow = absurd (omega (arith, some))
   length-line k (f ∷ []) some all narrow =
-      let first : sum (drop k widths) ≡ slice_index widths k + sum (drop (suc k) widths) = ap sum (drop-cons widths k 0 (omega (arith, all))) ∙ sum-cons (slice_index widths k) (drop (suc k) widths) in
+      let first : sum (drop k widths) ≡ slice_index widths k + sum (drop (suc k) widths) = ap sum (drop-cons widths k 0 (omega (arith, all))) ∙ sum_by-cons (λ n. n) (slice_index widths k) (drop (suc k) widths) in
       let none : sum (drop (suc k) widths) ≡ 0 = ap sum (drop_all (suc k) widths (omega (arith, all))) in
       omega (arith, first, none, same k (omega (arith, all)), length-filled (width k) f, narrow 0, ap width (add-zero k), length-append (filled (width k) f) (10 ∷ []))
   length-line k (f ∷ g ∷ fs) some all narrow =
       let others : Line = filled_from width (k + 1) (g ∷ fs) in
-      let first : sum (drop k widths) ≡ slice_index widths k + sum (drop (suc k) widths) = ap sum (drop-cons widths k 0 (omega (arith, all))) ∙ sum-cons (slice_index widths k) (drop (suc k) widths) in
+      let first : sum (drop k widths) ≡ slice_index widths k + sum (drop (suc k) widths) = ap sum (drop-cons widths k 0 (omega (arith, all))) ∙ sum_by-cons (λ n. n) (slice_index widths k) (drop (suc k) widths) in
       let here : suc k ≡ k + 1 = omega arith in
       let next : sum (drop (suc k) widths) ≡ sum (drop (k + 1) widths) = ap (λ n. sum (drop n widths)) here in
       let rest : length (line_text others) ≡ sum (drop (k + 1) widths) =
@@ -194,46 +182,46 @@ narrow lines = λ i d inside j.
     let size : Line → ℕ = λ fields. length (get_or fields j []) in
     omega (arith, fold-at 0 (map size lines) i (omega (arith, length-map lines size, inside)), get_or-map size lines i d 0 inside)
 
--- noted lines can be moved to columns, and then are the text of a table with columns
-pub spread-noted : (count : ℕ) (lines : List Line) (c : Columns) → IsNoted count lines c
-    → spread c.widths.items 0 (flat_map pieces lines) ≡ table_text true lines
-spread-noted count lines c is =
-    let even : All (λ (line : Line). length line ≡ length c.widths.items) lines = subst (λ n. All (λ (line : Line). length line ≡ n) lines) (sym is.columns) is.even in
-    spread-lines c.widths.items (column_width lines) (λ k inside. is.widths k (omega (arith, inside, is.columns))) lines (omega (arith, is.some, is.columns)) even
+-- noted lines can be spread, and so are those of a table with columns
+module _ (count : ℕ) (lines : List Line) (c : Columns) (is : IsNoted count lines c) where
+  some : 0 < length c.widths.items
+  some = omega (arith, is.some, is.columns)
 
-noted-count : (count : ℕ) (lines : List Line) (c : Columns) → IsNoted count lines c → length c.short.items ≡ length lines * length c.widths.items
-noted-count count lines c is =
-    ap length is.lengths.bytes ∙ length-map (flat_map sizes lines) noted ∙ all_fields count lines is.even ∙ ap (λ n. length lines * n) (sym is.columns)
+  even : All (λ line. length line ≡ length c.widths.items) lines
+  even = subst (λ n. All (λ (line : Line). length line ≡ n) lines) (sym is.columns) is.even
 
-padded-size : (count : ℕ) (lines : List Line) (c : Columns) → IsNoted count lines c
-    → length (spread c.widths.items 0 (flat_map pieces lines)) ≡ sum c.widths.items * (length c.short.items / length c.widths.items)
-padded-size count lines c is =
-    let even : All (λ (line : Line). length line ≡ length c.widths.items) lines = subst (λ n. All (λ (line : Line). length line ≡ n) lines) (sym is.columns) is.even in
-    let some : 0 < length c.widths.items = omega (arith, is.some, is.columns) in
-    let same : (k : ℕ) → k < length c.widths.items → slice_index c.widths.items k ≡ column_width lines k + 1 = λ k inside. is.widths k (omega (arith, inside, is.columns)) in
-    let lines_are : length c.short.items / length c.widths.items ≡ length lines =
-    ap (λ n. n / length c.widths.items) (noted-count count lines c is) ∙ mul-div_cancel (length lines) some in
-    ap length (spread-lines c.widths.items (column_width lines) same lines some even)
-    ∙ length-lines c.widths.items (column_width lines) same lines some even (narrow lines)
-    ∙ ap (λ n. sum c.widths.items * n) (sym lines_are)
+  same : (k : ℕ) → k < length c.widths.items → slice_index c.widths.items k ≡ column_width lines k + 1
+  same k inside = is.widths k (omega (arith, inside, is.columns))
 
-pub can_spread : (count : ℕ) (lines : List Line) (c : Columns) (text new : Text) (plain size spaces : ℕ) → IsNoted count lines c → text ≡ flat_map line_text lines
-    → plain ≡ length text → size ≡ sum c.widths.items * (length c.short.items / length c.widths.items)
-    → new ≡ take size text ++ replicate spaces 32 → length new ≡ size → CanSpread (flat_map pieces lines) c plain new
-can_spread count lines c text new plain size spaces is text_is plain_is size_is new_is len =
-    let some : 0 < length c.widths.items = omega (arith, is.some, is.columns) in
-    let fields : length (flat_map pieces lines) ≡ length lines * length c.widths.items =
-    sym (length-map (flat_map pieces lines) length) ∙ ap length (all_sizes lines) ∙ all_fields count lines is.even ∙ ap (λ n. length lines * n) (sym is.columns) in
-    let whole : joined (flat_map pieces lines) ≡ text = all_joined count lines is.some is.even ∙ sym text_is in
-    let longer : length text ≤ size =
-    omega (arith, joined-le c.widths.items 0 (flat_map pieces lines), ap length whole, padded-size count lines c is, size_is) in
-    record {
-      some = some;
-      even = ap (λ n. n % length c.widths.items) (fields ∙ sym (add-zero (length lines * length c.widths.items))) ∙ mod-mul-add (length lines) (length c.widths.items) 0 some;
-      lengths = subst (λ (ns : List ℕ). AreNoted ns c.short.items c.long.items) (sym (all_sizes lines)) is.lengths;
-      size = ap length whole ∙ sym plain_is;
-      front =
-          ap (take plain) (new_is ∙ ap (λ (l : Text). l ++ replicate spaces 32) (take_all size text longer))
-          ∙ take_at text (replicate spaces 32) plain (sym plain_is) ∙ sym whole;
-      fills = padded-size count lines c is ∙ sym size_is ∙ sym len;
-    }
+  pub spread-noted : spread c.widths.items 0 (flat_map pieces lines) ≡ table_text true lines
+  spread-noted = spread-lines c.widths.items (column_width lines) same lines some even
+
+  padded-size : length (spread c.widths.items 0 (flat_map pieces lines)) ≡ sum c.widths.items * (length c.short.items / length c.widths.items)
+  padded-size =
+      let noted_count : length c.short.items ≡ length lines * length c.widths.items =
+      ap length is.lengths.bytes ∙ length-map (flat_map sizes lines) noted ∙ all_fields (length c.widths.items) lines even in
+      let lines_are : length c.short.items / length c.widths.items ≡ length lines =
+      ap (λ n. n / length c.widths.items) noted_count ∙ mul-div_cancel (length lines) some in
+      ap length spread-noted
+      ∙ length-lines c.widths.items (column_width lines) same lines some even (narrow lines)
+      ∙ ap (λ n. sum c.widths.items * n) (sym lines_are)
+
+  pub can_spread : (text new : Text) (plain size spaces : ℕ) → text ≡ flat_map line_text lines
+      → plain ≡ length text → size ≡ sum c.widths.items * (length c.short.items / length c.widths.items)
+      → new ≡ take size text ++ replicate spaces 32 → length new ≡ size → CanSpread (flat_map pieces lines) c plain new
+  can_spread text new plain size spaces text_is plain_is size_is new_is len =
+      let fields : length (flat_map pieces lines) ≡ length lines * length c.widths.items =
+      sym (length-map (flat_map pieces lines) length) ∙ ap length (all_sizes lines) ∙ all_fields (length c.widths.items) lines even in
+      let whole : joined (flat_map pieces lines) ≡ text = all_joined count lines is.some is.even ∙ sym text_is in
+      let longer : length text ≤ size =
+      omega (arith, joined-le c.widths.items 0 (flat_map pieces lines), ap length whole, padded-size, size_is) in
+      record {
+        some = some;
+        even = ap (λ n. n % length c.widths.items) (fields ∙ sym (add-zero (length lines * length c.widths.items))) ∙ mod-mul-add (length lines) (length c.widths.items) 0 some;
+        lengths = subst (λ (ns : List ℕ). AreNoted ns c.short.items c.long.items) (sym (all_sizes lines)) is.lengths;
+        size = ap length whole ∙ sym plain_is;
+        front =
+            ap (take plain) (new_is ∙ ap (λ (l : Text). l ++ replicate spaces 32) (take_all size text longer))
+            ∙ take_at text (replicate spaces 32) plain (sym plain_is) ∙ sym whole;
+        fills = padded-size ∙ sym size_is ∙ sym len;
+      }

@@ -1,11 +1,12 @@
 -- What the printed lines of a list say, read as a list and read as a map.
-use Rattle.std.proofs.Common.{◌≡◌, ℕ, ◌+◌, ◌-◌, ◌^◌, ◌<◌, ◌≤◌, ◌==◌, ◌||◌, ◌∙◌, Bool, true, false, [], ◌∷◌, ◌++◌, All, Option, Some, None, Result, Ok, codes, length, nat_le, refl, ap, subst, arith}
+use Rattle.std.proofs.Common.{◌≡◌, ℕ, ◌+◌, ◌-◌, ◌<◌, ◌≤◌, ◌==◌, ◌∙◌, true, false, [], ◌∷◌, ◌++◌, All, Option, Some, None, Result, Ok, codes, length, nat_le, refl, ap, subst, arith}
 use Rattle.std.specs.Fmt.{decimal}
 use Rattle.std.specs.List.{list_any}
 use Rattle.std.specs.Str.{bytes_eq}
 use Rattle.std.proofs.lemmas.Bool.{both_ways, false_from_ne_true, leb-true, lt-ltb}
 use Rattle.std.proofs.lemmas.List.Elements.{All-weaker}
 use Rattle.std.proofs.lemmas.List.Sums.{AllPass-from_list_all}
+use Rattle.std.proofs.lemmas.Grind.{common_steps}
 use Rattle.std.proofs.lemmas.List.{length-append}
 use Rattle.std.proofs.lemmas.Slice.Eq.{bytes_eq-Decides}
 use Rattle.prefix_keys.specs.Print.{address_text, block_text}
@@ -27,6 +28,7 @@ use Rattle.pmap_text.specs.declared.form.Form.TheVariants as form
 use Rattle.pmap_print.specs.List.{entry_line, mode_line}
 use Rattle.pmap_print.specs.ReadBack.{IsPrintedEntry, mapping_of_prefix}
 use Rattle.pmap_print.specs.Table.{Text}
+use Rattle.pmap_print.proofs.Order.{short}
 use Rattle.pmap_print.proofs.WordLines.{high-block, line-behind_word, line-content, line-first_word}
 
 -- a line of a word and a label is read by its words
@@ -81,12 +83,7 @@ mode-entry-named form.List name V6 = refl
 
 -- the block of an entry's line
 slash-in : (front back : Text) → list_any (λ b. b == 47) (front ++ 47 ∷ back) ≡ true
-slash-in [] back = refl
-slash-in (b ∷ bs) back = by (b == 47) (slash-in bs back)
-  where
-    by : (t : Bool) → list_any (λ b. b == 47) (bs ++ 47 ∷ back) ≡ true → (t || list_any (λ b. b == 47) (bs ++ 47 ∷ back)) ≡ true
-    by true rest = refl
-    by false rest = rest
+slash-in front back = grind (arith, common_steps)
 
 other-word : (word other : Text) → list_any (λ b. b == 47) word ≡ true → list_any (λ b. b == 47) other ≡ false → bytes_eq word other ≡ false
 other-word word other has lacks =
@@ -142,17 +139,13 @@ placed-map : (earlier : Earlier) (version : Version) (p : Prefix) → is_label p
 placed-map earlier version p is none few room =
     rw (label_of-label p.label is, none, meant-label p.label, lt-ltb _ _ few, room) refl
 
-pub short : (version : Version) (bits : ℕ) → bits ≤ width_of version → bits < 2 ^ 63
-short V4 bits le = omega (arith, le)
-short V6 bits le = omega (arith, le)
-
 placed-entry : (kind : Form) (earlier : Earlier) (version : Version) (p : Prefix) → IsPrintedEntry version p → earlier.version ≡ Some version
     → line_entry kind earlier (entry_line version p) ≡ placed_line kind earlier version p.start p.bits p.label
 placed-entry kind earlier version p is decided =
     let word = block_text version p.start p.bits in
     word-line kind earlier word p.label
     (omega (arith, length-append (address_text version p.start) (47 ∷ decimal p.bits)))
-    (high-block version p.start p.bits (short version p.bits is.block.bits)) is.label
+    (high-block version p.start p.bits (omega (arith, short version p.bits is.block.bits))) is.label
     ∙ block-statement kind earlier word p.label (slash-in (address_text version p.start) (decimal p.bits))
     ∙ ap (λ (r : Result BlockOf BlockFault). block_line kind earlier r p.label) (read-block version p is)
     ∙ own-block kind earlier version p.start p.bits p.label decided

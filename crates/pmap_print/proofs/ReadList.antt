@@ -1,8 +1,8 @@
 -- The printed text of a list, read as a list and as a map.
-use Rattle.std.proofs.Common.{◌≡◌, ℕ, ◌+◌, ◌≤◌, ◌==◌, ◌&&◌, ◌∙◌, Bool, true, false, cond, List, [], ◌∷◌, ◌++◌, All, Option, Some, None, Ok, codes, fold, get_or, length, map, refl, sym, ap, subst, arith, IsTrue}
+use Rattle.std.proofs.Common.{◌≡◌, ℕ, ◌+◌, ◌≤◌, ◌==◌, ◌&&◌, ◌∙◌, true, false, List, [], ◌∷◌, ◌++◌, All, Option, Some, None, Ok, codes, fold, get_or, length, map, refl, sym, ap, subst, arith, IsTrue}
 use Rattle.std.specs.List.{AllByRecursion, IsDistinct, list_any}
 use Rattle.std.specs.Option.{ForSome}
-use Rattle.std.proofs.lemmas.Bool.{lt-ltb}
+use Rattle.std.proofs.lemmas.Bool.Decides.{nat_tests}
 use Rattle.std.proofs.lemmas.List.{append_assoc, append-nil, get_or_append_left, get_or_at, length-append, length-map, map-append}
 use Rattle.std.proofs.lemmas.List.Elements.{recursion_from_All}
 use Rattle.std.proofs.lemmas.List.Folds.{list_any_none}
@@ -10,7 +10,7 @@ use Rattle.std.proofs.lemmas.List.Sums.{fold-append}
 use Rattle.std.proofs.lemmas.Map.Keys.{apart_from_distinct}
 use Rattle.prefix_keys.specs.Version.{width_of}
 use Rattle.prefix_keys.specs.declared.version.Version.{Version}
-use Rattle.pmap_text.specs.Label.{has_label, is_label, with_label}
+use Rattle.pmap_text.specs.Label.{is_label, with_label}
 use Rattle.pmap_text.specs.ListModel.{Prefix}
 use Rattle.pmap_text.specs.MapModel.{Label, Mapping}
 use Rattle.pmap_text.specs.Reading.{Decides, Earlier, Entry, Lists, Maps, Names, earlier_of, entries_from, has_room, label_limit, line_entry, mapping_limit}
@@ -44,11 +44,12 @@ pub record HasRead (kind : Form) (version : Version) (name : Option Label) (earl
   pub entries : AreEntries kind version earlier done
   pub table : earlier.table ≡ labels_of done
 
--- the label texts with that of one more entry
-labels-push : (done : List Prefix) (p : Prefix) → labels_of (done ++ p ∷ []) ≡ with_label (labels_of done) p.label
-labels-push done p =
-    ap (fold with_label []) (map-append (λ (r : Prefix). r.label) done (p ∷ []))
-    ∙ fold-append with_label [] (map (λ (r : Prefix). r.label) done) (p.label ∷ [])
+-- the labels of one entry more, and of others after it
+labels-split : (done : List Prefix) (p : Prefix) (ps : List Prefix)
+    → labels_of (done ++ p ∷ ps) ≡ fold with_label (with_label (labels_of done) p.label) (map (λ (r : Prefix). r.label) ps)
+labels-split done p ps =
+    ap (fold with_label []) (map-append (λ (r : Prefix). r.label) done (p ∷ ps))
+    ∙ fold-append with_label [] (map (λ (r : Prefix). r.label) done) (p.label ∷ map (λ (r : Prefix). r.label) ps)
 
 -- one entry more was read
 has_read-added : (kind : Form) (version : Version) (name : Option Label) (earlier : Earlier) (done : List Prefix) (p : Prefix)
@@ -59,7 +60,7 @@ has_read-added form.List version name earlier done p has = record {
   declared = has.declared;
   fallback = has.fallback;
   entries = ap (λ (ps : List Prefix). ps ++ p ∷ []) has.entries;
-  table = ap (λ (t : List Label). with_label t p.label) has.table ∙ sym (labels-push done p);
+  table = ap (λ (t : List Label). with_label t p.label) has.table ∙ sym (labels-split done p []);
 }
 has_read-added form.Map version name earlier done p has = record {
   version_is = rw has.version_is refl;
@@ -68,7 +69,7 @@ has_read-added form.Map version name earlier done p has = record {
   fallback = has.fallback;
   entries = ap (λ (ms : List Mapping). ms ++ mapping_of_prefix (width_of version) p ∷ []) has.entries
       ∙ sym (map-append (mapping_of_prefix (width_of version)) done (p ∷ []));
-  table = ap (λ (t : List Label). with_label t p.label) has.table ∙ sym (labels-push done p);
+  table = ap (λ (t : List Label). with_label t p.label) has.table ∙ sym (labels-split done p []);
 }
 
 has_read-push : (kind : Form) (version : Version) (name : Option Label) (es : List Entry) (done : List Prefix) (p : Prefix)
@@ -94,19 +95,7 @@ fold-length table [] = omega arith
 fold-length table (x ∷ xs) = omega (arith, length-with_label table x, fold-length (with_label table x) xs)
 
 label-room : (table : List Label) (x : Label) → length (with_label table x) ≤ label_limit → has_room table x ≡ true
-label-room table x few = by (has_label table x) refl
-  where
-    by : (b : Bool) → has_label table x ≡ b → has_room table x ≡ true
-    by true e = rw e refl
-    by false e =
-        let more : length (table ++ x ∷ []) ≤ label_limit = subst (λ b. length (cond b table (table ++ x ∷ [])) ≤ label_limit) e few in
-        rw e (lt-ltb (length table) label_limit (omega (arith, more, length-append table (x ∷ []))))
-
-labels-split : (done : List Prefix) (p : Prefix) (ps : List Prefix)
-    → labels_of (done ++ p ∷ ps) ≡ fold with_label (with_label (labels_of done) p.label) (map (λ (r : Prefix). r.label) ps)
-labels-split done p ps =
-    ap (fold with_label []) (map-append (λ (r : Prefix). r.label) done (p ∷ ps))
-    ∙ fold-append with_label [] (map (λ (r : Prefix). r.label) done) (p.label ∷ map (λ (r : Prefix). r.label) ps)
+label-room table x few = grind (arith, nat_tests, length-append table (x ∷ []))
 
 entry-room : (done : List Prefix) (p : Prefix) (ps : List Prefix) → length (labels_of (done ++ p ∷ ps)) ≤ label_limit → has_room (labels_of done) p.label ≡ true
 entry-room done p ps few =

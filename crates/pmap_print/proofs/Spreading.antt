@@ -1,7 +1,7 @@
 -- How the fields at the beginning of a text are moved to their columns, from the last to the first.
 use Rattle.std.proofs.Common.{ℕ, suc, ◌≡◌, ◌+◌, ◌-◌, ◌<◌, ◌≤◌, ◌∙◌, List, [], ◌∷◌, ◌++◌, length, map, take, drop, get_or, replicate, ap, sym, subst, refl, arith, append_assoc}
 use Rattle.std.specs.Prelude.{◌%◌, filter, slice_index}
-use Rattle.std.proofs.lemmas.Grind.{flat_map-append}
+use Rattle.std.proofs.lemmas.Grind.{common_steps}
 use Rattle.std.proofs.lemmas.List.{append-nil, length-append, length-replicate, length-take-le, map_more, take-append-drop, take_at, drop_at, take_more, get_or-map, length-map}
 use Rattle.pmap_print.specs.Columns.{CanSpread, is_long, joined, noted, spread}
 use Rattle.pmap_print.specs.declared.columns.Columns.{Columns}
@@ -64,8 +64,7 @@ module _ (texts : List Text) (widths : List ℕ) (i : ℕ) (inside : i < length 
   joined-next : joined (take (i + 1) texts) ≡ joined (take i texts) ++ last
   unfolding last
   joined-next =
-      ap joined (take_more texts i [] inside) ∙ flat_map-append (λ text. text) (take i texts) (last ∷ [])
-      ∙ ap (λ (text : Text). joined (take i texts) ++ text) (append-nil last)
+      rw (take_more texts i [] inside) (grind (arith, common_steps))
 
   spread-next : spread widths 0 (take (i + 1) texts) ≡ spread widths 0 (take i texts) ++ filled width last
   unfolding last width

@@ -4,7 +4,7 @@ use Rattle.std.proofs.lemmas.List.{append-nil}
 use Rattle.std.specs.List.{flat_map}
 use Rattle.std.specs.Option.{ForSome}
 use Rattle.std.proofs.lemmas.Bool.{both_ways, cases_lt, eq-eqb}
-use Rattle.std.proofs.lemmas.Grind.{flat_map-append}
+use Rattle.std.proofs.lemmas.Grind.{common_steps}
 use Rattle.std.proofs.lemmas.List.Folds.{flat_map-map}
 use Rattle.std.proofs.lemmas.Bool.{eqb-true}
 use Rattle.std.proofs.lemmas.Nat.{pow_pos}
@@ -18,7 +18,7 @@ use Rattle.pmap_text.specs.Stretches.{AreLabelsBelow, HasEveryAddress, Stretches
 use Rattle.pmap_text.specs.declared.label.LabelId.{LabelId}
 use Rattle.pmap_text.proofs.Orders.{known_text}
 use Rattle.pmap_text.proofs.Ranges.{last_end, next_first, ordered_at, text_at_index}
-use Rattle.label_trie.specs.Runs.{AreRuns, HasOneLabel}
+use Rattle.label_trie.specs.Runs.{AreRuns, HasOneLabel, Run}
 use Rattle.pmap_print.specs.Runs.{IsRunsText, run_fields, run_text, run_titles}
 use Rattle.pmap_print.specs.Stretches.{IsPrinted, IsPrintedTo, Numbered, is_same_number, run_of, stretch_view, view_at}
 use Rattle.pmap_print.specs.declared.runs.Stretch.{Stretch}
@@ -80,15 +80,17 @@ pub printed_joined : (f : ℕ → Option Label) (table : List Label) (v : Versio
     → IsPrinted f table v end before out s → IsPrinted f table v end before out (record s { high = high })
 printed_joined f table v end high before out s is = record { runs = is.runs; text = is.text; goes_on = is.goes_on }
 
--- if the next stretch has another label, the run is printed
+text_more : (v : Version) (before out new : Text) (runs : List Run) (run : Run) → out ≡ before ++ flat_map (run_text v) runs → new ≡ out ++ run_text v run
+    → new ≡ before ++ flat_map (run_text v) (runs ++ run ∷ [])
+text_more v before out new runs run so_far text = grind (arith, common_steps)
+
+-- one that is printed, as the next has another label
 pub printed_more : (f : ℕ → Option Label) (table : List Label) (v : Version) (end : ℕ) (before out new : Text) (s t : Numbered)
     → IsPrinted f table v end before out s → new ≡ out ++ run_text v (run_of table s) → HasOneLabel f (run_of table s) → t.low ≡ s.high + 1
     → (run_of table s).label ≢ (run_of table t).label → IsPrinted f table v end before new t
 printed_more f table v end before out new s t is text one next other = record {
   runs = is.runs ++ run_of table s ∷ [];
-  text = text ∙ ap (λ (x : Text). x ++ run_text v (run_of table s)) is.text ∙ append_assoc before (flat_map (run_text v) is.runs) (run_text v (run_of table s))
-      ∙ ap (λ (x : Text). before ++ x) (sym (flat_map-append (run_text v) is.runs (run_of table s ∷ [])
-      ∙ ap (λ (x : Text). flat_map (run_text v) is.runs ++ x) (append-nil (run_text v (run_of table s)))));
+  text = text_more v before out new is.runs (run_of table s) is.text text;
   goes_on = λ high rest are. subst (AreRuns f 0 end) (sym (append_assoc is.runs (run_of table s ∷ []) (run_of table (record t { high = high }) ∷ rest)))
       (is.goes_on s.high (run_of table (record t { high = high }) ∷ rest) (
         refl,
@@ -107,9 +109,7 @@ printed_last f table v before out new s is text one end title =
     record {
       runs = runs;
       are = is.goes_on s.high [] (refl, one, tt, end);
-      is = text ∙ ap (λ (x : Text). x ++ run_text v (run_of table s)) is.text ∙ append_assoc before (flat_map (run_text v) is.runs) (run_text v (run_of table s))
-          ∙ ap (λ (x : Text). before ++ x) (sym (flat_map-append (run_text v) is.runs (run_of table s ∷ [])
-          ∙ ap (λ (x : Text). flat_map (run_text v) is.runs ++ x) (append-nil (run_text v (run_of table s)))))
+      is = text_more v before out new is.runs (run_of table s) is.text text
           ∙ ap (λ (x : Text). x ++ flat_map (run_text v) runs) title
           ∙ ap (λ (x : Text). line_text run_titles ++ x) (sym (flat_map-map line_text (run_fields v) runs));
     }

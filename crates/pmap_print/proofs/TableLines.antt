@@ -1,9 +1,8 @@
 -- One more line of a table.
-use Rattle.std.proofs.Common.{ℕ, Bool, true, ◌≡◌, ◌∙◌, List, [], ◌∷◌, ◌++◌, Option, Some, None, is_some, option_map, unwrap_or, length, ap, sym, subst, refl}
+use Rattle.std.proofs.Common.{arith, ℕ, Bool, true, ◌≡◌, ◌∙◌, List, [], ◌∷◌, ◌++◌, Option, Some, None, is_some, option_map, unwrap_or, length, ap, sym, subst, refl}
 use Rattle.std.specs.List.{flat_map}
 use Rattle.std.specs.Option.{ForSome}
-use Rattle.std.proofs.lemmas.Grind.{flat_map-append}
-use Rattle.std.proofs.lemmas.List.{append-nil}
+use Rattle.std.proofs.lemmas.Grind.{common_steps}
 use Rattle.flow_rows.specs.Row.{RowView}
 use Rattle.pmap_print.specs.declared.labels.RowLabels.{RowLabels}
 use Rattle.pmap_print.specs.declared.columns.Columns.{Columns}
@@ -13,13 +12,15 @@ use Rattle.pmap_print.specs.Parts.{column_count}
 use Rattle.pmap_print.specs.Rows.{label_texts, row_line}
 use Rattle.pmap_print.specs.Table.{Line, Text, line_text}
 
+text_added : (old new : Text) (lines : List Line) (line : Line) → old ≡ flat_map line_text lines → new ≡ old ++ line_text line
+    → new ≡ flat_map line_text (lines ++ line ∷ [])
+text_added old new lines line so_far text = grind (arith, common_steps)
+
 pub line_printed : (count : ℕ) (lines : List Line) (line : Line) (old new : Table) → IsTable count lines old
     → new.text.items ≡ old.text.items ++ line_text line → ForSome new.columns (IsNoted count (lines ++ line ∷ []))
     → IsTable count (lines ++ line ∷ []) new
 line_printed count lines line old new is text noted = record {
-  text =
-      text ∙ ap (λ (l : Text). l ++ line_text line) is.text
-      ∙ ap (λ (l : Text). flat_map line_text lines ++ l) (sym (append-nil (line_text line))) ∙ sym (flat_map-append line_text lines (line ∷ []));
+  text = text_added old.text.items new.text.items lines line is.text text;
   noted = noted;
 }
 

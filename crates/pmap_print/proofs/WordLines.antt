@@ -1,8 +1,9 @@
--- A printed line of a word and a label is read as its content, and its words are these two.
-use Rattle.std.proofs.Common.{◌≡◌, ℕ, ◌+◌, ◌-◌, ◌^◌, ◌<◌, ◌≤◌, ◌==◌, ◌&&◌, ◌∙◌, Bool, true, false, not, cond, List, [], ◌∷◌, ◌++◌, All, drop, length, get_or, take, nat_le, nat_lt, refl, sym, ap, subst, arith, one-add}
+-- A printed line of a word and a label, as it is read: its content is itself, and its words are these two.
+use Rattle.std.proofs.Common.{◌≡◌, ℕ, ◌+◌, ◌-◌, ◌^◌, ◌<◌, ◌≤◌, ◌==◌, ◌∙◌, Bool, true, false, not, cond, List, [], ◌∷◌, ◌++◌, All, drop, length, get_or, take, nat_le, refl, sym, ap, subst, arith, one-add}
 use Rattle.std.specs.Fmt.{decimal, digit_glyph, digits}
-use Rattle.std.specs.List.{before_first, list_all, position_or_len, suffix_len}
-use Rattle.std.proofs.lemmas.Bool.{and_parts, both_ways, leb-true, ne_eqb, not-true}
+use Rattle.std.specs.List.{before_first, position_or_len, suffix_len}
+use Rattle.std.proofs.lemmas.Bool.Decides.{nat_tests}
+use Rattle.std.proofs.lemmas.Bool.{both_ways, ne_eqb}
 use Rattle.std.proofs.lemmas.List.{drop_at, get_or-append-add, get_or_append_left, get_or_at, length-append, take_all, take_at}
 use Rattle.std.proofs.lemmas.List.Elements.{All-append, All-cons, All-drop, All-head, All-nil, All-tail, All-take, All-weaker}
 use Rattle.std.proofs.lemmas.List.Sums.{AllPass-from_list_all, position_or_len_is, suffix_len-take_no}
@@ -61,29 +62,18 @@ pub record LabelParts (label : Text) : Type 0 where
 
 pub label-parts : (label : Text) → is_label label ≡ true → LabelParts label
 label-parts label is =
-    let a = and_parts (nat_le 1 (length label)) (nat_le (length label) 255 && (list_all is_label_byte label && (not (is_blank (get_or label 0 0)) && not (is_blank (get_or label (length label - 1) 0))))) is in
-    let b = and_parts (nat_le (length label) 255) (list_all is_label_byte label && (not (is_blank (get_or label 0 0)) && not (is_blank (get_or label (length label - 1) 0)))) a.1 in
-    let c = and_parts (list_all is_label_byte label) (not (is_blank (get_or label 0 0)) && not (is_blank (get_or label (length label - 1) 0))) b.1 in
-    let d = and_parts (not (is_blank (get_or label 0 0))) (not (is_blank (get_or label (length label - 1) 0))) c.1 in
     record {
-      some = omega (arith, leb-true 1 (length label) a.0);
-      bytes = AllPass-from_list_all is_label_byte label c.0;
-      first = not-true _ d.0;
-      last = not-true _ d.1;
+      some = grind (arith, nat_tests);
+      bytes = AllPass-from_list_all is_label_byte label (grind (arith, nat_tests));
+      first = grind (arith, nat_tests);
+      last = grind (arith, nat_tests);
     }
 
--- a byte of a label is no line feed and begins no comment
-label_byte-feed : (b : ℕ) → is_label_byte b ≡ true → (b == 10) ≡ false
-label_byte-feed b is = ne_eqb b 10 (λ e. both_ways false refl (subst (λ x. is_label_byte x ≡ true) e is))
-
-label_byte-hash : (b : ℕ) → is_label_byte b ≡ true → (b == 35) ≡ false
-label_byte-hash b is = ne_eqb b 35 (λ e. both_ways false refl (subst (λ x. is_label_byte x ≡ true) e is))
-
-pub label-lacks_feed : (label : Text) → is_label label ≡ true → Lacks 10 label
-label-lacks_feed label is = All-weaker (λ b. is_label_byte b ≡ true) (λ b. (b == 10) ≡ false) label_byte-feed label (label-parts label is).bytes
-
-label-lacks_hash : (label : Text) → is_label label ≡ true → Lacks 35 label
-label-lacks_hash label is = All-weaker (λ b. is_label_byte b ≡ true) (λ b. (b == 35) ≡ false) label_byte-hash label (label-parts label is).bytes
+-- a byte that no label has, such as a line feed
+label-lacks : (c : ℕ) → is_label_byte c ≡ false → (label : Text) → is_label label ≡ true → Lacks c label
+label-lacks c never label is =
+    All-weaker (λ b. is_label_byte b ≡ true) (λ b. (b == c) ≡ false)
+    (λ b yes. ne_eqb b c (λ e. both_ways (is_label_byte c) never (subst (λ x. is_label_byte x ≡ true) e yes))) label (label-parts label is).bytes
 
 -- no byte of a printed word is below the hyphen, so none ends a word or a line or begins a comment
 pub high-other : (c b : ℕ) → c < 45 → 45 ≤ b → (b == c) ≡ false
@@ -97,17 +87,14 @@ module _ (word label : Text) (some : 0 < length word) (high : All (λ b. 45 ≤ 
   no_blank : All (λ b. is_blank b ≡ false) word
   no_blank = All-weaker (λ b. 45 ≤ b) (λ b. is_blank b ≡ false) high-blank word high
 
-  pub line-lacks_feed : Lacks 10 (word ++ 32 ∷ label)
-  line-lacks_feed =
-      All-append (λ b. (b == 10) ≡ false) word (32 ∷ label)
-      (All-weaker (λ b. 45 ≤ b) (λ b. (b == 10) ≡ false) (λ b h. high-other 10 b (omega arith) h) word high)
-      (All-cons (λ b. (b == 10) ≡ false) 32 label refl (label-lacks_feed label is))
+  line-lacks : (c : ℕ) → c < 45 → (32 == c) ≡ false → is_label_byte c ≡ false → Lacks c (word ++ 32 ∷ label)
+  line-lacks c low space never =
+      All-append (λ b. (b == c) ≡ false) word (32 ∷ label)
+      (All-weaker (λ b. 45 ≤ b) (λ b. (b == c) ≡ false) (λ b h. high-other c b low h) word high)
+      (All-cons (λ b. (b == c) ≡ false) 32 label space (label-lacks c never label is))
 
-  line-lacks_hash : Lacks 35 (word ++ 32 ∷ label)
-  line-lacks_hash =
-      All-append (λ b. (b == 35) ≡ false) word (32 ∷ label)
-      (All-weaker (λ b. 45 ≤ b) (λ b. (b == 35) ≡ false) (λ b h. high-other 35 b (omega arith) h) word high)
-      (All-cons (λ b. (b == 35) ≡ false) 32 label refl (label-lacks_hash label is))
+  pub line-lacks_feed : Lacks 10 (word ++ 32 ∷ label)
+  line-lacks_feed = line-lacks 10 (omega arith) refl refl
 
   word_at : position_or_len is_blank (word ++ 32 ∷ label) ≡ length word
   word_at = first_behind is_blank word label 32 no_blank refl
@@ -142,18 +129,14 @@ module _ (word label : Text) (some : 0 < length word) (high : All (λ b. 45 ≤ 
   pub line-content : content_of (word ++ 32 ∷ label) ≡ word ++ 32 ∷ label
   line-content =
       let whole : before_first (λ b. b == 35) (word ++ 32 ∷ label) ≡ word ++ 32 ∷ label =
-      ap (λ n. take n (word ++ 32 ∷ label)) (no_first (λ b. b == 35) (word ++ 32 ∷ label) line-lacks_hash)
+      ap (λ n. take n (word ++ 32 ∷ label)) (no_first (λ b. b == 35) (word ++ 32 ∷ label) (line-lacks 35 (omega arith) refl refl))
       ∙ take_all (length (word ++ 32 ∷ label)) (word ++ 32 ∷ label) (omega arith) in
       ap (λ t. trim_end (trim_start t)) whole ∙ ap trim_end (begins word (32 ∷ label) some high)
       ∙ trim_end-same (word ++ 32 ∷ label) (omega (arith, some, length-append word (32 ∷ label))) ends
 
 -- no byte of a printed block is below the hyphen
 glyph-high : (d : ℕ) → 45 ≤ digit_glyph false d
-glyph-high d = by (nat_lt d 10)
-  where
-    by : (b : Bool) → 45 ≤ cond b (48 + d) (87 + d)
-    by true = omega arith
-    by false = omega arith
+glyph-high d = grind (arith, nat_tests)
 
 high-digits : (base n : ℕ) → 2 ≤ base → n < 2 ^ 63 → All (λ b. 45 ≤ b) (digits base false n)
 high-digits base n low small = All-digits base low (λ b. 45 ≤ b) (λ d h. glyph-high d) n small

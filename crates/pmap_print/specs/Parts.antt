@@ -1,9 +1,8 @@
--- How the lines of rows are printed, one by one.
-use Rattle.std.specs.Prelude.{ℕ, List, [], ◌∷◌, ◌++◌, Bool, Option, None, decimal, option_map, slice_index_or, if◌then◌else◌}
-use Rattle.flow_rows.specs.Row.{RowView}
+-- How the lines of rows come about, one by one.
+use Rattle.std.specs.Prelude.{ℕ, List, [], ◌∷◌, Bool, Option, None, decimal, option_map, slice_index_or, if◌then◌else◌}
 use Rattle.flow_uniq.specs.declared.totals.Totals.{Totals}
 use Rattle.pmap_print.specs.Rows.{LabelTexts}
-use Rattle.pmap_print.specs.Table.{Line, Text}
+use Rattle.pmap_print.specs.Table.{Line}
 
 -- the number of columns, with labels or without
 abbrev pub column_count : Bool → ℕ
@@ -12,17 +11,6 @@ column_count labelled = if labelled then 12 else 10
 -- the labels of the row at an index, if labels are given
 abbrev pub labels_at : Option (List LabelTexts) → ℕ → Option LabelTexts
 labels_at labels index = option_map (λ texts. slice_index_or texts index (None, None)) labels
-
--- the fields of a row after its two addresses
-abbrev pub number_fields : RowView → Line
-number_fields r =
-    decimal r.sport ∷ decimal r.dport ∷ decimal r.protocol ∷ decimal r.flags ∷ decimal r.packets ∷ decimal r.octets
-    ∷ decimal r.start_ms ∷ decimal r.end_ms ∷ []
-
--- fields, each after a `|`, followed by a text
-abbrev pub barred : Line → Text → Text
-barred [] rest = rest
-barred (field ∷ fields) rest = 124 ∷ (field ++ barred fields rest)
 
 -- the fields of the totals of a group
 abbrev pub total_fields : Totals → Line

@@ -1,18 +1,19 @@
 //! The printed text of flow rows.
 ghost use Rattle.std.specs.Prelude.{◌≡◌, ℕ, ◌+◌, ◌<◌, ◌≤◌, List, [], ◌∷◌, ◌++◌, IfOk, OnOk, drop, is_some, length, map, option_map, take, unwrap_or};
 ghost use Rattle.std.specs.Fmt.{decimal};
+ghost use Rattle.std.specs.List.{join_with_byte};
 ghost use Rattle.std.specs.Option.{ForSome};
 ghost use Rattle.flow_rows.specs.Row.{row_view};
 ghost use Rattle.pmap_print.specs.Columns.{has_columns, IsTable, sizes};
-ghost use Rattle.pmap_print.specs.Parts.{barred, column_count, labels_at, number_fields};
-ghost use Rattle.pmap_print.specs.Rows.{given_labels, label_fields, label_texts, row_line, rows_text, title_line};
+ghost use Rattle.pmap_print.specs.Parts.{column_count, labels_at};
+ghost use Rattle.pmap_print.specs.Rows.{given_labels, label_fields, label_texts, row_fields, row_line, rows_text, title_line};
 ghost use Rattle.pmap_print.specs.Table.{Line, line_text};
 
 use crate::labels::RowLabels;
 use crate::table::Table;
 use flow_rows::Row;
 use itoa::write_digits;
-use prefix_keys::print_addr;
+use prefix_keys::write_addr;
 use std::alloc::{AllocError, Global};
 
 // The number of columns of rows, without labels and with them.
@@ -20,8 +21,9 @@ const COLUMNS: usize = 10;
 
 const COLUMNS_WITH_LABELS: usize = 12;
 
-// The most bytes that the eight numbers of a row, each after a `|`, and the byte after them take.
-const NUMBERS: usize = 169;
+// The addresses of a row, the `|` between them, its eight numbers, each after a `|`, and the byte after them take at
+// most so many bytes.
+const LINE: usize = 250;
 
 // The lengths of the fields of the header, each with the byte that ends it.
 const TITLE_LENGTHS: [usize; COLUMNS_WITH_LABELS] = [4, 4, 6, 6, 6, 6, 8, 6, 6, 6, 10, 10];
@@ -53,15 +55,20 @@ fn write_number(number: u64, buf: &mut [u8], end: usize) -> usize
     at
 }
 
-// Appends the numbers of a row, each after a `|`, and then the byte `last`. Returns the lengths of the numbers, each
-// with the byte after it.
+// Appends the fields of a row with `|` between, and then a byte. Returns the lengths of the fields, each with the byte
+// after it, and 0 for each label.
 #[inline(always)]
-fn print_numbers(out: &mut Vec<u8>, row: &Row, last: u8) -> Result<[usize; 8], AllocError>
-    ensures text { OnOk result (out.new.items ≡ out.old.items ++ barred (number_fields (row_view row.now)) (last ∷ [])) }
-    ensures lengths { IfOk result (λ lengths. lengths ≡ sizes (number_fields (row_view row.now))) }
+fn print_fields(
+    out: &mut Vec<u8>,
+    row: &Row,
+    last: u8,
+) -> Result<[usize; COLUMNS_WITH_LABELS], AllocError>
+    ensures text { OnOk result (out.new.items
+        ≡ out.old.items ++ (join_with_byte 124 (row_fields (row_view row.now)) ++ last ∷ [])) }
+    ensures lengths { IfOk result (λ lengths. lengths ≡ sizes (row_fields (row_view row.now)) ++ 0 ∷ 0 ∷ []) }
 {
-    let mut line = [0; NUMBERS];
-    let last_at = NUMBERS - 1;
+    let mut line = [0; LINE];
+    let last_at = LINE - 1;
     line[last_at] = last;
     let end = write_number(row.end_ms, &mut line, last_at);
     let start = write_number(row.start_ms, &mut line, end);
@@ -71,8 +78,13 @@ fn print_numbers(out: &mut Vec<u8>, row: &Row, last: u8) -> Result<[usize; 8], A
     let protocol = write_number(u64::from(row.protocol), &mut line, flags);
     let dport = write_number(u64::from(row.dport), &mut line, protocol);
     let sport = write_number(u64::from(row.sport), &mut line, dport);
-    out.extend_from_slice(&line[sport..])?;
+    let dst = write_addr(row.dst, &mut line, sport) - 1;
+    line[dst] = b'|';
+    let src = write_addr(row.src, &mut line, dst);
+    out.extend_from_slice(&line[src..])?;
     Ok([
+        dst - src + 1,
+        sport - dst,
         dport - sport,
         protocol - dport,
         flags - protocol,
@@ -81,6 +93,8 @@ fn print_numbers(out: &mut Vec<u8>, row: &Row, last: u8) -> Result<[usize; 8], A
         start - octets,
         end - start,
         last_at - end,
+        0,
+        0,
     ])
 }
 
@@ -115,29 +129,14 @@ fn print_row(
     ensures lengths { IfOk result (λ lengths. take (column_count (is_some labels.entry)) lengths
         ≡ sizes (row_line (row_view row.now) (option_map label_texts labels.entry))) }
 {
-    let begin = out.len();
-    print_addr(out, row.src)?;
-    out.push(b'|')?;
-    let second = out.len();
-    print_addr(out, row.dst)?;
-    let src = second - begin;
-    let dst = out.len() - second + 1;
-    match labels {
-        None => {
-            let n = print_numbers(out, row, b'\n')?;
-            Ok([
-                src, dst, n[0], n[1], n[2], n[3], n[4], n[5], n[6], n[7], 0, 0,
-            ])
-        }
-        Some(labels) => {
-            let n = print_numbers(out, row, b'|')?;
-            print_labels(out, labels)?;
-            let (src_label, dst_label) = (label_length(labels.src), label_length(labels.dst));
-            Ok([
-                src, dst, n[0], n[1], n[2], n[3], n[4], n[5], n[6], n[7], src_label, dst_label,
-            ])
-        }
+    let last = if labels.is_some() { b'|' } else { b'\n' };
+    let mut lengths = print_fields(out, row, last)?;
+    if let Some(labels) = labels {
+        print_labels(out, labels)?;
+        lengths[COLUMNS] = label_length(labels.src);
+        lengths[COLUMNS + 1] = label_length(labels.dst);
     }
+    Ok(lengths)
 }
 
 // Returns the number of columns, with labels or without.

@@ -97,23 +97,24 @@ fn write_colon(value: u128, buf: &mut [u8], end: usize) -> usize
     write_groups(&groups[..start], buf, at - 2)
 }
 
-// Writes the text of an address so that it ends at offset `end`, and returns the offset of its start.
+/// Writes the text of an address so that it ends at offset `end`, and returns the offset of its start: four decimal
+/// numbers separated by points, or eight hexadecimal groups in which `::` replaces the longest run of two or more zeros
+/// (RFC 5952, section 4). Bytes before the start may be overwritten.
 #[inline(always)]
-fn write_address(version: Version, value: u128, buf: &mut [u8], end: usize) -> usize
+pub fn write_addr(addr: Addr, buf: &mut [u8], end: usize) -> usize
     requires room { 40 ≤ end }
     requires within { end ≤ length buf.old }
     ensures start { result ≤ end }
     ensures room { end ≤ result + 40 }
-    ensures written { drop result buf.new ≡ address_text version value ++ drop end buf.old }
+    ensures written { drop result buf.new ≡ address_text addr.version addr.value ++ drop end buf.old }
 {
-    match version {
-        Version::V4 => write_dotted(value, buf, end),
-        Version::V6 => write_colon(value, buf, end),
+    match addr.version {
+        Version::V4 => write_dotted(addr.value, buf, end),
+        Version::V6 => write_colon(addr.value, buf, end),
     }
 }
 
-/// Appends the text of an address: four decimal numbers separated by points, or eight hexadecimal groups in which `::`
-/// replaces the longest run of two or more zeros (RFC 5952, section 4).
+/// Appends the text of an address, as [`write_addr`] writes it.
 ///
 /// # Errors
 ///
@@ -123,7 +124,7 @@ pub fn print_addr(out: &mut Vec<u8>, addr: Addr) -> Result<(), AllocError>
     ensures err { OnErr result (out.new.items ≡ out.old.items) }
 {
     let mut bytes = [0; CAPACITY];
-    let start = write_address(addr.version, addr.value, &mut bytes, CAPACITY);
+    let start = write_addr(addr, &mut bytes, CAPACITY);
     out.extend_from_slice(&bytes[start..])
 }
 
@@ -140,6 +141,6 @@ pub fn print_block(out: &mut Vec<u8>, block: &Block) -> Result<(), AllocError>
     let mut bytes = [0; CAPACITY];
     let at = write_octet(block.len as u16, &mut bytes, CAPACITY) - 1;
     bytes[at] = b'/';
-    let at = write_address(block.version, block.value, &mut bytes, at);
+    let at = write_addr(block.low(), &mut bytes, at);
     out.extend_from_slice(&bytes[at..])
 }

@@ -9,11 +9,7 @@ fn glyph(digit: u16) -> u8
     requires { digit < 16 }
     ensures { result ≡ digit_glyph false digit }
 {
-    if digit < 10 {
-        b'0' + digit as u8
-    } else {
-        b'a' + (digit - 10) as u8
-    }
+    b"0123456789abcdef"[digit as usize]
 }
 
 /// Writes a number below 256 in decimal so that it ends at offset `end`, and returns the offset of its start. All three

@@ -1,6 +1,5 @@
 use Rattle.std.proofs.Common.{false, option_map}
-use Rattle.flow_filter.specs.Cut.{size_of}
-use Rattle.flow_filter.specs.Texts.{number_list, number_range}
+use Rattle.flow_filter.specs.Texts.{number_list, number_range, size_of}
 use Rattle.flow_filter.proofs.Listed.{IsReadSoFar}
 use Rattle.flow_filter.proofs.options.read_ranges.Given as goal
 

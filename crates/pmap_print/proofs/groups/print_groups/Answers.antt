@@ -1,30 +1,32 @@
-use Rattle.std.proofs.Common.{ℕ, ◌≡◌, ◌+◌, ◌∙◌, All, Bool, List, [], ◌∷◌, None, Some, ap, arith, get_or, length, map, option_map, slice_get, subst, sym, true}
+use Rattle.std.proofs.Common.{ℕ, ◌≡◌, ◌+◌, ◌∙◌, All, Bool, List, [], ◌∷◌, None, Some, ap, arith, get_or, length, map, option_map, slice_get, subst, sym}
 use Rattle.std.specs.Prelude.{IfOk}
+use Rattle.std.specs.List.Sorted.{IsPermutation}
+use Rattle.std.proofs.lemmas.List.Sorted.{All-permutation}
 use Rattle.std.proofs.lemmas.List.{length-map, take_all}
 use Rattle.flow_uniq.specs.declared.field.KeyField.{KeyField}
 use Rattle.flow_uniq.specs.declared.group.Group.{Group}
 use Rattle.flow_uniq.specs.Groups.{GroupModel}
 use Rattle.flow_uniq.specs.Kept.{group_model}
-use Rattle.flow_uniq.specs.Sorted.{shown_groups, sorted_groups}
+use Rattle.flow_uniq.specs.Sorted.{shown_groups}
 use Rattle.flow_uniq.proofs.Listing.{none_past}
 use Rattle.pmap_print.specs.Columns.{IsTable, has_columns}
 use Rattle.pmap_print.specs.Groups.{group_fields, group_lines, group_titles}
 use Rattle.pmap_print.specs.Table.{Line, table_text}
-use Rattle.pmap_print.proofs.GroupLines.{first_lines, line_added, listed_at, parts_at, shown_all}
+use Rattle.pmap_print.proofs.GroupLines.{first_lines, line_added, listed_at, parts_at}
 use Rattle.pmap_print.proofs.groups.print_groups.Goals as goal
 use Rattle.pmap_print.proofs.groups.print_groups.Goals.{in-Some+in_ok-add_group-2, in_default}
 
 -- the keys of the shown groups have `count` parts
 shown_parts : (count : ℕ) (groups : List GroupModel) (shown items : List Group) → All (λ g. length g.key ≡ count) groups
-    → map group_model shown ≡ sorted_groups groups → items ≡ shown → All (λ g. length g.key ≡ count) (map group_model items)
-shown_parts count groups shown items all is same =
-    subst (All (λ (g : GroupModel). length g.key ≡ count)) (sym (ap (map group_model) same ∙ is)) (shown_all count true groups all)
+    → IsPermutation groups (map group_model shown) → items ≡ shown → All (λ g. length g.key ≡ count) (map group_model items)
+shown_parts count groups shown items all moved same =
+    rw same (All-permutation (λ (g : GroupModel). length g.key ≡ count) groups (map group_model shown) moved all)
 
 pub add_group-requires : goal.add_group-requires
 add_group-requires c =
     let items : List Group = c.as_slice-group-items.result.now in
     let all = shown_parts (length c.args.groups.now.fields) c.args.groups.now.groups c.in_ok-shown.shown.items items c.fields.ensures.parts
-    c.in_ok-shown.ensures.value c.as_slice-group-items.ensures.value in (
+    c.in_ok-shown.ensures.permutation c.as_slice-group-items.ensures.value in (
       length c.args.groups.now.fields + 3,
       first_lines c.args.groups.now.fields (map group_model items) c.loop-group.group-index,
       c.loop-group.invariant.lines,
@@ -40,7 +42,7 @@ loop-group-preserved c =
     let items : List Group = c.as_slice-group-items.result.now in
     let i : ℕ = c.loop-group.group-index in
     let at = listed_at items i none c.loop-group-test.true in
-    let all = shown_parts count c.args.groups.now.groups c.in_ok-shown.shown.items items c.fields.ensures.parts c.in_ok-shown.ensures.value
+    let all = shown_parts count c.args.groups.now.groups c.in_ok-shown.shown.items items c.fields.ensures.parts c.in_ok-shown.ensures.permutation
     c.as_slice-group-items.ensures.value in
     record {
       lines =

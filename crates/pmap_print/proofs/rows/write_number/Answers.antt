@@ -1,34 +1,33 @@
-use Rattle.std.proofs.Common.{ℕ, ◌≡◌, ◌+◌, ◌-◌, ◌∙◌, List, ◌∷◌, ap, drop, arith}
+use Rattle.std.proofs.Common.{ℕ, ◌<◌, ◌≤◌, ◌^◌, length, ◌≡◌, ◌+◌, ◌-◌, ◌∙◌, List, ◌∷◌, ap, drop, arith}
+use Rattle.std.specs.Fmt.{decimal}
 use Rattle.std.proofs.lemmas.Fmt.{length-decimal-le}
 use Rattle.std.proofs.lemmas.List.{drop-set}
 use Rattle.pmap_print.proofs.rows.write_number.Goals as goal
 
+short : (n : ℕ) → n < 2 ^ 64 → length (decimal n) ≤ 20
+short n fits = length-decimal-le 20 n (omega arith) (omega (arith, fits)) (omega (arith, fits))
+
 pub write_digits-at-requires : goal.write_digits-at-requires
 write_digits-at-requires c =
-    let short = length-decimal-le 20 c.args.number (omega arith) (omega (arith, c.ranges.number.fits)) (omega (arith, c.ranges.number.fits)) in
-    (omega (arith, short, c.requires.room), c.requires.within)
+    (omega (arith, short c.args.number (omega (arith, c.ranges.number.fits)), c.requires.room), c.requires.within)
 
 pub overflow_sub-at : goal.overflow_sub-at
 overflow_sub-at c =
-    let short = length-decimal-le 20 c.args.number (omega arith) (omega (arith, c.ranges.number.fits)) (omega (arith, c.ranges.number.fits)) in
-    omega (arith, short, c.write_digits-at.ensures.start, c.requires.room)
+    omega (arith, short c.args.number (omega (arith, c.ranges.number.fits)), c.write_digits-at.ensures.start, c.requires.room)
 
 pub returns-clause-room : goal.returns-clause-room
 returns-clause-room c =
-    let short = length-decimal-le 20 c.args.number (omega arith) (omega (arith, c.ranges.number.fits)) (omega (arith, c.ranges.number.fits)) in
-    omega (arith, short, c.write_digits-at.ensures.start, c.requires.room)
+    omega (arith, short c.args.number (omega (arith, c.ranges.number.fits)), c.write_digits-at.ensures.start, c.requires.room)
 
 pub returns-clause-written : goal.returns-clause-written
 returns-clause-written c =
-    let short = length-decimal-le 20 c.args.number (omega arith) (omega (arith, c.ranges.number.fits)) (omega (arith, c.ranges.number.fits)) in
     let at : ℕ = c.write_digits-at.result in
     let buf : List ℕ = c.write_digits-at.new.buf in
-    let next : at - 1 + 1 ≡ at = omega (arith, short, c.write_digits-at.ensures.start, c.requires.room) in
-    drop-set buf (at - 1) 124 (omega (arith, short, c.write_digits-at.ensures.start, c.requires.room, c.requires.within))
+    let next : at - 1 + 1 ≡ at = omega (arith, short c.args.number (omega (arith, c.ranges.number.fits)), c.write_digits-at.ensures.start, c.requires.room) in
+    drop-set buf (at - 1) 124 (omega (arith, short c.args.number (omega (arith, c.ranges.number.fits)), c.write_digits-at.ensures.start, c.requires.room, c.requires.within))
     ∙ ap (λ k. 124 ∷ drop k buf) next
     ∙ ap (λ (text : List ℕ). 124 ∷ text) c.write_digits-at.ensures.written
 
 pub returns-clause-size : goal.returns-clause-size
 returns-clause-size c =
-    let short = length-decimal-le 20 c.args.number (omega arith) (omega (arith, c.ranges.number.fits)) (omega (arith, c.ranges.number.fits)) in
-    omega (arith, short, c.write_digits-at.ensures.start, c.requires.room)
+    omega (arith, short c.args.number (omega (arith, c.ranges.number.fits)), c.write_digits-at.ensures.start, c.requires.room)
