@@ -1,27 +1,25 @@
--- How the result of `parse` follows from the kind of clap's error, or from the entries of its matches.
-use Rattle.std.proofs.Common.{◌≡◌, ◌≢◌, ◌⊎◌, ◌∙◌, ◌||◌, Bool, true, false, List, [], ◌∷◌, Option, Some, None, Result, Ok, Err, refl, sym, ap, ap₂, inl, inr, codes}
-use Rattle.std.specs.Prelude.{IfErr, IfOk, option_map, unwrap_or, if◌then◌else◌}
+-- How the answer of `parse` follows from the kind of clap's error, or from the entries of its matches.
+use Rattle.std.proofs.Common.{◌≡◌, ◌≢◌, ◌⊎◌, ◌∙◌, ◌||◌, Bool, true, false, List, [], ◌∷◌, Option, Some, None, Result, Ok, Err, refl, ap, ap₂, inl, inr, codes}
+use Rattle.std.specs.Prelude.{IfErr, IfOk, ok_or, option_map, unwrap_or, if◌then◌else◌}
 use Rattle.std.specs.List.{list_any}
+use Rattle.std.specs.Result.{result_map_both}
 use Rattle.std.specs.Str.{bytes_eq}
-use Rattle.clap.specs.Words.{IsAmong, Kinds, Row, fault_of, first_of, is_simple, is_simple_and_free, subcommand_name_of, subcommand_of, subcommand_rows_of}
+use Rattle.clap.specs.Words.{IsAmong, Kinds, Row, fault_of, is_simple, is_simple_and_free, subcommand_name_of, subcommand_of, subcommand_rows_of}
 use Rattle.clap.specs.declared.error.kind.ErrorKind.{ErrorKind}
 use Rattle.clap.specs.declared.error.kind.ErrorKind.TheVariants as kind
 use Rattle.clap.specs.declared.parser.ArgMatches.{ArgMatches}
 use Rattle.clap.proofs.OnLiterals.{clap_on_literals}
 use Rattle.prefix_keys.specs.Text.{AddressOf}
 use Rattle.pmap_text.specs.Reading.{◌>>=◌}
-use Rattle.flow_filter.specs.Condition.{Condition, needs_map}
+use Rattle.flow_filter.specs.Condition.{needs_map}
 use Rattle.flow_filter.specs.Words.{filter_of_words}
-use Rattle.flow_filter.specs.declared.fault.FilterFault.{FilterFault}
 use Rattle.flow_uniq.specs.Field.{keys_reading, need_map}
-use Rattle.flow_uniq.specs.declared.fault.KeyFault.{KeyFault}
-use Rattle.flow_uniq.specs.declared.field.KeyField.{KeyField}
 use Rattle.flowlabel.specs.Request.{LabelSource, Request, Text, check, info, recert, request_of}
 use Rattle.flowlabel.specs.Definition.{flowlabel_app}
-use Rattle.flowlabel.specs.Answer.{Answer, Answers, IsAnswer, IsFaultAt, IsFaultOfKind, IsOwnAnswer, IsOwnFault, SaysOnly, address_answer, address_in_rows, answer_of, answer_of_cat, answer_of_label, answer_of_rows, answer_of_shrink, is_help, is_mistake, needed_source, shrunk_asked, shrunk_in_rows, source_answer, sources_in_rows, text_in_rows, IsUnlessMemory, condition_answer, condition_in_rows, with_labels, words_in_rows, answer_of_uniq, fields_answer, fields_in_rows}
+use Rattle.flowlabel.specs.Answer.{Answer, Answers, IsAnswer, IsFaultAt, IsFaultOfKind, IsOwnAnswer, IsOwnFault, address_answer, address_in_rows, answer_of, answer_of_cat, answer_of_label, answer_of_rows, answer_of_shrink, is_help, is_mistake, shrunk_asked, shrunk_in_rows, source_answer, sources_in_rows, text_in_rows, IsUnlessMemory, condition_in_rows, with_labels, words_in_rows, answer_of_uniq, fields_in_rows}
 use Rattle.flowlabel.specs.declared.command.Command.{Command}
 use Rattle.flowlabel.specs.declared.usage.UsageFault.{UsageFault}
-use Rattle.flowlabel.specs.declared.usage.UsageFault.TheVariants.{Refused, NotUtf8, Help, MapTwice, MapMissing, BadAddress, Filter, Key, LabelNeedsMap, CompactAlone, NoMemory}
+use Rattle.flowlabel.specs.declared.usage.UsageFault.TheVariants.{Refused, NotUtf8, Help, MapMissing, Filter, Key, NoMemory}
 
 -- clap's theorems are about definitions such as this one
 pub flowlabel_is_simple : is_simple flowlabel_app ≡ true
@@ -76,7 +74,7 @@ source_own (Some map) None = tt
 source_own None (Some list) = tt
 source_own None None = tt
 
-needed_own : (source : Option LabelSource) → IsOwnAnswer (needed_source source)
+needed_own : (source : Option LabelSource) → IsOwnAnswer (ok_or source MapMissing)
 needed_own None = tt
 needed_own (Some source) = tt
 
@@ -88,12 +86,16 @@ address_own source (Some address) = tt
 label_own : (rows : List Row) → IsOwnAnswer (answer_of_label rows)
 label_own rows =
     then_own (sources_in_rows rows) _ (source_own _ _)
-    (λ found. then_own (needed_source found) _ (needed_own found) (λ labels. address_own labels (address_in_rows rows)))
+    (λ found. then_own (ok_or found MapMissing) _ (needed_own found) (λ labels. address_own labels (address_in_rows rows)))
 
--- `rows` and its parts give neither a refusal of clap's nor help
-condition_own : (r : Result Condition FilterFault) → IsOwnAnswer (condition_answer r)
-condition_own (Ok condition) = tt
-condition_own (Err fault) = tt
+-- and so do `rows` and its parts
+mapped_own : {A F : Type 0} (as_fault : F → UsageFault) → ((fault : F) → IsOwnFault (as_fault fault)) → (r : Result A F)
+    → IsOwnAnswer (result_map_both (λ x. x) as_fault r)
+mapped_own as_fault own (Ok x) = tt
+mapped_own as_fault own (Err fault) = own fault
+
+condition_own : (rows : List Row) → IsOwnAnswer (condition_in_rows rows)
+condition_own rows = mapped_own Filter (λ fault. tt) (filter_of_words (words_in_rows rows))
 
 with_labels_own : (needed : Bool) (source : Option LabelSource) (request : Request) → IsOwnAnswer (with_labels needed source request)
 with_labels_own true None request = tt
@@ -103,24 +105,20 @@ with_labels_own false source request = tt
 rows_own : (rows : List Row) → IsOwnAnswer (answer_of_rows rows)
 rows_own rows =
     then_own (sources_in_rows rows) _ (source_own _ _)
-    (λ source. then_own (condition_in_rows rows) _ (condition_own (filter_of_words (words_in_rows rows))) (λ condition. with_labels_own (needs_map condition) source _))
+    (λ source. then_own (condition_in_rows rows) _ (condition_own rows) (λ condition. with_labels_own (needs_map condition) source _))
 
--- `uniq` and its parts give neither a refusal of clap's nor help
-fields_own : (r : Result (List KeyField) KeyFault) → IsOwnAnswer (fields_answer r)
-fields_own (Ok fields) = tt
-fields_own (Err fault) = tt
-
+-- and so does `uniq`
 uniq_own : (rows : List Row) → IsOwnAnswer (answer_of_uniq rows)
 uniq_own rows =
     then_own (sources_in_rows rows) _ (source_own _ _)
-    (λ source. then_own (condition_in_rows rows) _ (condition_own (filter_of_words (words_in_rows rows)))
-    (λ condition. then_own (fields_in_rows rows) _ (fields_own (keys_reading (text_in_rows (codes "fields") rows)))
+    (λ source. then_own (condition_in_rows rows) _ (condition_own rows)
+    (λ condition. then_own (fields_in_rows rows) _ (mapped_own Key (λ fault. tt) (keys_reading (text_in_rows (codes "fields") rows)))
     (λ fields. with_labels_own (needs_map condition || need_map fields) source _)))
 
 cat_own : (rows : List Row) → IsOwnAnswer (answer_of_cat rows)
 cat_own rows =
     then_own (sources_in_rows rows) _ (source_own _ _)
-    (λ found. then_own (needed_source found) _ (needed_own found) (λ labels. tt))
+    (λ found. then_own (ok_or found MapMissing) _ (needed_own found) (λ labels. tt))
 
 shrunk_own : (certificate compact : Bool) → IsOwnAnswer (shrunk_asked certificate compact)
 shrunk_own false false = tt

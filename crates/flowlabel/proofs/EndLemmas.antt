@@ -1,19 +1,20 @@
--- What the program's result says about its words and its output.
-use Rattle.std.proofs.Common.{◌≡◌, ℕ, Bool, List, Option, Some, None, Result, Ok, Err, false, refl, subst, sym}
-use Rattle.std.specs.Prelude.{IfErr, OnOk, option_map}
+-- What the end of the program says.
+use Rattle.std.proofs.Common.{◌≡◌, ◌∙◌, ℕ, Bool, List, Option, Some, None, Result, Ok, Err, ap, false, refl, subst, sym}
+use Rattle.std.specs.Prelude.{IfErr, OnOk, is_some}
 use Rattle.std.specs.Io.KnownBytes.{Appends, Keeps}
 use Rattle.std.specs.Result.{IsErrAnd}
 use Rattle.flow_io.specs.declared.last_call.LastCall.{LastCall}
 use Rattle.flow_io.specs.WriterStates.{IsUntouched}
 use Rattle.flowlabel.specs.Answer.{Answers}
 use Rattle.flowlabel.specs.Ending.{IsAsked, IsEndOf}
-use Rattle.flowlabel.specs.Opening.{CannotOpenFirst, CannotOpenNamed, CanOpenBefore, name_at}
-use Rattle.flowlabel.specs.Request.{FileNames, Request, Text, files_of}
-use Rattle.flowlabel.specs.Run.{IsFaultOfRun, PrintsThen, is_write_stop}
+use Rattle.flowlabel.specs.Opening.{CannotOpenFirst, CannotOpenNamed, CanOpenBefore, HaveNames, name_at}
+use Rattle.flowlabel.specs.Request.{FileNames, Request, Text, files_of, needs_named}
+use Rattle.flowlabel.specs.Run.{AreNeeded, IsFaultOfRun, PrintsThen, is_write_stop}
 use Rattle.flowlabel.specs.Turns.{Turn}
 use Rattle.flowlabel.specs.declared.fault.RunFault.{RunFault}
-use Rattle.flowlabel.specs.declared.fault.RunFault.TheVariants.{Usage, CannotOpen, CannotRead, CannotWrite, NoMemory, File}
+use Rattle.flowlabel.specs.declared.fault.RunFault.TheVariants.{Usage, CannotOpen, CannotWrite}
 use Rattle.flowlabel.specs.declared.inputs.Inputs.{Inputs}
+use Rattle.flowlabel.proofs.LoadingLemmas.{there_if_named}
 
 -- a `?` passes on the fault of the first file that can't be opened
 pub refused_first : {A R : Type 0} (answers : Text → Option R → Type 0) (names : FileNames) (turn : Turn) (r : Result A RunFault) (fault : RunFault)
@@ -23,7 +24,16 @@ refused_first answers names turn (Ok done) fault is cannot before = absurd is
 refused_first answers names turn (Err other) fault is cannot before =
     subst (λ (f : RunFault). CannotOpenFirst answers names f) (sym is) (turn, cannot, before)
 
--- known bytes stay the same
+-- inputs that have the names of files are those that are needed
+pub named_are_needed : {R : Type 0} (names : FileNames) (inputs : Inputs R) → HaveNames names inputs → AreNeeded (needs_named names) inputs
+named_are_needed names inputs named = record {
+  map = there_if_named inputs.map ∙ ap is_some named.map;
+  list = there_if_named inputs.list ∙ ap is_some named.list;
+  certificate = there_if_named inputs.certificate ∙ ap is_some named.certificate;
+  flows = there_if_named inputs.flows ∙ ap is_some named.flows;
+}
+
+-- known bytes are what they were
 kept : (known : Option (List ℕ)) → Keeps known known
 kept None = tt
 kept (Some bytes) = refl
@@ -53,8 +63,8 @@ module _ {R W : Type 0} (answers : Text → Option R → Type 0) (left : R → O
       → IfErr r (IsFaultOfRun left failed taken last inputs inputs' old new request)
       → IsEndOf answers left failed taken last words old new r
   end_of_run request inputs inputs' new (Ok done) asked ok err = (request, inputs, asked, ok)
-  end_of_run request inputs inputs' new (Err (Usage fault)) asked ok err = absurd err
-  end_of_run request inputs inputs' new (Err (CannotOpen file)) asked ok err = absurd err
+  end_of_run request inputs inputs' new (Err (Usage fault)) asked ok err = absurd err.0
+  end_of_run request inputs inputs' new (Err (CannotOpen file)) asked ok err = absurd err.0
   end_of_run request inputs inputs' new (Err fault) asked ok err = (request, inputs, inputs', asked, err)
 
 -- a fault that a file can't be opened isn't a write fault

@@ -1,14 +1,14 @@
 -- A request has the same outputs under a map text and under a list text whose list labels as the map does: the two
 -- labellings are equal.
-use Rattle.std.proofs.Common.{◌≡◌, ◌⊎◌, ℕ, List, Some, None, sym, subst, inl, inr}
+use Rattle.std.proofs.Common.{◌≡◌, ℕ, List, Some, None, sym, subst, inl, inr}
 use Rattle.std.specs.Prelude.{◌↔◌}
 use Rattle.pmap_text.specs.ListModel.{IsEquivalent, ListModel}
 use Rattle.pmap_text.specs.MapModel.{MapModel}
 use Rattle.pmap_text.specs.Reading.{ReadsList, ReadsMap}
 use Rattle.label_lookup.specs.Labelling.{Labelling, labelling_of_list, labelling_of_map}
 use Rattle.label_lookup.proofs.Labellings.{same_labelling}
-use Rattle.flowlabel.specs.Output.{FileTexts, FlowsThen, IsOutput, ListThen, MapThen, Outcome, Prints, PrintsRuns, ReportsThen, SameUnderEquivalents, label_text, report_of_rows, under, report_of_groups}
-use Rattle.flowlabel.specs.Request.{FromList, FromMap, label, info, rows, cat, uniq}
+use Rattle.flowlabel.specs.Output.{FlowsThen, IsOutput, ListThen, MapThen, Outcome, Prints, PrintsRuns, SameUnderEquivalents, label_text, report_of_rows, report_of_groups}
+use Rattle.flowlabel.specs.Request.{FromList, label, info, rows, cat, uniq}
 
 -- the outcome over a text that is read as a map or a list is that for the map or the list
 of_map : (rest : MapModel → Outcome → Type 0) (text : List ℕ) (m : MapModel) (outcome : Outcome) → ReadsMap text m

@@ -25,12 +25,11 @@ use Rattle.ipfix_read.specs.Message.{MessageView}
 use Rattle.ipfix_read.specs.declared.fault.ReadFault.{ReadFault}
 use Rattle.flow_rows.specs.Counts.{counts_of}
 use Rattle.pmap_print.specs.Info.{info_text}
-use Rattle.pmap_print.specs.List.{list_text}
 use Rattle.pmap_print.specs.Runs.{runs_text}
-use Rattle.flowlabel.specs.Output.{CertificateThen, Checks, FileTexts, FlowsThen, HasOutput, IsOutput, LabelsThen, ListThen, MapThen, Outcome, PrintsCompact, PrintsMinimal, PrintsRuns, Prints, ReadsCertificate, ReportsOf, ReportsThen, label_text, minimal_text, report_of_groups, report_of_rows, shrunk_text}
+use Rattle.flowlabel.specs.Output.{CertificateThen, Checks, FileTexts, FlowsThen, HasOutput, LabelsThen, ListThen, MapThen, Outcome, PrintsCompact, PrintsMinimal, PrintsRuns, Prints, ReportsOf, ReportsThen, label_text, minimal_text, report_of_groups, report_of_rows, shrunk_text}
 use Rattle.flowlabel.specs.declared.bytes_fault.BytesFault.TheVariants.{Map as InMap, List as InList, Flows as InFlows, Certificate as InCertificate, Check as InCheck}
 use Rattle.flowlabel.specs.declared.command.Shrunk.{Shrunk}
-use Rattle.flowlabel.specs.Request.{FromList, FromMap, LabelSource, Request, label, info, rows, cat, shrink, check, uniq, recert}
+use Rattle.flowlabel.specs.Request.{FromList, FromMap, LabelSource, label, info, rows, cat, shrink, check, uniq, recert}
 
 -- some outcome meets the condition
 abbrev Has : (Outcome → Type 0) → Type 0

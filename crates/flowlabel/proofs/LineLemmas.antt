@@ -1,5 +1,5 @@
--- What clap's theorems say about the example command lines, by computation.
-use Rattle.std.proofs.Common.{◌≡◌, ◌∙◌, ◌==◌, ℕ, Bool, true, false, not, List, [], ◌∷◌, Option, Some, None, Result, Ok, Err, refl, sym, ap, codes}
+-- What clap's theorems say of a command line, by computing them at it.
+use Rattle.std.proofs.Common.{◌≡◌, ◌∙◌, ◌==◌, ℕ, Bool, true, false, not, [], ◌∷◌, Option, Some, None, Ok, Err, refl, sym, ap, codes}
 use Rattle.std.specs.Prelude.{unwrap_or}
 use Rattle.clap.specs.Lexer.{short_of}
 use Rattle.clap.specs.Words.{Text}

@@ -1,6 +1,6 @@
 -- How the inputs of a run give its loaded files, and these give the output of its request.
 use Rattle.std.proofs.Common.{◌≡◌, ◌∙◌, ◌⊎◌, ℕ, Bool, List, [], Option, Some, None, Result, Ok, Err, true, false, ◌||◌, refl, sym, ap, subst, inl, inr}
-use Rattle.std.specs.Prelude.{IfErr, is_some, option_and_then}
+use Rattle.std.specs.Prelude.{IfErr, IfSome, is_some, option_and_then}
 use Rattle.std.specs.Result.{IsErrAnd}
 use Rattle.std.specs.Borrow.{Bor}
 use Rattle.pmap_text.specs.MapText.{map_of}
@@ -17,7 +17,7 @@ use Rattle.ipfix_read.specs.declared.fault.ReadFault.{ReadFault}
 use Rattle.label_lookup.specs.Labelling.{Labelling, labelling_of_list, labelling_of_map}
 use Rattle.flowlabel.specs.BytesFault.{is_check_want, is_want_of_memory}
 use Rattle.flowlabel.specs.Faults.{IsInFile}
-use Rattle.flowlabel.specs.Loading.{AreLoaded, ArePresent, ComesOf, Holds, IsCertificateText, IsFaultOfAnswer, IsFirstFault, IsLateFault, IsListText, IsMapText, IsReadIf, labelling_loaded, labelling_of_parts}
+use Rattle.flowlabel.specs.Loading.{AreLoaded, ArePresent, ComesOf, IsCertificateText, IsFaultOfAnswer, IsFirstFault, IsLateFault, IsListText, IsMapText, labelling_loaded, labelling_of_parts}
 use Rattle.flowlabel.specs.Output.{FileTexts, IsOutput, LabelsThen, Outcome, Prints, PrintsRuns, ReportsOf, ReportsThen, label_text, report_of_groups, report_of_rows}
 use Rattle.flowlabel.specs.Request.{FromList, FromMap, LabelSource, Request, Text, files_named, list_in, map_in, needs_named, needs_of, label, info, rows, cat, shrink, check, uniq, recert}
 use Rattle.flowlabel.specs.Run.{AreKeptBehind, AreNeeded, AreReadBefore, HasFailed, HasName, HasText, HaveTexts, IsFaultOfBytes, IsRead, IsStop, any_failed, is_read_stop, name_of, source_failed}
@@ -27,7 +27,7 @@ use Rattle.flowlabel.specs.declared.bytes_fault.BytesFault.TheVariants.{Map as I
 use Rattle.flowlabel.specs.declared.command.Needs.{Needs}
 use Rattle.flowlabel.specs.declared.command.Shrunk.{Shrunk}
 use Rattle.flowlabel.specs.declared.fault.RunFault.{RunFault}
-use Rattle.flowlabel.specs.declared.fault.RunFault.TheVariants.{Usage, CannotOpen, CannotRead, CannotWrite, NoMemory, File}
+use Rattle.flowlabel.specs.declared.fault.RunFault.TheVariants.{CannotRead, NoMemory, File}
 use Rattle.flowlabel.specs.declared.inputs.Inputs.{Inputs}
 use Rattle.flowlabel.specs.declared.inputs.Source.{Source}
 use Rattle.flowlabel.specs.declared.run.loaded.Loaded.{Loaded}
@@ -55,73 +55,60 @@ own_fault bytes text fault (inl none) same other =
     let bad : true ≡ false = subst (λ (f : ReadFault). is_want_of_memory (InFlows f) ≡ false) none other in cc
 own_fault bytes text fault (inr found) same other = subst (λ (b : List ℕ). HasFileFault [] 0 0 b fault) same found
 
--- an input that has a name is there
-named_is_there : {R : Type 0} (input : Option (Source R)) (name : List ℕ) → name_of input ≡ Some name → is_some input ≡ true
-named_is_there None name is = cc
-named_is_there (Some source) name is = refl
+-- an input is there if it has a name
+pub there_if_named : {R : Type 0} (input : Option (Source R)) → is_some input ≡ is_some (name_of input)
+there_if_named None = refl
+there_if_named (Some source) = refl
 
 -- inputs of one name are both there or both absent
 pub there_as : {R : Type 0} (input other : Option (Source R)) → name_of other ≡ name_of input → is_some other ≡ is_some input
-there_as None None is = refl
-there_as None (Some source) is = cc
-there_as (Some source) None is = cc
-there_as (Some source) (Some other) is = refl
+there_as input other is = there_if_named other ∙ ap is_some is ∙ sym (there_if_named input)
 
 or_last : (b : Bool) → (b || false) ≡ b
 or_last true = refl
 or_last false = refl
 
-or_front : (a b : Bool) → (a || b) ≡ false → a ≡ false
-or_front true b e = e
-or_front false b e = refl
-
-or_back : (a b : Bool) → (a || b) ≡ false → b ≡ false
-or_back true b e = cc
-or_back false b e = e
+neither : (a b : Bool) → (a || b) ≡ false → (a ≡ false) × (b ≡ false)
+neither true b e = cc
+neither false b e = (refl, e)
 
 module _ {R : Type 0} (failed : R → Bool) (old : Inputs R) (none : any_failed failed old ≡ false) where
-  no_map_failed : source_failed failed old.map ≡ false
-  no_map_failed = or_front _ _ none
-
-  no_list_failed : source_failed failed old.list ≡ false
-  no_list_failed = or_front _ _ (or_back (source_failed failed old.map) _ none)
-
-  no_certificate_failed : source_failed failed old.certificate ≡ false
-  no_certificate_failed = or_front _ _ (or_back (source_failed failed old.list) _ (or_back (source_failed failed old.map) _ none))
-
-  no_flows_failed : source_failed failed old.flows ≡ false
-  no_flows_failed = or_back (source_failed failed old.certificate) _ (or_back (source_failed failed old.list) _ (or_back (source_failed failed old.map) _ none))
+  none_failed : (source_failed failed old.map ≡ false) × (source_failed failed old.list ≡ false)
+      × (source_failed failed old.certificate ≡ false) × (source_failed failed old.flows ≡ false)
+  none_failed =
+      let (map, later) = neither (source_failed failed old.map) _ none in
+      let (list, last) = neither (source_failed failed old.list) _ later in
+      let (certificate, flows) = neither (source_failed failed old.certificate) _ last in (map, list, certificate, flows)
 
   -- if no reader had failed, the one that was read since decides whether any has
   pub map_tells : (map : Option (Source R)) (b : Bool) → source_failed failed map ≡ b → any_failed failed (record old { map = map }) ≡ b
-  map_tells map b is = rw (is, no_list_failed, no_certificate_failed, no_flows_failed) (or_last b)
+  map_tells map b is = rw (is, none_failed.1, none_failed.2, none_failed.3) (or_last b)
 
   pub list_tells : (map list : Option (Source R)) (b : Bool) → source_failed failed map ≡ false → source_failed failed list ≡ b
       → any_failed failed (record old { map = map; list = list }) ≡ b
-  list_tells map list b first is = rw (first, is, no_certificate_failed, no_flows_failed) (or_last b)
+  list_tells map list b first is = rw (first, is, none_failed.2, none_failed.3) (or_last b)
 
   pub certificate_tells : (map list certificate : Option (Source R)) (b : Bool) → source_failed failed map ≡ false → source_failed failed list ≡ false
       → source_failed failed certificate ≡ b → any_failed failed (record old { map = map; list = list; certificate = certificate }) ≡ b
-  certificate_tells map list certificate b first second is = rw (first, second, is, no_flows_failed) (or_last b)
+  certificate_tells map list certificate b first second is = rw (first, second, is, none_failed.3) (or_last b)
 
   pub flows_tell : (flows : Option (Source R)) (b : Bool) → source_failed failed flows ≡ b → any_failed failed (record old { flows = flows }) ≡ b
-  flows_tell flows b is = rw (no_map_failed, no_list_failed, no_certificate_failed, is) refl
+  flows_tell flows b is = rw (none_failed.0, none_failed.1, none_failed.2, is) refl
 
 module _ {R : Type 0} (left : R → Option (List ℕ)) where
   -- an input from which a value is loaded is read without fault
   pub is_read : {A : Type 0} (turn : Turn) (Reads : List ℕ → A → Type 0) → ((text : List ℕ) (value : A) → Reads text value → IsReadAt turn text)
       → (input : Option (Source R)) (value : Option A) → is_some value ≡ is_some input
-      → ((text : List ℕ) → HasText left input text → Holds Reads text value) → IsRead left turn input
+      → ((text : List ℕ) → HasText left input text → IfSome value (Reads text)) → IsRead left turn input
   is_read turn Reads says None value there holds = tt
   is_read turn Reads says (Some source) (Some value) there holds = λ text told. says text value (holds text told)
   is_read turn Reads says (Some source) None there holds = cc
 
   -- the text of an input that is read without fault is so, if it is needed
   pub is_read_if : (needed : Bool) (turn : Turn) (input : Option (Source R)) (text : List ℕ) → is_some input ≡ needed → IsRead left turn input
-      → HasText left input text → IsReadIf needed turn text
-  is_read_if false turn input text there read told = tt
-  is_read_if true turn (Some source) text there read told = read text told
-  is_read_if true turn None text there read told = cc
+      → HasText left input text → needed ≡ true → IsReadAt turn text
+  is_read_if needed turn (Some source) text there read told is = read text told
+  is_read_if needed turn None text there read told is = cc
 
   -- if each fault of one relation of texts to outcomes is one of another, so is the fault of a run
   pub fault_joins : (failed : R → Bool) (old new : Inputs R) (over over' : FileTexts → Outcome → Type 0)
@@ -144,7 +131,7 @@ module _ {R : Type 0} (left : R → Option (List ℕ)) where
     at_turn turn input at before behind first (File fault) (its, name, says) = (
       subst (λ (t : Turn). HasName (input_at t old) fault.file) (sym its) name,
       subst (λ (t : Turn). AreKeptBehind t old new) (sym its) behind,
-      λ texts have. first texts have (named_is_there (input_at turn old) _ name) fault.fault its says,
+      λ texts have. first texts have (there_if_named (input_at turn old) ∙ ap is_some name) fault.fault its says,
     )
     at_turn turn input at before behind first fault is = absurd is
 
@@ -250,7 +237,7 @@ module _ {R : Type 0} (left : R → Option (List ℕ)) where
 
 -- an outcome for the labels that are loaded for a source is one for the source
 labels_join : (source : LabelSource) (rest : Labelling → Outcome → Type 0) (texts : FileTexts) (outcome : Outcome) (map : Option MapText) (list : Option PrefixList)
-    → is_some map ≡ is_some (map_in source) → is_some list ≡ is_some (list_in source) → Holds IsMapText texts.map map → Holds IsListText texts.list list
+    → is_some map ≡ is_some (map_in source) → is_some list ≡ is_some (list_in source) → IfSome map (IsMapText texts.map) → IfSome list (IsListText texts.list)
     → (labels : Labelling) → labelling_of_parts map list ≡ Some labels → rest labels outcome → LabelsThen source rest texts outcome
 labels_join (FromMap file) rest texts outcome (Some map) list there there' reads reads' labels is comes =
     let same : labels ≡ labelling_of_map (map_of map) = cc in
@@ -262,7 +249,7 @@ labels_join source rest texts outcome map list there there' reads reads' labels 
 
 reports_join : (source : Option LabelSource) (text : Option Labelling → List MessageView → List ℕ) (texts : FileTexts) (outcome : Outcome)
     (map : Option MapText) (list : Option PrefixList) → is_some map ≡ is_some (option_and_then map_in source)
-    → is_some list ≡ is_some (option_and_then list_in source) → Holds IsMapText texts.map map → Holds IsListText texts.list list
+    → is_some list ≡ is_some (option_and_then list_in source) → IfSome map (IsMapText texts.map) → IfSome list (IsListText texts.list)
     → ReportsOf text (labelling_of_parts map list) texts.flows outcome → ReportsThen text source texts outcome
 reports_join None text texts outcome None None there there' reads reads' comes = comes
 reports_join (Some (FromMap file)) text texts outcome (Some map) list there there' reads reads' comes = inr (map_of map, reads, comes)
@@ -282,18 +269,18 @@ output_of (uniq fields source condition sorted columns file) loaded texts outcom
 output_of (cat source) loaded texts outcome there reads (labels, is, comes) =
     labels_join source PrintsRuns texts outcome loaded.map loaded.list there.map there.list reads.map reads.list labels is comes
 output_of (shrink file printed) loaded texts outcome there reads (map, is, comes) =
-    inr (map_of map, subst (λ (x : Option MapText). Holds IsMapText texts.map x) is reads.map, comes)
+    inr (map_of map, subst (λ (x : Option MapText). IfSome x (IsMapText texts.map)) is reads.map, comes)
 output_of (check file other third) loaded texts outcome there reads (map, list, certificate, is, is', is'', comes) = inr (
   map_of map,
-  subst (λ (x : Option MapText). Holds IsMapText texts.map x) is reads.map,
+  subst (λ (x : Option MapText). IfSome x (IsMapText texts.map)) is reads.map,
   inr (
     list_of list,
-    subst (λ (x : Option PrefixList). Holds IsListText texts.list x) is' reads.list,
-    inr (certificate_of certificate, subst (λ (x : Option Certificate). Holds IsCertificateText texts.certificate x) is'' reads.certificate, comes),
+    subst (λ (x : Option PrefixList). IfSome x (IsListText texts.list)) is' reads.list,
+    inr (certificate_of certificate, subst (λ (x : Option Certificate). IfSome x (IsCertificateText texts.certificate)) is'' reads.certificate, comes),
   ),
 )
 output_of (recert file) loaded texts outcome there reads (certificate, is, comes) =
-    inr (certificate_of certificate, subst (λ (x : Option Certificate). Holds IsCertificateText texts.certificate x) is reads.certificate, comes)
+    inr (certificate_of certificate, subst (λ (x : Option Certificate). IfSome x (IsCertificateText texts.certificate)) is reads.certificate, comes)
 
 -- the first fault of the texts of a request's files is its output
 source_first : (source : LabelSource) (flows : Option Text) (rest : Labelling → Outcome → Type 0) (texts : FileTexts) (fault : BytesFault)
@@ -331,8 +318,11 @@ certificate_only_first file texts fault is = cc
 three_first : (map list certificate : Text) (texts : FileTexts) (fault : BytesFault)
     → IsFirstFault (needs_of (check map list certificate)) texts (Err fault) → IsOutput (check map list certificate) texts (Err fault)
 three_first map list certificate texts (InMap fault) (there, fails) = inl (fault, fails, refl)
-three_first map list certificate texts (InList fault) (there, fails, (m, reads)) = inr (m, reads, inl (fault, fails, refl))
-three_first map list certificate texts (InCertificate fault) (there, fails, (m, reads), (l, reads')) =
+three_first map list certificate texts (InList fault) (there, fails, first) =
+    let (m, reads) = first refl in inr (m, reads, inl (fault, fails, refl))
+three_first map list certificate texts (InCertificate fault) (there, fails, first, second) =
+    let (m, reads) = first refl in
+    let (l, reads') = second refl in
     inr (m, reads, inr (l, reads', inl (fault, fails, refl)))
 three_first map list certificate texts fault is = absurd is
 

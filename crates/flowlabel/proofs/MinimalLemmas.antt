@@ -15,7 +15,7 @@ use Rattle.pmap_print.specs.List.{list_text}
 use Rattle.pmap_print.specs.Order.{in_order}
 use Rattle.pmap_print.specs.ReadBack.{CanBeReadAgain, IsListAgain, IsWellFormed, labels_of}
 use Rattle.flowlabel.specs.Headline.{IsShortest, MinimalIsShortest, ShrunkIsLeast}
-use Rattle.flowlabel.specs.Output.{CheckAcceptsCompact, CheckAcceptsMinimal, FileTexts, FitsText, IsOutput, minimal_text}
+use Rattle.flowlabel.specs.Output.{CheckAcceptsMinimal, FileTexts, FitsText, IsOutput, minimal_text}
 use Rattle.flowlabel.specs.Request.{check}
 
 -- the printed list of a map's minimal pair is read again as one of as many entries, for which the pair's certificate is
@@ -53,13 +53,11 @@ by_certificate back map list certificate texts m l c k reads pair has_form accep
       ),
     )
 
-pub check_accepts_minimal : AcceptedAgain → ((c : CertificateModel) → HasTextForm c → HasFormatText c) → CheckAcceptsMinimal
-check_accepts_minimal back first map list certificate texts m l c reads pair has_form fits list_is certificate_is =
+pub check_accepts_minimal : AcceptedAgain → ((c : CertificateModel) → HasTextForm c → HasFormatText c) → CompactHasText → CompactIsAccepted
+    → CheckAcceptsMinimal
+check_accepts_minimal back first text keeps map list certificate texts m l c reads pair has_form fits list_is (inl certificate_is) =
     by_certificate back map list certificate texts m l c c reads pair (first c has_form) (λ other accepted. accepted) fits list_is certificate_is
-
-pub check_accepts_compact : AcceptedAgain → ((c : CertificateModel) → HasTextForm c → HasFormatText c) → CompactHasText → CompactIsAccepted
-    → CheckAcceptsCompact
-check_accepts_compact back first text keeps map list certificate texts m l c reads pair has_form fits list_is certificate_is =
+check_accepts_minimal back first text keeps map list certificate texts m l c reads pair has_form fits list_is (inr certificate_is) =
     let form : HasFormatText c = first c has_form in
     by_certificate back map list certificate texts m l c (compact c) reads pair (text c form) (λ other. keeps m other c form.format) fits list_is certificate_is
 
@@ -85,14 +83,14 @@ minimal_is_shortest first text keeps accepted equivalent least labels form well 
       compact_accepted = keeps m l c formed.format (accepted m l c pair);
     }
 
-pub shrunk_is_least : CheckAcceptsMinimal → CheckAcceptsCompact
+pub shrunk_is_least : CheckAcceptsMinimal
     → ((text : List ℕ) (m : MapModel) → ReadsMap text m → (l : ListModel) × (c : CertificateModel) × IsMinimalPair m l c × HasTextForm c)
     → MinimalIsShortest
     → ((l : ListModel) → CanBeReadAgain l → (again : ListModel) × ReadsList (list_text l) again × IsListAgain l again)
     → ((l : ListModel) (m : MapModel) → CanBeReadAgain l → IsEquivalent l m → (again : ListModel) × ReadsList (list_text l) again × IsEquivalent again m)
     → ((ps : List Prefix) → IsInOrder ps → in_order ps ≡ ps)
     → ShrunkIsLeast
-shrunk_is_least accepts accepts_compact exists shortest back alike kept file texts m reads =
+shrunk_is_least accepts exists shortest back alike kept file texts m reads =
     let (l, c, pair, has_form) = exists texts.map m reads in
     let short : IsShortest m l c = shortest texts.map m l c reads pair has_form in (
       l,
@@ -118,7 +116,6 @@ shrunk_is_least accepts accepts_compact exists shortest back alike kept file tex
             name = is_again.name;
             prefixes = is_again.prefixes ∙ same;
             equivalent = subst (λ (k : ListModel). IsEquivalent k m) one is;
-            checks = λ map list certificate. accepts map list certificate (record texts { list = list_text l; certificate = certificate_text c }) m l c reads pair has_form fits refl refl;
-            checks_compact = λ map list certificate. accepts_compact map list certificate (record texts { list = list_text l; certificate = certificate_text (compact c) }) m l c reads pair has_form fits refl refl;
+            checks = λ map list certificate printed. accepts map list certificate (record texts { list = list_text l; certificate = printed }) m l c reads pair has_form fits refl;
           },
     )

@@ -1,6 +1,6 @@
--- A request has at most one output: a map text, a certificate's text and a File have one reading, and the outcome for
--- what is read is one text or the first fault.
-use Rattle.std.proofs.Common.{◌≡◌, ◌∙◌, ℕ, List, [], Option, Some, None, Ok, Err, ap, sym, subst, inl, inr, Result}
+-- A request has one output at most: a map text, a certificate's text and a File have one reading, and what comes of it
+-- is one text or the first fault.
+use Rattle.std.proofs.Common.{◌≡◌, ◌∙◌, ℕ, List, [], Option, Some, None, Ok, Err, ap, sym, subst, inl, inr}
 use Rattle.std.specs.Prelude.{◌↔◌}
 use Rattle.prefix_keys.specs.declared.version.Version.{Version}
 use Rattle.pmap_text.specs.ListModel.{ListModel}
@@ -25,7 +25,7 @@ use Rattle.pmap_print.specs.Info.{info_text}
 use Rattle.pmap_print.specs.List.{list_text}
 use Rattle.pmap_print.specs.Runs.{IsRunsText}
 use Rattle.label_lookup.specs.Labelling.{Labelling, labelling_of_list, labelling_of_map}
-use Rattle.flowlabel.specs.Output.{FileTexts, FlowsThen, LabelsThen, ListThen, MapThen, OneOutput, Outcome, Prints, PrintsCompact, PrintsMinimal, PrintsRuns, ReportsThen, SourceThen, label_text, report_of_rows, CertificateThen, Checks, ReadsCertificate, report_of_groups}
+use Rattle.flowlabel.specs.Output.{FileTexts, FlowsThen, LabelsThen, ListThen, MapThen, OneOutput, Outcome, Prints, PrintsCompact, PrintsMinimal, PrintsRuns, ReportsOf, ReportsThen, label_text, report_of_rows, CertificateThen, Checks, ReadsCertificate, report_of_groups}
 use Rattle.flowlabel.specs.declared.bytes_fault.BytesFault.TheVariants.{Map as InMap, List as InList, Flows as InFlows, Certificate as InCertificate, Check as InCheck}
 use Rattle.flowlabel.specs.declared.command.Shrunk.{Shrunk}
 use Rattle.flowlabel.specs.declared.command.Shrunk.TheVariants as shrunk
@@ -75,18 +75,14 @@ flows_then_one law rest one bytes outcome other (inr p) (inr q) =
     let same : q.0 ≡ p.0 = (law [] 0 0 bytes).0 q.0 p.0 q.1 p.1 in
     one p.0 outcome other p.2 (subst (λ (ms : List MessageView). rest ms other) same q.2)
 
-source_then_one : (source : Option LabelSource) (rest : Option Labelling → Outcome → Type 0) → IsOne rest → (texts : FileTexts) (outcome other : Outcome)
-    → SourceThen source rest texts outcome → SourceThen source rest texts other → outcome ≡ other
-source_then_one None rest one texts outcome other p q = one None outcome other p q
-source_then_one (Some source) rest one texts outcome other p q =
-    labels_then_one source (λ l. rest (Some l)) (λ l. one (Some l)) texts outcome other p q
+reports_one : OneReading → (text : Option Labelling → List MessageView → List ℕ) (bytes : List ℕ) → IsOne (λ labels. ReportsOf text labels bytes)
+reports_one law text bytes labels = flows_then_one law (λ messages. Prints (text labels messages)) (prints_one (text labels)) bytes
 
 reports_then_one : OneReading → (text : Option Labelling → List MessageView → List ℕ) (source : Option LabelSource) (texts : FileTexts) (outcome other : Outcome)
     → ReportsThen text source texts outcome → ReportsThen text source texts other → outcome ≡ other
-reports_then_one law text source texts outcome other p q =
-    source_then_one source (λ labels. FlowsThen (λ messages. Prints (text labels messages)) texts.flows)
-    (λ labels. flows_then_one law (λ messages. Prints (text labels messages)) (prints_one (text labels)) texts.flows)
-    texts outcome other p q
+reports_then_one law text None texts outcome other p q = reports_one law text texts.flows None outcome other p q
+reports_then_one law text (Some source) texts outcome other p q =
+    labels_then_one source (λ l. ReportsOf text (Some l) texts.flows) (λ l. reports_one law text texts.flows (Some l)) texts outcome other p q
 
 -- a labelling has one text of its runs
 abbrev OneRunsText : Type 0

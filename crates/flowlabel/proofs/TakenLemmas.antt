@@ -2,7 +2,7 @@
 use Rattle.std.proofs.Common.{◌≡◌, ◌∙◌, ◌<◌, ◌≤◌, ◌+◌, inl, inr, ℕ, List, [], ◌∷◌, ◌++◌, Option, Some, None, Ok, Err, IfSome, length, refl, sym, ap, subst, arith}
 use Rattle.std.proofs.lemmas.List.{length_push}
 use Rattle.ipfix_read.specs.Fault.{is_of_reader}
-use Rattle.ipfix_read.specs.File.{HasFileFault, ReadsFile}
+use Rattle.ipfix_read.specs.File.{ReadsFile}
 use Rattle.ipfix_read.specs.Laws.{CallsJoinFile, CallsStart}
 use Rattle.ipfix_read.specs.Message.{MessageView}
 use Rattle.ipfix_read.specs.Messages.{AnswersNext, IsReadTo, ProgressView, at_start}

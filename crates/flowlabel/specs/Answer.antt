@@ -1,5 +1,6 @@
-use Rattle.std.specs.Prelude.{◌≡◌, ◌==◌, ◌&&◌, ◌||◌, Bool, not, true, false, List, [], ◌∷◌, Option, Some, None, Result, Ok, Err, codes, option_and_then, option_map, unwrap_or, is_none, if◌then◌else◌}
+use Rattle.std.specs.Prelude.{◌≡◌, ◌==◌, ◌&&◌, ◌||◌, Bool, not, true, false, List, [], ◌∷◌, Option, Some, None, Result, Ok, Err, codes, ok_or, option_and_then, option_map, unwrap_or, is_none, if◌then◌else◌}
 use Rattle.std.specs.List.{list_any}
+use Rattle.std.specs.Result.{result_map_both}
 use Rattle.std.specs.Str.{bytes_eq}
 use Rattle.std.specs.declared.io.ErrorKind.TheVariants as io
 use Rattle.std.specs.declared.io.ErrorKind.{ErrorKind as IoErrorKind}
@@ -7,9 +8,7 @@ use Rattle.prefix_keys.specs.Text.{AddressOf, address_of}
 use Rattle.pmap_text.specs.Reading.{◌>>=◌}
 use Rattle.flow_filter.specs.Condition.{Condition, needs_map}
 use Rattle.flow_filter.specs.Words.{Words, filter_of_words}
-use Rattle.flow_filter.specs.declared.fault.FilterFault.{FilterFault}
 use Rattle.flow_uniq.specs.Field.{keys_reading, need_map}
-use Rattle.flow_uniq.specs.declared.fault.KeyFault.{KeyFault}
 use Rattle.flow_uniq.specs.declared.field.KeyField.{KeyField}
 use Rattle.clap.specs.Words.{Row, fault_of, first_of, subcommand_of}
 use Rattle.clap.specs.declared.error.kind.ErrorKind.{ErrorKind}
@@ -35,12 +34,7 @@ source_answer (Some map) None = Ok (Some (FromMap map))
 source_answer None (Some list) = Ok (Some (FromList list))
 source_answer None None = Ok None
 
--- the source of labels of a command that needs one
-abbrev pub needed_source : Option LabelSource → Result LabelSource UsageFault
-needed_source None = Err MapMissing
-needed_source (Some source) = Ok source
-
--- the answer for `label`, by its source of labels and the address in its word, if that is well formed
+-- `label` under a source, by the address that its word means
 abbrev pub address_answer : LabelSource → Option AddressOf → Answer
 address_answer source None = Err BadAddress
 address_answer source (Some address) = Ok (label source address)
@@ -56,7 +50,7 @@ address_in_rows entries = option_and_then address_of (first_of (codes "address")
 -- the answer for `label`, by the entries that clap finds for it; the faults of the source come first
 abbrev pub answer_of_label : List Row → Answer
 answer_of_label entries =
-    sources_in_rows entries >>= (λ found. needed_source found >>= (λ labels. address_answer labels (address_in_rows entries)))
+    sources_in_rows entries >>= (λ found. ok_or found MapMissing >>= (λ labels. address_answer labels (address_in_rows entries)))
 
 -- the text of a required option or word: clap refuses a line without it
 abbrev pub text_in_rows : Text → List Row → Text
@@ -81,22 +75,13 @@ words_in_rows entries = record {
   any_label = first_of (codes "any-label") entries;
 }
 
--- a condition, or the fault of a filter's text as a usage fault
-abbrev pub condition_answer : Result Condition FilterFault → Result Condition UsageFault
-condition_answer (Ok condition) = Ok condition
-condition_answer (Err fault) = Err (Filter fault)
-
 -- the condition that the filters of entries state, or the fault of the first malformed one
 abbrev pub condition_in_rows : List Row → Result Condition UsageFault
-condition_in_rows entries = condition_answer (filter_of_words (words_in_rows entries))
+condition_in_rows entries = result_map_both (λ condition. condition) Filter (filter_of_words (words_in_rows entries))
 
--- fields, or the fault of their text as a usage fault
-abbrev pub fields_answer : Result (List KeyField) KeyFault → Result (List KeyField) UsageFault
-fields_answer (Ok fields) = Ok fields
-fields_answer (Err fault) = Err (Key fault)
-
+-- the fields that entries name, or the fault of their text
 abbrev pub fields_in_rows : List Row → Result (List KeyField) UsageFault
-fields_in_rows entries = fields_answer (keys_reading (text_in_rows (codes "fields") entries))
+fields_in_rows entries = result_map_both (λ fields. fields) Key (keys_reading (text_in_rows (codes "fields") entries))
 
 -- the request, or a fault if it needs labels and has no source of them
 abbrev pub with_labels : Bool → Option LabelSource → Request → Answer
@@ -117,7 +102,7 @@ answer_of_uniq entries =
 
 -- the answer for `cat`, by the entries that clap finds for it
 abbrev pub answer_of_cat : List Row → Answer
-answer_of_cat entries = sources_in_rows entries >>= (λ found. needed_source found >>= (λ labels. Ok (cat labels)))
+answer_of_cat entries = sources_in_rows entries >>= (λ found. ok_or found MapMissing >>= (λ labels. Ok (cat labels)))
 
 -- what `shrink` prints, by whether `--certificate` and `--compact` are given: a list has no compact form
 abbrev pub shrunk_asked : Bool → Bool → Result Shrunk UsageFault
@@ -146,10 +131,6 @@ answer_of found =
     else if bytes_eq found.0 (codes "recert") then Ok (recert (text_in_rows (codes "cert") found.1))
     else answer_of_label found.1
 
--- the answer to words that clap takes, by the subcommand and the entries that it finds in them
-abbrev pub own_answer : List Text → Option Answer
-own_answer words = option_map answer_of (subcommand_of flowlabel_app words)
-
 -- the kind of an error that asks for help or the version, and one that is a mistake in the words
 abbrev pub is_help : ErrorKind → Bool
 is_help kind.DisplayHelp = true
@@ -162,14 +143,9 @@ is_mistake kind.DisplayVersion = false
 is_mistake kind.OutOfMemory = false
 is_mistake k = true
 
--- the result is this answer, and no other
-abbrev pub SaysOnly : Answer → Result Command UsageFault → Type 0
-SaysOnly answer (Ok command) = answer ≡ Ok (request_of command)
-SaysOnly answer (Err fault) = answer ≡ Err fault
-
--- clap takes the words, and this is the answer to what it finds in them
+-- clap takes the words, and this is the answer to the subcommand and the entries that it finds in them
 abbrev pub Answers : List Text → Answer → Type 0
-Answers words answer = (fault_of flowlabel_app words ≡ []) × (own_answer words ≡ Some answer)
+Answers words answer = (fault_of flowlabel_app words ≡ []) × (option_map answer_of (subcommand_of flowlabel_app words) ≡ Some answer)
 
 -- what a fault says about the words, which are texts: clap refuses them, they ask for help, or clap takes them and the
 -- program itself finds a fault
@@ -199,8 +175,9 @@ IsOwnAnswer (Err fault) = IsOwnFault fault
 
 -- the result is this answer, or out of memory
 abbrev pub IsUnlessMemory : Answer → Result Command UsageFault → Type 0
+IsUnlessMemory answer (Ok command) = answer ≡ Ok (request_of command)
 IsUnlessMemory answer (Err NoMemory) = Unit {0}
-IsUnlessMemory answer result = SaysOnly answer result
+IsUnlessMemory answer (Err fault) = answer ≡ Err fault
 
 -- whether a word is no option: it doesn't begin with a hyphen
 abbrev pub is_plain_word : Text → Bool

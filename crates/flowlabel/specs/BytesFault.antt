@@ -94,13 +94,9 @@ abbrev pub is_map_want : MapFaultKind → Bool
 is_map_want kind.NoMemory = true
 is_map_want k = false
 
-abbrev pub is_template_want : TemplateFaultKind → Bool
-is_template_want template.NoMemory = true
-is_template_want k = false
-
 abbrev pub is_flows_want : ReadFaultKind → Bool
 is_flows_want flows.NoMemory = true
-is_flows_want (flows.BadTemplate k) = is_template_want k
+is_flows_want (flows.BadTemplate template.NoMemory) = true
 is_flows_want k = false
 
 abbrev pub is_certificate_want : CertFaultKind → Bool

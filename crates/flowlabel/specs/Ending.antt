@@ -41,11 +41,6 @@ module _ {W : Type 0} (taken : W → Option (List ℕ)) (last : W → LastCall) 
   IsWritten old new text =
       (Appends (taken old) (taken new) text × (last new ≡ Flush)) ⊎ (StopsWriting taken last old new text × (failed new ≡ true))
 
--- there is no call of standard output or standard error
-module _ {O E : Type 0} (taken : O → Option (List ℕ)) (last : O → LastCall) (taken' : E → Option (List ℕ)) (last' : E → LastCall) where
-  abbrev pub IsSilent : O → O → E → E → Type 0
-  IsSilent output output' error error' = IsUntouched taken last output output' × IsUntouched taken' last' error error'
-
 module _ {O E : Type 0} (taken : O → Option (List ℕ)) (last : O → LastCall) (failed : O → Bool)
     (taken' : E → Option (List ℕ)) (last' : E → LastCall) (failed' : E → Bool) where
   -- the text is written to this stream, and there is no call of the other one

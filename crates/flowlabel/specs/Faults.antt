@@ -57,13 +57,9 @@ abbrev pub is_filter_want : FilterFaultKind → Bool
 is_filter_want filters.NoMemory = true
 is_filter_want k = false
 
-abbrev pub is_key_want : KeyFault → Bool
-is_key_want keys.NoMemory = true
-is_key_want k = false
-
 abbrev pub is_usage_want : UsageFault → Bool
 is_usage_want (usage.Filter fault) = is_filter_want fault.kind
-is_usage_want (usage.Key fault) = is_key_want fault
+is_usage_want (usage.Key keys.NoMemory) = true
 is_usage_want usage.NoMemory = true
 is_usage_want fault = false
 

@@ -1,4 +1,4 @@
-use Rattle.std.specs.Prelude.{◌≡◌, ℕ, List, Some, None, Ok, length}
+use Rattle.std.specs.Prelude.{◌≡◌, ℕ, List, Some, Ok, length}
 use Rattle.pmap_text.specs.ListModel.{IsEquivalent, ListModel}
 use Rattle.pmap_text.specs.MapModel.{MapModel}
 use Rattle.pmap_text.specs.Reading.{ReadsList, ReadsMap}
@@ -11,8 +11,8 @@ use Rattle.pmap_cert.specs.ListForm.{IsInOrder}
 use Rattle.pmap_cert.specs.MinimalPair.{IsMinimalPair}
 use Rattle.pmap_print.specs.List.{list_text}
 use Rattle.pmap_print.specs.ReadBack.{IsWellFormed}
-use Rattle.flowlabel.specs.Output.{FileTexts, FitsText, IsAsGood, IsCheckedLeast, IsOutput, minimal_text, shrunk_text, under}
-use Rattle.flowlabel.specs.Request.{FromList, FromMap, LabelSource, Request, Text, cat, check, info, label, recert, rows, shrink, uniq}
+use Rattle.flowlabel.specs.Output.{FileTexts, FitsText, IsAsGood, IsCheckedLeast, IsOutput, IsPrintedCertificate, minimal_text, shrunk_text, under}
+use Rattle.flowlabel.specs.Request.{FromList, FromMap, LabelSource, Request, Text, cat, check, label, recert, rows, shrink, uniq}
 use Rattle.flowlabel.specs.declared.command.Shrunk.TheVariants as shrunk
 
 -- The headline: what a command that ends without a fault has written.
@@ -47,10 +47,7 @@ IsSameUnder (FromList file) request texts out =
 -- an equivalent list or map.
 abbrev pub IsHeadline : Request → FileTexts → List ℕ → Type 0
 IsHeadline (label source address) texts out = IsSameUnder source (label source address) texts out
-IsHeadline (info flows) texts out = Unit {0}
-IsHeadline (rows None condition columns flows) texts out = Unit {0}
 IsHeadline (rows (Some source) condition columns flows) texts out = IsSameUnder source (rows (Some source) condition columns flows) texts out
-IsHeadline (uniq fields None condition sorted columns flows) texts out = Unit {0}
 IsHeadline (uniq fields (Some source) condition sorted columns flows) texts out =
     IsSameUnder source (uniq fields (Some source) condition sorted columns flows) texts out
 IsHeadline (cat source) texts out = IsSameUnder source (cat source) texts out
@@ -58,6 +55,7 @@ IsHeadline (shrink map printed) texts out = (m : MapModel) × (l : ListModel) ×
     × ReadsMap texts.map m × IsShortest m l c × (out ≡ shrunk_text printed l c)
 IsHeadline (check map list certificate) texts out = IsCheckedLeast texts out
 IsHeadline (recert certificate) texts out = IsAsGood texts.certificate out
+IsHeadline request texts out = Unit {0}
 
 -- the headline holds for each output that is a text
 abbrev pub KeepsHeadline : Type 0
@@ -78,11 +76,8 @@ pub record StandsAgain (texts : FileTexts) (m : MapModel) (l : ListModel) (c : C
   pub name : again.name ≡ l.name
   pub prefixes : again.prefixes ≡ l.prefixes
   pub equivalent : IsEquivalent again m
-  pub checks : (map list certificate : Text)
-      → IsOutput (check map list certificate) (record texts { list = list_text l; certificate = certificate_text c }) (Ok (minimal_text (length l.prefixes)))
-  pub checks_compact : (map list certificate : Text)
-      → IsOutput (check map list certificate) (record texts { list = list_text l; certificate = certificate_text (compact c) })
-      (Ok (minimal_text (length l.prefixes)))
+  pub checks : (map list certificate printed : Text) → IsPrintedCertificate c printed
+      → IsOutput (check map list certificate) (record texts { list = list_text l; certificate = printed }) (Ok (minimal_text (length l.prefixes)))
 
 -- Over each text that is read as a map, `shrink` prints a shortest list, or, if asked for a certificate, compacted or
 -- not, the certificate of that list. If the list is within the limits of a text, it can be read again as printed.

@@ -1,4 +1,4 @@
-use Rattle.std.specs.Prelude.{◌≡◌, ◌≤◌, ◌⊎◌, ℕ, Bool, true, false, List, [], Option, Some, None, is_some, Ok, Err, length}
+use Rattle.std.specs.Prelude.{◌≡◌, ℕ, Bool, true, List, Option, Some, None, IfSome, is_some, Err}
 use Rattle.std.specs.Borrow.{Bor}
 use Rattle.pmap_text.specs.MapText.{map_of}
 use Rattle.pmap_text.specs.PrefixList.{list_of}
@@ -8,21 +8,19 @@ use Rattle.pmap_text.specs.declared.prefix_list.PrefixList.{PrefixList}
 use Rattle.pmap_cert.specs.Certificate.{certificate_of}
 use Rattle.pmap_cert.specs.FormatReading.{format_reading}
 use Rattle.pmap_cert.specs.declared.certificate.Certificate.{Certificate}
-use Rattle.ipfix_read.specs.Message.{MessageView}
 use Rattle.flow_rows.specs.Counts.{counts_of}
 use Rattle.label_lookup.specs.Labelling.{Labelling, labelling_of_list, labelling_of_map}
 use Rattle.pmap_print.specs.Info.{info_text}
 use Rattle.flowlabel.specs.Output.{Checks, FileTexts, Outcome, Prints, PrintsCompact, PrintsMinimal, PrintsRuns, ReadsCertificate, ReportsOf, label_text, report_of_groups, report_of_rows}
 use Rattle.flowlabel.specs.Request.{Request, label, info, rows, cat, shrink, check, uniq, recert}
 use Rattle.flowlabel.specs.Run.{HasFailed, HasName, HasText}
-use Rattle.flowlabel.specs.Turns.{IsReadAt, ListTurn, MapTurn, Turn}
+use Rattle.flowlabel.specs.Turns.{IsReadAt, ListTurn, MapTurn}
 use Rattle.flowlabel.specs.declared.bytes_fault.BytesFault.{BytesFault}
 use Rattle.flowlabel.specs.declared.bytes_fault.BytesFault.TheVariants.{Map as InMap, List as InList, Flows as InFlows, Certificate as InCertificate, Check as InCheck}
 use Rattle.flowlabel.specs.declared.command.Needs.{Needs}
 use Rattle.flowlabel.specs.declared.fault.RunFault.{RunFault}
-use Rattle.flowlabel.specs.declared.fault.RunFault.TheVariants.{Usage, CannotOpen, CannotRead, CannotWrite, NoMemory, File}
+use Rattle.flowlabel.specs.declared.fault.RunFault.TheVariants.{CannotRead, NoMemory, File}
 use Rattle.flowlabel.specs.declared.inputs.Inputs.{Inputs}
-use Rattle.flowlabel.specs.declared.inputs.Source.{Source}
 use Rattle.flowlabel.specs.declared.run.loaded.Loaded.{Loaded}
 use Rattle.flowlabel.specs.declared.run.loaded.LoadedLabels.{LoadedLabels}
 use Rattle.flowlabel.specs.declared.run.loaded.LoadedLabels.TheVariants.{Map, List as Prefixes}
@@ -39,16 +37,11 @@ IsListText text list = ReadsList text (list_of list)
 abbrev pub IsCertificateText : List ℕ → Certificate → Type 0
 IsCertificateText text certificate = ReadsCertificate text (certificate_of certificate)
 
--- the value of an optional file, if there is one, has the property
-abbrev pub Holds : {A : Type 0} → (List ℕ → A → Type 0) → List ℕ → Option A → Type 0
-Holds Reads text None = Unit {0}
-Holds Reads text (Some value) = Reads text value
-
--- each text is read as the value that is loaded from it
+-- each text is read as what is loaded of it
 pub record AreLoaded (loaded : Loaded) (texts : FileTexts) : Type 0 where
-  pub map : Holds IsMapText texts.map loaded.map
-  pub list : Holds IsListText texts.list loaded.list
-  pub certificate : Holds IsCertificateText texts.certificate loaded.certificate
+  pub map : IfSome loaded.map (IsMapText texts.map)
+  pub list : IfSome loaded.list (IsListText texts.list)
+  pub certificate : IfSome loaded.certificate (IsCertificateText texts.certificate)
 
 -- exactly the files that are needed are loaded
 pub record ArePresent (needs : Needs) (loaded : Loaded) : Type 0 where
@@ -56,18 +49,13 @@ pub record ArePresent (needs : Needs) (loaded : Loaded) : Type 0 where
   pub list : is_some loaded.list ≡ needs.list
   pub certificate : is_some loaded.certificate ≡ needs.certificate
 
--- the text of a file, if the file is needed, is read without fault at its turn
-abbrev pub IsReadIf : Bool → Turn → List ℕ → Type 0
-IsReadIf false turn text = Unit {0}
-IsReadIf true turn text = IsReadAt turn text
-
 -- the outcome is the first fault of the texts of a map, a list and a certificate, as far as they are needed
 abbrev pub IsFirstFault : Needs → FileTexts → Outcome → Type 0
 IsFirstFault needs texts (Err (InMap fault)) = (needs.map ≡ true) × (map_reading texts.map ≡ Err fault)
 IsFirstFault needs texts (Err (InList fault)) =
-    (needs.list ≡ true) × (list_reading texts.list ≡ Err fault) × IsReadIf needs.map MapTurn texts.map
+    (needs.list ≡ true) × (list_reading texts.list ≡ Err fault) × (needs.map ≡ true → IsReadAt MapTurn texts.map)
 IsFirstFault needs texts (Err (InCertificate fault)) = (needs.certificate ≡ true) × (format_reading texts.certificate ≡ Err fault)
-    × IsReadIf needs.map MapTurn texts.map × IsReadIf needs.list ListTurn texts.list
+    × (needs.map ≡ true → IsReadAt MapTurn texts.map) × (needs.list ≡ true → IsReadAt ListTurn texts.list)
 IsFirstFault needs texts outcome = ⊥
 
 -- the labelling of a map or of a list

@@ -1,4 +1,4 @@
-use Rattle.std.specs.Prelude.{◌≡◌, Option, Some, None}
+use Rattle.std.specs.Prelude.{◌≡◌, Option, Some, None, IfSome}
 use Rattle.flowlabel.specs.Request.{FileNames, Text}
 use Rattle.flowlabel.specs.Run.{name_of}
 use Rattle.flowlabel.specs.Turns.{CertificateTurn, FlowsTurn, ListTurn, MapTurn, Turn}
@@ -26,8 +26,7 @@ module _ {R : Type 0} where
 
   -- the input's reader is a possible result for its name; `answers` has the possible results: a reader, or `None`
   abbrev pub IsOpened : (Text → Option R → Type 0) → Option (Source R) → Type 0
-  IsOpened answers None = Unit {0}
-  IsOpened answers (Some source) = answers source.name.now (Some source.reader)
+  IsOpened answers input = IfSome input (λ source. answers source.name.now (Some source.reader))
 
   pub record AreOpened (answers : Text → Option R → Type 0) (inputs : Inputs R) : Type 0 where
     pub map : IsOpened answers inputs.map
@@ -37,8 +36,7 @@ module _ {R : Type 0} where
 
   -- if a file is named, a reader is a possible result for its name
   abbrev pub CanOpen : (Text → Option R → Type 0) → Option Text → Type 0
-  CanOpen answers None = Unit {0}
-  CanOpen answers (Some name) = (reader : R) × answers name (Some reader)
+  CanOpen answers file = IfSome file (λ name. (reader : R) × answers name (Some reader))
 
   -- each named file whose turn comes before this one can be opened
   abbrev pub CanOpenBefore : (Text → Option R → Type 0) → Turn → FileNames → Type 0

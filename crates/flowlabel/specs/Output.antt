@@ -1,4 +1,4 @@
-use Rattle.std.specs.Prelude.{◌≡◌, ◌≤◌, ◌⊎◌, ◌↔◌, ℕ, List, [], ◌∷◌, ◌++◌, Bool, true, false, Option, Some, None, Result, Ok, Err, map, option_map, unwrap_or, codes, decimal, length}
+use Rattle.std.specs.Prelude.{◌≡◌, ◌≤◌, ◌⊎◌, ◌↔◌, ℕ, List, [], ◌∷◌, ◌++◌, Bool, Option, Some, None, Result, Ok, Err, map, option_map, unwrap_or, codes, decimal, length}
 use Rattle.prefix_keys.specs.Text.{AddressOf}
 use Rattle.pmap_text.specs.ListModel.{IsEquivalent, ListModel}
 use Rattle.pmap_text.specs.MapModel.{MapModel}
@@ -25,9 +25,9 @@ use Rattle.pmap_print.specs.Groups.{groups_text}
 use Rattle.pmap_print.specs.Info.{info_text}
 use Rattle.pmap_print.specs.List.{list_text}
 use Rattle.pmap_print.specs.ReadBack.{labels_of}
-use Rattle.pmap_print.specs.Rows.{LabelTexts, row_lines, rows_text}
+use Rattle.pmap_print.specs.Rows.{LabelTexts, row_lines}
 use Rattle.pmap_print.specs.Runs.{IsRunsText}
-use Rattle.pmap_print.specs.Table.{Line}
+use Rattle.pmap_print.specs.Table.{Line, table_text}
 use Rattle.label_lookup.specs.Labelling.{Labelling, label_by, label_where, labelling_of_list, labelling_of_map}
 use Rattle.flowlabel.specs.declared.bytes_fault.BytesFault.{BytesFault}
 use Rattle.flowlabel.specs.declared.bytes_fault.BytesFault.TheVariants.{Map as InMap, List as InList, Flows as InFlows, Certificate as InCertificate, Check as InCheck}
@@ -79,12 +79,7 @@ abbrev pub LabelsThen : LabelSource → (Labelling → Outcome → Type 0) → F
 LabelsThen (FromMap file) rest texts = MapThen (λ m. rest (labelling_of_map m)) texts.map
 LabelsThen (FromList file) rest texts = ListThen (λ l. rest (labelling_of_list l)) texts.list
 
--- the outcome for the labelling of a source, or for no labelling if there is no source
-abbrev pub SourceThen : Option LabelSource → (Option Labelling → Outcome → Type 0) → FileTexts → Outcome → Type 0
-SourceThen None rest texts = rest None
-SourceThen (Some source) rest texts = LabelsThen source (λ labels. rest (Some labels)) texts
-
--- a line: a text and a line feed
+-- a line is a text and a line feed
 abbrev pub line_of : List ℕ → List ℕ
 line_of text = text ++ 10 ∷ []
 
@@ -119,16 +114,13 @@ PrintsMinimal printed m outcome =
 abbrev pub row_labels : Labelling → RowView → LabelTexts
 row_labels l row = (label_by l (row.version, row.src), label_by l (row.version, row.dst))
 
--- the lines of rows, with the labels of their addresses if there is a labelling, and the text of these lines
+-- the lines of rows, with the labels of their addresses where there is a labelling
 abbrev pub labelled_row_lines : Option Labelling → List RowView → List Line
 labelled_row_lines labels shown = row_lines shown (option_map (λ l. map (row_labels l) shown) labels)
 
-abbrev pub labelled_rows_text : Option Labelling → Bool → List RowView → List ℕ
-labelled_rows_text labels columns shown = rows_text shown (option_map (λ l. map (row_labels l) shown) labels) columns
-
 -- the text of the rows that meet a condition
 abbrev pub report_of_rows : Condition → Bool → Option Labelling → List MessageView → List ℕ
-report_of_rows condition columns labels messages = labelled_rows_text labels columns (passing_rows condition labels messages)
+report_of_rows condition columns labels messages = table_text columns (labelled_row_lines labels (passing_rows condition labels messages))
 
 -- the text of the groups, by fields, of the rows that meet a condition
 abbrev pub report_of_groups : List KeyField → Condition → Bool → Bool → Option Labelling → List MessageView → List ℕ
@@ -142,8 +134,8 @@ ReportsOf text labels = FlowsThen (λ messages. Prints (text labels messages))
 
 -- the report on a File under the labels of a source, or without one
 abbrev pub ReportsThen : (Option Labelling → List MessageView → List ℕ) → Option LabelSource → FileTexts → Outcome → Type 0
-ReportsThen text source texts =
-    SourceThen source (λ labels. ReportsOf text labels texts.flows) texts
+ReportsThen text None texts = ReportsOf text None texts.flows
+ReportsThen text (Some source) texts = LabelsThen source (λ labels. ReportsOf text (Some labels) texts.flows) texts
 
 -- `minimal N`, the number of a shortest list's entries
 abbrev pub minimal_text : ℕ → List ℕ
@@ -156,11 +148,7 @@ Checks m l c outcome =
     (IsAccepted m l c × Prints (minimal_text (length l.prefixes)) outcome)
     ⊎ ((fault : CheckFault) × (first_fault m l c ≡ Some fault) × (outcome ≡ Err (InCheck fault)))
 
--- the outcome of `check` over the texts of its files
-abbrev pub ChecksThen : FileTexts → Outcome → Type 0
-ChecksThen texts = MapThen (λ m. ListThen (λ l. CertificateThen (Checks m l) texts.certificate) texts.list) texts.map
-
--- the outcome is an output of the request over its files' texts, read in the order map, list, certificate, flows
+-- this is an output of the request by the texts of its files, which are read in the order map, list, certificate, flows
 abbrev pub IsOutput : Request → FileTexts → Outcome → Type 0
 IsOutput (label source address) texts = LabelsThen source (λ labels. Prints (label_text address labels)) texts
 IsOutput (info flows) texts = ReportsThen (λ labels messages. info_text (counts_of messages)) None texts
@@ -168,7 +156,8 @@ IsOutput (rows source condition columns flows) texts = ReportsThen (report_of_ro
 IsOutput (uniq fields source condition sorted columns flows) texts = ReportsThen (report_of_groups fields condition sorted columns) source texts
 IsOutput (cat source) texts = LabelsThen source PrintsRuns texts
 IsOutput (shrink map printed) texts = MapThen (PrintsMinimal printed) texts.map
-IsOutput (check map list certificate) texts = ChecksThen texts
+IsOutput (check map list certificate) texts =
+    MapThen (λ m. ListThen (λ l. CertificateThen (Checks m l) texts.certificate) texts.list) texts.map
 IsOutput (recert certificate) texts = CertificateThen PrintsCompact texts.certificate
 
 -- a request has at most one output over the texts of its files
@@ -216,19 +205,16 @@ CheckIsEnough = (map list certificate : List ℕ) (texts : FileTexts) (out : Lis
 abbrev pub FitsText : ListModel → Type 0
 FitsText l = (length l.prefixes ≤ mapping_limit) × (length (labels_of l.prefixes) ≤ label_limit)
 
+-- the text is that of a certificate, as it is or compacted
+abbrev pub IsPrintedCertificate : CertificateModel → List ℕ → Type 0
+IsPrintedCertificate c text = (text ≡ certificate_text c) ⊎ (text ≡ certificate_text (compact c))
+
 -- Over a map text, the printed list of its minimal pair, within the limits of a text, and the printed certificate,
--- `check` prints the number of the list's entries.
+-- compacted or not, `check` prints the number of the list's entries
 abbrev pub CheckAcceptsMinimal : Type 0
 CheckAcceptsMinimal = (map list certificate : List ℕ) (texts : FileTexts) (m : MapModel) (l : ListModel) (c : CertificateModel)
     → ReadsMap texts.map m → IsMinimalPair m l c → HasTextForm c → FitsText l
-    → texts.list ≡ list_text l → texts.certificate ≡ certificate_text c
-    → IsOutput (check map list certificate) texts (Ok (minimal_text (length l.prefixes)))
-
--- Over the list and the compacted certificate of the pair, printed, `check` prints the number of entries, too.
-abbrev pub CheckAcceptsCompact : Type 0
-CheckAcceptsCompact = (map list certificate : List ℕ) (texts : FileTexts) (m : MapModel) (l : ListModel) (c : CertificateModel)
-    → ReadsMap texts.map m → IsMinimalPair m l c → HasTextForm c → FitsText l
-    → texts.list ≡ list_text l → texts.certificate ≡ certificate_text (compact c)
+    → texts.list ≡ list_text l → IsPrintedCertificate c texts.certificate
     → IsOutput (check map list certificate) texts (Ok (minimal_text (length l.prefixes)))
 
 -- A certificate that `recert` prints has no more node lines than the one that it read, and `recert` prints it

@@ -1,4 +1,4 @@
-use Rattle.std.specs.Prelude.{◌≡◌, ◌^◌, ◌<◌, ℕ, Bool, List, Option, Some, None, is_some, option_and_then, option_map}
+use Rattle.std.specs.Prelude.{◌^◌, ◌<◌, ℕ, Bool, List, Option, Some, None, is_some, option_and_then, option_map}
 use Rattle.prefix_keys.specs.Text.{AddressOf}
 use Rattle.prefix_keys.specs.Version.{width_of}
 use Rattle.flow_filter.specs.Condition.{Condition}
@@ -38,13 +38,9 @@ pub data Request : Type 0 where
   check : (map list certificate : Text) → Request
   recert : (certificate : Text) → Request
 
--- the number is that of an address of the version
-abbrev pub IsAddress : AddressOf → Type 0
-IsAddress address = address.1 < 2 ^ width_of address.0
-
--- the address of a request is one of its version
+-- the number of an address in a request is one of its version
 abbrev pub IsProper : Request → Type 0
-IsProper (label source address) = IsAddress address
+IsProper (label source address) = address.1 < 2 ^ width_of address.0
 IsProper request = Unit {0}
 
 -- a file of labels as a source of labels
@@ -118,8 +114,3 @@ needs_named names = record {
 
 abbrev pub needs_of : Request → Needs
 needs_of request = needs_named (files_of request)
-
--- exactly the inputs that are read have a file name
-abbrev pub NamesNeeds : Needs → Files → Type 0
-NamesNeeds needs files = (is_some files.map ≡ needs.map) × (is_some files.list ≡ needs.list)
-    × (is_some files.certificate ≡ needs.certificate) × (is_some files.flows ≡ needs.flows)

@@ -1,4 +1,4 @@
-use Rattle.std.specs.Prelude.{◌≡◌, ◌||◌, ℕ, Bool, true, false, List, [], Option, Some, None, is_some, Result, Ok, Err, IfErr, OnOk, option_map}
+use Rattle.std.specs.Prelude.{◌≡◌, ◌||◌, ℕ, Bool, true, false, List, [], Option, Some, None, is_some, Result, Ok, Err, IfErr, IfSome, OnOk, option_map}
 use Rattle.std.specs.Borrow.{Bor}
 use Rattle.std.specs.Io.KnownBytes.{Appends}
 use Rattle.flow_io.specs.declared.last_call.LastCall.{LastCall}
@@ -10,7 +10,7 @@ use Rattle.flowlabel.specs.Request.{Request, Text}
 use Rattle.flowlabel.specs.Turns.{CertificateTurn, FlowsTurn, IsFaultOfText, IsReadAt, ListTurn, MapTurn, Turn, input_at, turn_of}
 use Rattle.flowlabel.specs.declared.command.Needs.{Needs}
 use Rattle.flowlabel.specs.declared.fault.RunFault.{RunFault}
-use Rattle.flowlabel.specs.declared.fault.RunFault.TheVariants.{Usage, CannotOpen, CannotRead, CannotWrite, NoMemory, File}
+use Rattle.flowlabel.specs.declared.fault.RunFault.TheVariants.{CannotRead, CannotWrite, NoMemory, File}
 use Rattle.flowlabel.specs.declared.inputs.Inputs.{Inputs}
 use Rattle.flowlabel.specs.declared.inputs.Source.{Source}
 
@@ -52,8 +52,7 @@ module _ {R : Type 0} where
 
   -- if an input is there and its reader reports its bytes, they are read without fault at this turn
   abbrev pub IsRead : (R → Option (List ℕ)) → Turn → Option (Source R) → Type 0
-  IsRead left turn None = Unit {0}
-  IsRead left turn (Some source) = (text : List ℕ) → left source.reader ≡ Some text → IsReadAt turn text
+  IsRead left turn input = IfSome input (λ source. (text : List ℕ) → left source.reader ≡ Some text → IsReadAt turn text)
 
   -- each input whose turn comes before this one is read without fault
   abbrev pub AreReadBefore : (R → Option (List ℕ)) → Turn → Inputs R → Type 0
@@ -112,13 +111,9 @@ module _ {R : Type 0} where
 -- failed; any other fault comes before the writer is called
 module _ {R W : Type 0} (left : R → Option (List ℕ)) (failed : R → Bool) (taken : W → Option (List ℕ)) (last : W → LastCall) where
   abbrev pub IsFaultOfRun : Inputs R → Inputs R → W → W → Request → RunFault → Type 0
-  IsFaultOfRun old new writer writer' request (CannotRead file) =
-      IsFaultOfBytes left failed old new (IsOutput request) (CannotRead file) × IsUntouched taken last writer writer'
   IsFaultOfRun old new writer writer' request CannotWrite = PrintsThen left old request (StopsWriting taken last writer writer')
-  IsFaultOfRun old new writer writer' request NoMemory = IsUntouched taken last writer writer'
-  IsFaultOfRun old new writer writer' request (File fault) =
-      IsFaultOfBytes left failed old new (IsOutput request) (File fault) × IsUntouched taken last writer writer'
-  IsFaultOfRun old new writer writer' request fault = ⊥
+  IsFaultOfRun old new writer writer' request fault =
+      IsFaultOfBytes left failed old new (IsOutput request) fault × IsUntouched taken last writer writer'
 
 -- the run ended because a reader failed, or because the writer failed
 abbrev pub is_read_stop : {A : Type 0} → Result A RunFault → Bool

@@ -1,5 +1,5 @@
 ghost use Rattle.std.specs.Prelude.{◌≡◌, option_map};
-ghost use Rattle.flowlabel.specs.Request.{NamesNeeds, files_named, files_of, names_of, needs_of, request_of, source_of};
+ghost use Rattle.flowlabel.specs.Request.{files_named, files_of, names_of, needs_of, request_of, source_of};
 
 use flow_filter::Filter;
 use flow_uniq::Keys;
@@ -131,8 +131,7 @@ impl<'a> Command<'a> {
 
     /// Returns the names of the files that the command reads, one for each input that it needs.
     pub fn files(&self) -> Files<'a>
-        ensures names { names_of result ≡ files_of (request_of self.now) }
-        ensures needed { NamesNeeds (needs_of (request_of self.now)) result }
+        ensures { names_of result ≡ files_of (request_of self.now) }
     {
         match self {
             Command::Label { labels, .. } => Files::named(Some(*labels), None),

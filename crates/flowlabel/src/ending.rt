@@ -1,6 +1,7 @@
 //! How the program ends: the exit status, and what is written to which stream.
 ghost use Rattle.std.specs.Prelude.{◌≡◌, false, true, is_ok, IfErr, IfOk};
-ghost use Rattle.flowlabel.specs.Ending.{IsSilent, IsTold, stream_of, told_bytes, told_text};
+ghost use Rattle.flow_io.specs.WriterStates.{IsUntouched};
+ghost use Rattle.flowlabel.specs.Ending.{IsTold, stream_of, told_bytes, told_text};
 ghost use Rattle.flowlabel.specs.declared.ending.Stream.TheVariants as stream;
 ghost use Rattle.flowlabel.specs.Faults.{exit_status_of};
 
@@ -98,8 +99,8 @@ pub fn end<O: Output, E: Output>(ending: &Ending<'_>, output: &mut O, error: &mu
     // Nothing else is written. If the allocation of the line of a fault failed, nothing is written at all.
     ensures told { IfOk ending.now.text (λ told. IsTold O.bytes_taken O.last_call O.failed E.bytes_taken E.last_call E.failed
         ending.now.stream (told_bytes told) output.old output.new error.old error.new) }
-    ensures silent { IfErr ending.now.text (λ refused. IsSilent O.bytes_taken O.last_call E.bytes_taken E.last_call
-        output.old output.new error.old error.new) }
+    ensures silent { IfErr ending.now.text (λ refused. IsUntouched O.bytes_taken O.last_call output.old output.new
+        × IsUntouched E.bytes_taken E.last_call error.old error.new) }
 {
     if let Ok(text) = &ending.text {
         let _ = match ending.stream {

@@ -2,9 +2,8 @@
 ghost use Rattle.std.specs.Prelude.{◌≡◌, false, IfErr, IfOk, List, Option, ℕ, option_map};
 ghost use Rattle.std.specs.Result.{result_ok};
 ghost use Rattle.flowlabel.specs.Opening.{AreOpened, CannotOpenFirst, CannotOpenNamed, CanOpen, HaveNames, IsOpened};
-ghost use Rattle.flowlabel.specs.Request.{NamesNeeds, names_of};
-ghost use Rattle.flowlabel.specs.Run.{AreNeeded, any_failed, name_of, source_failed};
-ghost use Rattle.flowlabel.specs.declared.command.Needs.{Needs};
+ghost use Rattle.flowlabel.specs.Request.{names_of};
+ghost use Rattle.flowlabel.specs.Run.{any_failed, name_of, source_failed};
 
 use crate::command::Files;
 use crate::fault::RunFault;
@@ -74,7 +73,6 @@ pub fn open_all<'a, O: Opener>(
 ) -> Result<Inputs<'a, O::Reader>, RunFault<'a>>
     ensures named { IfOk result (HaveNames (names_of files.entry)) }
     ensures opened { IfOk result (AreOpened (O.answers opener.now)) }
-    ensures needed { (needs : Needs) → NamesNeeds needs files.entry → IfOk result (AreNeeded needs) }
     ensures fresh { IfOk result (λ inputs. any_failed O.Reader.failed inputs ≡ false) }
     ensures err { IfErr result (CannotOpenFirst (O.answers opener.now) (names_of files.entry)) }
 {

@@ -34,7 +34,7 @@ pub use laws::{
 };
 use loaded::Loaded;
 use loading::load;
-use recert::compact_loaded;
+use recert::recert_text;
 use report::report_under;
 use rows::RowsReport;
 use shrink::shrunk_text;
@@ -58,12 +58,7 @@ fn answer<'a, R: Input>(
     ensures failed { any_failed R.failed inputs.new ≡ is_read_stop result }
 {
     match command {
-        Command::Label { addr, .. } => {
-            let Some(labels) = loaded.labels() else {
-                unreachable!()
-            };
-            Ok(label_line(alloc, labels, *addr)?)
-        }
+        Command::Label { addr, .. } => Ok(label_line(alloc, loaded.labels().unwrap(), *addr)?),
         Command::Info { .. } => report_under(alloc, None, inputs, &InfoReport),
         Command::Rows {
             filter,
@@ -90,20 +85,12 @@ fn answer<'a, R: Input>(
             };
             report_under(alloc, loaded.labels(), inputs, &report)
         }
-        Command::Cat { .. } => {
-            let Some(labels) = loaded.labels() else {
-                unreachable!()
-            };
-            Ok(runs_text(alloc, labels)?)
-        }
+        Command::Cat { .. } => Ok(runs_text(alloc, loaded.labels().unwrap())?),
         Command::Shrink { printed, .. } => {
-            let Some(map) = &loaded.map else {
-                unreachable!()
-            };
-            Ok(shrunk_text(alloc, map, *printed)?)
+            Ok(shrunk_text(alloc, loaded.map.as_ref().unwrap(), *printed)?)
         }
         Command::Check { .. } => check_loaded(alloc, loaded, inputs),
-        Command::Recert { .. } => Ok(compact_loaded(alloc, loaded)?),
+        Command::Recert { .. } => Ok(recert_text(alloc, loaded.certificate.as_ref().unwrap())?),
     }
 }
 

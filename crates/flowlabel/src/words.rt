@@ -73,12 +73,8 @@ fn label_command<'a>(entries: &ArgMatches<'a>) -> Result<Command<'a>, UsageFault
     ensures ok { IfOk result (λ command. answer_of_label (rows_of (found_of entries.now)) ≡ Ok (request_of command)) }
     ensures err { IfErr result (λ fault. answer_of_label (rows_of (found_of entries.now)) ≡ Err fault) }
 {
-    let Some(labels) = labels_in(entries)? else {
-        return Err(UsageFault::MapMissing);
-    };
-    let Some(addr) = address_in(entries) else {
-        return Err(UsageFault::BadAddress);
-    };
+    let labels = labels_in(entries)?.ok_or(UsageFault::MapMissing)?;
+    let addr = address_in(entries).ok_or(UsageFault::BadAddress)?;
     Ok(Command::Label { labels, addr })
 }
 
@@ -121,13 +117,8 @@ fn filter_in<'a>(alloc: Global, entries: &ArgMatches<'a>) -> Result<Filter<'a>, 
 {
     match Filter::read(alloc, &filter_words_in(entries)) {
         Ok(filter) => Ok(filter),
-        Err(fault) => {
-            if fault.kind == FilterFaultKind::NoMemory {
-                Err(UsageFault::NoMemory)
-            } else {
-                Err(UsageFault::Filter(fault))
-            }
-        }
+        Err(fault) if fault.kind == FilterFaultKind::NoMemory => Err(UsageFault::NoMemory),
+        Err(fault) => Err(UsageFault::Filter(fault)),
     }
 }
 
@@ -192,10 +183,8 @@ fn cat_command<'a>(entries: &ArgMatches<'a>) -> Result<Command<'a>, UsageFault>
     ensures ok { IfOk result (λ command. answer_of_cat (rows_of (found_of entries.now)) ≡ Ok (request_of command)) }
     ensures err { IfErr result (λ fault. answer_of_cat (rows_of (found_of entries.now)) ≡ Err fault) }
 {
-    match labels_in(entries)? {
-        Some(labels) => Ok(Command::Cat { labels }),
-        None => Err(UsageFault::MapMissing),
-    }
+    let labels = labels_in(entries)?.ok_or(UsageFault::MapMissing)?;
+    Ok(Command::Cat { labels })
 }
 
 // Returns what `shrink` is to print, or its usage fault: a list has no compact form.

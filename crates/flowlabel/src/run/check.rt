@@ -53,20 +53,14 @@ pub fn check_loaded<'a, R: Input>(
     ensures ok { IfOk result (λ out. ComesOf (check [] [] []) loaded.now [] (Ok out.items)) }
     ensures err { IfErr result (IsFaultOfAnswer R.bytes_left R.failed inputs.now inputs.now (ComesOf (check [] [] []) loaded.now)) }
 {
-    let Some(map) = &loaded.map else {
-        unreachable!()
-    };
-    let Some(list) = &loaded.list else {
-        unreachable!()
-    };
-    let Some(certificate) = &loaded.certificate else {
-        unreachable!()
-    };
-    let Some(source) = &inputs.certificate else {
-        unreachable!()
-    };
+    let map = loaded.map.as_ref().unwrap();
+    let list = loaded.list.as_ref().unwrap();
+    let certificate = loaded.certificate.as_ref().unwrap();
     match checked(alloc, map, list, certificate) {
         Ok(out) => Ok(out),
-        Err(fault) => Err(RunFault::in_file(source.name, BytesFault::Check(fault))),
+        Err(fault) => {
+            let file = inputs.certificate.as_ref().unwrap().name;
+            Err(RunFault::in_file(file, BytesFault::Check(fault)))
+        }
     }
 }

@@ -1,7 +1,7 @@
-//! Reads the map, the list and the certificate of a command. Each is read whole and decoded before the next one.
-ghost use Rattle.std.specs.Prelude.{◌≡◌, ℕ, List, Some, false, IfErr, IfOk, is_some};
+//! From files to what they hold: each is read whole and decoded before the next.
+ghost use Rattle.std.specs.Prelude.{◌≡◌, ℕ, List, Some, false, IfErr, IfOk, IfSome, is_some};
 ghost use Rattle.flowlabel.specs.BytesFault.{is_answer_of_calls, is_want_of_memory};
-ghost use Rattle.flowlabel.specs.Loading.{AreLoaded, ArePresent, Holds, IsFirstFault};
+ghost use Rattle.flowlabel.specs.Loading.{AreLoaded, ArePresent, IsFirstFault};
 ghost use Rattle.flowlabel.specs.Output.{FileTexts};
 ghost use Rattle.flowlabel.specs.Run.{AreNeeded, AreReadBefore, HasText, HaveTexts, IsFaultOfBytes, IsStop, any_failed, is_read_stop, name_of, source_failed};
 ghost use Rattle.flowlabel.specs.Turns.{FlowsTurn, IsFaultOfText, Turn, turn_of};
@@ -41,10 +41,7 @@ impl Decode for MapText {
     ghost reads = { IsMapText };
 
     fn decode(alloc: Global, text: &[u8], hashing: KeyHashing) -> Result<MapText, BytesFault> {
-        match read_map_with_hashing(alloc, text, hashing) {
-            Ok(map) => Ok(map),
-            Err(fault) => Err(BytesFault::Map(fault)),
-        }
+        read_map_with_hashing(alloc, text, hashing).map_err(BytesFault::Map)
     }
 }
 
@@ -57,10 +54,7 @@ impl Decode for PrefixList {
     ghost reads = { IsListText };
 
     fn decode(alloc: Global, text: &[u8], hashing: KeyHashing) -> Result<PrefixList, BytesFault> {
-        match read_list_with_hashing(alloc, text, hashing) {
-            Ok(list) => Ok(list),
-            Err(fault) => Err(BytesFault::List(fault)),
-        }
+        read_list_with_hashing(alloc, text, hashing).map_err(BytesFault::List)
     }
 }
 
@@ -73,14 +67,12 @@ impl Decode for Certificate {
     ghost reads = { IsCertificateText };
 
     fn decode(alloc: Global, text: &[u8], hashing: KeyHashing) -> Result<Certificate, BytesFault> {
-        match read_cert_with_hashing(alloc, text, hashing) {
-            Ok(certificate) => {
-                // Provides the law that a certificate that is read has a text.
-                let _root = certificate.root();
-                Ok(certificate)
-            }
-            Err(fault) => Err(BytesFault::Certificate(fault)),
-        }
+        let certificate = read_cert_with_hashing(alloc, text, hashing).map_err(
+            BytesFault::Certificate,
+        )?;
+        // Provides the law that a certificate that is read has a text.
+        let _root = certificate.root();
+        Ok(certificate)
     }
 }
 
@@ -110,7 +102,7 @@ fn load_one<'a, R: Input, T: Decode>(
 ) -> Result<Option<T>, RunFault<'a>>
     requires { source_failed R.failed source.old ≡ false }
     ensures there { IfOk result (λ value. is_some value ≡ is_some source.old) }
-    ensures ok { IfOk result (λ value. (text : List ℕ) → HasText R.bytes_left source.old text → Holds T.reads text value) }
+    ensures ok { IfOk result (λ value. (text : List ℕ) → HasText R.bytes_left source.old text → IfSome value (T.reads text)) }
     ensures err { IfErr result (IsStop R.bytes_left R.failed T.turn source.old source.new) }
     ensures name { name_of source.new ≡ name_of source.old }
     ensures failed { source_failed R.failed source.new ≡ is_read_stop result }
@@ -138,7 +130,7 @@ pub fn load<'a, R: Input>(
     ensures read { IfOk result (λ loaded. AreReadBefore R.bytes_left FlowsTurn inputs.old) }
     ensures err { (needs : Needs) → AreNeeded needs inputs.old
         → IfErr result (IsFaultOfBytes R.bytes_left R.failed inputs.old inputs.new (IsFirstFault needs)) }
-    ensures needed { (needs : Needs) → AreNeeded needs inputs.old → AreNeeded needs inputs.new }
+    ensures needed { (needs : Needs) → AreNeeded needs inputs.old → IfOk result (λ _. AreNeeded needs inputs.new) }
     ensures name { name_of inputs.new.certificate ≡ name_of inputs.old.certificate }
     ensures flows { inputs.new.flows ≡ inputs.old.flows }
     ensures failed { any_failed R.failed inputs.new ≡ is_read_stop result }

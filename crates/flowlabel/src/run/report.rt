@@ -150,8 +150,10 @@ pub fn report_under<'a, R: Input, P: Report>(
     ensures failed { any_failed R.failed inputs.new ≡ is_read_stop result }
 {
     let index = index_of(alloc, labels)?;
+    let found = index.as_ref();
     let Some(source) = &mut inputs.flows else {
-        unreachable!()
+        // Without a File there are no messages.
+        return Ok(report.finish(alloc, report.begin(alloc, found)?, found)?);
     };
-    report_of_file(alloc, source, report, index.as_ref())
+    report_of_file(alloc, source, report, found)
 }

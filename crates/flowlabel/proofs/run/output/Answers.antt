@@ -1,5 +1,5 @@
--- The outcome over the loaded files is the request's output, and a fault of loading is its first fault.
-use Rattle.std.proofs.Common.{◌≡◌, List, Option, Ok, Err, subst, sym}
+-- What comes of the loaded files is the request's output, and a fault of loading is its first one.
+use Rattle.std.proofs.Common.{Option, Ok, subst, sym}
 use Rattle.std.proofs.lemmas.Result.{IfErr-weaker, IfOk-weaker}
 use Rattle.flowlabel.specs.Loading.{ComesOf, IsFirstFault}
 use Rattle.flowlabel.specs.Output.{IsOutput}

@@ -1,4 +1,4 @@
-use Rattle.std.proofs.Common.{◌∙◌, List, Err, ap, sym, subst, map}
+use Rattle.std.proofs.Common.{◌∙◌, List, ap, sym, subst, map}
 use Rattle.std.specs.Prelude.{option_map}
 use Rattle.clap.specs.Words.{App, HasKind, Row, Text, fault_of, found_of, is_simple, is_simple_and_free, rows_of, subcommand_of, takes}
 use Rattle.flowlabel.specs.Answer.{answer_of}

@@ -62,27 +62,3 @@ returns-clause-needed g c = λ needs needed. record {
   certificate = there_as c.args.inputs.now.certificate c.load_one-3.new.source c.load_one-3.ensures.name ∙ needed.certificate;
   flows = needed.flows;
 }
-
-pub returns-in_err-map-clause-needed : goal.returns-in_err-map-clause-needed
-returns-in_err-map-clause-needed g c = λ needs needed. record {
-  map = there_as c.args.inputs.now.map c.load_one.new.source c.load_one.ensures.name ∙ needed.map;
-  list = needed.list;
-  certificate = needed.certificate;
-  flows = needed.flows;
-}
-
-pub returns-in_err-list-clause-needed : goal.returns-in_err-list-clause-needed
-returns-in_err-list-clause-needed g c = λ needs needed. record {
-  map = there_as c.args.inputs.now.map c.load_one.new.source c.load_one.ensures.name ∙ needed.map;
-  list = there_as c.args.inputs.now.list c.load_one-2.new.source c.load_one-2.ensures.name ∙ needed.list;
-  certificate = needed.certificate;
-  flows = needed.flows;
-}
-
-pub returns-in_err-certificate-clause-needed : goal.returns-in_err-certificate-clause-needed
-returns-in_err-certificate-clause-needed g c = λ needs needed. record {
-  map = there_as c.args.inputs.now.map c.load_one.new.source c.load_one.ensures.name ∙ needed.map;
-  list = there_as c.args.inputs.now.list c.load_one-2.new.source c.load_one-2.ensures.name ∙ needed.list;
-  certificate = there_as c.args.inputs.now.certificate c.load_one-3.new.source c.load_one-3.ensures.name ∙ needed.certificate;
-  flows = needed.flows;
-}

@@ -1,12 +1,12 @@
 -- The labels of the index are those of the map or the list, and a fault of the File is the outcome of the report.
-use Rattle.std.proofs.Common.{◌≡◌, ◌∙◌, ℕ, List, Option, Ok, Some, None, ap, inl, refl, subst}
+use Rattle.std.proofs.Common.{◌≡◌, ◌∙◌, ℕ, Option, Ok, Some, None, ap, inl, refl, subst}
 use Rattle.std.specs.Borrow.{Bor}
 use Rattle.std.specs.Prelude.{option_copied, option_map}
 use Rattle.std.proofs.lemmas.Result.{IfErr-weaker, IfOk-weaker}
 use Rattle.prefix_keys.specs.declared.version.Version.{Version}
 use Rattle.pmap_text.specs.MapModel.{Label}
 use Rattle.label_lookup.specs.Labelling.{Labelling, labelling_by, labelling_lent}
-use Rattle.flowlabel.specs.Loading.{IsFaultOfAnswer, labelling_of_either}
+use Rattle.flowlabel.specs.Loading.{labelling_of_either}
 use Rattle.flowlabel.specs.Output.{ReportsOf}
 use Rattle.flowlabel.specs.Run.{HasText}
 use Rattle.flowlabel.specs.declared.inputs.Inputs.{Inputs}
@@ -21,7 +21,7 @@ lent_is version label (Some l) owned is = ap (option_map (labelling_by version l
 
 pub returns-clause-ok : goal.returns-clause-ok
 returns-clause-ok g c =
-    let same = lent_is _ _ c.as_ref.result _ c.as_ref.ensures.value ∙ c.in_ok-index.ensures in
+    let same = lent_is _ _ c.as_ref-found.result _ c.as_ref-found.ensures.value ∙ c.in_ok-index.ensures in
     IfOk-weaker c.report_of_file.result _ _
     (λ out reports. λ bytes told. subst (λ (l : Option Labelling). ReportsOf (g.P.Report.text c.args.report.now) l bytes (Ok out.items)) same
     (reports bytes (subst (λ (x : Option (Source g.row.R.Denot)). HasText g.R.Input.bytes_left x bytes) c.in-Some.is told)))

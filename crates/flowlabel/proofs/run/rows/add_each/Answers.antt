@@ -1,5 +1,5 @@
-use Rattle.std.proofs.Common.{◌≡◌, ◌+◌, ◌∙◌, ◌++◌, ◌∷◌, [], List, Option, Bool, is_some, map, option_map, subst, sym, take}
-use Rattle.flow_rows.specs.Row.{RowView, row_view}
+use Rattle.std.proofs.Common.{◌∙◌, ◌++◌, ◌∷◌, [], List, Option, Bool, is_some, map, option_map, subst, sym, take}
+use Rattle.flow_rows.specs.Row.{row_view}
 use Rattle.pmap_print.specs.Columns.{IsTable}
 use Rattle.pmap_print.specs.Parts.{column_count}
 use Rattle.pmap_print.specs.Rows.{label_texts, row_line}
