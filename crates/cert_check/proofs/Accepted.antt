@@ -5,23 +5,17 @@ use Rattle.std.specs.Option.{option_or}
 use Rattle.std.proofs.lemmas.Bool.{and_from, and_parts, both_ways, cases_lt, eq-eqb, eqb-true, false_from_ne_true, false≢true, lt-ltb, ltb-true, not-true, not_from_false, or_left, or_right}
 use Rattle.std.proofs.lemmas.Option.{none-some}
 use Rattle.std.proofs.lemmas.Slice.Eq.{bytes_eq-Decides}
-use Rattle.prefix_keys.specs.Block.{first_of}
-use Rattle.prefix_keys.specs.Version.{width_of}
+use Rattle.prefix_keys.specs.Block.{first_of, width_of}
 use Rattle.prefix_keys.specs.declared.version.Version.{Version}
 use Rattle.prefix_keys.specs.declared.version.Version.TheVariants.{V4, V6}
 use Rattle.pmap_text.specs.ListModel.{ListModel, Prefix, label_below, lies_inside}
 use Rattle.pmap_text.specs.MapModel.{IsSettled, Label, MapModel, settled_label}
 use Rattle.pmap_cert.specs.Acceptance.{AreBitsAccepted, IsAccepted, IsDecided, IsNodeAccepted, IsWithinExact}
-use Rattle.pmap_cert.specs.CertificateForm.{HasNodeForm, HasRoomBelow}
-use Rattle.pmap_cert.specs.CertificateModel.{CertificateModel, ChainNode, InnerNode, LeafNode, Pair, Tree, claim_of, has}
-use Rattle.pmap_cert.specs.Chain.{chain_pair, chosen_half, side_half}
-use Rattle.pmap_cert.specs.ExactPair.{exact_pair}
+use Rattle.pmap_cert.specs.CertificateText.{HasNodeForm, HasRoomBelow}
+use Rattle.pmap_cert.specs.CertificateModel.{CertificateModel, ChainNode, InnerNode, LeafNode, Pair, Tree, claim_of, has, chain_pair, chosen_half, side_half, exact_pair}
 use Rattle.pmap_cert.proofs.ChainWords.{other-room}
 use Rattle.pmap_cert.proofs.Sets.{bytes_eq-same}
-use Rattle.cert_check.specs.Checking.{bits_fault, claim_fault, fault_at, first_fault, is_decided, is_label_of, leaf_fault, node_count, node_fault, whole_fault}
-use Rattle.cert_check.specs.Versions.{is_same_version}
-use Rattle.cert_check.specs.declared.fault.CheckFault.{CheckFault}
-use Rattle.cert_check.specs.declared.fault.CheckFaultKind.TheVariants.{BoundNotMet, CostTooHigh, LeafNotUniform, ListDiffers, SetTooSmall, VersionDiffers}
+use Rattle.cert_check.specs.Checking.{bits_fault, claim_fault, fault_at, first_fault, is_decided, is_label_of, leaf_fault, node_count, node_fault, whole_fault, is_same_version, CheckFault, BoundNotMet, CostTooHigh, LeafNotUniform, ListDiffers, SetTooSmall, VersionDiffers}
 use Rattle.cert_check.proofs.Lists.{any-filtered, none_kept}
 
 pub same_version-true : (v w : Version) → is_same_version v w ≡ true → v ≡ w

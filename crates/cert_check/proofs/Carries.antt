@@ -7,17 +7,15 @@ use Rattle.std.proofs.lemmas.Bool.{and_from, and_parts, false_from_ne_true, fals
 use Rattle.std.proofs.lemmas.Bool.Decides.{nat_tests}
 use Rattle.std.proofs.lemmas.List.Elements.{filter-append, filter_agree}
 use Rattle.std.proofs.lemmas.Nat.{pow_pos}
-use Rattle.prefix_keys.specs.Block.{first_of, last_of}
-use Rattle.prefix_keys.specs.Version.{width_of}
+use Rattle.prefix_keys.specs.Block.{first_of, last_of, width_of}
 use Rattle.prefix_keys.specs.declared.block.Block.{Block}
 use Rattle.pmap_text.specs.Carried.{entry_covers, from_last, statement_meets, statement_spans}
 use Rattle.pmap_text.specs.ListModel.{lies_inside}
 use Rattle.pmap_text.specs.PrefixList.{prefix_of}
 use Rattle.pmap_text.specs.declared.entry.Entry.{Entry}
 use Rattle.pmap_text.specs.declared.statement.Statement.{Statement}
-use Rattle.cert_check.specs.Carrying.{carried_to, entries_carried_to, number_of}
-use Rattle.cert_check.specs.Sources.{covers_whole, greatest, is_inside, meets_block, spans_block}
-use Rattle.cert_check.specs.Versions.{is_same_version}
+use Rattle.cert_check.specs.Inner.{carried_to, entries_carried_to, number_of, covers_whole, greatest, is_inside, meets_block, spans_block}
+use Rattle.cert_check.specs.Checking.{is_same_version}
 use Rattle.cert_check.proofs.Lists.{any-kept, filter_twice, from_last-filter}
 
 -- the last address of a block is not before its first

@@ -1,13 +1,10 @@
 -- Blocks, their halves and the blocks inside them.
 use Rattle.std.proofs.Common.{◌≡◌, ◌∙◌, ℕ, suc, ◌+◌, ◌-◌, ◌*◌, ◌/◌, ◌^◌, ◌<◌, ◌≤◌, sym, ap, subst, arith, pow_pos}
-use Rattle.prefix_keys.specs.Block.{block_number, first_of, last_of}
-use Rattle.prefix_keys.specs.Version.{width_of}
+use Rattle.prefix_keys.specs.Block.{block_number, first_of, last_of, width_of}
 use Rattle.prefix_keys.specs.declared.block.Block.{Block}
 use Rattle.prefix_keys.proofs.Quotients.{whole}
 use Rattle.pmap_text.proofs.Blocks.{block_number-half, pow-half}
-use Rattle.cert_check.specs.Carrying.{number_of}
-use Rattle.cert_check.specs.Halves.{AreHalves, IsHalf}
-use Rattle.cert_check.specs.Parts.{last_in}
+use Rattle.cert_check.specs.Inner.{number_of, AreHalves, IsHalf, last_in}
 use Rattle.cert_check.proofs.Carries.{first-last}
 
 -- the first address with a block's number is the block's first address

@@ -6,8 +6,7 @@ use Rattle.prefix_keys.specs.declared.block.Block.{Block}
 use Rattle.pmap_text.specs.declared.entry.Entry.{Entry}
 use Rattle.pmap_text.specs.declared.label.LabelId.{LabelId}
 use Rattle.pmap_text.specs.declared.prefix_list.PrefixList.{PrefixList}
-use Rattle.cert_check.specs.Halves.{AreHalves}
-use Rattle.cert_check.specs.Parts.{IsListPart}
+use Rattle.cert_check.specs.Inner.{AreHalves, IsListPart}
 use Rattle.cert_check.proofs.HalfBlocks.{behind-low, ends-high, high-number, high-within, low-number, low-within}
 use Rattle.cert_check.proofs.Handed.{handed-half}
 use Rattle.cert_check.proofs.Within.{back-from, back-rising, back-to, front-from, front-rising, front-to, lies-between, lies-from, lies-to, narrow}

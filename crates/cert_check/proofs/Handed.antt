@@ -7,8 +7,7 @@ use Rattle.std.proofs.lemmas.List.{get_or-map, length-map}
 use Rattle.std.proofs.lemmas.List.Elements.{All-contains}
 use Rattle.std.proofs.lemmas.List.Folds.{list_any_at}
 use Rattle.std.proofs.lemmas.Option.{same_Some}
-use Rattle.prefix_keys.specs.Block.{block_number, first_of}
-use Rattle.prefix_keys.specs.Version.{width_of}
+use Rattle.prefix_keys.specs.Block.{block_number, first_of, width_of}
 use Rattle.prefix_keys.specs.declared.block.Block.{Block}
 use Rattle.pmap_text.specs.ListModel.{Prefix, covers, label_at, label_below, lies_inside}
 use Rattle.pmap_text.specs.MapModel.{Label}
@@ -21,9 +20,8 @@ use Rattle.pmap_text.proofs.Finds.{Contains-first, Contains-later, Contains-nil,
 use Rattle.pmap_text.proofs.ListBlocks.{block_start}
 use Rattle.pmap_text.proofs.ListPainted.{list_blocks}
 use Rattle.pmap_cert.proofs.Longest.{label_below-same}
-use Rattle.cert_check.specs.Carrying.{number_of}
+use Rattle.cert_check.specs.Inner.{number_of, AreWithin, IsHandedDown, IsListPart, LiesIn, text_of}
 use Rattle.cert_check.specs.Checking.{is_decided, is_label_of}
-use Rattle.cert_check.specs.Parts.{AreWithin, IsHandedDown, IsListPart, LiesIn, text_of}
 use Rattle.cert_check.proofs.HalfBlocks.{block-first}
 use Rattle.cert_check.proofs.Within.{IsOwn, first-other, strict, strict-rest}
 

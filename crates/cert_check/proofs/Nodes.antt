@@ -7,21 +7,13 @@ use Rattle.std.proofs.lemmas.Option.{none-some, same_Some}
 use Rattle.pmap_text.specs.ListModel.{Prefix}
 use Rattle.pmap_text.specs.MapModel.{Label, MapModel, settled_label}
 use Rattle.pmap_text.specs.MapText.{text_at}
-use Rattle.prefix_keys.specs.Version.{width_of}
+use Rattle.prefix_keys.specs.Block.{width_of}
 use Rattle.prefix_keys.specs.declared.block.Block.{Block}
-use Rattle.pmap_cert.specs.CertificateForm.{HasRoomBelow, IsRising}
-use Rattle.pmap_cert.specs.CertificateModel.{ChainNode, InnerNode, LeafNode, Pair, Tree, claim_of, has}
-use Rattle.pmap_cert.specs.Chain.{chain_pair, chosen_half, side_half}
-use Rattle.pmap_cert.specs.ExactPair.{exact_pair}
+use Rattle.pmap_cert.specs.CertificateText.{HasRoomBelow, IsRising}
+use Rattle.pmap_cert.specs.CertificateModel.{ChainNode, InnerNode, LeafNode, Pair, Tree, claim_of, has, chain_pair, chosen_half, side_half, exact_pair}
 use Rattle.pmap_cert.specs.Node.{Chain, HasChainForm, Inner, Leaf, Node, behind, bits_of, first_node, from_next_line, label_of, set_of, side_of, tree_of}
-use Rattle.cert_check.specs.Carrying.{number_of}
-use Rattle.cert_check.specs.Halves.{IsHalf}
-use Rattle.cert_check.specs.Checking.{bits_fault, claim_fault, fault_at, is_decided, is_label_of, leaf_fault, node_count, node_fault, told}
-use Rattle.cert_check.specs.Descent.{IsAnswer, answer_of}
-use Rattle.cert_check.specs.declared.checking.NodeLine.{NodeLine}
-use Rattle.cert_check.specs.declared.fault.CheckFault.{CheckFault}
-use Rattle.cert_check.specs.declared.fault.CheckFaultKind.{CheckFaultKind}
-use Rattle.cert_check.specs.declared.fault.CheckFaultKind.TheVariants.{CostTooHigh, LeafNotUniform, ListDiffers, NoMemory, SetTooSmall}
+use Rattle.cert_check.specs.Inner.{number_of, IsHalf, IsAnswer, answer_of, NodeLine}
+use Rattle.cert_check.specs.Checking.{bits_fault, claim_fault, fault_at, is_decided, is_label_of, leaf_fault, node_count, node_fault, told, CheckFault, CheckFaultKind, CostTooHigh, LeafNotUniform, ListDiffers, NoMemory, SetTooSmall}
 use Rattle.cert_check.proofs.HalfBlocks.{half-number}
 
 -- the number of the next node in a fault

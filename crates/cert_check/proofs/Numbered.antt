@@ -10,7 +10,7 @@ use Rattle.pmap_text.specs.MapModel.{Label}
 use Rattle.pmap_text.specs.MapText.{text_at}
 use Rattle.pmap_text.specs.declared.label.LabelId.{LabelId}
 use Rattle.pmap_text.proofs.LabelTexts.{slice_get-number}
-use Rattle.cert_check.specs.Sources.{AreNumbers}
+use Rattle.cert_check.specs.Inner.{AreNumbers}
 
 -- an element of a mapped list is that of the list mapped
 slice_get-map : {X Y : Type 0} (f : X → Y) (xs : List X) (i : ℕ) → slice_get (map f xs) i ≡ option_map f (slice_get xs i)

@@ -12,18 +12,13 @@ use Rattle.pmap_text.specs.Label.{IsLabelTable}
 use Rattle.pmap_text.specs.MapModel.{Label}
 use Rattle.pmap_text.specs.MapText.{text_at}
 use Rattle.pmap_text.specs.declared.label.LabelId.{LabelId}
-use Rattle.pmap_cert.specs.CertificateForm.{IsRising}
-use Rattle.pmap_cert.specs.CertificateModel.{Pair, claim_of, has}
+use Rattle.pmap_cert.specs.CertificateText.{IsRising, place_of}
+use Rattle.pmap_cert.specs.CertificateModel.{Pair, claim_of, has, chain_labels, chain_pair, exact_pair, exact_pair_by}
 use Rattle.pmap_cert.specs.Node.{Chain, Inner, Leaf, Node, cost_of, set_of, tree_of}
-use Rattle.pmap_cert.specs.CertificateText.{place_of}
-use Rattle.pmap_cert.specs.Chain.{chain_labels, chain_pair}
-use Rattle.pmap_cert.specs.ExactPair.{exact_pair, exact_pair_by}
 use Rattle.pmap_cert.proofs.Tables.{place_of-text_at}
-use Rattle.cert_check.specs.Checking.{claim_fault}
+use Rattle.cert_check.specs.Checking.{claim_fault, CheckFaultKind, CostTooHigh, SetTooSmall}
 use Rattle.cert_check.proofs.Lists.{length-nil}
-use Rattle.cert_check.specs.Sources.{has_number}
-use Rattle.cert_check.specs.declared.fault.CheckFaultKind.{CheckFaultKind}
-use Rattle.cert_check.specs.declared.fault.CheckFaultKind.TheVariants.{CostTooHigh, SetTooSmall}
+use Rattle.cert_check.specs.Inner.{has_number}
 
 -- the numbers of labels
 abbrev pub numbers : List LabelId → List ℕ

@@ -2,22 +2,16 @@
 use Rattle.std.proofs.Common.{◌≡◌, ◌∙◌, ℕ, zero, suc, ◌+◌, ◌-◌, ◌^◌, ◌<◌, ◌≤◌, inl, inr, true, cond, Option, Some, None, List, get_or, length, nat_le, option_map, refl, sym, ap, subst, arith}
 use Rattle.std.proofs.lemmas.Bool.{cases_eq, cases_lt, le-leb, lt-leb, lt-ltb}
 use Rattle.std.proofs.lemmas.List.Elements.{All-map}
-use Rattle.prefix_keys.specs.Block.{first_of, last_of}
-use Rattle.prefix_keys.specs.Version.{width_of}
+use Rattle.prefix_keys.specs.Block.{first_of, last_of, width_of}
 use Rattle.pmap_text.specs.MapModel.{Label, label_or, settled_label}
 use Rattle.pmap_text.specs.MapText.{map_of, mapping_of, text_at}
-use Rattle.pmap_text.specs.Stretches.{HaveAddresses, label_seen}
-use Rattle.pmap_text.specs.Stretches.{HasEveryAddress, HoldsAddress, StretchesModel, first_at, label_at, last_at}
+use Rattle.pmap_text.specs.Stretches.{HaveAddresses, label_seen, HasEveryAddress, HoldsAddress, StretchesModel, first_at, label_at, last_at}
 use Rattle.pmap_text.specs.declared.label.LabelId.{LabelId}
 use Rattle.pmap_text.specs.declared.map_text.MapText.{MapText}
 use Rattle.pmap_text.specs.declared.statement.Statement.{Statement}
 use Rattle.pmap_text.proofs.SeenBlocks.{settled_stretch}
-use Rattle.cert_check.specs.Carrying.{number_of}
+use Rattle.cert_check.specs.Inner.{number_of, AreSources, IsPart, IsSettledBetween, last_in, text_of, Part, Sources}
 use Rattle.cert_check.specs.Checking.{is_label_of}
-use Rattle.cert_check.specs.Kept.{AreSources}
-use Rattle.cert_check.specs.Parts.{IsPart, IsSettledBetween, last_in, text_of}
-use Rattle.cert_check.specs.declared.part.Part.{Part}
-use Rattle.cert_check.specs.declared.sources.Sources.{Sources}
 use Rattle.cert_check.proofs.Carries.{first-last}
 use Rattle.cert_check.proofs.HalfBlocks.{block-first, block-last}
 

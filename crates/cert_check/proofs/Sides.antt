@@ -5,8 +5,7 @@ use Rattle.std.specs.Option.{option_or}
 use Rattle.std.proofs.lemmas.Bool.{and_parts, eqb-true, false_from_ne_true, ltb-true}
 use Rattle.std.proofs.lemmas.List.{take_more}
 use Rattle.std.proofs.lemmas.Nat.{pow_pos}
-use Rattle.prefix_keys.specs.Block.{block_number, first_of, last_of}
-use Rattle.prefix_keys.specs.Version.{width_of}
+use Rattle.prefix_keys.specs.Block.{block_number, first_of, last_of, width_of}
 use Rattle.prefix_keys.specs.declared.block.Block.{Block}
 use Rattle.pmap_text.specs.ListModel.{Prefix, covers, label_at, label_below, lies_inside}
 use Rattle.pmap_text.specs.MapModel.{Label, MapModel, settled_label}
@@ -16,15 +15,10 @@ use Rattle.pmap_text.specs.declared.label.LabelId.{LabelId}
 use Rattle.pmap_text.specs.declared.prefix_list.PrefixList.{PrefixList}
 use Rattle.pmap_text.proofs.Blocks.{address-between, address-first, address-last, block_number-shorter, pow-half}
 use Rattle.pmap_cert.proofs.Longest.{label_below-same}
-use Rattle.pmap_cert.specs.Chain.{chosen_half, side_half}
+use Rattle.pmap_cert.specs.CertificateModel.{chosen_half, side_half}
 use Rattle.pmap_cert.specs.Ways.{LeadsTo, way_number}
-use Rattle.cert_check.specs.Carrying.{number_of}
-use Rattle.cert_check.specs.Checking.{bits_fault, fault_at, is_decided, is_label_of, leaf_fault}
-use Rattle.cert_check.specs.Halves.{IsHalf}
-use Rattle.cert_check.specs.Parts.{IsHandedDown, IsListPart, IsSettledBetween, LiesIn, last_in, text_of}
-use Rattle.cert_check.specs.declared.fault.CheckFault.{CheckFault}
-use Rattle.cert_check.specs.declared.fault.CheckFaultKind.{CheckFaultKind}
-use Rattle.cert_check.specs.declared.fault.CheckFaultKind.TheVariants.{LeafNotUniform, ListDiffers}
+use Rattle.cert_check.specs.Inner.{number_of, IsHalf, IsHandedDown, IsListPart, IsSettledBetween, LiesIn, last_in, text_of}
+use Rattle.cert_check.specs.Checking.{bits_fault, fault_at, is_decided, is_label_of, leaf_fault, CheckFault, CheckFaultKind, LeafNotUniform, ListDiffers}
 use Rattle.cert_check.proofs.Carries.{first-last}
 use Rattle.cert_check.proofs.HalfBlocks.{IsWithin, block-first, block-last, half-number}
 use Rattle.cert_check.proofs.Handed.{entry-version, never-found, none-listed}

@@ -3,8 +3,7 @@ use Rattle.std.proofs.Common.{◌≡◌, ◌∙◌, ℕ, ◌+◌, ◌-◌, ◌^�
 use Rattle.std.proofs.Math.Nat.{div-eq_of_lt}
 use Rattle.std.proofs.lemmas.Bool.{false_from_ne_true, ltb-true}
 use Rattle.std.proofs.lemmas.Option.{none-some}
-use Rattle.prefix_keys.specs.Block.{block_number, last_of}
-use Rattle.prefix_keys.specs.Version.{width_of}
+use Rattle.prefix_keys.specs.Block.{block_number, last_of, width_of}
 use Rattle.prefix_keys.specs.declared.block.Block.{Block}
 use Rattle.prefix_keys.specs.declared.version.Version.{Version}
 use Rattle.pmap_text.specs.ListModel.{Prefix, label_below}
@@ -14,12 +13,8 @@ use Rattle.pmap_text.specs.Stretches.{HoldsAddress, first_at, last_at}
 use Rattle.pmap_text.specs.declared.entry.Entry.{Entry}
 use Rattle.pmap_text.proofs.Blocks.{block_number-zero}
 use Rattle.pmap_cert.specs.Node.{HasChainForm, Node, first_node, tree_of}
-use Rattle.cert_check.specs.Carrying.{number_of}
+use Rattle.cert_check.specs.Inner.{number_of, IsAtNode, AreSources, AreInOrder, IsListPart, last_in, Sources}
 use Rattle.cert_check.specs.Checking.{node_fault}
-use Rattle.cert_check.specs.Descent.{IsAtNode}
-use Rattle.cert_check.specs.Kept.{AreSources}
-use Rattle.cert_check.specs.Parts.{AreInOrder, IsListPart, last_in}
-use Rattle.cert_check.specs.declared.sources.Sources.{Sources}
 use Rattle.cert_check.proofs.Handed.{entry-version}
 
 whole-number : (whole : Block) → whole.value ≡ 0 → number_of whole ≡ 0

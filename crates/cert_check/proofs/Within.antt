@@ -9,8 +9,7 @@ use Rattle.std.proofs.lemmas.Map.Keys.{IsDistinct-IsPermutation, IsDistinct-head
 use Rattle.std.proofs.lemmas.List.Sorted.{Contains-permutation, IsPermutation-sym}
 use Rattle.std.proofs.lemmas.Nat.{pow-add}
 use Rattle.prefix_keys.proofs.Quotients.{whole}
-use Rattle.prefix_keys.specs.Block.{block_number, first_of}
-use Rattle.prefix_keys.specs.Version.{width_of}
+use Rattle.prefix_keys.specs.Block.{block_number, first_of, width_of}
 use Rattle.prefix_keys.specs.declared.block.Block.{Block}
 use Rattle.prefix_keys.specs.declared.version.Version.{Version}
 use Rattle.prefix_keys.specs.declared.version.Version.TheVariants.{V4, V6}
@@ -18,8 +17,7 @@ use Rattle.pmap_text.specs.ListEntries.{HasDistinctBlocks, same_block}
 use Rattle.pmap_text.specs.declared.entry.Entry.{Entry}
 use Rattle.pmap_text.proofs.Blocks.{address-between, address-first, address-last}
 use Rattle.pmap_text.proofs.Finds.{Contains-cases, Contains-first, Contains-later}
-use Rattle.cert_check.specs.Carrying.{number_of}
-use Rattle.cert_check.specs.Parts.{AreInOrder, AreRising, AreWithin, LiesIn, last_in, rank_of}
+use Rattle.cert_check.specs.Inner.{number_of, AreInOrder, AreRising, AreWithin, LiesIn, last_in, rank_of}
 use Rattle.cert_check.proofs.HalfBlocks.{IsWithin, block-first}
 
 -- no block has more than 128 bits

@@ -1,7 +1,6 @@
 //! The statements of a map and the entries of a list that affect a block.
 ghost use Rattle.std.specs.Prelude.{◌≡◌, ◌&&◌, ◌||◌, ◌++◌, ◌∷◌, [], nat_le, nat_lt, IfOk, OnOk, if◌then◌else◌};
-ghost use Rattle.cert_check.specs.Carrying.{carried_to, entries_carried_to};
-ghost use Rattle.cert_check.specs.Sources.{covers_whole as covers_whole_of, greatest, is_inside as is_inside_of, meets_block as meets_block_of, spans_block as spans_block_of};
+ghost use Rattle.cert_check.specs.Inner.{carried_to, entries_carried_to, covers_whole as covers_whole_of, greatest, is_inside as is_inside_of, meets_block as meets_block_of, spans_block as spans_block_of};
 
 use pmap_text::{Entry, Statement};
 use prefix_keys::Block;

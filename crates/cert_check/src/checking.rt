@@ -7,11 +7,8 @@ ghost use Rattle.pmap_cert.specs.Acceptance.{IsAccepted, IsLeast};
 ghost use Rattle.pmap_cert.specs.Certificate.{certificate_of};
 ghost use Rattle.pmap_cert.specs.Node.{first_node, from_next_line, label_of, side_of};
 ghost use Rattle.pmap_cert.specs.Packed.{bits_in};
-ghost use Rattle.cert_check.specs.Checking.{first_fault, node_fault, told};
-ghost use Rattle.cert_check.specs.Descent.{IsAtEnd, IsAtNode, IsNodeAnswer, IsOutcome, IsWayAnswer, answer_of};
-ghost use Rattle.cert_check.specs.Kept.{AreSources};
-ghost use Rattle.cert_check.specs.Parts.{AreInOrder};
-ghost use Rattle.cert_check.specs.declared.fault.CheckFaultKind.TheVariants.{NoMemory};
+ghost use Rattle.cert_check.specs.Checking.{first_fault, node_fault, told, NoMemory};
+ghost use Rattle.cert_check.specs.Inner.{IsAtEnd, IsAtNode, IsNodeAnswer, IsOutcome, IsWayAnswer, answer_of, AreSources, AreInOrder};
 
 use crate::claims::{chain_fault, claim_fault};
 use crate::entry_order::{are_in_order, in_order};

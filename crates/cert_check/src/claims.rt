@@ -3,14 +3,11 @@ ghost use Rattle.std.specs.Prelude.{◌≡◌, ℕ, ◌+◌, ◌^◌, ◌<◌, �
 ghost use Rattle.std.specs.List.{list_all};
 ghost use Rattle.pmap_text.specs.Label.{IsLabelTable};
 ghost use Rattle.pmap_text.specs.MapText.{text_at};
-ghost use Rattle.pmap_cert.specs.CertificateForm.{IsRising};
-ghost use Rattle.pmap_cert.specs.CertificateModel.{claim_of};
-ghost use Rattle.pmap_cert.specs.Chain.{chain_pair};
-ghost use Rattle.pmap_cert.specs.ExactPair.{exact_pair};
+ghost use Rattle.pmap_cert.specs.CertificateText.{IsRising};
+ghost use Rattle.pmap_cert.specs.CertificateModel.{claim_of, chain_pair, exact_pair};
 ghost use Rattle.pmap_cert.specs.Node.{bits_of, cost_of, first_node, set_of, tree_of};
-ghost use Rattle.cert_check.specs.Checking.{claim_fault as claim_fault_of};
-ghost use Rattle.cert_check.specs.declared.fault.CheckFaultKind.TheVariants.{CostTooHigh, SetTooSmall};
-ghost use Rattle.cert_check.specs.Sources.{has_number};
+ghost use Rattle.cert_check.specs.Checking.{claim_fault as claim_fault_of, CostTooHigh, SetTooSmall};
+ghost use Rattle.cert_check.specs.Inner.{has_number};
 
 use crate::fault::CheckFaultKind;
 use pmap_cert::Cursor;

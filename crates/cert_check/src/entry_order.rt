@@ -2,7 +2,7 @@
 ghost use Rattle.std.specs.Prelude.{◌≡◌, IfOk, IsTrue};
 ghost use Rattle.std.specs.List.Sorted.{IsNonDecreasingBy, IsPermutation};
 ghost use Rattle.std.specs.Ordering.{nat_cmp};
-ghost use Rattle.cert_check.specs.Parts.{rank_of};
+ghost use Rattle.cert_check.specs.Inner.{rank_of};
 
 use pmap_text::Entry;
 use prefix_keys::Block;

@@ -4,8 +4,7 @@ ghost use Rattle.std.specs.Option.{ForSome};
 ghost use Rattle.pmap_text.specs.MapModel.{Label};
 ghost use Rattle.pmap_text.specs.MapText.{text_at};
 ghost use Rattle.cert_check.specs.Checking.{is_label_of};
-ghost use Rattle.cert_check.specs.Parts.{text_of};
-ghost use Rattle.cert_check.specs.Sources.{AreNumbers};
+ghost use Rattle.cert_check.specs.Inner.{text_of, AreNumbers};
 
 use pmap_text::{LabelId, Labels};
 use std::alloc::{AllocError, Global};

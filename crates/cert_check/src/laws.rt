@@ -4,7 +4,7 @@ ghost use Rattle.std.specs.Prelude.{◌≡◌, None};
 ghost use Rattle.pmap_text.specs.ListModel.{ListModel};
 ghost use Rattle.pmap_text.specs.MapModel.{MapModel};
 ghost use Rattle.pmap_cert.specs.Acceptance.{IsAccepted};
-ghost use Rattle.pmap_cert.specs.CertificateForm.{HasFormatText, HasTextForm};
+ghost use Rattle.pmap_cert.specs.CertificateText.{HasFormatText, HasTextForm};
 ghost use Rattle.pmap_cert.specs.CertificateModel.{CertificateModel};
 ghost use Rattle.cert_check.specs.Checking.{first_fault};
 

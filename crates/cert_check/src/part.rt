@@ -1,21 +1,17 @@
 //! The part of the map and the list that affects a block.
 ghost use Rattle.std.specs.Prelude.{◌≡◌, ℕ, suc, ◌+◌, ◌-◌, ◌<◌, ◌≤◌, Option, Contains, IfSome, IsTrue, length};
-ghost use Rattle.prefix_keys.specs.Version.{width_of};
+ghost use Rattle.prefix_keys.specs.Block.{width_of};
 ghost use Rattle.pmap_text.specs.MapModel.{settled_label};
 ghost use Rattle.pmap_text.specs.MapText.{map_of, text_at};
 ghost use Rattle.pmap_text.specs.PrefixList.{list_of};
 ghost use Rattle.pmap_text.specs.declared.entry.Entry.{Entry};
 ghost use Rattle.pmap_text.specs.declared.prefix_list.PrefixList.{PrefixList};
-ghost use Rattle.pmap_cert.specs.Chain.{chosen_half, side_half};
+ghost use Rattle.pmap_cert.specs.CertificateModel.{chosen_half, side_half};
 ghost use Rattle.pmap_cert.specs.Packed.{bits_in};
 ghost use Rattle.pmap_cert.specs.Ways.{LeadsTo};
 ghost use Rattle.pmap_text.specs.Stretches.{HoldsAddress};
-ghost use Rattle.cert_check.specs.Carrying.{number_of};
-ghost use Rattle.cert_check.specs.Checking.{bits_fault, is_decided as is_decided_of, is_label_of, leaf_fault as leaf_fault_of};
-ghost use Rattle.cert_check.specs.Halves.{AreHalves, IsHalf};
-ghost use Rattle.cert_check.specs.Kept.{AreSources};
-ghost use Rattle.cert_check.specs.Parts.{AreRising, IsListPart, IsPart, IsSettledBetween, LiesIn, last_in};
-ghost use Rattle.cert_check.specs.declared.fault.CheckFault.{CheckFault};
+ghost use Rattle.cert_check.specs.Inner.{number_of, AreHalves, IsHalf, AreSources, AreRising, IsListPart, IsPart, IsSettledBetween, LiesIn, last_in};
+ghost use Rattle.cert_check.specs.Checking.{bits_fault, is_decided as is_decided_of, is_label_of, leaf_fault as leaf_fault_of, CheckFault};
 
 use crate::entry_order::by_rank;
 use crate::fault::CheckFaultKind;

@@ -2,8 +2,7 @@ ghost use Rattle.std.specs.Prelude.{◌≡◌, ◌<◌, length};
 ghost use Rattle.std.specs.Option.{ForSome};
 ghost use Rattle.pmap_text.specs.MapText.{text_at};
 ghost use Rattle.cert_check.specs.Checking.{is_label_of};
-ghost use Rattle.cert_check.specs.Kept.{AreSources};
-ghost use Rattle.cert_check.specs.Parts.{text_of};
+ghost use Rattle.cert_check.specs.Inner.{AreSources, text_of};
 ghost use Rattle.pmap_text.specs.Stretches.{label_at};
 
 use crate::labels::is_label;

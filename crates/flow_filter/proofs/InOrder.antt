@@ -1,11 +1,8 @@
 -- The first fault of the options, in their order.
 use Rattle.std.proofs.Common.{◌≡◌, inl, inr, ℕ, ◌+◌, List, [], ◌∷◌, ◌++◌, Option, Some, None, Err, length, take, refl, sym, ap, subst, ◌∙◌}
 use lib.Seq.{take-append-add}
-use Rattle.flow_filter.specs.Given.{IsRefused}
-use Rattle.flow_filter.specs.Words.{IsFault, Words, condition_of, fault_in, fault_of, fault_unless, faults, filter_of_words, first_some, place_of, text_of, unless_fault}
-use Rattle.flow_filter.specs.declared.fault.FilterFault.{FilterFault}
-use Rattle.flow_filter.specs.declared.fault.FilterFaultKind.{FilterFaultKind}
-use Rattle.flow_filter.specs.declared.fault.FilterOption.{FilterOption}
+use Rattle.flow_filter.specs.Filters.{IsRefused}
+use Rattle.flow_filter.specs.Words.{IsFault, Words, condition_of, fault_in, fault_of, fault_unless, faults, filter_of_words, first_some, place_of, text_of, unless_fault, FilterFault, FilterFaultKind, FilterOption}
 
 -- a fault is the one of its option
 unless_is : {X : Type 0} (fault : FilterFault) (x : Option X) (f : FilterFault) → fault_unless fault x ≡ Some f → f ≡ fault

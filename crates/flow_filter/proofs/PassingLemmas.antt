@@ -11,9 +11,8 @@ use Rattle.ipfix_read.specs.Message.{message_size, set_size}
 use Rattle.ipfix_read.specs.declared.record.Record.{Record}
 use Rattle.ipfix_read.specs.declared.set.Set.{Set}
 use Rattle.ipfix_read.specs.declared.set.Set.TheVariants.{Templates, Values, Skipped}
-use Rattle.flow_rows.specs.Content.{records_in, records_of, rows_of}
-use Rattle.flow_rows.specs.Elements.{first_row, rows_of_record, second_row}
-use Rattle.flow_rows.specs.Row.{RowView, row_view}
+use Rattle.flow_rows.specs.Counts.{records_in, records_of, rows_of}
+use Rattle.flow_rows.specs.Elements.{first_row, rows_of_record, second_row, RowView, row_view}
 use Rattle.flow_rows.specs.declared.row.Row.{Row}
 
 -- the rows at the start are unchanged when more are added

@@ -7,19 +7,16 @@ use Rattle.std.proofs.lemmas.List.{map-append, take_more}
 use Rattle.std.proofs.lemmas.List.Folds.{list_any-append}
 use Rattle.std.proofs.lemmas.Nat.{pow_pos}
 use Rattle.std.proofs.lemmas.Option.{same_Some}
-use Rattle.prefix_keys.specs.Block.{block_number, first_of, last_of}
+use Rattle.prefix_keys.specs.Block.{block_number, first_of, last_of, width_of}
 use Rattle.prefix_keys.specs.Conversion.{converted, mapped_prefix}
 use Rattle.prefix_keys.specs.Text.{AddressOf}
-use Rattle.prefix_keys.specs.Version.{width_of}
 use Rattle.prefix_keys.specs.declared.block.Block.{Block}
 use Rattle.prefix_keys.specs.declared.version.Version.{Version}
 use Rattle.prefix_keys.specs.declared.version.Version.TheVariants.{V4, V6}
 use Rattle.prefix_keys.proofs.Quotients.{above_first, below_end, block_end, quotient_is, whole}
-use Rattle.flow_filter.specs.Blocks.{item_covers, items_cover, mapped_number, view_of}
-use Rattle.flow_filter.specs.Given.{by_place}
-use Rattle.flow_filter.specs.Ranges.{in_range, in_ranges}
+use Rattle.flow_filter.specs.Condition.{item_covers, items_cover, mapped_number, view_of, in_range, in_ranges, Range}
+use Rattle.flow_filter.specs.Filters.{by_place}
 use Rattle.flow_filter.specs.Texts.{single}
-use Rattle.flow_filter.specs.declared.range.Range.{Range}
 
 -- the number that a conversion to IPv6 gives
 pub place_is : (version : Version) (value : ℕ) (place : AddressOf) → Some place ≡ converted V6 (version, value) → place.1 ≡ mapped_number (version, value)

@@ -7,8 +7,7 @@ use Rattle.std.proofs.lemmas.Bool.{and_from, and_parts, both_ways, cases_eq, cas
 use Rattle.std.proofs.lemmas.List.{get_or_append_left, get_or_default, get_or_push, length_push}
 use Rattle.std.proofs.lemmas.List.Folds.{list_any-append, list_any_at, list_any_more, list_any_none}
 use Rattle.std.proofs.lemmas.List.Sorted.{list_any-IsPermutation}
-use Rattle.flow_filter.specs.Ranges.{AreRising, in_range, in_ranges}
-use Rattle.flow_filter.specs.declared.range.Range.{Range}
+use Rattle.flow_filter.specs.Condition.{AreRising, in_range, in_ranges, Range}
 
 -- the higher of two numbers, as the code finds it
 pub higher_is : (a b m : ℕ) → m ≡ ord_max nat_cmp a b → m ≡ max a b

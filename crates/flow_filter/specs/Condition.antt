@@ -1,8 +1,57 @@
-use Rattle.std.specs.Prelude.{ℕ, ◌&&◌, ◌||◌, Bool, true, false, List, Option, Some, None}
+use Rattle.std.specs.Prelude.{ℕ, ◌+◌, ◌==◌, Bool, false, List, Option, Some, None, ◌&&◌, nat_le, ◌||◌, true, filter}
+use Rattle.std.specs.List.{list_any}
+use Rattle.std.specs.List.Sorted.{IsNonDecreasingBy}
 use Rattle.std.specs.Option.{is_some}
 use Rattle.std.specs.Str.{bytes_eq}
-use Rattle.prefix_keys.specs.Text.{AddressOf}
-use Rattle.flow_rows.specs.Row.{RowView}
+use Rattle.prefix_keys.specs.Block.{block_number, width_of}
+use Rattle.prefix_keys.specs.Conversion.{converted, mapped_prefix}
+use Rattle.prefix_keys.specs.Text.{AddressOf, BlockOf}
+use Rattle.prefix_keys.specs.declared.block.Block.{Block}
+use Rattle.prefix_keys.specs.declared.version.Version.TheVariants.{V4, V6}
+use Rattle.label_lookup.specs.Labelling.{Labelling, label_where}
+use Rattle.ipfix_read.specs.Message.{MessageView}
+use Rattle.flow_rows.specs.Elements.{RowView}
+use Rattle.flow_rows.specs.Counts.{rows_of_messages}
+pub use Rattle.flow_filter.specs.declared.range.Range.{Range}
+
+-- The addresses that the items of an address list cover.
+
+-- the block covers the address after conversion to the block's version
+abbrev pub covers_place : BlockOf → Option AddressOf → Bool
+covers_place (version, value, len) None = false
+covers_place (version, value, len) (Some (v, place)) =
+    block_number (width_of version) len place == block_number (width_of version) len value
+
+abbrev pub item_covers : AddressOf → BlockOf → Bool
+item_covers address block = covers_place block (converted block.0 address)
+
+-- one of the blocks covers the address
+abbrev pub items_cover : List BlockOf → AddressOf → Bool
+items_cover blocks address = list_any (item_covers address) blocks
+
+-- a block without the proofs of its invariants
+abbrev pub view_of : Block → BlockOf
+view_of block = (block.version, block.value, block.len)
+
+-- the number of the address as an IPv6 address
+abbrev pub mapped_number : AddressOf → ℕ
+mapped_number (V4, value) = value + mapped_prefix
+mapped_number (V6, value) = value
+
+-- Sets of numbers given by ranges.
+
+-- the number is between the range's low end and its high end, both included
+abbrev pub in_range : ℕ → Range → Bool
+in_range n r = nat_le r.low n && nat_le n r.high
+
+-- the number is in one of the ranges
+abbrev pub in_ranges : List Range → ℕ → Bool
+in_ranges ranges n = list_any (in_range n) ranges
+
+-- no end of a range is below that of an earlier one
+pub record AreRising (ranges : List Range) : Type 0 where
+  pub lows : IsNonDecreasingBy (λ r. r.low) ranges
+  pub highs : IsNonDecreasingBy (λ r. r.high) ranges
 
 -- Conditions of filters on a row.
 
@@ -51,3 +100,16 @@ row_passes c label row =
 -- a condition on labels is given
 abbrev pub needs_map : Condition → Bool
 needs_map c = is_some c.src_label || is_some c.dst_label || is_some c.any_label
+
+-- The rows that pass a condition.
+
+-- the row meets a condition under a labelling, or without one
+abbrev pub passes : Condition → Option Labelling → RowView → Bool
+passes condition labels row = row_passes condition (label_where labels) row
+
+-- the rows that meet the condition, and those of the rows of messages
+abbrev pub passing : Condition → Option Labelling → List RowView → List RowView
+passing condition labels all = filter (passes condition labels) all
+
+abbrev pub passing_rows : Condition → Option Labelling → List MessageView → List RowView
+passing_rows condition labels messages = passing condition labels (rows_of_messages messages)

@@ -1,8 +1,4 @@
-pub mod Ranges
-pub mod Texts
-pub mod Blocks
 pub mod Condition
-pub mod Passing
+pub mod Texts
 pub mod Words
-pub mod Given
 pub mod Filters

@@ -1,7 +1,7 @@
 use Rattle.std.specs.Prelude.{ℕ, suc, ◌&&◌, ◌==◌, Bool, false, List, [], ◌∷◌, Option, Some, None, Result, Ok, Err, length, map, nat_le, option_map, if◌then◌else◌}
 use Rattle.std.specs.List.{after_first, before_first, list_all, list_any, slice_split}
 use Rattle.prefix_keys.specs.Text.{AddressOf, BlockOf, address_of, block_of_text, decimal_value, is_digit}
-use Rattle.prefix_keys.specs.Version.{width_of}
+use Rattle.prefix_keys.specs.Block.{width_of}
 use Rattle.prefix_keys.specs.declared.text.BlockFault.{BlockFault}
 use Rattle.flow_filter.specs.declared.range.Range.{Range}
 

@@ -1,15 +1,13 @@
 use Rattle.std.specs.Prelude.{◌≡◌, ℕ, ◌+◌, Bool, true, List, [], ◌∷◌, Option, Some, None, Result, Ok, Err, option_and_then, option_map, take}
 use Rattle.std.specs.Option.{is_some, option_or}
 use Rattle.prefix_keys.specs.Text.{AddressOf}
-use Rattle.flow_filter.specs.Blocks.{items_cover}
-use Rattle.flow_filter.specs.Condition.{Condition}
-use Rattle.flow_filter.specs.Ranges.{in_range, in_ranges}
+use Rattle.flow_filter.specs.Condition.{items_cover, Condition, in_range, in_ranges}
 use Rattle.flow_filter.specs.Texts.{address_list, number_list, number_range}
-use Rattle.flow_filter.specs.declared.fault.FilterFault.{FilterFault}
-use Rattle.flow_filter.specs.declared.fault.FilterFaultKind.{FilterFaultKind}
-use Rattle.flow_filter.specs.declared.fault.FilterFaultKind.TheVariants.{BadBlock, BadNumberList, BadRange, NoMemory}
-use Rattle.flow_filter.specs.declared.fault.FilterOption.{FilterOption}
-use Rattle.flow_filter.specs.declared.fault.FilterOption.TheVariants.{AnyLabel, Bytes, DestinationAddress, DestinationLabel, DestinationPort, Packets, Protocol, SourceAddress, SourceLabel, SourcePort}
+pub use Rattle.flow_filter.specs.declared.fault.FilterFault.{FilterFault}
+pub use Rattle.flow_filter.specs.declared.fault.FilterFaultKind.{FilterFaultKind}
+pub use Rattle.flow_filter.specs.declared.fault.FilterFaultKind.TheVariants.{BadBlock, BadNumberList, BadRange, NoMemory}
+pub use Rattle.flow_filter.specs.declared.fault.FilterOption.{FilterOption}
+pub use Rattle.flow_filter.specs.declared.fault.FilterOption.TheVariants.{AnyLabel, Bytes, DestinationAddress, DestinationLabel, DestinationPort, Packets, Protocol, SourceAddress, SourceLabel, SourcePort}
 use Rattle.flow_filter.specs.declared.words.FilterWords.{FilterWords}
 
 -- The condition of the texts of options, or the first fault.

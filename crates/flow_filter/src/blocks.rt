@@ -1,8 +1,7 @@
 //! The blocks of the items of an address list, and the IPv6 numbers of their addresses.
 ghost use Rattle.std.specs.Prelude.{◌≡◌, option_map};
 ghost use Rattle.prefix_keys.specs.Text.{AddressOf};
-ghost use Rattle.flow_filter.specs.Blocks.{item_covers, mapped_number, view_of};
-ghost use Rattle.flow_filter.specs.Ranges.{in_range};
+ghost use Rattle.flow_filter.specs.Condition.{item_covers, mapped_number, view_of, in_range};
 ghost use Rattle.flow_filter.specs.Texts.{address_item, single};
 
 use crate::range::Range;

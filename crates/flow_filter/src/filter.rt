@@ -1,11 +1,9 @@
 ghost use Rattle.std.specs.Prelude.{◌≡◌, ℕ, IfErr, IfOk, List, Ok, Option, option_map, true};
-ghost use Rattle.flow_rows.specs.Row.{RowView, row_view};
+ghost use Rattle.flow_rows.specs.Elements.{RowView, row_view};
 ghost use Rattle.prefix_keys.specs.Text.{AddressOf};
-ghost use Rattle.flow_filter.specs.Condition.{allows, needs_map, row_passes};
+ghost use Rattle.flow_filter.specs.Condition.{allows, needs_map, row_passes, in_ranges};
 ghost use Rattle.label_lookup.specs.Labelling.{label_where, labelling_lent};
-ghost use Rattle.flow_filter.specs.Filters.{condition_in};
-ghost use Rattle.flow_filter.specs.Given.{by_place, covering};
-ghost use Rattle.flow_filter.specs.Ranges.{in_ranges};
+ghost use Rattle.flow_filter.specs.Filters.{condition_in, by_place, covering};
 ghost use Rattle.flow_filter.specs.Words.{IsFault, filter_of_words, words_of};
 
 use crate::blocks::place_of;

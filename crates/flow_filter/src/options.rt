@@ -1,9 +1,8 @@
 //! Reading the texts of the options.
 ghost use Rattle.std.specs.Prelude.{◌≡◌, ◌++◌, ◌∷◌, [], IfErr, IfOk, IfSome, Some, is_some, map, option_map};
 ghost use Rattle.std.specs.Result.{IsOkAnd};
-ghost use Rattle.flow_filter.specs.Blocks.{items_cover, view_of};
-ghost use Rattle.flow_filter.specs.Given.{IsRead, IsRefused, by_place, covering};
-ghost use Rattle.flow_filter.specs.Ranges.{in_ranges};
+ghost use Rattle.flow_filter.specs.Condition.{items_cover, view_of, in_ranges};
+ghost use Rattle.flow_filter.specs.Filters.{IsRead, IsRefused, by_place, covering};
 ghost use Rattle.flow_filter.specs.Texts.{address_list, number_list};
 ghost use Rattle.flow_filter.specs.Words.{addresses_in, counts_in, fault_of, numbers_in};
 

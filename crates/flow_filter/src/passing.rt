@@ -1,12 +1,11 @@
 //! The rows of a message that pass a filter.
 ghost use Rattle.std.specs.Prelude.{◌≡◌, ◌+◌, ◌≤◌, ◌++◌, List, OnErr, OnOk, length, map, take};
 ghost use Rattle.std.specs.List.{flat_map};
-ghost use Rattle.flow_rows.specs.Content.{rows_of};
-ghost use Rattle.flow_rows.specs.Elements.{rows_of_record};
-ghost use Rattle.flow_rows.specs.Row.{RowView, row_view};
+ghost use Rattle.flow_rows.specs.Counts.{rows_of};
+ghost use Rattle.flow_rows.specs.Elements.{rows_of_record, RowView, row_view};
 ghost use Rattle.label_lookup.specs.Labelling.{labelling_lent};
 ghost use Rattle.flow_filter.specs.Filters.{condition_in};
-ghost use Rattle.flow_filter.specs.Passing.{passing};
+ghost use Rattle.flow_filter.specs.Condition.{passing};
 
 use crate::filter::Filter;
 use flow_rows::{Plan, Row};

@@ -1,6 +1,6 @@
 ghost use Rattle.std.specs.Prelude.{◌≡◌, ◌<◌, ◌≤◌, IfOk};
 ghost use Rattle.std.specs.List.Sorted.{IsNonDecreasingBy};
-ghost use Rattle.flow_filter.specs.Ranges.{AreRising, in_ranges};
+ghost use Rattle.flow_filter.specs.Condition.{AreRising, in_ranges};
 
 use crate::range::Range;
 use std::alloc::{AllocError, Global};
@@ -15,8 +15,7 @@ pub struct Ranges {
 
 impl Model for Ranges {
     ghost use Rattle.std.specs.Prelude.{List};
-    ghost use Rattle.flow_filter.specs.Ranges.{AreRising};
-    ghost use Rattle.flow_filter.specs.declared.range.Range.{Range};
+    ghost use Rattle.flow_filter.specs.Condition.{AreRising, Range};
 
     ghost Value = { List Range };
 

@@ -1,7 +1,11 @@
+use Rattle.std.specs.Prelude.{◌≡◌, ◌<◌, ℕ, Bool, true, List, Result, Ok, Err, length, false, ◌⊎◌, ◌++◌, Option}
+use Rattle.std.specs.Io.KnownBytes.{Appends, Keeps}
+pub use Rattle.flow_io.specs.declared.last_call.LastCall.{LastCall}
+pub use Rattle.flow_io.specs.declared.last_call.LastCall.TheVariants.{FailedFlush, Flush, Nothing, Write}
+use Rattle.flow_io.specs.declared.whole_input.ReadStop.{ReadStop}
+use Rattle.flow_io.specs.declared.whole_input.ReadStop.TheVariants.{ReadFault, NoMemory}
+
 -- When a call makes a reader or a writer failed: from `old` to `new`, where `true` means failed.
-use Rattle.std.specs.Prelude.{◌≡◌, ◌<◌, ℕ, Bool, true, List, Result, Ok, Err, length}
-use Rattle.flow_io.specs.declared.last_call.LastCall.{LastCall}
-use Rattle.flow_io.specs.declared.last_call.LastCall.TheVariants.{Flush, FailedFlush}
 
 -- an `Err` makes the device failed, and an `Ok` leaves it as it was
 abbrev pub FailsOnErr : {A E : Type 0} → Bool → Bool → Result A E → Type 0
@@ -23,3 +27,66 @@ FailsOnShortWrite old new (Err _) bytes = new ≡ true
 abbrev pub flush_call : {A E : Type 0} → Result A E → LastCall
 flush_call (Ok _) = Flush
 flush_call (Err _) = FailedFlush
+
+-- The state of a `Buffered` as contracts see it.
+
+-- the inner reader, and the bytes that were read from it and not returned yet
+pub record BufferedState (T : Type 0) : Type 0 where
+  pub inner : T
+  pub ahead : List ℕ
+
+-- The state of a `MemoryInput` as contracts see it.
+
+-- the bytes left, the maximum that a read returns, the number of the next call that fails (1 is the next call, 0 is no
+-- call), and whether a call has failed
+pub record InputState : Type 0 where
+  pub left : List ℕ
+  pub step : ℕ
+  pub failing_call : ℕ
+  pub failed : Bool
+
+-- The state of a `MemoryOutput` as contracts see it.
+
+-- the bytes taken, the maximum that a write takes, the number of the next call that fails (1 is the next call, 0 is no
+-- call), whether a failing write returns 0, whether a call has failed, and the last call
+pub record OutputState : Type 0 where
+  pub taken : List ℕ
+  pub step : ℕ
+  pub failing_call : ℕ
+  pub zero : Bool
+  pub failed : Bool
+  pub last_call : LastCall
+
+-- The state of a device after it was read whole, from the result.
+
+-- whether the reader failed
+abbrev pub is_read_fault : {A : Type 0} → Result A ReadStop → Bool
+is_read_fault (Ok _) = false
+is_read_fault (Err ReadFault) = true
+is_read_fault (Err NoMemory) = false
+
+-- The state of a `Watched` as contracts see it.
+
+-- the inner reader or writer, whether a call has failed, and the last call of a writer
+pub record WatchState (T : Type 0) : Type 0 where
+  pub inner : T
+  pub failed : Bool
+  pub last_call : LastCall
+
+-- How a writer changes from one state to another: the bytes that it has taken, and its last call.
+
+-- known bytes grow by a prefix of these
+abbrev pub AppendsPrefix : Option (List ℕ) → Option (List ℕ) → List ℕ → Type 0
+AppendsPrefix old new bytes = (front : List ℕ) × ((rest : List ℕ) × (bytes ≡ front ++ rest)) × Appends old new front
+
+-- Two states of a writer. The first function returns the bytes taken, and the second the last call.
+module _ {W : Type 0} (taken : W → Option (List ℕ)) (last : W → LastCall) where
+  -- the writer was to take these bytes and then be flushed, and failed: at a write, with a prefix of them taken, or at
+  -- the flush, with all of them taken
+  abbrev pub StopsWriting : W → W → List ℕ → Type 0
+  StopsWriting old new bytes =
+      (AppendsPrefix (taken old) (taken new) bytes × (last new ≡ Write)) ⊎ (Appends (taken old) (taken new) bytes × (last new ≡ FailedFlush))
+
+  -- it took nothing and was not called
+  abbrev pub IsUntouched : W → W → Type 0
+  IsUntouched old new = Keeps (taken old) (taken new) × (last new ≡ last old)

@@ -1,5 +1,5 @@
 ghost use Rattle.std.specs.Prelude.{◌≡◌, ◌-◌, ◌<◌, ◌≤◌, [], ◌++◌, false, length, min, take};
-ghost use Rattle.flow_io.specs.Buffered.{BufferedState};
+ghost use Rattle.flow_io.specs.Devices.{BufferedState};
 
 use crate::devices::{DeviceFault, Input};
 use std::marker::Model;
@@ -20,7 +20,7 @@ pub struct Buffered<T> {
 
 impl<T> Model for Buffered<T> {
     ghost use Rattle.std.specs.Prelude.{◌≤◌, slice_range};
-    ghost use Rattle.flow_io.specs.Buffered.{BufferedState};
+    ghost use Rattle.flow_io.specs.Devices.{BufferedState};
 
     ghost Value = { BufferedState T };
 

@@ -1,8 +1,6 @@
 ghost use Rattle.std.specs.Prelude.{◌≡◌, ◌≤◌, ℕ, Bool, List, Option, IfOk, length};
 ghost use Rattle.std.specs.Io.KnownBytes.{Keeps, ReadConsumes, WriteAppends};
-ghost use Rattle.flow_io.specs.Devices.{FailsOnErr, FailsOnShortWrite, flush_call};
-ghost use Rattle.flow_io.specs.declared.last_call.LastCall.{LastCall};
-ghost use Rattle.flow_io.specs.declared.last_call.LastCall.TheVariants.{Write};
+ghost use Rattle.flow_io.specs.Devices.{FailsOnErr, FailsOnShortWrite, flush_call, LastCall, Write};
 
 use thiserror::Error;
 

@@ -17,7 +17,7 @@ pub struct MemoryInput<'a> {
 
 impl<'a> Model for MemoryInput<'a> {
     ghost use Rattle.std.specs.Prelude.{◌≤◌};
-    ghost use Rattle.flow_io.specs.MemoryInput.{InputState};
+    ghost use Rattle.flow_io.specs.Devices.{InputState};
 
     ghost Value = { InputState };
 

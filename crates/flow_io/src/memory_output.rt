@@ -1,7 +1,6 @@
 ghost use Rattle.std.specs.Prelude.{◌≡◌, ◌≢◌, ◌+◌, ◌-◌, ◌≤◌, ◌++◌, ◌↔◌, false, [], IfOk, OnOk, OnErr, IsErr, length, min, unwrap_or};
 ghost use Rattle.std.specs.Io.KnownBytes.{Keeps, WriteAppends};
-ghost use Rattle.flow_io.specs.Devices.{FailsOnErr, FailsOnShortWrite, flush_call};
-ghost use Rattle.flow_io.specs.declared.last_call.LastCall.TheVariants.{Nothing, Write};
+ghost use Rattle.flow_io.specs.Devices.{FailsOnErr, FailsOnShortWrite, flush_call, Nothing, Write};
 
 use crate::countdown::Countdown;
 use crate::devices::{DeviceFault, Output};
@@ -22,7 +21,7 @@ pub struct MemoryOutput<const N: usize> {
 
 impl<const N: usize> Model for MemoryOutput<N> {
     ghost use Rattle.std.specs.Prelude.{◌≤◌, take};
-    ghost use Rattle.flow_io.specs.MemoryOutput.{OutputState};
+    ghost use Rattle.flow_io.specs.Devices.{OutputState};
 
     ghost Value = { OutputState };
 

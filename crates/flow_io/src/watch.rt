@@ -1,5 +1,5 @@
 ghost use Rattle.std.specs.Prelude.{◌≡◌, false, true};
-ghost use Rattle.flow_io.specs.declared.last_call.LastCall.TheVariants.{Nothing};
+ghost use Rattle.flow_io.specs.Devices.{Nothing};
 
 use crate::devices::{DeviceFault, Input, Output};
 use crate::last_call::LastCall;
@@ -17,7 +17,7 @@ pub struct Watched<T> {
 }
 
 impl<T> Model for Watched<T> {
-    ghost use Rattle.flow_io.specs.Watched.{WatchState};
+    ghost use Rattle.flow_io.specs.Devices.{WatchState};
 
     ghost Value = { WatchState T };
 

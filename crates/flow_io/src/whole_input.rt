@@ -1,6 +1,6 @@
 ghost use Rattle.std.specs.Prelude.{◌≡◌, false, IfOk, IfSome, OnOk};
 ghost use Rattle.std.specs.Io.KnownBytes.{IsAtEnd};
-ghost use Rattle.flow_io.specs.ReadStops.{is_read_fault};
+ghost use Rattle.flow_io.specs.Devices.{is_read_fault};
 
 use crate::devices::Input;
 use std::alloc::Global;

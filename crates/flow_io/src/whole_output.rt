@@ -1,7 +1,6 @@
 ghost use Rattle.std.specs.Prelude.{◌≡◌, false, is_err, OnErr, OnOk};
 ghost use Rattle.std.specs.Io.KnownBytes.{Appends};
-ghost use Rattle.flow_io.specs.declared.last_call.LastCall.TheVariants.{Flush};
-ghost use Rattle.flow_io.specs.WriterStates.{StopsWriting};
+ghost use Rattle.flow_io.specs.Devices.{Flush, StopsWriting};
 
 use crate::devices::Output;
 use thiserror::Error;

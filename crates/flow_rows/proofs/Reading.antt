@@ -11,10 +11,8 @@ use Rattle.ipfix_templates.specs.Field.{has_bytes, is_variable}
 use Rattle.ipfix_templates.specs.Runs.{runs_behind}
 use Rattle.ipfix_read.specs.Value.{FieldValueView, value_at, values_at, whole_values}
 use Rattle.ipfix_read.proofs.RecordValues.{filled_values, values_with_bytes, whole_is}
-use Rattle.flow_rows.specs.Element.{big_endian, element, element_lengths, is_usable}
-use Rattle.flow_rows.specs.Places.{AreThere, IsThere, elements_at, given, kept, number_there, place, place_in, place_of, said_there}
-use Rattle.flow_rows.specs.declared.elements.Elements.{Elements}
-use Rattle.flow_rows.specs.declared.place.Place.{Place}
+use Rattle.flow_rows.specs.Elements.{big_endian, element, element_lengths, is_usable}
+use Rattle.flow_rows.specs.Inner.{AreThere, IsThere, elements_at, given, kept, number_there, place, place_in, place_of, said_there, Elements, Place}
 use Rattle.flow_rows.proofs.Usable.{IsListed, element-passed, element-unlisted, element-used, element-with_bytes, has_other_length, usable_within}
 
 -- ---- the table of elements

@@ -10,18 +10,15 @@ use Rattle.std.proofs.lemmas.List.Sums.{sum_by-cons}
 use Rattle.prefix_keys.specs.declared.version.Version.{Version}
 use Rattle.prefix_keys.specs.declared.version.Version.TheVariants.{V4, V6}
 use Rattle.ipfix_templates.specs.Field.{has_bytes}
-use Rattle.ipfix_templates.specs.Kind.{same_kind}
+use Rattle.ipfix_templates.specs.Template.{same_kind}
 use Rattle.ipfix_templates.specs.declared.field.Field.{Field}
 use Rattle.ipfix_templates.specs.declared.kind.Kind.{Kind}
 use Rattle.ipfix_templates.specs.declared.kind.Kind.TheVariants.{Flow, Options}
 use Rattle.ipfix_read.specs.Value.{FieldValueView}
 use Rattle.ipfix_read.specs.declared.record.Record.{Record}
 use Rattle.flow_rows.specs.Counts.{is_of_kind}
-use Rattle.flow_rows.specs.Element.{back, element, forward, is_usable}
-use Rattle.flow_rows.specs.Elements.{first_row, first_row_of, packets_of, row_back, row_between, row_of_elements, rows_of_record, second_row}
-use Rattle.flow_rows.specs.Places.{elements_at, place}
-use Rattle.flow_rows.specs.Row.{RowView}
-use Rattle.flow_rows.specs.declared.elements.Elements.{Elements}
+use Rattle.flow_rows.specs.Elements.{back, element, forward, is_usable, first_row, first_row_of, packets_of, row_back, row_between, row_of_elements, rows_of_record, second_row, RowView}
+use Rattle.flow_rows.specs.Inner.{elements_at, place, Elements}
 use Rattle.flow_rows.proofs.Usable.{has_bytes_usable}
 
 -- the row of a flow record is that of its values

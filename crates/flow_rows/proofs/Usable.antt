@@ -10,7 +10,7 @@ use Rattle.ipfix_templates.specs.declared.field.Field.{Field}
 use Rattle.ipfix_templates.specs.Field.{has_bytes}
 use Rattle.ipfix_read.specs.Value.{FieldValueView, value_at, whole_values}
 use Rattle.ipfix_read.proofs.RecordValues.{values_with_bytes}
-use Rattle.flow_rows.specs.Element.{big_endian, element, element_lengths, fits, is_usable}
+use Rattle.flow_rows.specs.Elements.{big_endian, element, element_lengths, fits, is_usable}
 
 -- an element of a row, with the lengths that its fields may have
 abbrev pub IsListed : ℕ → ℕ × ℕ → Type 0

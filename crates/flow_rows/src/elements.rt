@@ -1,10 +1,8 @@
 ghost use Rattle.std.specs.Prelude.{◌≡◌, ◌+◌, ◌<◌, ◌^◌, ◌&&◌, ◌||◌, ℕ, None, Some, if◌then◌else◌, is_some, length, nat_le, option_map};
-ghost use Rattle.prefix_keys.specs.Version.{width_of};
+ghost use Rattle.prefix_keys.specs.Block.{width_of};
 ghost use Rattle.ipfix_read.specs.Value.{whole_values};
-ghost use Rattle.flow_rows.specs.Element.{element};
-ghost use Rattle.flow_rows.specs.Elements.{octets_of, packets_of, row_back, row_between, row_of_elements};
-ghost use Rattle.flow_rows.specs.Places.{AreThere, elements_at, given, kept, place_in, place_of, said_there};
-ghost use Rattle.flow_rows.specs.Row.{row_view};
+ghost use Rattle.flow_rows.specs.Elements.{element, octets_of, packets_of, row_back, row_between, row_of_elements, row_view};
+ghost use Rattle.flow_rows.specs.Inner.{AreThere, elements_at, given, kept, place_in, place_of, said_there};
 
 use crate::place::{Place, time_there, u8_there, u16_there, u32_there, u64_there, u128_there};
 use crate::row::Row;
@@ -90,7 +88,7 @@ impl Elements {
     /// Stores the offsets of one more field, which begins at this offset, if it is usable for an element of the
     /// direction with this enterprise number. The offsets of earlier fields are unchanged.
     #[inline(always)]
-    #[tactic(auto, unfolding(crate::specs::Element::fits))]
+    #[tactic(auto, unfolding(crate::specs::Elements::fits))]
     pub fn keep(&mut self, direction: Option<u32>, field: Field, at: usize)
         requires { at + 65535 < 2 ^ 64 }
         ensures { self.new ≡ elements_at (λ number. kept (place_in self.old number) (given direction at field number)) }

@@ -1,7 +1,7 @@
 //! Places of values in the bytes of records.
 ghost use Rattle.std.specs.Prelude.{◌≡◌, ◌≤◌, length};
-ghost use Rattle.flow_rows.specs.Element.{big_endian};
-ghost use Rattle.flow_rows.specs.Places.{IsThere, number_there};
+ghost use Rattle.flow_rows.specs.Elements.{big_endian};
+ghost use Rattle.flow_rows.specs.Inner.{IsThere, number_there};
 
 use byteorder::{BigEndian, ByteOrder};
 

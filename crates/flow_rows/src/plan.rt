@@ -2,9 +2,7 @@ ghost use Rattle.std.specs.Prelude.{◌≡◌, ◌+◌, ◌<◌, ◌≤◌, ◌^
 ghost use Rattle.std.specs.List.{flat_map};
 ghost use Rattle.ipfix_read.specs.Value.{whole_values};
 ghost use Rattle.ipfix_read.specs.declared.record.Record.{Record as RecordView};
-ghost use Rattle.flow_rows.specs.Element.{back, element, forward};
-ghost use Rattle.flow_rows.specs.Elements.{first_row, packets_of, row_of_elements, rows_of_record, second_row};
-ghost use Rattle.flow_rows.specs.Row.{row_view};
+ghost use Rattle.flow_rows.specs.Elements.{back, element, forward, first_row, packets_of, row_of_elements, rows_of_record, second_row, row_view};
 
 use crate::elements::Elements;
 use crate::row::Row;
@@ -32,7 +30,7 @@ pub struct Plan<'f> {
 impl<'f> Model for Plan<'f> {
     ghost use Rattle.std.specs.Prelude.{List};
     ghost use Rattle.ipfix_templates.specs.Field.{FieldView};
-    ghost use Rattle.flow_rows.specs.Places.{IsPlanned};
+    ghost use Rattle.flow_rows.specs.Inner.{IsPlanned};
 
     ghost Value = { List FieldView };
 

@@ -1,7 +1,6 @@
 //! The rows of data records.
 ghost use Rattle.std.specs.Prelude.{◌≡◌, option_map};
-ghost use Rattle.flow_rows.specs.Elements.{first_row, second_row};
-ghost use Rattle.flow_rows.specs.Row.{row_view};
+ghost use Rattle.flow_rows.specs.Elements.{first_row, second_row, row_view};
 
 use crate::plan::Plan;
 use crate::row::Row;

@@ -5,7 +5,7 @@ use Rattle.std.proofs.lemmas.Slice.Eq.{bytes_eq-Decides, slice_eq-Decides}
 use Rattle.std.specs.Bool.{Decides}
 use Rattle.prefix_keys.specs.declared.version.Version.TheVariants.{V4, V6}
 use Rattle.flow_uniq.specs.Key.{Key, KeyPartModel, AddressPart, NumberPart, LabelPart, part_numbers, same_key, same_part}
-use Rattle.flow_uniq.specs.Parts.{AreSmall, key_code, same_code}
+use Rattle.flow_uniq.specs.Inner.{AreSmall, key_code, same_code}
 use Rattle.flow_uniq.proofs.Cutting.{same_from_codes}
 
 -- the part with these numbers

@@ -10,9 +10,8 @@ use Rattle.byteorder.specs.Endian.{big_from}
 use Rattle.byteorder.specs.Numbers.{big_number-reads_back}
 use Rattle.prefix_keys.specs.declared.version.Version.TheVariants.{V4, V6}
 use Rattle.pmap_text.specs.MapModel.{Label}
-use Rattle.flow_uniq.specs.declared.field.KeyField.{KeyField}
-use Rattle.flow_uniq.specs.Key.{Key, KeyPartModel, AddressPart, NumberPart, LabelPart}
-use Rattle.flow_uniq.specs.Parts.{AreSmall, IsCode, IsSmall, front_bytes, key_code, key_in, part_after, part_code, parts_in, text_front}
+use Rattle.flow_uniq.specs.Key.{KeyField, Key, KeyPartModel, AddressPart, NumberPart, LabelPart}
+use Rattle.flow_uniq.specs.Inner.{AreSmall, IsCode, IsSmall, front_bytes, key_code, key_in, part_after, part_code, parts_in, text_front}
 
 not_less : (a b : ℕ) → b ≤ a → nat_lt a b ≡ false
 not_less a b h = grind (arith, nat_tests)

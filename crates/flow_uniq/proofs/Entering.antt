@@ -14,12 +14,10 @@ use Rattle.std.specs.Option.{IfSome}
 use Rattle.std.specs.Map.{keys_of, lookup, set_value, values_of}
 use Rattle.indexmap.proofs.CallerLemmas.{insert_entry-new}
 use Rattle.indexmap.specs.IndexMap.{IndexMap, IsUnique, get, insert_entry}
-use Rattle.flow_rows.specs.Row.{RowView}
-use Rattle.flow_uniq.specs.declared.totals.Totals.{Totals}
-use Rattle.flow_uniq.specs.Groups.{GroupModel, KeyedRow, groups_of_keyed, record_count}
-use Rattle.flow_uniq.specs.Kept.{AreKept, IsBounded, first_totals, kept_groups, with_row}
+use Rattle.flow_rows.specs.Elements.{RowView}
+use Rattle.flow_uniq.specs.Groups.{Totals, GroupModel, KeyedRow, groups_of_keyed, record_count}
+use Rattle.flow_uniq.specs.Inner.{AreKept, IsBounded, first_totals, kept_groups, with_row, AreSmall, key_code, same_code}
 use Rattle.flow_uniq.specs.Key.{Key, same_key}
-use Rattle.flow_uniq.specs.Parts.{AreSmall, key_code, same_code}
 use Rattle.flow_uniq.proofs.Codes.{same_code-small}
 use Rattle.flow_uniq.proofs.Grouping.{entered, fresh, grown, groups-push}
 

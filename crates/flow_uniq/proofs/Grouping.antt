@@ -13,13 +13,11 @@ use Rattle.std.specs.List.{list_any}
 use Rattle.prefix_keys.specs.Text.{AddressOf}
 use Rattle.pmap_text.proofs.LabelTexts.{list_any-map}
 use Rattle.pmap_text.specs.MapModel.{Label}
-use Rattle.flow_rows.specs.Row.{RowView, row_view}
+use Rattle.flow_rows.specs.Elements.{RowView, row_view}
 use Rattle.flow_rows.specs.declared.row.Row.{Row}
-use Rattle.flow_uniq.specs.declared.field.KeyField.{KeyField}
-use Rattle.flow_uniq.specs.declared.totals.Totals.{Totals}
-use Rattle.flow_uniq.specs.Groups.{GroupModel, KeyedRow, distinct_keys, groups_of_keyed, keyed, rows_with, totals_of}
-use Rattle.flow_uniq.specs.Kept.{first_totals, with_row}
-use Rattle.flow_uniq.specs.Key.{Key, key_of, part_numbers, same_key}
+use Rattle.flow_uniq.specs.Key.{KeyField, Key, key_of, part_numbers, same_key}
+use Rattle.flow_uniq.specs.Groups.{Totals, GroupModel, KeyedRow, distinct_keys, groups_of_keyed, keyed, rows_with, totals_of}
+use Rattle.flow_uniq.specs.Inner.{first_totals, with_row}
 
 same_key-equiv : IsEquivalence same_key
 same_key-equiv = lists_equiv (on_equiv part_numbers nat_list_eq_equiv)

@@ -3,9 +3,8 @@ use Rattle.std.proofs.Common.{ℕ, zero, suc, Some, None, ◌≡◌, ◌+◌, �
 use Rattle.std.specs.List.{slice_get}
 use Rattle.std.proofs.lemmas.List.{map_push, take_more}
 use Rattle.std.proofs.lemmas.Option.{get_or_from_slice_get, none-some, slice_get_within}
-use Rattle.flow_uniq.specs.declared.group.Group.{Group}
+use Rattle.flow_uniq.specs.Inner.{Group, group_model}
 use Rattle.flow_uniq.specs.Groups.{GroupModel}
-use Rattle.flow_uniq.specs.Kept.{group_model}
 
 -- one more group
 pub listed-more : (items new : List Group) (x : Group) (groups : List GroupModel) (i : ℕ) → map group_model items ≡ take i groups

@@ -9,10 +9,7 @@ use Rattle.std.proofs.lemmas.List.Sums.{length-filter}
 use Rattle.std.proofs.lemmas.Slice.Eq.{bytes_eq-Decides}
 use Rattle.pmap_text.proofs.Finds.{find_passes}
 use Rattle.pmap_text.proofs.LabelTexts.{list_any-map}
-use Rattle.flow_uniq.specs.declared.field.KeyField.{KeyField}
-use Rattle.flow_uniq.specs.declared.fault.KeyFault.{KeyFault}
-use Rattle.flow_uniq.specs.declared.fault.KeyFault.TheVariants.{BadField, FieldRepeated, NoMemory}
-use Rattle.flow_uniq.specs.Field.{all_fields, field_name, field_named, has_repeated, has_repetition, has_unnamed, is_repeated, items_of, keys_reading, named_fields}
+use Rattle.flow_uniq.specs.Key.{KeyField, KeyFault, BadField, FieldRepeated, NoMemory, all_fields, field_name, field_named, has_repeated, has_repetition, has_unnamed, is_repeated, items_of, keys_reading, named_fields}
 
 count_by-map : {X Y : Type 0} (f : X → Y) (p : Y → Bool) (xs : List X) → count_by p (map f xs) ≡ count_by (λ x. p (f x)) xs
 count_by-map f p xs = fold-map (λ n y. n + cond (p y) 1 0) f 0 xs

@@ -6,7 +6,7 @@ use Rattle.std.proofs.lemmas.List.Elements.{All-cons, All-filter, All-from_get_o
 use Rattle.std.proofs.lemmas.List.Sorted.{sorted_far}
 use Rattle.std.specs.Cmp.{IsStrictWeakOrder}
 use Rattle.std.specs.List.Sorted.{IsSortedBy, IsStableBy, ties}
-use Rattle.flow_uniq.specs.Sorted.{in_order, with_in_order}
+use Rattle.flow_uniq.specs.Groups.{in_order, with_in_order}
 
 -- two elements at the start of a list are swapped if not both are kept
 swapped : {X : Type 0} (x y : X) (xs : List X) (a b : Bool) → (a ≡ true → b ≡ true → ⊥)

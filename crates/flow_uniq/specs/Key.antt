@@ -1,14 +1,84 @@
--- The key of a row.
-use Rattle.std.specs.Prelude.{ℕ, Bool, List, [], ◌∷◌, Option, Some, None, map}
-use Rattle.std.specs.Cmp.Lexicographic.{pointwise}
+use Rattle.std.specs.Prelude.{ℕ, ◌==◌, Bool, true, false, List, [], ◌∷◌, Option, Result, Ok, Err, codes, count_by, find, filter_map, is_none, nat_lt, if◌then◌else◌, Some, None, map}
+use Rattle.std.specs.List.{list_any, slice_split}
 use Rattle.std.specs.Str.{bytes_eq}
+use Rattle.std.specs.Cmp.Lexicographic.{pointwise}
 use Rattle.prefix_keys.specs.Text.{AddressOf}
 use Rattle.prefix_keys.specs.declared.version.Version.{Version}
 use Rattle.prefix_keys.specs.declared.version.Version.TheVariants.{V4, V6}
 use Rattle.pmap_text.specs.MapModel.{Label}
-use Rattle.flow_rows.specs.Row.{RowView}
-use Rattle.flow_uniq.specs.declared.field.KeyField.{KeyField}
+use Rattle.flow_rows.specs.Elements.{RowView}
+pub use Rattle.flow_uniq.specs.declared.field.KeyField.{KeyField}
 use Rattle.flow_uniq.specs.declared.field.KeyField.TheVariants.{SourceAddress, DestinationAddress, SourcePort, DestinationPort, Protocol, Flags, SourceLabel, DestinationLabel}
+pub use Rattle.flow_uniq.specs.declared.fault.KeyFault.{KeyFault}
+pub use Rattle.flow_uniq.specs.declared.fault.KeyFault.TheVariants.{BadField, FieldRepeated, NoMemory}
+
+-- The fields of keys, and the texts that name them.
+
+-- the name of a field
+abbrev pub field_name : KeyField → List ℕ
+field_name SourceAddress = codes "sip"
+field_name DestinationAddress = codes "dip"
+field_name SourcePort = codes "sport"
+field_name DestinationPort = codes "dport"
+field_name Protocol = codes "proto"
+field_name Flags = codes "flags"
+field_name SourceLabel = codes "src-label"
+field_name DestinationLabel = codes "dst-label"
+
+abbrev pub all_fields : List KeyField
+all_fields =
+    SourceAddress ∷ DestinationAddress ∷ SourcePort ∷ DestinationPort ∷ Protocol ∷ Flags ∷ SourceLabel ∷ DestinationLabel
+    ∷ []
+
+-- whether the field is a label
+abbrev pub is_label_field : KeyField → Bool
+is_label_field SourceLabel = true
+is_label_field DestinationLabel = true
+is_label_field _ = false
+
+-- whether some field is a label, so that rows have no keys without a map
+abbrev pub need_map : List KeyField → Bool
+need_map fields = list_any is_label_field fields
+
+-- the field with this name
+abbrev pub field_named : List ℕ → Option KeyField
+field_named text = find (λ field. bytes_eq (field_name field) text) all_fields
+
+-- the items of a text, separated by commas
+abbrev pub items_of : List ℕ → List (List ℕ)
+items_of text = slice_split (λ b. b == 44) text
+
+-- whether an item is not the name of a field
+abbrev pub has_unnamed : List (List ℕ) → Bool
+has_unnamed items = list_any (λ item. is_none (field_named item)) items
+
+-- the fields that the items name
+abbrev pub named_fields : List (List ℕ) → List KeyField
+named_fields items = filter_map field_named items
+
+-- the number of times that a field occurs in a list
+abbrev pub times_named : List KeyField → KeyField → ℕ
+times_named fields field = count_by (λ other. bytes_eq (field_name other) (field_name field)) fields
+
+-- whether a field occurs more than once
+abbrev pub has_repetition : List KeyField → Bool
+has_repetition fields = list_any (λ field. nat_lt 1 (times_named fields field)) fields
+
+-- whether an item occurs more than once, and whether some item does
+abbrev pub is_repeated : List (List ℕ) → List ℕ → Bool
+is_repeated items item = nat_lt 1 (count_by (λ other. bytes_eq other item) items)
+
+abbrev pub has_repeated : List (List ℕ) → Bool
+has_repeated items = list_any (is_repeated items) items
+
+-- the result of reading a text: the fields that its items name, or its fault
+abbrev pub keys_reading : List ℕ → Result (List KeyField) KeyFault
+keys_reading text =
+    if has_unnamed (items_of text) then Err BadField
+    else if has_repetition (named_fields (items_of text)) then Err FieldRepeated
+    else Ok (named_fields (items_of text))
+
+-- The key of a row.
 
 -- a part of a key: an address, a number, or the text of a label or none
 pub data KeyPartModel : Type 0 where

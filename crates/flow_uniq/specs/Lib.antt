@@ -1,6 +1,3 @@
-pub mod Field
 pub mod Key
 pub mod Groups
-pub mod Sorted
-pub mod Parts
-pub mod Kept
+pub mod Inner

@@ -1,9 +1,9 @@
 //! Keys as bytes: the bytes that are written for the key of a row are read back as this key, part by part.
 ghost use Rattle.std.specs.Prelude.{◌≡◌, ◌++◌, ◌∷◌, ◌<◌, ◌^◌, ◌↔◌, [], IfNone, IfOk, IfSome, OnOk, Some, length, option_copied};
-ghost use Rattle.flow_rows.specs.Row.{row_view};
+ghost use Rattle.flow_rows.specs.Elements.{row_view};
 ghost use Rattle.label_lookup.specs.Labelling.{label_where, labelling_lent};
 ghost use Rattle.flow_uniq.specs.Key.{AddressPart, Key as Parts, LabelPart, key_of, key_part};
-ghost use Rattle.flow_uniq.specs.Parts.{AreSmall, IsSmall, front_bytes, key_code, length_code, part_after, part_code, part_model, text_front};
+ghost use Rattle.flow_uniq.specs.Inner.{AreSmall, IsSmall, front_bytes, key_code, length_code, part_after, part_code, part_model, text_front};
 
 use crate::field::KeyField;
 use flow_rows::Row;
@@ -46,7 +46,7 @@ impl Model for Code {
 
     ghost Value = { Key };
 
-    ghost use Rattle.flow_uniq.specs.Parts.{IsCode, key_in};
+    ghost use Rattle.flow_uniq.specs.Inner.{IsCode, key_in};
 
     ghost view = { λ c. key_in c.bytes.items };
 
@@ -57,7 +57,7 @@ impl PartialEq for Code {
     ghost use Rattle.std.specs.Cmp.Lexicographic.{nat_list_eq_equiv};
     ghost use Rattle.std.specs.Cmp.{partial_equiv_from_equiv};
     ghost use Rattle.std.proofs.lemmas.Cmp.{on_equiv};
-    ghost use Rattle.flow_uniq.specs.Parts.{key_code, same_code};
+    ghost use Rattle.flow_uniq.specs.Inner.{key_code, same_code};
 
     ghost eq = { same_code };
 
@@ -71,7 +71,7 @@ impl PartialEq for Code {
 impl Eq for Code {
     ghost use Rattle.std.specs.Cmp.Lexicographic.{nat_list_eq_equiv};
     ghost use Rattle.std.proofs.lemmas.Cmp.{on_equiv};
-    ghost use Rattle.flow_uniq.specs.Parts.{key_code};
+    ghost use Rattle.flow_uniq.specs.Inner.{key_code};
 
     ghost laws = { on_equiv key_code nat_list_eq_equiv };
 }
@@ -80,7 +80,7 @@ impl Hash for Code {
     ghost use Rattle.std.specs.Prelude.{ℕ, List, ◌∷◌, []};
     ghost use Rattle.std.proofs.Common.{ap};
     ghost use Rattle.std.specs.Cmp.Lexicographic.{bytes_decides};
-    ghost use Rattle.flow_uniq.specs.Parts.{key_code};
+    ghost use Rattle.flow_uniq.specs.Inner.{key_code};
 
     ghost hash_input = { λ key. key_code key ∷ [] };
 
@@ -272,7 +272,7 @@ fn part_after(kind: u8, code: &[u8]) -> (KeyPart<'_>, &[u8])
 }
 
 impl<'a> Key<'a> {
-    ghost use Rattle.flow_uniq.specs.Kept.{key_model};
+    ghost use Rattle.flow_uniq.specs.Inner.{key_model};
 
     /// Returns the key with this code.
     pub(crate) fn of_code(code: &'a Code) -> Key<'a>

@@ -34,7 +34,7 @@ pub const ALL_FIELDS: [KeyField; 8] = [
 ];
 
 impl KeyField {
-    ghost use Rattle.flow_uniq.specs.Field.{field_name, is_label_field};
+    ghost use Rattle.flow_uniq.specs.Key.{field_name, is_label_field};
 
     /// Returns the name of the field.
     pub fn name(self) -> &'static str

@@ -1,11 +1,10 @@
 ghost use Rattle.std.specs.Prelude.{All, ◌≡◌, ◌++◌, ℕ, ◌∷◌, [], ◌+◌, ◌-◌, ◌^◌, ◌<◌, List, IfOk, OnOk, OnErr, length, map, option_map, slice_get, take};
 ghost use Rattle.std.specs.List.Sorted.{IsPermutation, IsSortedBy};
-ghost use Rattle.flow_rows.specs.Row.{row_view};
+ghost use Rattle.flow_rows.specs.Elements.{row_view};
 ghost use Rattle.label_lookup.specs.Labelling.{label_where, labelling_lent};
-ghost use Rattle.flow_uniq.specs.Groups.{AreOfNoRows, KeyedRow, groups_of_keyed, keyed, record_count};
+ghost use Rattle.flow_uniq.specs.Groups.{AreOfNoRows, KeyedRow, groups_of_keyed, keyed, record_count, is_before, sorted_groups};
 ghost use Rattle.flow_uniq.specs.Key.{key_of};
-ghost use Rattle.flow_uniq.specs.Kept.{group_model};
-ghost use Rattle.flow_uniq.specs.Sorted.{is_before, sorted_groups};
+ghost use Rattle.flow_uniq.specs.Inner.{group_model};
 
 use crate::codec::{Code, Key};
 use crate::field::KeyField;
@@ -35,7 +34,7 @@ impl Model for Groups {
 
     ghost Value = { GroupsModel };
 
-    ghost use Rattle.flow_uniq.specs.Kept.{AreKept, kept_groups};
+    ghost use Rattle.flow_uniq.specs.Inner.{AreKept, kept_groups};
 
     ghost view = { λ g. record { fields = g.fields.items; groups = kept_groups g.totals.entries } };
 

@@ -1,7 +1,5 @@
 ghost use Rattle.std.specs.Prelude.{◌≡◌, ◌≢◌, List, Ok, Err, IfOk, IfErr};
-ghost use Rattle.flow_uniq.specs.Field.{field_named, has_repeated, has_unnamed, is_repeated, items_of, keys_reading, named_fields, need_map};
-ghost use Rattle.flow_uniq.specs.declared.field.KeyField.{KeyField};
-ghost use Rattle.flow_uniq.specs.declared.fault.KeyFault.TheVariants.{NoMemory};
+ghost use Rattle.flow_uniq.specs.Key.{field_named, has_repeated, has_unnamed, is_repeated, items_of, keys_reading, named_fields, need_map, KeyField, NoMemory};
 
 use crate::fault::KeyFault;
 use crate::field::{ALL_FIELDS, KeyField};
@@ -16,8 +14,7 @@ pub struct Keys {
 
 impl Model for Keys {
     ghost use Rattle.std.specs.Prelude.{◌≡◌, false, List};
-    ghost use Rattle.flow_uniq.specs.declared.field.KeyField.{KeyField};
-    ghost use Rattle.flow_uniq.specs.Field.{has_repetition};
+    ghost use Rattle.flow_uniq.specs.Key.{KeyField, has_repetition};
 
     ghost Value = { List KeyField };
 

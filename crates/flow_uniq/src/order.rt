@@ -3,9 +3,8 @@ ghost use Rattle.std.specs.Prelude.{◌≡◌, option_copied};
 ghost use Rattle.std.specs.Cmp.Lexicographic.{slice_cmp};
 ghost use Rattle.std.specs.Ordering.{nat_cmp};
 ghost use Rattle.flow_uniq.specs.Key.{AddressPart, label_numbers, version_number};
-ghost use Rattle.flow_uniq.specs.Kept.{key_model};
-ghost use Rattle.flow_uniq.specs.Parts.{part_model};
-ghost use Rattle.flow_uniq.specs.Sorted.{key_order, part_order};
+ghost use Rattle.flow_uniq.specs.Inner.{key_model, part_model};
+ghost use Rattle.flow_uniq.specs.Groups.{key_order, part_order};
 
 use crate::codec::{Key, KeyPart};
 use prefix_keys::{Addr, Version};

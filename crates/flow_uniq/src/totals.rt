@@ -14,8 +14,8 @@ pub struct Totals {
 }
 
 impl Totals {
-    ghost use Rattle.flow_rows.specs.Row.{row_view};
-    ghost use Rattle.flow_uniq.specs.Kept.{IsBounded, first_totals, with_row};
+    ghost use Rattle.flow_rows.specs.Elements.{row_view};
+    ghost use Rattle.flow_uniq.specs.Inner.{IsBounded, first_totals, with_row};
 
     /// Returns the totals of one row.
     pub fn of_row(row: &Row) -> Totals

@@ -1,4 +1,4 @@
--- How the answer of `parse` follows from the kind of clap's error, or from the entries of its matches.
+-- How the result of `parse` follows from the kind of clap's error, or from the entries of its matches.
 use Rattle.std.proofs.Common.{◌≡◌, ◌≢◌, ◌⊎◌, ◌∙◌, ◌||◌, Bool, true, false, List, [], ◌∷◌, Option, Some, None, Result, Ok, Err, refl, ap, ap₂, inl, inr, codes}
 use Rattle.std.specs.Prelude.{IfErr, IfOk, ok_or, option_map, unwrap_or, if◌then◌else◌}
 use Rattle.std.specs.List.{list_any}
@@ -13,13 +13,10 @@ use Rattle.prefix_keys.specs.Text.{AddressOf}
 use Rattle.pmap_text.specs.Reading.{◌>>=◌}
 use Rattle.flow_filter.specs.Condition.{needs_map}
 use Rattle.flow_filter.specs.Words.{filter_of_words}
-use Rattle.flow_uniq.specs.Field.{keys_reading, need_map}
-use Rattle.flowlabel.specs.Request.{LabelSource, Request, Text, check, info, recert, request_of}
+use Rattle.flow_uniq.specs.Key.{keys_reading, need_map}
+use Rattle.flowlabel.specs.Request.{LabelSource, Request, Text, check, info, recert, request_of, Command}
 use Rattle.flowlabel.specs.Definition.{flowlabel_app}
-use Rattle.flowlabel.specs.Answer.{Answer, Answers, IsAnswer, IsFaultAt, IsFaultOfKind, IsOwnAnswer, IsOwnFault, address_answer, address_in_rows, answer_of, answer_of_cat, answer_of_label, answer_of_rows, answer_of_shrink, is_help, is_mistake, shrunk_asked, shrunk_in_rows, source_answer, sources_in_rows, text_in_rows, IsUnlessMemory, condition_in_rows, with_labels, words_in_rows, answer_of_uniq, fields_in_rows}
-use Rattle.flowlabel.specs.declared.command.Command.{Command}
-use Rattle.flowlabel.specs.declared.usage.UsageFault.{UsageFault}
-use Rattle.flowlabel.specs.declared.usage.UsageFault.TheVariants.{Refused, NotUtf8, Help, MapMissing, Filter, Key, NoMemory}
+use Rattle.flowlabel.specs.Answer.{Answer, Answers, IsAnswer, IsFaultAt, IsFaultOfKind, IsOwnAnswer, IsOwnFault, address_answer, address_in_rows, answer_of, answer_of_cat, answer_of_label, answer_of_rows, answer_of_shrink, is_help, is_mistake, shrunk_asked, shrunk_in_rows, source_answer, sources_in_rows, text_in_rows, IsUnlessMemory, condition_in_rows, with_labels, words_in_rows, answer_of_uniq, fields_in_rows, UsageFault, Refused, NotUtf8, Help, MapMissing, Filter, Key, NoMemory}
 
 -- clap's theorems are about definitions such as this one
 pub flowlabel_is_simple : is_simple flowlabel_app ≡ true
@@ -88,7 +85,7 @@ label_own rows =
     then_own (sources_in_rows rows) _ (source_own _ _)
     (λ found. then_own (ok_or found MapMissing) _ (needed_own found) (λ labels. address_own labels (address_in_rows rows)))
 
--- and so do `rows` and its parts
+-- `rows` and its parts give neither a refusal of clap's nor help
 mapped_own : {A F : Type 0} (as_fault : F → UsageFault) → ((fault : F) → IsOwnFault (as_fault fault)) → (r : Result A F)
     → IsOwnAnswer (result_map_both (λ x. x) as_fault r)
 mapped_own as_fault own (Ok x) = tt
@@ -107,7 +104,7 @@ rows_own rows =
     then_own (sources_in_rows rows) _ (source_own _ _)
     (λ source. then_own (condition_in_rows rows) _ (condition_own rows) (λ condition. with_labels_own (needs_map condition) source _))
 
--- and so does `uniq`
+-- `uniq` and its parts give neither a refusal of clap's nor help
 uniq_own : (rows : List Row) → IsOwnAnswer (answer_of_uniq rows)
 uniq_own rows =
     then_own (sources_in_rows rows) _ (source_own _ _)

@@ -6,8 +6,7 @@ use Rattle.pmap_text.specs.MapModel.{MapModel}
 use Rattle.pmap_text.specs.Reading.{ReadsList, ReadsMap}
 use Rattle.pmap_cert.specs.Acceptance.{IsAccepted, IsLeast}
 use Rattle.pmap_cert.specs.CertificateModel.{CertificateModel}
-use Rattle.flowlabel.specs.Output.{CertificateThen, CheckIsEnough, Checks, ListThen, Outcome, ReadsCertificate, Then, minimal_text}
-use Rattle.flowlabel.specs.declared.bytes_fault.BytesFault.{BytesFault}
+use Rattle.flowlabel.specs.Output.{CertificateThen, CheckIsEnough, Checks, ListThen, Outcome, ReadsCertificate, Then, minimal_text, BytesFault}
 use Rattle.flowlabel.specs.declared.bytes_fault.BytesFault.TheVariants.{Map as InMap, List as InList, Certificate as InCertificate}
 
 -- a text comes of the value that a file's text is read as

@@ -1,4 +1,4 @@
--- What a command is with an argument, with more of them, and with a subcommand.
+-- How clap reads a command with one more argument, with several more, and with a subcommand.
 use Rattle.std.proofs.Common.{◌≡◌, ◌∙◌, ◌||◌, Bool, false, List, [], ◌∷◌, refl, subst}
 use Rattle.std.specs.List.{AllZip}
 use Rattle.clap.specs.Words.{AddsArg, AddsInTurn, AddsSubcommand, App, Rule, with_rule}

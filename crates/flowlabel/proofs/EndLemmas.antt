@@ -1,19 +1,15 @@
--- What the end of the program says.
+-- What the program's result says about its words and its output.
 use Rattle.std.proofs.Common.{◌≡◌, ◌∙◌, ℕ, Bool, List, Option, Some, None, Result, Ok, Err, ap, false, refl, subst, sym}
 use Rattle.std.specs.Prelude.{IfErr, OnOk, is_some}
 use Rattle.std.specs.Io.KnownBytes.{Appends, Keeps}
 use Rattle.std.specs.Result.{IsErrAnd}
 use Rattle.flow_io.specs.declared.last_call.LastCall.{LastCall}
-use Rattle.flow_io.specs.WriterStates.{IsUntouched}
+use Rattle.flow_io.specs.Devices.{IsUntouched}
 use Rattle.flowlabel.specs.Answer.{Answers}
 use Rattle.flowlabel.specs.Ending.{IsAsked, IsEndOf}
-use Rattle.flowlabel.specs.Opening.{CannotOpenFirst, CannotOpenNamed, CanOpenBefore, HaveNames, name_at}
+use Rattle.flowlabel.specs.Inner.{CannotOpenFirst, CannotOpenNamed, CanOpenBefore, HaveNames, name_at}
 use Rattle.flowlabel.specs.Request.{FileNames, Request, Text, files_of, needs_named}
-use Rattle.flowlabel.specs.Run.{AreNeeded, IsFaultOfRun, PrintsThen, is_write_stop}
-use Rattle.flowlabel.specs.Turns.{Turn}
-use Rattle.flowlabel.specs.declared.fault.RunFault.{RunFault}
-use Rattle.flowlabel.specs.declared.fault.RunFault.TheVariants.{Usage, CannotOpen, CannotWrite}
-use Rattle.flowlabel.specs.declared.inputs.Inputs.{Inputs}
+use Rattle.flowlabel.specs.Run.{AreNeeded, IsFaultOfRun, PrintsThen, is_write_stop, Turn, RunFault, Usage, CannotOpen, CannotWrite, Inputs}
 use Rattle.flowlabel.proofs.LoadingLemmas.{there_if_named}
 
 -- a `?` passes on the fault of the first file that can't be opened
@@ -33,7 +29,7 @@ named_are_needed names inputs named = record {
   flows = there_if_named inputs.flows ∙ ap is_some named.flows;
 }
 
--- known bytes are what they were
+-- known bytes stay the same
 kept : (known : Option (List ℕ)) → Keeps known known
 kept None = tt
 kept (Some bytes) = refl

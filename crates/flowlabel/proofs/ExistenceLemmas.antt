@@ -9,27 +9,24 @@ use Rattle.pmap_text.specs.Reading.{ReadsList, ReadsMap, list_reading, map_readi
 use Rattle.pmap_text.specs.declared.fault.MapFault.{MapFault}
 use Rattle.label_trie.specs.Runs.{AreRunsOf, Run}
 use Rattle.label_lookup.specs.Labelling.{Labelling, labelling_of_list, labelling_of_map}
-use Rattle.pmap_cert.specs.Acceptance.{IsAccepted}
-use Rattle.pmap_cert.specs.CertificateForm.{HasFormatText, HasTextForm}
+use Rattle.pmap_cert.specs.Acceptance.{IsAccepted, IsMinimalPair}
+use Rattle.pmap_cert.specs.CertificateText.{HasFormatText, HasTextForm, certificate_text}
 use Rattle.pmap_cert.specs.CertificateModel.{CertificateModel}
-use Rattle.pmap_cert.specs.CertificateText.{certificate_text}
 use Rattle.pmap_cert.specs.Compacting.{compact}
 use Rattle.pmap_cert.specs.FormatReading.{format_reading}
-use Rattle.pmap_cert.specs.MinimalPair.{IsMinimalPair}
 use Rattle.pmap_cert.specs.declared.fault.CertFault.{CertFault}
 use Rattle.cert_check.specs.Checking.{first_fault}
 use Rattle.cert_check.specs.declared.fault.CheckFault.{CheckFault}
-use Rattle.ipfix_read.specs.File.{HasFileFault, ReadsFile}
+use Rattle.ipfix_read.specs.Messages.{HasFileFault, ReadsFile}
 use Rattle.ipfix_read.specs.Laws.{HasReading}
 use Rattle.ipfix_read.specs.Message.{MessageView}
 use Rattle.ipfix_read.specs.declared.fault.ReadFault.{ReadFault}
 use Rattle.flow_rows.specs.Counts.{counts_of}
-use Rattle.pmap_print.specs.Info.{info_text}
+use Rattle.pmap_print.specs.Reports.{info_text}
 use Rattle.pmap_print.specs.Runs.{runs_text}
 use Rattle.flowlabel.specs.Output.{CertificateThen, Checks, FileTexts, FlowsThen, HasOutput, LabelsThen, ListThen, MapThen, Outcome, PrintsCompact, PrintsMinimal, PrintsRuns, Prints, ReportsOf, ReportsThen, label_text, minimal_text, report_of_groups, report_of_rows, shrunk_text}
 use Rattle.flowlabel.specs.declared.bytes_fault.BytesFault.TheVariants.{Map as InMap, List as InList, Flows as InFlows, Certificate as InCertificate, Check as InCheck}
-use Rattle.flowlabel.specs.declared.command.Shrunk.{Shrunk}
-use Rattle.flowlabel.specs.Request.{FromList, FromMap, LabelSource, label, info, rows, cat, shrink, check, uniq, recert}
+use Rattle.flowlabel.specs.Request.{Shrunk, FromList, FromMap, LabelSource, label, info, rows, cat, shrink, check, uniq, recert}
 
 -- some outcome meets the condition
 abbrev Has : (Outcome → Type 0) → Type 0

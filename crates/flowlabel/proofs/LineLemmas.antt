@@ -1,4 +1,4 @@
--- What clap's theorems say of a command line, by computing them at it.
+-- What clap's theorems say about the example command lines, by computation.
 use Rattle.std.proofs.Common.{◌≡◌, ◌∙◌, ◌==◌, ℕ, Bool, true, false, not, [], ◌∷◌, Option, Some, None, Ok, Err, refl, sym, ap, codes}
 use Rattle.std.specs.Prelude.{unwrap_or}
 use Rattle.clap.specs.Lexer.{short_of}
@@ -7,8 +7,7 @@ use Rattle.clap.proofs.OnLiterals.{clap_on_literals}
 use Rattle.prefix_keys.specs.Text.{address_of}
 use Rattle.flowlabel.specs.Definition.{flowlabel_app}
 use Rattle.flowlabel.specs.Request.{FromMap, rows}
-use Rattle.flowlabel.specs.Answer.{Answer, Answers, HaveOneAnswer, LinesHaveAnswers, address_answer, is_plain_word, no_condition}
-use Rattle.flowlabel.specs.declared.usage.UsageFault.TheVariants.{Refused, NotUtf8, Help, CompactAlone, NoMemory}
+use Rattle.flowlabel.specs.Answer.{Answer, Answers, HaveOneAnswer, LinesHaveAnswers, address_answer, is_plain_word, no_condition, Refused, NotUtf8, Help, CompactAlone, NoMemory}
 
 pub one_answer : HaveOneAnswer
 one_answer words answer (Ok command) own is = ap (λ (o : Option Answer). unwrap_or o answer) (sym own.1 ∙ is.1)

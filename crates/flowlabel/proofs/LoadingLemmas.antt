@@ -11,26 +11,17 @@ use Rattle.pmap_cert.specs.Certificate.{certificate_of}
 use Rattle.pmap_cert.specs.declared.certificate.Certificate.{Certificate}
 use Rattle.cert_check.specs.declared.fault.CheckFault.{CheckFault}
 use Rattle.ipfix_read.specs.Fault.{out_of_memory}
-use Rattle.ipfix_read.specs.File.{HasFileFault}
+use Rattle.ipfix_read.specs.Messages.{HasFileFault}
 use Rattle.ipfix_read.specs.Message.{MessageView}
 use Rattle.ipfix_read.specs.declared.fault.ReadFault.{ReadFault}
 use Rattle.label_lookup.specs.Labelling.{Labelling, labelling_of_list, labelling_of_map}
 use Rattle.flowlabel.specs.BytesFault.{is_check_want, is_want_of_memory}
 use Rattle.flowlabel.specs.Faults.{IsInFile}
-use Rattle.flowlabel.specs.Loading.{AreLoaded, ArePresent, ComesOf, IsCertificateText, IsFaultOfAnswer, IsFirstFault, IsLateFault, IsListText, IsMapText, labelling_loaded, labelling_of_parts}
-use Rattle.flowlabel.specs.Output.{FileTexts, IsOutput, LabelsThen, Outcome, Prints, PrintsRuns, ReportsOf, ReportsThen, label_text, report_of_groups, report_of_rows}
-use Rattle.flowlabel.specs.Request.{FromList, FromMap, LabelSource, Request, Text, files_named, list_in, map_in, needs_named, needs_of, label, info, rows, cat, shrink, check, uniq, recert}
-use Rattle.flowlabel.specs.Run.{AreKeptBehind, AreNeeded, AreReadBefore, HasFailed, HasName, HasText, HaveTexts, IsFaultOfBytes, IsRead, IsStop, any_failed, is_read_stop, name_of, source_failed}
-use Rattle.flowlabel.specs.Turns.{CertificateTurn, FlowsTurn, IsFaultOfText, IsReadAt, ListTurn, MapTurn, Turn, input_at, turn_of}
-use Rattle.flowlabel.specs.declared.bytes_fault.BytesFault.{BytesFault}
+use Rattle.flowlabel.specs.Inner.{AreLoaded, ArePresent, ComesOf, IsCertificateText, IsFaultOfAnswer, IsFirstFault, IsLateFault, IsListText, IsMapText, labelling_loaded, labelling_of_parts, Loaded}
+use Rattle.flowlabel.specs.Output.{FileTexts, IsOutput, LabelsThen, Outcome, Prints, PrintsRuns, ReportsOf, ReportsThen, label_text, report_of_groups, report_of_rows, BytesFault}
+use Rattle.flowlabel.specs.Request.{FromList, FromMap, LabelSource, Request, Text, files_named, list_in, map_in, needs_named, needs_of, label, info, rows, cat, shrink, check, uniq, recert, Needs, Shrunk}
+use Rattle.flowlabel.specs.Run.{AreKeptBehind, AreNeeded, AreReadBefore, HasFailed, HasName, HasText, HaveTexts, IsFaultOfBytes, IsRead, IsStop, any_failed, is_read_stop, name_of, source_failed, CertificateTurn, FlowsTurn, IsFaultOfText, IsReadAt, ListTurn, MapTurn, Turn, input_at, turn_of, RunFault, CannotRead, NoMemory, File, Inputs, Source}
 use Rattle.flowlabel.specs.declared.bytes_fault.BytesFault.TheVariants.{Map as InMap, List as InList, Flows as InFlows, Certificate as InCertificate, Check as InCheck}
-use Rattle.flowlabel.specs.declared.command.Needs.{Needs}
-use Rattle.flowlabel.specs.declared.command.Shrunk.{Shrunk}
-use Rattle.flowlabel.specs.declared.fault.RunFault.{RunFault}
-use Rattle.flowlabel.specs.declared.fault.RunFault.TheVariants.{CannotRead, NoMemory, File}
-use Rattle.flowlabel.specs.declared.inputs.Inputs.{Inputs}
-use Rattle.flowlabel.specs.declared.inputs.Source.{Source}
-use Rattle.flowlabel.specs.declared.run.loaded.Loaded.{Loaded}
 
 -- a fault that a `?` passes on keeps its properties
 pub passed_on : {A F : Type 0} (P : F → Type 0) (r : Result A F) (fault : F) → IsErrAnd r (λ y. y ≡ fault) → P fault → IfErr r P

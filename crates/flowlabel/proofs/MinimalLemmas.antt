@@ -3,17 +3,11 @@ use Rattle.std.proofs.Common.{◌≡◌, ◌∙◌, ◌≤◌, ℕ, List, Ok, ap
 use Rattle.pmap_text.specs.ListModel.{IsEquivalent, ListModel, Prefix}
 use Rattle.pmap_text.specs.MapModel.{MapModel}
 use Rattle.pmap_text.specs.Reading.{ReadsList, ReadsMap, label_limit, mapping_limit}
-use Rattle.pmap_cert.specs.Acceptance.{IsAccepted, IsLeast}
-use Rattle.pmap_cert.specs.CertificateForm.{HasFormatText, HasTextForm}
-use Rattle.pmap_cert.specs.CertificateModel.{CertificateModel}
-use Rattle.pmap_cert.specs.CertificateText.{certificate_text}
-use Rattle.pmap_cert.specs.Chain.{IsOfFormat}
+use Rattle.pmap_cert.specs.Acceptance.{IsAccepted, IsLeast, HasListForm, IsInOrder, HasItsLabels, IsMinimalPair}
+use Rattle.pmap_cert.specs.CertificateText.{HasFormatText, HasTextForm, certificate_text}
+use Rattle.pmap_cert.specs.CertificateModel.{CertificateModel, IsOfFormat}
 use Rattle.pmap_cert.specs.Compacting.{compact}
-use Rattle.pmap_cert.specs.ListForm.{HasListForm, IsInOrder}
-use Rattle.pmap_cert.specs.MinimalPair.{HasItsLabels, IsMinimalPair}
-use Rattle.pmap_print.specs.List.{list_text}
-use Rattle.pmap_print.specs.Order.{in_order}
-use Rattle.pmap_print.specs.ReadBack.{CanBeReadAgain, IsListAgain, IsWellFormed, labels_of}
+use Rattle.pmap_print.specs.List.{list_text, in_order, CanBeReadAgain, IsListAgain, IsWellFormed, labels_of}
 use Rattle.flowlabel.specs.Headline.{IsShortest, MinimalIsShortest, ShrunkIsLeast}
 use Rattle.flowlabel.specs.Output.{CheckAcceptsMinimal, FileTexts, FitsText, IsOutput, minimal_text}
 use Rattle.flowlabel.specs.Request.{check}

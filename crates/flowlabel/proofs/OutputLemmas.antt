@@ -1,5 +1,5 @@
--- A request has one output at most: a map text, a certificate's text and a File have one reading, and what comes of it
--- is one text or the first fault.
+-- A request has at most one output: a map text, a certificate's text and a File have one reading, and the outcome for
+-- what is read is one text or the first fault.
 use Rattle.std.proofs.Common.{◌≡◌, ◌∙◌, ℕ, List, [], Option, Some, None, Ok, Err, ap, sym, subst, inl, inr}
 use Rattle.std.specs.Prelude.{◌↔◌}
 use Rattle.prefix_keys.specs.declared.version.Version.{Version}
@@ -7,7 +7,7 @@ use Rattle.pmap_text.specs.ListModel.{ListModel}
 use Rattle.pmap_text.specs.MapModel.{Label, MapModel}
 use Rattle.pmap_text.specs.Reading.{ReadsMap}
 use Rattle.pmap_text.specs.declared.fault.MapFault.{MapFault}
-use Rattle.pmap_cert.specs.Acceptance.{IsAccepted}
+use Rattle.pmap_cert.specs.Acceptance.{IsAccepted, HasItsLabels, IsMinimalPair}
 use Rattle.pmap_cert.specs.Compacting.{compact}
 use Rattle.pmap_cert.specs.FormatReading.{format_reading}
 use Rattle.pmap_cert.specs.declared.fault.CertFault.{CertFault}
@@ -17,19 +17,16 @@ use Rattle.ipfix_read.specs.Laws.{OneReading}
 use Rattle.ipfix_read.specs.Message.{MessageView}
 use Rattle.ipfix_read.specs.declared.fault.ReadFault.{ReadFault}
 use Rattle.flow_rows.specs.Counts.{counts_of}
-use Rattle.pmap_cert.specs.CertificateForm.{HasTextForm}
+use Rattle.pmap_cert.specs.CertificateText.{HasTextForm, certificate_text}
 use Rattle.pmap_cert.specs.CertificateModel.{CertificateModel}
-use Rattle.pmap_cert.specs.CertificateText.{certificate_text}
-use Rattle.pmap_cert.specs.MinimalPair.{HasItsLabels, IsMinimalPair}
-use Rattle.pmap_print.specs.Info.{info_text}
+use Rattle.pmap_print.specs.Reports.{info_text}
 use Rattle.pmap_print.specs.List.{list_text}
 use Rattle.pmap_print.specs.Runs.{IsRunsText}
 use Rattle.label_lookup.specs.Labelling.{Labelling, labelling_of_list, labelling_of_map}
 use Rattle.flowlabel.specs.Output.{FileTexts, FlowsThen, LabelsThen, ListThen, MapThen, OneOutput, Outcome, Prints, PrintsCompact, PrintsMinimal, PrintsRuns, ReportsOf, ReportsThen, label_text, report_of_rows, CertificateThen, Checks, ReadsCertificate, report_of_groups}
 use Rattle.flowlabel.specs.declared.bytes_fault.BytesFault.TheVariants.{Map as InMap, List as InList, Flows as InFlows, Certificate as InCertificate, Check as InCheck}
-use Rattle.flowlabel.specs.declared.command.Shrunk.{Shrunk}
+use Rattle.flowlabel.specs.Request.{Shrunk, FromList, FromMap, LabelSource, label, info, rows, cat, shrink, check, uniq, recert}
 use Rattle.flowlabel.specs.declared.command.Shrunk.TheVariants as shrunk
-use Rattle.flowlabel.specs.Request.{FromList, FromMap, LabelSource, label, info, rows, cat, shrink, check, uniq, recert}
 
 -- there is at most one outcome for each value
 abbrev IsOne : {A : Type 0} → (A → Outcome → Type 0) → Type 0

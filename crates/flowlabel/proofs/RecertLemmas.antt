@@ -4,10 +4,8 @@ use Rattle.pmap_text.specs.ListModel.{ListModel}
 use Rattle.pmap_text.specs.MapModel.{MapModel}
 use Rattle.pmap_text.specs.Reading.{ReadsList, ReadsMap}
 use Rattle.pmap_cert.specs.Acceptance.{IsAccepted}
-use Rattle.pmap_cert.specs.CertificateForm.{HasFormatText}
-use Rattle.pmap_cert.specs.CertificateModel.{CertificateModel}
-use Rattle.pmap_cert.specs.CertificateText.{certificate_text}
-use Rattle.pmap_cert.specs.Chain.{IsOfFormat}
+use Rattle.pmap_cert.specs.CertificateText.{HasFormatText, certificate_text}
+use Rattle.pmap_cert.specs.CertificateModel.{CertificateModel, IsOfFormat}
 use Rattle.pmap_cert.specs.Compacting.{compact, line_count}
 use Rattle.pmap_cert.specs.FormatReading.{format_reading}
 use Rattle.flowlabel.specs.Output.{CertificateThen, Checks, FileTexts, IsOutput, ListThen, PrintsCompact, ReadsCertificate, RecertIsAsGood}

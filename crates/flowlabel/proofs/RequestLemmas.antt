@@ -1,8 +1,6 @@
 -- What holds of the request of each command.
 use Rattle.std.specs.Prelude.{Result, Ok, Err, IfOk}
-use Rattle.flowlabel.specs.Request.{IsProper, request_of}
-use Rattle.flowlabel.specs.declared.command.Command.{Command}
-use Rattle.flowlabel.specs.declared.command.Command.TheVariants.{Label}
+use Rattle.flowlabel.specs.Request.{IsProper, request_of, Command, Label}
 use Rattle.flowlabel.specs.declared.usage.UsageFault.{UsageFault}
 
 -- the address of a command's request is one of its version, as `Addr` ensures

@@ -11,14 +11,12 @@ use Rattle.pmap_text.specs.MapModel.{Label}
 use Rattle.ipfix_read.specs.Message.{MessageView}
 use Rattle.ipfix_read.specs.declared.record.Record.{Record}
 use Rattle.ipfix_read.specs.declared.set.Set.{Set}
-use Rattle.flow_rows.specs.Content.{records_in, records_of, rows_of, rows_of_messages, sets_of}
-use Rattle.flow_rows.specs.Elements.{rows_of_record}
-use Rattle.flow_filter.specs.Condition.{Condition}
-use Rattle.flow_filter.specs.Passing.{passes, passing, passing_rows}
-use Rattle.flow_rows.specs.Row.{RowView, row_view}
+use Rattle.flow_rows.specs.Counts.{records_in, records_of, rows_of, rows_of_messages, sets_of}
+use Rattle.flow_rows.specs.Elements.{rows_of_record, RowView, row_view}
+use Rattle.flow_filter.specs.Condition.{Condition, passes, passing, passing_rows}
 use Rattle.flow_rows.specs.declared.row.Row.{Row}
 use Rattle.pmap_print.specs.declared.labels.RowLabels.{RowLabels}
-use Rattle.pmap_print.specs.Rows.{LabelTexts, label_fields, label_texts, label_titles, row_fields, row_line, row_titles, title_line}
+use Rattle.pmap_print.specs.Reports.{LabelTexts, label_fields, label_texts, label_titles, row_fields, row_line, row_titles, title_line}
 use Rattle.pmap_print.specs.Table.{Line}
 use Rattle.label_lookup.specs.Labelling.{Labelling, labelling_lent}
 use Rattle.flowlabel.specs.Output.{labelled_row_lines, row_labels}

@@ -2,12 +2,11 @@
 use Rattle.std.proofs.Common.{◌≡◌, ◌∙◌, ◌<◌, ◌≤◌, ◌+◌, inl, inr, ℕ, List, [], ◌∷◌, ◌++◌, Option, Some, None, Ok, Err, IfSome, length, refl, sym, ap, subst, arith}
 use Rattle.std.proofs.lemmas.List.{length_push}
 use Rattle.ipfix_read.specs.Fault.{is_of_reader}
-use Rattle.ipfix_read.specs.File.{ReadsFile}
+use Rattle.ipfix_read.specs.Messages.{ReadsFile, AnswersNext, IsReadTo, ProgressView, at_start}
 use Rattle.ipfix_read.specs.Laws.{CallsJoinFile, CallsStart}
 use Rattle.ipfix_read.specs.Message.{MessageView}
-use Rattle.ipfix_read.specs.Messages.{AnswersNext, IsReadTo, ProgressView, at_start}
 use Rattle.ipfix_read.specs.declared.fault.ReadFault.{ReadFault}
-use Rattle.flowlabel.specs.Taken.{HasTaken, IsFaultOfMessages}
+use Rattle.flowlabel.specs.Inner.{HasTaken, IsFaultOfMessages}
 
 -- if the reader reports its bytes, these messages of them are read so far, and it still gives the rest
 abbrev pub AreRead : Option (List ℕ) → Option (List ℕ) → List MessageView → ProgressView → Type 0

@@ -8,18 +8,16 @@ use Rattle.prefix_keys.specs.Text.{AddressOf, address_of}
 use Rattle.pmap_text.specs.Reading.{◌>>=◌}
 use Rattle.flow_filter.specs.Condition.{Condition, needs_map}
 use Rattle.flow_filter.specs.Words.{Words, filter_of_words}
-use Rattle.flow_uniq.specs.Field.{keys_reading, need_map}
+use Rattle.flow_uniq.specs.Key.{keys_reading, need_map}
 use Rattle.flow_uniq.specs.declared.field.KeyField.{KeyField}
 use Rattle.clap.specs.Words.{Row, fault_of, first_of, subcommand_of}
 use Rattle.clap.specs.declared.error.kind.ErrorKind.{ErrorKind}
 use Rattle.clap.specs.declared.error.kind.ErrorKind.TheVariants as kind
 use Rattle.flowlabel.specs.Definition.{flowlabel_app}
-use Rattle.flowlabel.specs.Request.{FromList, FromMap, LabelSource, Request, Text, cat, info, label, request_of, rows, shrink, check, uniq, recert}
-use Rattle.flowlabel.specs.declared.command.Command.{Command}
-use Rattle.flowlabel.specs.declared.command.Shrunk.{Shrunk}
+use Rattle.flowlabel.specs.Request.{FromList, FromMap, LabelSource, Request, Text, cat, info, label, request_of, rows, shrink, check, uniq, recert, Command, Shrunk}
 use Rattle.flowlabel.specs.declared.command.Shrunk.TheVariants as shrunk
-use Rattle.flowlabel.specs.declared.usage.UsageFault.{UsageFault}
-use Rattle.flowlabel.specs.declared.usage.UsageFault.TheVariants.{Refused, NotUtf8, Help, MapTwice, MapMissing, BadAddress, Filter, Key, LabelNeedsMap, CompactAlone, NoMemory}
+pub use Rattle.flowlabel.specs.declared.usage.UsageFault.{UsageFault}
+pub use Rattle.flowlabel.specs.declared.usage.UsageFault.TheVariants.{BadAddress, CompactAlone, Filter, Help, Key, LabelNeedsMap, MapMissing, MapTwice, NoMemory, NotUtf8, Refused}
 
 -- The answer to a command line.
 
@@ -34,7 +32,7 @@ source_answer (Some map) None = Ok (Some (FromMap map))
 source_answer None (Some list) = Ok (Some (FromList list))
 source_answer None None = Ok None
 
--- `label` under a source, by the address that its word means
+-- the answer for `label`, by its source of labels and the address in its word, if that is well formed
 abbrev pub address_answer : LabelSource → Option AddressOf → Answer
 address_answer source None = Err BadAddress
 address_answer source (Some address) = Ok (label source address)

@@ -2,19 +2,16 @@ use Rattle.std.specs.Prelude.{◌≡◌, ◌⊎◌, ℕ, Bool, true, List, [], O
 use Rattle.std.specs.Io.KnownBytes.{Appends}
 use Rattle.flow_io.specs.declared.last_call.LastCall.{LastCall}
 use Rattle.flow_io.specs.declared.last_call.LastCall.TheVariants.{Flush}
-use Rattle.flow_io.specs.WriterStates.{IsUntouched, StopsWriting}
+use Rattle.flow_io.specs.Devices.{IsUntouched, StopsWriting}
 use Rattle.flowlabel.specs.Answer.{Answers, IsFaultAt}
 use Rattle.flowlabel.specs.Faults.{fault_text}
-use Rattle.flowlabel.specs.Opening.{AreOpened, CannotOpenFirst, HaveNames}
+use Rattle.flowlabel.specs.Inner.{AreOpened, CannotOpenFirst, HaveNames}
 use Rattle.flowlabel.specs.Request.{Request, Text, files_of}
-use Rattle.flowlabel.specs.Run.{IsFaultOfRun, PrintsThen}
+use Rattle.flowlabel.specs.Run.{IsFaultOfRun, PrintsThen, RunFault, Usage, CannotOpen, Inputs}
 use Rattle.flowlabel.specs.declared.ending.Stream.{Stream}
 use Rattle.flowlabel.specs.declared.ending.Told.{Told}
 use Rattle.flowlabel.specs.declared.ending.Told.TheVariants.{Lent, Made}
 use Rattle.flowlabel.specs.declared.ending.Stream.TheVariants as stream
-use Rattle.flowlabel.specs.declared.fault.RunFault.{RunFault}
-use Rattle.flowlabel.specs.declared.fault.RunFault.TheVariants.{Usage, CannotOpen}
-use Rattle.flowlabel.specs.declared.inputs.Inputs.{Inputs}
 use Rattle.flowlabel.specs.declared.usage.UsageFault.TheVariants as usage
 
 -- How the program ends: what its result says about its words and its output, and what it writes to which stream.

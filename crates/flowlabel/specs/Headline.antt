@@ -2,15 +2,11 @@ use Rattle.std.specs.Prelude.{◌≡◌, ℕ, List, Some, Ok, length}
 use Rattle.pmap_text.specs.ListModel.{IsEquivalent, ListModel}
 use Rattle.pmap_text.specs.MapModel.{MapModel}
 use Rattle.pmap_text.specs.Reading.{ReadsList, ReadsMap}
-use Rattle.pmap_cert.specs.Acceptance.{IsAccepted, IsLeast}
-use Rattle.pmap_cert.specs.CertificateForm.{HasFormatText, HasTextForm}
+use Rattle.pmap_cert.specs.Acceptance.{IsAccepted, IsLeast, IsInOrder, IsMinimalPair}
+use Rattle.pmap_cert.specs.CertificateText.{HasFormatText, HasTextForm, certificate_text}
 use Rattle.pmap_cert.specs.CertificateModel.{CertificateModel}
-use Rattle.pmap_cert.specs.CertificateText.{certificate_text}
 use Rattle.pmap_cert.specs.Compacting.{compact}
-use Rattle.pmap_cert.specs.ListForm.{IsInOrder}
-use Rattle.pmap_cert.specs.MinimalPair.{IsMinimalPair}
-use Rattle.pmap_print.specs.List.{list_text}
-use Rattle.pmap_print.specs.ReadBack.{IsWellFormed}
+use Rattle.pmap_print.specs.List.{list_text, IsWellFormed}
 use Rattle.flowlabel.specs.Output.{FileTexts, FitsText, IsAsGood, IsCheckedLeast, IsOutput, IsPrintedCertificate, minimal_text, shrunk_text, under}
 use Rattle.flowlabel.specs.Request.{FromList, FromMap, LabelSource, Request, Text, cat, check, label, recert, rows, shrink, uniq}
 use Rattle.flowlabel.specs.declared.command.Shrunk.TheVariants as shrunk

@@ -4,10 +4,7 @@ pub mod Answer
 pub mod BytesFault
 pub mod Faults
 pub mod Output
-pub mod Turns
 pub mod Run
-pub mod Loading
-pub mod Taken
-pub mod Opening
+pub mod Inner
 pub mod Ending
 pub mod Headline

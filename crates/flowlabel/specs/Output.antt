@@ -3,37 +3,29 @@ use Rattle.prefix_keys.specs.Text.{AddressOf}
 use Rattle.pmap_text.specs.ListModel.{IsEquivalent, ListModel}
 use Rattle.pmap_text.specs.MapModel.{MapModel}
 use Rattle.pmap_text.specs.Reading.{ReadsList, ReadsMap, label_limit, list_reading, map_reading, mapping_limit}
-use Rattle.pmap_cert.specs.Acceptance.{IsAccepted, IsLeast}
-use Rattle.pmap_cert.specs.CertificateForm.{HasFormatText, HasTextForm}
+use Rattle.pmap_cert.specs.Acceptance.{IsAccepted, IsLeast, IsMinimalPair}
+use Rattle.pmap_cert.specs.CertificateText.{HasFormatText, HasTextForm, certificate_text}
 use Rattle.pmap_cert.specs.CertificateModel.{CertificateModel}
-use Rattle.pmap_cert.specs.CertificateText.{certificate_text}
 use Rattle.pmap_cert.specs.Compacting.{compact, line_count}
 use Rattle.pmap_cert.specs.FormatReading.{format_reading}
-use Rattle.pmap_cert.specs.MinimalPair.{IsMinimalPair}
 use Rattle.cert_check.specs.Checking.{first_fault}
 use Rattle.cert_check.specs.declared.fault.CheckFault.{CheckFault}
-use Rattle.ipfix_read.specs.File.{HasFileFault, ReadsFile}
+use Rattle.ipfix_read.specs.Messages.{HasFileFault, ReadsFile}
 use Rattle.ipfix_read.specs.Message.{MessageView}
 use Rattle.flow_rows.specs.Counts.{counts_of}
-use Rattle.flow_rows.specs.Row.{RowView}
-use Rattle.flow_filter.specs.Condition.{Condition}
-use Rattle.flow_filter.specs.Passing.{passing_rows}
+use Rattle.flow_rows.specs.Elements.{RowView}
+use Rattle.flow_filter.specs.Condition.{Condition, passing_rows}
 use Rattle.flow_uniq.specs.declared.field.KeyField.{KeyField}
-use Rattle.flow_uniq.specs.Groups.{groups_of}
-use Rattle.flow_uniq.specs.Sorted.{shown_groups}
-use Rattle.pmap_print.specs.Groups.{groups_text}
-use Rattle.pmap_print.specs.Info.{info_text}
-use Rattle.pmap_print.specs.List.{list_text}
-use Rattle.pmap_print.specs.ReadBack.{labels_of}
-use Rattle.pmap_print.specs.Rows.{LabelTexts, row_lines}
+use Rattle.flow_uniq.specs.Groups.{groups_of, shown_groups}
+use Rattle.pmap_print.specs.Reports.{groups_text, info_text, LabelTexts, row_lines}
+use Rattle.pmap_print.specs.List.{list_text, labels_of}
 use Rattle.pmap_print.specs.Runs.{IsRunsText}
 use Rattle.pmap_print.specs.Table.{Line, table_text}
 use Rattle.label_lookup.specs.Labelling.{Labelling, label_by, label_where, labelling_of_list, labelling_of_map}
-use Rattle.flowlabel.specs.declared.bytes_fault.BytesFault.{BytesFault}
+pub use Rattle.flowlabel.specs.declared.bytes_fault.BytesFault.{BytesFault}
 use Rattle.flowlabel.specs.declared.bytes_fault.BytesFault.TheVariants.{Map as InMap, List as InList, Flows as InFlows, Certificate as InCertificate, Check as InCheck}
-use Rattle.flowlabel.specs.declared.command.Shrunk.{Shrunk}
+use Rattle.flowlabel.specs.Request.{Shrunk, FromList, FromMap, LabelSource, Request, label, info, rows, cat, shrink, check, uniq, recert}
 use Rattle.flowlabel.specs.declared.command.Shrunk.TheVariants as shrunk
-use Rattle.flowlabel.specs.Request.{FromList, FromMap, LabelSource, Request, label, info, rows, cat, shrink, check, uniq, recert}
 
 -- The output of a request: the text that it prints, or the first fault of its files' bytes.
 
@@ -79,7 +71,7 @@ abbrev pub LabelsThen : LabelSource → (Labelling → Outcome → Type 0) → F
 LabelsThen (FromMap file) rest texts = MapThen (λ m. rest (labelling_of_map m)) texts.map
 LabelsThen (FromList file) rest texts = ListThen (λ l. rest (labelling_of_list l)) texts.list
 
--- a line is a text and a line feed
+-- a line: a text and a line feed
 abbrev pub line_of : List ℕ → List ℕ
 line_of text = text ++ 10 ∷ []
 
@@ -148,7 +140,7 @@ Checks m l c outcome =
     (IsAccepted m l c × Prints (minimal_text (length l.prefixes)) outcome)
     ⊎ ((fault : CheckFault) × (first_fault m l c ≡ Some fault) × (outcome ≡ Err (InCheck fault)))
 
--- this is an output of the request by the texts of its files, which are read in the order map, list, certificate, flows
+-- the outcome is an output of the request over its files' texts, read in the order map, list, certificate, flows
 abbrev pub IsOutput : Request → FileTexts → Outcome → Type 0
 IsOutput (label source address) texts = LabelsThen source (λ labels. Prints (label_text address labels)) texts
 IsOutput (info flows) texts = ReportsThen (λ labels messages. info_text (counts_of messages)) None texts

@@ -1,16 +1,16 @@
 use Rattle.std.specs.Prelude.{◌^◌, ◌<◌, ℕ, Bool, List, Option, Some, None, is_some, option_and_then, option_map}
 use Rattle.prefix_keys.specs.Text.{AddressOf}
-use Rattle.prefix_keys.specs.Version.{width_of}
+use Rattle.prefix_keys.specs.Block.{width_of}
 use Rattle.flow_filter.specs.Condition.{Condition}
 use Rattle.flow_filter.specs.Filters.{condition_in}
-use Rattle.flowlabel.specs.declared.command.Command.{Command}
-use Rattle.flowlabel.specs.declared.command.Command.TheVariants.{Label, Info, Rows, Cat, Shrink, Check, Uniq, Recert}
+pub use Rattle.flowlabel.specs.declared.command.Command.{Command}
+pub use Rattle.flowlabel.specs.declared.command.Command.TheVariants.{Cat, Check, Info, Label, Recert, Rows, Shrink, Uniq}
 use Rattle.flow_uniq.specs.declared.field.KeyField.{KeyField}
 use Rattle.flowlabel.specs.declared.command.Files.{Files}
 use Rattle.flowlabel.specs.declared.command.LabelFile.{LabelFile}
 use Rattle.flowlabel.specs.declared.command.LabelFile.TheVariants.{Map, List as Prefixes}
-use Rattle.flowlabel.specs.declared.command.Needs.{Needs}
-use Rattle.flowlabel.specs.declared.command.Shrunk.{Shrunk}
+pub use Rattle.flowlabel.specs.declared.command.Needs.{Needs}
+pub use Rattle.flowlabel.specs.declared.command.Shrunk.{Shrunk}
 
 -- What a command line may ask for, independent of how the program represents it.
 

@@ -1,18 +1,62 @@
-use Rattle.std.specs.Prelude.{◌≡◌, ◌||◌, ℕ, Bool, true, false, List, [], Option, Some, None, is_some, Result, Ok, Err, IfErr, IfSome, OnOk, option_map}
+use Rattle.std.specs.Prelude.{◌≡◌, ℕ, List, [], Option, Err, ◌||◌, Bool, true, false, Some, None, is_some, Result, Ok, IfErr, IfSome, OnOk, option_map}
 use Rattle.std.specs.Borrow.{Bor}
 use Rattle.std.specs.Io.KnownBytes.{Appends}
+use Rattle.pmap_text.specs.ListModel.{ListModel}
+use Rattle.pmap_text.specs.MapModel.{MapModel}
+use Rattle.pmap_text.specs.Reading.{ReadsList, ReadsMap, list_reading, map_reading}
 use Rattle.flow_io.specs.declared.last_call.LastCall.{LastCall}
 use Rattle.flow_io.specs.declared.last_call.LastCall.TheVariants.{Flush}
-use Rattle.flow_io.specs.WriterStates.{IsUntouched, StopsWriting}
+use Rattle.flow_io.specs.Devices.{IsUntouched, StopsWriting}
+use Rattle.ipfix_read.specs.Messages.{HasFileFault, ReadsFile}
+use Rattle.ipfix_read.specs.Message.{MessageView}
+use Rattle.pmap_cert.specs.CertificateModel.{CertificateModel}
+use Rattle.pmap_cert.specs.FormatReading.{format_reading}
+use Rattle.flowlabel.specs.Output.{ReadsCertificate, FileTexts, IsOutput, Outcome, BytesFault}
+use Rattle.flowlabel.specs.declared.bytes_fault.BytesFault.TheVariants.{Map as InMap, List as InList, Flows as InFlows, Certificate as InCertificate, Check as InCheck}
+pub use Rattle.flowlabel.specs.declared.inputs.Inputs.{Inputs}
+pub use Rattle.flowlabel.specs.declared.inputs.Source.{Source}
 use Rattle.flowlabel.specs.Headline.{IsHeadline}
-use Rattle.flowlabel.specs.Output.{FileTexts, IsOutput, Outcome}
-use Rattle.flowlabel.specs.Request.{Request, Text}
-use Rattle.flowlabel.specs.Turns.{CertificateTurn, FlowsTurn, IsFaultOfText, IsReadAt, ListTurn, MapTurn, Turn, input_at, turn_of}
-use Rattle.flowlabel.specs.declared.command.Needs.{Needs}
-use Rattle.flowlabel.specs.declared.fault.RunFault.{RunFault}
-use Rattle.flowlabel.specs.declared.fault.RunFault.TheVariants.{CannotRead, CannotWrite, NoMemory, File}
-use Rattle.flowlabel.specs.declared.inputs.Inputs.{Inputs}
-use Rattle.flowlabel.specs.declared.inputs.Source.{Source}
+use Rattle.flowlabel.specs.Request.{Request, Text, Needs}
+pub use Rattle.flowlabel.specs.declared.fault.RunFault.{RunFault}
+pub use Rattle.flowlabel.specs.declared.fault.RunFault.TheVariants.{CannotOpen, CannotRead, CannotWrite, File, NoMemory, Usage}
+
+-- The order in which the files of a request are read: the map, the list, the certificate, the flows.
+
+pub data Turn : Type 0 where
+  MapTurn : Turn
+  ListTurn : Turn
+  CertificateTurn : Turn
+  FlowsTurn : Turn
+
+-- the turn of the file that has the fault; a fault that `check` finds is the certificate's
+abbrev pub turn_of : BytesFault → Turn
+turn_of (InMap fault) = MapTurn
+turn_of (InList fault) = ListTurn
+turn_of (InFlows fault) = FlowsTurn
+turn_of (InCertificate fault) = CertificateTurn
+turn_of (InCheck fault) = CertificateTurn
+
+-- the text is read without fault at the turn
+abbrev pub IsReadAt : Turn → List ℕ → Type 0
+IsReadAt MapTurn text = (map : MapModel) × ReadsMap text map
+IsReadAt ListTurn text = (list : ListModel) × ReadsList text list
+IsReadAt CertificateTurn text = (certificate : CertificateModel) × ReadsCertificate text certificate
+IsReadAt FlowsTurn text = (messages : List MessageView) × ReadsFile [] 0 text messages
+
+-- the fault is the first one of the text
+abbrev pub IsFaultOfText : BytesFault → List ℕ → Type 0
+IsFaultOfText (InMap fault) text = map_reading text ≡ Err fault
+IsFaultOfText (InList fault) text = list_reading text ≡ Err fault
+IsFaultOfText (InFlows fault) text = HasFileFault [] 0 0 text fault
+IsFaultOfText (InCertificate fault) text = format_reading text ≡ Err fault
+IsFaultOfText (InCheck fault) text = ⊥
+
+-- the input that is read at a turn, if there is one
+abbrev pub input_at : {R : Type 0} → Turn → Inputs R → Option (Source R)
+input_at MapTurn inputs = inputs.map
+input_at ListTurn inputs = inputs.list
+input_at CertificateTurn inputs = inputs.certificate
+input_at FlowsTurn inputs = inputs.flows
 
 -- What a run of a command does with the readers of its files and the writer of its output.
 

@@ -1,6 +1,6 @@
 //! How the program ends: the exit status, and what is written to which stream.
 ghost use Rattle.std.specs.Prelude.{◌≡◌, false, true, is_ok, IfErr, IfOk};
-ghost use Rattle.flow_io.specs.WriterStates.{IsUntouched};
+ghost use Rattle.flow_io.specs.Devices.{IsUntouched};
 ghost use Rattle.flowlabel.specs.Ending.{IsTold, stream_of, told_bytes, told_text};
 ghost use Rattle.flowlabel.specs.declared.ending.Stream.TheVariants as stream;
 ghost use Rattle.flowlabel.specs.Faults.{exit_status_of};

@@ -1,7 +1,7 @@
 //! Opens the files that a command line names.
 ghost use Rattle.std.specs.Prelude.{◌≡◌, false, IfErr, IfOk, List, Option, ℕ, option_map};
 ghost use Rattle.std.specs.Result.{result_ok};
-ghost use Rattle.flowlabel.specs.Opening.{AreOpened, CannotOpenFirst, CannotOpenNamed, CanOpen, HaveNames, IsOpened};
+ghost use Rattle.flowlabel.specs.Inner.{AreOpened, CannotOpenFirst, CannotOpenNamed, CanOpen, HaveNames, IsOpened};
 ghost use Rattle.flowlabel.specs.Request.{names_of};
 ghost use Rattle.flowlabel.specs.Run.{any_failed, name_of, source_failed};
 

@@ -1,5 +1,5 @@
 ghost use Rattle.std.specs.Prelude.{◌≡◌, ℕ, List, Ok, false, IfErr, IfOk};
-ghost use Rattle.flowlabel.specs.Loading.{ArePresent, ComesOf, IsFaultOfAnswer};
+ghost use Rattle.flowlabel.specs.Inner.{ArePresent, ComesOf, IsFaultOfAnswer};
 ghost use Rattle.flowlabel.specs.Output.{FileTexts, IsOutput};
 ghost use Rattle.flowlabel.specs.Request.{needs_of, request_of};
 ghost use Rattle.flowlabel.specs.Run.{any_failed, is_read_stop, AreNeeded, HasText, HaveTexts, IsFaultOfBytes, IsRunOf};

@@ -6,8 +6,7 @@ ghost use Rattle.clap.specs.Words.{first_of, found_of, kind_of, rows_of, takes};
 ghost use Rattle.clap.specs.Walk.{texts};
 ghost use Rattle.flowlabel.specs.Definition.{flowlabel_app};
 ghost use Rattle.flowlabel.specs.Request.{IsProper, Text, request_of, source_of};
-ghost use Rattle.flowlabel.specs.Answer.{HaveOneAnswer, IsAnswer, IsFaultOfKind, IsOwnAnswer, LinesHaveAnswers, address_in_rows, answer_of, answer_of_cat, answer_of_label, answer_of_rows, answer_of_shrink, text_in_rows, is_given, sources_in_rows, words_fault_of, condition_in_rows, shrunk_in_rows, words_in_rows, answer_of_uniq, fields_in_rows};
-ghost use Rattle.flowlabel.specs.declared.usage.UsageFault.TheVariants.{NoMemory};
+ghost use Rattle.flowlabel.specs.Answer.{HaveOneAnswer, IsAnswer, IsFaultOfKind, IsOwnAnswer, LinesHaveAnswers, address_in_rows, answer_of, answer_of_cat, answer_of_label, answer_of_rows, answer_of_shrink, text_in_rows, is_given, sources_in_rows, words_fault_of, condition_in_rows, shrunk_in_rows, words_in_rows, answer_of_uniq, fields_in_rows, NoMemory};
 
 use crate::command::{Command, LabelFile, Shrunk};
 use crate::definition::definition;

@@ -5,10 +5,9 @@ use Rattle.std.proofs.lemmas.Bool.{lt-ltb, le-ltb, ltb-true, ltb-false, eqb-true
 use Rattle.std.proofs.lemmas.List.{take_at, take_all, length-take-le}
 use Rattle.byteorder.specs.Endian.{big_number}
 use Rattle.ipfix_templates.proofs.Choice.{chosen}
-use Rattle.ipfix_read.specs.declared.fault.ReadFaultKind.{ReadFaultKind}
+use Rattle.ipfix_read.specs.Message.{ReadFaultKind, header_fault, own_fault, HasHeader}
 use Rattle.ipfix_read.specs.declared.fault.ReadFaultKind.TheVariants.{TruncatedHeader, BadVersion, BadMessageLength, TruncatedMessage, TooManyMessages, ReadFault as Unread}
 use Rattle.ipfix_read.specs.Set.{written_length}
-use Rattle.ipfix_read.specs.Message.{header_fault, own_fault, HasHeader}
 use Rattle.ipfix_read.proofs.Sets.{front_number, front_length}
 use lib.Seq.{take-append-add, take-append-le, take-append_seam}
 use borrow.Rule.Slice.PartMut.{put_mid, post_of}

@@ -2,19 +2,14 @@
 use Rattle.std.proofs.Common.{◌≡◌, ℕ, false, ◌+◌, ◌<◌, List, ◌++◌, length, take, drop, Option, None, Some, IfSome, Result, Ok, Err, ◌⊎◌, inl, inr, refl, subst, sym, ap, ◌∙◌, arith, length-append, []}
 use Rattle.std.proofs.lemmas.Option.{IfSome_then}
 use Rattle.byteorder.specs.Endian.{big_number}
-use Rattle.ipfix_read.specs.declared.fault.ReadFault.{ReadFault}
-use Rattle.ipfix_read.specs.declared.fault.ReadFaultKind.{ReadFaultKind}
-use Rattle.ipfix_read.specs.declared.progress.State.TheVariants.{Going, Ended, Failed}
+use Rattle.ipfix_read.specs.Message.{ReadFault, ReadFaultKind, MessageView, IsMessage, HasHeader, events_of_message, HasMessageFault}
+use Rattle.ipfix_read.specs.Messages.{Going, Ended, Failed, ProgressView, AnswersNext, Gathers, at_start, FilePlace, ReadsMessage}
 use Rattle.ipfix_read.specs.declared.fault.ReadFaultKind.TheVariants.{ReadFault as Unread}
 use Rattle.ipfix_read.specs.Fault.{read_fault, is_of_calls}
 use Rattle.ipfix_read.specs.Set.{HasSetsFault, IsReadAfter, IsRefused}
-use Rattle.ipfix_read.specs.Message.{MessageView, IsMessage, HasHeader, events_of_message, HasMessageFault}
-use Rattle.ipfix_read.specs.Messages.{ProgressView, AnswersNext, Gathers, at_start}
 use Rattle.ipfix_read.proofs.Sets.{message_fault}
-use Rattle.ipfix_templates.specs.InForce.{in_force}
-use Rattle.ipfix_templates.specs.Table.{Follows}
+use Rattle.ipfix_templates.specs.InForce.{in_force, Follows}
 use Rattle.ipfix_templates.proofs.Reading.{reads_more}
-use Rattle.ipfix_read.specs.File.{FilePlace, ReadsMessage}
 use Rattle.ipfix_read.specs.Laws.{CallsBegin, CallsJoinFile, CallsStart}
 use Rattle.ipfix_read.proofs.Readings.{messages_shorter}
 

@@ -4,35 +4,28 @@ use Rattle.std.proofs.lemmas.Bool.{cases_lt, cases_eq}
 use Rattle.ipfix_templates.specs.declared.kind.Kind.{Kind}
 use Rattle.ipfix_templates.specs.declared.kind.Kind.TheVariants.{Flow, Options}
 use Rattle.ipfix_templates.specs.declared.event.TemplateEvent.{TemplateEvent}
-use Rattle.ipfix_templates.specs.Kind.{set_id}
+use Rattle.ipfix_templates.specs.Template.{set_id, TemplateView}
 use Rattle.ipfix_templates.specs.Field.{least_length}
-use Rattle.ipfix_templates.specs.Template.{TemplateView}
 use Rattle.ipfix_templates.specs.InForce.{in_force}
-use Rattle.ipfix_templates.specs.Reading.{IsTemplateSet, HasTemplateFault}
+use Rattle.ipfix_templates.specs.Reading.{IsTemplateSet, HasTemplateFault, Reads}
 use Rattle.ipfix_templates.specs.Laws.{HasReading as HasTemplateReading, OneReading as OneTemplateSet, MemoryIsNoFault as MemoryIsNoTemplateFault}
 use Rattle.ipfix_templates.proofs.Choice.{some_is, chosen}
 use Rattle.ipfix_templates.proofs.Reading.{Goes, has_outcome, one_outcome, reads_shorter}
-use Rattle.ipfix_read.specs.declared.record.Record.{Record}
-use Rattle.ipfix_read.specs.declared.set.Set.{Set}
-use Rattle.ipfix_read.specs.declared.set.Set.TheVariants.{Templates, Values, Skipped}
-use Rattle.ipfix_read.specs.declared.fault.ReadFault.{ReadFault}
-use Rattle.ipfix_read.specs.declared.fault.ReadFaultKind.TheVariants.{BadRecord, BadSetLength, TruncatedHeader, BadVersion, BadMessageLength, TruncatedMessage, TooManyMessages, BadTemplate, ReadFault as Unread, NoMemory}
-use Rattle.ipfix_read.specs.Record.{record_at, IsPadding, ReadsRecord, IsDataSet, IsCutOff, HasRecordFault}
-use Rattle.ipfix_read.specs.Set.{IsContent, HasContentFault, in_file, written_length, IsSet, HasSetLength, HasSetFault, events_of_set, Place, ReadsSet, IsEnd, IsSets, IsSetFault, HasSetsFault}
+use Rattle.ipfix_read.specs.Record.{Record, record_at, IsPadding, ReadsRecord, IsDataSet, IsCutOff, HasRecordFault}
+use Rattle.ipfix_read.specs.Set.{Set, Templates, Values, Skipped, IsContent, HasContentFault, in_file, written_length, IsSet, HasSetLength, HasSetFault, events_of_set, Place, ReadsSet, IsEnd, IsSets, IsSetFault, HasSetsFault}
+use Rattle.ipfix_read.specs.Message.{ReadFault, ReadFaultKind, MessageView, IsMessage, HasMessageFault, header_fault, events_of_message, own_fault}
+use Rattle.ipfix_read.specs.Fault.{BadRecord, BadSetLength, TruncatedHeader, BadVersion, BadMessageLength, TruncatedMessage, TooManyMessages, BadTemplate, NoMemory, is_of_calls, is_of_reader}
+use Rattle.ipfix_read.specs.declared.fault.ReadFaultKind.TheVariants.{ReadFault as Unread}
 use Rattle.ipfix_read.proofs.RecordValues.{record_shorter}
 use Rattle.std.proofs.lemmas.List.{nil_from_length, take_at, drop_at}
 use Rattle.byteorder.specs.Endian.{big_number}
 use Rattle.ipfix_read.proofs.Sets.{Cut, cut_parts, cut_length, cut_written, front_length, front_number}
-use Rattle.ipfix_templates.specs.Reads.{Reads}
-use Rattle.ipfix_read.specs.declared.fault.ReadFaultKind.{ReadFaultKind}
-use Rattle.ipfix_read.specs.Message.{MessageView, IsMessage, HasMessageFault, header_fault, events_of_message, own_fault}
-use Rattle.ipfix_read.specs.File.{FilePlace, ReadsMessage, IsFileEnd, IsMessageFault}
+use Rattle.ipfix_read.specs.Messages.{FilePlace, ReadsMessage, IsFileEnd, IsMessageFault}
 use Rattle.ipfix_read.specs.Laws.{FirstMessageAndRest, HasReading, OneReading, MemoryIsNoFault}
 use Rattle.ipfix_read.proofs.Gathering.{header_sound}
 use Rattle.std.specs.Option.{option_or}
 use Rattle.ipfix_templates.specs.declared.fault.TemplateFaultKind.{TemplateFaultKind}
 use Rattle.ipfix_templates.specs.declared.fault.TemplateFaultKind.TheVariants.{NoMemory as NoTemplateMemory}
-use Rattle.ipfix_read.specs.Fault.{is_of_calls, is_of_reader}
 
 -- ---- records
 

@@ -12,8 +12,7 @@ use Rattle.ipfix_read.specs.Value.{FieldValueView, bytes_at, variable_at, value_
 use Rattle.ipfix_templates.proofs.Choice.{chosen, gave, some_is, mapped}
 use Rattle.std.proofs.lemmas.List.Sums.{sum_by-cons}
 use Rattle.ipfix_templates.specs.Template.{TemplateView}
-use Rattle.ipfix_read.specs.declared.record.Record.{Record}
-use Rattle.ipfix_read.specs.Record.{record_at, ReadsRecord, ReadsRecords, HasRecord}
+use Rattle.ipfix_read.specs.Record.{Record, record_at, ReadsRecord, ReadsRecords, HasRecord}
 use Rattle.ipfix_templates.proofs.Reading.{reads_shorter}
 use Rattle.std.proofs.Math.Nat.{add-mul, le-div_iff_mul-le, suc-mul}
 use Rattle.std.proofs.lemmas.List.Elements.{All-cons, All-nil}

@@ -2,16 +2,14 @@
 use Rattle.std.proofs.Common.{◌≡◌, ℕ, ◌+◌, ◌<◌, List, [], ◌∷◌, ◌++◌, length, get_or, take, sym, ap, ◌∙◌, append_assoc, ◌-◌, ◌≤◌, false, eqb, drop, refl, subst, inl, inr, arith, take-append-drop, length-drop, None}
 use Rattle.std.proofs.lemmas.List.{map_push, take_more, append-nil, take_all, get_or-take, get_or-drop, length-take-le}
 use Rattle.ipfix_templates.specs.declared.event.TemplateEvent.{TemplateEvent}
-use Rattle.ipfix_read.specs.Set.{in_domain, events_of_set, events_of_sets, written_length, IsContent, HasContentFault, IsSet, HasSetFault, Place, ReadsSet, IsRefused, IsSets, HasSetsFault}
+use Rattle.ipfix_read.specs.Set.{in_domain, events_of_set, events_of_sets, written_length, IsContent, HasContentFault, IsSet, HasSetFault, Place, ReadsSet, IsRefused, IsSets, HasSetsFault, Set}
 use Rattle.std.proofs.lemmas.List.Concat.{flat_map-cons}
 use Rattle.std.proofs.lemmas.List.Sums.{sum_by-append, sum_by-cons}
 use Rattle.byteorder.specs.Endian.{big_number}
-use Rattle.ipfix_templates.specs.Reads.{Reads}
+use Rattle.ipfix_templates.specs.Reading.{Reads}
 use Rattle.ipfix_templates.specs.Template.{TemplateView}
-use Rattle.ipfix_templates.specs.Table.{Follows}
-use Rattle.ipfix_read.specs.declared.set.Set.{Set}
-use Rattle.ipfix_read.specs.declared.fault.ReadFault.{ReadFault}
-use Rattle.ipfix_read.specs.Message.{set_size, message_size, MessageView, IsMessage, HasHeader, HasMessageFault, header_fault}
+use Rattle.ipfix_templates.specs.InForce.{Follows}
+use Rattle.ipfix_read.specs.Message.{ReadFault, set_size, message_size, MessageView, IsMessage, HasHeader, HasMessageFault, header_fault}
 
 -- a history with one more event
 pub in_domain_more : (history : List (ℕ × TemplateEvent)) (domain : ℕ) (events : List TemplateEvent) (i : ℕ) (d : TemplateEvent) → i < length events

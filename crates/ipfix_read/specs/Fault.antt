@@ -2,7 +2,8 @@
 use Rattle.std.specs.Prelude.{ℕ, Bool, true, false}
 use Rattle.ipfix_read.specs.declared.fault.ReadFault.{ReadFault}
 use Rattle.ipfix_read.specs.declared.fault.ReadFaultKind.{ReadFaultKind}
-use Rattle.ipfix_read.specs.declared.fault.ReadFaultKind.TheVariants.{NoMemory, Failed, ReadFault as Unread}
+pub use Rattle.ipfix_read.specs.declared.fault.ReadFaultKind.TheVariants.{BadMessageLength, BadRecord, BadSetLength, BadTemplate, BadVersion, Failed, NoMemory, TooManyMessages, TruncatedHeader, TruncatedMessage}
+use Rattle.ipfix_read.specs.declared.fault.ReadFaultKind.TheVariants.{ReadFault as Unread}
 
 -- an allocation failed, which has no position
 abbrev pub out_of_memory : ReadFault

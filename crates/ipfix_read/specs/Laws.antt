@@ -2,12 +2,10 @@
 use Rattle.std.specs.Prelude.{◌≡◌, ◌≢◌, ℕ, ◌+◌, ◌⊎◌, List, [], ◌∷◌, ◌++◌, length, Option, None, Result}
 use Rattle.ipfix_templates.specs.declared.event.TemplateEvent.{TemplateEvent}
 use Rattle.ipfix_templates.specs.declared.fault.TemplateFaultKind.TheVariants.{NoMemory as NoTemplateMemory}
-use Rattle.ipfix_templates.specs.Table.{Follows}
-use Rattle.ipfix_read.specs.declared.fault.ReadFault.{ReadFault}
+use Rattle.ipfix_templates.specs.InForce.{Follows}
+use Rattle.ipfix_read.specs.Message.{ReadFault, MessageView, IsMessage, header_fault, events_of_message}
 use Rattle.ipfix_read.specs.declared.fault.ReadFaultKind.TheVariants.{BadTemplate, NoMemory}
-use Rattle.ipfix_read.specs.Message.{MessageView, IsMessage, header_fault, events_of_message}
-use Rattle.ipfix_read.specs.File.{ReadsFile, HasFileFault}
-use Rattle.ipfix_read.specs.Messages.{ProgressView, at_start, AnswersNext, IsReadTo, JoinsFile}
+use Rattle.ipfix_read.specs.Messages.{ReadsFile, HasFileFault, ProgressView, at_start, AnswersNext, IsReadTo, JoinsFile}
 
 -- the first message of a File is at the start of its bytes, and the rest is read from the state after it
 abbrev pub FirstMessageAndRest : Type 0

@@ -4,6 +4,5 @@ pub mod Record
 pub mod WholeRecords
 pub mod Set
 pub mod Message
-pub mod File
 pub mod Messages
 pub mod Laws

@@ -3,12 +3,10 @@ use Rattle.std.specs.Prelude.{◌≡◌, ℕ, ◌+◌, ◌≤◌, ◌⊎◌, Lis
 use Rattle.std.specs.Option.{option_or}
 use Rattle.byteorder.specs.Endian.{big_number}
 use Rattle.ipfix_templates.specs.declared.event.TemplateEvent.{TemplateEvent}
-use Rattle.ipfix_read.specs.declared.set.Set.{Set}
-use Rattle.ipfix_read.specs.declared.set.Set.TheVariants.{Templates, Values, Skipped}
-use Rattle.ipfix_read.specs.declared.fault.ReadFault.{ReadFault}
-use Rattle.ipfix_read.specs.declared.fault.ReadFaultKind.{ReadFaultKind}
+use Rattle.ipfix_read.specs.Set.{Set, Templates, Values, Skipped, written_length, IsSets, HasSetsFault, events_of_sets}
+pub use Rattle.ipfix_read.specs.declared.fault.ReadFault.{ReadFault}
+pub use Rattle.ipfix_read.specs.declared.fault.ReadFaultKind.{ReadFaultKind}
 use Rattle.ipfix_read.specs.declared.fault.ReadFaultKind.TheVariants.{TruncatedHeader, BadVersion, BadMessageLength, TruncatedMessage, TooManyMessages}
-use Rattle.ipfix_read.specs.Set.{written_length, IsSets, HasSetsFault, events_of_sets}
 
 -- a message, without how it is stored
 pub record MessageView : Type 0 where

@@ -1,9 +1,9 @@
 -- The records of a data set (RFC 7011 section 3.4.3).
 use Rattle.std.specs.Prelude.{◌≡◌, ℕ, ◌+◌, ◌<◌, ◌≤◌, List, length, Option, Some, None, IsSome, option_map}
 use Rattle.ipfix_templates.specs.Field.{least_length}
-use Rattle.ipfix_templates.specs.Reads.{Reads, ReadsWhole, StopsAt}
+use Rattle.ipfix_templates.specs.Reading.{Reads, ReadsWhole, StopsAt}
 use Rattle.ipfix_templates.specs.Template.{TemplateView}
-use Rattle.ipfix_read.specs.declared.record.Record.{Record}
+pub use Rattle.ipfix_read.specs.declared.record.Record.{Record}
 use Rattle.ipfix_read.specs.Value.{values_at}
 
 -- the record of this template at the start of the bytes, and the bytes after it

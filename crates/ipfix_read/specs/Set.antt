@@ -5,17 +5,13 @@ use Rattle.byteorder.specs.Endian.{big_number}
 use Rattle.ipfix_templates.specs.declared.kind.Kind.{Kind}
 use Rattle.ipfix_templates.specs.declared.event.TemplateEvent.{TemplateEvent}
 use Rattle.ipfix_templates.specs.declared.fault.TemplateFault.{TemplateFault}
-use Rattle.ipfix_templates.specs.Kind.{set_id}
-use Rattle.ipfix_templates.specs.Reads.{ReadsWhole, StopsAt}
-use Rattle.ipfix_templates.specs.Template.{TemplateView}
-use Rattle.ipfix_templates.specs.InForce.{in_force}
-use Rattle.ipfix_templates.specs.Table.{Follows}
-use Rattle.ipfix_templates.specs.Reading.{IsTemplateSet, HasTemplateFault}
-use Rattle.ipfix_read.specs.declared.set.Set.{Set}
-use Rattle.ipfix_read.specs.declared.set.Set.TheVariants.{Templates, Values, Skipped}
+use Rattle.ipfix_templates.specs.Template.{set_id, TemplateView}
+use Rattle.ipfix_templates.specs.Reading.{ReadsWhole, StopsAt, IsTemplateSet, HasTemplateFault}
+use Rattle.ipfix_templates.specs.InForce.{in_force, Follows}
+pub use Rattle.ipfix_read.specs.declared.set.Set.{Set}
+pub use Rattle.ipfix_read.specs.declared.set.Set.TheVariants.{Skipped, Templates, Values}
 use Rattle.ipfix_read.specs.declared.fault.ReadFault.{ReadFault}
-use Rattle.ipfix_read.specs.declared.fault.ReadFaultKind.TheVariants.{BadSetLength, BadTemplate, BadRecord}
-use Rattle.ipfix_read.specs.Fault.{is_of_calls, out_of_memory}
+use Rattle.ipfix_read.specs.Fault.{BadSetLength, BadTemplate, BadRecord, is_of_calls, out_of_memory}
 use Rattle.ipfix_read.specs.Record.{IsDataSet, HasRecordFault}
 
 -- template events, each with its domain

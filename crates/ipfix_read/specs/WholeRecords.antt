@@ -3,10 +3,9 @@ use Rattle.std.specs.Prelude.{◌≡◌, ℕ, zero, suc, List, [], ◌∷◌, le
 use Rattle.std.specs.Option.{option_map_or}
 use Rattle.ipfix_templates.specs.declared.field.Field.{Field}
 use Rattle.ipfix_templates.specs.declared.kind.Kind.{Kind}
-use Rattle.ipfix_read.specs.declared.record.Record.{Record}
+use Rattle.ipfix_read.specs.Record.{Record, HasRoom, ReadsRecords}
 use Rattle.ipfix_templates.specs.Template.{TemplateView}
 use Rattle.ipfix_read.specs.Value.{values_at}
-use Rattle.ipfix_read.specs.Record.{HasRoom, ReadsRecords}
 
 -- `count` consecutive records of a kind with these fields, as far as they are complete in the bytes
 unfoldable pub whole_records : Kind → List Field → ℕ → List ℕ → List Record

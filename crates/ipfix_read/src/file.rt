@@ -1,8 +1,7 @@
 ghost use Rattle.std.specs.Prelude.{◌≡◌, ◌≢◌, ◌≤◌, [], ◌⊎◌, length, false, IfOk, IfErr};
 ghost use Rattle.ipfix_templates.specs.declared.fault.TemplateFaultKind.TheVariants.{NoMemory};
-ghost use Rattle.ipfix_read.specs.declared.fault.ReadFaultKind.TheVariants.{BadTemplate};
-ghost use Rattle.ipfix_read.specs.Fault.{out_of_memory, is_of_calls};
-ghost use Rattle.ipfix_read.specs.File.{ReadsFile, HasFileFault};
+ghost use Rattle.ipfix_read.specs.Fault.{BadTemplate, out_of_memory, is_of_calls};
+ghost use Rattle.ipfix_read.specs.Messages.{ReadsFile, HasFileFault};
 
 use crate::fault::ReadFault;
 use crate::laws::memory_is_no_fault;

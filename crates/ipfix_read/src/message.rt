@@ -1,6 +1,6 @@
 ghost use Rattle.std.specs.Prelude.{◌≡◌, ◌^◌, ◌+◌, ◌<◌, ◌≤◌, ◌++◌, length, drop, false, IfOk, IfErr, OnOk, None, Some};
 ghost use Rattle.ipfix_read.specs.Fault.{is_of_calls};
-ghost use Rattle.ipfix_read.specs.File.{ReadsMessage};
+ghost use Rattle.ipfix_read.specs.Messages.{ReadsMessage};
 ghost use Rattle.ipfix_read.specs.Message.{header_fault, own_fault, events_of_message, message_size, IsMessage, HasHeader, HasMessageFault};
 ghost use Rattle.ipfix_read.specs.Set.{written_length, HasSetsFault, IsReadAfter, IsRefused};
 ghost use Rattle.byteorder.specs.Endian.{big_number};

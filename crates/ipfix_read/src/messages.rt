@@ -1,7 +1,6 @@
 ghost use Rattle.std.specs.Prelude.{◌≡◌, IfOk, IfSome, Ok, Err, None};
-ghost use Rattle.ipfix_read.specs.declared.progress.State.TheVariants.{Going, Ended, Failed};
+ghost use Rattle.ipfix_read.specs.Messages.{Going, Ended, Failed, GivesNext, at_start};
 ghost use Rattle.ipfix_read.specs.Fault.{failed_before};
-ghost use Rattle.ipfix_read.specs.Messages.{GivesNext, at_start};
 
 use crate::buffer::Buffer;
 use crate::fault::ReadFault;

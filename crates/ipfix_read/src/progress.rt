@@ -1,7 +1,6 @@
 ghost use Rattle.std.specs.Prelude.{◌≡◌, ◌≤◌, ◌+◌, ◌⊎◌, false, IfErr, IfOk, IfSome, OnSome, Ok, Err, None};
-ghost use Rattle.ipfix_read.specs.declared.progress.State.TheVariants.{Going, Ended, Failed};
+ghost use Rattle.ipfix_read.specs.Messages.{Going, Ended, Failed, AnswersNext, at_start, is_read_fault};
 ghost use Rattle.ipfix_read.specs.Fault.{failed_before, is_of_calls, read_fault};
-ghost use Rattle.ipfix_read.specs.Messages.{AnswersNext, at_start, is_read_fault};
 
 use crate::buffer::Buffer;
 use crate::fault::{ReadFault, ReadFaultKind};

@@ -1,8 +1,8 @@
 ghost use Rattle.std.specs.Prelude.{◌≡◌, ◌≢◌, ◌^◌, ◌+◌, ◌<◌, ◌≤◌, ◌++◌, ◌∷◌, [], ℕ, List, length, false, IfOk, IfErr, OnOk};
 ghost use Rattle.ipfix_templates.specs.declared.event.TemplateEvent.{TemplateEvent as Event};
-ghost use Rattle.ipfix_templates.specs.Table.{Follows};
+ghost use Rattle.ipfix_templates.specs.InForce.{Follows};
 ghost use Rattle.ipfix_templates.specs.declared.fault.TemplateFaultKind.TheVariants.{NoMemory};
-ghost use Rattle.ipfix_templates.specs.Kind.{set_id};
+ghost use Rattle.ipfix_templates.specs.Template.{set_id};
 ghost use Rattle.ipfix_read.specs.Fault.{out_of_memory, is_of_calls};
 ghost use Rattle.ipfix_read.specs.Set.{in_domain, in_file, events_of_set, events_of_sets, IsContent, HasContentFault, ReadsSet, HasSetFault, IsSets, HasSetsFault, IsReadAfter, IsRefused};
 ghost use Rattle.ipfix_read.specs.Message.{set_size, message_size};

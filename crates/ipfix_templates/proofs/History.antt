@@ -4,16 +4,11 @@ use Rattle.std.specs.Prelude.{option_and_then, option_map, nat_eq, IfSome}
 use Rattle.std.specs.List.{list_any}
 use Rattle.std.proofs.lemmas.List.Folds.{list_any-append}
 use Rattle.std.specs.Option.{option_or, option_copied}
-use Rattle.ipfix_templates.specs.declared.event.TemplateEvent.{TemplateEvent}
-use Rattle.ipfix_templates.specs.Template.{TemplateView}
-use Rattle.ipfix_templates.specs.InForce.{kept_where, definition, withdraws, last_definition, in_force}
+use Rattle.ipfix_templates.specs.InForce.{TemplateEvent, kept_where, definition, withdraws, last_definition, in_force, same_key, template_at, AreKeyed, ChangesAt, DropsKind, Follows, Define, Withdraw, WithdrawAll}
+use Rattle.ipfix_templates.specs.Template.{TemplateView, same_kind, Kind}
 use Rattle.ipfix_templates.specs.Laws.{after_event}
 use Rattle.std.specs.Borrow.{Bor}
 use Rattle.std.proofs.lemmas.Bool.{eqb-true}
-use Rattle.ipfix_templates.specs.declared.kind.Kind.{Kind}
-use Rattle.ipfix_templates.specs.declared.event.TemplateEvent.TheVariants.{Define, Withdraw, WithdrawAll}
-use Rattle.ipfix_templates.specs.Kind.{same_kind}
-use Rattle.ipfix_templates.specs.Table.{same_key, template_at, AreKeyed, ChangesAt, DropsKind, Follows}
 
 abbrev Defined : Type 0
 Defined = Option (TemplateView × List (ℕ × TemplateEvent))

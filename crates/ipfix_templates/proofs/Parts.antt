@@ -10,12 +10,8 @@ use Rattle.std.specs.Map.{lookup, keys_of, set_value}
 use Rattle.std.proofs.lemmas.Bool.{ltb-true, ne_eqb, eqb-true}
 use Rattle.std.proofs.lemmas.Map.Keys.{IsDistinct-from_sorted}
 use Rattle.std.specs.Option.{option_or}
-use Rattle.ipfix_templates.specs.declared.kind.Kind.TheVariants.{Flow, Options}
-use Rattle.ipfix_templates.specs.Kind.{same_kind}
-use Rattle.ipfix_templates.specs.Template.{TemplateView}
-use Rattle.ipfix_templates.specs.InForce.{kept_where}
-use Rattle.ipfix_templates.specs.Table.{same_key, template_at, ChangesAt, DropsKind}
-use Rattle.ipfix_templates.specs.Parts.{entries_of, IsInItsPart, AreParted}
+use Rattle.ipfix_templates.specs.Template.{Flow, Options, same_kind, TemplateView}
+use Rattle.ipfix_templates.specs.InForce.{kept_where, same_key, template_at, ChangesAt, DropsKind, entries_of, IsInItsPart, AreParted}
 
 same_test : (x y : ℕ) → is_eq (nat_cmp x y) ≡ nat_eq x y
 same_test x y =

@@ -1,7 +1,7 @@
 -- Items read one after another, followed by the end or a fault.
 use Rattle.std.proofs.Common.{◌≡◌, ℕ, zero, suc, ◌+◌, ◌*◌, ◌<◌, ◌≤◌, List, [], ◌∷◌, ◌++◌, length, ◌⊎◌, inl, inr, refl, sym, ap, subst, ◌∙◌, arith}
 use Rattle.std.proofs.Math.Nat.{suc-mul}
-use Rattle.ipfix_templates.specs.Reads.{Reads, ReadsWhole, StopsAt}
+use Rattle.ipfix_templates.specs.Reading.{Reads, ReadsWhole, StopsAt}
 
 module _ {S A : Type 0} (step : S → A → S → Type 0) where
   -- one item more

@@ -1,18 +1,12 @@
 -- Reading one item after another, as a loop does.
 use Rattle.std.proofs.Common.{◌≡◌, ℕ, suc, ◌+◌, ◌-◌, ◌<◌, ◌≤◌, List, [], ◌∷◌, ◌++◌, length, true, false, Option, Some, None, refl, sym, ap, ◌∙◌, append_assoc, arith, zero, ◌*◌, ◌||◌, cond, ltb, eqb, drop, Result, Ok, Err, ◌⊎◌, inl, inr, length-drop}
 use Rattle.std.specs.Prelude.{is_some, option_and_then}
-use Rattle.ipfix_templates.specs.declared.field.Field.{Field}
-use Rattle.ipfix_templates.specs.Reading.{field_at, fields_at, defined_by, definition_at, withdrawal, followed_by, record_at, ReadsEvent, ReadsEvents, IsPadding, IsTemplateSet, IsRecordFault, HasTemplateFault}
+use Rattle.ipfix_templates.specs.Template.{Field, Kind, Flow, Options, set_id}
+use Rattle.ipfix_templates.specs.Reading.{field_at, fields_at, defined_by, definition_at, withdrawal, followed_by, record_at, ReadsEvent, ReadsEvents, IsPadding, IsTemplateSet, IsRecordFault, HasTemplateFault, TemplateFault, TemplateFaultKind, Truncated, BadTemplateId, BadScope, NoMemory}
 use Rattle.std.proofs.lemmas.Bool.{cases_lt, ltb-false}
 use Rattle.byteorder.specs.Endian.{big_number}
-use Rattle.ipfix_templates.specs.declared.kind.Kind.{Kind}
-use Rattle.ipfix_templates.specs.declared.kind.Kind.TheVariants.{Flow, Options}
 use Rattle.ipfix_templates.specs.declared.event.TemplateEvent.{TemplateEvent}
 use Rattle.ipfix_templates.specs.declared.event.TemplateEvent.TheVariants.{Withdraw, WithdrawAll}
-use Rattle.ipfix_templates.specs.declared.fault.TemplateFault.{TemplateFault}
-use Rattle.ipfix_templates.specs.declared.fault.TemplateFaultKind.{TemplateFaultKind}
-use Rattle.ipfix_templates.specs.declared.fault.TemplateFaultKind.TheVariants.{Truncated, BadTemplateId, BadScope, NoMemory}
-use Rattle.ipfix_templates.specs.Kind.{set_id}
 use Rattle.ipfix_templates.specs.Laws.{HasReading, OneReading}
 use Rattle.ipfix_templates.proofs.Choice.{chosen, gave, some_is, ok_is}
 use Rattle.ipfix_templates.proofs.Reading.{reads_shorter, Goes, has_outcome, one_outcome}

@@ -1,13 +1,9 @@
 -- Laws about the definitions.
 use Rattle.std.specs.Prelude.{◌≡◌, ℕ, ◌*◌, ◌≤◌, ◌⊎◌, length, List, [], ◌∷◌, ◌++◌, Option, not, ◌==◌, if◌then◌else◌}
 use Rattle.std.specs.Option.{option_or}
-use Rattle.ipfix_templates.specs.declared.kind.Kind.{Kind}
-use Rattle.ipfix_templates.specs.declared.event.TemplateEvent.{TemplateEvent}
-use Rattle.ipfix_templates.specs.declared.fault.TemplateFault.{TemplateFault}
-use Rattle.ipfix_templates.specs.declared.fault.TemplateFaultKind.TheVariants.{NoMemory}
-use Rattle.ipfix_templates.specs.Template.{TemplateView}
-use Rattle.ipfix_templates.specs.InForce.{in_force, definition, withdraws, kept_where}
-use Rattle.ipfix_templates.specs.Reading.{IsTemplateSet, HasTemplateFault}
+use Rattle.ipfix_templates.specs.Template.{Kind, TemplateView}
+use Rattle.ipfix_templates.specs.InForce.{TemplateEvent, in_force, definition, withdraws, kept_where}
+use Rattle.ipfix_templates.specs.Reading.{TemplateFault, NoMemory, IsTemplateSet, HasTemplateFault}
 
 -- the template in force at an ID after an event in the domain
 abbrev pub after_event : ℕ → TemplateEvent → Option TemplateView → Option TemplateView

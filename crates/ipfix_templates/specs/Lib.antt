@@ -1,11 +1,6 @@
-pub mod Kind
+pub mod Template
 pub mod Field
 pub mod Runs
-pub mod Template
-pub mod Fault
-pub mod Reads
 pub mod Reading
 pub mod InForce
-pub mod Table
-pub mod Parts
 pub mod Laws

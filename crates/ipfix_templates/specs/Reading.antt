@@ -1,16 +1,36 @@
--- Consecutive template records (RFC 7011 sections 3.2 and 3.4).
-use Rattle.std.specs.Prelude.{◌≡◌, ℕ, zero, suc, ◌+◌, ◌-◌, ◌<◌, ◌≤◌, List, [], ◌∷◌, length, drop, Option, Some, None, Result, Ok, Err, IsOk, option_and_then, nat_lt, ◌==◌, ◌||◌, if◌then◌else◌}
+use Rattle.std.specs.Prelude.{◌≡◌, List, [], ◌∷◌, ℕ, zero, suc, ◌+◌, ◌-◌, ◌<◌, ◌≤◌, length, drop, Option, Some, None, Result, Ok, Err, IsOk, option_and_then, nat_lt, ◌==◌, ◌||◌, if◌then◌else◌}
 use Rattle.byteorder.specs.Endian.{big_number}
-use Rattle.ipfix_templates.specs.declared.field.Field.{Field}
-use Rattle.ipfix_templates.specs.declared.kind.Kind.{Kind}
-use Rattle.ipfix_templates.specs.declared.kind.Kind.TheVariants.{Flow, Options}
+pub use Rattle.ipfix_templates.specs.declared.fault.TemplateFault.{TemplateFault}
+pub use Rattle.ipfix_templates.specs.declared.fault.TemplateFaultKind.TheVariants.{BadScope, BadTemplateId, NoMemory, Truncated}
+use Rattle.ipfix_templates.specs.Template.{Field, Kind, Flow, Options, set_id}
 use Rattle.ipfix_templates.specs.declared.event.TemplateEvent.{TemplateEvent}
 use Rattle.ipfix_templates.specs.declared.event.TemplateEvent.TheVariants.{Define, Withdraw, WithdrawAll}
-use Rattle.ipfix_templates.specs.declared.fault.TemplateFault.{TemplateFault}
-use Rattle.ipfix_templates.specs.declared.fault.TemplateFaultKind.{TemplateFaultKind}
-use Rattle.ipfix_templates.specs.declared.fault.TemplateFaultKind.TheVariants.{Truncated, BadTemplateId, BadScope}
-use Rattle.ipfix_templates.specs.Kind.{set_id}
-use Rattle.ipfix_templates.specs.Reads.{Reads, ReadsWhole, StopsAt}
+pub use Rattle.ipfix_templates.specs.declared.fault.TemplateFaultKind.{TemplateFaultKind}
+
+-- The fault that an allocation failed.
+
+-- it has no position
+abbrev pub out_of_memory : TemplateFault
+out_of_memory = record { kind = NoMemory; offset = 0 }
+
+-- Reading one item after another.
+
+-- A step reads one item in one state and leads to the next state.
+module _ {S A : Type 0} (step : S → A → S → Type 0) where
+  -- steps from the start read these items, and lead to the end
+  abbrev pub Reads : S → List A → S → Type 0
+  Reads start [] end = start ≡ end
+  Reads start (x ∷ xs) end = (next : S) × step start x next × Reads next xs end
+
+  -- these items are read, and then reading may end
+  abbrev pub ReadsWhole : (S → Type 0) → S → List A → Type 0
+  ReadsWhole ends start xs = (end : S) × Reads start xs end × ends end
+
+  -- some items are read, and then there is this fault
+  abbrev pub StopsAt : {F : Type 0} → (S → F → Type 0) → S → F → Type 0
+  StopsAt faulty start fault = (xs : List A) × (at : S) × Reads start xs at × faulty at fault
+
+-- Consecutive template records (RFC 7011 sections 3.2 and 3.4).
 
 -- the field specifier at the start, and the bytes after it: the enterprise bit with the element's number, the length,
 -- and an enterprise number if the bit is 1

@@ -1,8 +1,23 @@
+use Rattle.std.specs.Prelude.{ℕ, Bool, true, false, ◌≡◌, ◌≤◌, ◌<◌, List, length}
+pub use Rattle.ipfix_templates.specs.declared.kind.Kind.{Kind}
+pub use Rattle.ipfix_templates.specs.declared.kind.Kind.TheVariants.{Flow, Options}
+pub use Rattle.ipfix_templates.specs.declared.field.Field.{Field}
+
+-- The two kinds of template.
+
+-- the set ID of the sets that hold its templates (RFC 7011 section 3.3.2)
+abbrev pub set_id : Kind → ℕ
+set_id Flow = 2
+set_id Options = 3
+
+-- whether two kinds are the same
+abbrev pub same_kind : Kind → Kind → Bool
+same_kind Flow Flow = true
+same_kind Flow Options = false
+same_kind Options Flow = false
+same_kind Options Options = true
+
 -- A template as contracts see it.
-use Rattle.std.specs.Prelude.{◌≡◌, ℕ, ◌≤◌, ◌<◌, List, length}
-use Rattle.ipfix_templates.specs.declared.field.Field.{Field}
-use Rattle.ipfix_templates.specs.declared.kind.Kind.{Kind}
-use Rattle.ipfix_templates.specs.declared.kind.Kind.TheVariants.{Flow, Options}
 
 -- a template, without how it is stored
 pub record TemplateView : Type 0 where

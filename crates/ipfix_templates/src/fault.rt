@@ -1,5 +1,5 @@
 ghost use Rattle.std.specs.Prelude.{◌≡◌};
-ghost use Rattle.ipfix_templates.specs.Fault.{out_of_memory};
+ghost use Rattle.ipfix_templates.specs.Reading.{out_of_memory};
 
 use std::alloc::AllocError;
 use thiserror::Error;

@@ -1,5 +1,5 @@
 ghost use Rattle.std.specs.Prelude.{◌≡◌};
-ghost use Rattle.ipfix_templates.specs.Kind.{same_kind, set_id};
+ghost use Rattle.ipfix_templates.specs.Template.{same_kind, set_id};
 
 /// The kind of records that a template describes.
 #[derive(Clone, Copy, Debug, PartialEq, Eq)]

@@ -1,6 +1,6 @@
 ghost use Rattle.std.specs.Prelude.{◌≡◌, ℕ, [], None, Some, OnOk, OnErr, nat_eq, if◌then◌else◌};
 ghost use Rattle.std.specs.Option.{option_copied};
-ghost use Rattle.ipfix_templates.specs.Table.{template_at, ChangesAt};
+ghost use Rattle.ipfix_templates.specs.InForce.{template_at, ChangesAt};
 
 use crate::template::Template;
 use std::alloc::{AllocError, Global};
@@ -21,7 +21,7 @@ impl Model for KindTable {
     ghost use Rattle.std.specs.Ordering.{nat_cmp};
     ghost use Rattle.std.specs.BTreeMap.{IsOrdered};
     ghost use Rattle.ipfix_templates.specs.Template.{TemplateView};
-    ghost use Rattle.ipfix_templates.specs.Parts.{entries_of};
+    ghost use Rattle.ipfix_templates.specs.InForce.{entries_of};
 
     ghost Value = { List ((ℕ × ℕ) × TemplateView) };
 

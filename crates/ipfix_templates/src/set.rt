@@ -1,7 +1,6 @@
 //! Template sets.
 ghost use Rattle.std.specs.Prelude.{◌≡◌, IfOk, IfErr, ◌⊎◌};
-ghost use Rattle.ipfix_templates.specs.Reading.{IsTemplateSet, HasTemplateFault, HasTemplateRecord};
-ghost use Rattle.ipfix_templates.specs.Fault.{out_of_memory};
+ghost use Rattle.ipfix_templates.specs.Reading.{IsTemplateSet, HasTemplateFault, HasTemplateRecord, out_of_memory};
 
 use crate::event::TemplateEvents;
 use crate::fault::TemplateFault;

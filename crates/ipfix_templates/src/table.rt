@@ -1,8 +1,6 @@
 ghost use Rattle.std.specs.Prelude.{◌≡◌, ◌++◌, ◌∷◌, [], List, ℕ, Some, None, IfSome, OnOk, OnErr};
 ghost use Rattle.std.specs.Option.{option_copied};
-ghost use Rattle.ipfix_templates.specs.declared.event.TemplateEvent.{TemplateEvent as Event};
-ghost use Rattle.ipfix_templates.specs.declared.event.TemplateEvent.TheVariants.{Define, Withdraw, WithdrawAll};
-ghost use Rattle.ipfix_templates.specs.Table.{template_at, ChangesAt, DropsKind, Follows};
+ghost use Rattle.ipfix_templates.specs.InForce.{TemplateEvent as Event, Define, Withdraw, WithdrawAll, template_at, ChangesAt, DropsKind, Follows};
 
 use crate::kind::Kind;
 use crate::kind_table::KindTable;
@@ -21,8 +19,7 @@ pub struct TemplateTable {
 impl Model for TemplateTable {
     ghost use Rattle.std.specs.Prelude.{List, ℕ, ◌++◌};
     ghost use Rattle.ipfix_templates.specs.Template.{TemplateView};
-    ghost use Rattle.ipfix_templates.specs.Table.{AreKeyed};
-    ghost use Rattle.ipfix_templates.specs.Parts.{AreParted};
+    ghost use Rattle.ipfix_templates.specs.InForce.{AreKeyed, AreParted};
 
     ghost Value = { List ((ℕ × ℕ) × TemplateView) };
 

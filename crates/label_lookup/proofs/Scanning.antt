@@ -4,13 +4,11 @@ use Rattle.std.specs.Prelude.{IfSome, take}
 use Rattle.std.specs.Option.{MatchOption}
 use Rattle.std.proofs.lemmas.List.Elements.{All-contains, All-more, Contains-append_left, Contains-append_right}
 use Rattle.std.proofs.lemmas.List.{take_more}
-use Rattle.prefix_keys.specs.Block.{block_number}
+use Rattle.prefix_keys.specs.Block.{block_number, width_of}
 use Rattle.prefix_keys.specs.Covers.{BlockCovers}
-use Rattle.prefix_keys.specs.Version.{width_of}
 use Rattle.prefix_keys.specs.declared.addr.Addr.{Addr}
 use Rattle.prefix_keys.specs.declared.version.Version.{Version}
-use Rattle.pmap_text.specs.ListModel.{Prefix, label_below, list_label}
-use Rattle.pmap_text.specs.LongestMatch.{CoversAddress, IsLongestMatch}
+use Rattle.pmap_text.specs.ListModel.{Prefix, label_below, list_label, CoversAddress, IsLongestMatch}
 use Rattle.pmap_text.specs.MapModel.{Label}
 use Rattle.pmap_text.specs.MapText.{text_at}
 use Rattle.pmap_text.specs.PrefixList.{list_of, prefix_of}
@@ -19,7 +17,7 @@ use Rattle.pmap_text.specs.declared.prefix_list.PrefixList.{PrefixList}
 use Rattle.pmap_text.proofs.Finds.{Contains-cases, Contains-first, Contains-from_map, Contains-later, Contains-nil}
 use Rattle.pmap_text.proofs.ListBlocks.{block_short, distinct-list_of}
 use Rattle.pmap_text.proofs.ListLabels.{label_below-top, longest-match, once-distinct}
-use Rattle.label_lookup.specs.Longest.{IsLongest}
+use Rattle.label_lookup.specs.Labelling.{IsLongest}
 
 Contains-map : {X Y : Type 0} (f : X → Y) (xs : List X) (x : X) → Contains xs x → Contains (map f xs) (f x)
 Contains-map f [] x has = absurd (Contains-nil x has)

@@ -4,13 +4,12 @@ use Rattle.std.proofs.Math.Nat.{div-lt_iff_lt-mul}
 use Rattle.std.proofs.lemmas.Bool.{cases_lt}
 use Rattle.std.proofs.lemmas.List.{get_or_append_left, get_or_push, get_or_read, length_push}
 use Rattle.std.proofs.lemmas.Nat.{div-add-mod', mod_below, pow_pos}
-use Rattle.prefix_keys.specs.Version.{width_of}
+use Rattle.prefix_keys.specs.Block.{width_of}
 use Rattle.prefix_keys.specs.declared.version.Version.{Version}
 use Rattle.prefix_keys.specs.declared.version.Version.TheVariants.{V4, V6}
 use Rattle.pmap_text.specs.Stretches.{HasEveryAddress, HoldsAddress, StretchesModel, first_at, label_at, last_at, text_held}
 use Rattle.pmap_text.proofs.Ranges.{ends_before, last_end, next_first, text_at_index}
-use Rattle.label_lookup.specs.Labelling.{at_addresses}
-use Rattle.label_lookup.specs.StretchIndex.{AreTops, IsTopAt, StretchModel, block_size}
+use Rattle.label_lookup.specs.Labelling.{at_addresses, AreTops, IsTopAt, StretchModel, block_size}
 use Rattle.label_lookup.proofs.Labellings.{same_at_addresses}
 
 -- the blocks cover every address

@@ -1,11 +1,17 @@
-use Rattle.std.specs.Prelude.{◌^◌, ℕ, Option, Some, None, nat_lt, option_and_then, option_map, if◌then◌else◌}
+use Rattle.std.specs.Prelude.{◌^◌, ℕ, Option, Some, None, nat_lt, option_and_then, option_map, if◌then◌else◌, ◌≤◌, List, All, Contains, ◌<◌, length, slice_get, ◌≡◌, ◌+◌, ◌-◌, ◌*◌, slice_index}
 use Rattle.std.specs.Borrow.{Bor}
+use Rattle.std.specs.Option.{ForSome}
 use Rattle.prefix_keys.specs.Conversion.{converted}
 use Rattle.prefix_keys.specs.Text.{AddressOf}
-use Rattle.prefix_keys.specs.Version.{width_of}
+use Rattle.prefix_keys.specs.Block.{width_of}
 use Rattle.prefix_keys.specs.declared.version.Version.{Version}
+use Rattle.prefix_keys.specs.Covers.{BlockCovers}
+use Rattle.prefix_keys.specs.declared.addr.Addr.{Addr}
 use Rattle.pmap_text.specs.ListModel.{ListModel, list_label}
 use Rattle.pmap_text.specs.MapModel.{Label, MapModel, map_label}
+use Rattle.pmap_text.specs.declared.entry.Entry.{Entry}
+use Rattle.pmap_text.specs.Stretches.{StretchesModel, first_at, last_at, text_held}
+use Rattle.label_trie.specs.TrieModel.{TrieModel, label_in}
 
 -- The labels of the addresses of one version: those of a prefix map or of a prefix list, which contracts don't
 -- distinguish.
@@ -47,3 +53,48 @@ labelling_by version_of label_of labeller = record { version = version_of labell
 -- the labelling of a labeller that may be missing
 abbrev pub labelling_lent : {L : Type 0} → (L → Version) → (L → ℕ → Option Label) → Option (Bor L) → Option Labelling
 labelling_lent version_of label_of labeller = option_map (λ l. labelling_by version_of label_of l.now) labeller
+
+-- one of the entries that cover the address such that none of them is longer, or none if no entry covers it; for the
+-- contracts of private functions
+abbrev pub IsLongest : List Entry → Addr → Option Entry → Type 0
+IsLongest entries addr None = All (λ e. BlockCovers e.block addr → ⊥) entries
+IsLongest entries addr (Some e) =
+    Contains entries e × BlockCovers e.block addr × All (λ r. BlockCovers r.block addr → r.block.len ≤ e.block.len) entries
+
+-- A trie of label numbers, with the table of their texts.
+pub record TrieLabels : Type 0 where
+  pub trie : TrieModel
+  pub table : List Label
+
+-- each label number in the trie has a text in the table
+abbrev pub AreNumbersKnown : TrieModel → List Label → Type 0
+AreNumbersKnown t table = All (λ leaf. ForSome leaf.label (λ id. id < length table)) t.leaves
+
+-- the text of the label that the trie gives an address
+abbrev pub trie_label : TrieLabels → ℕ → Option Label
+trie_label l a = option_and_then (slice_get l.table) (label_in l.trie a)
+
+-- An index of stretches as contracts see it: the stretches, and the table of their labels.
+pub record StretchModel : Type 0 where
+  pub table : List Label
+  pub stretches : StretchesModel
+
+-- the labelling of the index
+abbrev pub labelling_of_stretches : StretchModel → Labelling
+labelling_of_stretches m = labelling m.stretches.version (text_held m.table m.stretches)
+
+-- the number of addresses with the same first 16 bits
+abbrev pub block_size : StretchesModel → ℕ
+block_size s = 2 ^ (width_of s.version - 16)
+
+-- The stretch with the index begins at the first address of the block or before it, and it ends at the address before
+-- the block or later.
+pub record IsTopAt (s : StretchesModel) (block index : ℕ) : Type 0 where
+  pub below : index < length s.firsts
+  pub from : first_at s index ≤ block * block_size s
+  pub to : block * block_size s ≤ last_at s index + 1
+
+-- there is such a stretch for each of the 65536 blocks, and for the end
+pub record AreTops (s : StretchesModel) (tops : List ℕ) : Type 0 where
+  pub long : length tops ≡ 65537
+  pub each : (block : ℕ) → block ≤ 65536 → IsTopAt s block (slice_index tops block)

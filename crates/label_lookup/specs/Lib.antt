@@ -1,4 +1,1 @@
 pub mod Labelling
-pub mod TrieLabels
-pub mod StretchIndex
-pub mod Longest

@@ -23,8 +23,7 @@ impl<'a> Model for ListIndex<'a> {
     ghost Value = { ListModel };
 
     ghost use Rattle.pmap_text.specs.PrefixList.{list_of};
-    ghost use Rattle.label_lookup.specs.Labelling.{labelling_of_list};
-    ghost use Rattle.label_lookup.specs.StretchIndex.{labelling_of_stretches};
+    ghost use Rattle.label_lookup.specs.Labelling.{labelling_of_list, labelling_of_stretches};
 
     ghost view = { λ i. list_of i.list.now };
 

@@ -1,6 +1,6 @@
 ghost use Rattle.std.specs.Prelude.{◌≡◌, ◌≤◌, ◌⊎◌, IfSome, Some};
 ghost use Rattle.pmap_text.specs.PrefixList.{list_of};
-ghost use Rattle.label_lookup.specs.Longest.{IsLongest};
+ghost use Rattle.label_lookup.specs.Labelling.{IsLongest};
 
 use crate::labeller::Labeller;
 use pmap_text::{Entry, PrefixList};

@@ -1,10 +1,9 @@
 ghost use Rattle.std.specs.Prelude.{◌≡◌, ◌+◌, ◌^◌, ◌<◌, ◌≤◌, IfOk, length};
-ghost use Rattle.prefix_keys.specs.Version.{width_of};
+ghost use Rattle.prefix_keys.specs.Block.{width_of};
 ghost use Rattle.pmap_text.specs.MapText.{map_of};
 ghost use Rattle.pmap_text.specs.PrefixList.{list_of};
 ghost use Rattle.pmap_text.specs.Stretches.{HoldsAddress, first_at};
-ghost use Rattle.label_lookup.specs.Labelling.{labelling_of_list, labelling_of_map};
-ghost use Rattle.label_lookup.specs.StretchIndex.{AreTops, labelling_of_stretches};
+ghost use Rattle.label_lookup.specs.Labelling.{labelling_of_list, labelling_of_map, AreTops, labelling_of_stretches};
 
 use crate::labeller::Labeller;
 use pmap_text::{Labels, MapText, PrefixList, Stretches, statements_of_list};
@@ -29,11 +28,9 @@ pub struct StretchIndex<'a> {
 }
 
 impl<'a> Model for StretchIndex<'a> {
-    ghost use Rattle.label_lookup.specs.StretchIndex.{StretchModel};
+    ghost use Rattle.label_lookup.specs.Labelling.{StretchModel, AreTops};
 
     ghost Value = { StretchModel };
-
-    ghost use Rattle.label_lookup.specs.StretchIndex.{AreTops};
 
     ghost view = { λ i. record { table = i.labels.now; stretches = i.stretches } };
 
@@ -68,7 +65,7 @@ impl<'a> StretchIndex<'a> {
 }
 
 impl<'a> Labeller for StretchIndex<'a> {
-    ghost use Rattle.label_lookup.specs.StretchIndex.{labelling_of_stretches};
+    ghost use Rattle.label_lookup.specs.Labelling.{labelling_of_stretches};
 
     ghost version_of = { λ m. m.stretches.version };
 

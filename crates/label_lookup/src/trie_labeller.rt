@@ -15,7 +15,7 @@ pub struct TrieLabeller<'a> {
 }
 
 impl<'a> Model for TrieLabeller<'a> {
-    ghost use Rattle.label_lookup.specs.TrieLabels.{AreNumbersKnown, TrieLabels};
+    ghost use Rattle.label_lookup.specs.Labelling.{AreNumbersKnown, TrieLabels};
 
     ghost Value = { TrieLabels };
 
@@ -25,7 +25,7 @@ impl<'a> Model for TrieLabeller<'a> {
 }
 
 impl<'a> TrieLabeller<'a> {
-    ghost use Rattle.label_lookup.specs.TrieLabels.{AreNumbersKnown};
+    ghost use Rattle.label_lookup.specs.Labelling.{AreNumbersKnown};
 
     /// Returns the labels of this trie. All numbers in the trie must have texts in the table.
     pub fn new(trie: &'a Trie, labels: &'a Labels) -> TrieLabeller<'a>
@@ -38,7 +38,7 @@ impl<'a> TrieLabeller<'a> {
 }
 
 impl<'a> Labeller for TrieLabeller<'a> {
-    ghost use Rattle.label_lookup.specs.TrieLabels.{trie_label};
+    ghost use Rattle.label_lookup.specs.Labelling.{trie_label};
 
     ghost version_of = { λ l. l.trie.version };
 

@@ -3,8 +3,7 @@ use Rattle.std.proofs.Common.{◌≡◌, ℕ, ◌+◌, ◌-◌, ◌*◌, ◌/◌
 use Rattle.std.proofs.Math.Nat.{mul-le-mul_right}
 use Rattle.std.proofs.lemmas.Nat.{pow_pos}
 use Rattle.std.proofs.lemmas.Option.{same_Some}
-use Rattle.prefix_keys.specs.Block.{block_number, first_of, last_of}
-use Rattle.prefix_keys.specs.Version.{width_of}
+use Rattle.prefix_keys.specs.Block.{block_number, first_of, last_of, width_of}
 use Rattle.prefix_keys.proofs.Groups.{width-le}
 use Rattle.prefix_keys.specs.declared.version.Version.{Version}
 use Rattle.pmap_text.specs.MapModel.{MapModel}
@@ -12,13 +11,11 @@ use Rattle.pmap_text.specs.MapText.{map_of, text_at}
 use Rattle.pmap_text.specs.declared.label.LabelId.{LabelId}
 use Rattle.pmap_text.specs.declared.map_text.MapText.{MapText}
 use Rattle.pmap_text.specs.declared.statement.Statement.{Statement}
-use Rattle.label_trie.specs.Layers.{AddsTree, GrowsTree, IsBlock, IsMapOf, IsPart, parted_sum}
+use Rattle.label_trie.specs.Inner.{AddsTree, GrowsTree, IsBlock, IsMapOf, IsPart, parted_sum, IsTrie, tree_of, Node}
 use Rattle.pmap_text.specs.Stretches.{AreStretches, HasEveryAddress, StretchesModel, mappings_of}
 use Rattle.pmap_text.proofs.Ranges.{last_end}
-use Rattle.label_trie.specs.Nodes.{IsTrie, tree_of}
 use Rattle.label_trie.specs.Tree.{Fits, IsLabelled, leaf_count, leaves_of}
 use Rattle.label_trie.specs.TrieModel.{LeafModel, IsCut}
-use Rattle.label_trie.specs.declared.node.Node.{Node}
 use Rattle.label_trie.proofs.Encoded.{built, size_leaves}
 use Rattle.label_trie.proofs.NodeLeaves.{fits_HasRoom, leaves_cut, length_leaves}
 use Rattle.label_trie.proofs.Parted.{parted_two}

@@ -1,12 +1,9 @@
 -- A node that is divided into two.
 use Rattle.std.proofs.Common.{◌≡◌, ℕ, suc, ◌+◌, ◌*◌, ◌++◌, None, All, arith}
-use Rattle.prefix_keys.specs.Block.{block_number}
-use Rattle.prefix_keys.specs.Version.{width_of}
+use Rattle.prefix_keys.specs.Block.{block_number, width_of}
 use Rattle.prefix_keys.specs.declared.block.Block.{Block}
 use Rattle.pmap_text.specs.MapModel.{MapModel, settled_label}
-use Rattle.label_trie.specs.CursorModel.{CursorModel}
-use Rattle.label_trie.specs.TrieModel.{IsUndivided}
-use Rattle.label_trie.specs.Leaf.{number_of}
+use Rattle.label_trie.specs.TrieModel.{CursorModel, IsUndivided, number_of}
 use Rattle.label_trie.specs.Tree.{Tree, Fork, leaves_of}
 use Rattle.label_trie.specs.Parts.{IsHalf}
 use Rattle.label_trie.proofs.NodeLeaves.{inner_unsettled}

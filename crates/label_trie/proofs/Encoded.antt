@@ -4,10 +4,8 @@ use Rattle.std.proofs.lemmas.List.{append-nil, get_or_at}
 use Rattle.std.proofs.lemmas.Option.{get_or_from_slice_get, same_Some, slice_get-get_or, slice_get_within}
 use Rattle.pmap_text.specs.declared.label.LabelId.{LabelId}
 use Rattle.label_trie.specs.TrieModel.{NodeModel}
-use Rattle.label_trie.specs.Nodes.{leaf_node, encode, IsAt, IsTrie, grown, tree_within, tree_at, tree_of}
+use Rattle.label_trie.specs.Inner.{leaf_node, encode, IsAt, IsTrie, grown, tree_within, tree_at, tree_of, Node, Unlabelled, Inner}
 use Rattle.label_trie.specs.Tree.{Tree, Tip, Fork, size, leaf_count, nodes_of, top_of, HasNodes, HasRoom}
-use Rattle.label_trie.specs.declared.node.Node.{Node}
-use Rattle.label_trie.specs.declared.node.Node.TheVariants.{Unlabelled, Inner}
 
 -- sizes
 pub size_pos : (tree : Tree) → 0 < size tree

@@ -2,20 +2,15 @@
 use Rattle.std.proofs.Common.{◌≡◌, ℕ, suc, ◌+◌, ◌-◌, ◌*◌, ◌/◌, ◌^◌, ◌<◌, ◌≤◌, List, [], ◌∷◌, ◌++◌, Option, Some, None, option_map, Contains, IsSome, length, set, refl, sym, ap, ◌∙◌, arith, append_assoc, length-append, mul-div_cancel, pow_pos}
 use Rattle.std.proofs.lemmas.List.{set_at}
 use Rattle.std.proofs.lemmas.List.Elements.{All-contains}
-use Rattle.prefix_keys.specs.Block.{block_number, first_of, last_of}
-use Rattle.prefix_keys.specs.Version.{width_of}
+use Rattle.prefix_keys.specs.Block.{block_number, first_of, last_of, width_of}
 use Rattle.prefix_keys.specs.declared.version.Version.{Version}
 use Rattle.pmap_text.specs.MapModel.{Label, Mapping, MapModel, last_such, meets, settled_by}
 use Rattle.pmap_text.specs.MapText.{mapping_of}
 use Rattle.pmap_text.specs.Stretches.{AreStretches, HasStretch, StretchesModel, first_at, label_at, label_seen, last_at, mappings_of}
 use Rattle.pmap_text.specs.declared.label.LabelId.{LabelId}
 use Rattle.pmap_text.specs.declared.statement.Statement.{Statement}
-use Rattle.label_trie.specs.Layers.{AddsTree, IsBlock, IsMapOf, IsPart, part_number, parted_sum}
-use Rattle.label_trie.specs.declared.growing.Part.{Part}
-use Rattle.label_trie.specs.Nodes.{encode, leaf_node}
+use Rattle.label_trie.specs.Inner.{AddsTree, IsBlock, IsMapOf, IsPart, part_number, parted_sum, encode, leaf_node, Part, Node, Inner}
 use Rattle.label_trie.specs.Tree.{Tree, Tip, Fork, Settles, size}
-use Rattle.label_trie.specs.declared.node.Node.{Node}
-use Rattle.label_trie.specs.declared.node.Node.TheVariants.{Inner}
 use Rattle.label_trie.proofs.Blocks.{halves_ends, has_halves}
 use Rattle.label_trie.proofs.Encoded.{length_encode, size_leaves}
 use Rattle.std.proofs.lemmas.Nat.{pow-add}

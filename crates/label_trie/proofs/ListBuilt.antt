@@ -5,20 +5,16 @@ use Rattle.std.specs.List.Sorted.{IsPermutation}
 use Rattle.std.proofs.lemmas.List.Elements.{All-weaker}
 use Rattle.std.proofs.lemmas.List.Sorted.{All-permutation, IsPermutation-map, IsPermutation-sym, length_permutation}
 use Rattle.std.proofs.lemmas.Option.{none-some}
-use Rattle.prefix_keys.specs.Block.{block_number}
-use Rattle.prefix_keys.specs.Version.{width_of}
+use Rattle.prefix_keys.specs.Block.{block_number, width_of}
 use Rattle.pmap_text.specs.ListModel.{list_label}
 use Rattle.pmap_text.specs.MapModel.{Label}
-use Rattle.pmap_text.specs.PrefixList.{list_of, prefix_of}
+use Rattle.pmap_text.specs.PrefixList.{list_of, prefix_of, AreShortestFirst, HasStatement, LongerLater}
 use Rattle.pmap_text.specs.declared.entry.Entry.{Entry}
 use Rattle.pmap_text.specs.declared.prefix_list.PrefixList.{PrefixList}
 use Rattle.pmap_text.specs.declared.statement.Statement.{Statement}
-use Rattle.pmap_text.specs.ListStatements.{AreShortestFirst, HasStatement, LongerLater}
-use Rattle.label_trie.specs.Layers.{IsMapOf, parted_count, parted_sum}
-use Rattle.label_trie.specs.Nodes.{tree_of}
+use Rattle.label_trie.specs.Inner.{IsMapOf, parted_count, parted_sum, tree_of, Node}
 use Rattle.label_trie.specs.Tree.{Tree, Fits, HasRoom, leaves_of}
 use Rattle.label_trie.specs.TrieModel.{IsDecidedLeaf, label_among}
-use Rattle.label_trie.specs.declared.node.Node.{Node}
 use Rattle.label_trie.proofs.Built.{IsGrown}
 use Rattle.pmap_text.proofs.ListPainted.{list_blocks, zip_all, zip_length, zip_mappings}
 use Rattle.pmap_text.proofs.Longest.{label_seen}

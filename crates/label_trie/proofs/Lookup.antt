@@ -5,8 +5,7 @@ use Rattle.std.proofs.lemmas.Bool.{cases_eq, eq-eqb, eqb-true, ne_eqb}
 use Rattle.std.proofs.lemmas.List.Elements.{All-contains}
 use Rattle.std.proofs.lemmas.List.Folds.{find-append}
 use Rattle.std.proofs.lemmas.Nat.{pow_pos, shr-shr, div_below}
-use Rattle.prefix_keys.specs.Block.{block_number}
-use Rattle.prefix_keys.specs.Version.{width_of}
+use Rattle.prefix_keys.specs.Block.{block_number, width_of}
 use Rattle.pmap_text.specs.MapModel.{MapModel, map_label}
 use Rattle.pmap_text.specs.MapText.{text_at}
 use Rattle.label_trie.specs.TrieModel.{LeafModel, IsSettledLeaf, has_address, label_among}

@@ -4,14 +4,9 @@ use Rattle.std.specs.Option.{ForSome}
 use Rattle.std.proofs.lemmas.Bool.{cases_lt}
 use Rattle.std.proofs.lemmas.Option.{same_Some, slice_get-get_or}
 use Rattle.pmap_text.specs.declared.label.LabelId.{LabelId}
-use Rattle.label_trie.specs.Kind.{IsKindOf}
-use Rattle.label_trie.specs.Nodes.{IsAt, IsTrie, leaf_node, tree_of}
-use Rattle.label_trie.specs.Tree.{Tree, Tip, Fork, HasNodes, leaves_of, nodes_of, size, top_of}
+use Rattle.label_trie.specs.Tree.{IsKindOf, Tree, Tip, Fork, HasNodes, leaves_of, nodes_of, size, top_of, Kind, Divided, Leaf}
+use Rattle.label_trie.specs.Inner.{IsAt, IsTrie, leaf_node, tree_of, Node, Inner}
 use Rattle.label_trie.specs.TrieModel.{NodeModel}
-use Rattle.label_trie.specs.declared.kind.Kind.{Kind}
-use Rattle.label_trie.specs.declared.kind.Kind.TheVariants.{Divided, Leaf}
-use Rattle.label_trie.specs.declared.node.Node.{Node}
-use Rattle.label_trie.specs.declared.node.Node.TheVariants.{Inner}
 use Rattle.label_trie.proofs.Encoded.{leaf_is_not_inner, leaf_tree, length_nodes, size_leaves, size_pos}
 use Rattle.label_trie.proofs.NodeLeaves.{length_leaves}
 use Rattle.label_trie.proofs.Places.{whole_nodes}

@@ -1,15 +1,12 @@
 -- Nodes of a trie: the root, and the halves of a block.
 use Rattle.std.proofs.Common.{◌≡◌, ℕ, suc, ◌+◌, ◌-◌, ◌*◌, ◌/◌, ◌^◌, ◌≤◌, List, [], length, refl, ap, ◌∙◌, subst, arith}
 use Rattle.std.proofs.lemmas.List.{append-nil}
-use Rattle.prefix_keys.specs.Version.{width_of}
+use Rattle.prefix_keys.specs.Block.{width_of}
 use Rattle.prefix_keys.specs.declared.block.Block.{Block}
-use Rattle.label_trie.specs.CursorModel.{CursorModel}
-use Rattle.label_trie.specs.Leaf.{number_of}
-use Rattle.label_trie.specs.Nodes.{IsAt, IsPlace, IsTrie, tree_at, tree_of}
+use Rattle.label_trie.specs.TrieModel.{CursorModel, number_of, NodeModel}
+use Rattle.label_trie.specs.Inner.{IsAt, IsPlace, IsTrie, tree_at, tree_of, Node}
 use Rattle.label_trie.specs.Parts.{IsHalf, IsDivided}
 use Rattle.label_trie.specs.Tree.{Tree, size, leaf_count, leaves_of, nodes_of, HasNodes, HasRoom}
-use Rattle.label_trie.specs.TrieModel.{NodeModel}
-use Rattle.label_trie.specs.declared.node.Node.{Node}
 use Rattle.label_trie.proofs.Divided.{divided}
 use Rattle.label_trie.proofs.Encoded.{IsInner, nodes_at, size_leaves}
 use Rattle.label_trie.proofs.NodeLeaves.{length_leaves}

@@ -1,8 +1,7 @@
 -- The labels of prefixes that are seen at the leaves of a trie.
 use Rattle.std.proofs.Common.{ℕ, suc, ◌+◌, ◌*◌, ◌<◌, List, [], Option, Some, None, option_map, length, map, refl, sym, arith, All, mul-div_cancel, pow_pos, ◌-◌}
 use Rattle.std.proofs.lemmas.List.Elements.{All-nil, All-cons, All-append}
-use Rattle.prefix_keys.specs.Block.{first_of}
-use Rattle.prefix_keys.specs.Version.{width_of}
+use Rattle.prefix_keys.specs.Block.{first_of, width_of}
 use Rattle.prefix_keys.specs.declared.version.Version.{Version}
 use Rattle.pmap_text.specs.ListModel.{ListModel, Prefix}
 use Rattle.pmap_text.specs.MapModel.{Label, last_such, meets}

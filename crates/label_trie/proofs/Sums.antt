@@ -8,7 +8,7 @@ use Rattle.prefix_keys.specs.declared.span.Span.{Span}
 use Rattle.pmap_text.specs.MapModel.{Label, Mapping, last_such, meets, settled_by, spans_all}
 use Rattle.pmap_text.specs.MapText.{mapping_of}
 use Rattle.pmap_text.specs.declared.statement.Statement.{Statement}
-use Rattle.label_trie.specs.Layers.{parted_count, parted_sum}
+use Rattle.label_trie.specs.Inner.{parted_count, parted_sum}
 use Rattle.pmap_text.specs.Stretches.{mappings_of}
 use Rattle.label_trie.proofs.Blocks.{high_lies_in, low_lies_in}
 use Rattle.pmap_text.proofs.Orders.{both_le}

@@ -2,11 +2,9 @@
 use Rattle.std.proofs.Common.{◌≡◌, ℕ, ◌+◌, ◌-◌, ◌/◌, ◌%◌, ◌^◌, ◌<◌, ◌≤◌, List, Option, length, option_map, slice_index_or, refl, sym, ◌∙◌, arith}
 use Rattle.std.proofs.lemmas.Bool.{eq-eqb}
 use Rattle.pmap_text.specs.declared.label.LabelId.{LabelId}
-use Rattle.label_trie.specs.Nodes.{IsAt, leaf_node, tree_at, tree_of}
+use Rattle.label_trie.specs.Inner.{IsAt, leaf_node, tree_at, tree_of, Node, Inner}
 use Rattle.label_trie.specs.Tree.{HasRoom, Tip, leaves_of, size}
 use Rattle.label_trie.specs.TrieModel.{label_among}
-use Rattle.label_trie.specs.declared.node.Node.{Node}
-use Rattle.label_trie.specs.declared.node.Node.TheVariants.{Inner}
 use Rattle.label_trie.proofs.Encoded.{IsInner, at_within, inner_at, leaf_at, node_read}
 use Rattle.label_trie.proofs.Lookup.{label_below_high, label_below_low}
 

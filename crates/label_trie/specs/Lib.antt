@@ -1,9 +1,5 @@
 pub mod TrieModel
-pub mod Leaf
-pub mod CursorModel
 pub mod Parts
 pub mod Tree
-pub mod Kind
-pub mod Nodes
-pub mod Layers
+pub mod Inner
 pub mod Runs

@@ -1,9 +1,7 @@
 use Rattle.std.specs.Prelude.{◌≡◌, ℕ, ◌+◌, ◌*◌, [], ◌∷◌, ◌++◌, None, All, length}
 use Rattle.prefix_keys.specs.declared.block.Block.{Block}
 use Rattle.pmap_text.specs.MapModel.{MapModel, settled_label}
-use Rattle.label_trie.specs.TrieModel.{IsUndivided}
-use Rattle.label_trie.specs.Leaf.{number_of, model_of}
-use Rattle.label_trie.specs.CursorModel.{CursorModel}
+use Rattle.label_trie.specs.TrieModel.{IsUndivided, number_of, model_of, CursorModel}
 use Rattle.label_trie.specs.declared.cursor.Parts.{Parts}
 use Rattle.label_trie.specs.declared.cursor.Parts.TheVariants.{Leaf, Inner}
 

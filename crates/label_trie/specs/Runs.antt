@@ -1,5 +1,5 @@
 use Rattle.std.specs.Prelude.{◌≡◌, ◌≢◌, ℕ, ◌+◌, ◌^◌, ◌≤◌, List, [], ◌∷◌, Option}
-use Rattle.prefix_keys.specs.Version.{width_of}
+use Rattle.prefix_keys.specs.Block.{width_of}
 use Rattle.prefix_keys.specs.declared.version.Version.{Version}
 use Rattle.pmap_text.specs.MapModel.{Label}
 

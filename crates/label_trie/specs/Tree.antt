@@ -1,9 +1,11 @@
 use Rattle.std.specs.Prelude.{◌≡◌, ℕ, suc, ◌+◌, ◌-◌, ◌*◌, ◌<◌, ◌≤◌, List, [], ◌∷◌, ◌++◌, Option, Some, None, length, option_map, IsSome, slice_get}
-use Rattle.prefix_keys.specs.Version.{width_of}
+use Rattle.prefix_keys.specs.Block.{width_of}
 use Rattle.pmap_text.specs.MapModel.{MapModel, IsSettled, last_such, meets, settled_label}
 use Rattle.pmap_text.specs.MapText.{text_at}
 use Rattle.pmap_text.specs.declared.label.LabelId.{LabelId}
-use Rattle.label_trie.specs.TrieModel.{LeafModel, NodeModel}
+use Rattle.label_trie.specs.TrieModel.{LeafModel, NodeModel, TrieModel}
+pub use Rattle.label_trie.specs.declared.kind.Kind.{Kind}
+pub use Rattle.label_trie.specs.declared.kind.Kind.TheVariants.{Divided, Leaf}
 
 -- A trie as a tree: a leaf with its label, or the two halves of a block. If the tree represents the block of n bits
 -- with the number q, its halves represent those with the numbers 2 * q and 2 * q + 1.
@@ -64,3 +66,16 @@ abbrev pub Fits : MapModel → Tree → ℕ → ℕ → Type 0
 Fits m (Tip label) n q = (n ≤ width_of m.version) × Settles m label n q
 Fits m (Fork low high) n q =
     (n < width_of m.version) × (settled_label m n q ≡ None) × Fits m low (suc n) (2 * q) × Fits m high (suc n) (2 * q + 1)
+
+-- the kind of a node: a leaf, whose block is the node's and which is the node's only leaf, or two halves, each with a
+-- leaf
+abbrev pub IsKindOf : NodeModel → Kind → Type 0
+IsKindOf node (Leaf label) = node.leaves ≡ record { bits = node.bits; number = node.number; label = option_map (λ id. id.0) label } ∷ []
+IsKindOf node Divided = 2 ≤ length node.leaves
+
+-- the leaves and the nodes are those of one tree, which is no deeper than an address has bits
+pub record IsOfTree (t : TrieModel) : Type 0 where
+  pub tree : Tree
+  pub leaves : t.leaves ≡ leaves_of tree 0 0
+  pub nodes : t.nodes ≡ nodes_of tree 0 0
+  pub room : HasRoom tree (width_of t.version)

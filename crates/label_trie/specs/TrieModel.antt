@@ -1,11 +1,12 @@
-use Rattle.std.specs.Prelude.{◌≡◌, ℕ, suc, ◌+◌, ◌-◌, ◌/◌, ◌^◌, ◌<◌, ◌≤◌, ◌==◌, Bool, List, [], ◌∷◌, Option, Some, None, length, filter, find, slice_get, option_and_then}
+use Rattle.std.specs.Prelude.{◌≡◌, ℕ, suc, ◌+◌, ◌-◌, ◌/◌, ◌^◌, ◌<◌, ◌≤◌, ◌==◌, Bool, List, [], ◌∷◌, Option, Some, None, length, filter, find, slice_get, option_and_then, option_map}
 use Rattle.std.specs.Option.{ForSome}
-use Rattle.prefix_keys.specs.Block.{block_number, first_of, last_of}
-use Rattle.prefix_keys.specs.Version.{width_of}
+use Rattle.prefix_keys.specs.Block.{block_number, first_of, last_of, width_of}
 use Rattle.prefix_keys.specs.declared.version.Version.{Version}
+use Rattle.prefix_keys.specs.declared.block.Block.{Block}
 use Rattle.pmap_text.specs.ListModel.{ListModel, label_below, lies_inside}
 use Rattle.pmap_text.specs.MapModel.{MapModel, IsSettled, settled_label}
 use Rattle.pmap_text.specs.MapText.{text_at}
+use Rattle.label_trie.specs.declared.leaf.Leaf.{Leaf}
 
 -- A trie as contracts see it: its leaves, in rising order of their addresses, and its nodes.
 
@@ -66,3 +67,25 @@ pub record IsDecidedLeaf (l : ListModel) (leaf : LeafModel) : Type 0 where
   pub longest : label_below (width_of l.version) l.prefixes (suc leaf.bits) (first_of (width_of l.version) leaf.bits leaf.number)
       ≡ option_and_then (slice_get l.table) leaf.label
   pub known : ForSome leaf.label (λ id. id < length l.table)
+
+-- the number of a block among the blocks of the same length
+abbrev pub number_of : Block → ℕ
+number_of b = block_number (width_of b.version) b.len b.value
+
+-- a leaf as contracts see it
+abbrev pub model_of : Leaf → LeafModel
+model_of leaf =
+    record { bits = leaf.block.len; number = number_of leaf.block; label = option_map (λ id. id.0) leaf.label }
+
+-- A cursor in a trie as contracts see it: the block of its node, the leaves at and below the node in rising order, the
+-- number of the node, and the nodes of the trie in the order of their numbers.
+pub record CursorModel : Type 0 where
+  pub block : Block
+  pub leaves : List LeafModel
+  pub number : ℕ
+  pub nodes : List NodeModel
+
+-- the trie's node with the cursor's number has the cursor's block and leaves
+abbrev pub IsNode : CursorModel → Type 0
+IsNode c = slice_get c.nodes c.number
+    ≡ Some (record { bits = c.block.len; number = number_of c.block; leaves = c.leaves })

@@ -1,11 +1,8 @@
 ghost use Rattle.std.specs.Prelude.{◌≡◌, ◌+◌};
-ghost use Rattle.prefix_keys.specs.Block.{first_of, last_of};
-ghost use Rattle.prefix_keys.specs.Version.{width_of};
-ghost use Rattle.label_trie.specs.CursorModel.{IsNode};
-ghost use Rattle.label_trie.specs.Leaf.{number_of};
-ghost use Rattle.label_trie.specs.Nodes.{IsPlace, tree_at, tree_of};
+ghost use Rattle.prefix_keys.specs.Block.{first_of, last_of, width_of};
+ghost use Rattle.label_trie.specs.TrieModel.{IsNode, number_of, IsCut};
+ghost use Rattle.label_trie.specs.Inner.{IsPlace, tree_at, tree_of};
 ghost use Rattle.label_trie.specs.Tree.{leaves_of, nodes_of};
-ghost use Rattle.label_trie.specs.TrieModel.{IsCut};
 
 use crate::node::Node;
 use pmap_text::LabelId;
@@ -23,13 +20,12 @@ pub struct Cursor<'a> {
 
 impl<'a> Model for Cursor<'a> {
     ghost use Rattle.std.specs.Prelude.{◌-◌};
-    ghost use Rattle.prefix_keys.specs.Version.{width_of};
-    ghost use Rattle.label_trie.specs.CursorModel.{CursorModel};
+    ghost use Rattle.prefix_keys.specs.Block.{width_of};
+    ghost use Rattle.label_trie.specs.TrieModel.{CursorModel, number_of};
 
     ghost Value = { CursorModel };
 
-    ghost use Rattle.label_trie.specs.Leaf.{number_of};
-    ghost use Rattle.label_trie.specs.Nodes.{IsPlace, tree_at, tree_of};
+    ghost use Rattle.label_trie.specs.Inner.{IsPlace, tree_at, tree_of};
     ghost use Rattle.label_trie.specs.Tree.{leaves_of, nodes_of};
 
     ghost view = { λ c. record {

@@ -1,6 +1,6 @@
 //! Building the nodes of a block from the stretches of statements.
 ghost use Rattle.std.specs.Prelude.{◌≡◌, ◌<◌, OnOk, length, slice_set};
-ghost use Rattle.label_trie.specs.Layers.{GrowsTree, HasRoomFor, IsPart};
+ghost use Rattle.label_trie.specs.Inner.{GrowsTree, HasRoomFor, IsPart};
 
 use crate::node::{Node, leaf_of};
 use pmap_text::Stretches;

@@ -1,7 +1,7 @@
 //! Laws about the runs of a labelling.
 
 ghost use Rattle.std.specs.Prelude.{◌≡◌, ◌<◌, ◌^◌, ℕ, List, Option};
-ghost use Rattle.prefix_keys.specs.Version.{width_of};
+ghost use Rattle.prefix_keys.specs.Block.{width_of};
 ghost use Rattle.prefix_keys.specs.declared.version.Version.{Version};
 ghost use Rattle.pmap_text.specs.MapModel.{Label};
 ghost use Rattle.label_trie.specs.Runs.{AreRunsOf, Run};

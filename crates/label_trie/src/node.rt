@@ -1,5 +1,5 @@
 ghost use Rattle.std.specs.Prelude.{◌≡◌};
-ghost use Rattle.label_trie.specs.Nodes.{leaf_node};
+ghost use Rattle.label_trie.specs.Inner.{leaf_node};
 
 use pmap_text::LabelId;
 

@@ -1,19 +1,16 @@
 ghost use Rattle.std.specs.Prelude.{◌≡◌, ℕ, ◌+◌, ◌*◌, ◌^◌, ◌<◌, ◌≤◌, ◌++◌, [], List, Option, Some, All, IfOk, OnOk, length, map, option_map, option_and_then, slice_get};
 ghost use Rattle.std.specs.Option.{ForSome};
-ghost use Rattle.prefix_keys.specs.Version.{width_of};
+ghost use Rattle.prefix_keys.specs.Block.{width_of};
 ghost use Rattle.pmap_text.specs.ListModel.{list_label};
 ghost use Rattle.pmap_text.specs.PrefixList.{list_of};
 ghost use Rattle.pmap_text.specs.MapModel.{map_label};
 ghost use Rattle.pmap_text.specs.MapText.{map_of};
-ghost use Rattle.label_trie.specs.Kind.{IsKindOf, IsOfTree};
+ghost use Rattle.label_trie.specs.Tree.{IsKindOf, IsOfTree, leaves_of};
 ghost use Rattle.pmap_text.specs.Stretches.{AreStretches};
 ghost use Rattle.pmap_text.specs.declared.label.LabelId.{LabelId as LabelNumber};
 ghost use Rattle.pmap_text.specs.declared.statement.Statement.{Statement};
-ghost use Rattle.label_trie.specs.Layers.{AddsTree, HasFewStatements};
-ghost use Rattle.label_trie.specs.Leaf.{model_of};
-ghost use Rattle.label_trie.specs.Nodes.{IsTrie, tree_of};
-ghost use Rattle.label_trie.specs.Tree.{leaves_of};
-ghost use Rattle.label_trie.specs.TrieModel.{IsCut, IsDecidedLeaf, IsSettledLeaf, IsUndivided, label_among, label_in};
+ghost use Rattle.label_trie.specs.Inner.{AddsTree, HasFewStatements, IsTrie, tree_of};
+ghost use Rattle.label_trie.specs.TrieModel.{model_of, IsCut, IsDecidedLeaf, IsSettledLeaf, IsUndivided, label_among, label_in};
 
 use crate::cursor::{Cursor, Parts, cursor_at};
 use crate::growing::{Part, push_block};
@@ -37,13 +34,13 @@ pub struct Trie {
 }
 
 impl Model for Trie {
-    ghost use Rattle.prefix_keys.specs.Version.{width_of};
+    ghost use Rattle.prefix_keys.specs.Block.{width_of};
     ghost use Rattle.label_trie.specs.TrieModel.{TrieModel};
 
     ghost Value = { TrieModel };
 
     ghost use Rattle.std.specs.Prelude.{◌*◌};
-    ghost use Rattle.label_trie.specs.Nodes.{IsTrie, tree_of};
+    ghost use Rattle.label_trie.specs.Inner.{IsTrie, tree_of};
     ghost use Rattle.label_trie.specs.Tree.{leaves_of, nodes_of};
 
     ghost view = { λ t. record {

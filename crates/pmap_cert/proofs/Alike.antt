@@ -4,13 +4,11 @@ use Rattle.std.proofs.lemmas.Slice.Eq.{bytes_eq-Decides}
 use Rattle.std.proofs.lemmas.Option.{cond_some, none-some, same_Some}
 use Rattle.std.proofs.Math.Path.{fun_ext}
 use Rattle.std.proofs.lemmas.List.Elements.{All-head, All-tail}
-use Rattle.prefix_keys.specs.Block.{first_of}
-use Rattle.prefix_keys.specs.Version.{width_of}
+use Rattle.prefix_keys.specs.Block.{first_of, width_of}
 use Rattle.pmap_text.specs.ListModel.{ListModel}
 use Rattle.pmap_text.specs.MapModel.{Label, MapModel, Mapping, last_such, meets, settled_by, spans_all}
-use Rattle.pmap_cert.specs.CertificateModel.{CertificateModel, ChainNode, InnerNode, LeafNode, Pair, Tree, claim_of, has}
-use Rattle.pmap_cert.specs.ExactPair.{IsSamePair, common_labels, exact_pair, exact_pair_by}
-use Rattle.pmap_cert.specs.MinimalPair.{HasItsLabels, IsSameCertificate, IsSameTree, IsMinimalPair, StandsFor, entries_of, first_label, handed_on, has_inherited, least_label, own_entry}
+use Rattle.pmap_cert.specs.CertificateModel.{CertificateModel, ChainNode, InnerNode, LeafNode, Pair, Tree, claim_of, has, IsSamePair, common_labels, exact_pair, exact_pair_by}
+use Rattle.pmap_cert.specs.Acceptance.{HasItsLabels, IsSameCertificate, IsSameTree, IsMinimalPair, StandsFor, entries_of, first_label, handed_on, has_inherited, least_label, own_entry}
 use Rattle.pmap_cert.proofs.ExactPairs.{same-exact_pair}
 use Rattle.pmap_cert.proofs.Handed.{inhabited}
 use Rattle.pmap_cert.proofs.Sets.{has-append, has-filter, has-single}

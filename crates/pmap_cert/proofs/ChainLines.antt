@@ -8,8 +8,7 @@ use Rattle.std.proofs.lemmas.Bool.{and_from, and_parts, cond-false, cond-true, e
 use Rattle.std.proofs.lemmas.List.{length-map}
 use Rattle.std.proofs.lemmas.Option.{none-some, same_Some}
 use Rattle.std.proofs.lemmas.Slice.Eq.{bytes_eq-Decides}
-use Rattle.pmap_cert.specs.CertificateForm.{IsRising}
-use Rattle.pmap_cert.specs.CertificateText.{bit_digits}
+use Rattle.pmap_cert.specs.CertificateText.{IsRising, bit_digits}
 use Rattle.pmap_cert.specs.FormatReading.{ChainLine, DueLine, InnerLine, LeafLine, NodeLine, PlainLine, bits_of, both, chain_by, due_words, node_words, number_below, rising_numbers}
 use Rattle.pmap_cert.proofs.NodeLines.{SaysDue, both_some, node_words-found, node_words-inner, node_words-leaf}
 use Rattle.pmap_cert.proofs.Numbers.{number_below-decimal, number_below-found, option_map_some, rising_numbers-decimals, rising_numbers-found}

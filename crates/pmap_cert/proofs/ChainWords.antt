@@ -2,8 +2,7 @@
 use Rattle.std.proofs.Common.{◌≡◌, ℕ, zero, suc, ◌+◌, Bool, true, false, List, [], ◌∷◌, ◌==◌, arith, length, subst}
 use Rattle.std.proofs.lemmas.List.Elements.{All-cons}
 use Rattle.prefix_keys.proofs.Printed.{Lacks}
-use Rattle.pmap_cert.specs.CertificateForm.{HasRoomBelow}
-use Rattle.pmap_cert.specs.CertificateText.{bit_digits}
+use Rattle.pmap_cert.specs.CertificateText.{HasRoomBelow, bit_digits}
 
 -- a byte that is neither 0 nor 1 is not among the digits of a chain's bits
 pub Lacks-bits : (c : ℕ) (bits : List Bool) → (48 == c) ≡ false → (49 == c) ≡ false → Lacks c (bit_digits bits)

@@ -2,11 +2,9 @@ use Rattle.std.proofs.Common.{◌≡◌, ℕ, zero, suc, ◌+◌, ◌*◌, ◌<�
 use Rattle.std.proofs.lemmas.Bool.{or_left}
 use Rattle.pmap_text.specs.ListModel.{ListModel, Prefix}
 use Rattle.pmap_text.specs.MapModel.{Label, MapModel}
-use Rattle.prefix_keys.specs.Version.{width_of}
+use Rattle.prefix_keys.specs.Block.{width_of}
 use Rattle.pmap_cert.specs.Acceptance.{AreBitsAccepted, IsAccepted, IsLeafAccepted, IsNodeAccepted, IsWithinExact}
-use Rattle.pmap_cert.specs.CertificateModel.{CertificateModel, ChainNode, InnerNode, LeafNode, Pair, Tree, claim_of, has}
-use Rattle.pmap_cert.specs.Chain.{IsPlain, chain_labels, chain_opened, chain_pair, chosen_half, link, link_pair, links, opened, opened_certificate, pair_by_bits, side_half}
-use Rattle.pmap_cert.specs.ExactPair.{IsSamePair, exact_pair}
+use Rattle.pmap_cert.specs.CertificateModel.{CertificateModel, ChainNode, InnerNode, LeafNode, Pair, Tree, claim_of, has, IsPlain, chain_labels, chain_opened, chain_pair, chosen_half, link, link_pair, links, opened, opened_certificate, pair_by_bits, side_half, IsSamePair, exact_pair}
 use Rattle.pmap_cert.proofs.ExactPairs.{exact_pair-apart, exact_pair-common, same-exact_pair}
 use Rattle.pmap_cert.proofs.Sets.{bytes_eq-same, has-own, has-single}
 

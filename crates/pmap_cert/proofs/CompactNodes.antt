@@ -6,21 +6,18 @@ use Rattle.std.proofs.lemmas.Bool.{both_ways, cond-false, cond-true, eq-eqb, eqb
 use Rattle.std.proofs.lemmas.List.{append_assoc}
 use Rattle.std.proofs.lemmas.Option.{none-some, same_Some}
 use Rattle.std.proofs.lemmas.Slice.Eq.{bytes_eq-Decides}
-use Rattle.prefix_keys.specs.Version.{width_of}
+use Rattle.prefix_keys.specs.Block.{width_of}
 use Rattle.prefix_keys.specs.declared.version.Version.{Version}
 use Rattle.pmap_text.specs.Label.{IsLabelTable}
 use Rattle.pmap_text.specs.MapModel.{Label}
 use Rattle.pmap_text.specs.MapText.{text_at}
-use Rattle.pmap_cert.specs.CertificateForm.{HasRoomBelow}
+use Rattle.pmap_cert.specs.CertificateText.{HasRoomBelow, place_of}
 use Rattle.pmap_cert.specs.CertificateModel.{CertificateModel, ChainNode, InnerNode, Pair, Tree}
-use Rattle.pmap_cert.specs.CertificateText.{place_of}
 use Rattle.pmap_cert.specs.Compacting.{compact, compacted, is_side, leaf_label, run_bits, run_compacted, run_end, side_of}
-use Rattle.pmap_cert.specs.Format.{format_number}
+use Rattle.pmap_cert.specs.Format.{format_number, Format, One, Two}
 use Rattle.pmap_cert.specs.FormatReading.{ChainLine, DueLine, InnerLine, LeafLine, PlainLine}
 use Rattle.pmap_cert.specs.Node.{Chain, HasChainForm, Inner, Leaf, Node, cost_of, label_of, lines_of, set_of, tree_of}
-use Rattle.pmap_cert.specs.Placing.{IsCompactNode, IsCompacted, IsShort, bits_down, end_down, is_leaf, side_below}
-use Rattle.pmap_cert.specs.declared.format.Format.{Format}
-use Rattle.pmap_cert.specs.declared.format.Format.TheVariants.{One, Two}
+use Rattle.pmap_cert.specs.Inner.{IsCompactNode, IsCompacted, IsShort, bits_down, end_down, is_leaf, side_below}
 use Rattle.pmap_cert.proofs.ChainWords.{end-room, other-room}
 use Rattle.pmap_cert.proofs.Compacts.{compact-again, compact-first}
 use Rattle.pmap_cert.proofs.Runs.{compacted-inner, compacted-leaf}

@@ -5,7 +5,7 @@ use Rattle.std.proofs.lemmas.Option.{none-some, same_Some}
 use Rattle.std.proofs.lemmas.List.Elements.{All-append, All-cons, All-head, All-nil, All-tail}
 use Rattle.pmap_cert.specs.FormatReading.{ChainLine, DueLine, InnerLine, LeafLine, PlainLine}
 use Rattle.pmap_cert.specs.Node.{AreWhole, Inner, HasChainForm, IsPlainNode, Chain, Leaf, Node, behind, first_node, from_next_line, joined, label_of, line_label, lines_of, nodes_of}
-use Rattle.pmap_cert.specs.Placing.{AreEndsFrom, ArePlain, EndsAt, HasHalves, HasPlace, IsPlainLine, IsRunEnd, IsShallow, IsStep, bits_down, end_down, is_leaf, node_from}
+use Rattle.pmap_cert.specs.Inner.{AreEndsFrom, ArePlain, EndsAt, HasHalves, HasPlace, IsPlainLine, IsRunEnd, IsShallow, IsStep, bits_down, end_down, is_leaf, node_from}
 use Rattle.pmap_cert.proofs.ChainWords.{left-room}
 use Rattle.pmap_cert.proofs.CompactNodes.{form-down}
 use Rattle.pmap_cert.proofs.NodeWalk.{IsLineOf, line-here, nodes-next, root-of, tree-whole, whole-next, within}

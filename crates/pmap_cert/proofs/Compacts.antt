@@ -4,8 +4,7 @@ use Rattle.std.proofs.lemmas.Bool.{cond-false, cond-true, eq-eqb, ne_eqb}
 use Rattle.pmap_text.specs.ListModel.{ListModel}
 use Rattle.pmap_text.specs.MapModel.{MapModel}
 use Rattle.pmap_cert.specs.Acceptance.{IsAccepted}
-use Rattle.pmap_cert.specs.CertificateModel.{CertificateModel, Pair}
-use Rattle.pmap_cert.specs.Chain.{IsOfFormat, IsPlain, opened}
+use Rattle.pmap_cert.specs.CertificateModel.{CertificateModel, Pair, IsOfFormat, IsPlain, opened}
 use Rattle.pmap_cert.specs.Compacting.{HasNoRun, IsSameShape, OpensTo, compact, compacted, line_count}
 use Rattle.pmap_cert.proofs.Opening.{claim-opening, lines-opening, opening-accepted}
 use Rattle.pmap_cert.proofs.Runs.{compacted_in-no_run, compacted_in-opens, shape-opens}

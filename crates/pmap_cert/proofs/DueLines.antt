@@ -9,12 +9,10 @@ use Rattle.std.proofs.lemmas.List.Splits.{join_with_byte-slice_split, slice_spli
 use Rattle.std.proofs.lemmas.Option.{none-some}
 use Rattle.prefix_keys.proofs.Printed.{Lacks}
 use Rattle.pmap_cert.specs.CertificateText.{bit_digits, spaced}
-use Rattle.pmap_cert.specs.FormatReading.{ChainLine, DueLine, InnerLine, LeafLine, Place, PlainLine, due_words, fault_at, is_ended, line_due_at, line_from, or_fault, pieces_of, value_by, words_of}
-use Rattle.pmap_cert.specs.LineTexts.{BeginsWithLine, FitsLine, Reads}
+use Rattle.pmap_cert.specs.FormatReading.{ChainLine, DueLine, InnerLine, LeafLine, Place, PlainLine, due_words, fault_at, is_ended, line_due_at, line_from, or_fault, pieces_of, value_by, words_of, CertFault, BadNode, NodesMissing}
+use Rattle.pmap_cert.specs.Inner.{BeginsWithLine, FitsLine, Reads}
 use Rattle.pmap_cert.specs.Node.{line_text}
 use Rattle.pmap_cert.specs.Words.{due_or_missing}
-use Rattle.pmap_cert.specs.declared.fault.CertFault.{CertFault}
-use Rattle.pmap_cert.specs.declared.fault.CertFaultKind.TheVariants.{BadNode, NodesMissing}
 use Rattle.pmap_cert.proofs.ChainLines.{due_words-chain, due_words-found, due_words-inner, due_words-leaf}
 use Rattle.pmap_cert.proofs.ChainWords.{Lacks-bits}
 use Rattle.pmap_cert.proofs.Headers.{Lacks-line}

@@ -3,8 +3,7 @@ use Rattle.std.proofs.Common.{◌≡◌, ℕ, zero, suc, ◌+◌, ◌-◌, ◌*�
 use Rattle.std.proofs.Math.Nat.{mul-le-mul_right}
 use Rattle.std.proofs.lemmas.Bool.Decides.{nat_tests}
 use Rattle.std.proofs.lemmas.Nat.{mul-le}
-use Rattle.prefix_keys.specs.Block.{first_of, last_of}
-use Rattle.prefix_keys.specs.Version.{width_of}
+use Rattle.prefix_keys.specs.Block.{first_of, last_of, width_of}
 use Rattle.prefix_keys.proofs.Groups.{width-le}
 use Rattle.pmap_text.proofs.Blocks.{first_of-lower, pow-half}
 use Rattle.pmap_text.proofs.LastSuch.{last_such-cases, last_such-passes}
@@ -13,9 +12,8 @@ use Rattle.pmap_text.specs.MapModel.{Label, MapModel, Mapping, last_such, meets,
 use Rattle.pmap_text.specs.Reading.{mapping_limit}
 use Rattle.pmap_cert.proofs.Counts.{one_if}
 use Rattle.pmap_cert.proofs.Sets.{exact_pair-cost}
-use Rattle.pmap_cert.specs.CertificateModel.{ChainNode, InnerNode, LeafNode, Tree, claim_of}
-use Rattle.pmap_cert.specs.ExactPair.{exact_pair}
-use Rattle.pmap_cert.specs.MinimalPair.{StandsFor}
+use Rattle.pmap_cert.specs.CertificateModel.{ChainNode, InnerNode, LeafNode, Tree, claim_of, exact_pair}
+use Rattle.pmap_cert.specs.Acceptance.{StandsFor}
 
 -- the number of ends of a mapping between two addresses; at an end it covers one of two neighbours and not the other
 ends_of : ℕ → ℕ → Mapping → ℕ

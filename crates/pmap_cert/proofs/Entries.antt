@@ -1,13 +1,11 @@
 use Rattle.std.proofs.Common.{◌≡◌, ℕ, suc, ◌+◌, ◌*◌, ◌/◌, ◌<◌, ◌≤◌, Bool, true, false, cond, ◌&&◌, ◌==◌, List, [], ◌∷◌, ◌++◌, Option, arith, filter, length, nat_le, sym, refl, ◌∙◌, length-append, eq-eqb, le-leb, le_refl}
 use Rattle.std.proofs.lemmas.Bool.{and_from}
 use Rattle.std.proofs.lemmas.Bool.Decides.{nat_tests}
-use Rattle.prefix_keys.specs.Block.{block_number, first_of}
-use Rattle.prefix_keys.specs.Version.{width_of}
+use Rattle.prefix_keys.specs.Block.{block_number, first_of, width_of}
 use Rattle.pmap_text.specs.ListModel.{Prefix}
 use Rattle.pmap_text.specs.MapModel.{Label, MapModel}
-use Rattle.pmap_cert.specs.CertificateModel.{ChainNode, InnerNode, LeafNode, Pair, Tree, claim_of}
-use Rattle.pmap_cert.specs.ExactPair.{IsSamePair, exact_pair}
-use Rattle.pmap_cert.specs.MinimalPair.{StandsFor, entries_of, handed_on, has_inherited, least_label, own_entry}
+use Rattle.pmap_cert.specs.CertificateModel.{ChainNode, InnerNode, LeafNode, Pair, Tree, claim_of, IsSamePair, exact_pair}
+use Rattle.pmap_cert.specs.Acceptance.{StandsFor, entries_of, handed_on, has_inherited, least_label, own_entry}
 use Rattle.pmap_text.proofs.Blocks.{block_number-first_of, block_number-half}
 use Rattle.pmap_cert.proofs.Counts.{is_within}
 use Rattle.pmap_cert.proofs.Filters.{filter-three}

@@ -2,15 +2,14 @@
 use Rattle.std.proofs.Common.{◌≡◌, ℕ, zero, suc, ◌+◌, ◌<◌, ◌≤◌, ◌∙◌, ◌⊎◌, inl, inr, Bool, true, false, ◌||◌, List, [], ◌∷◌, length, map, refl, sym, ap, subst, arith, bytes_eq}
 use Rattle.std.proofs.lemmas.Bool.{or_cases, or_left, false≢true}
 use Rattle.std.proofs.lemmas.Slice.Eq.{bytes_eq-Decides}
-use Rattle.prefix_keys.specs.Version.{width_of}
+use Rattle.prefix_keys.specs.Block.{width_of}
 use Rattle.prefix_keys.specs.declared.version.Version.{Version}
 use Rattle.pmap_text.specs.MapModel.{Label, MapModel}
 use Rattle.pmap_text.specs.ListModel.{ListModel}
 use Rattle.pmap_text.specs.MapText.{text_at}
-use Rattle.pmap_cert.specs.CertificateForm.{HasNodeForm, HasTextForm, IsRising}
+use Rattle.pmap_cert.specs.CertificateText.{HasNodeForm, HasTextForm, IsRising, place_of}
 use Rattle.pmap_cert.specs.CertificateModel.{CertificateModel, ChainNode, InnerNode, LeafNode, Tree, has}
-use Rattle.pmap_cert.specs.CertificateText.{place_of}
-use Rattle.pmap_cert.specs.MinimalPair.{IsMinimalPair, IsSameCertificate, IsSameTree}
+use Rattle.pmap_cert.specs.Acceptance.{IsMinimalPair, IsSameCertificate, IsSameTree}
 use Rattle.pmap_cert.proofs.Alike.{certificate-unique}
 use Rattle.pmap_cert.proofs.Sets.{bytes_eq-same}
 use Rattle.pmap_cert.proofs.Tables.{text_at-place_of}

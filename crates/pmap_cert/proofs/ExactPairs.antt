@@ -1,8 +1,7 @@
 use Rattle.std.proofs.Common.{◌≡◌, ◌+◌, true, false, ◌&&◌, ◌||◌, List, [], ◌∷◌, arith, refl, sym, ap₂, ◌∙◌, bytes_eq}
 use Rattle.std.proofs.lemmas.Bool.{and_from, both_ways, false≢true, or_left}
 use Rattle.pmap_text.specs.MapModel.{Label}
-use Rattle.pmap_cert.specs.CertificateModel.{Pair, has}
-use Rattle.pmap_cert.specs.ExactPair.{IsPairOf, IsSamePair, common_labels, exact_pair, exact_pair_by}
+use Rattle.pmap_cert.specs.CertificateModel.{Pair, has, IsPairOf, IsSamePair, common_labels, exact_pair, exact_pair_by}
 use Rattle.pmap_cert.proofs.Sets.{bytes_eq-same, has-append, has-filter}
 
 -- The exact pair of two pairs depends on their costs and sets alone.

@@ -1,10 +1,9 @@
 use Rattle.std.proofs.Common.{◌≡◌, ℕ, zero, suc, ◌+◌, ◌*◌, ◌<◌, Option, Some, None, arith, refl}
-use Rattle.prefix_keys.specs.Version.{width_of}
+use Rattle.prefix_keys.specs.Block.{width_of}
 use Rattle.pmap_text.specs.ListModel.{ListModel}
 use Rattle.pmap_text.specs.MapModel.{Label, MapModel, settled_label}
-use Rattle.pmap_cert.specs.CertificateModel.{CertificateModel, InnerNode, LeafNode, Tree, claim_of}
-use Rattle.pmap_cert.specs.ExactPair.{exact_pair}
-use Rattle.pmap_cert.specs.MinimalPair.{IsMinimalPair, StandsFor, entries_of}
+use Rattle.pmap_cert.specs.CertificateModel.{CertificateModel, InnerNode, LeafNode, Tree, claim_of, exact_pair}
+use Rattle.pmap_cert.specs.Acceptance.{IsMinimalPair, StandsFor, entries_of}
 use Rattle.pmap_text.proofs.Settled.{unsettled-halves}
 
 -- Each map has a minimal pair: blocks are halved until they are settled, and a block of one address always is.

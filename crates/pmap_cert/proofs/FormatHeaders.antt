@@ -10,8 +10,7 @@ use Rattle.prefix_keys.proofs.Printed.{Lacks}
 use Rattle.prefix_keys.specs.declared.version.Version.{Version}
 use Rattle.prefix_keys.specs.declared.version.Version.TheVariants.{V4, V6}
 use Rattle.pmap_cert.specs.CertificateText.{format_header, format_word, version_word}
-use Rattle.pmap_cert.specs.FormatReading.{Place, both, format_header_at, format_header_of, named_format, named_version, number_below, words_of}
-use Rattle.pmap_cert.specs.declared.fault.CertFaultKind.TheVariants.{BadHeader}
+use Rattle.pmap_cert.specs.FormatReading.{Place, both, format_header_at, format_header_of, named_format, named_version, number_below, words_of, BadHeader}
 use Rattle.pmap_cert.proofs.Headers.{Lacks-line, Lacks-tested, named_version-found, named_version-word}
 use Rattle.pmap_cert.proofs.NodeLines.{both_some}
 use Rattle.pmap_cert.proofs.Numbers.{Lacks-decimal, number_below-decimal, number_below-found}

@@ -7,13 +7,9 @@ use Rattle.pmap_text.specs.Label.{IsLabelTable}
 use Rattle.pmap_text.specs.MapModel.{Label}
 use Rattle.pmap_text.specs.Reading.{◌>>=◌}
 use Rattle.pmap_text.specs.MapText.{text_at}
-use Rattle.pmap_cert.specs.CertificateForm.{HasNodeForm, IsRising}
-use Rattle.pmap_cert.specs.CertificateModel.{ChainNode, InnerNode, LeafNode, Pair, Tree}
-use Rattle.pmap_cert.specs.CertificateText.{bit_digits, chain_line, inner_line, leaf_line, node_lines, place_of}
-use Rattle.pmap_cert.specs.Chain.{IsPlain}
-use Rattle.pmap_cert.specs.FormatReading.{ChainLine, DueLine, InnerLine, LeafLine, Place, PlainLine, due_node, due_words, fault_at, is_ended, line_due_at, nodes_at, words_of}
-use Rattle.pmap_cert.specs.declared.fault.CertFault.{CertFault}
-use Rattle.pmap_cert.specs.declared.fault.CertFaultKind.TheVariants.{BadNode, NodesMissing, TooDeep}
+use Rattle.pmap_cert.specs.CertificateText.{HasNodeForm, IsRising, bit_digits, chain_line, inner_line, leaf_line, node_lines, place_of}
+use Rattle.pmap_cert.specs.CertificateModel.{ChainNode, InnerNode, LeafNode, Pair, Tree, IsPlain}
+use Rattle.pmap_cert.specs.FormatReading.{ChainLine, DueLine, InnerLine, LeafLine, Place, PlainLine, due_node, due_words, fault_at, is_ended, line_due_at, nodes_at, words_of, CertFault, BadNode, NodesMissing, TooDeep}
 use Rattle.pmap_cert.proofs.ChainLines.{due_words-found}
 use Rattle.pmap_cert.proofs.NodeLines.{SaysDue}
 use Rattle.pmap_cert.proofs.ChainWords.{left-room, room-left}

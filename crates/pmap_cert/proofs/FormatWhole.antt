@@ -3,21 +3,15 @@ use Rattle.std.proofs.Common.{◌≡◌, ◌≢◌, ℕ, true, false, ◌+◌, �
 use Rattle.std.specs.Result.{IfErr, IfOk}
 use Rattle.std.proofs.lemmas.Bool.{cond-false, cond-true}
 use Rattle.std.proofs.lemmas.List.{append_assoc, length-append}
-use Rattle.prefix_keys.specs.Version.{width_of}
+use Rattle.prefix_keys.specs.Block.{width_of}
 use Rattle.prefix_keys.specs.declared.version.Version.{Version}
 use Rattle.pmap_text.specs.Label.{IsLabelTable}
 use Rattle.pmap_text.specs.MapModel.{Label}
 use Rattle.pmap_text.specs.Reading.{◌>>=◌}
-use Rattle.pmap_cert.specs.Certificate.{certificate_of}
-use Rattle.pmap_cert.specs.CertificateForm.{HasFormatText, HasNodeForm}
-use Rattle.pmap_cert.specs.CertificateModel.{CertificateModel, Tree, ChainNode, InnerNode, LeafNode}
-use Rattle.pmap_cert.specs.CertificateText.{certificate_lines, certificate_text, format_header, node_lines, bit_digits, place_of}
-use Rattle.pmap_cert.specs.Chain.{IsOfFormat, IsPlain}
-use Rattle.pmap_cert.specs.FormatReading.{DueLine, Place, ended_by, fault_at, format_header_at, format_reading, is_ended, labels_at, line_due_at, nodes_at, pieces_of, start_of}
-use Rattle.pmap_cert.specs.declared.certificate.Certificate.{Certificate}
-use Rattle.pmap_cert.specs.declared.fault.CertFault.{CertFault}
-use Rattle.pmap_cert.specs.declared.fault.CertFaultKind.{CertFaultKind}
-use Rattle.pmap_cert.specs.declared.fault.CertFaultKind.TheVariants.{BadHeader, BadLabelTable, BadNode, NoMemory, NodesLeft, NodesMissing, TooDeep}
+use Rattle.pmap_cert.specs.Certificate.{certificate_of, Certificate}
+use Rattle.pmap_cert.specs.CertificateText.{HasFormatText, HasNodeForm, certificate_lines, certificate_text, format_header, node_lines, bit_digits, place_of}
+use Rattle.pmap_cert.specs.CertificateModel.{CertificateModel, Tree, ChainNode, InnerNode, LeafNode, IsOfFormat, IsPlain}
+use Rattle.pmap_cert.specs.FormatReading.{DueLine, Place, ended_by, fault_at, format_header_at, format_reading, is_ended, labels_at, line_due_at, nodes_at, pieces_of, start_of, CertFault, CertFaultKind, BadHeader, BadLabelTable, BadNode, NoMemory, NodesLeft, NodesMissing, TooDeep}
 use Rattle.pmap_cert.proofs.Filters.{all-append}
 use Rattle.pmap_cert.proofs.FormatHeaders.{IsNumbered, format_header-no_feed, format_header_at-again, format_header_at-found}
 use Rattle.pmap_cert.proofs.FormatTrees.{IsKind, nodes_at-again, nodes_at-found}

@@ -1,7 +1,7 @@
 -- The sets of a map's certificate listed in the order of the label table, as its text has them.
 use Rattle.std.proofs.Common.{inl, ◌≡◌, ℕ, zero, suc, ◌+◌, ◌*◌, ◌<◌, ◌≤◌, ◌∙◌, ◌&&◌, Bool, true, false, List, [], ◌∷◌, Some, arith, filter, length, map, refl, sym, bytes_eq, slice_get}
 use Rattle.std.proofs.lemmas.Bool.{ltb-true}
-use Rattle.prefix_keys.specs.Version.{width_of}
+use Rattle.prefix_keys.specs.Block.{width_of}
 use Rattle.pmap_text.proofs.LabelTexts.{any_place}
 use Rattle.pmap_text.proofs.Settled.{unsettled-halves}
 use Rattle.pmap_text.specs.Label.{IsLabelTable}
@@ -17,11 +17,9 @@ use Rattle.pmap_cert.proofs.MapLabels.{labels-read}
 use Rattle.pmap_cert.proofs.MapLimits.{limits-read}
 use Rattle.pmap_cert.proofs.Pieces.{found_at}
 use Rattle.pmap_cert.proofs.Sets.{has-filter, has-own}
-use Rattle.pmap_cert.specs.CertificateForm.{HasNodeForm, HasTextForm, IsRising}
-use Rattle.pmap_cert.specs.CertificateModel.{CertificateModel, ChainNode, InnerNode, LeafNode, Pair, Tree, claim_of, has}
-use Rattle.pmap_cert.specs.CertificateText.{place_of}
-use Rattle.pmap_cert.specs.ExactPair.{IsSamePair, exact_pair}
-use Rattle.pmap_cert.specs.MinimalPair.{HasItsLabels, IsMinimalPair, StandsFor}
+use Rattle.pmap_cert.specs.CertificateText.{HasNodeForm, HasTextForm, IsRising, place_of}
+use Rattle.pmap_cert.specs.CertificateModel.{CertificateModel, ChainNode, InnerNode, LeafNode, Pair, Tree, claim_of, has, IsSamePair, exact_pair}
+use Rattle.pmap_cert.specs.Acceptance.{HasItsLabels, IsMinimalPair, StandsFor}
 
 -- rising numbers rise from a lower bound too
 rising-weaker : (bound low high : ℕ) (ns : List ℕ) → low ≤ high → IsRising bound high ns → IsRising bound low ns

@@ -1,12 +1,9 @@
 use Rattle.std.proofs.Common.{◌≡◌, ℕ, zero, suc, ◌+◌, ◌-◌, ◌*◌, ◌/◌, ◌^◌, ◌<◌, ◌≤◌, Bool, true, cond, List, [], ◌∷◌, Option, Some, None, arith, sym, refl, ap, ◌∙◌, subst, pow-suc}
-use Rattle.prefix_keys.specs.Block.{block_number, first_of}
-use Rattle.prefix_keys.specs.Version.{width_of}
+use Rattle.prefix_keys.specs.Block.{block_number, first_of, width_of}
 use Rattle.pmap_text.specs.ListModel.{Prefix, label_at, label_below}
 use Rattle.pmap_text.specs.MapModel.{IsSettled, Label, MapModel, map_label}
 use Rattle.pmap_cert.specs.Acceptance.{IsNodeAccepted, IsWithinExact}
-use Rattle.pmap_cert.specs.CertificateModel.{ChainNode, InnerNode, LeafNode, Pair, Tree, claim_of, has}
-use Rattle.pmap_cert.specs.Chain.{IsPlain}
-use Rattle.pmap_cert.specs.ExactPair.{exact_pair}
+use Rattle.pmap_cert.specs.CertificateModel.{ChainNode, InnerNode, LeafNode, Pair, Tree, claim_of, has, IsPlain, exact_pair}
 use Rattle.pmap_text.proofs.Blocks.{block_number-first_of, block_number-half, first_of-below, first_of-lower}
 use Rattle.pmap_cert.proofs.Counts.{count_of, count_of-halves, is_at, is_within}
 use Rattle.pmap_cert.proofs.Longest.{label_at-none, label_below-same, label_below-within}

@@ -9,11 +9,10 @@ use Rattle.std.proofs.lemmas.Slice.Eq.{bytes_eq-Decides}
 use Rattle.pmap_text.proofs.LabelTexts.{has_label-with_label}
 use Rattle.pmap_text.specs.Label.{has_label, with_label}
 use Rattle.pmap_text.specs.MapModel.{Label, MapModel, Mapping}
-use Rattle.pmap_text.specs.Reading.{Decides, Declares, Defaults, Entry, Lists, Maps, Names, Nothing, ReadsMap, default_in, earlier_of, entries_from, last_in, map_from, mapping_in, text_in, unknown}
-use Rattle.pmap_text.specs.Lines.{lines_of}
+use Rattle.pmap_text.specs.Reading.{Decides, Declares, Defaults, Entry, Lists, Maps, Names, Nothing, ReadsMap, default_in, earlier_of, entries_from, last_in, map_from, mapping_in, text_in, unknown, lines_of}
 use Rattle.pmap_text.specs.declared.form.Form.TheVariants as form
 use Rattle.pmap_cert.specs.CertificateModel.{has}
-use Rattle.pmap_cert.specs.MinimalPair.{HasItsLabels}
+use Rattle.pmap_cert.specs.Acceptance.{HasItsLabels}
 use Rattle.pmap_cert.proofs.Filters.{all-weaker}
 use Rattle.pmap_cert.proofs.Sets.{bytes_eq-same, has-append}
 use Rattle.pmap_cert.proofs.Tables.{bind_ok, ok_is}

@@ -14,12 +14,10 @@ use Rattle.prefix_keys.specs.declared.version.Version.{Version}
 use Rattle.pmap_text.proofs.Finds.{find_passes}
 use Rattle.pmap_text.proofs.LabelTexts.{IsLabelTable-with_label, with_label-known, with_label-new}
 use Rattle.pmap_text.proofs.LineEntries.{earlier_of-push}
-use Rattle.pmap_text.specs.Declarations.{conflicts, label_number, meant_text, text_of_number, with_declared}
-use Rattle.pmap_text.specs.Label.{IsLabelTable, has_label, is_label, with_label}
-use Rattle.pmap_text.specs.Lines.{behind_word, content_of, first_word, lines_of}
+use Rattle.pmap_text.specs.Label.{conflicts, label_number, meant_text, text_of_number, with_declared, IsLabelTable, has_label, is_label, with_label}
+use Rattle.pmap_text.specs.Reading.{◌>>=◌, behind_word, content_of, first_word, lines_of, Decides, Declares, Defaults, Earlier, Entry, Lists, Maps, Names, Nothing, ReadsMap, address_line, at_line, block_line, content_line, decided, declared_line, default_line, earlier_of, entries_from, full_table, has_mapping, has_room, label_limit, label_line, label_of, line_entry, map_from, mapping_limit, mode_line, mode_version, name_line, number_in, one_or_two, span_line, statement_line, unknown, version_at}
 use Rattle.pmap_text.specs.MapModel.{Label, MapModel}
-use Rattle.pmap_text.specs.Reading.{◌>>=◌, Decides, Declares, Defaults, Earlier, Entry, Lists, Maps, Names, Nothing, ReadsMap, address_line, at_line, block_line, content_line, decided, declared_line, default_line, earlier_of, entries_from, full_table, has_mapping, has_room, label_limit, label_line, label_of, line_entry, map_from, mapping_limit, mode_line, mode_version, name_line, number_in, one_or_two, span_line, statement_line, unknown, version_at}
-use Rattle.pmap_text.specs.Steps.{added}
+use Rattle.pmap_text.specs.Inner.{added}
 use Rattle.pmap_text.specs.declared.fault.MapFault.{MapFault}
 use Rattle.pmap_text.specs.declared.fault.MapFaultKind.{MapFaultKind}
 use Rattle.pmap_text.specs.declared.form.Form.TheVariants as form

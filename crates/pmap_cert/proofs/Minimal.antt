@@ -2,14 +2,11 @@ use Rattle.std.proofs.Common.{◌≡◌, ℕ, suc, ◌+◌, ◌*◌, ◌<◌, �
 use Rattle.std.specs.Option.{option_or}
 use Rattle.std.proofs.lemmas.Bool.{and_from, and_left, lt-leb}
 use Rattle.std.proofs.lemmas.Bool.Decides.{nat_tests}
-use Rattle.prefix_keys.specs.Block.{block_number, first_of}
-use Rattle.prefix_keys.specs.Version.{width_of}
+use Rattle.prefix_keys.specs.Block.{block_number, first_of, width_of}
 use Rattle.pmap_text.specs.ListModel.{ListModel, Prefix, covers, label_below, lies_inside}
 use Rattle.pmap_text.specs.MapModel.{Label, MapModel}
-use Rattle.pmap_cert.specs.Acceptance.{IsAccepted, IsDecided, IsNodeAccepted, IsWithinExact}
-use Rattle.pmap_cert.specs.CertificateModel.{CertificateModel, ChainNode, InnerNode, LeafNode, Pair, Tree, claim_of}
-use Rattle.pmap_cert.specs.ExactPair.{IsSamePair, exact_pair}
-use Rattle.pmap_cert.specs.MinimalPair.{IsMinimalPair, StandsFor, entries_of, handed_on, has_inherited, least_label, own_entry}
+use Rattle.pmap_cert.specs.Acceptance.{IsAccepted, IsDecided, IsNodeAccepted, IsWithinExact, IsMinimalPair, StandsFor, entries_of, handed_on, has_inherited, least_label, own_entry}
+use Rattle.pmap_cert.specs.CertificateModel.{CertificateModel, ChainNode, InnerNode, LeafNode, Pair, Tree, claim_of, IsSamePair, exact_pair}
 use Rattle.pmap_text.proofs.Blocks.{block_number-first_of}
 use Rattle.pmap_cert.proofs.Counts.{is_within}
 use Rattle.pmap_cert.proofs.Entries.{filter-entries_of, filter-own_entry, is_within-half, length-entries_of}

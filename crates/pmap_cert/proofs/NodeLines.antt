@@ -3,10 +3,9 @@ use Rattle.std.proofs.Common.{◌≡◌, ℕ, ◌^◌, ◌<◌, ◌≤◌, ◌�
 use Rattle.std.specs.Fmt.{decimal}
 use Rattle.std.specs.Option.{option_map}
 use Rattle.std.proofs.lemmas.Option.{none-some}
-use Rattle.pmap_cert.specs.CertificateForm.{IsRising}
-use Rattle.pmap_cert.specs.CertificateText.{bit_digits}
+use Rattle.pmap_cert.specs.CertificateText.{IsRising, bit_digits}
 use Rattle.pmap_cert.specs.FormatReading.{ChainLine, DueLine, InnerLine, LeafLine, NodeLine, PlainLine, both, inner_by, leaf_by, node_words, number_below, rising_numbers}
-use Rattle.pmap_cert.specs.LineTexts.{FitsLine}
+use Rattle.pmap_cert.specs.Inner.{FitsLine}
 use Rattle.pmap_cert.proofs.Pieces.{either-word}
 use Rattle.pmap_cert.proofs.Numbers.{number_below-decimal, number_below-found, option_map_some, rising_numbers-decimals, rising_numbers-found}
 

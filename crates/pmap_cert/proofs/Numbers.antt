@@ -12,7 +12,7 @@ use Rattle.std.proofs.lemmas.Slice.Eq.{bytes_eq-Decides}
 use Rattle.prefix_keys.proofs.Digits.{All-digits, fold-digits, length-digits-le}
 use Rattle.prefix_keys.proofs.Printed.{Lacks}
 use Rattle.prefix_keys.specs.Text.{decimal_number, decimal_value, is_digit}
-use Rattle.pmap_cert.specs.CertificateForm.{IsRising}
+use Rattle.pmap_cert.specs.CertificateText.{IsRising}
 use Rattle.pmap_cert.specs.FormatReading.{number_below, onto_numbers, rising_numbers}
 
 -- a digit is not a byte below the digits, and its value is its number

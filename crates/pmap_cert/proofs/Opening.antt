@@ -3,10 +3,8 @@ use Rattle.std.proofs.lemmas.Bool.{or_left}
 use Rattle.pmap_text.specs.ListModel.{Prefix}
 use Rattle.pmap_text.specs.MapModel.{Label, MapModel}
 use Rattle.pmap_cert.specs.Acceptance.{AreBitsAccepted, IsNodeAccepted, IsWithinExact}
-use Rattle.pmap_cert.specs.CertificateModel.{ChainNode, InnerNode, LeafNode, Pair, Tree, claim_of, has}
-use Rattle.pmap_cert.specs.Chain.{chain_pair, link_pair, pair_by_bits}
+use Rattle.pmap_cert.specs.CertificateModel.{ChainNode, InnerNode, LeafNode, Pair, Tree, claim_of, has, chain_pair, link_pair, pair_by_bits, IsSamePair, common_labels, exact_pair, exact_pair_by}
 use Rattle.pmap_cert.specs.Compacting.{IsWay, OpensTo, line_count}
-use Rattle.pmap_cert.specs.ExactPair.{IsSamePair, common_labels, exact_pair, exact_pair_by}
 use Rattle.pmap_cert.proofs.Chains.{bits-end, pair-by_bits, within-itself, within-same_pair}
 use Rattle.pmap_cert.proofs.Sets.{bytes_eq-same, has-append, has-filter}
 

@@ -5,11 +5,7 @@ use Rattle.std.proofs.lemmas.List.{drop-append-le, append-nil, get_or_append_lef
 use Rattle.std.proofs.lemmas.List.Elements.{All-head, All-push, All-tail, All-weaker}
 use Rattle.pmap_text.specs.declared.label.LabelId.{LabelId}
 use Rattle.pmap_cert.specs.FormatReading.{ChainLine, DueLine, InnerLine, PlainLine}
-use Rattle.pmap_cert.specs.Packed.{HasSet, HasSetBy, IsGrown, IsHeld, IsPacked, Store, bits_in, chain_at, chain_in, count_at, joined_halves, line_in, no_chain, set_by, set_in}
-use Rattle.pmap_cert.specs.declared.nodes.Packed.{Packed}
-use Rattle.pmap_cert.specs.declared.nodes.Packed.TheVariants.{Chain, Inner, Leaf}
-use Rattle.pmap_cert.specs.declared.nodes.PackedChain.{PackedChain}
-use Rattle.pmap_cert.specs.declared.pool.SetId.{SetId}
+use Rattle.pmap_cert.specs.Packed.{HasSet, HasSetBy, IsGrown, IsHeld, IsPacked, Store, bits_in, chain_at, chain_in, count_at, joined_halves, line_in, no_chain, set_by, set_in, Packed, Chain, Inner, Leaf, PackedChain, SetId}
 
 -- a range of a list stays the same if more is appended
 same-piece : {A : Type 0} (xs more : List A) (from end : ℕ) → from ≤ end → end ≤ length xs → slice_range (xs ++ more) from end ≡ slice_range xs from end

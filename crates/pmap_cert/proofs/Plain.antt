@@ -2,13 +2,10 @@
 use Rattle.std.proofs.Common.{ℕ, suc, ◌+◌, ◌*◌, List, inl, inr, refl}
 use Rattle.prefix_keys.specs.declared.version.Version.{Version}
 use Rattle.pmap_text.specs.MapModel.{Label, MapModel}
-use Rattle.pmap_cert.specs.CertificateModel.{ChainNode, InnerNode, LeafNode, Tree}
-use Rattle.pmap_cert.specs.Chain.{IsOfFormat, IsPlain}
-use Rattle.pmap_cert.specs.Format.{IsNodeOf, format_number}
-use Rattle.pmap_cert.specs.MinimalPair.{StandsFor}
+use Rattle.pmap_cert.specs.CertificateModel.{ChainNode, InnerNode, LeafNode, Tree, IsOfFormat, IsPlain}
+use Rattle.pmap_cert.specs.Format.{IsNodeOf, format_number, Format, One, Two}
+use Rattle.pmap_cert.specs.Acceptance.{StandsFor}
 use Rattle.pmap_cert.specs.Node.{Chain, Inner, IsPlainNode, Leaf, Node, tree_of}
-use Rattle.pmap_cert.specs.declared.format.Format.{Format}
-use Rattle.pmap_cert.specs.declared.format.Format.TheVariants.{One, Two}
 
 -- a node that represents a block has no chain
 pub plain-stands : (m : MapModel) (t : Tree) (n q : ℕ) → StandsFor m t n q → IsPlain t

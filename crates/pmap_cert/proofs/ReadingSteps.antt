@@ -6,14 +6,10 @@ use Rattle.pmap_text.specs.MapModel.{Label}
 use Rattle.pmap_text.specs.Reading.{◌>>=◌}
 use Rattle.pmap_text.specs.MapText.{text_at}
 use Rattle.pmap_cert.specs.CertificateModel.{ChainNode, InnerNode, LeafNode, Pair, Tree}
-use Rattle.pmap_cert.specs.Format.{IsNodeOf, format_number}
-use Rattle.pmap_cert.specs.FormatReading.{ChainLine, DueLine, InnerLine, LeafLine, Place, PlainLine, due_node, fault_at, labels_at, line_due_at, new_label, nodes_at, value_at}
+use Rattle.pmap_cert.specs.Format.{IsNodeOf, format_number, Format, One, Two}
+use Rattle.pmap_cert.specs.FormatReading.{ChainLine, DueLine, InnerLine, LeafLine, Place, PlainLine, due_node, fault_at, labels_at, line_due_at, new_label, nodes_at, value_at, CertFault, BadLabelTable, TooDeep}
 use Rattle.pmap_cert.specs.Node.{Chain, HasChainForm, Inner, Leaf, Node, lines_of, tree_of}
-use Rattle.pmap_cert.specs.ReadNodes.{IsReadNode}
-use Rattle.pmap_cert.specs.declared.fault.CertFault.{CertFault}
-use Rattle.pmap_cert.specs.declared.fault.CertFaultKind.TheVariants.{BadLabelTable, TooDeep}
-use Rattle.pmap_cert.specs.declared.format.Format.{Format}
-use Rattle.pmap_cert.specs.declared.format.Format.TheVariants.{One, Two}
+use Rattle.pmap_cert.specs.Inner.{IsReadNode}
 use Rattle.pmap_cert.proofs.ChainWords.{room-left}
 use Rattle.pmap_cert.proofs.FormatTrees.{line_due-found, nodes_at-down}
 

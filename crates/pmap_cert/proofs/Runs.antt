@@ -5,19 +5,18 @@ use Rattle.std.proofs.lemmas.Bool.{cond-false, cond-true, false≢true, le-leb, 
 use Rattle.std.proofs.lemmas.Option.{none-some, same_Some}
 use Rattle.std.proofs.lemmas.Slice.Eq.{bytes_eq-Decides}
 use Rattle.pmap_text.specs.MapModel.{Label}
-use Rattle.pmap_cert.specs.CertificateModel.{ChainNode, InnerNode, LeafNode, Pair, Tree}
-use Rattle.pmap_cert.specs.Chain.{IsPlain, chain_opened, links, opened}
+use Rattle.pmap_cert.specs.CertificateModel.{ChainNode, InnerNode, LeafNode, Pair, Tree, IsPlain, chain_opened, links, opened}
 use Rattle.pmap_cert.specs.CertificateText.{certificate_lines}
 use Rattle.pmap_cert.specs.Compacting.{HasNoRun, IsSameShape, IsWay, OpensTo, compact, compacted, compacted_in, has_side, is_side, line_count, run_bits, run_compacted, run_end, side_of}
-use Rattle.pmap_cert.specs.LastAddress.{last_address_certificate, last_address_lines, last_address_opened}
+use Rattle.pmap_cert.specs.Examples.{last_address_certificate, last_address_lines, last_address_opened}
 use Rattle.pmap_cert.proofs.Sets.{bytes_eq-same}
 
 -- what holds of a run that ends at once, and of a longer run if it holds of the run from the chosen half, holds of each
 module _ (side : Label) (Is : Tree → List Bool → Tree → Type 0) (ended : (t : Tree) → Is t [] t)
     (up-on : (claim : Pair) (lower upper : Tree) (bits : List Bool) (end : Tree) → is_side side lower ≡ true → Is upper bits end →
-        Is (InnerNode claim lower upper) (true ∷ bits) end)
+    Is (InnerNode claim lower upper) (true ∷ bits) end)
     (low-on : (claim : Pair) (lower upper : Tree) (bits : List Bool) (end : Tree) → is_side side upper ≡ true → Is lower bits end →
-        Is (InnerNode claim lower upper) (false ∷ bits) end) where
+    Is (InnerNode claim lower upper) (false ∷ bits) end) where
   pub by_steps : (t : Tree) → Is t (run_bits side t) (run_end side t)
   by_steps (LeafNode x) = ended (LeafNode x)
   by_steps (ChainNode claim bits s end) = ended (ChainNode claim bits s end)

@@ -2,9 +2,8 @@ use Rattle.std.proofs.Common.{◌≡◌, ℕ, ◌+◌, ◌≤◌, Bool, true, fa
 use Rattle.std.proofs.lemmas.Slice.Eq.{bytes_eq-Decides}
 use Rattle.std.proofs.Math.Bool.{or-false, or_assoc}
 use Rattle.pmap_text.specs.MapModel.{Label}
-use Rattle.pmap_cert.specs.CertificateModel.{Pair, has}
-use Rattle.pmap_cert.specs.ExactPair.{common_labels, exact_pair, exact_pair_by}
-use Rattle.pmap_cert.specs.MinimalPair.{has_inherited}
+use Rattle.pmap_cert.specs.CertificateModel.{Pair, has, common_labels, exact_pair, exact_pair_by}
+use Rattle.pmap_cert.specs.Acceptance.{has_inherited}
 
 -- Sets of labels, and the cost of the exact pair of two pairs.
 

@@ -12,12 +12,8 @@ use Rattle.pmap_text.specs.Label.{IsLabelTable, has_label, is_label}
 use Rattle.pmap_text.specs.MapModel.{Label}
 use Rattle.pmap_text.specs.Reading.{◌>>=◌}
 use Rattle.pmap_text.specs.MapText.{text_at}
-use Rattle.pmap_cert.specs.CertificateForm.{IsRising}
-use Rattle.pmap_cert.specs.FormatReading.{Place, fault_at, labels_at, line_from, new_label, or_fault, value_at, value_by}
-use Rattle.pmap_cert.specs.CertificateText.{place_of}
-use Rattle.pmap_cert.specs.declared.fault.CertFault.{CertFault}
-use Rattle.pmap_cert.specs.declared.fault.CertFaultKind.{CertFaultKind}
-use Rattle.pmap_cert.specs.declared.fault.CertFaultKind.TheVariants.{BadLabelTable}
+use Rattle.pmap_cert.specs.CertificateText.{IsRising, place_of}
+use Rattle.pmap_cert.specs.FormatReading.{Place, fault_at, labels_at, line_from, new_label, or_fault, value_at, value_by, CertFault, CertFaultKind, BadLabelTable}
 use Rattle.pmap_cert.proofs.Pieces.{found_at, line_from-cons}
 
 -- if two steps succeed, the first has a value with which the second succeeds

@@ -4,11 +4,11 @@ use mir.Val.{bool_byte}
 use Rattle.std.proofs.Math.Nat.{div-div-eq-div-mul, mod-lt, mul-le-mul_right, mul-mod_left, pow-suc, pow-succ'}
 use Rattle.std.proofs.Math.Pow.{mod-mod-pow}
 use Rattle.std.proofs.lemmas.Nat.{div-mul-add, mod-pow-add, pow-add, pow_pos, shl-shr}
-use Rattle.prefix_keys.specs.Version.{width_of}
+use Rattle.prefix_keys.specs.Block.{width_of}
 use Rattle.prefix_keys.specs.declared.block.Block.{Block}
 use Rattle.prefix_keys.proofs.Groups.{width-le}
 use Rattle.prefix_keys.proofs.Quotients.{block_end, whole}
-use Rattle.pmap_cert.specs.Chain.{chosen_half}
+use Rattle.pmap_cert.specs.CertificateModel.{chosen_half}
 use Rattle.pmap_cert.specs.Ways.{digit, way_number, way_to}
 
 pub way-length : (value bits : ℕ) → length (way_to value bits) ≡ bits

@@ -9,8 +9,7 @@ use Rattle.std.proofs.lemmas.Option.{get_or_from_slice_get, slice_get_within}
 use Rattle.prefix_keys.specs.declared.version.Version.{Version}
 use Rattle.pmap_text.specs.Label.{IsLabelTable}
 use Rattle.pmap_text.specs.MapModel.{Label}
-use Rattle.pmap_cert.specs.CertificateForm.{HasNodeForm, IsRising}
-use Rattle.pmap_cert.specs.CertificateText.{certificate_text, chain_line, format_header, inner_line, leaf_line, node_lines, text_of_lines}
+use Rattle.pmap_cert.specs.CertificateText.{HasNodeForm, IsRising, certificate_text, chain_line, format_header, inner_line, leaf_line, node_lines, text_of_lines}
 use Rattle.pmap_cert.specs.FormatReading.{DueLine}
 use Rattle.pmap_cert.specs.Node.{Chain, HasChainForm, Inner, Leaf, Node, line_text, lines_of, tree_of}
 use Rattle.pmap_cert.proofs.ChainWords.{end-room, other-room}

@@ -1,13 +1,10 @@
 use Rattle.std.specs.Prelude.{◌≡◌, ◌≢◌, ℕ, List, Result, Err, IfErr, IfOk}
-use Rattle.pmap_cert.specs.CertificateForm.{HasFormatText}
+use Rattle.pmap_cert.specs.CertificateText.{HasFormatText, certificate_text}
 use Rattle.pmap_cert.specs.CertificateModel.{CertificateModel}
-use Rattle.pmap_cert.specs.CertificateText.{certificate_text}
 use Rattle.pmap_cert.specs.Format.{format_number}
-use Rattle.pmap_cert.specs.FormatReading.{format_reading}
+use Rattle.pmap_cert.specs.FormatReading.{format_reading, CertFault, NoMemory}
 use Rattle.pmap_cert.specs.Node.{tree_of}
-use Rattle.pmap_cert.specs.declared.certificate.Certificate.{Certificate}
-use Rattle.pmap_cert.specs.declared.fault.CertFault.{CertFault}
-use Rattle.pmap_cert.specs.declared.fault.CertFaultKind.TheVariants.{NoMemory}
+pub use Rattle.pmap_cert.specs.declared.certificate.Certificate.{Certificate}
 
 -- the model of a certificate of the code, with label texts in place of label numbers
 abbrev pub certificate_of : Certificate → CertificateModel

@@ -1,4 +1,4 @@
-use Rattle.std.specs.Prelude.{ℕ, Bool, List, [], ◌∷◌}
+use Rattle.std.specs.Prelude.{ℕ, Bool, List, [], ◌∷◌, ◌≡◌, ◌+◌, ◌++◌, filter, zero, suc, ◌*◌, ◌⊎◌, true, false, length, if◌then◌else◌}
 use Rattle.prefix_keys.specs.declared.version.Version.{Version}
 use Rattle.pmap_text.specs.Label.{has_label}
 use Rattle.pmap_text.specs.MapModel.{Label}
@@ -36,3 +36,95 @@ pub record CertificateModel : Type 0 where
   pub version : Version
   pub table : List Label
   pub root : Tree
+
+-- The exact pair of the pairs of a block's halves.
+
+-- the labels that both sets have
+abbrev pub common_labels : Pair → Pair → List Label
+common_labels p r = filter (has r.labels) p.labels
+
+-- the exact pair by the common labels: the sum of the costs with these, or, without any, one more with either set's
+-- labels
+abbrev pub exact_pair_by : Pair → Pair → List Label → Pair
+exact_pair_by p r [] = record { cost = p.cost + r.cost + 1; labels = p.labels ++ r.labels }
+exact_pair_by p r (x ∷ xs) = record { cost = p.cost + r.cost; labels = x ∷ xs }
+
+abbrev pub exact_pair : Pair → Pair → Pair
+exact_pair p r = exact_pair_by p r (common_labels p r)
+
+-- two pairs have the same cost and the same set
+pub record IsSamePair (p r : Pair) : Type 0 where
+  pub cost : p.cost ≡ r.cost
+  pub labels : (x : Label) → has p.labels x ≡ has r.labels x
+
+-- the pair has the given cost, and just the labels that pass the test
+pub record IsPairOf (p : Pair) (total : ℕ) (test : Label → Bool) : Type 0 where
+  pub cost : p.cost ≡ total
+  pub labels : (x : Label) → has p.labels x ≡ test x
+
+-- Chains: their exact pair, and the inner nodes and leaves that they represent.
+
+-- the set of a chain's exact pair if the end's set lacks the side label: of one bit both, of more the side label alone
+abbrev pub chain_labels : ℕ → Label → List Label → List Label
+chain_labels (suc zero) side s = side ∷ s
+chain_labels _ side s = side ∷ []
+
+-- the exact pair of a chain of n bits, by its side label and what its end claims
+abbrev pub chain_pair : ℕ → Label → Pair → Pair
+chain_pair n side end =
+    if has end.labels side
+    then record { cost = end.cost; labels = side ∷ [] }
+    else record { cost = end.cost + 1; labels = chain_labels n side end.labels }
+
+-- the number of the half that a bit chooses in the block with the number q
+abbrev pub chosen_half : Bool → ℕ → ℕ
+chosen_half bit q = if bit then 2 * q + 1 else 2 * q
+
+-- the number of the half that a bit doesn't choose in the block with the number q
+abbrev pub side_half : Bool → ℕ → ℕ
+side_half bit q = if bit then 2 * q else 2 * q + 1
+
+-- the inner node with this claim whose chosen half is the node and whose other half is a leaf with the side label
+abbrev pub link : Pair → Bool → Label → Tree → Tree
+link claim true side node = InnerNode claim (LeafNode side) node
+link claim false side node = InnerNode claim node (LeafNode side)
+
+-- the inner nodes of a chain above its opened end: each claims the chain's exact pair for the bits from it on
+abbrev pub links : List Bool → Label → Tree → Tree
+links [] side end = end
+links (bit ∷ bits) side end = link (chain_pair (suc (length bits)) side (claim_of end)) bit side (links bits side end)
+
+-- a chain opened; its topmost inner node has the chain's own claim instead of the exact pair
+abbrev pub chain_opened : Pair → List Bool → Label → Tree → Tree
+chain_opened claim [] side end = end
+chain_opened claim (bit ∷ bits) side end = link claim bit side (links bits side end)
+
+-- the certificate tree without chains: each chain opened into its inner nodes and side leaves
+abbrev pub opened : Tree → Tree
+opened (LeafNode x) = LeafNode x
+opened (InnerNode claim lower upper) = InnerNode claim (opened lower) (opened upper)
+opened (ChainNode claim bits side end) = chain_opened claim bits side (opened end)
+
+-- the certificate with each chain opened
+abbrev pub opened_certificate : CertificateModel → CertificateModel
+opened_certificate c = record { format = c.format; version = c.version; table = c.table; root = opened c.root }
+
+-- the tree has no chain
+abbrev pub IsPlain : Tree → Type 0
+IsPlain (LeafNode x) = Unit {0}
+IsPlain (InnerNode claim lower upper) = IsPlain lower × IsPlain upper
+IsPlain (ChainNode claim bits side end) = ⊥
+
+-- the certificate is of format 1, which has no chains, or of format 2
+abbrev pub IsOfFormat : CertificateModel → Type 0
+IsOfFormat c = ((c.format ≡ 1) × IsPlain c.root) ⊎ (c.format ≡ 2)
+
+-- the exact pair of a link: of a leaf with the side label and a node with this pair, in the order of the halves
+abbrev pub link_pair : Bool → Label → Pair → Pair
+link_pair true side p = exact_pair (claim_of (LeafNode side)) p
+link_pair false side p = exact_pair p (claim_of (LeafNode side))
+
+-- the exact pair of a chain taken bit by bit, from the end up
+abbrev pub pair_by_bits : List Bool → Label → Pair → Pair
+pair_by_bits [] side end = end
+pair_by_bits (bit ∷ bits) side end = link_pair bit side (pair_by_bits bits side end)

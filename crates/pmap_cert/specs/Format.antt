@@ -1,8 +1,8 @@
 use Rattle.std.specs.Prelude.{ℕ}
 use Rattle.std.specs.Coded.{Unit-prop}
 use Rattle.pmap_cert.specs.Node.{Chain, Inner, IsPlainNode, Leaf, Node}
-use Rattle.pmap_cert.specs.declared.format.Format.{Format}
-use Rattle.pmap_cert.specs.declared.format.Format.TheVariants.{One, Two}
+pub use Rattle.pmap_cert.specs.declared.format.Format.{Format}
+pub use Rattle.pmap_cert.specs.declared.format.Format.TheVariants.{One, Two}
 
 -- The format of a certificate of the code.
 

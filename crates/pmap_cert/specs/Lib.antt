@@ -1,14 +1,8 @@
 pub mod CertificateModel
-pub mod ExactPair
-pub mod Chain
 pub mod Acceptance
-pub mod MinimalPair
-pub mod FourQuarters
-pub mod ListForm
+pub mod Examples
 pub mod Compacting
-pub mod LastAddress
 pub mod CertificateText
-pub mod CertificateForm
 pub mod FormatReading
 pub mod Node
 pub mod Packed
@@ -16,6 +10,4 @@ pub mod Ways
 pub mod Format
 pub mod Certificate
 pub mod Words
-pub mod ReadNodes
-pub mod Placing
-pub mod LineTexts
+pub mod Inner

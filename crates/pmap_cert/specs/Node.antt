@@ -5,9 +5,8 @@ use Rattle.std.proofs.lemmas.List.{append_assoc}
 use Rattle.std.specs.Coded.{Coded, code_by, coded_bool, coded_list, coded_ℕ, coded×, coded⊎, le_prop}
 use Rattle.pmap_text.specs.MapModel.{Label}
 use Rattle.pmap_text.specs.MapText.{text_at}
-use Rattle.pmap_cert.specs.CertificateForm.{HasRoomBelow, IsRising, IsRising-prop}
+use Rattle.pmap_cert.specs.CertificateText.{HasRoomBelow, IsRising, IsRising-prop, chain_line, inner_line, leaf_line}
 use Rattle.pmap_cert.specs.CertificateModel.{ChainNode, InnerNode, LeafNode, Tree}
-use Rattle.pmap_cert.specs.CertificateText.{chain_line, inner_line, leaf_line}
 use Rattle.pmap_cert.specs.FormatReading.{ChainLine, DueLine, InnerLine, LeafLine, PlainLine}
 
 -- Nodes with label numbers, as the code has them.

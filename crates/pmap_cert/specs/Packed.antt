@@ -3,10 +3,10 @@ use Rattle.std.proofs.Common.{lit≤}
 use Rattle.std.specs.List.{slice_range}
 use Rattle.pmap_text.specs.declared.label.LabelId.{LabelId}
 use Rattle.pmap_cert.specs.FormatReading.{ChainLine, DueLine, InnerLine, LeafLine, PlainLine}
-use Rattle.pmap_cert.specs.declared.nodes.Packed.{Packed}
-use Rattle.pmap_cert.specs.declared.nodes.Packed.TheVariants.{Chain, Inner, Leaf}
-use Rattle.pmap_cert.specs.declared.nodes.PackedChain.{PackedChain}
-use Rattle.pmap_cert.specs.declared.pool.SetId.{SetId}
+pub use Rattle.pmap_cert.specs.declared.nodes.Packed.{Packed}
+pub use Rattle.pmap_cert.specs.declared.nodes.Packed.TheVariants.{Chain, Inner, Leaf}
+pub use Rattle.pmap_cert.specs.declared.nodes.PackedChain.{PackedChain}
+pub use Rattle.pmap_cert.specs.declared.pool.SetId.{SetId}
 use Rattle.pmap_cert.specs.declared.way.Way.{Way}
 use Rattle.pmap_cert.specs.Ways.{way_to}
 

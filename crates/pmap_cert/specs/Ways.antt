@@ -1,8 +1,7 @@
 use Rattle.std.specs.Prelude.{◌≡◌, ℕ, zero, suc, ◌+◌, ◌/◌, ◌%◌, ◌^◌, ◌==◌, Bool, List, [], ◌∷◌, length}
-use Rattle.prefix_keys.specs.Block.{block_number}
-use Rattle.prefix_keys.specs.Version.{width_of}
+use Rattle.prefix_keys.specs.Block.{block_number, width_of}
 use Rattle.prefix_keys.specs.declared.block.Block.{Block}
-use Rattle.pmap_cert.specs.Chain.{chosen_half}
+use Rattle.pmap_cert.specs.CertificateModel.{chosen_half}
 
 -- The bits of a chain as the code stores them, and the block that they lead to, for the contracts of private functions.
 

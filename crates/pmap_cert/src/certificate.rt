@@ -1,9 +1,8 @@
 ghost use Rattle.std.specs.Prelude.{◌≡◌, ◌∷◌, [], length};
-ghost use Rattle.prefix_keys.specs.Version.{width_of};
-ghost use Rattle.pmap_cert.specs.CertificateForm.{HasFormatText, HasTextForm};
-ghost use Rattle.pmap_cert.specs.Format.{IsNodeOf, IsNodeOf-prop};
+ghost use Rattle.prefix_keys.specs.Block.{width_of};
+ghost use Rattle.pmap_cert.specs.CertificateText.{HasFormatText, HasTextForm};
+ghost use Rattle.pmap_cert.specs.Format.{IsNodeOf, IsNodeOf-prop, One};
 ghost use Rattle.pmap_cert.specs.Node.{HasChainForm, HasChainForm-prop, HasNumberForm};
-ghost use Rattle.pmap_cert.specs.declared.format.Format.TheVariants.{One};
 
 use crate::cursor::{Cursor, cursor_of};
 use crate::format::Format;

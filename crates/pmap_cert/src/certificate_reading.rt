@@ -3,20 +3,21 @@ ghost use Rattle.std.specs.Prelude.{◌≡◌, ◌≢◌, ◌-◌, ◌<◌, ◌�
 ghost use Rattle.pmap_text.specs.Label.{has_label, is_label as is_label_text};
 ghost use Rattle.pmap_cert.specs.Certificate.{ReturnsCertificate, certificate_of};
 ghost use Rattle.pmap_cert.specs.Format.{IsNodeOf, format_number};
-ghost use Rattle.pmap_cert.specs.FormatReading.{format_reading, is_ended, labels_at, line_due_at, new_label, value_at};
+ghost use Rattle.pmap_cert.specs.FormatReading.{format_reading, is_ended, labels_at, line_due_at, new_label, value_at, BadLabelTable, BadNode, NoMemory, NodesMissing};
 ghost use Rattle.pmap_cert.specs.Node.{HasChainForm, tree_of};
-ghost use Rattle.pmap_cert.specs.ReadNodes.{IsReadNode, node_due_at};
+ghost use Rattle.pmap_cert.specs.Inner.{IsReadNode, node_due_at};
+ghost use Rattle.pmap_cert.specs.Packed.{bits_in};
 ghost use Rattle.pmap_cert.specs.Words.{line_model};
-ghost use Rattle.pmap_cert.specs.declared.fault.CertFaultKind.TheVariants.{BadLabelTable, BadNode, NoMemory, NodesMissing};
 
 use crate::certificate::Certificate;
 use crate::fault::{CertFault, CertFaultKind};
 use crate::lines::Lines;
-use crate::node_line::{Frame, NodeLine};
+use crate::node_line::{Frame, Kept, NodeLine};
 use crate::nodes::Nodes;
 use crate::root::Root;
+use crate::way::Way;
 use header::read_header;
-use pmap_text::{KeyHashing, LabelId, Labels, is_label};
+use pmap_text::{KeyHashing, Labels, is_label};
 use std::alloc::Global;
 
 mod header;
@@ -69,16 +70,17 @@ fn read_labels<'a>(
     Ok((labels, lines))
 }
 
-// Reads the next line of a node, moves `lines` past it, and stores the set of an inner node or a chain.
-fn read_due(set: &mut Vec<LabelId>, frame: &Frame, lines: &mut Lines) -> Result<NodeLine, CertFault>
+// Reads the next line of a node and moves `lines` past it. `kept` gets the set of an inner node or a chain, and the
+// bits of a chain.
+fn read_due(kept: &mut Kept, frame: &Frame, lines: &mut Lines) -> Result<NodeLine, CertFault>
     ensures ok { IfOk result (λ line. line_due_at (format_number frame.now.format) frame.now.width
         (length frame.now.labels.now) lines.old
-        ≡ Ok (line_model set.new.items line, lines.new)) }
+        ≡ Ok (line_model kept.new.set.items (bits_in kept.new.way) line, lines.new)) }
     ensures err { IfErr result (λ fault. fault.kind ≢ NoMemory → line_due_at (format_number frame.now.format)
         frame.now.width (length frame.now.labels.now) lines.old ≡ Err fault) }
     ensures memory { IfErr result (λ fault. fault.kind ≡ NoMemory → fault.line ≡ 0) }
 {
-    match lines.next_node(set, frame)? {
+    match lines.next_node(kept, frame)? {
         Some((line, after)) => {
             *lines = after;
             Ok(line)
@@ -101,7 +103,7 @@ fn missing_kind(lines: &Lines) -> CertFaultKind
 // Reads the next node, with at most `room` levels below it, adds its lines to `nodes`, and moves `lines` past them.
 fn read_node(
     nodes: &mut Nodes,
-    set: &mut Vec<LabelId>,
+    kept: &mut Kept,
     frame: &Frame,
     room: u32,
     lines: &mut Lines,
@@ -113,7 +115,7 @@ fn read_node(
     ensures memory { IfErr result (λ fault. fault.kind ≡ NoMemory → fault.line ≡ 0) }
 {
     let deepest = lines.fault(CertFaultKind::TooDeep);
-    let line = read_due(set, frame, lines)?;
+    let line = read_due(kept, frame, lines)?;
     match line {
         NodeLine::Leaf(id) => {
             nodes.push_leaf(id)?;
@@ -123,18 +125,18 @@ fn read_node(
             if room == 0 {
                 return Err(deepest);
             }
-            nodes.push_inner(cost, set.as_slice())?;
-            read_node(nodes, set, frame, room - 1, lines)?;
-            read_node(nodes, set, frame, room - 1, lines)?;
+            nodes.push_inner(cost, kept.set.as_slice())?;
+            read_node(nodes, kept, frame, room - 1, lines)?;
+            read_node(nodes, kept, frame, room - 1, lines)?;
             Ok(())
         }
-        NodeLine::Chain(cost, way, side) => {
-            let deep = way.len();
+        NodeLine::Chain(cost, side) => {
+            let deep = kept.way.len();
             if deep > room {
                 return Err(deepest);
             }
-            nodes.push_chain(cost, way, side, set.as_slice())?;
-            read_node(nodes, set, frame, room - deep, lines)?;
+            nodes.push_chain(cost, kept.way, side, kept.set.as_slice())?;
+            read_node(nodes, kept, frame, room - deep, lines)?;
             Ok(())
         }
     }
@@ -152,8 +154,11 @@ fn read_root(alloc: Global, frame: &Frame, lines: &mut Lines) -> Result<Root, Ce
     ensures memory { IfErr result (λ fault. fault.kind ≡ NoMemory → fault.line ≡ 0) }
 {
     let mut nodes = Nodes::new(alloc);
-    let mut set = Vec::new(alloc);
-    read_node(&mut nodes, &mut set, frame, frame.width, lines)?;
+    let mut kept = Kept {
+        set: Vec::new(alloc),
+        way: Way { value: 0, count: 0 },
+    };
+    read_node(&mut nodes, &mut kept, frame, frame.width, lines)?;
     Ok(Root::new(nodes))
 }
 

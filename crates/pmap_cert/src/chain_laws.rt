@@ -4,15 +4,11 @@ ghost use Rattle.std.specs.Prelude.{◌≡◌, ◌≤◌, ◌⊎◌, ◌↔◌, 
 ghost use Rattle.pmap_text.specs.ListModel.{ListModel};
 ghost use Rattle.pmap_text.specs.MapModel.{Label, MapModel};
 ghost use Rattle.pmap_cert.specs.Acceptance.{IsAccepted};
-ghost use Rattle.pmap_cert.specs.CertificateForm.{HasFormatText, HasTextForm};
-ghost use Rattle.pmap_cert.specs.CertificateModel.{CertificateModel, InnerNode, LeafNode, Pair, Tree, claim_of};
-ghost use Rattle.pmap_cert.specs.CertificateText.{certificate_lines, certificate_text};
-ghost use Rattle.pmap_cert.specs.Chain.{IsOfFormat, IsPlain, chain_pair, opened, opened_certificate, pair_by_bits};
+ghost use Rattle.pmap_cert.specs.CertificateText.{HasFormatText, HasTextForm, certificate_lines, certificate_text};
+ghost use Rattle.pmap_cert.specs.CertificateModel.{CertificateModel, InnerNode, LeafNode, Pair, Tree, claim_of, IsOfFormat, IsPlain, chain_pair, opened, opened_certificate, pair_by_bits, IsSamePair};
 ghost use Rattle.pmap_cert.specs.Compacting.{HasNoRun, IsSameShape, IsWay, OpensTo, compact, compacted, line_count, run_bits, run_compacted, run_end, side_of};
-ghost use Rattle.pmap_cert.specs.ExactPair.{IsSamePair};
-ghost use Rattle.pmap_cert.specs.FormatReading.{format_reading};
-ghost use Rattle.pmap_cert.specs.LastAddress.{last_address_certificate, last_address_lines, last_address_opened};
-ghost use Rattle.pmap_cert.specs.declared.fault.CertFault.{CertFault};
+ghost use Rattle.pmap_cert.specs.FormatReading.{format_reading, CertFault};
+ghost use Rattle.pmap_cert.specs.Examples.{last_address_certificate, last_address_lines, last_address_opened};
 
 /// A chain's exact pair, which `chain_pair` gives in one step, equals the exact pair taken bit by bit from the end up,
 /// whether or not the end's set has the side label.

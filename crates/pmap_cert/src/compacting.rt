@@ -5,7 +5,7 @@ ghost use Rattle.pmap_cert.specs.Certificate.{certificate_of};
 ghost use Rattle.pmap_cert.specs.Compacting.{compact};
 ghost use Rattle.pmap_cert.specs.Node.{IsPlainNode, label_of};
 ghost use Rattle.pmap_cert.specs.Packed.{bits_in};
-ghost use Rattle.pmap_cert.specs.Placing.{AreEndsFrom, ArePlain, EndsAt, HasHalves, HasPlace, IsBelow, IsCompactNode, IsCompacted, IsLong, IsRun, IsRunEnd, IsShallow, IsShort, IsStep, is_leaf, node_from};
+ghost use Rattle.pmap_cert.specs.Inner.{AreEndsFrom, ArePlain, EndsAt, HasHalves, HasPlace, IsBelow, IsCompactNode, IsCompacted, IsLong, IsRun, IsRunEnd, IsShallow, IsShort, IsStep, is_leaf, node_from};
 
 use crate::certificate::Certificate;
 use crate::format::Format;

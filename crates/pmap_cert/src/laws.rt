@@ -4,13 +4,10 @@ ghost use Rattle.std.specs.Prelude.{◌≡◌, ◌+◌, ◌≤◌, ◌&&◌, ◌
 ghost use Rattle.pmap_text.specs.ListModel.{IsEquivalent, ListModel};
 ghost use Rattle.pmap_text.specs.MapModel.{Label, MapModel};
 ghost use Rattle.pmap_text.specs.Reading.{ReadsMap};
-ghost use Rattle.pmap_cert.specs.Acceptance.{IsAccepted, IsLeast};
-ghost use Rattle.pmap_cert.specs.CertificateForm.{HasTextForm};
-ghost use Rattle.pmap_cert.specs.CertificateModel.{CertificateModel, Pair, claim_of, has};
-ghost use Rattle.pmap_cert.specs.ExactPair.{IsPairOf, IsSamePair, exact_pair};
-ghost use Rattle.pmap_cert.specs.FourQuarters.{four_quarters_certificate, four_quarters_list, four_quarters_map};
-ghost use Rattle.pmap_cert.specs.ListForm.{HasListForm};
-ghost use Rattle.pmap_cert.specs.MinimalPair.{HasItsLabels, IsMinimalPair, IsSameCertificate};
+ghost use Rattle.pmap_cert.specs.Acceptance.{IsAccepted, IsLeast, HasListForm, HasItsLabels, IsMinimalPair, IsSameCertificate};
+ghost use Rattle.pmap_cert.specs.CertificateText.{HasTextForm};
+ghost use Rattle.pmap_cert.specs.CertificateModel.{CertificateModel, Pair, claim_of, has, IsPairOf, IsSamePair, exact_pair};
+ghost use Rattle.pmap_cert.specs.Examples.{four_quarters_certificate, four_quarters_list, four_quarters_map};
 
 /// An accepted certificate is enough, whoever made it: its list labels every address as the map does, and no list that
 /// does so has fewer entries. Each such list has at least as many entries as the root's cost plus one.

@@ -1,11 +1,11 @@
 ghost use Rattle.std.specs.Prelude.{◌≡◌, IfOk, length, option_map};
 ghost use Rattle.pmap_cert.specs.Format.{format_number};
 ghost use Rattle.pmap_cert.specs.FormatReading.{fault_at, is_ended, line_due_at, next_line, start_of};
+ghost use Rattle.pmap_cert.specs.Packed.{bits_in};
 ghost use Rattle.pmap_cert.specs.Words.{due_or_missing, line_model};
 
 use crate::fault::{CertFault, CertFaultKind};
-use crate::node_line::{Frame, NodeLine, node_line};
-use pmap_text::LabelId;
+use crate::node_line::{Frame, Kept, NodeLine, node_line};
 use prefix_keys::find_byte;
 use std::alloc::AllocError;
 use std::marker::Model;
@@ -57,18 +57,18 @@ impl<'a> Lines<'a> {
     }
 
     /// Reads the next line of a node and returns it with the lines that follow, or `None` if no such line comes next.
-    /// Stores the set of an inner node or a chain.
+    /// `kept` gets the set of an inner node or a chain, and the bits of a chain.
     pub fn next_node(
         &self,
-        set: &mut Vec<LabelId>,
+        kept: &mut Kept,
         frame: &Frame,
     ) -> Result<Option<(NodeLine, Lines<'a>)>, AllocError>
         ensures { IfOk result (λ found. due_or_missing self.now
-            (option_map (λ x. (line_model set.new.items x.0, x.1)) found)
+            (option_map (λ x. (line_model kept.new.set.items (bits_in kept.new.way) x.0, x.1)) found)
             ≡ line_due_at (format_number frame.now.format) frame.now.width (length frame.now.labels.now) self.now) }
     {
         let count = frame.labels.len() as u64;
-        match node_line(set, frame, self.rest, count)? {
+        match node_line(kept, frame, self.rest, count)? {
             Some((line, rest)) => {
                 let lines = Lines {
                     rest,

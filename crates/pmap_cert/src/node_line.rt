@@ -1,7 +1,7 @@
 //! The lines of nodes, each read in one pass over its bytes.
 ghost use Rattle.std.specs.Prelude.{◌≡◌, ◌≢◌, ◌^◌, ◌<◌, ◌≤◌, ◌⊎◌, ◌∷◌, IfOk, IsTrue, false, length, map, option_map, slice_index};
 ghost use Rattle.pmap_cert.specs.Format.{format_number};
-ghost use Rattle.pmap_cert.specs.LineTexts.{BeginsWithBits, BeginsWithChain, BeginsWithClaim, BeginsWithLeaf, BeginsWithLine, BeginsWithNumber, BeginsWithSet, Reads, after_byte as after_byte_of};
+ghost use Rattle.pmap_cert.specs.Inner.{BeginsWithBits, BeginsWithChain, BeginsWithClaim, BeginsWithLeaf, BeginsWithLine, BeginsWithNumber, BeginsWithSet, Reads, after_byte as after_byte_of};
 ghost use Rattle.pmap_cert.specs.Packed.{bits_in};
 ghost use Rattle.pmap_cert.specs.Words.{line_model};
 
@@ -10,12 +10,12 @@ use crate::way::Way;
 use pmap_text::{LabelId, Labels};
 use std::alloc::AllocError;
 
-/// The line of a node without its set: a leaf's label, an inner node's cost, or a chain's cost, bits and side label.
+/// The line of a node without its set and bits: a leaf's label, an inner node's cost, or a chain's cost and side label.
 #[derive(Clone, Copy)]
 pub enum NodeLine {
     Leaf(LabelId),
     Inner(u32),
-    Chain(u32, Way, LabelId),
+    Chain(u32, LabelId),
 }
 
 /// The limits of node lines: the format, the number of bits of an address, and the label table.
@@ -25,6 +25,13 @@ pub struct Frame<'a> {
     pub width: u32,
     pub labels: &'a Labels,
     ghost narrow: { width ≤ 128 },
+}
+
+/// The set and the bits of the line that was read last.
+#[derive(Drop)]
+pub struct Kept {
+    pub set: Vec<LabelId>,
+    pub way: Way,
 }
 
 // Returns what follows this byte, if the text begins with it.
@@ -161,17 +168,18 @@ fn claim<'a>(
     }
 }
 
-// Reads a chain's line after its letter, stores the set, and returns cost, bits, side label and the text after the line.
+// Reads a chain's line after its letter, stores bits and set, and returns cost, side label and the text after the line.
 fn chain<'a>(
-    set: &mut Vec<LabelId>,
+    kept: &mut Kept,
     text: &'a [u8],
     most: u32,
     count: u64,
-) -> Result<Option<((u32, Way, LabelId), &'a [u8])>, AllocError>
+) -> Result<Option<((u32, LabelId), &'a [u8])>, AllocError>
     requires few { most ≤ 128 }
     requires count { count ≤ 2 ^ 32 }
     ensures { IfOk result (λ found. Reads (BeginsWithChain most count text.entry.now)
-        (option_map (λ x. ((x.0.0, (bits_in x.0.1, (x.0.2.0, map (λ id. id.0) set.new.items))), x.1.now)) found)) }
+        (option_map (λ x. ((x.0.0, (bits_in kept.new.way, (x.0.1.0, map (λ id. id.0) kept.new.set.items))), x.1.now))
+        found)) }
 {
     let Some((cost, rest)) = number_word(text, 1 << 32) else {
         return Ok(None);
@@ -179,16 +187,17 @@ fn chain<'a>(
     let Some((way, rest)) = bits_word(rest, most) else {
         return Ok(None);
     };
-    match claim(set, rest, count, count)? {
-        Some((side, rest)) => Ok(Some(((cost, way, LabelId(side)), rest))),
+    kept.way = way;
+    match claim(&mut kept.set, rest, count, count)? {
+        Some((side, rest)) => Ok(Some(((cost, LabelId(side)), rest))),
         None => Ok(None),
     }
 }
 
 /// Reads the node line at the beginning of a text, and returns it with the text after it, or `None` if it is malformed
-/// for `count` labels. Stores the set of an inner node or a chain.
+/// for `count` labels. `kept` gets the set of an inner node or a chain, and the bits of a chain.
 pub fn node_line<'a>(
-    set: &mut Vec<LabelId>,
+    kept: &mut Kept,
     frame: &Frame,
     text: &'a [u8],
     count: u64,
@@ -196,7 +205,7 @@ pub fn node_line<'a>(
     requires { count ≤ 2 ^ 32 }
     ensures { IfOk result (λ found. Reads
         (BeginsWithLine (format_number frame.now.format) frame.now.width count text.entry.now)
-        (option_map (λ x. (line_model set.new.items x.0, x.1.now)) found)) }
+        (option_map (λ x. (line_model kept.new.set.items (bits_in kept.new.way) x.0, x.1.now)) found)) }
 {
     if let Some(rest) = after_byte(text, b'l') {
         match leaf(rest, count) {
@@ -204,13 +213,13 @@ pub fn node_line<'a>(
             None => Ok(None),
         }
     } else if let Some(rest) = after_byte(text, b'n') {
-        match claim(set, rest, 1 << 32, count)? {
+        match claim(&mut kept.set, rest, 1 << 32, count)? {
             Some((cost, rest)) => Ok(Some((NodeLine::Inner(cost), rest))),
             None => Ok(None),
         }
     } else if let (Format::Two, Some(rest)) = (frame.format, after_byte(text, b'c')) {
-        match chain(set, rest, frame.width, count)? {
-            Some(((cost, way, side), rest)) => Ok(Some((NodeLine::Chain(cost, way, side), rest))),
+        match chain(kept, rest, frame.width, count)? {
+            Some(((cost, side), rest)) => Ok(Some((NodeLine::Chain(cost, side), rest))),
             None => Ok(None),
         }
     } else {

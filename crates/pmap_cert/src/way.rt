@@ -1,6 +1,6 @@
 //! The bits of a chain.
 ghost use Rattle.std.specs.Prelude.{◌≡◌, ◌+◌, ◌-◌, ◌<◌, ◌≤◌, ◌++◌, ◌∷◌, [], IfSome, MatchOption, length};
-ghost use Rattle.prefix_keys.specs.Version.{width_of};
+ghost use Rattle.prefix_keys.specs.Block.{width_of};
 ghost use Rattle.pmap_cert.specs.Ways.{LeadsTo, way_to};
 
 use prefix_keys::Block;

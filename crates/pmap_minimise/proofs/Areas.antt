@@ -5,25 +5,23 @@ use Rattle.std.proofs.Math.Nat.{pow-suc}
 use Rattle.std.proofs.lemmas.Nat.{pow_pos}
 use Rattle.std.proofs.lemmas.Option.{none-some, same_Some}
 use Rattle.std.specs.Option.{option_or}
-use Rattle.prefix_keys.specs.Block.{block_number, first_of, last_of}
-use Rattle.prefix_keys.specs.Version.{width_of}
+use Rattle.prefix_keys.specs.Block.{block_number, first_of, last_of, width_of}
 use Rattle.prefix_keys.specs.declared.version.Version.{Version}
 use Rattle.prefix_keys.proofs.Quotients.{above_first, below_end, quotient_is}
 use Rattle.pmap_text.specs.Stretches.{AreStretches, HasEveryAddress, HasStretch, HoldsAddress, StretchesModel, first_at, label_at, last_at}
 use Rattle.pmap_text.specs.declared.label.LabelId.{LabelId}
 use Rattle.pmap_text.specs.declared.statement.Statement.{Statement}
 use Rattle.pmap_text.proofs.Ranges.{ends_before, held_index, last_end, next_first, ordered_at}
-use Rattle.pmap_cert.specs.CertificateForm.{IsRising}
+use Rattle.pmap_cert.specs.CertificateText.{IsRising}
 use Rattle.pmap_cert.specs.Node.{Inner, Leaf, Node, label_of, set_of}
-use Rattle.pmap_cert.specs.Placing.{bits_down, end_down, side_below}
-use Rattle.label_trie.specs.Layers.{IsBlock, parted_sum}
-use Rattle.label_trie.specs.Nodes.{encode, leaf_node}
+use Rattle.pmap_cert.specs.Inner.{bits_down, end_down, side_below}
+use Rattle.label_trie.specs.Inner.{IsBlock, parted_sum, encode, leaf_node}
 use Rattle.label_trie.specs.Tree.{Fork, Tip, Tree}
 use Rattle.label_trie.proofs.Grown.{IsSplit, block_some, is_split, leaf_added}
-use Rattle.pmap_minimise.specs.Areas.{AreFew, AreHalvesOf, IsArea, IsChoice, IsMade, IsRun, IsStep, IsStop, IsTreeOf, number_at, own_label}
-use Rattle.pmap_minimise.specs.Built.{cost_above, digit, node_over, set_above, way_node, way_to}
+use Rattle.pmap_minimise.specs.Areas.{AreFew, AreHalvesOf, IsArea, IsChoice, IsMade, IsRun, IsStep, IsStop, IsTreeOf, number_at, own_label, Area}
+use Rattle.pmap_cert.specs.Ways.{digit, way_to}
+use Rattle.pmap_minimise.specs.Built.{cost_above, node_over, set_above, way_node}
 use Rattle.pmap_minimise.specs.Numbers.{IsExact}
-use Rattle.pmap_minimise.specs.declared.area.Area.{Area}
 use Rattle.pmap_minimise.proofs.Ways.{above-rising, down-high, down-low, down-none, way-high, way-low, way-set}
 
 -- The stretches in their order.

@@ -6,8 +6,7 @@ use Rattle.std.proofs.Math.Nat.{mul-le-mul_right, zero-div}
 use Rattle.std.proofs.lemmas.List.{append-nil, append_assoc, get_or_append_left}
 use Rattle.std.proofs.lemmas.Option.{get_or_from_slice_get, none-some, same_Some, slice_get-get_or, slice_get_within}
 use Rattle.std.proofs.lemmas.Bool.{cond_above}
-use Rattle.prefix_keys.specs.Block.{block_number, first_of, last_of}
-use Rattle.prefix_keys.specs.Version.{width_of}
+use Rattle.prefix_keys.specs.Block.{block_number, first_of, last_of, width_of}
 use Rattle.prefix_keys.specs.declared.version.Version.{Version}
 use Rattle.pmap_text.specs.MapText.{map_of}
 use Rattle.pmap_text.specs.Stretches.{AreStretches, StretchesModel, first_at, label_at, label_seen, last_at}
@@ -15,25 +14,21 @@ use Rattle.pmap_text.specs.declared.statement.Statement.{Statement}
 use Rattle.pmap_text.specs.declared.label.LabelId.{LabelId}
 use Rattle.pmap_text.specs.declared.map_text.MapText.{MapText}
 use Rattle.pmap_cert.specs.Node.{Chain, Inner, Leaf, Node, cost_of, label_of, set_of}
-use Rattle.pmap_cert.specs.CertificateForm.{IsRising}
+use Rattle.pmap_cert.specs.CertificateText.{IsRising}
 use Rattle.pmap_cert.specs.declared.pool.SetId.{SetId}
 use Rattle.pmap_cert.specs.Packed.{IsGrown, IsHeld, set_in}
-use Rattle.pmap_cert.specs.Placing.{IsCompactNode, bits_down, end_down, side_below}
+use Rattle.pmap_cert.specs.Inner.{IsCompactNode, bits_down, end_down, side_below}
 use Rattle.pmap_cert.proofs.PackedLines.{held-more}
 use Rattle.pmap_cert.proofs.CompactNodes.{compact-chain, compact-leaf, compact-none, compact-short}
-use Rattle.label_trie.specs.Layers.{parted_sum}
+use Rattle.label_trie.specs.Inner.{parted_sum}
 use Rattle.label_trie.specs.Tree.{Fork, Tip, Tree, leaves_of}
 use Rattle.label_trie.proofs.Built.{map_layers, parted_most}
 use Rattle.label_trie.proofs.NodeLeaves.{fits_HasRoom, leaves_settled, leaves_undivided, length_leaves}
-use Rattle.pmap_minimise.specs.Areas.{AreHalvesOf, IsArea, IsChoice, IsMade, IsRun, IsRunTo, IsStop, IsTreeOf, number_at, own_label}
-use Rattle.pmap_minimise.specs.Building.{AddsChain, AddsInner, AddsLeaf, HasRisingSet, exact_cost}
+use Rattle.pmap_minimise.specs.Areas.{AreHalvesOf, IsArea, IsChoice, IsMade, IsRun, IsRunTo, IsStop, IsTreeOf, number_at, own_label, Area}
+use Rattle.pmap_minimise.specs.Built.{AddsChain, AddsInner, AddsLeaf, HasRisingSet, exact_cost, HasGrown, IsAt, IsBuilt, IsBuiltFor, cost_above, way_node, Built, Claim}
 use Rattle.pmap_cert.specs.Ways.{way_to}
 use Rattle.pmap_cert.proofs.Ways.{way-length}
-use Rattle.pmap_minimise.specs.Built.{HasGrown, IsAt, IsBuilt, IsBuiltFor, cost_above, way_node}
 use Rattle.pmap_minimise.specs.Numbers.{IsExact, IsExactBy, IsExactSet, IsExactSetBy, common_numbers, has_number}
-use Rattle.pmap_minimise.specs.declared.area.Area.{Area}
-use Rattle.pmap_minimise.specs.declared.built.Built.{Built}
-use Rattle.pmap_minimise.specs.declared.built.Claim.{Claim}
 use Rattle.pmap_minimise.specs.declared.built.Line.TheVariants.{Chain as ChainLine, Inner as InnerLine, Leaf as LeafLine}
 use Rattle.pmap_text.proofs.Ranges.{ordered_at}
 use Rattle.pmap_minimise.proofs.Areas.{AreSameHalves, area-split, halves-made, leaf-made, made-side, made-stop, run-below, run-down, run-made, same-halves, way_tree}
@@ -255,11 +250,7 @@ abbrev pub IsShortRun : StretchesModel → Area → Option ℕ → Type 0
 IsShortRun s a None = Unit {0}
 IsShortRun s a (Some side) = (end : Area) × (run : IsRunTo s side a end) × (run.count < 2)
 
-way-length : (value bits : ℕ) → length (way_to value bits) ≡ bits
-way-length value zero = refl
-way-length value (suc bits) = let rest = way-length value bits in omega arith
-
--- a block of two halves, whose run is short
+-- an inner node's line completes a block with two halves and a short run
 pub halves-built : (s : StretchesModel) (a low high : Area) (old middle after new : Built) (above below claim : Claim) → IsArea s a → AreHalvesOf s a low high
     → IsShortRun s a (option_or (own_label s low) (own_label s high)) → IsBuilt s high old middle above → IsBuilt s low middle after below → AddsInner below above after new claim
     → IsBuilt s a old new claim
@@ -412,7 +403,7 @@ area-label s a is none =
     seen None None some e = absurd cc
     seen default (Some x) some e = absurd (none-some x.label (sym e))
 
--- a run's end has fewer addresses
+-- the end of a run of two bits or more has fewer addresses than the run's first block
 pub end-smaller : (s : StretchesModel) (a end : Area) (side : ℕ) → IsArea s a → (run : IsRunTo s side a end) → 2 ≤ run.count → end.last - end.first + 2 ≤ a.last - a.first
 end-smaller s a end side is run more =
     let below = run-below s side run.count a end is run.run in

@@ -7,9 +7,8 @@ use Rattle.pmap_text.specs.declared.label.LabelId.{LabelId}
 use Rattle.pmap_cert.specs.Node.{Chain, Inner, Leaf, Node}
 use Rattle.pmap_cert.specs.declared.pool.SetId.{SetId}
 use Rattle.pmap_cert.specs.Packed.{IsHeld}
-use Rattle.pmap_minimise.specs.Built.{IsAt, cost_above, way_node, way_to}
-use Rattle.pmap_minimise.specs.declared.built.Chain.{Chain as ChainParts}
-use Rattle.pmap_minimise.specs.declared.built.Built.{Built}
+use Rattle.pmap_cert.specs.Ways.{way_to}
+use Rattle.pmap_minimise.specs.Built.{IsAt, cost_above, way_node, Chain as ChainParts, Built}
 use Rattle.pmap_minimise.specs.declared.built.Line.{Line}
 use Rattle.pmap_minimise.specs.declared.built.Line.TheVariants.{Chain as ChainLine, Inner as InnerLine, Leaf as LeafLine}
 

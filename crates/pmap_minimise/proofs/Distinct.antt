@@ -7,7 +7,7 @@ use Rattle.pmap_text.specs.ListModel.{Prefix}
 use Rattle.pmap_text.specs.MapModel.{Label}
 use Rattle.pmap_text.specs.PrefixList.{prefix_of}
 use Rattle.pmap_text.specs.declared.entry.Entry.{Entry}
-use Rattle.pmap_cert.specs.ListForm.{IsInOrder, is_before}
+use Rattle.pmap_cert.specs.Acceptance.{IsInOrder, is_before}
 
 not-same : (p r : Prefix) → is_before p r ≡ true → (p.start == r.start && p.bits == r.bits) ≡ true → ⊥
 not-same p r before same =

@@ -5,8 +5,7 @@ use Rattle.std.proofs.lemmas.Bool.{cond-true, cond-false}
 use Rattle.std.proofs.lemmas.List.{append-nil, append_assoc, map-append}
 use Rattle.std.proofs.lemmas.List.Elements.{All-push, All-weaker}
 use Rattle.std.proofs.lemmas.Option.{none-some, same_Some}
-use Rattle.prefix_keys.specs.Block.{first_of}
-use Rattle.prefix_keys.specs.Version.{width_of}
+use Rattle.prefix_keys.specs.Block.{first_of, width_of}
 use Rattle.prefix_keys.specs.declared.block.Block.{Block}
 use Rattle.pmap_text.specs.Label.{IsLabelTable}
 use Rattle.pmap_text.specs.ListModel.{Prefix}
@@ -16,13 +15,13 @@ use Rattle.pmap_text.specs.PrefixList.{prefix_of}
 use Rattle.pmap_text.specs.declared.entry.Entry.{Entry}
 use Rattle.pmap_text.specs.declared.label.LabelId.{LabelId}
 use Rattle.pmap_text.proofs.MovedBlocks.{first_of-whole}
-use Rattle.pmap_cert.specs.CertificateForm.{IsRising}
+use Rattle.pmap_cert.specs.CertificateText.{IsRising}
 use Rattle.pmap_cert.specs.CertificateModel.{Tree}
-use Rattle.pmap_cert.specs.MinimalPair.{entries_of, handed_on, has_inherited, least_label, own_entry}
+use Rattle.pmap_cert.specs.Acceptance.{entries_of, handed_on, has_inherited, least_label, own_entry}
 use Rattle.pmap_cert.specs.Node.{Chain, HasNumberForm, Inner, Leaf, Node, set_of, tree_of}
-use Rattle.label_trie.specs.Leaf.{number_of}
+use Rattle.label_trie.specs.TrieModel.{number_of}
 use Rattle.label_trie.specs.Parts.{IsHalf}
-use Rattle.pmap_minimise.specs.Entered.{AddsEntries, IsEntryOf, text_of}
+use Rattle.pmap_minimise.specs.Listing.{AddsEntries, IsEntryOf, text_of}
 use Rattle.pmap_minimise.specs.Numbers.{IsOwn, IsOwnBy, IsSound, keeps, numbers_of}
 use Rattle.pmap_minimise.proofs.Joined.{half-room}
 use Rattle.pmap_minimise.proofs.Texts.{keeps-texts, least-texts}

@@ -1,15 +1,14 @@
 -- The halves of a block.
 use Rattle.std.proofs.Common.{◌≡◌, ℕ, ◌+◌, ◌-◌, ◌*◌, ◌%◌, ◌^◌, ◌<◌, ◌≤◌, refl, arith}
-use Rattle.prefix_keys.specs.Block.{block_number}
-use Rattle.prefix_keys.specs.Version.{width_of}
+use Rattle.prefix_keys.specs.Block.{block_number, width_of}
 use Rattle.prefix_keys.specs.declared.block.Block.{Block}
 use Rattle.prefix_keys.specs.declared.version.Version.{Version}
 use Rattle.prefix_keys.proofs.Quotients.{are_halves}
-use Rattle.label_trie.specs.Leaf.{number_of}
+use Rattle.label_trie.specs.TrieModel.{number_of}
 use Rattle.label_trie.specs.Parts.{IsHalf}
 use Rattle.label_trie.proofs.Divided.{is_half}
 
--- a block by its parts
+-- the block with these parts
 abbrev made : (version : Version) (value len : ℕ) → len ≤ width_of version → value < 2 ^ width_of version → value % 2 ^ (width_of version - len) ≡ 0 → Block
 made version value len inside fits free =
     record { version = version; value = value; len = len; len_in_range = inside; in_range = fits; no_host_bit = free }

@@ -3,22 +3,19 @@ use Rattle.std.proofs.Common.{◌≡◌, ℕ, zero, suc, ◌+◌, ◌-◌, ◌*�
 use Rattle.std.specs.List.{AllByRecursion}
 use Rattle.std.proofs.lemmas.List.Elements.{All-from_recursion, All-head, All-weaker, recursion_from_All}
 use Rattle.std.proofs.lemmas.Option.{same_Some}
-use Rattle.prefix_keys.specs.Version.{width_of}
+use Rattle.prefix_keys.specs.Block.{width_of}
 use Rattle.prefix_keys.specs.declared.block.Block.{Block}
 use Rattle.pmap_text.specs.Label.{IsLabelTable}
 use Rattle.pmap_text.specs.MapModel.{IsSettled, Label, MapModel, settled_label}
 use Rattle.pmap_text.specs.MapText.{text_at}
 use Rattle.pmap_text.specs.declared.label.LabelId.{LabelId}
-use Rattle.pmap_cert.specs.CertificateForm.{IsRising}
-use Rattle.pmap_cert.specs.CertificateModel.{Pair, claim_of}
-use Rattle.pmap_cert.specs.ExactPair.{IsSamePair, exact_pair}
-use Rattle.pmap_cert.specs.MinimalPair.{StandsFor}
+use Rattle.pmap_cert.specs.CertificateText.{IsRising}
+use Rattle.pmap_cert.specs.CertificateModel.{Pair, claim_of, IsSamePair, exact_pair}
+use Rattle.pmap_cert.specs.Acceptance.{StandsFor}
 use Rattle.pmap_cert.specs.Node.{Chain, HasNumberForm, Inner, Leaf, Node, cost_of, set_of, tree_of}
-use Rattle.label_trie.specs.Leaf.{number_of}
+use Rattle.label_trie.specs.TrieModel.{number_of, IsSettledLeaf, IsUndivided, LeafModel}
 use Rattle.label_trie.specs.Parts.{IsHalf}
-use Rattle.label_trie.specs.TrieModel.{IsSettledLeaf, IsUndivided, LeafModel}
-use Rattle.pmap_minimise.specs.Certified.{IsCertified, IsKnownLeaf}
-use Rattle.pmap_minimise.specs.Numbers.{IsExact, IsJoined, IsSound}
+use Rattle.pmap_minimise.specs.Numbers.{IsCertified, IsKnownLeaf, IsExact, IsJoined, IsSound}
 use Rattle.pmap_minimise.proofs.Texts.{exact-cost, exact-rising, exact-some, same_pair}
 
 -- what holds of two lists together holds of each

@@ -5,7 +5,7 @@ use Rattle.std.proofs.lemmas.Bool.{cond-false, eq-eqb, ne_eqb}
 use Rattle.std.proofs.lemmas.List.{append-nil, append_assoc}
 use Rattle.std.proofs.lemmas.List.Folds.{list_any-append}
 use Rattle.pmap_text.specs.declared.label.LabelId.{LabelId}
-use Rattle.pmap_cert.specs.CertificateForm.{IsRising}
+use Rattle.pmap_cert.specs.CertificateText.{IsRising}
 use Rattle.pmap_minimise.specs.Numbers.{IsUnion, common_numbers, has_number, numbers_of}
 
 pub numbers-append : (xs ys : List LabelId) → numbers_of (xs ++ ys) ≡ numbers_of xs ++ numbers_of ys

@@ -7,11 +7,9 @@ use Rattle.pmap_cert.proofs.Written.{text_of_lines-append}
 use Rattle.pmap_cert.specs.CertificateText.{inner_line, leaf_line, text_of_lines}
 use Rattle.pmap_cert.specs.FormatReading.{DueLine}
 use Rattle.pmap_cert.specs.Node.{Inner, Leaf, Node, line_text, lines_of, set_of}
-use Rattle.pmap_minimise.specs.declared.built.Chain.{Chain}
+use Rattle.pmap_minimise.specs.Built.{Chain, cost_above, node_over, set_above, way_node, with_number, node_text, side_after, side_before, text_down, text_up, way_line}
 use Rattle.pmap_cert.specs.Ways.{digit}
-use Rattle.pmap_minimise.specs.Built.{cost_above, node_over, set_above, way_node, with_number}
 use Rattle.pmap_minimise.specs.Numbers.{has_number}
-use Rattle.pmap_minimise.specs.Opening.{node_text, side_after, side_before, text_down, text_up, way_line}
 
 -- a line with its end
 abbrev ended : List ℕ → List ℕ

@@ -8,17 +8,15 @@ use Rattle.std.proofs.Math.Nat.{div-eq_of_lt, mul-le-mul_right, pow-suc}
 use Rattle.std.proofs.Math.Pow.{pow_mono}
 use Rattle.std.proofs.lemmas.Bool.{cases_lt}
 use Rattle.std.proofs.lemmas.Nat.{and_le_l, and_le_r, leading_length, pow-add, shr-shr, xor_shr}
-use Rattle.prefix_keys.specs.Block.{block_number, first_of, last_of}
-use Rattle.prefix_keys.specs.Version.{width_of}
+use Rattle.prefix_keys.specs.Block.{block_number, first_of, last_of, width_of}
 use Rattle.prefix_keys.specs.declared.block.Block.{Block}
 use Rattle.prefix_keys.specs.declared.version.Version.{Version}
 use Rattle.prefix_keys.proofs.Quotients.{above_first, below_end, half_split, quotient_is}
 use Rattle.pmap_text.specs.Stretches.{HasEveryAddress, HoldsAddress, StretchesModel, count_begun, first_at, last_at}
 use Rattle.pmap_text.proofs.Ranges.{ends_before, held_order, holder, next_first, ordered_at}
-use Rattle.label_trie.specs.Layers.{IsBlock}
+use Rattle.label_trie.specs.Inner.{IsBlock}
 use Rattle.label_trie.proofs.Grown.{are_halves, number_at as first-number}
-use Rattle.pmap_minimise.specs.Areas.{AreHalvesOf, HasLabel, IsArea, IsRun, IsRunTo, IsStop, number_at, own_label}
-use Rattle.pmap_minimise.specs.declared.area.Area.{Area}
+use Rattle.pmap_minimise.specs.Areas.{AreHalvesOf, HasLabel, IsArea, IsRun, IsRunTo, IsStop, number_at, own_label, Area}
 use Rattle.prefix_keys.proofs.Groups.{width-le}
 use Rattle.pmap_minimise.proofs.Areas.{are-halves, area-split, block-order, one-index, own-is, own-single, run-below, same-area}
 

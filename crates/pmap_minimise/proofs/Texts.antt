@@ -10,14 +10,12 @@ use Rattle.pmap_text.specs.Label.{IsLabelTable}
 use Rattle.pmap_text.specs.MapModel.{Label}
 use Rattle.pmap_text.specs.MapText.{text_at}
 use Rattle.pmap_text.specs.declared.label.LabelId.{LabelId}
-use Rattle.pmap_cert.specs.CertificateForm.{IsRising}
-use Rattle.pmap_cert.specs.CertificateModel.{Pair, has}
-use Rattle.pmap_cert.specs.CertificateText.{place_of}
-use Rattle.pmap_cert.specs.ExactPair.{IsSamePair, exact_pair, exact_pair_by}
-use Rattle.pmap_cert.specs.MinimalPair.{has_inherited, least_label}
+use Rattle.pmap_cert.specs.CertificateText.{IsRising, place_of}
+use Rattle.pmap_cert.specs.CertificateModel.{Pair, has, IsSamePair, exact_pair, exact_pair_by}
+use Rattle.pmap_cert.specs.Acceptance.{has_inherited, least_label}
 use Rattle.pmap_cert.proofs.Sets.{bytes_eq-same, has-append}
 use Rattle.pmap_cert.proofs.Tables.{place_of-text_at}
-use Rattle.pmap_minimise.specs.Entered.{text_of}
+use Rattle.pmap_minimise.specs.Listing.{text_of}
 use Rattle.pmap_minimise.specs.Numbers.{IsExactBy, IsUnion, common_numbers, has_number, keeps, numbers_of}
 use Rattle.pmap_minimise.proofs.Merged.{lacks, rising-filter}
 

@@ -3,12 +3,10 @@ use Rattle.std.proofs.Common.{◌≡◌, ℕ, suc, ◌+◌, ◌-◌, ◌*◌, �
 use Rattle.std.proofs.lemmas.List.Elements.{All-head}
 use Rattle.pmap_text.specs.declared.label.LabelId.{LabelId}
 use Rattle.pmap_cert.specs.Node.{Chain, Inner, Leaf, Node, cost_of, set_of}
-use Rattle.label_trie.specs.Kind.{IsOfTree}
-use Rattle.label_trie.specs.Tree.{Fork, HasRoom, IsLabelled, Tip, Tree, leaf_count, leaves_of}
+use Rattle.label_trie.specs.Tree.{IsOfTree, Fork, HasRoom, IsLabelled, Tip, Tree, leaf_count, leaves_of}
 use Rattle.label_trie.specs.TrieModel.{LeafModel, TrieModel}
 use Rattle.label_trie.proofs.NodeLeaves.{inner_unsettled}
-use Rattle.pmap_minimise.specs.Certified.{IsCertified, IsNodeFor}
-use Rattle.pmap_minimise.specs.Numbers.{IsJoined}
+use Rattle.pmap_minimise.specs.Numbers.{IsCertified, IsNodeFor, IsJoined}
 use Rattle.pmap_minimise.proofs.Joined.{all-left, all-right, joined-certified, leaf-certified}
 use Rattle.pmap_minimise.proofs.Texts.{exact-cost}
 

@@ -4,7 +4,7 @@ use Rattle.std.specs.Option.{ForSome}
 use Rattle.std.proofs.Math.Seq.{drop-length, drop-nil}
 use Rattle.std.proofs.lemmas.List.{append-nil, append_assoc, same_from_push}
 use Rattle.std.proofs.lemmas.Option.{none-some, same_Some, slice_get-get_or}
-use Rattle.prefix_keys.specs.Version.{width_of}
+use Rattle.prefix_keys.specs.Block.{width_of}
 use Rattle.prefix_keys.specs.declared.block.Block.{Block}
 use Rattle.prefix_keys.specs.declared.version.Version.{Version}
 use Rattle.pmap_text.specs.declared.entry.Entry.{Entry}
@@ -13,25 +13,18 @@ use Rattle.pmap_cert.specs.FormatReading.{DueLine, InnerLine, LeafLine, PlainLin
 use Rattle.pmap_cert.specs.Node.{Inner, Leaf, Node, cost_of, lines_of, set_of}
 use Rattle.pmap_cert.specs.declared.pool.SetId.{SetId}
 use Rattle.pmap_cert.proofs.PackedLines.{held-more}
-use Rattle.label_trie.specs.Kind.{IsKindOf, IsOfTree}
+use Rattle.label_trie.specs.Tree.{IsKindOf, IsOfTree, Fork, IsLabelled, Tip, Tree, leaf_count, nodes_of}
 use Rattle.label_trie.specs.Parts.{IsHalf}
-use Rattle.label_trie.specs.Tree.{Fork, IsLabelled, Tip, Tree, leaf_count, nodes_of}
 use Rattle.label_trie.specs.TrieModel.{LeafModel, NodeModel, TrieModel}
 use Rattle.label_trie.specs.declared.kind.Kind.TheVariants.{Divided as DividedKind, Leaf as LeafKind}
 use Rattle.label_trie.proofs.Encoded.{length_nodes, size_leaves, size_pos}
 use Rattle.label_trie.proofs.NodeLeaves.{length_leaves}
-use Rattle.pmap_minimise.specs.Building.{AddsInner, AddsLeaf, HasRisingSet}
-use Rattle.pmap_minimise.specs.Built.{HasGrown, IsAt}
-use Rattle.pmap_minimise.specs.Certified.{IsCertified}
-use Rattle.pmap_minimise.specs.Entered.{AddsEntries}
-use Rattle.pmap_minimise.specs.Numbers.{IsOwn, IsSound, numbers_of}
-use Rattle.pmap_minimise.specs.Shortest.{IsWhole}
-use Rattle.pmap_minimise.specs.Walks.{AddsAll, AreStacked, IsChosenFrom, IsClaimOf, IsClaimed, IsClaimedFrom, IsDueFor, all_lines, from_next, trees_from}
-use Rattle.pmap_minimise.specs.declared.built.Built.{Built}
-use Rattle.pmap_minimise.specs.declared.built.Claim.{Claim}
+use Rattle.pmap_minimise.specs.Built.{AddsInner, AddsLeaf, HasRisingSet, HasGrown, IsAt, Built, Claim}
+use Rattle.pmap_minimise.specs.Numbers.{IsCertified, IsOwn, IsSound, numbers_of}
+use Rattle.pmap_minimise.specs.Listing.{AddsEntries, IsWhole}
+use Rattle.pmap_minimise.specs.Walks.{AddsAll, AreStacked, IsChosenFrom, IsClaimOf, IsClaimed, IsClaimedFrom, IsDueFor, all_lines, from_next, trees_from, Due}
 use Rattle.pmap_minimise.specs.declared.built.Line.{Line}
 use Rattle.pmap_minimise.specs.declared.built.Line.TheVariants.{Chain as ChainLine, Inner as InnerEntry, Leaf as LeafEntry}
-use Rattle.pmap_minimise.specs.declared.walks.Due.{Due}
 use Rattle.pmap_minimise.proofs.BuiltNodes.{at-grown, inner-added, leaf-added, rising-held}
 use Rattle.pmap_minimise.proofs.Compacted.{IsInnerNode, at-last, chain-there, inner-there, leaf-there}
 use Rattle.pmap_minimise.proofs.Entered.{HasHalves, inner-adds, leaf-adds, sound-halves}

@@ -3,23 +3,21 @@ use Rattle.std.proofs.Common.{◌≡◌, ℕ, zero, suc, ◌+◌, ◌-◌, ◌*�
 use Rattle.std.proofs.lemmas.Bool.{eq-eqb, eqb-true}
 use Rattle.std.proofs.lemmas.List.Elements.{All-weaker}
 use Rattle.std.proofs.lemmas.Option.{get_or_from_slice_get, same_Some}
-use Rattle.prefix_keys.specs.Version.{width_of}
+use Rattle.prefix_keys.specs.Block.{width_of}
 use Rattle.prefix_keys.specs.declared.block.Block.{Block}
 use Rattle.pmap_text.specs.declared.entry.Entry.{Entry}
 use Rattle.pmap_text.specs.declared.label.LabelId.{LabelId}
 use Rattle.pmap_text.specs.PrefixList.{prefix_of}
 use Rattle.pmap_cert.specs.FormatReading.{ChainLine}
-use Rattle.pmap_cert.specs.MinimalPair.{entries_of}
+use Rattle.pmap_cert.specs.Acceptance.{entries_of}
 use Rattle.pmap_cert.specs.Node.{HasNumberForm, Inner, Leaf, Node, lines_of, set_of, tree_of}
-use Rattle.label_trie.specs.Leaf.{number_of}
+use Rattle.label_trie.specs.TrieModel.{number_of}
 use Rattle.label_trie.specs.Parts.{IsHalf}
-use Rattle.pmap_cert.specs.Chain.{chosen_half}
+use Rattle.pmap_cert.specs.CertificateModel.{chosen_half}
 use Rattle.pmap_cert.specs.Ways.{LeadsTo, digit, way_number, way_to}
-use Rattle.pmap_minimise.specs.Built.{cost_above, node_over, set_above, way_node, with_number}
-use Rattle.pmap_minimise.specs.Entered.{AddsEntries, IsEntryOf, text_of}
+use Rattle.pmap_minimise.specs.Built.{cost_above, node_over, set_above, way_node, with_number, Built, Chain as ChainParts}
+use Rattle.pmap_minimise.specs.Listing.{AddsEntries, IsEntryOf, text_of}
 use Rattle.pmap_minimise.specs.Numbers.{IsOwn, IsOwnBy, IsSound, has_number, keeps, numbers_of}
-use Rattle.pmap_minimise.specs.declared.built.Built.{Built}
-use Rattle.pmap_minimise.specs.declared.built.Chain.{Chain as ChainParts}
 use Rattle.pmap_minimise.proofs.Compacted.{IsChainNode}
 use Rattle.pmap_minimise.proofs.Entered.{inner-adds, leaf-adds}
 use Rattle.pmap_minimise.proofs.Halves.{HasHalves, has-halves}
@@ -74,7 +72,7 @@ down-step value bits block end down = by (digit value bits) refl (omega arith)
     by (suc zero) same small = rest 1 halves.high same halves.high_half refl
     by (suc (suc d)) same small = absurd (omega arith)
 
--- a set that has the label that is inherited adds nothing and hands that on
+-- a node that has the inherited label adds no entry and passes that label on
 keeps-own : (ids : List LabelId) (block : Block) (side : LabelId) (entries : List Entry) → keeps ids (Some side) ≡ true → IsOwn ids block (Some side) entries entries side
 keeps-own ids block side entries kept = subst (λ (b : Bool). IsOwnBy b ids block (Some side) entries entries side) (sym kept) (refl, refl)
 
@@ -192,7 +190,7 @@ way-sound side value (suc bits) last room sound =
     let more = rest.room_is in
     record { left = rest.left; room_is = omega arith; sound = rest.sound }
 
--- a chain's node, its number being read
+-- A chain's node, by the chain with this number.
 module _ (b : Built) (compact node : Node) (number from last : ℕ) (is : IsChainNode b compact node number from last) (read : ChainParts) (read_is : read ≡ get_or b.chains.items number read) where
   pub read-chain : read ≡ is.chain
   read-chain = read_is ∙ get_or_from_slice_get b.chains.items number is.chain read is.listed
@@ -213,7 +211,7 @@ module _ (b : Built) (compact node : Node) (number from last : ℕ) (is : IsChai
   read-deep room sound = way-sound read.side.0 read.end read.bits is.opened room (subst (λ (n : Node). IsSound n room) read-node sound)
 
   pub read-entries : (here end : Block) (inherited : Option LabelId) (old middle new : List Entry) (handed : LabelId) → IsOwn (read.side ∷ []) here inherited old middle handed
-      → IsDown read.end read.bits here end → AddsEntries is.opened end (Some handed) middle new → AddsEntries node here inherited old new
+      → LeadsTo here end (way_to read.end read.bits) → AddsEntries is.opened end (Some handed) middle new → AddsEntries node here inherited old new
   read-entries here end inherited old middle new handed own down adds =
       subst (λ (n : Node). AddsEntries n here inherited old new) (sym read-node)
       (chain-adds read.side is.opened read.end read.bits here end inherited old middle new handed read-long own down adds)

@@ -4,7 +4,7 @@ use Rattle.std.proofs.lemmas.List.Elements.{All-from_recursion, All-map, All-wea
 use Rattle.std.proofs.lemmas.List.Folds.{list_any_at}
 use Rattle.std.proofs.lemmas.Option.{none-some, unwrap_or-slice_get}
 use Rattle.std.specs.Str.{bytes_eq}
-use Rattle.prefix_keys.specs.Version.{width_of}
+use Rattle.prefix_keys.specs.Block.{width_of}
 use Rattle.prefix_keys.specs.declared.block.Block.{Block}
 use Rattle.prefix_keys.specs.declared.version.Version.{Version}
 use Rattle.pmap_text.specs.Label.{IsLabelTable}
@@ -15,28 +15,23 @@ use Rattle.pmap_text.specs.PrefixList.{prefix_of}
 use Rattle.pmap_text.specs.declared.entry.Entry.{Entry}
 use Rattle.pmap_text.specs.declared.map_text.MapText.{MapText}
 use Rattle.pmap_cert.specs.CertificateModel.{CertificateModel, Tree, has}
-use Rattle.pmap_cert.specs.ListForm.{HasListForm, IsInOrder}
-use Rattle.pmap_cert.specs.CertificateText.{certificate_text, format_header, text_of_lines}
+use Rattle.pmap_cert.specs.Acceptance.{HasListForm, IsInOrder, HasItsLabels, IsMinimalPair, StandsFor, entries_of}
+use Rattle.pmap_cert.specs.CertificateText.{certificate_text, format_header, text_of_lines, HasTextForm}
 use Rattle.pmap_cert.specs.Compacting.{compact}
 use Rattle.pmap_cert.specs.Node.{HasChainForm, HasNumberForm, Node, line_text, lines_of, tree_of}
-use Rattle.pmap_cert.specs.Placing.{IsCompactNode}
+use Rattle.pmap_cert.specs.Inner.{IsCompactNode}
 use Rattle.pmap_cert.specs.declared.format.Format.TheVariants.{One}
-use Rattle.label_trie.specs.Leaf.{number_of}
-use Rattle.label_trie.specs.TrieModel.{IsSettledLeaf, IsUndivided, LeafModel}
-use Rattle.pmap_cert.specs.CertificateForm.{HasTextForm}
+use Rattle.label_trie.specs.TrieModel.{number_of, IsSettledLeaf, IsUndivided, LeafModel}
 use Rattle.pmap_cert.proofs.CompactNodes.{compact-one}
 use Rattle.pmap_cert.proofs.Plain.{plain-tree_of}
 use Rattle.pmap_cert.proofs.Written.{node_form, whole_text}
 use Rattle.pmap_text.specs.ListEntries.{HasDistinctBlocks}
-use Rattle.pmap_cert.specs.MinimalPair.{HasItsLabels, IsMinimalPair, StandsFor, entries_of}
 use Rattle.pmap_cert.proofs.InOrder.{list-form}
 use Rattle.pmap_cert.proofs.Sets.{bytes_eq-same}
-use Rattle.pmap_minimise.specs.Entered.{AddsEntries, IsEntryOf}
-use Rattle.pmap_minimise.specs.Shortest.{IsWhole, list_with}
+use Rattle.pmap_minimise.specs.Listing.{AddsEntries, IsEntryOf, IsWhole, list_with, IsListedBy}
 use Rattle.pmap_minimise.proofs.Distinct.{order-distinct}
 use Rattle.pmap_minimise.proofs.Entered.{half-entries}
-use Rattle.pmap_minimise.specs.Certified.{IsCertified, IsKnownLeaf}
-use Rattle.pmap_minimise.specs.Listing.{IsListedBy}
+use Rattle.pmap_minimise.specs.Numbers.{IsCertified, IsKnownLeaf}
 use Rattle.pmap_minimise.specs.Walks.{IsClaimed}
 use Rattle.pmap_minimise.specs.declared.built.Built.{Built}
 use Rattle.pmap_minimise.proofs.Joined.{settled-known, whole-number}

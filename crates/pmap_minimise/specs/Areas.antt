@@ -1,17 +1,16 @@
 use Rattle.std.specs.Prelude.{◌≡◌, ◌≢◌, ℕ, zero, suc, ◌+◌, ◌-◌, ◌*◌, ◌/◌, ◌^◌, ◌<◌, ◌≤◌, ◌==◌, ◌⊎◌, List, Option, None, Some, IsSome, if◌then◌else◌, option_map}
-use Rattle.prefix_keys.specs.Block.{block_number}
-use Rattle.prefix_keys.specs.Version.{width_of}
+use Rattle.prefix_keys.specs.Block.{block_number, width_of}
 use Rattle.prefix_keys.specs.declared.version.Version.{Version}
 use Rattle.pmap_text.specs.MapModel.{MapModel}
 use Rattle.pmap_text.specs.Stretches.{AreStretches, HoldsAddress, StretchesModel, label_at}
 use Rattle.pmap_text.specs.declared.label.LabelId.{LabelId}
 use Rattle.pmap_text.specs.declared.statement.Statement.{Statement}
-use Rattle.pmap_cert.specs.CertificateForm.{IsRising}
+use Rattle.pmap_cert.specs.CertificateText.{IsRising}
 use Rattle.pmap_cert.specs.Node.{Inner, Leaf, Node, label_of, set_of}
-use Rattle.label_trie.specs.Layers.{IsBlock, IsMapOf, parted_sum}
+use Rattle.label_trie.specs.Inner.{IsBlock, IsMapOf, parted_sum}
 use Rattle.label_trie.specs.Tree.{Fits, IsLabelled, Tree, leaf_count}
-use Rattle.pmap_minimise.specs.Certified.{IsNodeFor}
-use Rattle.pmap_minimise.specs.declared.area.Area.{Area}
+use Rattle.pmap_minimise.specs.Numbers.{IsNodeFor}
+pub use Rattle.pmap_minimise.specs.declared.area.Area.{Area}
 
 -- Blocks of addresses with the stretches at their ends, and how a run leads down from a block.
 

@@ -1,23 +1,23 @@
-use Rattle.std.specs.Prelude.{◌≡◌, ℕ, zero, suc, ◌+◌, ◌/◌, ◌%◌, ◌^◌, ◌≤◌, ◌==◌, Bool, List, [], ◌∷◌, Some, All, if◌then◌else◌, length, nat_lt, slice_get}
-use Rattle.prefix_keys.specs.Version.{width_of}
+use Rattle.std.specs.Prelude.{◌≡◌, ℕ, zero, suc, ◌+◌, ◌/◌, ◌%◌, ◌^◌, ◌≤◌, ◌==◌, Bool, List, [], ◌∷◌, Some, All, if◌then◌else◌, length, nat_lt, slice_get, ◌<◌, ◌++◌, map}
+use Rattle.prefix_keys.specs.Block.{width_of}
 use Rattle.prefix_keys.specs.declared.version.Version.{Version}
 use Rattle.pmap_text.specs.MapText.{map_of}
 use Rattle.pmap_text.specs.declared.map_text.MapText.{MapText}
 use Rattle.pmap_text.specs.Stretches.{StretchesModel}
-use Rattle.pmap_cert.specs.Node.{Chain as ChainNode, Inner, Leaf, Node, cost_of, set_of}
-use Rattle.pmap_cert.specs.Packed.{IsGrown, IsHeld}
-use Rattle.pmap_cert.specs.Placing.{IsCompactNode}
-use Rattle.pmap_cert.specs.Ways.{digit, way_to}
-use Rattle.pmap_cert.specs.declared.pool.SetId.{SetId}
+use Rattle.pmap_text.specs.declared.label.LabelId.{LabelId}
 use Rattle.label_trie.specs.Tree.{Tree}
 use Rattle.label_trie.specs.TrieModel.{IsSettledLeaf, IsUndivided, LeafModel}
-use Rattle.pmap_minimise.specs.Areas.{IsMade}
-use Rattle.pmap_minimise.specs.Certified.{IsCertified}
-use Rattle.pmap_minimise.specs.Numbers.{has_number}
-use Rattle.pmap_minimise.specs.declared.area.Area.{Area}
-use Rattle.pmap_minimise.specs.declared.built.Built.{Built}
-use Rattle.pmap_minimise.specs.declared.built.Chain.{Chain}
-use Rattle.pmap_minimise.specs.declared.built.Claim.{Claim}
+use Rattle.pmap_cert.specs.Node.{Chain as ChainNode, Inner, Leaf, Node, cost_of, set_of, line_text, lines_of}
+use Rattle.pmap_cert.specs.Packed.{IsGrown, IsHeld, HasSet, set_in}
+use Rattle.pmap_cert.specs.Inner.{IsCompactNode}
+use Rattle.pmap_cert.specs.Ways.{digit, way_to}
+use Rattle.pmap_cert.specs.declared.pool.SetId.{SetId}
+use Rattle.pmap_cert.specs.CertificateText.{IsRising, inner_line, leaf_line, text_of_lines}
+use Rattle.pmap_minimise.specs.Areas.{IsMade, Area}
+use Rattle.pmap_minimise.specs.Numbers.{IsCertified, has_number, IsExactSet}
+pub use Rattle.pmap_minimise.specs.declared.built.Built.{Built}
+pub use Rattle.pmap_minimise.specs.declared.built.Chain.{Chain}
+pub use Rattle.pmap_minimise.specs.declared.built.Claim.{Claim}
 use Rattle.pmap_minimise.specs.declared.built.Line.TheVariants.{Chain as ChainLine, Inner as InnerLine, Leaf as LeafLine}
 
 -- The compact certificate as it is built: the lines of a node come after those of its halves, the higher half's first.
@@ -129,3 +129,77 @@ pub record HasLinesTo (b : Built) (to : ℕ) : Type 0 where
   pub node : Node
   pub from : ℕ
   pub at : IsAt b compact node from to
+
+-- the cost of a node over two halves with these costs, by whether the halves' sets are apart
+abbrev pub exact_cost : ℕ → ℕ → Bool → ℕ
+exact_cost low high apart = if apart then low + high + 1 else low + high
+
+-- the pool has the set, and its numbers rise
+pub record HasRisingSet (pool : List LabelId) (id : SetId) : Type 0 where
+  pub has : HasSet pool id
+  pub rising : IsRising (2 ^ 32) 0 (set_in pool id)
+
+-- the pool keeps the set under this id
+pub record IsHeldAs (old new : List LabelId) (set : List ℕ) (id : SetId) : Type 0 where
+  pub grown : IsGrown old new
+  pub stands : IsHeld new id set
+
+-- the pool keeps the exact set of two halves under this id
+pub record IsHalfHeld (low high : SetId) (old new : List LabelId) (half : SetId) (apart : Bool) : Type 0 where
+  pub set : List ℕ
+  pub exact : IsExactSet (set_in old low) (set_in old high) apart set
+  pub held : IsHeldAs old new set half
+
+-- What a node's own line adds, and what the node claims.
+
+pub record AddsLeaf (id : LabelId) (old new : Built) (claim : Claim) : Type 0 where
+  pub lines_are : new.lines.items ≡ old.lines.items ++ LeafLine id ∷ []
+  pub chains_are : new.chains.items ≡ old.chains.items
+  pub cost_is : claim.cost ≡ 0
+  pub held : IsHeldAs old.sets new.sets (id.0 ∷ []) claim.set
+  pub fits : id.0 < 2 ^ 32
+
+pub record AddsInner (low high : Claim) (old new : Built) (claim : Claim) : Type 0 where
+  pub lines_are : new.lines.items ≡ old.lines.items ++ InnerLine claim.cost claim.set ∷ []
+  pub chains_are : new.chains.items ≡ old.chains.items
+  pub apart : Bool
+  pub cost_is : claim.cost ≡ exact_cost low.cost high.cost apart
+  pub held : IsHalfHeld low.set high.set old.sets new.sets claim.set apart
+
+pub record AddsChain (below : Claim) (side : LabelId) (end bits : ℕ) (old new : Built) (claim : Claim) : Type 0 where
+  pub lines_are : new.lines.items ≡ old.lines.items ++ ChainLine (length old.chains.items) ∷ []
+  pub chains_are : new.chains.items ≡ old.chains.items ++ record { cost = claim.cost; side = side; end = end; bits = bits } ∷ []
+  pub cost_is : claim.cost ≡ (if has_number (set_in old.sets below.set) side.0 then below.cost else below.cost + 1)
+  pub held : IsHeldAs old.sets new.sets (side.0 ∷ []) claim.set
+  pub fits : side.0 < 2 ^ 32
+
+-- the text of a node's lines
+abbrev pub node_text : Node → List ℕ
+node_text node = text_of_lines (map line_text (lines_of node))
+
+-- the line of a chain's node that claims the side label alone, and that of a side block
+abbrev pub way_line : Chain → List ℕ
+way_line chain = inner_line chain.cost (chain.side.0 ∷ []) ++ 10 ∷ []
+
+abbrev pub side_line : Chain → List ℕ
+side_line chain = leaf_line chain.side.0 ++ 10 ∷ []
+
+-- a side block's line if it comes before the chain's end, and if it comes after it, by the digit of the chain there
+abbrev pub side_before : ℕ → ℕ → List ℕ
+side_before side zero = []
+side_before side (suc digit) = leaf_line side ++ 10 ∷ []
+
+abbrev pub side_after : ℕ → ℕ → List ℕ
+side_after side zero = leaf_line side ++ 10 ∷ []
+side_after side (suc digit) = []
+
+-- the text of the last `bits` nodes of a chain and of their side blocks before its end, whose set is `set`
+abbrev pub text_down : Chain → List ℕ → ℕ → List ℕ
+text_down chain set zero = []
+text_down chain set (suc bits) =
+    (inner_line chain.cost (set_above chain.side.0 set bits) ++ 10 ∷ []) ++ (side_before chain.side.0 (digit chain.end bits) ++ text_down chain set bits)
+
+-- the text of the side blocks after a chain's end, for the last `bits` nodes of the chain
+abbrev pub text_up : Chain → ℕ → List ℕ
+text_up chain zero = []
+text_up chain (suc bits) = text_up chain bits ++ side_after chain.side.0 (digit chain.end bits)

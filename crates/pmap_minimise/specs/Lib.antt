@@ -1,10 +1,5 @@
 pub mod Numbers
-pub mod Certified
-pub mod Entered
-pub mod Shortest
 pub mod Listing
 pub mod Areas
 pub mod Built
-pub mod Building
-pub mod Opening
 pub mod Walks

@@ -1,13 +1,50 @@
-use Rattle.std.specs.Prelude.{◌≡◌, ℕ, ◌+◌, ◌*◌, ◌%◌, ◌^◌, List, [], None}
-use Rattle.prefix_keys.specs.Version.{width_of}
+use Rattle.std.specs.Prelude.{◌≡◌, List, map, ℕ, ◌-◌, ◌<◌, ◌++◌, Option, All, length, option_map, [], None}
+use Rattle.std.specs.Option.{ForSome}
 use Rattle.prefix_keys.specs.declared.block.Block.{Block}
 use Rattle.prefix_keys.specs.declared.version.Version.{Version}
+use Rattle.prefix_keys.specs.Block.{width_of}
+use Rattle.pmap_text.specs.ListModel.{ListModel}
+use Rattle.pmap_text.specs.PrefixList.{prefix_of}
 use Rattle.pmap_text.specs.declared.entry.Entry.{Entry}
-use Rattle.pmap_cert.specs.Node.{Node}
-use Rattle.label_trie.specs.TrieModel.{LeafModel}
-use Rattle.pmap_minimise.specs.Certified.{IsCertified}
-use Rattle.pmap_minimise.specs.Entered.{AddsEntries}
-use Rattle.pmap_minimise.specs.Shortest.{IsWhole}
+use Rattle.pmap_text.specs.declared.map_text.MapText.{MapText}
+use Rattle.pmap_text.specs.Label.{IsLabelTable}
+use Rattle.pmap_text.specs.MapModel.{Label}
+use Rattle.pmap_text.specs.MapText.{text_at}
+use Rattle.pmap_text.specs.declared.label.LabelId.{LabelId}
+use Rattle.label_trie.specs.TrieModel.{number_of, LeafModel}
+use Rattle.pmap_cert.specs.Acceptance.{entries_of}
+use Rattle.pmap_cert.specs.Node.{HasNumberForm, Node, tree_of}
+use Rattle.pmap_minimise.specs.Numbers.{IsCertified}
+
+-- the block of all addresses of the version
+pub record IsWhole (version : Version) (block : Block) : Type 0 where
+  pub version_is : block.version ≡ version
+  pub start : block.value ≡ 0
+  pub bits : block.len ≡ 0
+
+-- the prefix list with these entries, and with the map's name and label table
+abbrev pub list_with : MapText → List Entry → ListModel
+list_with m items = record { version = m.version; name = m.name; prefixes = map (prefix_of m.labels) items; table = m.labels }
+
+-- the text of an inherited label
+abbrev pub text_of : List Label → Option LabelId → Option Label
+text_of table inherited = option_map (λ id. text_at table id.0) inherited
+
+-- the entry has the block's version, and the number of its label is below `count`
+pub record IsEntryOf (block : Block) (count : ℕ) (e : Entry) : Type 0 where
+  pub version : e.block.version ≡ block.version
+  pub known : e.label.0 < count
+
+-- The new entries are the old ones and those of the node for this block and its inherited label, in each table that has
+-- the numbers of the node and of the inherited label.
+pub record AddsEntries (node : Node) (block : Block) (inherited : Option LabelId) (old new : List Entry) : Type 0 where
+  pub texts : (table : List Label) → IsLabelTable table → ForSome inherited (λ id. id.0 < length table)
+      → HasNumberForm (length table) node (width_of block.version - block.len)
+      → map (prefix_of table) new ≡ map (prefix_of table) old
+      ++ entries_of (width_of block.version) table (tree_of table node) (text_of table inherited) block.len (number_of block)
+  pub fit : (count : ℕ) → ForSome inherited (λ id. id.0 < count)
+      → HasNumberForm count node (width_of block.version - block.len)
+      → All (IsEntryOf block count) old → All (IsEntryOf block count) new
 
 -- The list that is read off a certificate.
 
@@ -17,9 +54,3 @@ pub record IsListedBy (version : Version) (leaves : List LeafModel) (node : Node
   pub whole : IsWhole version block
   pub certified : IsCertified 0 0 (width_of version) leaves node
   pub adds : AddsEntries node block None [] entries
-
--- a way of so many bits, which are the last digits of the value, leads from the block to the end
-pub record IsDown (value bits : ℕ) (block end : Block) : Type 0 where
-  pub version : end.version ≡ block.version
-  pub len : end.len ≡ block.len + bits
-  pub number : number_of end ≡ number_of block * 2 ^ bits + value % 2 ^ bits

@@ -1,23 +1,18 @@
 use Rattle.std.specs.Prelude.{◌≡◌, ℕ, zero, suc, ◌-◌, ◌^◌, ◌<◌, ◌≤◌, ◌++◌, List, [], ◌∷◌, None, length}
-use Rattle.prefix_keys.specs.Version.{width_of}
+use Rattle.prefix_keys.specs.Block.{width_of}
 use Rattle.prefix_keys.specs.declared.block.Block.{Block}
 use Rattle.prefix_keys.specs.declared.version.Version.{Version}
 use Rattle.pmap_text.specs.declared.entry.Entry.{Entry}
-use Rattle.pmap_cert.specs.CertificateForm.{IsRising}
+use Rattle.pmap_cert.specs.CertificateText.{IsRising}
 use Rattle.pmap_cert.specs.FormatReading.{DueLine}
 use Rattle.pmap_cert.specs.Node.{Node, cost_of, lines_of, set_of}
 use Rattle.pmap_cert.specs.Packed.{IsHeld}
-use Rattle.label_trie.specs.Kind.{IsOfTree}
-use Rattle.label_trie.specs.Tree.{Fork, IsLabelled, Tip, Tree}
+use Rattle.label_trie.specs.Tree.{IsOfTree, Fork, IsLabelled, Tip, Tree}
 use Rattle.label_trie.specs.TrieModel.{LeafModel, TrieModel}
-use Rattle.pmap_minimise.specs.Built.{IsAt}
-use Rattle.pmap_minimise.specs.Certified.{IsCertified, IsNodeFor}
-use Rattle.pmap_minimise.specs.Entered.{AddsEntries}
-use Rattle.pmap_minimise.specs.Numbers.{IsSound}
-use Rattle.pmap_minimise.specs.Shortest.{IsWhole}
-use Rattle.pmap_minimise.specs.declared.built.Built.{Built}
-use Rattle.pmap_minimise.specs.declared.built.Claim.{Claim}
-use Rattle.pmap_minimise.specs.declared.walks.Due.{Due}
+use Rattle.pmap_minimise.specs.Built.{IsAt, Built, Claim}
+use Rattle.pmap_minimise.specs.Numbers.{IsCertified, IsNodeFor, IsSound}
+use Rattle.pmap_minimise.specs.Listing.{AddsEntries, IsWhole}
+pub use Rattle.pmap_minimise.specs.declared.walks.Due.{Due}
 
 -- The walks over a trie's nodes, each with a stack.
 

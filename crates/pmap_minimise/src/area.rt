@@ -1,6 +1,6 @@
-//! Blocks of addresses with the stretches that have their ends, and the runs down from them.
+//! Blocks with the stretches at their ends, and runs: steps down to the half whose sibling has the side label alone.
 ghost use Rattle.std.specs.Prelude.{◌≡◌, ◌+◌, ◌^◌, ◌<◌, ◌≤◌, ◌↔◌, IsTrue, MatchOption, Some, length, option_map};
-ghost use Rattle.prefix_keys.specs.Version.{width_of};
+ghost use Rattle.prefix_keys.specs.Block.{width_of};
 ghost use Rattle.pmap_minimise.specs.Areas.{AreHalvesOf, HasLabel, IsArea, IsRunTo, IsStep, IsStop, own_label};
 ghost use Rattle.pmap_text.specs.Stretches.{HoldsAddress};
 

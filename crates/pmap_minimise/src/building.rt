@@ -1,10 +1,9 @@
-//! The nodes of the compact certificate of a map's minimal pair, from the map's stretches.
+//! Builds the nodes of the compact certificate of a map's minimal pair from the map's stretches.
 ghost use Rattle.std.specs.Prelude.{◌≡◌, ◌+◌, ◌^◌, ◌<◌, IfOk, if◌then◌else◌, option_map};
 ghost use Rattle.std.specs.Option.{option_or};
 ghost use Rattle.pmap_cert.specs.Packed.{HasSet};
 ghost use Rattle.pmap_minimise.specs.Areas.{IsArea, number_at, own_label};
-ghost use Rattle.pmap_minimise.specs.Building.{AddsChain, AddsInner, AddsLeaf, HasRisingSet};
-ghost use Rattle.pmap_minimise.specs.Built.{IsBuilt, IsBuiltFor};
+ghost use Rattle.pmap_minimise.specs.Built.{AddsChain, AddsInner, AddsLeaf, HasRisingSet, IsBuilt, IsBuiltFor};
 ghost use Rattle.pmap_minimise.specs.Numbers.{has_number, numbers_of};
 
 use crate::area::{Area, halves, own_label, run_end};
@@ -136,7 +135,7 @@ fn number_of(stretches: &Stretches, area: &Area) -> u128
     area.first >> (stretches.version().width() - area.len)
 }
 
-// The side label of the run from the block with these halves.
+// Returns the side label of the run from the block with these halves: the first label that a half has alone.
 #[inline(always)]
 fn side_of(stretches: &Stretches, low: &Area, high: &Area) -> Option<LabelId>
     requires low { IsArea stretches.now low.now }

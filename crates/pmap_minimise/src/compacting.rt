@@ -1,17 +1,17 @@
-//! The compact certificate's nodes by what was built.
-ghost use Rattle.std.specs.Prelude.{ℕ, List, IfOk};
+//! Turns what was built into the nodes of the compact certificate.
+ghost use Rattle.std.specs.Prelude.{◌≡◌, ◌++◌, ℕ, List, IfOk};
 ghost use Rattle.prefix_keys.specs.declared.version.Version.{Version as AnyVersion};
 ghost use Rattle.pmap_cert.specs.Node.{Node, lines_of};
-ghost use Rattle.pmap_cert.specs.Placing.{IsCompactNode};
+ghost use Rattle.pmap_cert.specs.Inner.{IsCompactNode};
 ghost use Rattle.label_trie.specs.TrieModel.{LeafModel};
-ghost use Rattle.pmap_minimise.specs.Built.{HasLinesTo, IsAt, IsBuiltOf, way_to};
+ghost use Rattle.pmap_minimise.specs.Built.{HasLinesTo, IsAt, IsBuiltOf};
 
 use crate::built::{Built, Line};
 use pmap_cert::{Nodes, Root, Way};
 use std::alloc::{AllocError, Global};
 use std::slice;
 
-// Adds the node whose lines end here, and returns where they begin.
+// Adds the node whose lines end before the index `to`, and returns the index at which they begin.
 fn push_node(out: &mut Nodes, built: &Built, to: usize) -> Result<usize, AllocError>
     requires { HasLinesTo built.now to }
     ensures { IfOk result (λ from. (compact node : Node) (start : ℕ) → IsAt built.now compact node start to
@@ -25,20 +25,17 @@ fn push_node(out: &mut Nodes, built: &Built, to: usize) -> Result<usize, AllocEr
         }
         Line::Inner(cost, set) => {
             out.push_inner(cost, built.sets.labels(&set))?;
-            let middle = push_node(out, bits, built, last)?;
-            push_node(out, bits, built, middle)
+            let middle = push_node(out, built, last)?;
+            push_node(out, built, middle)
         }
         Line::Chain(number) => {
             let chain = built.chains[number as usize];
-            bits.clear();
-            push_way(bits, &chain)?;
-            out.push_chain(
-                chain.cost,
-                bits.as_slice(),
-                chain.side,
-                slice::from_ref(&chain.side),
-            )?;
-            push_node(out, bits, built, last)
+            let way = Way {
+                value: chain.end,
+                count: chain.bits,
+            };
+            out.push_chain(chain.cost, way, chain.side, slice::from_ref(&chain.side))?;
+            push_node(out, built, last)
         }
     }
 }

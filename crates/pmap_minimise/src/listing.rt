@@ -1,11 +1,10 @@
-//! The entries of a map's shortest list, from the root down, by the compact certificate that was built.
+//! Reads the entries of a map's shortest list off the compact certificate that was built, from the root down.
 ghost use Rattle.std.specs.Prelude.{◌≡◌, ◌+◌, ◌-◌, ◌≤◌, ℕ, List, IfOk};
-ghost use Rattle.prefix_keys.specs.Version.{width_of};
+ghost use Rattle.prefix_keys.specs.Block.{width_of};
 ghost use Rattle.pmap_cert.specs.Node.{Node};
 ghost use Rattle.label_trie.specs.TrieModel.{LeafModel};
 ghost use Rattle.pmap_minimise.specs.Built.{HasLinesTo, IsAt, IsBuiltOf};
-ghost use Rattle.pmap_minimise.specs.Entered.{AddsEntries};
-ghost use Rattle.pmap_minimise.specs.Listing.{IsDown, IsListedBy};
+ghost use Rattle.pmap_minimise.specs.Listing.{AddsEntries, IsListedBy};
 ghost use Rattle.pmap_minimise.specs.Numbers.{IsSound};
 
 use crate::built::{Built, Line};
@@ -16,7 +15,7 @@ use prefix_keys::{Block, Version, whole_space};
 use std::alloc::{AllocError, Global};
 use std::slice;
 
-// Adds the entries of the node whose lines end here and which represents the block, and returns where they begin.
+// Adds the entries of the node for the block `here`, whose lines end before `to`, and returns where the lines begin.
 fn push_entries(
     entries: &mut Vec<Entry>,
     built: &Built,
@@ -46,7 +45,11 @@ fn push_entries(
         Line::Chain(number) => {
             let chain = built.chains[number as usize];
             let side = push_own(entries, slice::from_ref(&chain.side), *here, inherited)?;
-            let end = end_block(*here, chain.end, chain.bits);
+            let way = Way {
+                value: chain.end,
+                count: chain.bits,
+            };
+            let end = way.end(here);
             push_entries(entries, built, last, &end, Some(side))
         }
     }

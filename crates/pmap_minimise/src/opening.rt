@@ -2,9 +2,8 @@
 ghost use Rattle.std.specs.Prelude.{◌≡◌, ℕ, ◌+◌, ◌++◌, ◌∷◌, ◌≤◌, [], IfOk, OnOk, length};
 ghost use Rattle.pmap_cert.specs.CertificateText.{inner_line};
 ghost use Rattle.pmap_cert.specs.Node.{Node, set_of};
-ghost use Rattle.pmap_minimise.specs.Built.{HasLinesTo, IsAt, set_above, with_number};
+ghost use Rattle.pmap_minimise.specs.Built.{HasLinesTo, IsAt, set_above, with_number, node_text, side_line, text_down, text_up, way_line};
 ghost use Rattle.pmap_minimise.specs.Numbers.{numbers_of};
-ghost use Rattle.pmap_minimise.specs.Opening.{node_text, side_line, text_down, text_up, way_line};
 
 use crate::built::{Built, Chain, Line};
 use crate::entering::has_label;
@@ -54,7 +53,7 @@ fn push_last_line(
     push_inner_line(out, chain.cost, all.as_slice())
 }
 
-// Appends the lines on the way down a chain, of its nodes and of the side blocks before its end, by the set of the end.
+// Appends the lines of a chain's nodes, and of the side blocks before its end. `end` is the set of the chain's end.
 // `both` is the line of a node that claims the side label alone, which has this length, and after it that of a side
 // block. The labels in `all` are replaced.
 fn push_down(
@@ -161,7 +160,7 @@ fn text_size(built: &Built) -> usize {
     lines.saturating_mul(16)
 }
 
-/// Appends the lines of the node whose lines end here, opened, and returns where they begin.
+/// Appends the text of the node whose lines end before `to`, with chains opened. Returns where the lines begin.
 pub fn push_text(
     out: &mut Vec<u8>,
     alloc: Global,

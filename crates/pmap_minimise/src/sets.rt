@@ -1,8 +1,8 @@
 //! Sets of labels, as slices with their numbers in rising order.
 ghost use Rattle.std.specs.Prelude.{◌≡◌, ◌^◌, IfOk};
-ghost use Rattle.pmap_cert.specs.CertificateForm.{IsRising};
+ghost use Rattle.pmap_cert.specs.CertificateText.{IsRising};
 ghost use Rattle.pmap_cert.specs.Packed.{set_in};
-ghost use Rattle.pmap_minimise.specs.Building.{HasRisingSet, IsHalfHeld};
+ghost use Rattle.pmap_minimise.specs.Built.{HasRisingSet, IsHalfHeld};
 ghost use Rattle.pmap_minimise.specs.Numbers.{IsExactSet, IsUnion, common_numbers, numbers_of};
 
 use pmap_cert::{SetId, SetPool};

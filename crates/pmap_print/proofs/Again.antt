@@ -12,30 +12,26 @@ use Rattle.std.proofs.lemmas.List.Sums.{AllPass-from_list_all}
 use Rattle.std.proofs.lemmas.Map.Keys.{IsDistinct-IsPermutation, IsDistinct-from_apart, apart_from_distinct}
 use Rattle.std.specs.Fmt.{decimal}
 use Rattle.prefix_keys.specs.Print.{address_text, block_text}
-use Rattle.prefix_keys.specs.Version.{width_of}
+use Rattle.prefix_keys.specs.Block.{width_of}
 use Rattle.prefix_keys.specs.declared.version.Version.{Version}
 use Rattle.prefix_keys.specs.declared.version.Version.TheVariants.{V4, V6}
 use Rattle.prefix_keys.proofs.Printed.{Lacks}
-use Rattle.pmap_cert.specs.ListForm.{HasBlock}
+use Rattle.pmap_cert.specs.Acceptance.{HasBlock}
 use Rattle.pmap_text.specs.Label.{IsLabelTable, is_label}
-use Rattle.pmap_text.specs.Lines.{lines_of}
-use Rattle.pmap_text.specs.ListModel.{IsEquivalent, ListModel, Prefix, label_below, list_label}
-use Rattle.pmap_text.specs.LongestMatch.{CoversAddress, IsLongestMatch, is_same_prefix}
+use Rattle.pmap_text.specs.Reading.{◌>>=◌, lines_of, Entry, ReadsList, ReadsMap, earlier_of, entries_from, label_limit, list_from, map_from, mapping_limit, unknown}
+use Rattle.pmap_text.specs.ListModel.{IsEquivalent, ListModel, Prefix, label_below, list_label, CoversAddress, IsLongestMatch, is_same_prefix}
 use Rattle.pmap_text.specs.MapModel.{Label, MapModel, Mapping, label_or, last_such, map_label, spans}
 use Rattle.pmap_text.specs.MapText.{text_at}
 use Rattle.pmap_text.specs.PrefixList.{list_of, prefix_of}
 use Rattle.pmap_text.specs.declared.entry.Entry.{Entry as ListEntry}
 use Rattle.pmap_text.specs.declared.prefix_list.PrefixList.{PrefixList}
-use Rattle.pmap_text.specs.Reading.{Entry, ReadsList, ReadsMap, ◌>>=◌, earlier_of, entries_from, label_limit, list_from, map_from, mapping_limit, unknown}
 use Rattle.pmap_text.specs.declared.fault.MapFault.{MapFault}
 use Rattle.pmap_text.specs.declared.form.Form.{Form}
 use Rattle.pmap_text.specs.declared.form.Form.TheVariants as form
 use Rattle.pmap_text.proofs.ListBlocks.{distinct-list_of}
 use Rattle.pmap_text.proofs.Orders.{known_text}
 use Rattle.pmap_text.proofs.ListLabels.{label-longest, label-same_prefixes, longest-match, once-distinct, same_prefixes-permuted}
-use Rattle.pmap_print.specs.List.{entry_line, list_lines, list_text, mode_line, name_lines}
-use Rattle.pmap_print.specs.Order.{in_order, starts_alike}
-use Rattle.pmap_print.specs.ReadBack.{CanBeReadAgain, IsListAgain, IsMapAgain, IsPrintedEntry, labels_of, mapping_of_prefix}
+use Rattle.pmap_print.specs.List.{entry_line, list_lines, list_text, mode_line, name_lines, in_order, starts_alike, CanBeReadAgain, IsListAgain, IsMapAgain, IsPrintedEntry, labels_of, mapping_of_prefix}
 use Rattle.pmap_print.proofs.LastMatch.{last-found, match-in}
 use Rattle.pmap_print.proofs.Order.{alike-flips, in_order-moves, in_order-order, short}
 use Rattle.pmap_print.proofs.ReadLines.{name-high}

@@ -7,15 +7,15 @@ use Rattle.std.proofs.lemmas.List.Elements.{All-map, recursion_from_All}
 use Rattle.std.proofs.lemmas.Map.Keys.{IsDistinct-push}
 use Rattle.std.proofs.lemmas.Map.Made.{length-le_from_is_member}
 use Rattle.pmap_cert.specs.CertificateModel.{CertificateModel, has}
-use Rattle.pmap_cert.specs.MinimalPair.{HasItsLabels, IsMinimalPair}
+use Rattle.pmap_cert.specs.Acceptance.{HasItsLabels, IsMinimalPair}
 use Rattle.pmap_cert.proofs.InOrder.{list-form}
 use Rattle.pmap_cert.proofs.Sets.{has-append, has-single}
 use Rattle.pmap_text.specs.Label.{with_label}
 use Rattle.pmap_text.specs.ListModel.{ListModel, Prefix}
 use Rattle.pmap_text.specs.MapModel.{Label, MapModel}
-use Rattle.pmap_print.specs.ReadBack.{labels_of}
+use Rattle.pmap_print.specs.List.{labels_of}
 
--- each new text is added once, and is one of the whole table, so that they are no more than it has
+-- each new text is added once, and is in the whole table, so there are no more texts than the table has
 distinct-more : (table : List Label) (x : Label) → IsDistinct bytes_eq table → IsDistinct bytes_eq (with_label table x)
 distinct-more table x distinct = by (has table x) refl
   where

@@ -5,10 +5,10 @@ use Rattle.std.proofs.lemmas.List.{get_or-map, length-append, length-map, map_pu
 use Rattle.std.proofs.lemmas.Option.{get_or_from_slice_get, slice_get-get_or, slice_get_within}
 use Rattle.flow_uniq.specs.declared.field.KeyField.{KeyField}
 use Rattle.flow_uniq.specs.declared.group.Group.{Group}
-use Rattle.flow_uniq.specs.Field.{field_name}
+use Rattle.flow_uniq.specs.Key.{field_name}
 use Rattle.flow_uniq.specs.Groups.{GroupModel}
-use Rattle.flow_uniq.specs.Kept.{group_model}
-use Rattle.pmap_print.specs.Groups.{group_fields, group_titles, part_text, total_titles}
+use Rattle.flow_uniq.specs.Inner.{group_model}
+use Rattle.pmap_print.specs.Reports.{group_fields, group_titles, part_text, total_titles}
 use Rattle.pmap_print.specs.Table.{Line}
 
 pub length-group_titles : (fields : List KeyField) → length (group_titles fields) ≡ length fields + 3

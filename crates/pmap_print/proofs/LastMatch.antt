@@ -5,19 +5,18 @@ use Rattle.std.proofs.lemmas.Bool.{and_parts, both_ways, cases_lt, leb-true}
 use Rattle.std.proofs.lemmas.List.Elements.{All-cons, All-contains, All-from_recursion, All-head, All-nil, All-tail, All-weaker, Contains-append_right}
 use Rattle.prefix_keys.specs.Block.{block_number, first_of, last_of}
 use Rattle.prefix_keys.proofs.Quotients.{whole}
-use Rattle.pmap_cert.specs.ListForm.{HasBlock, IsInOrder, is_before}
-use Rattle.pmap_text.specs.ListModel.{Prefix}
-use Rattle.pmap_text.specs.LongestMatch.{CoversAddress, IsLongestMatch}
+use Rattle.pmap_cert.specs.Acceptance.{HasBlock, IsInOrder, is_before}
+use Rattle.pmap_text.specs.ListModel.{Prefix, CoversAddress, IsLongestMatch}
 use Rattle.pmap_text.specs.MapModel.{last_such, spans}
 use Rattle.pmap_text.proofs.Blocks.{address-between, address-first, address-last, block_number-shorter}
 use Rattle.pmap_text.proofs.Finds.{Contains-first}
-use Rattle.pmap_print.specs.ReadBack.{mapping_of_prefix}
+use Rattle.pmap_print.specs.List.{mapping_of_prefix}
 
 pub block-start : (W : ℕ) (p : Prefix) → HasBlock W p → first_of W p.bits (block_number W p.bits p.start) ≡ p.start
 block-start W p has = whole p.start (2 ^ (W - p.bits)) (pow_pos (W - p.bits)) has.no_host_bit
 
 module _ (W a : ℕ) where
-  -- the statement of an entry covers the address if the entry's block does
+  -- the statement of an entry covers the address exactly if the entry's block does
   spans-covers : (p : Prefix) → HasBlock W p → spans a (mapping_of_prefix W p) ≡ true → CoversAddress W a p
   spans-covers p has is =
       let parts = and_parts (nat_le p.start a) (nat_le a (last_of W p.bits (block_number W p.bits p.start))) is in

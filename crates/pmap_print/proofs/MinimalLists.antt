@@ -1,5 +1,5 @@
--- The list of a minimal pair of a map text can be printed and read again, and is accepted as it is read.
-use Rattle.std.proofs.Common.{◌≡◌, ℕ, ◌+◌, ◌-◌, ◌*◌, ◌^◌, ◌≤◌, ◌==◌, ◌⊎◌, ◌∙◌, inl, inr, true, false, List, [], ◌∷◌, All, IsTrue, length, sym, ap, subst, arith, bytes_eq}
+-- The list of a minimal pair of a map text can be printed and read again, and the list that is read is accepted.
+use Rattle.std.proofs.Common.{◌≡◌, ℕ, ◌+◌, ◌-◌, ◌*◌, ◌^◌, ◌≤◌, ◌==◌, ◌⊎◌, ◌∙◌, inl, inr, true, false, List, [], ◌∷◌, All, IsTrue, get_or, length, sym, ap, subst, arith, bytes_eq}
 use Rattle.std.specs.List.{AllByRecursion, IsDistinct}
 use Rattle.std.proofs.lemmas.Bool.Decides.{nat_tests}
 use Rattle.std.proofs.lemmas.Bool.{and_parts, eqb-true, false_from_ne_true, or_cases}
@@ -7,25 +7,19 @@ use Rattle.std.proofs.lemmas.List.Elements.{recursion_from_All}
 use Rattle.std.proofs.lemmas.Map.Keys.{IsDistinct-cons}
 use Rattle.std.proofs.lemmas.Option.{slice_get-get_or}
 use Rattle.std.proofs.lemmas.Slice.Eq.{bytes_eq-Decides}
-use Rattle.prefix_keys.specs.Block.{block_number}
-use Rattle.prefix_keys.specs.Version.{width_of}
-use Rattle.pmap_cert.specs.Acceptance.{IsAccepted, IsNodeAccepted}
+use Rattle.prefix_keys.specs.Block.{block_number, width_of}
+use Rattle.pmap_cert.specs.Acceptance.{IsAccepted, IsNodeAccepted, HasBlock, HasListForm, IsInOrder, is_before, IsMinimalPair}
 use Rattle.pmap_cert.specs.CertificateModel.{CertificateModel, claim_of, has}
-use Rattle.pmap_cert.specs.ListForm.{HasBlock, HasListForm, IsInOrder, is_before}
-use Rattle.pmap_cert.specs.MinimalPair.{IsMinimalPair}
 use Rattle.pmap_cert.proofs.InOrder.{list-form}
 use Rattle.pmap_cert.proofs.MapLabels.{labels-read}
 use Rattle.pmap_cert.proofs.MapLimits.{IsLimited, limits-read}
 use Rattle.pmap_cert.proofs.Minimal.{accepted-minimal}
 use Rattle.pmap_text.specs.Label.{is_label}
-use Rattle.pmap_text.specs.ListModel.{ListModel, Prefix}
-use Rattle.pmap_text.specs.LongestMatch.{HasDistinctPrefixes, is_same_prefix}
+use Rattle.pmap_text.specs.ListModel.{ListModel, Prefix, HasDistinctPrefixes, is_same_prefix}
 use Rattle.pmap_text.specs.MapModel.{Label, MapModel}
 use Rattle.pmap_text.specs.Reading.{ReadsList, ReadsMap, label_limit, mapping_limit}
-use Rattle.pmap_print.specs.List.{list_text}
-use Rattle.pmap_print.specs.ReadBack.{CanBeReadAgain, IsPrintedEntry, IsWellFormed, labels_of}
+use Rattle.pmap_print.specs.List.{list_text, CanBeReadAgain, IsPrintedEntry, IsWellFormed, labels_of}
 use Rattle.pmap_print.proofs.Again.{list-again}
-use Rattle.pmap_print.proofs.MapTexts.{HasLabelForms, map-forms}
 use Rattle.pmap_print.proofs.LastMatch.{block-start}
 use Rattle.pmap_print.proofs.Order.{in_order-kept}
 

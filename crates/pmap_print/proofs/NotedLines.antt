@@ -5,9 +5,7 @@ use Rattle.std.specs.List.{flat_map}
 use Rattle.std.proofs.lemmas.Grind.{common_steps, fold-append}
 use Rattle.std.proofs.lemmas.List.{get_or-map, map_push}
 use Rattle.std.proofs.lemmas.List.Elements.{All-append, All-cons, All-nil}
-use Rattle.pmap_print.specs.Columns.{AreNoted, IsNoted, sizes}
-use Rattle.pmap_print.specs.declared.columns.Columns.{Columns}
-use Rattle.pmap_print.specs.Table.{Line, column_width}
+use Rattle.pmap_print.specs.Table.{AreNoted, IsNoted, sizes, Line, column_width, Columns}
 
 column_width-push : (lines : List Line) (line : Line) (k : ℕ) → column_width (lines ++ line ∷ []) k ≡ max (column_width lines k) (length (get_or line k []))
 column_width-push lines line k =

@@ -1,4 +1,4 @@
--- The order of a printed list: it is the one order in which each entry precedes all that follow it.
+-- The order of a printed list is the only one in which each entry precedes all that follow it.
 use Rattle.std.proofs.Common.{All, get_or, ◌≡◌, ℕ, suc, ◌≤◌, ◌⊎◌, inl, inr, Bool, true, false, cond, List, [], ◌∷◌, Contains, map, refl, sym, ◌∙◌, ap, subst, arith}
 use Rattle.std.specs.List.{AllByRecursion, IsDistinct}
 use Rattle.std.specs.List.Sorted.{IsNonDecreasingBy, IsPermutation}
@@ -6,10 +6,10 @@ use Rattle.std.proofs.lemmas.Bool.Decides.{nat_tests}
 use Rattle.std.proofs.lemmas.List.Elements.{All-contains, All-from_recursion, All-map, recursion_from_All}
 use Rattle.std.proofs.lemmas.List.Sorted.{Contains-permutation, IsPermutation-cons, IsPermutation-map, IsPermutation-middle, IsPermutation-refl, IsPermutation-sym, IsPermutation-trans}
 use Rattle.std.proofs.lemmas.Map.Keys.{IsDistinct-IsPermutation, IsDistinct-head, IsDistinct-tail}
-use Rattle.prefix_keys.specs.Version.{width_of}
+use Rattle.prefix_keys.specs.Block.{width_of}
 use Rattle.prefix_keys.specs.declared.version.Version.{Version}
 use Rattle.prefix_keys.specs.declared.version.Version.TheVariants.{V4, V6}
-use Rattle.pmap_cert.specs.ListForm.{IsInOrder, is_before}
+use Rattle.pmap_cert.specs.Acceptance.{IsInOrder, is_before}
 use Rattle.pmap_text.specs.ListEntries.{HasDistinctBlocks, same_block}
 use Rattle.pmap_text.specs.ListModel.{Prefix}
 use Rattle.pmap_text.specs.MapModel.{Label}
@@ -17,8 +17,7 @@ use Rattle.pmap_text.specs.PrefixList.{prefix_of}
 use Rattle.pmap_text.specs.declared.entry.Entry.{Entry}
 use Rattle.pmap_text.proofs.Filed.{distinct_to_map}
 use Rattle.pmap_text.proofs.Finds.{Contains-cases, Contains-first, Contains-later, Contains-nil}
-use Rattle.pmap_print.specs.Order.{in_order, placed, starts_alike}
-use Rattle.pmap_print.specs.Sorting.{place_of}
+use Rattle.pmap_print.specs.List.{in_order, placed, starts_alike, place_of}
 
 -- one entry precedes another
 before-trans : (p r s : Prefix) → is_before p r ≡ true → is_before r s ≡ true → is_before p s ≡ true
@@ -116,7 +115,7 @@ in_order-one ps rs distinct moved ordered =
     order-one rs (in_order ps) ordered (in_order-order ps distinct) (λ s. Contains-permutation rs (in_order ps) s both)
     (λ s. Contains-permutation (in_order ps) rs s (IsPermutation-sym rs (in_order ps) both))
 
--- entries that rise by their places are in order
+-- entries that rise by `place_of` are in order
 place-before : (table : List Label) (d e : Entry) → d.block.len ≤ 128 → e.block.len ≤ 128 → place_of d ≤ place_of e → same_block d e ≡ false
     → is_before (prefix_of table d) (prefix_of table e) ≡ true
 place-before table d e short short' le ne = grind (arith, nat_tests)

@@ -8,9 +8,7 @@ use Rattle.std.proofs.lemmas.Nat.{mod-mul-add}
 use Rattle.std.proofs.lemmas.List.{append-nil, drop_all, get_or-map, length-append, length-map, map-append, take_all, take_at}
 use Rattle.std.proofs.lemmas.List.Sums.{sum_by-cons}
 use Rattle.std.proofs.lemmas.List.Elements.{All-head, All-tail}
-use Rattle.pmap_print.specs.Columns.{AreNoted, CanSpread, IsNoted, joined, noted, sizes, spread}
-use Rattle.pmap_print.specs.declared.columns.Columns.{Columns}
-use Rattle.pmap_print.specs.Table.{Line, Text, column_width, filled, filled_line, line_text, table_text}
+use Rattle.pmap_print.specs.Table.{AreNoted, CanSpread, IsNoted, joined, noted, sizes, spread, Line, Text, column_width, filled, filled_line, line_text, table_text, Columns}
 use Rattle.pmap_print.proofs.Spreading.{joined-le, length-filled}
 
 -- writing all elements of a slice leaves just these
@@ -182,7 +180,7 @@ narrow lines = λ i d inside j.
     let size : Line → ℕ = λ fields. length (get_or fields j []) in
     omega (arith, fold-at 0 (map size lines) i (omega (arith, length-map lines size, inside)), get_or-map size lines i d 0 inside)
 
--- noted lines can be spread, and so are those of a table with columns
+-- noted lines can be moved to columns, and then are the text of a table with columns
 module _ (count : ℕ) (lines : List Line) (c : Columns) (is : IsNoted count lines c) where
   some : 0 < length c.widths.items
   some = omega (arith, is.some, is.columns)

@@ -11,22 +11,19 @@ use Rattle.std.proofs.lemmas.List.{length-append}
 use Rattle.std.proofs.lemmas.Slice.Eq.{bytes_eq-Decides}
 use Rattle.prefix_keys.specs.Print.{address_text, block_text}
 use Rattle.prefix_keys.specs.Text.{BlockOf, block_of_text}
-use Rattle.prefix_keys.specs.Version.{width_of}
+use Rattle.prefix_keys.specs.Block.{width_of}
 use Rattle.prefix_keys.specs.declared.block.Block.{Block}
 use Rattle.prefix_keys.specs.declared.text.BlockFault.{BlockFault}
 use Rattle.prefix_keys.specs.declared.version.Version.{Version}
 use Rattle.prefix_keys.specs.declared.version.Version.TheVariants.{V4, V6}
 use Rattle.prefix_keys.proofs.ReadBack.{block_is_read_back}
-use Rattle.pmap_text.specs.Declarations.{label_number, meant_text, text_of_number}
-use Rattle.pmap_text.specs.Label.{is_label}
-use Rattle.pmap_text.specs.Lines.{behind_word, first_word}
+use Rattle.pmap_text.specs.Label.{label_number, meant_text, text_of_number, is_label}
+use Rattle.pmap_text.specs.Reading.{behind_word, first_word, Decides, Earlier, Lists, Maps, Names, block_line, content_line, earlier_of, has_prefix, has_room, label_of, line_entry, mapping_limit, number_in, placed_line, statement_line}
 use Rattle.pmap_text.specs.ListModel.{Prefix}
 use Rattle.pmap_text.specs.MapModel.{Label}
-use Rattle.pmap_text.specs.Reading.{Decides, Earlier, Lists, Maps, Names, block_line, content_line, earlier_of, has_prefix, has_room, label_of, line_entry, mapping_limit, number_in, placed_line, statement_line}
 use Rattle.pmap_text.specs.declared.form.Form.{Form}
 use Rattle.pmap_text.specs.declared.form.Form.TheVariants as form
-use Rattle.pmap_print.specs.List.{entry_line, mode_line}
-use Rattle.pmap_print.specs.ReadBack.{IsPrintedEntry, mapping_of_prefix}
+use Rattle.pmap_print.specs.List.{entry_line, mode_line, IsPrintedEntry, mapping_of_prefix}
 use Rattle.pmap_print.specs.Table.{Text}
 use Rattle.pmap_print.proofs.Order.{short}
 use Rattle.pmap_print.proofs.WordLines.{high-block, line-behind_word, line-content, line-first_word}

@@ -8,20 +8,18 @@ use Rattle.std.proofs.lemmas.List.Elements.{recursion_from_All}
 use Rattle.std.proofs.lemmas.List.Folds.{list_any_none}
 use Rattle.std.proofs.lemmas.List.Sums.{fold-append}
 use Rattle.std.proofs.lemmas.Map.Keys.{apart_from_distinct}
-use Rattle.prefix_keys.specs.Version.{width_of}
+use Rattle.prefix_keys.specs.Block.{width_of}
 use Rattle.prefix_keys.specs.declared.version.Version.{Version}
 use Rattle.pmap_text.specs.Label.{is_label, with_label}
 use Rattle.pmap_text.specs.ListModel.{Prefix}
 use Rattle.pmap_text.specs.MapModel.{Label, Mapping}
 use Rattle.pmap_text.specs.Reading.{Decides, Earlier, Entry, Lists, Maps, Names, earlier_of, entries_from, has_room, label_limit, line_entry, mapping_limit}
-use Rattle.pmap_text.specs.Steps.{added}
+use Rattle.pmap_text.specs.Inner.{added}
 use Rattle.pmap_text.specs.declared.form.Form.{Form}
 use Rattle.pmap_text.specs.declared.form.Form.TheVariants as form
 use Rattle.pmap_text.proofs.LineEntries.{earlier_of-push}
 use Rattle.pmap_text.proofs.ProgressSteps.{length-with_label}
-use Rattle.pmap_print.specs.List.{entry_line, mode_line, name_lines}
-use Rattle.pmap_print.specs.Order.{starts_alike}
-use Rattle.pmap_print.specs.ReadBack.{IsPrintedEntry, labels_of, mapping_of_prefix}
+use Rattle.pmap_print.specs.List.{entry_line, mode_line, name_lines, starts_alike, IsPrintedEntry, labels_of, mapping_of_prefix}
 use Rattle.pmap_print.specs.Table.{Text}
 use Rattle.pmap_print.proofs.ReadLines.{list-entry, map-entry, mode-entry, mode-entry-named, name-entry}
 

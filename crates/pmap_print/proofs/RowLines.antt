@@ -4,11 +4,9 @@ use Rattle.std.specs.List.{zip}
 use Rattle.std.specs.Option.{ForSome}
 use Rattle.std.proofs.lemmas.List.{get_or-map, length-map, take_all, take_more}
 use Rattle.std.proofs.lemmas.Slice.Zip.{get_or-zip, length-zip}
-use Rattle.flow_rows.specs.Row.{RowView, row_view}
+use Rattle.flow_rows.specs.Elements.{RowView, row_view}
 use Rattle.flow_rows.specs.declared.row.Row.{Row}
-use Rattle.pmap_print.specs.declared.labels.RowLabels.{RowLabels}
-use Rattle.pmap_print.specs.Parts.{labels_at}
-use Rattle.pmap_print.specs.Rows.{LabelTexts, given_labels, label_fields, label_texts, row_fields, row_line, row_lines, title_line}
+use Rattle.pmap_print.specs.Reports.{RowLabels, labels_at, LabelTexts, given_labels, label_fields, label_texts, row_fields, row_line, row_lines, title_line}
 use Rattle.pmap_print.specs.Table.{Line}
 
 -- the lines of rows, with labels if they are given

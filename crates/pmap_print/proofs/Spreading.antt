@@ -3,9 +3,7 @@ use Rattle.std.proofs.Common.{ℕ, suc, ◌≡◌, ◌+◌, ◌-◌, ◌<◌, �
 use Rattle.std.specs.Prelude.{◌%◌, filter, slice_index}
 use Rattle.std.proofs.lemmas.Grind.{common_steps}
 use Rattle.std.proofs.lemmas.List.{append-nil, length-append, length-replicate, length-take-le, map_more, take-append-drop, take_at, drop_at, take_more, get_or-map, length-map}
-use Rattle.pmap_print.specs.Columns.{CanSpread, is_long, joined, noted, spread}
-use Rattle.pmap_print.specs.declared.columns.Columns.{Columns}
-use Rattle.pmap_print.specs.Table.{Text, filled}
+use Rattle.pmap_print.specs.Table.{CanSpread, is_long, joined, noted, spread, Text, filled, Columns}
 
 -- the texts before the index are at the beginning of a text, and the others in their columns at its end
 pub record IsSpread (texts : List Text) (widths : List ℕ) (text : Text) (from to column : ℕ) (long : List ℕ) (i : ℕ) : Type 0 where

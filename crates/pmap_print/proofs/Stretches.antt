@@ -9,7 +9,7 @@ use Rattle.std.proofs.lemmas.List.Folds.{flat_map-map}
 use Rattle.std.proofs.lemmas.Bool.{eqb-true}
 use Rattle.std.proofs.lemmas.Nat.{pow_pos}
 use Rattle.std.proofs.lemmas.Option.{none-some, same_Some}
-use Rattle.prefix_keys.specs.Version.{width_of}
+use Rattle.prefix_keys.specs.Block.{width_of}
 use Rattle.prefix_keys.specs.declared.version.Version.{Version}
 use Rattle.pmap_text.specs.Label.{IsLabelTable}
 use Rattle.pmap_text.specs.MapModel.{Label}
@@ -19,9 +19,7 @@ use Rattle.pmap_text.specs.declared.label.LabelId.{LabelId}
 use Rattle.pmap_text.proofs.Orders.{known_text}
 use Rattle.pmap_text.proofs.Ranges.{last_end, next_first, ordered_at, text_at_index}
 use Rattle.label_trie.specs.Runs.{AreRuns, HasOneLabel, Run}
-use Rattle.pmap_print.specs.Runs.{IsRunsText, run_fields, run_text, run_titles}
-use Rattle.pmap_print.specs.Stretches.{IsPrinted, IsPrintedTo, Numbered, is_same_number, run_of, stretch_view, view_at}
-use Rattle.pmap_print.specs.declared.runs.Stretch.{Stretch}
+use Rattle.pmap_print.specs.Runs.{IsRunsText, run_fields, run_text, run_titles, IsPrinted, IsPrintedTo, Numbered, is_same_number, run_of, stretch_view, view_at, Stretch}
 use Rattle.pmap_print.specs.Table.{Text, line_text}
 
 -- labels with the same number are the same
@@ -84,7 +82,7 @@ text_more : (v : Version) (before out new : Text) (runs : List Run) (run : Run) 
     → new ≡ before ++ flat_map (run_text v) (runs ++ run ∷ [])
 text_more v before out new runs run so_far text = grind (arith, common_steps)
 
--- one that is printed, as the next has another label
+-- if the next stretch has another label, the run is printed
 pub printed_more : (f : ℕ → Option Label) (table : List Label) (v : Version) (end : ℕ) (before out new : Text) (s t : Numbered)
     → IsPrinted f table v end before out s → new ≡ out ++ run_text v (run_of table s) → HasOneLabel f (run_of table s) → t.low ≡ s.high + 1
     → (run_of table s).label ≢ (run_of table t).label → IsPrinted f table v end before new t

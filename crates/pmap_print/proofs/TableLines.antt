@@ -3,14 +3,9 @@ use Rattle.std.proofs.Common.{arith, ℕ, Bool, true, ◌≡◌, ◌∙◌, List
 use Rattle.std.specs.List.{flat_map}
 use Rattle.std.specs.Option.{ForSome}
 use Rattle.std.proofs.lemmas.Grind.{common_steps}
-use Rattle.flow_rows.specs.Row.{RowView}
-use Rattle.pmap_print.specs.declared.labels.RowLabels.{RowLabels}
-use Rattle.pmap_print.specs.declared.columns.Columns.{Columns}
-use Rattle.pmap_print.specs.declared.table.Table.{Table}
-use Rattle.pmap_print.specs.Columns.{IsNoted, IsTable}
-use Rattle.pmap_print.specs.Parts.{column_count}
-use Rattle.pmap_print.specs.Rows.{label_texts, row_line}
-use Rattle.pmap_print.specs.Table.{Line, Text, line_text}
+use Rattle.flow_rows.specs.Elements.{RowView}
+use Rattle.pmap_print.specs.Reports.{RowLabels, column_count, label_texts, row_line}
+use Rattle.pmap_print.specs.Table.{Columns, Table, IsNoted, IsTable, Line, Text, line_text}
 
 text_added : (old new : Text) (lines : List Line) (line : Line) → old ≡ flat_map line_text lines → new ≡ old ++ line_text line
     → new ≡ flat_map line_text (lines ++ line ∷ [])

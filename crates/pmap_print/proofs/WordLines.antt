@@ -1,4 +1,4 @@
--- A printed line of a word and a label, as it is read: its content is itself, and its words are these two.
+-- A printed line of a word and a label is read as its content, and its words are these two.
 use Rattle.std.proofs.Common.{◌≡◌, ℕ, ◌+◌, ◌-◌, ◌^◌, ◌<◌, ◌≤◌, ◌==◌, ◌∙◌, Bool, true, false, not, cond, List, [], ◌∷◌, ◌++◌, All, drop, length, get_or, take, nat_le, refl, sym, ap, subst, arith, one-add}
 use Rattle.std.specs.Fmt.{decimal, digit_glyph, digits}
 use Rattle.std.specs.List.{before_first, position_or_len, suffix_len}
@@ -15,7 +15,7 @@ use Rattle.prefix_keys.proofs.Groups.{bytes-below, groups-below}
 use Rattle.prefix_keys.proofs.Printed.{Lacks}
 use Rattle.pmap_cert.specs.CertificateText.{text_of_lines}
 use Rattle.pmap_text.specs.Label.{is_blank, is_label, is_label_byte}
-use Rattle.pmap_text.specs.Lines.{behind_word, content_of, first_word, lines_of, trim_end, trim_start}
+use Rattle.pmap_text.specs.Reading.{behind_word, content_of, first_word, lines_of, trim_end, trim_start}
 use Rattle.pmap_print.specs.Table.{Text}
 
 -- each printed line is read as one line

@@ -1,12 +1,4 @@
 pub mod Table
-pub mod Columns
-pub mod Rows
-pub mod Info
-pub mod Parts
+pub mod Reports
 pub mod Runs
-pub mod Stretches
-pub mod Order
 pub mod List
-pub mod Sorting
-pub mod ReadBack
-pub mod Groups

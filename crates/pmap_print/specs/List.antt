@@ -1,12 +1,34 @@
--- The printed text of a prefix list.
-use Rattle.std.specs.Prelude.{List, [], ◌∷◌, ◌++◌, Option, Some, None, codes, map}
+use Rattle.std.specs.Prelude.{◌&&◌, ◌==◌, Bool, List, [], ◌∷◌, if◌then◌else◌, ◌++◌, Option, Some, None, codes, map, ℕ, ◌+◌, ◌*◌, ◌≡◌, ◌^◌, ◌<◌, ◌≤◌, All, IsTrue, fold, length, unwrap_or}
+use Rattle.std.specs.Option.{ForSome}
 use Rattle.prefix_keys.specs.Print.{block_text}
 use Rattle.prefix_keys.specs.declared.version.Version.{Version}
-use Rattle.pmap_text.specs.ListModel.{ListModel, Prefix}
-use Rattle.pmap_text.specs.MapModel.{Label}
+use Rattle.prefix_keys.specs.Block.{block_number, last_of, width_of}
+use Rattle.pmap_text.specs.ListModel.{Prefix, ListModel, list_label, HasDistinctPrefixes}
+use Rattle.pmap_text.specs.MapModel.{Label, MapModel, Mapping, map_label}
+use Rattle.pmap_text.specs.declared.entry.Entry.{Entry}
+use Rattle.pmap_text.specs.Label.{is_label, with_label}
+use Rattle.pmap_text.specs.Reading.{label_limit, mapping_limit, unknown}
+use Rattle.pmap_cert.specs.Acceptance.{is_before, HasBlock}
 use Rattle.pmap_cert.specs.CertificateText.{text_of_lines, version_word}
-use Rattle.pmap_print.specs.Order.{in_order}
 use Rattle.pmap_print.specs.Table.{Text}
+
+-- The order in which a prefix list is printed.
+
+-- the entries with one more, which is placed before the first entry that it precedes
+abbrev pub placed : Prefix → List Prefix → List Prefix
+placed p [] = p ∷ []
+placed p (r ∷ rs) = if is_before p r then p ∷ r ∷ rs else r ∷ placed p rs
+
+-- the entries in order of their first addresses, and the shorter prefix first of two with the same one
+abbrev pub in_order : List Prefix → List Prefix
+in_order [] = []
+in_order (p ∷ ps) = placed p (in_order ps)
+
+-- both entries begin at the same address and have the same length
+abbrev pub starts_alike : Prefix → Prefix → Bool
+starts_alike p r = p.start == r.start && p.bits == r.bits
+
+-- The printed text of a prefix list.
 
 -- `map-name NAME`, if there is a name
 abbrev pub name_lines : Option Label → List Text
@@ -28,3 +50,51 @@ list_lines l = name_lines l.name ++ mode_line l.version ∷ map (entry_line l.ve
 -- the text of a list: each line with its line feed
 abbrev pub list_text : ListModel → Text
 list_text l = text_of_lines (list_lines l)
+
+-- How the code sorts entries.
+
+-- a number that rises with the order of entries, as prefix lengths are below 256
+abbrev pub place_of : Entry → ℕ
+place_of e = e.block.value * 256 + e.block.len
+
+-- A prefix list whose printed text can be read again.
+
+-- the entry has a block of the version and a well-formed label
+pub record IsPrintedEntry (version : Version) (p : Prefix) : Type 0 where
+  pub block : HasBlock (width_of version) p
+  pub label : IsTrue (is_label p.label)
+
+-- the label texts of entries, in the order of first occurrence
+abbrev pub labels_of : List Prefix → List Label
+labels_of prefixes = fold with_label [] (map (λ p. p.label) prefixes)
+
+-- each entry has a block and a well-formed label, no two blocks are equal, and the name is well formed
+pub record IsWellFormed (l : ListModel) : Type 0 where
+  pub entries : All (IsPrintedEntry l.version) l.prefixes
+  pub distinct : HasDistinctPrefixes (width_of l.version) l.prefixes
+  pub name : ForSome l.name (λ name. IsTrue (is_label name))
+
+-- the list is well formed, and has no more entries and no more label texts than a text may have
+pub record CanBeReadAgain (l : ListModel) : Type 0 where
+  pub form : IsWellFormed l
+  pub few_entries : length l.prefixes ≤ mapping_limit
+  pub few_labels : length (labels_of (in_order l.prefixes)) ≤ label_limit
+
+-- the statement that the addresses of an entry's block, which have W bits, have the entry's label
+abbrev pub mapping_of_prefix : ℕ → Prefix → Mapping
+mapping_of_prefix W p =
+    record { low = p.start; high = last_of W p.bits (block_number W p.bits p.start); label = p.label }
+
+-- The printed text of `l`, read as a list, gives `r`: the same name and version, and the entries in order with their
+-- labels.
+pub record IsListAgain (l r : ListModel) : Type 0 where
+  pub version : r.version ≡ l.version
+  pub name : r.name ≡ l.name
+  pub prefixes : r.prefixes ≡ in_order l.prefixes
+
+-- The printed text of `l`, read as a map, gives `m`: each address has the label that the list gives it, or the label of
+-- a map without a default if the list gives none.
+pub record IsMapAgain (l : ListModel) (m : MapModel) : Type 0 where
+  pub version : m.version ≡ l.version
+  pub name : m.name ≡ l.name
+  pub labels : (a : ℕ) → a < 2 ^ width_of l.version → map_label m a ≡ unwrap_or (list_label l a) unknown

@@ -1,8 +1,7 @@
 //! The widths of a table's columns, and the padding of its fields.
 ghost use Rattle.std.specs.Prelude.{◌≡◌, ℕ, ◌+◌, ◌-◌, ◌*◌, ◌/◌, ◌%◌, ◌<◌, ◌≤◌, List, [], ◌∷◌, ◌++◌, IfOk, IfSome, OnOk, drop, filter, length, map, replicate, sum, take, true};
 ghost use Rattle.std.specs.List.{flat_map};
-ghost use Rattle.pmap_print.specs.Columns.{AreNoted, CanSpread, IsNoted, is_long, noted, sizes, spread};
-ghost use Rattle.pmap_print.specs.Table.{Line, Text, line_text, table_text};
+ghost use Rattle.pmap_print.specs.Table.{AreNoted, CanSpread, IsNoted, is_long, noted, sizes, spread, Line, Text, line_text, table_text};
 
 use std::alloc::{AllocError, Global};
 

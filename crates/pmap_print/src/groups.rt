@@ -1,12 +1,9 @@
 //! The printed text of groups.
 ghost use Rattle.std.specs.Prelude.{◌≡◌, ℕ, ◌+◌, ◌≤◌, List, [], ◌∷◌, ◌++◌, All, IfOk, OnOk, length, map, true};
-ghost use Rattle.flow_uniq.specs.Kept.{group_model};
-ghost use Rattle.flow_uniq.specs.Parts.{part_model};
-ghost use Rattle.flow_uniq.specs.Sorted.{shown_groups};
-ghost use Rattle.pmap_print.specs.Columns.{has_columns, IsTable, sizes};
-ghost use Rattle.pmap_print.specs.Groups.{group_fields, group_titles, groups_text, part_text};
-ghost use Rattle.pmap_print.specs.Parts.{total_fields};
-ghost use Rattle.pmap_print.specs.Table.{Line, line_text};
+ghost use Rattle.flow_uniq.specs.Inner.{group_model, part_model};
+ghost use Rattle.flow_uniq.specs.Groups.{shown_groups};
+ghost use Rattle.pmap_print.specs.Table.{has_columns, IsTable, sizes, Line, line_text};
+ghost use Rattle.pmap_print.specs.Reports.{group_fields, group_titles, groups_text, part_text, total_fields};
 
 use crate::number::{print_number, print_total};
 use crate::table::Table;

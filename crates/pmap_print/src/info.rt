@@ -1,7 +1,7 @@
 //! The printed text of counts.
 ghost use Rattle.std.specs.Prelude.{◌≡◌, ◌++◌, IfOk, OnOk};
 ghost use Rattle.flow_rows.specs.Counts.{counts_view};
-ghost use Rattle.pmap_print.specs.Info.{count_text, info_text};
+ghost use Rattle.pmap_print.specs.Reports.{count_text, info_text};
 
 use crate::number::print_number;
 use flow_rows::Counts;

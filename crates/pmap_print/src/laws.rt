@@ -4,21 +4,17 @@ ghost use Rattle.std.specs.Prelude.{◌≡◌, ◌<◌, ◌≤◌, ◌^◌, ℕ,
 ghost use Rattle.std.specs.List.{IsDistinct};
 ghost use Rattle.std.specs.List.Sorted.{IsPermutation};
 ghost use Rattle.std.specs.Option.{ForSome};
-ghost use Rattle.prefix_keys.specs.Version.{width_of};
+ghost use Rattle.prefix_keys.specs.Block.{width_of};
 ghost use Rattle.prefix_keys.specs.declared.version.Version.{Version};
-ghost use Rattle.pmap_cert.specs.Acceptance.{IsAccepted};
+ghost use Rattle.pmap_cert.specs.Acceptance.{IsAccepted, IsInOrder, HasItsLabels, IsMinimalPair};
 ghost use Rattle.pmap_cert.specs.CertificateModel.{CertificateModel};
-ghost use Rattle.pmap_cert.specs.ListForm.{IsInOrder};
-ghost use Rattle.pmap_cert.specs.MinimalPair.{HasItsLabels, IsMinimalPair};
 ghost use Rattle.pmap_text.specs.Label.{IsLabelTable, is_label};
 ghost use Rattle.pmap_text.specs.ListModel.{IsEquivalent, ListModel, Prefix, list_label};
 ghost use Rattle.pmap_text.specs.MapModel.{Label, MapModel, map_label};
 ghost use Rattle.pmap_text.specs.PrefixList.{list_of};
 ghost use Rattle.pmap_text.specs.Reading.{ReadsList, ReadsMap, label_limit, mapping_limit};
 ghost use Rattle.pmap_text.specs.declared.prefix_list.PrefixList.{PrefixList};
-ghost use Rattle.pmap_print.specs.List.{list_text};
-ghost use Rattle.pmap_print.specs.Order.{in_order, starts_alike};
-ghost use Rattle.pmap_print.specs.ReadBack.{CanBeReadAgain, IsListAgain, IsMapAgain, IsWellFormed, labels_of};
+ghost use Rattle.pmap_print.specs.List.{list_text, in_order, starts_alike, CanBeReadAgain, IsListAgain, IsMapAgain, IsWellFormed, labels_of};
 ghost use Rattle.pmap_print.specs.Runs.{IsRunsText};
 ghost use Rattle.pmap_print.specs.Table.{Text};
 

@@ -3,9 +3,7 @@ ghost use Rattle.std.specs.Prelude.{◌≡◌, ◌++◌, ◌∷◌, [], All, IfO
 ghost use Rattle.std.specs.List.Sorted.{IsNonDecreasingBy, IsPermutation};
 ghost use Rattle.std.specs.Ordering.{nat_cmp};
 ghost use Rattle.pmap_cert.specs.CertificateText.{text_of_lines};
-ghost use Rattle.pmap_print.specs.List.{entry_line, list_text, mode_line, name_lines};
-ghost use Rattle.pmap_print.specs.Order.{in_order};
-ghost use Rattle.pmap_print.specs.Sorting.{place_of};
+ghost use Rattle.pmap_print.specs.List.{entry_line, list_text, mode_line, name_lines, in_order, place_of};
 ghost use Rattle.pmap_text.specs.ListEntries.{HasDistinctBlocks};
 ghost use Rattle.pmap_text.specs.MapModel.{Label};
 ghost use Rattle.pmap_text.specs.PrefixList.{list_of, prefix_of};

@@ -3,11 +3,9 @@ ghost use Rattle.std.specs.Prelude.{◌≡◌, ℕ, ◌+◌, ◌<◌, ◌≤◌,
 ghost use Rattle.std.specs.Fmt.{decimal};
 ghost use Rattle.std.specs.List.{join_with_byte};
 ghost use Rattle.std.specs.Option.{ForSome};
-ghost use Rattle.flow_rows.specs.Row.{row_view};
-ghost use Rattle.pmap_print.specs.Columns.{has_columns, IsTable, sizes};
-ghost use Rattle.pmap_print.specs.Parts.{column_count, labels_at};
-ghost use Rattle.pmap_print.specs.Rows.{given_labels, label_fields, label_texts, row_fields, row_line, rows_text, title_line};
-ghost use Rattle.pmap_print.specs.Table.{Line, line_text};
+ghost use Rattle.flow_rows.specs.Elements.{row_view};
+ghost use Rattle.pmap_print.specs.Table.{has_columns, IsTable, sizes, Line, line_text};
+ghost use Rattle.pmap_print.specs.Reports.{column_count, labels_at, given_labels, label_fields, label_texts, row_fields, row_line, rows_text, title_line};
 
 use crate::labels::RowLabels;
 use crate::table::Table;

@@ -1,7 +1,6 @@
 ghost use Rattle.std.specs.Prelude.{◌≡◌, ◌<◌, ◌++◌, IfOk, OnOk, length, option_map};
 ghost use Rattle.pmap_text.specs.Stretches.{AreLabelsBelow, HasEveryAddress, text_held};
-ghost use Rattle.pmap_print.specs.Runs.{IsRunsText, run_text, run_titles};
-ghost use Rattle.pmap_print.specs.Stretches.{is_same_number, run_of, stretch_view, view_at};
+ghost use Rattle.pmap_print.specs.Runs.{IsRunsText, run_text, run_titles, is_same_number, run_of, stretch_view, view_at};
 ghost use Rattle.pmap_print.specs.Table.{line_text};
 
 use pmap_text::{LabelId, Labels, Stretches};

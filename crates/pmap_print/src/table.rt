@@ -1,8 +1,7 @@
 //! The text of a table, line by line.
 ghost use Rattle.std.specs.Prelude.{◌≡◌, ℕ, ◌<◌, ◌≤◌, List, [], ◌∷◌, ◌++◌, IfOk, OnOk, length};
 ghost use Rattle.std.specs.Option.{ForSome};
-ghost use Rattle.pmap_print.specs.Columns.{has_columns, IsNoted, IsTable, sizes};
-ghost use Rattle.pmap_print.specs.Table.{Line, table_text};
+ghost use Rattle.pmap_print.specs.Table.{has_columns, IsNoted, IsTable, sizes, Line, table_text};
 
 use crate::columns::Columns;
 use std::alloc::{AllocError, Global};

@@ -4,14 +4,9 @@ use Rattle.std.proofs.Math.Seq.{take-append_seam}
 use Rattle.std.proofs.lemmas.Bool.{both_ways, eqb-true}
 use Rattle.std.proofs.lemmas.List.{length-append}
 use Rattle.std.proofs.lemmas.Option.{slice_get_within}
-use Rattle.pmap_text.specs.Filed.{HasDistinctKeys, IsFirstRepeat}
-use Rattle.pmap_text.specs.Lines.{lines_of}
+use Rattle.pmap_text.specs.Inner.{HasDistinctKeys, IsFirstRepeat, Takes, refusal_of}
+use Rattle.pmap_text.specs.Reading.{lines_of, Earlier, Entry, earlier_of, entries_from, has_prefix, line_entry, MapFaultKind, DuplicateBlock, NoMemory, Form}
 use Rattle.pmap_text.specs.ListModel.{Prefix}
-use Rattle.pmap_text.specs.Reading.{Earlier, Entry, earlier_of, entries_from, has_prefix, line_entry}
-use Rattle.pmap_text.specs.Steps.{Takes, refusal_of}
-use Rattle.pmap_text.specs.declared.fault.MapFaultKind.{MapFaultKind}
-use Rattle.pmap_text.specs.declared.fault.MapFaultKind.TheVariants.{DuplicateBlock, NoMemory}
-use Rattle.pmap_text.specs.declared.form.Form.{Form}
 use Rattle.pmap_text.proofs.Filed.{once-front, once-last}
 use Rattle.pmap_text.proofs.LabelTexts.{slice_get-push}
 use Rattle.pmap_text.proofs.LineEntries.{Adds, entries_from-fault, entries_from-line, refusal-fault, taken-cases}

@@ -11,19 +11,16 @@ use Rattle.std.proofs.lemmas.Slice.Eq.{bytes_eq-Decides}
 use Rattle.prefix_keys.proofs.Bytes.{all-weaker, apart, lacks, none-passes}
 use Rattle.prefix_keys.proofs.LeadingGroups.{colon-in}
 use Rattle.prefix_keys.proofs.Pieces.{is_point, short_number-undigit}
-use Rattle.prefix_keys.specs.Block.{block_number, first_of}
-use Rattle.prefix_keys.specs.Leading.{is_colon_byte}
+use Rattle.prefix_keys.specs.Block.{block_number, first_of, width_of}
+use Rattle.prefix_keys.specs.Inner.{is_colon_byte}
 use Rattle.prefix_keys.specs.Text.{AddressOf, BlockOf, address_of, block_from, block_of_text, colon_address, covering_block, decimal_value, dotted_address, four_bytes, four_pieces, is_digit, is_hex_digit, short_number}
-use Rattle.prefix_keys.specs.Version.{width_of}
 use Rattle.prefix_keys.specs.declared.addr.Addr.{Addr}
 use Rattle.prefix_keys.specs.declared.block.Block.{Block}
 use Rattle.prefix_keys.specs.declared.version.Version.TheVariants.{V4, V6}
 use Rattle.pmap_text.specs.Label.{is_blank}
-use Rattle.pmap_text.specs.Leading.{BeginsWithAddress, BeginsWithBlank, BeginsWithDotted, BeginsWithNumber, IsWord, is_address_byte}
-use Rattle.pmap_text.specs.Lines.{behind_word, first_word, trim_start}
-use Rattle.pmap_text.specs.Reading.{Earlier, block_line, content_line, one_or_two, statement_line}
-use Rattle.pmap_text.specs.declared.form.Form.{Form}
-use Rattle.pmap_text.specs.declared.leading.Word.TheVariants.{Address, Block as block_word}
+use Rattle.pmap_text.specs.Inner.{BeginsWithAddress, BeginsWithBlank, BeginsWithDotted, BeginsWithNumber, IsWord, is_address_byte, Address}
+use Rattle.pmap_text.specs.Reading.{behind_word, first_word, trim_start, Earlier, block_line, content_line, one_or_two, statement_line, Form}
+use Rattle.pmap_text.specs.declared.leading.Word.TheVariants.{Block as block_word}
 
 -- a number consists of digits
 pub number-digits : (limit : ℕ) (text : List ℕ) (n : ℕ) → short_number limit text ≡ Some n → list_all is_digit text ≡ true

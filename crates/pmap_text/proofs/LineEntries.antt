@@ -5,14 +5,10 @@ use Rattle.std.proofs.lemmas.List.Sums.{fold-append}
 use Rattle.std.proofs.lemmas.List.{append-nil}
 use Rattle.std.specs.List.{flat_map, list_any}
 use Rattle.std.specs.Option.{option_or}
-use Rattle.pmap_text.specs.Declarations.{with_declared}
-use Rattle.pmap_text.specs.Label.{with_label}
+use Rattle.pmap_text.specs.Label.{with_declared, with_label}
 use Rattle.pmap_text.specs.ListModel.{Prefix}
-use Rattle.pmap_text.specs.Reading.{Decides, Declares, Defaults, Earlier, Entry, Lists, Maps, Names, Nothing, decides_in, declared_in, default_in, earlier_of, entries_from, first_in, has_prefix, last_in, line_entry, mapping_in, name_in, prefix_in, text_in, version_in}
-use Rattle.pmap_text.specs.Steps.{Takes, added, refusal_of}
-use Rattle.pmap_text.specs.declared.fault.MapFaultKind.TheVariants.{DuplicateBlock, NoMemory}
-use Rattle.pmap_text.specs.declared.fault.MapFaultKind.{MapFaultKind}
-use Rattle.pmap_text.specs.declared.form.Form.{Form}
+use Rattle.pmap_text.specs.Reading.{Decides, Declares, Defaults, Earlier, Entry, Lists, Maps, Names, Nothing, decides_in, declared_in, default_in, earlier_of, entries_from, first_in, has_prefix, last_in, line_entry, mapping_in, name_in, prefix_in, text_in, version_in, DuplicateBlock, NoMemory, MapFaultKind, Form}
+use Rattle.pmap_text.specs.Inner.{Takes, added, refusal_of}
 
 option_or-none : {X : Type 0} (o : Option X) → o ≡ option_or o None
 option_or-none None = refl

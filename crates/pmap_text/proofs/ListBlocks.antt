@@ -4,16 +4,12 @@ use Rattle.std.specs.List.Sorted.{IsNonDecreasingBy}
 use Rattle.std.proofs.lemmas.Bool.{and_from, and_parts, both_ways, cases_lt, eq-eqb, eqb-true, false_from_ne_true}
 use Rattle.std.proofs.lemmas.Map.Keys.{IsDistinct-from_apart, apart_from_distinct}
 use Rattle.std.proofs.lemmas.Nat.{pow_pos}
-use Rattle.prefix_keys.specs.Block.{block_number}
-use Rattle.prefix_keys.specs.Version.{width_of}
+use Rattle.prefix_keys.specs.Block.{block_number, width_of}
 use Rattle.prefix_keys.specs.declared.version.Version.{Version}
 use Rattle.prefix_keys.proofs.Quotients.{whole}
 use Rattle.pmap_text.specs.ListEntries.{rank_of, same_block}
-use Rattle.pmap_text.specs.ListStatements.{LongerLater}
-use Rattle.pmap_text.specs.LongestMatch.{HasDistinctPrefixes, is_same_prefix}
-use Rattle.pmap_text.specs.PrefixList.{list_of, prefix_of}
-use Rattle.pmap_text.specs.declared.entry.Entry.{Entry}
-use Rattle.pmap_text.specs.declared.prefix_list.PrefixList.{PrefixList}
+use Rattle.pmap_text.specs.PrefixList.{LongerLater, list_of, prefix_of, Entry, PrefixList}
+use Rattle.pmap_text.specs.ListModel.{HasDistinctPrefixes, is_same_prefix}
 use Rattle.pmap_text.proofs.Blocks.{address-first, block_number-shorter}
 use Rattle.pmap_text.proofs.Filed.{distinct_to_map}
 

@@ -7,8 +7,7 @@ use Rattle.std.proofs.lemmas.List.{append_assoc}
 use Rattle.std.proofs.lemmas.List.Elements.{All-append, All-cons, All-contains, All-contains_itself, Contains-append_right}
 use Rattle.std.proofs.lemmas.List.Sorted.{Contains-permutation, IsPermutation-sym}
 use Rattle.prefix_keys.specs.Block.{block_number}
-use Rattle.pmap_text.specs.ListModel.{Prefix, covers, label_at, label_below}
-use Rattle.pmap_text.specs.LongestMatch.{CoversAddress, HasDistinctPrefixes, HasSamePrefixes, IsLongestMatch, LabelsBlocksOnce, is_same_prefix}
+use Rattle.pmap_text.specs.ListModel.{Prefix, covers, label_at, label_below, CoversAddress, HasDistinctPrefixes, HasSamePrefixes, IsLongestMatch, LabelsBlocksOnce, is_same_prefix}
 use Rattle.pmap_text.specs.MapModel.{Label}
 use Rattle.pmap_text.proofs.Finds.{All-left, All-right, Contains-first, distinct_same, find-fails, find-first, find-place, find_alike, find_none}
 

@@ -3,20 +3,15 @@ use Rattle.std.proofs.Common.{◌≡◌, ℕ, suc, ◌-◌, ◌<◌, ◌≤◌, 
 use Rattle.std.specs.List.{AllZip}
 use Rattle.std.proofs.lemmas.List.Elements.{All-contains, All-cons, All-head, All-map, All-nil, All-tail, All-weaker}
 use Rattle.std.proofs.lemmas.List.Sorted.{All-permutation, IsPermutation-map, IsPermutation-sym, length_permutation}
-use Rattle.prefix_keys.specs.Block.{block_number}
-use Rattle.prefix_keys.specs.Version.{width_of}
+use Rattle.prefix_keys.specs.Block.{block_number, width_of}
 use Rattle.prefix_keys.specs.declared.version.Version.{Version}
 use Rattle.prefix_keys.proofs.Quotients.{whole}
 use Rattle.pmap_text.specs.ListEntries.{same_block}
 use Rattle.pmap_text.specs.ListModel.{Prefix, list_label}
 use Rattle.pmap_text.specs.MapModel.{Label, Mapping, last_such, spans}
-use Rattle.pmap_text.specs.MapText.{mapping_of, text_at}
-use Rattle.pmap_text.specs.ListStatements.{AreShortestFirst, HasStatement}
-use Rattle.pmap_text.specs.PrefixList.{list_of, prefix_of}
+use Rattle.pmap_text.specs.MapText.{mapping_of, text_at, Statement}
+use Rattle.pmap_text.specs.PrefixList.{AreShortestFirst, HasStatement, list_of, prefix_of, Entry, PrefixList}
 use Rattle.pmap_text.specs.Stretches.{mappings_of, text_or, text_won}
-use Rattle.pmap_text.specs.declared.entry.Entry.{Entry}
-use Rattle.pmap_text.specs.declared.prefix_list.PrefixList.{PrefixList}
-use Rattle.pmap_text.specs.declared.statement.Statement.{Statement}
 use Rattle.pmap_text.proofs.Finds.{Contains-from_map, distinct_same}
 use Rattle.pmap_text.proofs.ListBlocks.{block_short, same_block-from}
 use Rattle.pmap_text.proofs.Longest.{AreBlocks, label_seen}

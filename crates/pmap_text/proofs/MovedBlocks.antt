@@ -2,9 +2,8 @@
 use Rattle.std.proofs.Common.{◌≡◌, ℕ, ◌+◌, ◌-◌, ◌*◌, ◌/◌, ◌%◌, ◌^◌, ◌<◌, ◌≤◌, Ok, ap, ◌∙◌, arith}
 use Rattle.std.proofs.lemmas.Nat.{mod-mul-add, pow_pos}
 use Rattle.prefix_keys.proofs.Quotients.{whole, width_split}
-use Rattle.prefix_keys.specs.Block.{block_number, first_of}
+use Rattle.prefix_keys.specs.Block.{block_number, first_of, width_of}
 use Rattle.prefix_keys.specs.Conversion.{mapped_prefix}
-use Rattle.prefix_keys.specs.Version.{width_of}
 use Rattle.prefix_keys.specs.declared.version.Version.{Version}
 use Rattle.prefix_keys.specs.declared.version.Version.TheVariants.{V4, V6}
 use Rattle.pmap_text.specs.Reading.{number_in}

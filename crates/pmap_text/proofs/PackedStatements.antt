@@ -4,12 +4,10 @@ use Rattle.std.proofs.Props.{props}
 use Rattle.std.proofs.lemmas.List.{append-nil, append_assoc, get_or-map, get_or-append_right, length-append, length-map, map-append, nil_from_length}
 use Rattle.std.proofs.lemmas.Option.{slice_get-get_or}
 use mathlib.Core.HLevel.{is_prop→PathP}
-use Rattle.prefix_keys.specs.Version.{width_of}
+use Rattle.prefix_keys.specs.Block.{width_of}
 use Rattle.prefix_keys.specs.declared.addr.Addr.{Addr}
 use Rattle.prefix_keys.specs.declared.span.Span.{Span}
-use Rattle.pmap_text.specs.Packed.{narrow_statement, wide_statement}
-use Rattle.pmap_text.specs.declared.packed.Narrow.{Narrow}
-use Rattle.pmap_text.specs.declared.packed.Wide.{Wide}
+use Rattle.pmap_text.specs.Packed.{narrow_statement, wide_statement, Narrow, Wide}
 use Rattle.pmap_text.specs.declared.statement.Statement.{Statement}
 
 -- addresses, spans and statements are equal if their parts are

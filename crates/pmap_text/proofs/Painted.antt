@@ -6,16 +6,13 @@ use Rattle.std.proofs.lemmas.Bool.{both_ways}
 use Rattle.std.proofs.lemmas.Option.{cond_some, same_Some}
 use Rattle.std.proofs.lemmas.List.Elements.{All-nil, All-cons, All-head, All-map, All-tail, All-weaker, All-contains}
 use Rattle.std.proofs.lemmas.List.Sorted.{All-permutation, Contains-permutation}
-use Rattle.prefix_keys.specs.Block.{block_number, first_of, last_of}
-use Rattle.prefix_keys.specs.Version.{width_of}
+use Rattle.prefix_keys.specs.Block.{block_number, first_of, last_of, width_of}
 use Rattle.prefix_keys.specs.declared.version.Version.{Version}
 use Rattle.pmap_text.specs.ListModel.{Prefix}
 use Rattle.pmap_text.specs.MapModel.{Label, Mapping, MapModel, last_such, meets, settled_by, spans, spans_all}
 use Rattle.prefix_keys.specs.Covers.{IsInBlock}
-use Rattle.pmap_text.specs.ListStatements.{LongerLater}
+use Rattle.pmap_text.specs.PrefixList.{LongerLater, prefix_of, Entry}
 use Rattle.pmap_text.specs.MapText.{text_at}
-use Rattle.pmap_text.specs.PrefixList.{prefix_of}
-use Rattle.pmap_text.specs.declared.entry.Entry.{Entry}
 use Rattle.pmap_text.proofs.Blocks.{address-between}
 use Rattle.pmap_text.proofs.Orders.{both_le, spans_within}
 use Rattle.pmap_text.proofs.SeenBlocks.{met_address}

@@ -6,7 +6,7 @@ use Rattle.memchr.specs.Find.{IsFirstByte}
 use Rattle.std.proofs.Math.Numerals.{one-add, add-one}
 use Rattle.std.specs.List.{before_first, position_or_len}
 use Rattle.std.specs.Prelude.{position, nat_lt}
-use Rattle.pmap_text.specs.Lines.{lines_of}
+use Rattle.pmap_text.specs.Reading.{lines_of}
 
 pub position_or_len-le : {X : Type 0} (p : X → Bool) (xs : List X) → position_or_len p xs ≤ length xs
 position_or_len-le p xs = prefix_len-le-length (λ x. not (p x)) xs

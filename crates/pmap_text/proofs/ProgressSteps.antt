@@ -8,13 +8,11 @@ use Rattle.prefix_keys.specs.declared.version.Version.TheVariants.{V4}
 use Rattle.pmap_text.specs.Label.{has_label, with_label}
 use Rattle.pmap_text.specs.ListEntries.{has_entry}
 use Rattle.pmap_text.specs.MapModel.{Label, MapModel}
-use Rattle.pmap_text.specs.MapText.{mapping_of, text_at}
-use Rattle.pmap_text.specs.PrefixList.{prefix_of}
+use Rattle.pmap_text.specs.MapText.{mapping_of, text_at, Statement}
+use Rattle.pmap_text.specs.PrefixList.{prefix_of, Entry}
 use Rattle.pmap_text.specs.Progress.{IsProgress, progress_of}
 use Rattle.pmap_text.specs.Reading.{label_limit, has_prefix, map_from, unknown}
-use Rattle.pmap_text.specs.declared.entry.Entry.{Entry}
 use Rattle.pmap_text.specs.declared.label.LabelId.{LabelId}
-use Rattle.pmap_text.specs.declared.statement.Statement.{Statement}
 use Rattle.pmap_text.proofs.LabelTexts.{list_any-map, slice_get-with_label}
 
 -- if the version of an address was decided, it is the version of the lines so far

@@ -3,10 +3,9 @@ use Rattle.std.proofs.Common.{◌≡◌, ◌∙◌, ℕ, ◌+◌, ◌-◌, ◌^�
 use Rattle.std.proofs.lemmas.Bool.{cases_lt, le-ltb, leb-false, lt-ltb}
 use Rattle.std.proofs.lemmas.List.{get_or_append_left, get_or_push, length_push}
 use Rattle.std.proofs.lemmas.List.Sums.{prefix_len-le-length, prefix_len_passes, prefix_len_stops}
-use Rattle.prefix_keys.specs.Version.{width_of}
+use Rattle.prefix_keys.specs.Block.{width_of}
 use Rattle.pmap_text.specs.MapModel.{Label}
-use Rattle.pmap_text.specs.Stretches.{HasEveryAddress, HoldsAddress, StretchesModel, count_begun, first_at, label_at, last_at, text_held}
-use Rattle.pmap_text.specs.declared.label.LabelId.{LabelId}
+use Rattle.pmap_text.specs.Stretches.{HasEveryAddress, HoldsAddress, StretchesModel, count_begun, first_at, label_at, last_at, text_held, LabelId}
 
 -- a stretch ends before the next one, and the last at the end
 pub last_before : (s : StretchesModel) (i : ℕ) → i + 1 < length s.firsts → last_at s i ≡ first_at s (i + 1) - 1

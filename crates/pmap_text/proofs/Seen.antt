@@ -3,8 +3,7 @@ use Rattle.std.proofs.Common.{◌≡◌, ℕ, zero, suc, ◌<◌, ◌≤◌, Boo
 use Rattle.std.specs.Option.{option_or}
 use Rattle.std.proofs.lemmas.Option.{same_Some}
 use Rattle.pmap_text.specs.MapModel.{Mapping, last_such, spans}
-use Rattle.pmap_text.specs.MapText.{mapping_of}
-use Rattle.pmap_text.specs.declared.statement.Statement.{Statement}
+use Rattle.pmap_text.specs.MapText.{mapping_of, Statement}
 use Rattle.pmap_text.specs.Stretches.{mappings_of}
 use Rattle.pmap_text.proofs.Finds.{Contains-first, Contains-later}
 use Rattle.pmap_text.proofs.Orders.{both_le, le_both}

@@ -3,11 +3,9 @@ use Rattle.std.proofs.Common.{◌≡◌, ℕ, ◌+◌, ◌-◌, ◌^◌, ◌<◌
 use Rattle.std.proofs.lemmas.Bool.{cases_lt, leb-false, leb-true}
 use Rattle.std.proofs.lemmas.List.Elements.{All-contains}
 use Rattle.std.proofs.lemmas.Option.{same_Some}
-use Rattle.prefix_keys.specs.Block.{first_of, last_of}
-use Rattle.prefix_keys.specs.Version.{width_of}
+use Rattle.prefix_keys.specs.Block.{first_of, last_of, width_of}
 use Rattle.pmap_text.specs.MapModel.{Label, Mapping, MapModel, label_or, last_such, meets, settled_by, settled_label, spans, spans_all}
-use Rattle.pmap_text.specs.MapText.{mapping_of}
-use Rattle.pmap_text.specs.declared.statement.Statement.{Statement}
+use Rattle.pmap_text.specs.MapText.{mapping_of, Statement}
 use Rattle.pmap_text.specs.Stretches.{HaveAddresses, IsStretch, mappings_of}
 use Rattle.pmap_text.proofs.Blocks.{first_of-full, last_of-full}
 use Rattle.pmap_text.proofs.Finds.{Contains-from_map}

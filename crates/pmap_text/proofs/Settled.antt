@@ -3,8 +3,7 @@ use Rattle.std.proofs.Common.{◌≡◌, ℕ, ◌<◌, ◌≤◌, Bool, true, fa
 use Rattle.std.proofs.lemmas.Bool.{both_ways}
 use Rattle.std.proofs.lemmas.Bool.Decides.{nat_tests}
 use Rattle.std.proofs.lemmas.Option.{cond_some, same_Some}
-use Rattle.prefix_keys.specs.Block.{block_number, first_of, last_of}
-use Rattle.prefix_keys.specs.Version.{width_of}
+use Rattle.prefix_keys.specs.Block.{block_number, first_of, last_of, width_of}
 use Rattle.pmap_text.specs.MapModel.{IsSettled, Label, MapModel, Mapping, label_or, last_such, map_label, meets, settled_by, settled_label, spans, spans_all}
 use Rattle.pmap_text.proofs.Blocks.{address-first, address-last, first_of-full, last_of-full}
 use Rattle.pmap_text.proofs.LastSuch.{last_such-none, last_such-passes, last_such-some}

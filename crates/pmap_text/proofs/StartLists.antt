@@ -6,8 +6,7 @@ use Rattle.std.proofs.lemmas.List.Elements.{All-push, Contains-append_left, Cont
 use Rattle.std.proofs.lemmas.List.Sorted.{All-permutation, Contains-permutation}
 use Rattle.std.proofs.lemmas.Option.{get_or_from_slice_get, same_Some, slice_get_within}
 use Rattle.pmap_text.specs.declared.statement.Statement.{Statement}
-use Rattle.pmap_text.specs.Starting.{start_of, starts_from, IsStart, AreStarts}
-use Rattle.pmap_text.specs.declared.start.Start.{Start}
+use Rattle.pmap_text.specs.Starting.{start_of, starts_from, IsStart, AreStarts, Start}
 
 -- the starts of the first statements are there
 pub record HasFirst (ss : List Statement) (count : ℕ) (starts : List Start) : Type 0 where

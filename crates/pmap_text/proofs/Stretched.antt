@@ -3,11 +3,10 @@ use Rattle.std.proofs.Common.{◌≡◌, ◌≢◌, ◌∙◌, ℕ, ◌+◌, ◌
 use Rattle.std.specs.Option.{ForSome}
 use Rattle.std.proofs.lemmas.Bool.{cases_lt}
 use Rattle.std.proofs.lemmas.List.{get_or_default}
-use Rattle.prefix_keys.specs.Version.{width_of}
+use Rattle.prefix_keys.specs.Block.{width_of}
 use Rattle.pmap_text.specs.MapModel.{Label}
-use Rattle.pmap_text.specs.Stretches.{AreLabelsBelow, AreStretches, HasEveryAddress, HasStretch, StretchesModel, count_begun, first_at, label_at, label_seen, last_at, text_held, text_won}
-use Rattle.pmap_text.specs.Sweep.{IsWinner, statement_won}
-use Rattle.pmap_text.specs.declared.label.LabelId.{LabelId}
+use Rattle.pmap_text.specs.Stretches.{AreLabelsBelow, AreStretches, HasEveryAddress, HasStretch, StretchesModel, count_begun, first_at, label_at, label_seen, last_at, text_held, text_won, LabelId}
+use Rattle.pmap_text.specs.Inner.{IsWinner, statement_won}
 use Rattle.pmap_text.specs.declared.statement.Statement.{Statement}
 use Rattle.pmap_text.proofs.Ranges.{Adds, first_early, first_late, holder, label_early, label_late, last_early, last_end, last_late, length_added}
 use Rattle.pmap_text.proofs.Winners.{WinsOther, known_label, stretch_of, stretch_text}

@@ -6,9 +6,8 @@ use Rattle.std.proofs.lemmas.List.Elements.{All-contains, All-head, All-tail, Al
 use Rattle.std.proofs.lemmas.List.Sorted.{Contains-permutation, IsNonDecreasingBy-drop, IsPermutation-sym}
 use Rattle.std.proofs.lemmas.Option.{same_Some, slice_get_within}
 use Rattle.pmap_text.specs.declared.statement.Statement.{Statement}
-use Rattle.pmap_text.specs.Starting.{start_of, IsStart, AreStarts}
-use Rattle.pmap_text.specs.Sweep.{AreBehind, Closes, HasBegun, IsSwept, IsTop, IsWinner, Opens, high_won}
-use Rattle.pmap_text.specs.declared.start.Start.{Start}
+use Rattle.pmap_text.specs.Starting.{start_of, IsStart, AreStarts, Start}
+use Rattle.pmap_text.specs.Inner.{AreBehind, Closes, HasBegun, IsSwept, IsTop, IsWinner, Opens, high_won}
 use Rattle.pmap_text.proofs.Finds.{Contains-cases, Contains-first, Contains-later}
 
 -- if the first of a rising list is after an address, all are

@@ -5,14 +5,12 @@ use Rattle.std.specs.Prelude.{nat_eq}
 use Rattle.std.proofs.lemmas.Bool.{eq-eqb, eqb-true}
 use Rattle.std.proofs.lemmas.List.Elements.{All-contains}
 use Rattle.std.proofs.lemmas.Option.{get_or_from_slice_get, same_Some, slice_get_within}
-use Rattle.prefix_keys.specs.Version.{width_of}
+use Rattle.prefix_keys.specs.Block.{width_of}
 use Rattle.prefix_keys.specs.declared.version.Version.{Version}
 use Rattle.pmap_text.specs.MapModel.{Label, MapModel, Mapping}
-use Rattle.pmap_text.specs.MapText.{mapping_of, text_at}
-use Rattle.pmap_text.specs.Stretches.{HasStretch, label_seen, mappings_of, text_or, text_won}
-use Rattle.pmap_text.specs.Sweep.{IsWinner, statement_won}
-use Rattle.pmap_text.specs.declared.label.LabelId.{LabelId}
-use Rattle.pmap_text.specs.declared.statement.Statement.{Statement}
+use Rattle.pmap_text.specs.MapText.{mapping_of, text_at, Statement}
+use Rattle.pmap_text.specs.Stretches.{HasStretch, label_seen, mappings_of, text_or, text_won, LabelId}
+use Rattle.pmap_text.specs.Inner.{IsWinner, statement_won}
 use Rattle.pmap_text.proofs.Orders.{known_text}
 use Rattle.pmap_text.proofs.Seen.{none_at, seen_at, seen_last}
 

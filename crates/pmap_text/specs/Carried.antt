@@ -3,10 +3,8 @@ use Rattle.std.specs.List.{list_any}
 use Rattle.prefix_keys.specs.Block.{block_number, first_of}
 use Rattle.pmap_text.specs.ListModel.{Prefix, lies_inside}
 use Rattle.pmap_text.specs.MapModel.{meets, spans_all}
-use Rattle.pmap_text.specs.MapText.{mapping_of}
-use Rattle.pmap_text.specs.PrefixList.{prefix_of}
-use Rattle.pmap_text.specs.declared.entry.Entry.{Entry}
-use Rattle.pmap_text.specs.declared.statement.Statement.{Statement}
+use Rattle.pmap_text.specs.MapText.{mapping_of, Statement}
+use Rattle.pmap_text.specs.PrefixList.{prefix_of, Entry}
 
 -- The statements of a map and the entries of a list that are passed down to a block. No other statement or entry
 -- affects the block.

@@ -1,7 +1,7 @@
 use Rattle.std.specs.Prelude.{ℕ, List, [], map, slice_get, unwrap_or}
 use Rattle.pmap_text.specs.MapModel.{Label, Mapping, MapModel}
-use Rattle.pmap_text.specs.declared.map_text.MapText.{MapText}
-use Rattle.pmap_text.specs.declared.statement.Statement.{Statement}
+pub use Rattle.pmap_text.specs.declared.map_text.MapText.{MapText}
+pub use Rattle.pmap_text.specs.declared.statement.Statement.{Statement}
 
 -- the label text with a number
 abbrev pub text_at : List Label → ℕ → Label

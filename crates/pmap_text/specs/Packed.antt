@@ -1,6 +1,6 @@
 use Rattle.prefix_keys.specs.declared.version.Version.TheVariants.{V4}
-use Rattle.pmap_text.specs.declared.packed.Narrow.{Narrow}
-use Rattle.pmap_text.specs.declared.packed.Wide.{Wide}
+pub use Rattle.pmap_text.specs.declared.packed.Narrow.{Narrow}
+pub use Rattle.pmap_text.specs.declared.packed.Wide.{Wide}
 use Rattle.pmap_text.specs.declared.statement.Statement.{Statement}
 use Rattle.std.proofs.Common.{refl}
 

@@ -1,29 +1,54 @@
-use Rattle.std.specs.Prelude.{◌≡◌, ◌≢◌, ◌≤◌, ℕ, ◌+◌, ◌-◌, ◌&&◌, ◌||◌, ◌==◌, Bool, true, false, List, [], ◌∷◌, ◌++◌, Option, Some, None, Result, Ok, Err, IfErr, IfOk, codes, fold, length, nat_le, nat_lt, slice_index, unwrap_or, if◌then◌else◌}
-use Rattle.std.specs.List.{flat_map, list_all, list_any}
+use Rattle.std.specs.Prelude.{ℕ, ◌==◌, ◌-◌, List, [], ◌∷◌, length, take, drop, not, if◌then◌else◌, ◌≡◌, ◌≢◌, ◌≤◌, ◌+◌, ◌&&◌, ◌||◌, Bool, true, false, ◌++◌, Option, Some, None, Result, Ok, Err, IfErr, IfOk, codes, fold, nat_le, nat_lt, slice_index, unwrap_or}
+use Rattle.std.specs.List.{before_first, position_or_len, suffix_len, flat_map, list_all, list_any}
 use Rattle.std.specs.Option.{option_or}
 use Rattle.std.specs.Str.{bytes_eq}
-use Rattle.prefix_keys.specs.Block.{block_number, last_of}
+use Rattle.prefix_keys.specs.Block.{block_number, last_of, width_of}
 use Rattle.prefix_keys.specs.Conversion.{mapped_prefix}
 use Rattle.prefix_keys.specs.Text.{AddressOf, BlockOf, address_of, block_of_text, is_digit}
-use Rattle.prefix_keys.specs.Version.{width_of}
 use Rattle.prefix_keys.specs.declared.text.BlockFault.{BlockFault}
-use Rattle.prefix_keys.specs.declared.text.BlockFault.TheVariants as block_faults
 use Rattle.prefix_keys.specs.declared.version.Version.{Version}
 use Rattle.prefix_keys.specs.declared.version.Version.TheVariants.{V4, V6}
-use Rattle.pmap_text.specs.Declarations.{conflicts, label_number, meant_text, with_declared}
-use Rattle.pmap_text.specs.Label.{has_label, is_label, with_label}
-use Rattle.pmap_text.specs.Lines.{behind_word, content_of, first_word, lines_of}
+use Rattle.pmap_text.specs.Label.{is_blank, conflicts, label_number, meant_text, with_declared, has_label, is_label, with_label}
 use Rattle.pmap_text.specs.ListModel.{ListModel, Prefix}
 use Rattle.pmap_text.specs.MapModel.{Label, Mapping, MapModel}
-use Rattle.pmap_text.specs.MapText.{map_of}
-use Rattle.pmap_text.specs.PrefixList.{list_of}
-use Rattle.pmap_text.specs.declared.fault.MapFault.{MapFault}
-use Rattle.pmap_text.specs.declared.fault.MapFaultKind.{MapFaultKind}
-use Rattle.pmap_text.specs.declared.fault.MapFaultKind.TheVariants.{BadAddress, BadLabel, BadLength, BadMode, BadStatement, DuplicateBlock, LabelConflict, LowAboveHigh, MissingLabel, ModeLate, ModeRepeated, NoMemory, NotAList, TooMany, WrongVersion}
-use Rattle.pmap_text.specs.declared.form.Form.{Form}
+use Rattle.pmap_text.specs.MapText.{map_of, MapText}
+use Rattle.pmap_text.specs.PrefixList.{list_of, PrefixList}
+pub use Rattle.pmap_text.specs.declared.fault.MapFault.{MapFault}
+pub use Rattle.pmap_text.specs.declared.fault.MapFaultKind.{MapFaultKind}
+pub use Rattle.pmap_text.specs.declared.fault.MapFaultKind.TheVariants.{BadAddress, BadLabel, BadLength, BadMode, BadStatement, DuplicateBlock, LabelConflict, LowAboveHigh, MissingLabel, ModeLate, ModeRepeated, NoMemory, NotAList, TooMany, WrongVersion}
+pub use Rattle.pmap_text.specs.declared.form.Form.{Form}
+use Rattle.prefix_keys.specs.declared.text.BlockFault.TheVariants as block_faults
 use Rattle.pmap_text.specs.declared.form.Form.TheVariants as form
-use Rattle.pmap_text.specs.declared.map_text.MapText.{MapText}
-use Rattle.pmap_text.specs.declared.prefix_list.PrefixList.{PrefixList}
+
+-- The lines of a text and the words of a line.
+
+-- the byte put before the first line; if there is no line, it forms one
+abbrev pub begin_line : ℕ → List (List ℕ) → List (List ℕ)
+begin_line b [] = (b ∷ []) ∷ []
+begin_line b (line ∷ lines) = (b ∷ line) ∷ lines
+
+-- the lines of a text: it is split at each line feed, and a last piece without a line feed is a line if it isn't empty
+abbrev pub lines_of : List ℕ → List (List ℕ)
+lines_of [] = []
+lines_of (b ∷ bs) = if b == 10 then [] ∷ lines_of bs else begin_line b (lines_of bs)
+
+-- a text without its leading blanks, and without its trailing blanks
+abbrev pub trim_start : List ℕ → List ℕ
+trim_start text = drop (position_or_len (λ b. not (is_blank b)) text) text
+
+abbrev pub trim_end : List ℕ → List ℕ
+trim_end text = take (length text - suffix_len is_blank text) text
+
+-- the content of a line: the text before the first `#`, without outer blanks
+abbrev pub content_of : List ℕ → List ℕ
+content_of line = trim_end (trim_start (before_first (λ b. b == 35) line))
+
+-- the first word of a line's content, and the text after it
+abbrev pub first_word : List ℕ → List ℕ
+first_word content = before_first is_blank content
+
+abbrev pub behind_word : List ℕ → List ℕ
+behind_word content = trim_start (drop (position_or_len is_blank content) content)
 
 -- How a text is read as a map or as a prefix list, and the first fault of a text that can't be read.
 

@@ -1,7 +1,7 @@
 use Rattle.std.specs.Prelude.{◌≡◌, ℕ, ◌+◌, List, [], ◌∷◌, Option, Some, None, All, Contains, slice_get}
 use Rattle.std.specs.List.Sorted.{IsNonDecreasingBy}
 use Rattle.pmap_text.specs.declared.statement.Statement.{Statement}
-use Rattle.pmap_text.specs.declared.start.Start.{Start}
+pub use Rattle.pmap_text.specs.declared.start.Start.{Start}
 
 -- The starts of statements.
 

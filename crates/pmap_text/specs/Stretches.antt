@@ -1,12 +1,14 @@
-use Rattle.std.specs.Prelude.{◌≡◌, ◌≢◌, ℕ, ◌+◌, ◌-◌, ◌<◌, ◌≤◌, ◌^◌, List, Option, Some, None, All, Contains, length, map, nat_le, nat_lt, option_and_then, option_map, slice_get, slice_index, slice_index_or, if◌then◌else◌}
+use Rattle.std.specs.Prelude.{◌≡◌, ◌≢◌, ℕ, ◌+◌, ◌-◌, ◌<◌, ◌≤◌, ◌^◌, List, Option, Some, None, All, Contains, length, map, nat_le, nat_lt, option_and_then, option_map, slice_get, slice_index, slice_index_or, if◌then◌else◌, ◌==◌}
 use Rattle.std.specs.List.{prefix_len}
 use Rattle.std.specs.Option.{ForSome}
-use Rattle.prefix_keys.specs.Version.{width_of}
+use Rattle.prefix_keys.specs.Block.{width_of}
 use Rattle.prefix_keys.specs.declared.version.Version.{Version}
+use Rattle.prefix_keys.specs.declared.version.Version.TheVariants.{V4, V6}
 use Rattle.pmap_text.specs.MapModel.{Label, Mapping, MapModel, last_such, spans}
-use Rattle.pmap_text.specs.MapText.{mapping_of, text_at}
-use Rattle.pmap_text.specs.declared.label.LabelId.{LabelId}
-use Rattle.pmap_text.specs.declared.statement.Statement.{Statement}
+use Rattle.pmap_text.specs.MapText.{mapping_of, text_at, Statement}
+pub use Rattle.pmap_text.specs.declared.label.LabelId.{LabelId}
+use Rattle.pmap_text.specs.declared.stretches.Begins.{Begins}
+pub use Rattle.pmap_text.specs.declared.stretches.Begins.TheVariants.{Narrow, Wide}
 
 -- Stretches: the maximal ranges of consecutive addresses at which the same statement wins, or none does.
 
@@ -109,3 +111,22 @@ count_begun firsts a = prefix_len (λ first. nat_le first a) firsts
 -- it
 abbrev pub text_held : List Label → StretchesModel → ℕ → Option Label
 text_held table s a = option_and_then (λ id. slice_get table id.0) (label_at s (count_begun s.firsts a - 1))
+
+-- How stretches are stored. This is private, and callers of the crate need not read it.
+
+-- the label for which a number is stored; the greatest number is stored for a missing label
+abbrev pub label_kept : LabelId → Option LabelId
+label_kept id = if id.0 == 4294967295 then None else Some id
+
+-- the stretches that are stored
+abbrev pub stretches_of : Begins → StretchesModel
+stretches_of (Narrow begins) = record {
+  version = V4;
+  firsts = map (λ b. b.first) begins.items;
+  labels = map (λ b. label_kept b.label) begins.items;
+}
+stretches_of (Wide firsts labels) = record {
+  version = V6;
+  firsts = firsts.items;
+  labels = map label_kept labels.items;
+}

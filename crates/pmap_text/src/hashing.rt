@@ -1,6 +1,6 @@
 //! Hashing of keys with secret numbers, so that an attacker who chooses the keys cannot make them collide.
 ghost use Rattle.std.specs.Prelude.{◌≡◌};
-ghost use Rattle.pmap_text.specs.Hashing.{folded};
+ghost use Rattle.pmap_text.specs.Inner.{folded};
 
 use std::hash::{BuildHasher, Hasher};
 use std::random::RandomSource;
@@ -67,7 +67,7 @@ fn folded(a: u64, b: u64) -> u64
 }
 
 impl Hasher for KeyHasher {
-    ghost use Rattle.pmap_text.specs.Hashing.{finished, written};
+    ghost use Rattle.pmap_text.specs.Inner.{finished, written};
 
     ghost write = { written };
 

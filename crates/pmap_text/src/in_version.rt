@@ -1,6 +1,6 @@
 //! Addresses and blocks of a line, in the version of the text.
 ghost use Rattle.std.specs.Prelude.{◌≡◌, ◌+◌, ◌-◌, Ok, Err, IfOk, IfErr};
-ghost use Rattle.prefix_keys.specs.Version.{width_of};
+ghost use Rattle.prefix_keys.specs.Block.{width_of};
 ghost use Rattle.pmap_text.specs.Reading.{number_in};
 
 use crate::fault::MapFaultKind;

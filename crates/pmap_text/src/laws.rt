@@ -2,14 +2,11 @@
 
 ghost use Rattle.std.specs.Prelude.{◌≡◌, ◌<◌, ◌≤◌, ◌^◌, ℕ, Option, Some, None, MatchOption, All, nat_le, if◌then◌else◌};
 ghost use Rattle.std.specs.List.Sorted.{IsPermutation};
-ghost use Rattle.prefix_keys.specs.Block.{block_number, first_of, last_of};
-ghost use Rattle.prefix_keys.specs.Version.{width_of};
-ghost use Rattle.pmap_text.specs.ListModel.{ListModel, Prefix, list_label};
-ghost use Rattle.pmap_text.specs.LongestMatch.{CoversAddress, HasDistinctPrefixes, HasSamePrefixes, IsLongestMatch, LabelsBlocksOnce};
+ghost use Rattle.prefix_keys.specs.Block.{block_number, first_of, last_of, width_of};
+ghost use Rattle.pmap_text.specs.ListModel.{ListModel, Prefix, list_label, CoversAddress, HasDistinctPrefixes, HasSamePrefixes, IsLongestMatch, LabelsBlocksOnce};
 ghost use Rattle.pmap_text.specs.MapModel.{IsSettled, Label, MapModel, Mapping, label_or, map_label, settled_label};
-ghost use Rattle.pmap_text.specs.PrefixList.{list_of};
+ghost use Rattle.pmap_text.specs.PrefixList.{list_of, PrefixList};
 ghost use Rattle.pmap_text.specs.Stretches.{HaveAddresses, IsStretch};
-ghost use Rattle.pmap_text.specs.declared.prefix_list.PrefixList.{PrefixList};
 
 /// A settled block has its label at each of its addresses.
 pub fn settled_block_has_its_label()

@@ -1,8 +1,8 @@
 //! Addresses and blocks at the start of a text, read in one pass over its bytes. If a function here returns `None`,
 //! only the functions that read whole words can decide what the text is.
 ghost use Rattle.std.specs.Prelude.{◌≡◌, ◌≤◌, ◌∷◌, IfSome};
-ghost use Rattle.pmap_text.specs.Leading.{BeginsWithAddress, BeginsWithBlank, BeginsWithDotted, BeginsWithNumber, IsWord};
-ghost use Rattle.pmap_text.specs.Lines.{behind_word, first_word, trim_start};
+ghost use Rattle.pmap_text.specs.Inner.{BeginsWithAddress, BeginsWithBlank, BeginsWithDotted, BeginsWithNumber, IsWord};
+ghost use Rattle.pmap_text.specs.Reading.{behind_word, first_word, trim_start};
 
 use crate::label::is_blank;
 use crate::lines::without_leading_blanks;

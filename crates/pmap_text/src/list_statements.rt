@@ -2,8 +2,7 @@
 ghost use Rattle.std.specs.Prelude.{◌≡◌, ◌<◌, ℕ, None, All, IfOk, length};
 ghost use Rattle.std.specs.List.{AllZip};
 ghost use Rattle.pmap_text.specs.ListModel.{list_label};
-ghost use Rattle.pmap_text.specs.ListStatements.{AreShortestFirst, HasStatement};
-ghost use Rattle.pmap_text.specs.PrefixList.{list_of};
+ghost use Rattle.pmap_text.specs.PrefixList.{AreShortestFirst, HasStatement, list_of};
 ghost use Rattle.pmap_text.specs.Stretches.{text_won};
 
 use crate::entry::Entry;

@@ -1,12 +1,10 @@
 ghost use Rattle.std.specs.Prelude.{◌≡◌, ◌<◌, ◌≤◌, ◌++◌, ◌∷◌, [], Some, true, false, ◌⊎◌, length, option_map, slice_get, IsTrue, IfOk, IfErr, IfSome, OnOk, OnErr};
 ghost use Rattle.std.specs.Option.{option_or};
-ghost use Rattle.pmap_text.specs.Declarations.{conflicts as conflicts_of, meant_text, with_declared};
-ghost use Rattle.pmap_text.specs.Filed.{HasDistinctKeys, IsFirstRepeat};
-ghost use Rattle.pmap_text.specs.Label.{has_label, is_label as is_label_text, number_of, with_label};
+ghost use Rattle.pmap_text.specs.Label.{conflicts as conflicts_of, meant_text, with_declared, has_label, is_label as is_label_text, number_of, with_label};
+ghost use Rattle.pmap_text.specs.Inner.{HasDistinctKeys, IsFirstRepeat};
 ghost use Rattle.pmap_text.specs.MapText.{map_of, text_at};
 ghost use Rattle.pmap_text.specs.PrefixList.{list_of};
-ghost use Rattle.pmap_text.specs.Reading.{Earlier, earlier_of, has_mapping as has_mapping_of, has_prefix as has_prefix_of, has_room, list_from, map_from, version_at as version_at_of};
-ghost use Rattle.pmap_text.specs.declared.fault.MapFaultKind.TheVariants.{NoMemory, TooMany};
+ghost use Rattle.pmap_text.specs.Reading.{Earlier, earlier_of, has_mapping as has_mapping_of, has_prefix as has_prefix_of, has_room, list_from, map_from, version_at as version_at_of, NoMemory, TooMany};
 ghost use Rattle.pmap_text.specs.declared.reading.TheConstants.{LABEL_LIMIT, MAPPING_LIMIT};
 
 use crate::declarations::Declarations;

@@ -1,7 +1,7 @@
 //! Repeated blocks of entries.
 ghost use Rattle.std.specs.Prelude.{◌≡◌, ℕ, IfOk, IsTrue, List, map, not, true, if◌then◌else◌};
 ghost use Rattle.std.specs.Ordering.{is_eq};
-ghost use Rattle.pmap_text.specs.Filed.{IsFirstRepeat, has_key, key_cmp};
+ghost use Rattle.pmap_text.specs.Inner.{IsFirstRepeat, has_key, key_cmp};
 ghost use Rattle.pmap_text.specs.ListEntries.{has_entry};
 ghost use Rattle.pmap_text.specs.MapModel.{Label};
 ghost use Rattle.pmap_text.specs.PrefixList.{prefix_of};

@@ -17,8 +17,7 @@ pub struct Starts<'a> {
 
 impl<'a> Model for Starts<'a> {
     ghost use Rattle.std.specs.Prelude.{List, option_map};
-    ghost use Rattle.pmap_text.specs.declared.start.Start.{Start};
-    ghost use Rattle.pmap_text.specs.Starting.{starts_by};
+    ghost use Rattle.pmap_text.specs.Starting.{Start, starts_by};
 
     ghost Value = { List Start };
 

@@ -1,11 +1,10 @@
 ghost use Rattle.std.specs.Prelude.{◌≡◌, ℕ, ◌+◌, ◌-◌, ◌^◌, ◌<◌, ◌≤◌, ◌++◌, ◌∷◌, [], Some, All, IfOk, OnOk, length};
 ghost use Rattle.std.specs.Option.{ForSome};
-ghost use Rattle.prefix_keys.specs.Version.{width_of};
-ghost use Rattle.pmap_text.specs.Begins.{label_kept};
+ghost use Rattle.prefix_keys.specs.Block.{width_of};
+ghost use Rattle.pmap_text.specs.Stretches.{label_kept, AreLabelsBelow, AreStretches, HasEveryAddress, HoldsAddress, first_at, label_at, label_seen, last_at, text_held, text_won};
 ghost use Rattle.pmap_text.specs.MapModel.{map_label};
 ghost use Rattle.pmap_text.specs.MapText.{map_of};
-ghost use Rattle.pmap_text.specs.Stretches.{AreLabelsBelow, AreStretches, HasEveryAddress, HoldsAddress, first_at, label_at, label_seen, last_at, text_held, text_won};
-ghost use Rattle.pmap_text.specs.Sweep.{statement_won};
+ghost use Rattle.pmap_text.specs.Inner.{statement_won};
 
 use crate::label::LabelId;
 use crate::labels::Labels;
@@ -43,12 +42,9 @@ pub struct Stretches {
 }
 
 impl Model for Stretches {
-    ghost use Rattle.pmap_text.specs.Stretches.{StretchesModel};
+    ghost use Rattle.pmap_text.specs.Stretches.{StretchesModel, stretches_of, HasEveryAddress};
 
     ghost Value = { StretchesModel };
-
-    ghost use Rattle.pmap_text.specs.Begins.{stretches_of};
-    ghost use Rattle.pmap_text.specs.Stretches.{HasEveryAddress};
 
     ghost view = { λ s. stretches_of s.begins };
 

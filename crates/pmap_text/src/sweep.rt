@@ -1,7 +1,7 @@
 ghost use Rattle.std.specs.Prelude.{◌≡◌, ◌+◌, ◌<◌, ◌≤◌, ◌^◌, All, IfOk, OnOk, drop, length};
 ghost use Rattle.std.specs.Option.{ForSome};
-ghost use Rattle.prefix_keys.specs.Version.{width_of};
-ghost use Rattle.pmap_text.specs.Sweep.{AreBehind, Closes, IsReady, IsSweeping, IsTop, Opens, high_won};
+ghost use Rattle.prefix_keys.specs.Block.{width_of};
+ghost use Rattle.pmap_text.specs.Inner.{AreBehind, Closes, IsReady, IsSweeping, IsTop, Opens, high_won};
 
 use crate::opened::Opened;
 use crate::starts::Starts;

@@ -1,10 +1,7 @@
 //! Reading map texts and list texts line by line.
 ghost use Rattle.std.specs.Prelude.{◌≡◌, ◌≢◌, [], List, Ok, Err, IfOk, IfErr};
-ghost use Rattle.pmap_text.specs.Filed.{HasDistinctKeys};
-ghost use Rattle.pmap_text.specs.Lines.{lines_of};
-ghost use Rattle.pmap_text.specs.Reading.{Entry, ReturnsList, ReturnsMap, earlier_of, entries_from};
-ghost use Rattle.pmap_text.specs.Steps.{HasRead};
-ghost use Rattle.pmap_text.specs.declared.fault.MapFaultKind.TheVariants.{NoMemory};
+ghost use Rattle.pmap_text.specs.Inner.{HasDistinctKeys, HasRead};
+ghost use Rattle.pmap_text.specs.Reading.{lines_of, Entry, ReturnsList, ReturnsMap, earlier_of, entries_from, NoMemory};
 
 use crate::fault::{MapFault, MapFaultKind};
 use crate::form::Form;

@@ -4,7 +4,7 @@ use Rattle.std.proofs.lemmas.List.{length-take, take_all}
 use Rattle.std.proofs.lemmas.List.Splits.{slice_split_first, length-slice_split}
 use Rattle.std.proofs.lemmas.Bool.Decides.{nat_tests}
 use Rattle.prefix_keys.specs.Text.{groups_of, text_groups, last_groups, hex_group, onto_groups}
-use Rattle.prefix_keys.specs.Steps.{more_groups}
+use Rattle.prefix_keys.specs.Inner.{more_groups}
 use Rattle.prefix_keys.proofs.Pieces.{split-whole}
 
 -- The groups of the pieces of a text between colons, one piece after another.

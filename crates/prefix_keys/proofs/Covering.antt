@@ -1,10 +1,7 @@
 use Rattle.std.proofs.Common.{ℕ, ◌≡◌, ◌+◌, ◌-◌, ◌*◌, ◌/◌, ◌^◌, ◌<◌, ◌≤◌, arith, inl, inr}
 use Rattle.std.proofs.lemmas.Nat.{pow_pos}
-use Rattle.prefix_keys.specs.Block.{block_number, first_of, last_of}
-use Rattle.prefix_keys.specs.Version.{width_of}
-use Rattle.prefix_keys.specs.Covers.{SpanMeetsBlock, SpanCoversBlock}
-use Rattle.prefix_keys.specs.declared.block.Block.{Block}
-use Rattle.prefix_keys.specs.declared.span.Span.{Span}
+use Rattle.prefix_keys.specs.Block.{block_number, first_of, last_of, width_of}
+use Rattle.prefix_keys.specs.Covers.{SpanMeetsBlock, SpanCoversBlock, Block, Span}
 use Rattle.std.proofs.lemmas.Bool.{cases_lt}
 use Rattle.prefix_keys.proofs.Quotients.{above_first, below_end, quotient_is}
 

@@ -7,7 +7,7 @@ use Rattle.std.proofs.lemmas.List.{length-append, length-replicate}
 use Rattle.std.proofs.lemmas.List.Sums.{fold-append}
 use Rattle.std.proofs.lemmas.Bool.Decides.{nat_tests}
 use Rattle.prefix_keys.specs.Text.{groups_number, whole_address, gap_address}
-use Rattle.prefix_keys.specs.Steps.{more_groups}
+use Rattle.prefix_keys.specs.Inner.{more_groups}
 
 -- Groups of 16 bits and the numbers that they form.
 

@@ -3,9 +3,7 @@ use Rattle.std.proofs.Math.Nat.{mod-lt, div-one, div-eq_of_lt, div-div-eq-div-mu
 use Rattle.prefix_keys.specs.Print.{parts_at, address_bytes, address_groups}
 use Rattle.prefix_keys.specs.Text.{groups_number}
 use Rattle.std.proofs.lemmas.Nat.{pow-add}
-use Rattle.prefix_keys.specs.Version.{width_of}
-use Rattle.prefix_keys.specs.declared.version.Version.{Version}
-use Rattle.prefix_keys.specs.declared.version.Version.TheVariants.{V4, V6}
+use Rattle.prefix_keys.specs.Block.{width_of, Version, V4, V6}
 
 -- The groups of an address.
 

@@ -5,8 +5,7 @@ use Rattle.std.proofs.lemmas.Bool.{and_from, and_right, cond-true, cond-false, c
 use Rattle.std.proofs.lemmas.List.{append_assoc, append-nil, length-append}
 use Rattle.std.proofs.lemmas.List.Folds.{list_all-append}
 use Rattle.std.proofs.lemmas.List.Splits.{slice_split_at, slice_split_none, length-slice_split}
-use Rattle.prefix_keys.specs.Leading.{BeginsWithColon, BeginsWithGroup, BeginsWithSide, behind, is_colon_byte}
-use Rattle.prefix_keys.specs.Steps.{more_groups}
+use Rattle.prefix_keys.specs.Inner.{BeginsWithColon, BeginsWithGroup, BeginsWithSide, behind, is_colon_byte, more_groups}
 use Rattle.prefix_keys.specs.Text.{around_gap, around_address, colon_address, groups_of, hex_group, hex_value, is_hex_digit, last_groups, onto_groups, side_groups, text_groups, two_groups, whole_address, dotted_address}
 use Rattle.prefix_keys.proofs.ColonPieces.{is_colon, groups_of-more, more-next}
 use Rattle.prefix_keys.proofs.Gaps.{address-around}

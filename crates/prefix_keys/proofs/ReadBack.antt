@@ -5,15 +5,11 @@ use Rattle.std.proofs.lemmas.Bool.{cases_lt, or_right, lt-leb, cond-true, cond-f
 use Rattle.std.proofs.lemmas.List.{get_or_append_left, get_or_at, take_at, drop_at, length-drop, length-take, length-take-le, length-append, length-replicate, take-append-drop, drop-drop}
 use Rattle.std.proofs.lemmas.List.Elements.{All-head, All-tail, All-take, All-drop, All-weaker, All-same, All-append, All-cons}
 use Rattle.std.proofs.lemmas.List.Folds.{list_any_none, list_any-append}
-use Rattle.prefix_keys.specs.Version.{width_of}
-use Rattle.prefix_keys.specs.declared.version.Version.{Version}
+use Rattle.prefix_keys.specs.Block.{width_of, Version, V4, V6}
 use Rattle.std.proofs.Math.Nat.{div-add-mod'}
 use Rattle.std.proofs.lemmas.List.Sums.{position_or_len_is}
-use Rattle.prefix_keys.specs.Print.{address_text, joined_text, dotted_text, address_bytes, address_groups, groups_text, longest_run, shortened_text}
-use Rattle.prefix_keys.specs.declared.version.Version.TheVariants.{V4, V6}
-use Rattle.prefix_keys.specs.Laws.{AddressIsReadBack, BlockIsReadBack}
+use Rattle.prefix_keys.specs.Print.{address_text, joined_text, dotted_text, address_bytes, address_groups, groups_text, longest_run, shortened_text, AddressIsReadBack, BlockIsReadBack, IsZeroRun}
 use Rattle.prefix_keys.specs.Text.{onto_groups, groups_of, last_groups, text_groups, side_groups, groups_number, whole_address, gap_address, around_address, colon_address, hex_group, dotted_address, two_groups, four_pieces, four_bytes, short_number, address_of, block_from, covering_block}
-use Rattle.prefix_keys.specs.Laws.{IsZeroRun}
 use Rattle.prefix_keys.proofs.Printed.{Lacks, Lacks-digits, no_colon, no_point, no_slash, split-joined, joined-some, hex_group-digits, short_number-decimal, Lacks-joined}
 use Rattle.prefix_keys.proofs.Groups.{bytes-below, bytes-number, groups-below, groups-number, width-le}
 use Rattle.prefix_keys.proofs.PrintedGaps.{IsGroup, around-gap, around-none}

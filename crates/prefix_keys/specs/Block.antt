@@ -1,4 +1,11 @@
 use Rattle.std.specs.Prelude.{ℕ, ◌+◌, ◌-◌, ◌*◌, ◌/◌, ◌^◌}
+pub use Rattle.prefix_keys.specs.declared.version.Version.{Version}
+pub use Rattle.prefix_keys.specs.declared.version.Version.TheVariants.{V4, V6}
+
+-- the number of bits of an address
+abbrev pub width_of : Version → ℕ
+width_of V4 = 32
+width_of V6 = 128
 
 -- Blocks of addresses of W bits. The addresses that share their first n bits form a block of n bits. The number of the
 -- block is the quotient of these addresses by 2 ^ (W - n).

@@ -1,8 +1,6 @@
 use Rattle.std.specs.Prelude.{ℕ, ◌+◌, ◌-◌, ◌*◌, ◌^◌, ◌==◌, Option, Some, None, if◌then◌else◌}
-use Rattle.prefix_keys.specs.Block.{block_number}
+use Rattle.prefix_keys.specs.Block.{block_number, Version, V4, V6}
 use Rattle.prefix_keys.specs.Text.{AddressOf}
-use Rattle.prefix_keys.specs.declared.version.Version.{Version}
-use Rattle.prefix_keys.specs.declared.version.Version.TheVariants.{V4, V6}
 
 -- IPv4 addresses among the IPv6 addresses: the block ::ffff:0:0/96 (RFC 4291, section 2.5.5.2).
 

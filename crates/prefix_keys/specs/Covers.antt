@@ -1,9 +1,8 @@
 use Rattle.std.specs.Prelude.{ℕ, ◌≡◌, ◌≤◌}
-use Rattle.prefix_keys.specs.Block.{block_number}
-use Rattle.prefix_keys.specs.Version.{width_of}
+use Rattle.prefix_keys.specs.Block.{block_number, width_of}
 use Rattle.prefix_keys.specs.declared.addr.Addr.{Addr}
-use Rattle.prefix_keys.specs.declared.block.Block.{Block}
-use Rattle.prefix_keys.specs.declared.span.Span.{Span}
+pub use Rattle.prefix_keys.specs.declared.block.Block.{Block}
+pub use Rattle.prefix_keys.specs.declared.span.Span.{Span}
 
 -- The addresses that blocks and spans cover.
 

@@ -1,9 +1,6 @@
-pub mod Version
 pub mod Block
 pub mod Covers
 pub mod Text
-pub mod Steps
-pub mod Leading
+pub mod Inner
 pub mod Conversion
 pub mod Print
-pub mod Laws

@@ -1,8 +1,9 @@
-use Rattle.std.specs.Prelude.{ℕ, ◌+◌, ◌*◌, ◌/◌, ◌%◌, ◌^◌, ◌==◌, false, List, [], ◌∷◌, ◌++◌, map, take, drop, nat_le, if◌then◌else◌}
+use Rattle.std.specs.Prelude.{ℕ, ◌+◌, ◌*◌, ◌/◌, ◌%◌, ◌^◌, ◌==◌, false, List, [], ◌∷◌, ◌++◌, map, take, drop, nat_le, if◌then◌else◌, ◌≡◌, ◌<◌, ◌≤◌, Some, Ok, replicate}
 use Rattle.std.specs.List.{join_with_byte, prefix_len}
 use Rattle.std.specs.Fmt.{decimal, digits}
-use Rattle.prefix_keys.specs.declared.version.Version.{Version}
-use Rattle.prefix_keys.specs.declared.version.Version.TheVariants.{V4, V6}
+use Rattle.prefix_keys.specs.Block.{Version, V4, V6, width_of}
+use Rattle.prefix_keys.specs.Text.{address_of, block_of_text}
+use Rattle.prefix_keys.specs.declared.block.Block.{Block}
 
 -- The printed texts of addresses and blocks: dotted decimal, or the form of RFC 5952, section 4.
 
@@ -61,3 +62,26 @@ address_text V6 number = colon_text number
 -- a block: its address, a `/`, and its length in decimal
 abbrev pub block_text : Version → ℕ → ℕ → List ℕ
 block_text version number len = address_text version number ++ 47 ∷ decimal len
+
+-- Laws about the texts.
+
+-- the `len` groups from `start` on are zero
+abbrev pub IsZeroRun : List ℕ → ℕ → ℕ → Type 0
+IsZeroRun groups start len = take len (drop start groups) ≡ replicate len 0
+
+-- the longest run consists of zeros, no run of zeros is longer, and none of the same length starts earlier
+abbrev pub LongestRunIsLongest : Type 0
+LongestRunIsLongest = (groups : List ℕ) → let run = longest_run groups in
+    IsZeroRun groups run.0 run.1
+    × ((start len : ℕ) → IsZeroRun groups start len → len ≤ run.1)
+    × ((start : ℕ) → IsZeroRun groups start run.1 → run.0 ≤ start)
+
+-- the printed text of an address is a written form of it
+abbrev pub AddressIsReadBack : Type 0
+AddressIsReadBack = (version : Version) (number : ℕ) → number < 2 ^ width_of version →
+    address_of (address_text version number) ≡ Some (version, number)
+
+-- the printed text of a block is a written form of it
+abbrev pub BlockIsReadBack : Type 0
+BlockIsReadBack = (block : Block) →
+    block_of_text (block_text block.version block.value block.len) ≡ Ok (block.version, block.value, block.len)

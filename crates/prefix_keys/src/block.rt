@@ -1,6 +1,5 @@
 ghost use Rattle.std.specs.Prelude.{◌≡◌, ◌+◌, ◌-◌, ◌*◌, ◌/◌, ◌%◌, ◌^◌, ◌<◌, ◌≤◌, ◌↔◌, IsSome, IsNone, IfSome, IsTrue};
-ghost use Rattle.prefix_keys.specs.Block.{block_number, first_of, last_of};
-ghost use Rattle.prefix_keys.specs.Version.{width_of};
+ghost use Rattle.prefix_keys.specs.Block.{block_number, first_of, last_of, width_of};
 
 use crate::addr::Addr;
 use crate::span::Span;

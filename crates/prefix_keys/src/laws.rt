@@ -1,5 +1,5 @@
 //! Laws about printed texts.
-ghost use Rattle.prefix_keys.specs.Laws.{AddressIsReadBack, BlockIsReadBack, LongestRunIsLongest};
+ghost use Rattle.prefix_keys.specs.Print.{AddressIsReadBack, BlockIsReadBack, LongestRunIsLongest};
 
 /// The run of zero groups that a printed text leaves out is a longest one, and the first of those.
 pub fn longest_run_is_longest()

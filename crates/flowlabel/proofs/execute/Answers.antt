@@ -1,5 +1,5 @@
 use Rattle.std.proofs.Common.{◌∙◌, subst, sym}
-use Rattle.flowlabel.specs.Opening.{CannotOpenFirst, HaveNames}
+use Rattle.flowlabel.specs.Inner.{CannotOpenFirst, HaveNames}
 use Rattle.flowlabel.specs.Request.{FileNames, needs_named, request_of}
 use Rattle.flowlabel.specs.Run.{AreNeeded}
 use Rattle.flowlabel.proofs.EndLemmas.{end_of_open, end_of_run, named_are_needed, passed_unwritten, passed_up}

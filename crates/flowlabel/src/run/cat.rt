@@ -3,7 +3,7 @@ ghost use Rattle.std.specs.Prelude.{◌≡◌, IfOk};
 ghost use Rattle.pmap_text.specs.MapText.{map_of};
 ghost use Rattle.pmap_text.specs.PrefixList.{list_of};
 ghost use Rattle.label_lookup.specs.Labelling.{labelling_of_list, labelling_of_map};
-ghost use Rattle.flowlabel.specs.Loading.{labelling_of_either};
+ghost use Rattle.flowlabel.specs.Inner.{labelling_of_either};
 ghost use Rattle.flowlabel.specs.Output.{HasRunsText};
 
 use crate::run::loaded::LoadedLabels;

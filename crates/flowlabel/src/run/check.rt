@@ -4,7 +4,7 @@ ghost use Rattle.pmap_text.specs.MapText.{map_of};
 ghost use Rattle.pmap_text.specs.PrefixList.{list_of};
 ghost use Rattle.pmap_cert.specs.Certificate.{certificate_of};
 ghost use Rattle.flowlabel.specs.BytesFault.{is_check_want};
-ghost use Rattle.flowlabel.specs.Loading.{ArePresent, ComesOf, IsFaultOfAnswer};
+ghost use Rattle.flowlabel.specs.Inner.{ArePresent, ComesOf, IsFaultOfAnswer};
 ghost use Rattle.flowlabel.specs.Output.{Checks, minimal_text};
 ghost use Rattle.flowlabel.specs.Request.{check, needs_of};
 ghost use Rattle.flowlabel.specs.Run.{AreNeeded};

@@ -15,7 +15,7 @@ pub struct InfoReport;
 impl Report for InfoReport {
     ghost use Rattle.std.specs.Prelude.{◌≡◌};
     ghost use Rattle.flow_rows.specs.Counts.{counts_of, counts_view};
-    ghost use Rattle.pmap_print.specs.Info.{info_text};
+    ghost use Rattle.pmap_print.specs.Reports.{info_text};
 
     type Taken = Counts;
 

@@ -1,7 +1,7 @@
 //! The output of `label`.
 ghost use Rattle.std.specs.Prelude.{◌≡◌, [], IfOk, option_map, unwrap_or};
 ghost use Rattle.label_lookup.specs.Labelling.{labelling};
-ghost use Rattle.flowlabel.specs.Loading.{labelling_of_either};
+ghost use Rattle.flowlabel.specs.Inner.{labelling_of_either};
 ghost use Rattle.flowlabel.specs.Output.{label_text, line_of};
 
 use crate::run::loaded::LoadedLabels;

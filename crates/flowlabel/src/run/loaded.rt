@@ -1,5 +1,5 @@
 ghost use Rattle.std.specs.Prelude.{◌≡◌, option_map};
-ghost use Rattle.flowlabel.specs.Loading.{labelling_loaded, labelling_of_either};
+ghost use Rattle.flowlabel.specs.Inner.{labelling_loaded, labelling_of_either};
 
 use pmap_cert::Certificate;
 use pmap_text::{MapText, PrefixList};

@@ -1,10 +1,9 @@
-//! From files to what they hold: each is read whole and decoded before the next.
+//! Reads the map, the list and the certificate of a command. Each is read whole and decoded before the next one.
 ghost use Rattle.std.specs.Prelude.{◌≡◌, ℕ, List, Some, false, IfErr, IfOk, IfSome, is_some};
 ghost use Rattle.flowlabel.specs.BytesFault.{is_answer_of_calls, is_want_of_memory};
-ghost use Rattle.flowlabel.specs.Loading.{AreLoaded, ArePresent, IsFirstFault};
+ghost use Rattle.flowlabel.specs.Inner.{AreLoaded, ArePresent, IsFirstFault};
 ghost use Rattle.flowlabel.specs.Output.{FileTexts};
-ghost use Rattle.flowlabel.specs.Run.{AreNeeded, AreReadBefore, HasText, HaveTexts, IsFaultOfBytes, IsStop, any_failed, is_read_stop, name_of, source_failed};
-ghost use Rattle.flowlabel.specs.Turns.{FlowsTurn, IsFaultOfText, Turn, turn_of};
+ghost use Rattle.flowlabel.specs.Run.{AreNeeded, AreReadBefore, HasText, HaveTexts, IsFaultOfBytes, IsStop, any_failed, is_read_stop, name_of, source_failed, FlowsTurn, IsFaultOfText, Turn, turn_of};
 ghost use Rattle.flowlabel.specs.declared.command.Needs.{Needs};
 
 use crate::bytes_fault::BytesFault;
@@ -33,8 +32,8 @@ trait Decode {
 }
 
 impl Decode for MapText {
-    ghost use Rattle.flowlabel.specs.Loading.{IsMapText};
-    ghost use Rattle.flowlabel.specs.Turns.{MapTurn};
+    ghost use Rattle.flowlabel.specs.Inner.{IsMapText};
+    ghost use Rattle.flowlabel.specs.Run.{MapTurn};
 
     ghost turn = { MapTurn };
 
@@ -46,8 +45,8 @@ impl Decode for MapText {
 }
 
 impl Decode for PrefixList {
-    ghost use Rattle.flowlabel.specs.Loading.{IsListText};
-    ghost use Rattle.flowlabel.specs.Turns.{ListTurn};
+    ghost use Rattle.flowlabel.specs.Inner.{IsListText};
+    ghost use Rattle.flowlabel.specs.Run.{ListTurn};
 
     ghost turn = { ListTurn };
 
@@ -59,8 +58,8 @@ impl Decode for PrefixList {
 }
 
 impl Decode for Certificate {
-    ghost use Rattle.flowlabel.specs.Loading.{IsCertificateText};
-    ghost use Rattle.flowlabel.specs.Turns.{CertificateTurn};
+    ghost use Rattle.flowlabel.specs.Inner.{IsCertificateText};
+    ghost use Rattle.flowlabel.specs.Run.{CertificateTurn};
 
     ghost turn = { CertificateTurn };
 

@@ -1,4 +1,4 @@
-//! What `recert` prints.
+//! The output of `recert`.
 ghost use Rattle.std.specs.Prelude.{Ok, IfOk};
 ghost use Rattle.pmap_cert.specs.Certificate.{certificate_of};
 ghost use Rattle.flowlabel.specs.Output.{PrintsCompact};

@@ -2,13 +2,10 @@
 ghost use Rattle.std.specs.Prelude.{◌≡◌, ◌≤◌, ◌<◌, ◌++◌, ◌∷◌, [], ℕ, List, OnOk, Option, Ok, Some, false, true, IfErr, IfOk, is_some, length, option_map};
 ghost use Rattle.ipfix_read.specs.Message.{MessageView};
 ghost use Rattle.ipfix_read.specs.Messages.{is_read_fault};
-ghost use Rattle.label_lookup.specs.Labelling.{Labelling, labelling_by, labelling_lent};
-ghost use Rattle.label_lookup.specs.StretchIndex.{labelling_of_stretches};
-ghost use Rattle.flowlabel.specs.Loading.{IsFaultOfAnswer, labelling_of_either};
+ghost use Rattle.label_lookup.specs.Labelling.{Labelling, labelling_by, labelling_lent, labelling_of_stretches};
+ghost use Rattle.flowlabel.specs.Inner.{IsFaultOfAnswer, labelling_of_either, HasTaken, IsFaultOfMessages, IsFaultOfReading, IsFirstAnswer};
 ghost use Rattle.flowlabel.specs.Output.{ReportsOf};
-ghost use Rattle.flowlabel.specs.Run.{HasText, IsStop, any_failed, is_read_stop};
-ghost use Rattle.flowlabel.specs.Taken.{HasTaken, IsFaultOfMessages, IsFaultOfReading, IsFirstAnswer};
-ghost use Rattle.flowlabel.specs.Turns.{FlowsTurn};
+ghost use Rattle.flowlabel.specs.Run.{HasText, IsStop, any_failed, is_read_stop, FlowsTurn};
 
 use crate::bytes_fault::BytesFault;
 use crate::fault::RunFault;

@@ -1,9 +1,8 @@
 //! The output of `rows`.
 ghost use Rattle.std.specs.Prelude.{◌≡◌, ◌++◌, List, OnOk, is_some, map, option_map};
-ghost use Rattle.flow_rows.specs.Row.{RowView, row_view};
-ghost use Rattle.pmap_print.specs.Columns.{IsTable, has_columns};
-ghost use Rattle.pmap_print.specs.Parts.{column_count};
-ghost use Rattle.pmap_print.specs.Rows.{label_texts};
+ghost use Rattle.flow_rows.specs.Elements.{RowView, row_view};
+ghost use Rattle.pmap_print.specs.Table.{IsTable, has_columns};
+ghost use Rattle.pmap_print.specs.Reports.{column_count, label_texts};
 ghost use Rattle.label_lookup.specs.Labelling.{labelling_by, labelling_lent};
 ghost use Rattle.flowlabel.specs.Output.{labelled_row_lines, row_labels};
 
@@ -32,7 +31,7 @@ pub struct RowsTaken {
 impl<'a> Report for RowsReport<'a> {
     ghost use Rattle.flow_filter.specs.Filters.{condition_in};
     ghost use Rattle.flowlabel.specs.Output.{report_of_rows};
-    ghost use Rattle.flowlabel.specs.Taken.{HasRows};
+    ghost use Rattle.flowlabel.specs.Inner.{HasRows};
 
     type Taken = RowsTaken;
 

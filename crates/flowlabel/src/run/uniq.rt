@@ -30,7 +30,7 @@ pub struct UniqTaken {
 impl<'a> Report for UniqReport<'a> {
     ghost use Rattle.flow_filter.specs.Filters.{condition_in};
     ghost use Rattle.flowlabel.specs.Output.{report_of_groups};
-    ghost use Rattle.flowlabel.specs.Taken.{HasGroups};
+    ghost use Rattle.flowlabel.specs.Inner.{HasGroups};
 
     type Taken = UniqTaken;
 

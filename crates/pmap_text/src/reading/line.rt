@@ -2,12 +2,9 @@
 ghost use Rattle.std.specs.Prelude.{◌≡◌, ◌<◌, ◌≤◌, ◌==◌, ◌⊎◌, Some, Ok, Err, true, false, length, slice_get, slice_index, IsTrue, IfOk, IfErr, OnOk, OnErr};
 ghost use Rattle.std.specs.List.{list_any};
 ghost use Rattle.prefix_keys.specs.Text.{address_of, block_of_text, is_digit};
-ghost use Rattle.pmap_text.specs.Declarations.{label_number as number_of_label, meant_text};
-ghost use Rattle.pmap_text.specs.Label.{is_label as is_label_text, with_label};
-ghost use Rattle.pmap_text.specs.Lines.{first_word};
-ghost use Rattle.pmap_text.specs.Reading.{Lists, address_line, block_line, content_line, decided, declared_line, default_line, label_line, label_of, mode_line, mode_version, name_line, one_or_two, other_fault, placed_line, prefix_line, range_line, single_line, span_line, statement_line, version_at as version_at_of};
-ghost use Rattle.pmap_text.specs.Steps.{Reads, has_label_room};
-ghost use Rattle.pmap_text.specs.declared.fault.MapFaultKind.TheVariants.{NoMemory, TooMany};
+ghost use Rattle.pmap_text.specs.Label.{label_number as number_of_label, meant_text, is_label as is_label_text, with_label};
+ghost use Rattle.pmap_text.specs.Reading.{first_word, Lists, address_line, block_line, content_line, decided, declared_line, default_line, label_line, label_of, mode_line, mode_version, name_line, one_or_two, other_fault, placed_line, prefix_line, range_line, single_line, span_line, statement_line, version_at as version_at_of, NoMemory, TooMany};
+ghost use Rattle.pmap_text.specs.Inner.{Reads, has_label_room};
 
 use crate::declarations::label_number;
 use crate::fault::MapFaultKind;

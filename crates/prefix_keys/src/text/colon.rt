@@ -1,7 +1,6 @@
 ghost use Rattle.std.specs.Prelude.{◌≡◌, ◌≤◌, ◌<◌, ◌+◌, ◌*◌, ◌-◌, ◌^◌, IfSome, Some, None, List, [], ◌∷◌, option_map, nat_le, if◌then◌else◌};
 ghost use Rattle.prefix_keys.specs.Text.{is_hex_digit, hex_digit_value, hex_group, last_groups, text_groups, side_groups, around_gap, colon_address};
-ghost use Rattle.prefix_keys.specs.Leading.{BeginsWithColon, BeginsWithGroup, BeginsWithSide};
-ghost use Rattle.prefix_keys.specs.Steps.{more_groups};
+ghost use Rattle.prefix_keys.specs.Inner.{BeginsWithColon, BeginsWithGroup, BeginsWithSide, more_groups};
 
 use crate::cutting::cut;
 use crate::text::dotted::read_dotted;

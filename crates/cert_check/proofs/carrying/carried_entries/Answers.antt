@@ -1,7 +1,7 @@
 use Rattle.std.proofs.Common.{◌∙◌, ◌&&◌, ◌||◌, Bool, ℕ, ap, filter, nat_le}
 use Rattle.std.proofs.lemmas.List.{take_all}
 use Rattle.pmap_text.specs.declared.entry.Entry.{Entry}
-use Rattle.cert_check.specs.Sources.{covers_whole, is_inside}
+use Rattle.cert_check.specs.Inner.{covers_whole, is_inside}
 use Rattle.cert_check.proofs.Carries.{entries-carried}
 use Rattle.cert_check.proofs.carrying.carried_entries.Goals as goal
 

@@ -1,5 +1,5 @@
 use Rattle.std.proofs.Common.{◌∙◌, ◌&&◌, ℕ, ap, cond, nat_lt, sym}
-use Rattle.cert_check.specs.Sources.{covers_whole}
+use Rattle.cert_check.specs.Inner.{covers_whole}
 use Rattle.cert_check.proofs.Carries.{greatest-more}
 use Rattle.cert_check.proofs.carrying.longest_covering.Goals as goal
 

@@ -1,17 +1,16 @@
 use Rattle.std.proofs.Common.{◌≡◌, ◌∙◌, ◌+◌, ◌-◌, ◌*◌, ◌<◌, Bool, List, ◌∷◌, Some, ap, arith, drop, length, option_map, refl, subst, suc, sym, take, ℕ}
 use Rattle.std.proofs.lemmas.Result.{err_from_is_err_and}
-use Rattle.prefix_keys.specs.Version.{width_of}
+use Rattle.prefix_keys.specs.Block.{width_of}
 use Rattle.pmap_text.specs.MapText.{map_of, text_at}
 use Rattle.pmap_text.specs.PrefixList.{list_of}
 use Rattle.pmap_text.specs.declared.label.LabelId.{LabelId}
-use Rattle.pmap_cert.specs.CertificateForm.{HasRoomBelow}
-use Rattle.pmap_cert.specs.Chain.{chain_pair, chosen_half}
+use Rattle.pmap_cert.specs.CertificateText.{HasRoomBelow}
+use Rattle.pmap_cert.specs.CertificateModel.{chain_pair, chosen_half}
 use Rattle.pmap_cert.specs.Node.{HasChainForm, behind, bits_of, first_node}
 use Rattle.pmap_cert.specs.Packed.{bits_in}
 use Rattle.pmap_cert.proofs.Ways.{way-length}
-use Rattle.cert_check.specs.Carrying.{number_of}
+use Rattle.cert_check.specs.Inner.{number_of, IsNodeAnswer, IsWayAnswer, line_fault, tree_at, way_fault}
 use Rattle.cert_check.specs.Checking.{bits_fault, claim_fault, fault_at, node_fault, told}
-use Rattle.cert_check.specs.Descent.{IsNodeAnswer, IsWayAnswer, line_fault, tree_at, way_fault}
 use Rattle.cert_check.proofs.Nodes.{chain-at, count_of, end-rising, end-room, fault_of, half-is, half-room, inner-at, later-answer, or-first, or-second, own-answer, pair_of, rising-of, room-long, room-rest, way-step}
 use Rattle.cert_check.proofs.checking.+nodes.Goals as goal
 

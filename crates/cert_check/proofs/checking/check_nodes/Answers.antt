@@ -1,7 +1,7 @@
 use Rattle.std.proofs.Common.{List, subst, sym}
 use Rattle.std.specs.List.Sorted.{IsPermutation}
 use Rattle.pmap_text.specs.declared.entry.Entry.{Entry}
-use Rattle.cert_check.specs.Parts.{AreInOrder}
+use Rattle.cert_check.specs.Inner.{AreInOrder}
 use Rattle.cert_check.proofs.Within.{same-order, sorted-order}
 use Rattle.cert_check.proofs.checking.check_nodes.Goals as goal
 

@@ -2,7 +2,7 @@ use Rattle.std.proofs.Common.{◌∙◌, ap, not, refl, sym}
 use Rattle.std.specs.List.{list_all}
 use Rattle.std.proofs.lemmas.List.{take_all}
 use Rattle.pmap_text.specs.declared.label.LabelId.{LabelId}
-use Rattle.cert_check.specs.Sources.{has_number}
+use Rattle.cert_check.specs.Inner.{has_number}
 use Rattle.cert_check.proofs.Sets.{all-fails, all-more, goes-on, walk-has, numbers, walk-start}
 use Rattle.cert_check.proofs.claims.are_apart.Goals as goal
 

@@ -1,6 +1,6 @@
 use Rattle.std.proofs.Common.{◌≡◌, not, take, true}
 use Rattle.std.specs.List.{list_all}
-use Rattle.cert_check.specs.Sources.{has_number}
+use Rattle.cert_check.specs.Inner.{has_number}
 use Rattle.cert_check.proofs.Sets.{IsWalk, numbers}
 use Rattle.cert_check.proofs.claims.are_apart.Given as goal
 

@@ -2,7 +2,7 @@ use Rattle.std.proofs.Common.{◌≡◌, ◌∙◌, ◌&&◌, Bool, ap, arith, l
 use Rattle.std.specs.List.{list_all}
 use Rattle.pmap_text.specs.declared.label.LabelId.{LabelId}
 use Rattle.pmap_cert.specs.Node.{bits_of, first_node, set_of}
-use Rattle.cert_check.specs.Sources.{has_number}
+use Rattle.cert_check.specs.Inner.{has_number}
 use Rattle.cert_check.proofs.Sets.{node-in, node-more, node-one, numbers, set-rising}
 use Rattle.cert_check.proofs.claims.chain_fault.Goals as goal
 use Rattle.cert_check.proofs.claims.chain_fault.Goals.{else-has_side, then-has_side}

@@ -1,6 +1,6 @@
 use Rattle.std.proofs.Common.{◌∙◌, List, arith, filter, length, refl, sym}
 use Rattle.pmap_text.specs.declared.label.LabelId.{LabelId}
-use Rattle.cert_check.specs.Sources.{has_number}
+use Rattle.cert_check.specs.Inner.{has_number}
 use Rattle.cert_check.proofs.Sets.{all-common, apart-none, apart-some, node-apart, node-common, numbers, set-rising}
 use Rattle.cert_check.proofs.claims.claim_fault.Goals as goal
 use Rattle.pmap_cert.specs.Node.{first_node, set_of}

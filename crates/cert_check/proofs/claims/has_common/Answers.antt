@@ -1,6 +1,6 @@
 use Rattle.std.proofs.Common.{◌∙◌, ◌||◌, inl, inr, not, refl, sym}
 use Rattle.pmap_text.specs.declared.label.LabelId.{LabelId}
-use Rattle.cert_check.specs.Sources.{has_number}
+use Rattle.cert_check.specs.Inner.{has_number}
 use Rattle.cert_check.proofs.Sets.{all-more, goes-on, numbers, or-from, walk-has, walk-start}
 use Rattle.cert_check.proofs.claims.has_common.Goals as goal
 use Rattle.cert_check.proofs.claims.has_common.Goals.{else-begins_with-via-then-begins_with+else-not-begins_with, else-begins_with-via-else-begins_with}

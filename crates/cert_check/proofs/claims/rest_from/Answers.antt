@@ -1,7 +1,7 @@
 use Rattle.std.proofs.Common.{◌∙◌, ◌^◌, ◌<◌, List, ap, arith, length, subst, sym}
 use Rattle.pmap_text.specs.declared.label.LabelId.{LabelId}
-use Rattle.pmap_cert.specs.CertificateForm.{IsRising}
-use Rattle.cert_check.specs.Sources.{has_number}
+use Rattle.pmap_cert.specs.CertificateText.{IsRising}
+use Rattle.cert_check.specs.Inner.{has_number}
 use Rattle.cert_check.proofs.Lists.{slice-from}
 use Rattle.cert_check.proofs.Sets.{arrived, arrived-end, numbers, step-kept, step-rising, step-shorter}
 use Rattle.cert_check.proofs.claims.rest_from.Goals as goal

@@ -1,6 +1,6 @@
 use Rattle.std.proofs.Common.{◌≡◌, ℕ, ◌^◌, ◌≤◌, length}
-use Rattle.pmap_cert.specs.CertificateForm.{IsRising}
-use Rattle.cert_check.specs.Sources.{has_number}
+use Rattle.pmap_cert.specs.CertificateText.{IsRising}
+use Rattle.cert_check.specs.Inner.{has_number}
 use Rattle.cert_check.proofs.Sets.{numbers}
 use Rattle.cert_check.proofs.claims.rest_from.Given as goal
 

@@ -1,6 +1,6 @@
 use Rattle.std.proofs.Common.{arith}
 use Rattle.std.proofs.lemmas.List.Sorted.{IsNonDecreasingBy-from_all_adjacent}
-use Rattle.cert_check.specs.Parts.{rank_of}
+use Rattle.cert_check.specs.Inner.{rank_of}
 use Rattle.cert_check.proofs.entry_order.are_in_order.Goals as goal
 
 pub returns : goal.returns

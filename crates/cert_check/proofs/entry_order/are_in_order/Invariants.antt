@@ -1,6 +1,6 @@
 use Rattle.std.proofs.Common.{◌≤◌}
 use Rattle.std.specs.List.{AllAdjacentBelow}
-use Rattle.cert_check.specs.Parts.{rank_of}
+use Rattle.cert_check.specs.Inner.{rank_of}
 use Rattle.cert_check.proofs.entry_order.are_in_order.Given as goal
 
 -- the entries so far are in order

@@ -1,6 +1,6 @@
 use Rattle.std.proofs.Common.{rules}
 use Rattle.std.proofs.lemmas.List.Sorted.{IsNonDecreasingBy-from_sort_by}
-use Rattle.cert_check.specs.Parts.{rank_of}
+use Rattle.cert_check.specs.Inner.{rank_of}
 use Rattle.cert_check.proofs.entry_order.in_order.Goals as goal
 
 pub returns-clause-rising : goal.returns-clause-rising

@@ -3,7 +3,7 @@ use Rattle.std.proofs.lemmas.Option.{slice_get-get_or}
 use Rattle.pmap_text.specs.declared.label.LabelId.{LabelId}
 use Rattle.pmap_text.specs.MapText.{text_at}
 use Rattle.cert_check.specs.Checking.{is_label_of}
-use Rattle.cert_check.specs.Parts.{text_of}
+use Rattle.cert_check.specs.Inner.{text_of}
 use Rattle.cert_check.proofs.Numbered.{same-none, same-some}
 use Rattle.cert_check.proofs.labels.is_label.Goals as goal
 

@@ -1,9 +1,7 @@
 use Rattle.std.proofs.Common.{◌≡◌, List, map}
 use Rattle.std.proofs.lemmas.Result.{IfOk-weaker}
-use Rattle.flow_filter.specs.Blocks.{items_cover, view_of}
-use Rattle.flow_filter.specs.Given.{by_place}
-use Rattle.flow_filter.specs.Ranges.{in_ranges}
-use Rattle.flow_filter.specs.declared.range.Range.{Range}
+use Rattle.flow_filter.specs.Condition.{items_cover, view_of, in_ranges, Range}
+use Rattle.flow_filter.specs.Filters.{by_place}
 use Rattle.flow_filter.proofs.Places.{all_places}
 use Rattle.flow_filter.proofs.options.places_of_all.Goals as goal
 

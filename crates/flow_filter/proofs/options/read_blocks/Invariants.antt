@@ -1,5 +1,5 @@
 use Rattle.std.proofs.Common.{map, option_map}
-use Rattle.flow_filter.specs.Blocks.{view_of}
+use Rattle.flow_filter.specs.Condition.{view_of}
 use Rattle.flow_filter.specs.Texts.{address_item, address_list, size_of}
 use Rattle.flow_filter.proofs.Listed.{IsReadSoFar}
 use Rattle.flow_filter.proofs.options.read_blocks.Given as goal

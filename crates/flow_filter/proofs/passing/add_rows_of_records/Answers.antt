@@ -3,8 +3,7 @@ use Rattle.std.proofs.Math.Seq.{take-length}
 use Rattle.std.proofs.lemmas.List.{append-nil}
 use Rattle.std.proofs.lemmas.List.Elements.{All-head, All-tail}
 use Rattle.std.specs.List.{flat_map}
-use Rattle.flow_rows.specs.Elements.{rows_of_record}
-use Rattle.flow_rows.specs.Row.{RowView, row_view}
+use Rattle.flow_rows.specs.Elements.{rows_of_record, RowView, row_view}
 use Rattle.ipfix_read.specs.declared.record.Record.{Record}
 use Rattle.flow_filter.proofs.PassingLemmas.{front_stays}
 use Rattle.flow_filter.proofs.passing.add_rows_of_records.Goals as goal

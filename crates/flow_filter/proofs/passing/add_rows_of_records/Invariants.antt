@@ -2,8 +2,7 @@
 -- fields.
 use Rattle.std.proofs.Common.{◌≡◌, ◌++◌, All, length, map, take}
 use Rattle.std.specs.List.{flat_map}
-use Rattle.flow_rows.specs.Elements.{rows_of_record}
-use Rattle.flow_rows.specs.Row.{row_view}
+use Rattle.flow_rows.specs.Elements.{rows_of_record, row_view}
 use Rattle.flow_filter.proofs.passing.add_rows_of_records.Given as goal
 
 abbrev pub invariant-loop-record : goal.invariant-loop-record

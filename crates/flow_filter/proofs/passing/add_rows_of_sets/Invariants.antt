@@ -1,7 +1,7 @@
 -- The rows of the sets before the index are added.
 use Rattle.std.proofs.Common.{◌≡◌, ◌++◌, length, map, take}
-use Rattle.flow_rows.specs.Content.{rows_of}
-use Rattle.flow_rows.specs.Row.{row_view}
+use Rattle.flow_rows.specs.Counts.{rows_of}
+use Rattle.flow_rows.specs.Elements.{row_view}
 use Rattle.flow_filter.proofs.passing.add_rows_of_sets.Given as goal
 
 abbrev pub invariant-loop-set : goal.invariant-loop-set

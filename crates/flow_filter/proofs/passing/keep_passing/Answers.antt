@@ -1,9 +1,9 @@
 use Rattle.std.proofs.Common.{◌∙◌, ◌++◌, List, ap, drop, arith, refl, sym, take}
 use Rattle.std.proofs.lemmas.List.{drop-map, drop_at, take-map, take_at}
-use Rattle.flow_rows.specs.Row.{RowView, row_view}
+use Rattle.flow_rows.specs.Elements.{RowView, row_view}
 use Rattle.label_lookup.specs.Labelling.{label_where, labelling_lent}
 use Rattle.flow_filter.specs.Filters.{condition_in}
-use Rattle.flow_filter.specs.Passing.{passes, passing}
+use Rattle.flow_filter.specs.Condition.{passes, passing}
 use Rattle.flow_filter.proofs.PassingLemmas.{all_pass}
 use Rattle.flow_filter.proofs.passing.keep_passing.Goals as goal
 

@@ -1,9 +1,9 @@
 -- The rows that are kept, with those that are left and pass, are all that pass.
 use Rattle.std.proofs.Common.{◌≡◌, ◌≤◌, ◌++◌, List, drop, length, map, take}
-use Rattle.flow_rows.specs.Row.{RowView, row_view}
+use Rattle.flow_rows.specs.Elements.{RowView, row_view}
 use Rattle.label_lookup.specs.Labelling.{labelling_lent}
 use Rattle.flow_filter.specs.Filters.{condition_in}
-use Rattle.flow_filter.specs.Passing.{passing}
+use Rattle.flow_filter.specs.Condition.{passing}
 use Rattle.flow_filter.proofs.passing.keep_passing.Given as goal
 
 abbrev pub invariant-loop-at : goal.invariant-loop-at

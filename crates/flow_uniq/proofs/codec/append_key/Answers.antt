@@ -1,5 +1,5 @@
 use Rattle.label_lookup.specs.Labelling.{label_where, labelling_lent}
-use Rattle.flow_rows.specs.Row.{row_view}
+use Rattle.flow_rows.specs.Elements.{row_view}
 use Rattle.flow_uniq.specs.Key.{key_part}
 use Rattle.flow_uniq.proofs.Cutting.{more_code, more_small}
 use Rattle.flow_uniq.proofs.codec.append_key.Goals as goal

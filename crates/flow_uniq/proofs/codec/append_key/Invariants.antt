@@ -1,9 +1,9 @@
 -- The bytes of the parts so far are appended.
 use Rattle.std.proofs.Common.{◌≡◌, ◌++◌, take}
-use Rattle.flow_rows.specs.Row.{row_view}
+use Rattle.flow_rows.specs.Elements.{row_view}
 use Rattle.label_lookup.specs.Labelling.{label_where, labelling_lent}
 use Rattle.flow_uniq.specs.Key.{key_of}
-use Rattle.flow_uniq.specs.Parts.{AreSmall, key_code}
+use Rattle.flow_uniq.specs.Inner.{AreSmall, key_code}
 use Rattle.flow_uniq.proofs.codec.append_key.Given as goal
 
 abbrev pub invariant-loop-field : goal.invariant-loop-field

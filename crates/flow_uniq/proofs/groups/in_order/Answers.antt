@@ -3,10 +3,9 @@ use borrow.Author.Tests.{tests}
 use Rattle.std.proofs.lemmas.Cmp.{lists_total, nat_list_cmp_total, on_total}
 use Rattle.std.proofs.lemmas.List.Sorted.{IsPermutation-map, answers_always, ranks_by}
 use Rattle.std.specs.Cmp.{IsStrictWeakOrder, IsTotalOrder}
-use Rattle.flow_uniq.specs.declared.group.Group.{Group}
+use Rattle.flow_uniq.specs.Inner.{Group, group_model}
 use Rattle.flow_uniq.specs.Key.{part_numbers}
-use Rattle.flow_uniq.specs.Kept.{group_model}
-use Rattle.flow_uniq.specs.Sorted.{is_before, key_order}
+use Rattle.flow_uniq.specs.Groups.{is_before, key_order}
 use Rattle.flow_uniq.proofs.Sorting.{IsSortedBy-map, map-in_order, sorted_is}
 use Rattle.flow_uniq.proofs.groups.in_order.Goals as goal
 

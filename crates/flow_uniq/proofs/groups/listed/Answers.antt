@@ -1,6 +1,6 @@
 use Rattle.std.proofs.Common.{◌≡◌, None, map, option_map, sym, ap, ◌∙◌, arith}
 use Rattle.std.specs.List.{slice_get}
-use Rattle.flow_uniq.specs.Kept.{group_model}
+use Rattle.flow_uniq.specs.Inner.{group_model}
 use Rattle.flow_uniq.proofs.Listing.{none_past, listed-more}
 use Rattle.flow_uniq.proofs.groups.listed.Goals as goal
 use Rattle.flow_uniq.proofs.groups.listed.Goals.{in-Some+in_ok-push, in_default}

@@ -1,5 +1,5 @@
 use Rattle.std.proofs.Common.{◌≡◌, map, take}
-use Rattle.flow_uniq.specs.Kept.{group_model}
+use Rattle.flow_uniq.specs.Inner.{group_model}
 use Rattle.flow_uniq.proofs.groups.listed.Given as goal
 
 -- the groups so far

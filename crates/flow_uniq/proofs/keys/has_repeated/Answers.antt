@@ -2,7 +2,7 @@ use Rattle.std.proofs.Common.{◌==◌, rules}
 use borrow.Author.Tests.{tests}
 use Rattle.std.proofs.lemmas.Iterator.Search.{any_from_yields_List}
 use Rattle.std.proofs.lemmas.Iterator.Splits.{YieldsList-from_slice_split}
-use Rattle.flow_uniq.specs.Field.{is_repeated, items_of}
+use Rattle.flow_uniq.specs.Key.{is_repeated, items_of}
 use Rattle.flow_uniq.proofs.keys.has_repeated.Goals as goal
 
 pub returns : goal.returns

@@ -3,7 +3,7 @@ use borrow.Author.Tests.{tests}
 use Rattle.std.specs.Prelude.{is_none}
 use Rattle.std.proofs.lemmas.Iterator.Search.{any_from_yields_List}
 use Rattle.std.proofs.lemmas.Iterator.Splits.{YieldsList-from_slice_split}
-use Rattle.flow_uniq.specs.Field.{field_named}
+use Rattle.flow_uniq.specs.Key.{field_named}
 use Rattle.flow_uniq.proofs.keys.has_unnamed.Goals as goal
 
 pub returns : goal.returns

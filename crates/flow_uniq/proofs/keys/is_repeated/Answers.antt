@@ -4,7 +4,7 @@ use Rattle.std.specs.Str.{bytes_eq}
 use Rattle.std.proofs.lemmas.Iterator.Consumers.{YieldsList-at, YieldsList-from_filter, nth_from_yields_List}
 use Rattle.std.proofs.lemmas.Iterator.Splits.{YieldsList-from_slice_split}
 use Rattle.std.proofs.Common.{◌∙◌}
-use Rattle.flow_uniq.specs.Field.{items_of}
+use Rattle.flow_uniq.specs.Key.{items_of}
 use Rattle.flow_uniq.proofs.Reading.{second_passes}
 use Rattle.flow_uniq.proofs.keys.is_repeated.Goals as goal
 

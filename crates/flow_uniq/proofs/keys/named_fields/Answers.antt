@@ -3,7 +3,7 @@ use borrow.Author.Tests.{tests}
 use Rattle.std.proofs.lemmas.Iterator.Adapters.{items_from_extend}
 use Rattle.std.proofs.lemmas.Iterator.Consumers.{YieldsList-at, YieldsList-from_filter_map}
 use Rattle.std.proofs.lemmas.Iterator.Splits.{YieldsList-from_slice_split}
-use Rattle.flow_uniq.specs.Field.{field_named, items_of, named_fields}
+use Rattle.flow_uniq.specs.Key.{field_named, items_of, named_fields}
 use Rattle.flow_uniq.proofs.keys.named_fields.Goals as goal
 
 pub returns : goal.returns

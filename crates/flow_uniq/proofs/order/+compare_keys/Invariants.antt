@@ -1,5 +1,5 @@
 use Rattle.std.proofs.Common.{length}
-use Rattle.flow_uniq.specs.Kept.{key_model}
+use Rattle.flow_uniq.specs.Inner.{key_model}
 use Rattle.flow_uniq.proofs.order.+compare_keys.Given as goal
 
 abbrev pub decreases-compare_keys : goal.decreases-compare_keys

@@ -1,6 +1,6 @@
 use Rattle.flowlabel.proofs.EndLemmas.{refused_first}
 use Rattle.flowlabel.specs.Request.{names_of}
-use Rattle.flowlabel.specs.Turns.{CertificateTurn, FlowsTurn}
+use Rattle.flowlabel.specs.Run.{CertificateTurn, FlowsTurn}
 use Rattle.flowlabel.proofs.opening.open_all.Goals as goal
 
 pub returns-in_err-open-3-clause-err : goal.returns-in_err-open-3-clause-err

@@ -1,10 +1,10 @@
--- What comes of a command's request comes of the command, and the labels that it prints with are those loaded.
+-- An outcome of a command's request is one of the command, and the labels that it prints are the loaded ones.
 use Rattle.std.proofs.Common.{◌∙◌, ℕ, List, Option, Ok, ap, subst, sym}
 use Rattle.std.specs.Prelude.{IfErr, IfOk, option_copied}
 use Rattle.std.proofs.lemmas.Result.{IfOk-weaker}
 use Rattle.flow_filter.specs.Filters.{condition_in}
 use Rattle.label_lookup.specs.Labelling.{Labelling}
-use Rattle.flowlabel.specs.Loading.{IsFaultOfAnswer}
+use Rattle.flowlabel.specs.Inner.{IsFaultOfAnswer}
 use Rattle.flowlabel.specs.Output.{ReportsOf, report_of_groups}
 use Rattle.flowlabel.specs.Run.{HasText}
 use Rattle.flowlabel.proofs.run.answer.Goals as goal

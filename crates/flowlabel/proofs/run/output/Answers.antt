@@ -1,11 +1,10 @@
--- What comes of the loaded files is the request's output, and a fault of loading is its first one.
+-- The outcome over the loaded files is the request's output, and a fault of loading is its first fault.
 use Rattle.std.proofs.Common.{Option, Ok, subst, sym}
 use Rattle.std.proofs.lemmas.Result.{IfErr-weaker, IfOk-weaker}
-use Rattle.flowlabel.specs.Loading.{ComesOf, IsFirstFault}
+use Rattle.flowlabel.specs.Inner.{ComesOf, IsFirstFault}
 use Rattle.flowlabel.specs.Output.{IsOutput}
 use Rattle.flowlabel.specs.Request.{needs_of, request_of}
-use Rattle.flowlabel.specs.Run.{HasText, IsFaultOfBytes}
-use Rattle.flowlabel.specs.declared.inputs.Source.{Source}
+use Rattle.flowlabel.specs.Run.{HasText, IsFaultOfBytes, Source}
 use Rattle.flowlabel.proofs.LoadingLemmas.{answer_joins, fault_joins, first_output, output_of, passed_on}
 use Rattle.flowlabel.proofs.run.output.Goals as goal
 

@@ -1,6 +1,5 @@
 use Rattle.std.proofs.Common.{◌≡◌, List, length}
-use Rattle.ipfix_read.specs.declared.record.Record.{Record}
-use Rattle.ipfix_read.specs.Record.{ReadsRecords}
+use Rattle.ipfix_read.specs.Record.{Record, ReadsRecords}
 use Rattle.ipfix_read.proofs.data_set.skip_records.Given as goal
 
 abbrev pub invariant-loop-rest : goal.invariant-loop-rest

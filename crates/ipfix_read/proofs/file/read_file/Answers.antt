@@ -3,10 +3,9 @@ use Rattle.std.proofs.lemmas.Bool.{eqb-true}
 use Rattle.std.proofs.lemmas.List.{length_push, nil_from_length}
 use Rattle.std.proofs.lemmas.Result.{err_from_is_err_and}
 use Rattle.ipfix_templates.proofs.Reading.{reads_more}
-use Rattle.ipfix_read.specs.declared.fault.ReadFault.{ReadFault}
+use Rattle.ipfix_read.specs.Message.{ReadFault, HasMessageFault, events_of_message}
 use Rattle.ipfix_read.specs.Fault.{out_of_memory}
-use Rattle.ipfix_read.specs.Message.{HasMessageFault, events_of_message}
-use Rattle.ipfix_read.specs.File.{ReadsMessage, HasFileFault}
+use Rattle.ipfix_read.specs.Messages.{ReadsMessage, HasFileFault}
 use Rattle.ipfix_read.proofs.Sets.{not_empty}
 use Rattle.ipfix_read.proofs.Readings.{no_template}
 use Rattle.ipfix_read.proofs.file.read_file.Goals as goal

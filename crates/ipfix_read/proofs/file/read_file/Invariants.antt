@@ -1,8 +1,8 @@
 use Rattle.std.proofs.Common.{◌≡◌, ◌≤◌, ℕ, List, [], length}
 use Rattle.ipfix_templates.specs.declared.event.TemplateEvent.{TemplateEvent}
-use Rattle.ipfix_templates.specs.Reads.{Reads}
-use Rattle.ipfix_templates.specs.Table.{Follows}
-use Rattle.ipfix_read.specs.File.{ReadsMessage}
+use Rattle.ipfix_templates.specs.Reading.{Reads}
+use Rattle.ipfix_templates.specs.InForce.{Follows}
+use Rattle.ipfix_read.specs.Messages.{ReadsMessage}
 use Rattle.ipfix_read.proofs.file.read_file.Given as goal
 
 abbrev pub invariant-loop-rest : goal.invariant-loop-rest

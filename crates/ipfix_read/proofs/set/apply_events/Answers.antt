@@ -1,7 +1,7 @@
 use Rattle.std.proofs.Common.{ℕ, List, ◌++◌, subst, sym, ◌∙◌}
 use Rattle.std.proofs.lemmas.List.{append-nil, take_all}
 use Rattle.ipfix_templates.specs.declared.event.TemplateEvent.{TemplateEvent}
-use Rattle.ipfix_templates.specs.Table.{Follows}
+use Rattle.ipfix_templates.specs.InForce.{Follows}
 use Rattle.ipfix_read.specs.Set.{in_domain}
 use Rattle.ipfix_read.proofs.Sets.{in_domain_more}
 use Rattle.ipfix_read.proofs.set.apply_events.Goals as goal

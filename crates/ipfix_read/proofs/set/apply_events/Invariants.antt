@@ -1,6 +1,6 @@
 use Rattle.std.proofs.Common.{ℕ, List, ◌++◌, take}
 use Rattle.ipfix_templates.specs.declared.event.TemplateEvent.{TemplateEvent}
-use Rattle.ipfix_templates.specs.Table.{Follows}
+use Rattle.ipfix_templates.specs.InForce.{Follows}
 use Rattle.ipfix_read.specs.Set.{in_domain}
 use Rattle.ipfix_read.proofs.set.apply_events.Given as goal
 

@@ -3,7 +3,7 @@ use Rattle.std.proofs.lemmas.Bool.{eqb-true}
 use Rattle.std.proofs.lemmas.List.{nil_from_length}
 use Rattle.std.proofs.lemmas.Result.{err_from_is_err_and}
 use Rattle.ipfix_templates.specs.declared.event.TemplateEvent.{TemplateEvent}
-use Rattle.ipfix_templates.specs.Table.{Follows}
+use Rattle.ipfix_templates.specs.InForce.{Follows}
 use Rattle.ipfix_templates.proofs.Reading.{reads_more}
 use Rattle.ipfix_read.specs.Set.{events_of_set, ReadsSet, HasSetFault, HasSetsFault}
 use Rattle.ipfix_read.proofs.Sets.{not_empty, refused, sets_history, message_size_push}

@@ -1,7 +1,7 @@
 use Rattle.std.proofs.Common.{ℕ, ◌+◌, ◌≤◌, List, length}
 use Rattle.ipfix_templates.specs.declared.event.TemplateEvent.{TemplateEvent}
-use Rattle.ipfix_templates.specs.Reads.{Reads}
-use Rattle.ipfix_templates.specs.Table.{Follows}
+use Rattle.ipfix_templates.specs.Reading.{Reads}
+use Rattle.ipfix_templates.specs.InForce.{Follows}
 use Rattle.ipfix_read.specs.Set.{ReadsSet}
 use Rattle.ipfix_read.specs.Message.{message_size}
 use Rattle.ipfix_read.proofs.set.read_sets.Given as goal

@@ -1,6 +1,5 @@
 use Rattle.std.proofs.Common.{Err, inr, ap, ◌∙◌, arith}
-use Rattle.ipfix_templates.specs.declared.fault.TemplateFault.{TemplateFault}
-use Rattle.ipfix_templates.specs.Reading.{ReadsEvent}
+use Rattle.ipfix_templates.specs.Reading.{TemplateFault, ReadsEvent}
 use Rattle.ipfix_templates.proofs.Reading.{reads_more}
 use Rattle.ipfix_templates.proofs.Records.{record_fault, record_shorter, events_shorter}
 use Rattle.ipfix_templates.proofs.set.read_template_set.Goals as goal

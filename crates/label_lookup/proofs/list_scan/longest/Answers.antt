@@ -1,7 +1,7 @@
 use Rattle.std.proofs.Common.{◌+◌, Option, refl, subst, sym}
 use Rattle.std.specs.Prelude.{take}
 use Rattle.pmap_text.specs.declared.entry.Entry.{Entry}
-use Rattle.label_lookup.specs.Longest.{IsLongest}
+use Rattle.label_lookup.specs.Labelling.{IsLongest}
 use Rattle.label_lookup.proofs.Scanning.{found_longer, passed_over}
 use Rattle.label_lookup.proofs.list_scan.longest.Goals as goal
 use Rattle.label_lookup.proofs.list_scan.longest.Goals.{then-covers, else-covers}

@@ -1,5 +1,5 @@
 use Rattle.std.specs.Prelude.{take}
-use Rattle.label_lookup.specs.Longest.{IsLongest}
+use Rattle.label_lookup.specs.Labelling.{IsLongest}
 use Rattle.label_lookup.proofs.list_scan.longest.Given as goal
 
 abbrev pub invariant-loop-entry : goal.invariant-loop-entry

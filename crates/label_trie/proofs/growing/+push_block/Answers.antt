@@ -1,7 +1,7 @@
 use Rattle.std.proofs.Common.{◌≡◌, ◌∙◌, length, ap, arith, length-set}
 use Rattle.std.proofs.lemmas.List.{length_push}
 use Rattle.std.proofs.lemmas.Result.{on_ok_weaker}
-use Rattle.prefix_keys.specs.Version.{width_of}
+use Rattle.prefix_keys.specs.Block.{width_of}
 use Rattle.pmap_text.proofs.Ranges.{held_order}
 use Rattle.label_trie.specs.declared.node.Node.TheVariants.{Inner}
 use Rattle.label_trie.proofs.Grown.{added_least, added_most, ordered_part, part_leaf, part_split, split_added}

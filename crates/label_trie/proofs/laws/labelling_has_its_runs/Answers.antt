@@ -1,5 +1,5 @@
 use Rattle.std.proofs.Common.{◌^◌, arith}
-use Rattle.prefix_keys.specs.Version.{width_of}
+use Rattle.prefix_keys.specs.Block.{width_of}
 use Rattle.label_trie.proofs.Runs.{runs-alike, runs-exist, runs-one}
 use Rattle.label_trie.proofs.laws.labelling_has_its_runs.Goals as goal
 

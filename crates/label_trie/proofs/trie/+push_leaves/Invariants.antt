@@ -1,5 +1,5 @@
 use Rattle.std.proofs.Common.{◌-◌}
-use Rattle.prefix_keys.specs.Version.{width_of}
+use Rattle.prefix_keys.specs.Block.{width_of}
 use Rattle.label_trie.proofs.trie.+push_leaves.Given as goal
 
 abbrev pub decreases-push_leaves : goal.decreases-push_leaves

@@ -1,4 +1,4 @@
-use Rattle.prefix_keys.specs.Version.{width_of}
+use Rattle.prefix_keys.specs.Block.{width_of}
 use Rattle.label_trie.proofs.Way.{IsOnWay}
 use Rattle.label_trie.proofs.trie.label_from_root.Given as goal
 

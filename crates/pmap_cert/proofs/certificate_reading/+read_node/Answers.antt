@@ -3,7 +3,7 @@ use Rattle.std.proofs.lemmas.Result.{err_from_is_err_and}
 use Rattle.pmap_text.specs.declared.label.LabelId.{LabelId}
 use Rattle.pmap_cert.specs.FormatReading.{ChainLine, InnerLine, PlainLine, nodes_at}
 use Rattle.pmap_cert.specs.Packed.{bits_in}
-use Rattle.pmap_cert.specs.ReadNodes.{IsReadNode}
+use Rattle.pmap_cert.specs.Inner.{IsReadNode}
 use Rattle.pmap_cert.specs.Node.{tree_of}
 use Rattle.pmap_cert.proofs.ReadingSteps.{chain-bits, chain-deep, chain-in, due_in, end_then, node-deep, node-fault, node-lower_fault, node-upper_fault, read-chain, read-inner, read-leaf}
 use Rattle.pmap_cert.proofs.certificate_reading.+read_node.Goals as goal
@@ -19,14 +19,14 @@ pub returns-then-room-eq0-clause-err : goal.returns-then-room-eq0-clause-err
 returns-then-room-eq0-clause-err t c = λ _.
     let frame = c.args.frame.now in
     rw (c.if-room-eq0.true, c.fault-deepest.ensures)
-    (node-deep (due_in frame.format frame.width frame.labels.now) frame.labels.now c.args.lines.now c.read_due.new.lines c.in-Inner.cost (map (λ (id : LabelId). id.0) c.read_due.new.set.items) (rw c.in-Inner.is at c.in_ok-line.ensures.ok))
+    (node-deep (due_in frame.format frame.width frame.labels.now) frame.labels.now c.args.lines.now c.read_due.new.lines c.in-Inner.cost (map (λ (id : LabelId). id.0) c.read_due.new.kept.set.items) (rw c.in-Inner.is at c.in_ok-line.ensures.ok))
 
 pub returns-in_err-read_node-in-Inner-clause-err : goal.returns-in_err-read_node-in-Inner-clause-err
 returns-in_err-read_node-in-Inner-clause-err t c =
     let frame = c.args.frame.now in
     let p = err_from_is_err_and c.from_residual-in_err-read_node-in-Inner.result c.from_residual-in_err-read_node-in-Inner.ensures.1 in
     rw (p.1, p.2)
-    (λ some. node-lower_fault (due_in frame.format frame.width frame.labels.now) frame.labels.now c.args.lines.now c.read_due.new.lines c.in-Inner.cost (map (λ (id : LabelId). id.0) c.read_due.new.set.items) (rw c.in-Inner.is at c.in_ok-line.ensures.ok)
+    (λ some. node-lower_fault (due_in frame.format frame.width frame.labels.now) frame.labels.now c.args.lines.now c.read_due.new.lines c.in-Inner.cost (map (λ (id : LabelId). id.0) c.read_due.new.kept.set.items) (rw c.in-Inner.is at c.in_ok-line.ensures.ok)
     c.args.room (omega arith) c.in_err-read_node-in-Inner.field-0.0 (c.in_err-read_node-in-Inner.ensures.err some))
 
 pub returns-in_err-read_node-in-Inner-2-clause-err : goal.returns-in_err-read_node-in-Inner-2-clause-err
@@ -35,7 +35,7 @@ returns-in_err-read_node-in-Inner-2-clause-err t c =
     let p = err_from_is_err_and c.from_residual-in_err-read_node-in-Inner-2.result c.from_residual-in_err-read_node-in-Inner-2.ensures.1 in
     let low = c.in_ok-read_node-in-Inner.ensures.ok in
     rw (p.1, p.2)
-    (λ some. node-upper_fault (due_in frame.format frame.width frame.labels.now) frame.labels.now c.args.lines.now c.read_due.new.lines c.in-Inner.cost (map (λ (id : LabelId). id.0) c.read_due.new.set.items) (rw c.in-Inner.is at c.in_ok-line.ensures.ok)
+    (λ some. node-upper_fault (due_in frame.format frame.width frame.labels.now) frame.labels.now c.args.lines.now c.read_due.new.lines c.in-Inner.cost (map (λ (id : LabelId). id.0) c.read_due.new.kept.set.items) (rw c.in-Inner.is at c.in_ok-line.ensures.ok)
     c.args.room (omega arith) (tree_of frame.labels.now low.node) c.read_node.new.lines low.read
     c.in_err-read_node-in-Inner-2.field-0.0 (c.in_err-read_node-in-Inner-2.ensures.err some))
 
@@ -49,7 +49,7 @@ pub returns-in_ok-read_node-in-Inner-2-clause-ok : goal.returns-in_ok-read_node-
 returns-in_ok-read_node-in-Inner-2-clause-ok t c =
     let frame = c.args.frame.now in
     read-inner frame.format frame.width frame.labels.now c.args.room c.args.lines.now c.read_due.new.lines c.read_node.new.lines c.read_node-in-Inner.new.lines c.in-Inner.cost
-    (map (λ (id : LabelId). id.0) c.read_due.new.set.items) c.args.nodes.now c.push_inner.new.self c.read_node.new.nodes c.read_node-in-Inner.new.nodes
+    (map (λ (id : LabelId). id.0) c.read_due.new.kept.set.items) c.args.nodes.now c.push_inner.new.self c.read_node.new.nodes c.read_node-in-Inner.new.nodes
     (rw c.in-Inner.is at c.in_ok-line.ensures.ok) (omega arith)
     (c.in_ok-push_inner-in-Inner.ensures.ok ∙ ap (λ (l : List LabelId). c.args.nodes.now ++ PlainLine (InnerLine c.in-Inner.cost (map (λ (id : LabelId). id.0) l)) ∷ []) c.as_slice.ensures.value)
     c.in_ok-read_node-in-Inner.ensures.ok c.in_ok-read_node-in-Inner-2.ensures.ok
@@ -57,8 +57,8 @@ returns-in_ok-read_node-in-Inner-2-clause-ok t c =
 pub returns-then-deep-room-clause-err : goal.returns-then-deep-room-clause-err
 returns-then-deep-room-clause-err t c = λ _.
     let frame = c.args.frame.now in
-    let bits : List Bool = bits_in c.in-Chain.way in
-    let numbers : List ℕ = map (λ (id : LabelId). id.0) c.read_due.new.set.items in
+    let bits : List Bool = bits_in c.read_due.new.kept.way in
+    let numbers : List ℕ = map (λ (id : LabelId). id.0) c.read_due.new.kept.set.items in
     let due = rw c.in-Chain.is at c.in_ok-line.ensures.ok in
     let some = chain-bits frame.format frame.width frame.labels.now c.args.lines.now c.read_due.new.lines c.in-Chain.cost bits c.in-Chain.side.0 numbers due in
     let deep : c.len-deep.result ≡ length bits = omega (arith, c.len-deep.ensures) in
@@ -70,8 +70,8 @@ returns-then-deep-room-clause-err t c = λ _.
 pub read_node-requires-in-Chain : goal.read_node-requires-in-Chain
 read_node-requires-in-Chain t c =
     let frame = c.args.frame.now in
-    let bits : List Bool = bits_in c.in-Chain.way in
-    let numbers : List ℕ = map (λ (id : LabelId). id.0) c.read_due.new.set.items in
+    let bits : List Bool = bits_in c.read_due.new.kept.way in
+    let numbers : List ℕ = map (λ (id : LabelId). id.0) c.read_due.new.kept.set.items in
     let due = rw c.in-Chain.is at c.in_ok-line.ensures.ok in
     let some = chain-bits frame.format frame.width frame.labels.now c.args.lines.now c.read_due.new.lines c.in-Chain.cost bits c.in-Chain.side.0 numbers due in
     let deep : c.len-deep.result ≡ length bits = omega (arith, c.len-deep.ensures) in
@@ -82,8 +82,8 @@ read_node-requires-in-Chain t c =
 pub returns-in_err-read_node-in-Chain-clause-err : goal.returns-in_err-read_node-in-Chain-clause-err
 returns-in_err-read_node-in-Chain-clause-err t c =
     let frame = c.args.frame.now in
-    let bits : List Bool = bits_in c.in-Chain.way in
-    let numbers : List ℕ = map (λ (id : LabelId). id.0) c.read_due.new.set.items in
+    let bits : List Bool = bits_in c.read_due.new.kept.way in
+    let numbers : List ℕ = map (λ (id : LabelId). id.0) c.read_due.new.kept.set.items in
     let due = rw c.in-Chain.is at c.in_ok-line.ensures.ok in
     let some = chain-bits frame.format frame.width frame.labels.now c.args.lines.now c.read_due.new.lines c.in-Chain.cost bits c.in-Chain.side.0 numbers due in
     let deep : c.len-deep.result ≡ length bits = omega (arith, c.len-deep.ensures) in
@@ -98,8 +98,8 @@ returns-in_err-read_node-in-Chain-clause-err t c =
 pub returns-in_ok-read_node-in-Chain-clause-ok : goal.returns-in_ok-read_node-in-Chain-clause-ok
 returns-in_ok-read_node-in-Chain-clause-ok t c =
     let frame = c.args.frame.now in
-    let bits : List Bool = bits_in c.in-Chain.way in
-    let numbers : List ℕ = map (λ (id : LabelId). id.0) c.read_due.new.set.items in
+    let bits : List Bool = bits_in c.read_due.new.kept.way in
+    let numbers : List ℕ = map (λ (id : LabelId). id.0) c.read_due.new.kept.set.items in
     let due = rw c.in-Chain.is at c.in_ok-line.ensures.ok in
     let some = chain-bits frame.format frame.width frame.labels.now c.args.lines.now c.read_due.new.lines c.in-Chain.cost bits c.in-Chain.side.0 numbers due in
     let deep : c.len-deep.result ≡ length bits = omega (arith, c.len-deep.ensures) in

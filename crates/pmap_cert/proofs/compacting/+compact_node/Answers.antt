@@ -1,7 +1,7 @@
 use Rattle.std.proofs.Common.{◌∙◌, map, refl}
 use Rattle.pmap_text.specs.declared.label.LabelId.{LabelId}
 use Rattle.pmap_cert.specs.Packed.{bits_in}
-use Rattle.pmap_cert.specs.Placing.{node_from}
+use Rattle.pmap_cert.specs.Inner.{node_from}
 use Rattle.pmap_cert.proofs.CompactNodes.{chain-lines, inner-lines, leaf-lines}
 use Rattle.pmap_cert.proofs.CompactPlaces.{line-of}
 use Rattle.pmap_cert.proofs.compacting.+compact_node.Goals as goal

@@ -1,7 +1,7 @@
 use Rattle.std.proofs.Common.{ℕ, ◌++◌, ◌∙◌, List, ap, arith, subst, sym}
 use Rattle.pmap_cert.specs.FormatReading.{DueLine}
 use Rattle.pmap_cert.specs.Node.{Node, lines_of}
-use Rattle.pmap_cert.specs.Placing.{AreEndsFrom, IsCompactNode}
+use Rattle.pmap_cert.specs.Inner.{AreEndsFrom, IsCompactNode}
 use Rattle.pmap_cert.proofs.CompactPlaces.{ends-later, plain-of, root-at, some-lines}
 use Rattle.pmap_cert.proofs.compacting.compact_root.Goals as goal
 

@@ -1,5 +1,5 @@
 use Rattle.std.proofs.Common.{◌≤◌, length}
-use Rattle.pmap_cert.specs.Placing.{AreEndsFrom}
+use Rattle.pmap_cert.specs.Inner.{AreEndsFrom}
 use Rattle.pmap_cert.proofs.compacting.ends_of.Given as goal
 
 abbrev pub invariant-loop-number : goal.invariant-loop-number

@@ -1,6 +1,6 @@
 use Rattle.std.proofs.Common.{◌≡◌, ◌+◌, ◌-◌, ◌≤◌, ◌++◌, length}
 use Rattle.pmap_cert.specs.Ways.{way_to}
-use Rattle.pmap_cert.specs.Placing.{HasPlace, bits_down, end_down, node_from}
+use Rattle.pmap_cert.specs.Inner.{HasPlace, bits_down, end_down, node_from}
 use Rattle.pmap_cert.proofs.compacting.go_down.Given as goal
 
 -- the run from the first line is the bits so far and then the run from line `number`

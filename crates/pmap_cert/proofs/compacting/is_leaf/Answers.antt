@@ -1,6 +1,6 @@
 use Rattle.std.proofs.Common.{◌∙◌, ap, option_map, sym}
 use Rattle.pmap_text.specs.declared.label.LabelId.{LabelId}
-use Rattle.pmap_cert.specs.Placing.{node_from}
+use Rattle.pmap_cert.specs.Inner.{node_from}
 use Rattle.pmap_cert.proofs.CompactPlaces.{label-at, leaf-none, leaf-some}
 use Rattle.pmap_cert.proofs.compacting.is_leaf.Goals as goal
 

@@ -1,6 +1,6 @@
 use Rattle.std.proofs.Common.{◌∙◌, ap, arith, option_map}
 use Rattle.pmap_text.specs.declared.label.LabelId.{LabelId}
-use Rattle.pmap_cert.specs.Placing.{node_from}
+use Rattle.pmap_cert.specs.Inner.{node_from}
 use Rattle.pmap_cert.proofs.CompactPlaces.{halves-of, label-at, leaf-only}
 use Rattle.pmap_cert.proofs.compacting.look_below.Goals as goal
 

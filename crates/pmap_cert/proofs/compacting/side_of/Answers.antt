@@ -2,7 +2,7 @@ use Rattle.std.proofs.Common.{◌∙◌, ℕ, Option, ap, option_map, sym}
 use Rattle.std.specs.Option.{option_or}
 use Rattle.pmap_text.specs.declared.label.LabelId.{LabelId}
 use Rattle.pmap_cert.specs.Node.{label_of}
-use Rattle.pmap_cert.specs.Placing.{node_from}
+use Rattle.pmap_cert.specs.Inner.{node_from}
 use Rattle.pmap_cert.proofs.CompactPlaces.{label-at}
 use Rattle.pmap_cert.proofs.compacting.side_of.Goals as goal
 

@@ -1,6 +1,6 @@
 use Rattle.std.proofs.Common.{◌≡◌, ◌==◌, ◌≤◌, true, map, take}
 use Rattle.std.specs.List.{list_all}
-use Rattle.pmap_cert.specs.LineTexts.{is_bit}
+use Rattle.pmap_cert.specs.Inner.{is_bit}
 use Rattle.pmap_cert.specs.Ways.{way_to}
 use Rattle.pmap_cert.proofs.node_line.bits_word.Given as goal
 

@@ -1,6 +1,6 @@
 use Rattle.std.proofs.Common.{◌^◌, ℕ, List, map}
 use Rattle.pmap_text.specs.declared.label.LabelId.{LabelId}
-use Rattle.pmap_cert.specs.LineTexts.{BeginsWithBits, BeginsWithClaim, BeginsWithNumber, BeginsWithWay}
+use Rattle.pmap_cert.specs.Inner.{BeginsWithBits, BeginsWithClaim, BeginsWithNumber, BeginsWithWay}
 use Rattle.pmap_cert.specs.Packed.{bits_in}
 use Rattle.pmap_cert.proofs.LineTexts.{then-left, then-read}
 use Rattle.pmap_cert.proofs.node_line.chain.Goals as goal

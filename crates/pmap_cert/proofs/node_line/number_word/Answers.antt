@@ -1,6 +1,6 @@
 use Rattle.std.proofs.Common.{◌∙◌, ℕ, List, Some, subst, sym, arith}
 use Rattle.std.proofs.lemmas.List.{take_rest}
-use Rattle.pmap_cert.specs.LineTexts.{BeginsWithNumber, Reads}
+use Rattle.pmap_cert.specs.Inner.{BeginsWithNumber, Reads}
 use Rattle.pmap_cert.proofs.LineTexts.{after_byte-found, number-large, number-plain, number-zero}
 use Rattle.pmap_cert.proofs.node_line.number_word.Goals as goal
 

@@ -1,5 +1,5 @@
 use Rattle.std.proofs.Common.{◌++◌, ◌∷◌, ◌∙◌, ap, length}
-use Rattle.prefix_keys.specs.Version.{width_of}
+use Rattle.prefix_keys.specs.Block.{width_of}
 use Rattle.pmap_cert.specs.CertificateText.{format_header, text_of_lines}
 use Rattle.pmap_cert.specs.Format.{format_number}
 use Rattle.pmap_cert.proofs.Written.{whole_text}

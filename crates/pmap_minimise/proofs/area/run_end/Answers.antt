@@ -1,8 +1,7 @@
 use Rattle.std.proofs.Common.{◌≡◌, ◌+◌, ◌-◌, ◌∙◌, ℕ, inl, inr, ap, arith, max, min, refl, subst, sym, true≢false}
 use Rattle.std.specs.Prelude.{bit_xor}
 use Rattle.std.specs.Int.Count.{count_leading_zeros}
-use Rattle.prefix_keys.specs.Block.{block_number, first_of}
-use Rattle.prefix_keys.specs.Version.{width_of}
+use Rattle.prefix_keys.specs.Block.{block_number, first_of, width_of}
 use Rattle.prefix_keys.specs.declared.version.Version.{Version}
 use Rattle.pmap_minimise.proofs.RunEnds.{block-last, direct-end, trimmed}
 use Rattle.pmap_minimise.proofs.area.run_end.Goals as goal

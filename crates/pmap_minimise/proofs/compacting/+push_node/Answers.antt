@@ -1,10 +1,11 @@
-use Rattle.std.proofs.Common.{◌≡◌, ◌∙◌, ◌++◌, ℕ, Bool, List, [], ◌∷◌, ap, arith, map, subst, sym}
+use Rattle.std.proofs.Common.{◌≡◌, ◌∙◌, ◌++◌, ℕ, List, [], ◌∷◌, ap, arith, map, subst, sym}
 use Rattle.std.proofs.lemmas.List.{append_assoc}
 use Rattle.std.proofs.lemmas.Option.{slice_get_within}
 use Rattle.pmap_text.specs.declared.label.LabelId.{LabelId}
 use Rattle.pmap_cert.specs.FormatReading.{ChainLine, DueLine, InnerLine, PlainLine}
 use Rattle.pmap_cert.specs.Node.{lines_of}
-use Rattle.pmap_minimise.specs.Built.{IsAt, way_to}
+use Rattle.pmap_cert.specs.Ways.{way_to}
+use Rattle.pmap_minimise.specs.Built.{IsAt}
 use Rattle.pmap_minimise.specs.Numbers.{numbers_of}
 use Rattle.pmap_minimise.proofs.Compacted.{if_ok, line-inside, read-chained, read-inner, read-leaf, to-some}
 use Rattle.pmap_minimise.proofs.WayEntries.{read-few, read-lines}
@@ -62,7 +63,7 @@ invariant_of-way t c =
     let lines = c.requires in
     let b = c.args.built.now in
     let chain = read-chained b lines.compact lines.node lines.from c.args.to lines.at c.index.result.now c.in-Chain.number c.index.ensures c.in-Chain.is in
-    read-few b lines.compact lines.node c.in-Chain.number lines.from _ chain c.index-in-Chain.result.now c.index-in-Chain.ensures
+    record { few = read-few b lines.compact lines.node c.in-Chain.number lines.from _ chain c.index-in-Chain.result.now c.index-in-Chain.ensures }
 
 pub push_node-requires-in-Chain : goal.push_node-requires-in-Chain
 push_node-requires-in-Chain t c =
@@ -106,12 +107,10 @@ returns-in_ok-push_chain-in-Chain t c =
     let read = c.index-in-Chain.result.now in
     let chain = read-chained b compact node start c.args.to is c.index.result.now c.in-Chain.number c.index.ensures c.in-Chain.is in
     let below = done chain.end chain.opened start chain.below in
-    let bits : c.as_slice.result.now ≡ way_to read.end read.bits =
-    c.as_slice.ensures.value ∙ c.in_ok-push_way-in-Chain.ensures ∙ ap (λ (bs : List Bool). bs ++ way_to read.end read.bits) c.clear.ensures.items in
     let set : map (λ (id : LabelId). id.0) c.from_ref.result.now ≡ read.side.0 ∷ [] = ap numbers_of c.from_ref.ensures.value in (
       below.0,
       below.1 ∙ ap (λ (ls : List DueLine). ls ++ lines_of chain.end)
-          (c.in_ok-push_chain-in-Chain.ensures.ok ∙ (λ i. c.args.out.now ++ ChainLine read.cost (bits i) read.side.0 (set i) ∷ []))
+          (c.in_ok-push_chain-in-Chain.ensures.ok ∙ (λ i. c.args.out.now ++ ChainLine read.cost (way_to read.end read.bits) read.side.0 (set i) ∷ []))
           ∙ append_assoc c.args.out.now (ChainLine read.cost (way_to read.end read.bits) read.side.0 (read.side.0 ∷ []) ∷ []) (lines_of chain.end)
           ∙ ap (λ (ls : List DueLine). c.args.out.now ++ ls) (sym (read-lines b compact node c.in-Chain.number start _ chain read c.index-in-Chain.ensures)),
     ))

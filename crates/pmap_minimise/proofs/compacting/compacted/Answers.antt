@@ -1,7 +1,7 @@
 use Rattle.std.proofs.Common.{◌≡◌, ◌++◌, ◌∙◌, ℕ, List, ap, arith, length, subst, sym}
 use Rattle.pmap_cert.specs.FormatReading.{DueLine}
 use Rattle.pmap_cert.specs.Node.{lines_of}
-use Rattle.pmap_cert.specs.Placing.{IsCompactNode}
+use Rattle.pmap_cert.specs.Inner.{IsCompactNode}
 use Rattle.pmap_minimise.specs.Built.{IsAt}
 use Rattle.pmap_minimise.proofs.compacting.compacted.Goals as goal
 

@@ -1,16 +1,15 @@
 use Rattle.std.proofs.Common.{◌≡◌, ◌+◌, ◌-◌, ◌*◌, ◌∙◌, List, [], ◌∷◌, ap, arith, length, refl, subst, sym}
 use Rattle.std.proofs.lemmas.List.{length-map}
 use Rattle.std.proofs.lemmas.Option.{slice_get_within}
-use Rattle.prefix_keys.specs.Block.{block_number}
-use Rattle.prefix_keys.specs.Version.{width_of}
+use Rattle.prefix_keys.specs.Block.{block_number, width_of}
 use Rattle.pmap_text.specs.declared.label.LabelId.{LabelId}
 use Rattle.pmap_cert.specs.Node.{Node, set_of}
 use Rattle.pmap_cert.proofs.Ways.{way-length}
-use Rattle.label_trie.specs.Leaf.{number_of}
+use Rattle.label_trie.specs.TrieModel.{number_of}
 use Rattle.label_trie.specs.Parts.{IsHalf}
 use Rattle.label_trie.proofs.Divided.{is_half}
 use Rattle.pmap_minimise.specs.Built.{IsAt}
-use Rattle.pmap_minimise.specs.Entered.{AddsEntries}
+use Rattle.pmap_minimise.specs.Listing.{AddsEntries}
 use Rattle.pmap_minimise.specs.Numbers.{IsOwn, IsSound, numbers_of}
 use Rattle.pmap_minimise.proofs.Compacted.{if_ok, line-inside, read-chained, read-inner, read-leaf, to-some}
 use Rattle.pmap_minimise.proofs.Entered.{HasHalves, inner-adds, leaf-adds, sound-halves}
@@ -101,7 +100,7 @@ invariant_of-way t c =
     let lines = c.requires.0 in
     let b = c.args.built.now in
     let chain = read-chained b lines.compact lines.node lines.from c.args.to lines.at c.index.result.now c.in-Chain.number c.index.ensures c.in-Chain.is in
-    record { few = read-few b lines.compact lines.node c.in-Chain.number lines.from c.args.to chain c.index-in-Chain.result.now c.index-in-Chain.ensures }
+    record { few = read-few b lines.compact lines.node c.in-Chain.number lines.from _ chain c.index-in-Chain.result.now c.index-in-Chain.ensures }
 
 pub end-end-requires : goal.end-end-requires
 end-end-requires t c =
@@ -176,8 +175,8 @@ returns-in_ok-side-in-Chain t c =
     let chain = read-chained b compact node start c.args.to is c.index.result.now c.in-Chain.number c.index.ensures c.in-Chain.is in
     let below = done chain.end chain.opened start chain.below in (
       below.0,
-      read-entries b compact node c.in-Chain.number start _ chain c.index-in-Chain.result.now c.index-in-Chain.ensures c.args.here.now c.end_block-end.result c.args.inherited
+      read-entries b compact node c.in-Chain.number start _ chain c.index-in-Chain.result.now c.index-in-Chain.ensures c.args.here.now c.end-end.result c.args.inherited
           c.args.entries.now.items c.push_own-in-Chain.new.entries.items c.push_entries-in-Chain.new.entries.items c.in_ok-side-in-Chain.side
           (subst (λ (ids : List LabelId). IsOwn ids c.args.here.now c.args.inherited c.args.entries.now.items c.push_own-in-Chain.new.entries.items c.in_ok-side-in-Chain.side) c.from_ref-in-Chain.ensures.value c.in_ok-side-in-Chain.ensures)
-          c.end_block-end.ensures below.1,
+          c.end-end.ensures below.1,
     ))

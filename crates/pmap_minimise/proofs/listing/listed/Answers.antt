@@ -1,8 +1,8 @@
 use Rattle.std.proofs.Common.{◌≡◌, ◌-◌, ◌∙◌, ℕ, List, None, ap, arith, length, subst, sym}
-use Rattle.prefix_keys.specs.Version.{width_of}
+use Rattle.prefix_keys.specs.Block.{width_of}
 use Rattle.pmap_text.specs.declared.entry.Entry.{Entry}
 use Rattle.pmap_minimise.specs.Built.{IsAt}
-use Rattle.pmap_minimise.specs.Entered.{AddsEntries}
+use Rattle.pmap_minimise.specs.Listing.{AddsEntries}
 use Rattle.pmap_minimise.specs.Numbers.{IsSound}
 use Rattle.pmap_minimise.proofs.listing.listed.Goals as goal
 

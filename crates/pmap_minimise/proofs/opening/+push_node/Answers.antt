@@ -4,9 +4,8 @@ use Rattle.std.proofs.lemmas.List.{append_assoc}
 use Rattle.std.proofs.lemmas.Option.{slice_get_within}
 use Rattle.pmap_cert.specs.CertificateText.{inner_line}
 use Rattle.pmap_cert.specs.Node.{Node}
-use Rattle.pmap_minimise.specs.Built.{IsAt}
+use Rattle.pmap_minimise.specs.Built.{IsAt, node_text, side_line, text_down, way_line}
 use Rattle.pmap_minimise.specs.Numbers.{numbers_of}
-use Rattle.pmap_minimise.specs.Opening.{node_text, side_line, text_down, way_line}
 use Rattle.pmap_minimise.proofs.Compacted.{if_ok, line-inside, read-chained, read-inner, read-leaf, to-some}
 use Rattle.pmap_minimise.proofs.Opened.{chain-added, inner-added, leaf-added, text-after}
 use Rattle.pmap_minimise.proofs.WayEntries.{read-few, read-long, read-node, read-price}

@@ -1,6 +1,6 @@
 use Rattle.std.proofs.Common.{◌≡◌, ◌≤◌, ◌++◌}
 use Rattle.pmap_minimise.specs.Numbers.{numbers_of}
-use Rattle.pmap_minimise.specs.Opening.{text_down}
+use Rattle.pmap_minimise.specs.Built.{text_down}
 use Rattle.pmap_minimise.proofs.opening.push_down.Given as goal
 
 abbrev pub invariant-loop-place : goal.invariant-loop-place

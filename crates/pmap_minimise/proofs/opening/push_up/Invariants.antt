@@ -1,5 +1,5 @@
 use Rattle.std.proofs.Common.{◌≡◌, ◌++◌}
-use Rattle.pmap_minimise.specs.Opening.{text_up}
+use Rattle.pmap_minimise.specs.Built.{text_up}
 use Rattle.pmap_minimise.proofs.opening.push_up.Given as goal
 
 abbrev pub invariant-loop-place : goal.invariant-loop-place

@@ -1,16 +1,14 @@
 use Rattle.std.proofs.Common.{◌≡◌, ◌+◌, ◌-◌, ◌*◌, ◌∙◌, ◌++◌, ◌∷◌, [], List, Some, refl, ap, arith, length, subst, sym}
 use Rattle.std.proofs.lemmas.List.{length-map}
-use Rattle.prefix_keys.specs.Block.{block_number}
-use Rattle.prefix_keys.specs.Version.{width_of}
+use Rattle.prefix_keys.specs.Block.{block_number, width_of}
 use Rattle.pmap_text.specs.declared.label.LabelId.{LabelId}
 use Rattle.pmap_cert.specs.FormatReading.{DueLine}
 use Rattle.pmap_cert.specs.Node.{set_of}
-use Rattle.label_trie.specs.Leaf.{number_of}
+use Rattle.label_trie.specs.TrieModel.{number_of}
 use Rattle.label_trie.specs.Parts.{IsHalf}
 use Rattle.label_trie.proofs.Divided.{is_half}
 use Rattle.pmap_minimise.specs.Numbers.{numbers_of}
-use Rattle.pmap_minimise.specs.Walks.{IsChosenFrom}
-use Rattle.pmap_minimise.specs.declared.walks.Due.{Due}
+use Rattle.pmap_minimise.specs.Walks.{IsChosenFrom, Due}
 use Rattle.pmap_minimise.proofs.Compacted.{on_ok}
 use Rattle.pmap_minimise.proofs.Joined.{set-some}
 use Rattle.pmap_minimise.proofs.Walked.{chosen-inner, chosen-leaf, due-some, here-is, inner-read, line-inside, no-chain}

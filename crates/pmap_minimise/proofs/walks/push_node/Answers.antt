@@ -1,11 +1,11 @@
 use Rattle.std.proofs.Common.{◌∙◌, ◌++◌, ◌∷◌, [], ap, slice_get, subst}
 use Rattle.std.specs.Option.{ForSome}
 use Rattle.std.specs.Prelude.{IfOk}
-use Rattle.label_trie.specs.Kind.{IsKindOf}
+use Rattle.label_trie.specs.Tree.{IsKindOf}
 use Rattle.label_trie.specs.declared.kind.Kind.{Kind}
 use Rattle.label_trie.specs.declared.kind.Kind.TheVariants.{Leaf}
 use Rattle.pmap_text.specs.declared.label.LabelId.{LabelId}
-use Rattle.pmap_minimise.specs.Building.{AddsLeaf}
+use Rattle.pmap_minimise.specs.Built.{AddsLeaf}
 use Rattle.pmap_minimise.specs.Walks.{IsClaimedFrom}
 use Rattle.pmap_minimise.proofs.Compacted.{if_ok}
 use Rattle.pmap_minimise.proofs.Walked.{claim-inner, claim-leaf, claim-none, halves-few, high-held, low-held, one-there, other-there}

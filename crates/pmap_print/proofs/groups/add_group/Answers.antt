@@ -1,8 +1,7 @@
 use Rattle.std.proofs.Common.{◌≡◌, ◌∙◌, [], ◌∷◌, ◌++◌, ap, sym}
-use Rattle.flow_uniq.specs.Kept.{group_model}
-use Rattle.pmap_print.specs.Columns.{IsNoted, sizes}
-use Rattle.pmap_print.specs.Groups.{group_fields}
-use Rattle.pmap_print.specs.Table.{Line}
+use Rattle.flow_uniq.specs.Inner.{group_model}
+use Rattle.pmap_print.specs.Table.{IsNoted, sizes, Line}
+use Rattle.pmap_print.specs.Reports.{group_fields}
 use Rattle.pmap_print.proofs.TableLines.{line_printed, noted-if}
 use Rattle.pmap_print.proofs.groups.add_group.Goals as goal
 

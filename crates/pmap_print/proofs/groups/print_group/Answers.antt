@@ -3,12 +3,9 @@ use Rattle.std.specs.Prelude.{decimal}
 use Rattle.std.proofs.lemmas.Bool.{both_ways}
 use Rattle.std.proofs.lemmas.List.{length-append}
 use Rattle.flow_uniq.specs.Key.{Key}
-use Rattle.flow_uniq.specs.Kept.{key_model}
-use Rattle.flow_uniq.specs.Parts.{part_model}
-use Rattle.pmap_print.specs.Columns.{sizes}
-use Rattle.pmap_print.specs.Groups.{part_text}
-use Rattle.pmap_print.specs.Parts.{total_fields}
-use Rattle.pmap_print.specs.Table.{line_text}
+use Rattle.flow_uniq.specs.Inner.{key_model, part_model}
+use Rattle.pmap_print.specs.Table.{sizes, line_text}
+use Rattle.pmap_print.specs.Reports.{part_text, total_fields}
 use Rattle.pmap_print.proofs.GroupText.{field_more, size_more}
 use Rattle.pmap_print.proofs.groups.print_group.Goals as goal
 

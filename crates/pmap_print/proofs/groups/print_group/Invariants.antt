@@ -1,10 +1,8 @@
 -- The parts so far are printed, and the other parts and the totals follow.
 use Rattle.std.proofs.Common.{◌≡◌, ◌++◌, length, map, true}
-use Rattle.flow_uniq.specs.Kept.{group_model, key_model}
-use Rattle.pmap_print.specs.Columns.{sizes}
-use Rattle.pmap_print.specs.Groups.{group_fields, part_text}
-use Rattle.pmap_print.specs.Parts.{total_fields}
-use Rattle.pmap_print.specs.Table.{line_text}
+use Rattle.flow_uniq.specs.Inner.{group_model, key_model}
+use Rattle.pmap_print.specs.Table.{sizes, line_text}
+use Rattle.pmap_print.specs.Reports.{group_fields, part_text, total_fields}
 use Rattle.pmap_print.proofs.groups.print_group.Given as goal
 
 abbrev pub invariant-loop-part : goal.invariant-loop-part

@@ -5,13 +5,11 @@ use Rattle.std.proofs.lemmas.List.Sorted.{All-permutation}
 use Rattle.std.proofs.lemmas.List.{length-map, take_all}
 use Rattle.flow_uniq.specs.declared.field.KeyField.{KeyField}
 use Rattle.flow_uniq.specs.declared.group.Group.{Group}
-use Rattle.flow_uniq.specs.Groups.{GroupModel}
-use Rattle.flow_uniq.specs.Kept.{group_model}
-use Rattle.flow_uniq.specs.Sorted.{shown_groups}
+use Rattle.flow_uniq.specs.Groups.{GroupModel, shown_groups}
+use Rattle.flow_uniq.specs.Inner.{group_model}
 use Rattle.flow_uniq.proofs.Listing.{none_past}
-use Rattle.pmap_print.specs.Columns.{IsTable, has_columns}
-use Rattle.pmap_print.specs.Groups.{group_fields, group_lines, group_titles}
-use Rattle.pmap_print.specs.Table.{Line, table_text}
+use Rattle.pmap_print.specs.Table.{IsTable, has_columns, Line, table_text}
+use Rattle.pmap_print.specs.Reports.{group_fields, group_lines, group_titles}
 use Rattle.pmap_print.proofs.GroupLines.{first_lines, line_added, listed_at, parts_at}
 use Rattle.pmap_print.proofs.groups.print_groups.Goals as goal
 use Rattle.pmap_print.proofs.groups.print_groups.Goals.{in-Some+in_ok-add_group-2, in_default}

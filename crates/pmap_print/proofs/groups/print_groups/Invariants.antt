@@ -1,6 +1,6 @@
 use Rattle.std.proofs.Common.{◌≡◌, ◌+◌, length, map}
-use Rattle.flow_uniq.specs.Kept.{group_model}
-use Rattle.pmap_print.specs.Columns.{IsTable, has_columns}
+use Rattle.flow_uniq.specs.Inner.{group_model}
+use Rattle.pmap_print.specs.Table.{IsTable, has_columns}
 use Rattle.pmap_print.proofs.GroupLines.{first_lines}
 use Rattle.pmap_print.proofs.groups.print_groups.Given as goal
 

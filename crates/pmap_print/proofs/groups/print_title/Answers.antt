@@ -2,10 +2,9 @@ use Rattle.std.proofs.Common.{ℕ, suc, ◌≡◌, ◌+◌, ◌∙◌, List, [],
 use Rattle.std.specs.Prelude.{codes}
 use Rattle.flow_uniq.specs.declared.field.KeyField.{KeyField}
 use Rattle.flow_uniq.specs.declared.field.KeyField.TheVariants.{SourceAddress}
-use Rattle.flow_uniq.specs.Field.{field_name}
-use Rattle.pmap_print.specs.Columns.{sizes}
-use Rattle.pmap_print.specs.Groups.{total_titles}
-use Rattle.pmap_print.specs.Table.{Line, line_text}
+use Rattle.flow_uniq.specs.Key.{field_name}
+use Rattle.pmap_print.specs.Table.{sizes, Line, line_text}
+use Rattle.pmap_print.specs.Reports.{total_titles}
 use Rattle.pmap_print.proofs.GroupText.{field_more, size_more}
 use Rattle.pmap_print.proofs.groups.print_title.Goals as goal
 

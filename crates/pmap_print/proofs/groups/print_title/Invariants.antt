@@ -1,9 +1,8 @@
 -- The names of the fields before the index are printed, and the other names and those of the totals follow.
 use Rattle.std.proofs.Common.{◌≡◌, ◌++◌, drop, map}
-use Rattle.flow_uniq.specs.Field.{field_name}
-use Rattle.pmap_print.specs.Columns.{sizes}
-use Rattle.pmap_print.specs.Groups.{group_titles, total_titles}
-use Rattle.pmap_print.specs.Table.{line_text}
+use Rattle.flow_uniq.specs.Key.{field_name}
+use Rattle.pmap_print.specs.Table.{sizes, line_text}
+use Rattle.pmap_print.specs.Reports.{group_titles, total_titles}
 use Rattle.pmap_print.proofs.groups.print_title.Given as goal
 
 abbrev pub invariant-loop-field : goal.invariant-loop-field

@@ -1,5 +1,5 @@
 use Rattle.std.proofs.Common.{◌+◌, ◌∙◌, [], ap, length}
-use Rattle.pmap_print.specs.Groups.{group_titles}
+use Rattle.pmap_print.specs.Reports.{group_titles}
 use Rattle.pmap_print.proofs.GroupLines.{length-group_titles}
 use Rattle.pmap_print.proofs.TableLines.{line_printed}
 use Rattle.pmap_print.proofs.groups.table_of_none.Goals as goal

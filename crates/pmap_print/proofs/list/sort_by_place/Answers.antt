@@ -1,6 +1,6 @@
 use Rattle.std.proofs.Common.{rules}
 use Rattle.std.proofs.lemmas.List.Sorted.{IsNonDecreasingBy-from_sort_by}
-use Rattle.pmap_print.specs.Sorting.{place_of}
+use Rattle.pmap_print.specs.List.{place_of}
 use Rattle.pmap_print.proofs.list.sort_by_place.Goals as goal
 
 pub returns-clause-rising : goal.returns-clause-rising

@@ -1,9 +1,7 @@
 use Rattle.std.proofs.Common.{◌≡◌, ◌+◌, ◌∙◌, ◌∷◌, [], Bool, List, is_some, subst, sym, take}
 use Rattle.std.specs.Prelude.{IfOk}
-use Rattle.pmap_print.specs.Columns.{IsTable}
-use Rattle.pmap_print.specs.Parts.{column_count}
-use Rattle.pmap_print.specs.Rows.{title_line}
-use Rattle.pmap_print.specs.Table.{Line, table_text}
+use Rattle.pmap_print.specs.Table.{IsTable, Line, table_text}
+use Rattle.pmap_print.specs.Reports.{column_count, title_line}
 use Rattle.pmap_print.proofs.RowLines.{all_lines, header_alone, line_added, lines_of}
 use Rattle.pmap_print.proofs.rows.print_rows.Goals as goal
 

@@ -1,7 +1,7 @@
 -- The lines of the header and of the rows before the index are added.
 use Rattle.std.proofs.Common.{◌≡◌, ◌+◌, is_some, take}
-use Rattle.pmap_print.specs.Columns.{IsTable, has_columns}
-use Rattle.pmap_print.specs.Parts.{column_count}
+use Rattle.pmap_print.specs.Table.{IsTable, has_columns}
+use Rattle.pmap_print.specs.Reports.{column_count}
 use Rattle.pmap_print.proofs.RowLines.{lines_of}
 use Rattle.pmap_print.proofs.rows.print_rows.Given as goal
 

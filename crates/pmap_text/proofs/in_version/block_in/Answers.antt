@@ -1,6 +1,5 @@
 use Rattle.std.proofs.Common.{◌≡◌, ℕ, ◌+◌, ◌-◌, Ok, ap, sym, ◌∙◌}
-use Rattle.prefix_keys.specs.Block.{block_number, first_of}
-use Rattle.prefix_keys.specs.Version.{width_of}
+use Rattle.prefix_keys.specs.Block.{block_number, first_of, width_of}
 use Rattle.pmap_text.specs.Reading.{number_in}
 use Rattle.pmap_text.proofs.MovedBlocks.{first_of-placed}
 use Rattle.pmap_text.proofs.in_version.block_in.Goals as goal

@@ -1,4 +1,4 @@
-use Rattle.prefix_keys.specs.Version.{width_of}
+use Rattle.prefix_keys.specs.Block.{width_of}
 use Rattle.pmap_text.proofs.ListLabels.{label-longest, longest-match}
 use Rattle.pmap_text.proofs.laws.longest_match_counts.Goals as goal
 

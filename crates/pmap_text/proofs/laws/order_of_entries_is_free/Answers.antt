@@ -1,8 +1,7 @@
 use Rattle.std.proofs.Common.{◌≡◌, ℕ, suc, ap, ◌∙◌}
-use Rattle.prefix_keys.specs.Version.{width_of}
+use Rattle.prefix_keys.specs.Block.{width_of}
 use Rattle.prefix_keys.specs.declared.version.Version.{Version}
-use Rattle.pmap_text.specs.ListModel.{ListModel, label_below, list_label}
-use Rattle.pmap_text.specs.LongestMatch.{HasSamePrefixes, LabelsBlocksOnce}
+use Rattle.pmap_text.specs.ListModel.{ListModel, label_below, list_label, HasSamePrefixes, LabelsBlocksOnce}
 use Rattle.pmap_text.proofs.ListBlocks.{distinct-list_of}
 use Rattle.pmap_text.proofs.ListLabels.{label-same_prefixes, once-distinct, same_prefixes-permuted}
 use Rattle.pmap_text.proofs.laws.order_of_entries_is_free.Goals as goal

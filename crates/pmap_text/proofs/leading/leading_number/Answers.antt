@@ -1,7 +1,7 @@
 use Rattle.std.proofs.Common.{ℕ, ◌≡◌, Some, List, take, sym, subst, arith}
 use Rattle.std.proofs.lemmas.List.{take_rest, take-append-drop}
 use Rattle.prefix_keys.specs.Text.{short_number}
-use Rattle.pmap_text.specs.Leading.{BeginsWithNumber}
+use Rattle.pmap_text.specs.Inner.{BeginsWithNumber}
 use Rattle.pmap_text.proofs.LeadingWords.{number-some}
 use Rattle.pmap_text.proofs.leading.leading_number.Goals as goal
 

@@ -1,6 +1,6 @@
 use Rattle.std.proofs.Common.{◌∙◌, sym}
-use Rattle.prefix_keys.specs.Version.{width_of}
-use Rattle.pmap_text.specs.Leading.{BeginsWithNumber}
+use Rattle.prefix_keys.specs.Block.{width_of}
+use Rattle.pmap_text.specs.Inner.{BeginsWithNumber}
 use Rattle.pmap_text.proofs.LeadingWords.{address-word, block-word}
 use Rattle.pmap_text.proofs.leading.leading_word.Goals as goal
 

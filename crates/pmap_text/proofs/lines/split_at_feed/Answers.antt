@@ -1,7 +1,7 @@
 use Rattle.std.proofs.Common.{◌≡◌, ◌≤◌, ◌≢◌, refl, length, List, ℕ, [], ◌∷◌, arith}
 use Rattle.std.proofs.lemmas.Grind.{common_steps}
 use Rattle.pmap_text.proofs.Places.{feed_at, lines_of-at_feed, lines_of-no_feed}
-use Rattle.pmap_text.specs.Lines.{lines_of}
+use Rattle.pmap_text.specs.Reading.{lines_of}
 use Rattle.pmap_text.proofs.lines.split_at_feed.Goals as goal
 
 pub returns-then-end-text-clause-line : goal.returns-then-end-text-clause-line

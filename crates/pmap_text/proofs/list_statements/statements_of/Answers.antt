@@ -1,7 +1,7 @@
 use Rattle.std.proofs.Common.{◌≡◌, take, refl}
 use Rattle.std.proofs.lemmas.List.{take_all}
 use Rattle.pmap_text.proofs.Layered.{zip_more}
-use Rattle.pmap_text.specs.ListStatements.{HasStatement}
+use Rattle.pmap_text.specs.PrefixList.{HasStatement}
 use Rattle.pmap_text.proofs.list_statements.statements_of.Goals as goal
 
 pub loop-entry-preserved : goal.loop-entry-preserved

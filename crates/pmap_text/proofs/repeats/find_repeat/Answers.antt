@@ -1,5 +1,5 @@
 use Rattle.std.proofs.Common.{ℕ, [], Some, ap, not, sym, subst, ◌+◌, ◌∙◌, map, refl}
-use Rattle.pmap_text.specs.Filed.{IsFirstRepeat}
+use Rattle.pmap_text.specs.Inner.{IsFirstRepeat}
 use Rattle.pmap_text.specs.PrefixList.{prefix_of}
 use Rattle.pmap_text.proofs.Filed.{AreFiled, filed_more, filed_repeat, none_filed}
 use Rattle.pmap_text.proofs.repeats.find_repeat.Goals as goal

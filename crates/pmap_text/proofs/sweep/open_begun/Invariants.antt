@@ -1,5 +1,5 @@
 use Rattle.std.proofs.Common.{◌-◌, ◌≤◌, length}
-use Rattle.pmap_text.specs.Sweep.{IsReady, high_won}
+use Rattle.pmap_text.specs.Inner.{IsReady, high_won}
 use Rattle.pmap_text.proofs.sweep.open_begun.Given as goal
 
 abbrev pub invariant-loop-sweep : goal.invariant-loop-sweep

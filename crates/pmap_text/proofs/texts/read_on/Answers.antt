@@ -1,8 +1,6 @@
 use Rattle.std.proofs.Common.{◌≡◌, ◌≢◌, ◌≤◌, ◌∙◌, ℕ, List, Err, length, sym, subst, arith}
-use Rattle.pmap_text.specs.Lines.{lines_of}
-use Rattle.pmap_text.specs.Reading.{content_line}
-use Rattle.pmap_text.specs.Steps.{Takes, refusal_of}
-use Rattle.pmap_text.specs.declared.fault.MapFaultKind.TheVariants.{NoMemory}
+use Rattle.pmap_text.specs.Reading.{lines_of, content_line, NoMemory}
+use Rattle.pmap_text.specs.Inner.{Takes, refusal_of}
 use Rattle.pmap_text.proofs.Entering.{none_read, read-all, read-fault, read-line}
 use Rattle.pmap_text.proofs.texts.read_on.Goals as goal
 

@@ -1,5 +1,5 @@
 use Rattle.std.proofs.Common.{◌+◌, ◌≤◌, length}
-use Rattle.pmap_text.specs.Lines.{lines_of}
+use Rattle.pmap_text.specs.Reading.{lines_of}
 use Rattle.pmap_text.proofs.Entering.{HasReadTo}
 use Rattle.pmap_text.proofs.texts.read_on.Given as goal
 

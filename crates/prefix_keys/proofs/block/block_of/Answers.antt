@@ -1,6 +1,6 @@
 use Rattle.std.proofs.Common.{◌-◌, ◌^◌, arith, ℕ}
 use Rattle.std.proofs.lemmas.Nat.{pow_pos}
-use Rattle.prefix_keys.specs.Version.{width_of}
+use Rattle.prefix_keys.specs.Block.{width_of}
 use Rattle.prefix_keys.proofs.Quotients.{and_low, cleared, cleared-mod}
 use Rattle.prefix_keys.proofs.block.block_of.Goals as goal
 

@@ -1,6 +1,6 @@
 use Rattle.std.proofs.Common.{◌∙◌, ◌+◌, arith, subst, sym}
 use Rattle.pmap_text.specs.MapText.{text_at}
-use Rattle.cert_check.specs.Parts.{last_in}
+use Rattle.cert_check.specs.Inner.{last_in}
 use Rattle.pmap_text.specs.Stretches.{HoldsAddress}
 use Rattle.cert_check.proofs.Settled.{settled-between}
 use Rattle.cert_check.proofs.part.Part.clear_after.Goals as goal

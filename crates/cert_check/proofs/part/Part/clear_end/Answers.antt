@@ -1,6 +1,6 @@
 use Rattle.std.proofs.Common.{◌∙◌, ◌+◌, ℕ, arith, subst, sym}
 use Rattle.pmap_text.specs.MapText.{map_of, text_at}
-use Rattle.cert_check.specs.Parts.{IsSettledBetween, last_in}
+use Rattle.cert_check.specs.Inner.{IsSettledBetween, last_in}
 use Rattle.pmap_cert.specs.Packed.{bits_in}
 use Rattle.pmap_text.specs.Stretches.{HoldsAddress}
 use Rattle.cert_check.proofs.HalfBlocks.{block-last}

@@ -1,8 +1,7 @@
 use Rattle.std.proofs.Common.{ℕ, List, arith, ltb, rules, subst, sym}
 use Rattle.std.proofs.lemmas.List.Sorted.{IsPartitionPoint-from_clause, IsPartitionedBy-ltb}
 use Rattle.pmap_text.specs.declared.entry.Entry.{Entry}
-use Rattle.cert_check.specs.Halves.{AreHalves}
-use Rattle.cert_check.specs.Parts.{IsListPart}
+use Rattle.cert_check.specs.Inner.{AreHalves, IsListPart}
 use Rattle.pmap_text.specs.Stretches.{HoldsAddress}
 use Rattle.cert_check.proofs.HalfBlocks.{behind-low, ends-high}
 use Rattle.cert_check.proofs.Lists.{slice-from}

@@ -1,6 +1,6 @@
 use Rattle.std.proofs.Common.{List, Some, drop, suc, subst, sym}
 use Rattle.pmap_text.specs.declared.entry.Entry.{Entry}
-use Rattle.cert_check.specs.Parts.{IsListPart}
+use Rattle.cert_check.specs.Inner.{IsListPart}
 use Rattle.cert_check.proofs.Handed.{part-first, part-none, part-own}
 use Rattle.cert_check.proofs.Lists.{first-is, first-none, slice-from}
 use Rattle.cert_check.proofs.Within.{IsOwn}

@@ -1,11 +1,11 @@
 use Rattle.std.proofs.Common.{◌≤◌, ◌∙◌, ap, arith, map, sym}
 use Rattle.std.proofs.lemmas.List.{length-map}
 use Rattle.ipfix_read.specs.Message.{message_size}
-use Rattle.flow_rows.specs.Content.{rows_of}
-use Rattle.flow_rows.specs.Row.{row_view}
+use Rattle.flow_rows.specs.Counts.{rows_of}
+use Rattle.flow_rows.specs.Elements.{row_view}
 use Rattle.label_lookup.specs.Labelling.{labelling_lent}
 use Rattle.flow_filter.specs.Filters.{condition_in}
-use Rattle.flow_filter.specs.Passing.{passes}
+use Rattle.flow_filter.specs.Condition.{passes}
 use Rattle.flow_filter.proofs.PassingLemmas.{few_added}
 use Rattle.flow_filter.proofs.filter.Filter.add_passing_rows.Goals as goal
 

@@ -1,8 +1,6 @@
 use Rattle.std.proofs.Common.{[], ◌∷◌, refl}
 use Rattle.std.proofs.lemmas.Result.{err_from_is_err_and}
-use Rattle.flow_filter.specs.Words.{addresses_in, counts_in, first_some, words_of}
-use Rattle.flow_filter.specs.declared.fault.FilterFaultKind.TheVariants.{BadBlock, BadRange}
-use Rattle.flow_filter.specs.declared.fault.FilterOption.TheVariants.{Bytes, DestinationAddress, Packets, SourceAddress}
+use Rattle.flow_filter.specs.Words.{addresses_in, counts_in, first_some, words_of, BadBlock, BadRange, Bytes, DestinationAddress, Packets, SourceAddress}
 use Rattle.flow_filter.proofs.InOrder.{at_option}
 use Rattle.flow_filter.proofs.filter.Filter.read.Goals as goal
 

@@ -1,8 +1,7 @@
 use Rattle.std.proofs.Common.{◌-◌, ◌<◌, List, get_or, length, leb, rules, sym, ap, subst, ◌∙◌, arith}
 use Rattle.std.proofs.lemmas.List.{get_or_default}
 use Rattle.std.proofs.lemmas.List.Sorted.{IsPartitionPoint-from_clause, IsPartitionedBy-leb}
-use Rattle.flow_filter.specs.Ranges.{AreRising, in_ranges}
-use Rattle.flow_filter.specs.declared.range.Range.{Range}
+use Rattle.flow_filter.specs.Condition.{AreRising, in_ranges, Range}
 use Rattle.flow_filter.proofs.Widened.{last_begun, none_begun}
 use Rattle.flow_filter.proofs.ranges.Ranges.covers.Goals as goal
 

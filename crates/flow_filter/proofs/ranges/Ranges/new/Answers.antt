@@ -1,8 +1,7 @@
 use Rattle.std.proofs.Common.{List, rules, sym, ap, subst, ◌∙◌}
 use Rattle.std.specs.List.Sorted.{IsNonDecreasingBy}
 use Rattle.std.proofs.lemmas.List.Sorted.{IsNonDecreasingBy-from_sort_by_key}
-use Rattle.flow_filter.specs.Ranges.{in_ranges}
-use Rattle.flow_filter.specs.declared.range.Range.{Range}
+use Rattle.flow_filter.specs.Condition.{in_ranges, Range}
 use Rattle.flow_filter.proofs.Widened.{same_permuted}
 use Rattle.flow_filter.proofs.ranges.Ranges.new.Goals as goal
 

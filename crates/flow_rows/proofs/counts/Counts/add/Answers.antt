@@ -4,8 +4,7 @@ use Rattle.std.proofs.lemmas.List.{append-nil, drop_more, take_all, take_more}
 use Rattle.std.proofs.lemmas.List.Sums.{sum_by-cons}
 use Rattle.ipfix_read.specs.declared.set.Set.{Set}
 use Rattle.ipfix_read.specs.Message.{MessageView, message_size, set_size}
-use Rattle.flow_rows.specs.Content.{sets_of}
-use Rattle.flow_rows.specs.Counts.{counts_in}
+use Rattle.flow_rows.specs.Counts.{sets_of, counts_in}
 use Rattle.flow_rows.proofs.counts.Counts.add.Goals as goal
 
 pub loop-set-preserved : goal.loop-set-preserved

@@ -1,8 +1,7 @@
 -- The counts are those of the messages and of the sets before the index, and there is room for those after it.
 use Rattle.std.proofs.Common.{◌≡◌, ◌+◌, ◌*◌, ◌≤◌, ◌++◌, List, drop, length, take}
 use Rattle.ipfix_read.specs.Message.{MessageView, message_size}
-use Rattle.flow_rows.specs.Content.{sets_of}
-use Rattle.flow_rows.specs.Counts.{counts_in, counts_of, counts_view, total}
+use Rattle.flow_rows.specs.Counts.{sets_of, counts_in, counts_of, counts_view, total}
 use Rattle.flow_rows.proofs.counts.Counts.add.Given as goal
 
 abbrev pub invariant-loop-set : goal.invariant-loop-set

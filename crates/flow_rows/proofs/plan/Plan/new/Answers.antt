@@ -4,9 +4,8 @@ use Rattle.std.proofs.lemmas.List.{drop_all, drop_more}
 use Rattle.std.proofs.lemmas.List.Sums.{count_by-le-length, length-filter}
 use Rattle.ipfix_templates.specs.declared.field.Field.{Field}
 use Rattle.ipfix_templates.specs.Field.{has_bytes}
-use Rattle.flow_rows.specs.Element.{back, forward}
-use Rattle.flow_rows.specs.Places.{elements_at, given, kept, place, place_in}
-use Rattle.flow_rows.specs.declared.elements.Elements.{Elements}
+use Rattle.flow_rows.specs.Elements.{back, forward}
+use Rattle.flow_rows.specs.Inner.{elements_at, given, kept, place, place_in, Elements}
 use Rattle.flow_rows.proofs.Reading.{with_places, with_places-cons, with_places-nil, with_places-none}
 use Rattle.flow_rows.proofs.plan.Plan.new.Goals as goal
 use Rattle.flow_rows.proofs.plan.Plan.new.Goals.{After-filled-field-items}

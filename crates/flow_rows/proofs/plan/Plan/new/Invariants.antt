@@ -1,7 +1,7 @@
 -- The known offsets, together with those of the fields from the index on, are those of all fields.
 use Rattle.std.proofs.Common.{◌≡◌, ◌*◌, ◌≤◌, drop}
-use Rattle.flow_rows.specs.Element.{back, forward}
-use Rattle.flow_rows.specs.Places.{elements_at, place}
+use Rattle.flow_rows.specs.Elements.{back, forward}
+use Rattle.flow_rows.specs.Inner.{elements_at, place}
 use Rattle.flow_rows.proofs.Reading.{with_places}
 use Rattle.flow_rows.proofs.plan.Plan.new.Given as goal
 

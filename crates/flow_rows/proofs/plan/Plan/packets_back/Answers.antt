@@ -1,6 +1,5 @@
 use Rattle.std.proofs.Common.{◌∙◌, sym}
-use Rattle.flow_rows.specs.Element.{back}
-use Rattle.flow_rows.specs.Elements.{packets_of}
+use Rattle.flow_rows.specs.Elements.{back, packets_of}
 use Rattle.flow_rows.proofs.Reading.{filled_said, fixed_said}
 use Rattle.flow_rows.proofs.plan.Plan.packets_back.Goals as goal
 

@@ -4,7 +4,7 @@ use Rattle.std.specs.List.{flat_map}
 use Rattle.std.proofs.lemmas.Bool.{and_from, and_left, and_right, eq-eqb, ne_eqb}
 use Rattle.std.proofs.lemmas.List.Elements.{All-tail}
 use Rattle.std.proofs.lemmas.List.Sums.{count_by-le-length, sum_by-cons}
-use Rattle.ipfix_templates.specs.Kind.{same_kind}
+use Rattle.ipfix_templates.specs.Template.{same_kind}
 use Rattle.ipfix_templates.specs.declared.kind.Kind.TheVariants.{Flow}
 use Rattle.ipfix_read.specs.declared.record.Record.{Record}
 use Rattle.flow_rows.specs.Elements.{rows_of_record}

@@ -1,6 +1,5 @@
 use Rattle.std.proofs.Common.{◌∙◌, sym}
-use Rattle.flow_rows.specs.Element.{forward}
-use Rattle.flow_rows.specs.Elements.{row_of_elements}
+use Rattle.flow_rows.specs.Elements.{forward, row_of_elements}
 use Rattle.flow_rows.proofs.Reading.{filled_said, fixed_said}
 use Rattle.flow_rows.proofs.Rows.{first_row_of-flow}
 use Rattle.flow_rows.proofs.plan.Plan.row_of.Goals as goal

@@ -1,6 +1,6 @@
 use Rattle.std.proofs.Common.{◌∙◌, sym}
 use Rattle.label_lookup.specs.Labelling.{label_where, labelling_lent}
-use Rattle.flow_rows.specs.Row.{row_view}
+use Rattle.flow_rows.specs.Elements.{row_view}
 use Rattle.flow_uniq.specs.Key.{Key, key_of}
 use Rattle.flow_uniq.proofs.Cutting.{both_ok, when_ok, written}
 use Rattle.flow_uniq.proofs.codec.Code.write.Goals as goal

@@ -1,6 +1,6 @@
 use Rattle.std.proofs.Common.{List, ℕ, ◌∷◌, sym, ap, ◌∙◌}
 use Rattle.flow_uniq.specs.Key.{KeyPartModel}
-use Rattle.flow_uniq.specs.Parts.{key_in}
+use Rattle.flow_uniq.specs.Inner.{key_in}
 use Rattle.flow_uniq.proofs.Cutting.{key_in-rest}
 use Rattle.flow_uniq.proofs.codec.Key.split_first.Goals as goal
 

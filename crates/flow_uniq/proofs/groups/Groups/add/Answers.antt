@@ -1,11 +1,10 @@
 use Rattle.std.proofs.Common.{◌+◌, List, length, sym, ap, ◌∙◌, arith}
 use Rattle.std.proofs.lemmas.List.{length-map}
-use Rattle.flow_rows.specs.Row.{row_view}
+use Rattle.flow_rows.specs.Elements.{row_view}
 use Rattle.label_lookup.specs.Labelling.{label_where, labelling_lent}
-use Rattle.flow_uniq.specs.declared.field.KeyField.{KeyField}
+use Rattle.flow_uniq.specs.Key.{KeyField, key_of, key_part}
 use Rattle.flow_uniq.specs.Groups.{GroupsModel, record_count}
-use Rattle.flow_uniq.specs.Key.{key_of, key_part}
-use Rattle.flow_uniq.specs.Parts.{same_code}
+use Rattle.flow_uniq.specs.Inner.{same_code}
 use Rattle.flow_uniq.proofs.Entering.{after_known, after_new, few_records, then_groups}
 use Rattle.flow_uniq.proofs.groups.Groups.add.Goals as goal
 

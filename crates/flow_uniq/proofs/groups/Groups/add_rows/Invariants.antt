@@ -1,6 +1,6 @@
 -- The groups are those of the earlier rows and of the rows before the index.
 use Rattle.std.proofs.Common.{◌≡◌, ◌+◌, ◌++◌, List, map, take}
-use Rattle.flow_rows.specs.Row.{row_view}
+use Rattle.flow_rows.specs.Elements.{row_view}
 use Rattle.label_lookup.specs.Labelling.{label_where, labelling_lent}
 use Rattle.flow_uniq.specs.Groups.{KeyedRow, groups_of_keyed, keyed, record_count}
 use Rattle.flow_uniq.proofs.groups.Groups.add_rows.Given as goal

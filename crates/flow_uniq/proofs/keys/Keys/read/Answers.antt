@@ -1,5 +1,5 @@
 use Rattle.std.proofs.Common.{◌≡◌, true, false, Ok, ap, sym, ◌∙◌}
-use Rattle.flow_uniq.specs.Field.{has_repeated, has_repetition, has_unnamed, items_of, named_fields}
+use Rattle.flow_uniq.specs.Key.{has_repeated, has_repetition, has_unnamed, items_of, named_fields}
 use Rattle.flow_uniq.proofs.Reading.{had_fields, names_each_once, read_as}
 use Rattle.flow_uniq.proofs.keys.Keys.read.Goals as goal
 

@@ -1,7 +1,7 @@
 use Rattle.std.proofs.Common.{◌≡◌, ◌∙◌, [], Option, Some, ap, sym}
 use Rattle.std.specs.Borrow.{Bor}
 use Rattle.std.specs.Prelude.{option_copied}
-use Rattle.flowlabel.specs.Loading.{ComesOf}
+use Rattle.flowlabel.specs.Inner.{ComesOf}
 use Rattle.flowlabel.specs.Request.{check}
 use Rattle.flowlabel.proofs.LoadingLemmas.{in_check}
 use Rattle.flowlabel.proofs.run.check.check_loaded.Goals as goal

@@ -4,10 +4,8 @@ use Rattle.pmap_text.specs.MapText.{map_of}
 use Rattle.pmap_text.specs.PrefixList.{list_of}
 use Rattle.pmap_cert.specs.Certificate.{certificate_of}
 use Rattle.pmap_cert.specs.declared.certificate.Certificate.{Certificate}
-use Rattle.flowlabel.specs.Loading.{IsCertificateText, IsFirstFault, IsListText, IsMapText}
-use Rattle.flowlabel.specs.Run.{IsFaultOfBytes, IsRead, is_read_stop}
-use Rattle.flowlabel.specs.Turns.{CertificateTurn, ListTurn, MapTurn}
-use Rattle.flowlabel.specs.declared.inputs.Inputs.{Inputs}
+use Rattle.flowlabel.specs.Inner.{IsCertificateText, IsFirstFault, IsListText, IsMapText}
+use Rattle.flowlabel.specs.Run.{IsFaultOfBytes, IsRead, is_read_stop, CertificateTurn, ListTurn, MapTurn, Inputs}
 use Rattle.flowlabel.proofs.LoadingLemmas.{at_turn, certificate_first, certificate_tells, is_read, list_first, passed_on, stop_handed_on, there_as}
 use Rattle.flowlabel.proofs.run.loading.load.Goals as goal
 

@@ -1,6 +1,5 @@
 use Rattle.std.proofs.Common.{Option, Some, sym, subst}
-use Rattle.flowlabel.specs.Run.{IsStop}
-use Rattle.flowlabel.specs.declared.inputs.Source.{Source}
+use Rattle.flowlabel.specs.Run.{IsStop, Source}
 use Rattle.flowlabel.proofs.LoadingLemmas.{passed_on}
 use Rattle.flowlabel.proofs.run.loading.load_one.Goals as goal
 

@@ -6,11 +6,9 @@ use Rattle.std.proofs.lemmas.Result.{IfErr-weaker, IfOk-weaker}
 use Rattle.prefix_keys.specs.declared.version.Version.{Version}
 use Rattle.pmap_text.specs.MapModel.{Label}
 use Rattle.label_lookup.specs.Labelling.{Labelling, labelling_by, labelling_lent}
-use Rattle.flowlabel.specs.Loading.{labelling_of_either}
+use Rattle.flowlabel.specs.Inner.{labelling_of_either}
 use Rattle.flowlabel.specs.Output.{ReportsOf}
-use Rattle.flowlabel.specs.Run.{HasText}
-use Rattle.flowlabel.specs.declared.inputs.Inputs.{Inputs}
-use Rattle.flowlabel.specs.declared.inputs.Source.{Source}
+use Rattle.flowlabel.specs.Run.{HasText, Inputs, Source}
 use Rattle.flowlabel.proofs.LoadingLemmas.{flows_stop}
 use Rattle.flowlabel.proofs.run.report.report_under.Goals as goal
 

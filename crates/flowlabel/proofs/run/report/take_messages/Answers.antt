@@ -4,7 +4,7 @@ use Rattle.ipfix_read.specs.Message.{MessageView}
 use Rattle.ipfix_read.specs.Messages.{AnswersNext}
 use Rattle.ipfix_read.specs.declared.progress.State.TheVariants.{Going}
 use Rattle.label_lookup.specs.Labelling.{labelling_lent}
-use Rattle.flowlabel.specs.Taken.{IsFaultOfMessages}
+use Rattle.flowlabel.specs.Inner.{IsFaultOfMessages}
 use Rattle.flowlabel.proofs.LoadingLemmas.{passed_on}
 use Rattle.flowlabel.proofs.TakenLemmas.{held_fault, held_more}
 use Rattle.flowlabel.proofs.run.report.take_messages.Goals as goal

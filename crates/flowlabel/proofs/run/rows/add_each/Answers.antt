@@ -1,9 +1,7 @@
 use Rattle.std.proofs.Common.{◌∙◌, ◌++◌, ◌∷◌, [], List, Option, Bool, is_some, map, option_map, subst, sym, take}
-use Rattle.flow_rows.specs.Row.{row_view}
-use Rattle.pmap_print.specs.Columns.{IsTable}
-use Rattle.pmap_print.specs.Parts.{column_count}
-use Rattle.pmap_print.specs.Rows.{label_texts, row_line}
-use Rattle.pmap_print.specs.Table.{Line}
+use Rattle.flow_rows.specs.Elements.{row_view}
+use Rattle.pmap_print.specs.Table.{IsTable, Line}
+use Rattle.pmap_print.specs.Reports.{column_count, label_texts, row_line}
 use Rattle.label_lookup.specs.Labelling.{Labelling, labelling_lent}
 use Rattle.flowlabel.specs.Output.{labelled_row_lines}
 use Rattle.flowlabel.proofs.RowLemmas.{rows_more, same_labelled}

@@ -1,8 +1,8 @@
 -- The lines of the rows before the index are added.
 use Rattle.std.proofs.Common.{◌≡◌, ◌++◌, List, is_some, map, take}
-use Rattle.flow_rows.specs.Row.{RowView, row_view}
-use Rattle.pmap_print.specs.Columns.{IsTable, has_columns}
-use Rattle.pmap_print.specs.Parts.{column_count}
+use Rattle.flow_rows.specs.Elements.{RowView, row_view}
+use Rattle.pmap_print.specs.Table.{IsTable, has_columns}
+use Rattle.pmap_print.specs.Reports.{column_count}
 use Rattle.label_lookup.specs.Labelling.{labelling_lent}
 use Rattle.flowlabel.specs.Output.{labelled_row_lines}
 use Rattle.flowlabel.proofs.run.rows.add_each.Given as goal

@@ -1,6 +1,6 @@
 use Rattle.std.proofs.Common.{ℕ, List, sym, ap, ◌∙◌}
 use Rattle.ipfix_templates.specs.Template.{TemplateView}
-use Rattle.ipfix_templates.specs.Table.{template_at}
+use Rattle.ipfix_templates.specs.InForce.{template_at}
 use Rattle.ipfix_templates.proofs.Parts.{apart, at_number, found, found_at}
 use Rattle.ipfix_templates.proofs.kind_table.KindTable.get.Goals as goal
 

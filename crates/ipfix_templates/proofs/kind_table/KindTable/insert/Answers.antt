@@ -3,7 +3,7 @@ use Rattle.std.specs.Map.{lookup}
 use Rattle.std.specs.Ordering.{nat_cmp}
 use Rattle.std.specs.BTreeMap.{is_at}
 use Rattle.ipfix_templates.specs.Template.{TemplateView}
-use Rattle.ipfix_templates.specs.Parts.{entries_of}
+use Rattle.ipfix_templates.specs.InForce.{entries_of}
 use Rattle.ipfix_templates.proofs.Parts.{apart, at_number, by_number, found, changed, same_entries, from_view, on_err}
 use Rattle.ipfix_templates.proofs.kind_table.KindTable.insert.Goals as goal
 

@@ -1,6 +1,6 @@
 use Rattle.std.proofs.Common.{◌≡◌, ℕ, None, Some, cond, nat_eq, rules, sym, ◌∙◌}
 use Rattle.std.specs.Map.{lookup}
-use Rattle.ipfix_templates.specs.Parts.{entries_of}
+use Rattle.ipfix_templates.specs.InForce.{entries_of}
 use Rattle.ipfix_templates.proofs.Parts.{apart, at_number, by_number, found, changed, nothing_there, from_view}
 use Rattle.ipfix_templates.proofs.kind_table.KindTable.remove.Goals as goal
 

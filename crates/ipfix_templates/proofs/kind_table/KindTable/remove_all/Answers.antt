@@ -1,6 +1,6 @@
 use Rattle.std.proofs.Common.{ℕ, List, None, cond, nat_eq, ap, ◌∙◌}
 use Rattle.ipfix_templates.specs.Template.{TemplateView}
-use Rattle.ipfix_templates.specs.Table.{template_at}
+use Rattle.ipfix_templates.specs.InForce.{template_at}
 use Rattle.ipfix_templates.proofs.Parts.{apart, by_number, dropped}
 use Rattle.ipfix_templates.proofs.kind_table.KindTable.remove_all.Goals as goal
 

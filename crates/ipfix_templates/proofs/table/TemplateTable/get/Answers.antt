@@ -1,7 +1,7 @@
 use Rattle.std.proofs.Common.{◌≡◌, ℕ, List, Option, Some, sym, ap, ◌∙◌}
 use Rattle.std.specs.Option.{option_or}
 use Rattle.ipfix_templates.specs.Template.{TemplateView}
-use Rattle.ipfix_templates.specs.Table.{template_at}
+use Rattle.ipfix_templates.specs.InForce.{template_at}
 use Rattle.ipfix_templates.proofs.Parts.{in_parts}
 use Rattle.ipfix_templates.proofs.History.{keyed_found}
 use Rattle.ipfix_templates.proofs.table.TemplateTable.get.Goals as goal

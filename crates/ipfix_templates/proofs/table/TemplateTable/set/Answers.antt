@@ -1,5 +1,5 @@
 use Rattle.std.proofs.Common.{Some, None, ◌++◌, sym, ◌∙◌}
-use Rattle.ipfix_templates.specs.Table.{ChangesAt}
+use Rattle.ipfix_templates.specs.InForce.{ChangesAt}
 use Rattle.ipfix_templates.proofs.Parts.{put, parted, from_view}
 use Rattle.ipfix_templates.proofs.History.{follows_define, keyed_put}
 use Rattle.ipfix_templates.proofs.table.TemplateTable.set.Goals as goal

@@ -1,6 +1,6 @@
 use Rattle.std.proofs.Common.{ℕ, List, ◌++◌, subst}
 use Rattle.ipfix_templates.specs.Template.{TemplateView}
-use Rattle.ipfix_templates.specs.Table.{DropsKind}
+use Rattle.ipfix_templates.specs.InForce.{DropsKind}
 use Rattle.ipfix_templates.proofs.Parts.{flow_dropped, options_dropped, flow_dropped_parted, options_dropped_parted}
 use Rattle.ipfix_templates.proofs.History.{follows_withdraw_all, keyed_dropped}
 use Rattle.ipfix_templates.proofs.table.TemplateTable.withdraw_all.Goals as goal

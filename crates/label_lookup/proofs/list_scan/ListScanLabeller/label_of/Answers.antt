@@ -3,7 +3,7 @@ use Rattle.std.proofs.lemmas.List.Elements.{All-contains}
 use Rattle.pmap_text.specs.ListModel.{ListModel, list_label}
 use Rattle.pmap_text.specs.declared.entry.Entry.{Entry}
 use Rattle.pmap_text.proofs.Orders.{known_text}
-use Rattle.label_lookup.specs.Longest.{IsLongest}
+use Rattle.label_lookup.specs.Labelling.{IsLongest}
 use Rattle.label_lookup.proofs.Scanning.{longest_label, none_label}
 use Rattle.label_lookup.proofs.list_scan.ListScanLabeller.label_of.Goals as goal
 

@@ -1,9 +1,8 @@
 use Rattle.std.proofs.Common.{◌≡◌, ◌∙◌, ℕ, ◌^◌, ◌<◌, ap, option_and_then, slice_get, sym}
-use Rattle.prefix_keys.specs.Version.{width_of}
+use Rattle.prefix_keys.specs.Block.{width_of}
 use Rattle.prefix_keys.specs.declared.version.Version.{Version}
 use Rattle.pmap_text.specs.Stretches.{text_held}
-use Rattle.label_lookup.specs.Labelling.{at_addresses}
-use Rattle.label_lookup.specs.StretchIndex.{StretchModel}
+use Rattle.label_lookup.specs.Labelling.{at_addresses, StretchModel}
 use Rattle.label_lookup.proofs.Tops.{label_found, read_begins, read_below, read_ends, read_order}
 use Rattle.label_lookup.proofs.stretch_index.StretchIndexLabeller.label_of.Goals as goal
 

@@ -1,7 +1,7 @@
 use Rattle.std.proofs.Common.{◌-◌, arith}
-use Rattle.prefix_keys.specs.Version.{width_of}
-use Rattle.label_trie.specs.Leaf.{number_of}
-use Rattle.label_trie.specs.Nodes.{tree_at}
+use Rattle.prefix_keys.specs.Block.{width_of}
+use Rattle.label_trie.specs.TrieModel.{number_of}
+use Rattle.label_trie.specs.Inner.{tree_at}
 use Rattle.label_trie.proofs.NodeLeaves.{leaves_cut}
 use Rattle.label_trie.proofs.cursor.Cursor.block.Goals as goal
 

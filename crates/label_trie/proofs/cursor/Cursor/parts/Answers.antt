@@ -1,8 +1,7 @@
 use Rattle.std.proofs.Common.{◌≡◌, ◌+◌, ◌*◌, Some, arith}
-use Rattle.prefix_keys.specs.Block.{block_number}
-use Rattle.prefix_keys.specs.Version.{width_of}
-use Rattle.label_trie.specs.Leaf.{number_of}
-use Rattle.label_trie.specs.Nodes.{tree_at}
+use Rattle.prefix_keys.specs.Block.{block_number, width_of}
+use Rattle.label_trie.specs.TrieModel.{number_of}
+use Rattle.label_trie.specs.Inner.{tree_at}
 use Rattle.label_trie.proofs.Divided.{is_half}
 use Rattle.label_trie.proofs.Encoded.{inner_at, leaf_at, node_read}
 use Rattle.label_trie.proofs.Places.{low_place, high_place, place_divided}

@@ -1,7 +1,7 @@
 use Rattle.std.proofs.Common.{Some, refl}
-use Rattle.prefix_keys.specs.Version.{width_of}
+use Rattle.prefix_keys.specs.Block.{width_of}
 use Rattle.pmap_text.specs.MapText.{map_of}
-use Rattle.label_trie.specs.Nodes.{tree_of}
+use Rattle.label_trie.specs.Inner.{tree_of}
 use Rattle.label_trie.proofs.Built.{grown_trie, map_bounded, map_layers, trie_cut}
 use Rattle.label_trie.proofs.Lookup.{labels_fit}
 use Rattle.label_trie.proofs.NodeLeaves.{leaves_settled, leaves_undivided}

@@ -1,7 +1,7 @@
 use Rattle.std.proofs.Common.{◌≤◌, [], None, length, map, refl, arith}
-use Rattle.prefix_keys.specs.Version.{width_of}
+use Rattle.prefix_keys.specs.Block.{width_of}
 use Rattle.pmap_text.specs.PrefixList.{prefix_of}
-use Rattle.label_trie.specs.Nodes.{tree_of}
+use Rattle.label_trie.specs.Inner.{tree_of}
 use Rattle.label_trie.proofs.Built.{grown_trie, trie_cut}
 use Rattle.label_trie.proofs.ListBuilt.{list_bounded, list_decided, list_labels, list_ready, list_seen}
 use Rattle.pmap_text.proofs.Painted.{painting}

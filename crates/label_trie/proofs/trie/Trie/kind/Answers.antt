@@ -1,5 +1,5 @@
 use Rattle.std.proofs.Common.{◌<◌, Some, None, length, subst, sym, arith}
-use Rattle.prefix_keys.specs.Version.{width_of}
+use Rattle.prefix_keys.specs.Block.{width_of}
 use Rattle.label_trie.specs.TrieModel.{TrieModel}
 use Rattle.label_trie.proofs.NodeKinds.{kind-divided, kind-leaf, within-nodes}
 use Rattle.label_trie.proofs.trie.Trie.kind.Goals as goal

@@ -1,5 +1,5 @@
 use Rattle.std.proofs.Common.{refl, arith}
-use Rattle.label_trie.specs.Nodes.{tree_of}
+use Rattle.label_trie.specs.Inner.{tree_of}
 use Rattle.label_trie.proofs.Encoded.{length_nodes, size_leaves}
 use Rattle.label_trie.proofs.NodeLeaves.{length_leaves}
 use Rattle.label_trie.proofs.trie.Trie.node_count.Goals as goal

@@ -1,12 +1,11 @@
 use Rattle.std.proofs.Common.{ap}
 use Rattle.pmap_text.specs.Label.{IsLabelTable}
-use Rattle.prefix_keys.specs.Version.{width_of}
+use Rattle.prefix_keys.specs.Block.{width_of}
 use Rattle.pmap_cert.specs.Format.{format_number}
 use Rattle.pmap_cert.proofs.Plain.{of-kind}
 use Rattle.pmap_cert.proofs.Written.{node_form}
-use Rattle.pmap_cert.specs.Certificate.{certificate_of}
-use Rattle.pmap_cert.specs.CertificateForm.{HasFormatText}
-use Rattle.pmap_cert.specs.declared.certificate.Certificate.{Certificate}
+use Rattle.pmap_cert.specs.Certificate.{certificate_of, Certificate}
+use Rattle.pmap_cert.specs.CertificateText.{HasFormatText}
 use Rattle.pmap_cert.proofs.certificate.Certificate.root.Goals as goal
 
 text : (me : Certificate) → IsLabelTable me.labels → HasFormatText (certificate_of me)

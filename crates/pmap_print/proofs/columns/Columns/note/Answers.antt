@@ -1,7 +1,7 @@
 use Rattle.std.proofs.Common.{ℕ, ◌≡◌, ◌+◌, ◌≤◌, ◌∙◌, ◌++◌, List, ap, arith, length, max, subst, take}
 use Rattle.std.specs.Prelude.{slice_index}
 use Rattle.std.proofs.lemmas.List.{length-map, take_all}
-use Rattle.pmap_print.specs.Columns.{AreNoted, sizes}
+use Rattle.pmap_print.specs.Table.{AreNoted, sizes}
 use Rattle.pmap_print.proofs.NotedLines.{noted-more}
 use Rattle.pmap_print.proofs.columns.Columns.note.Goals as goal
 

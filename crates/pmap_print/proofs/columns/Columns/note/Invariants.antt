@@ -1,6 +1,6 @@
 use Rattle.std.proofs.Common.{ℕ, ◌≡◌, ◌<◌, ◌≤◌, ◌++◌, List, max, length, take}
 use Rattle.std.specs.Prelude.{slice_index}
-use Rattle.pmap_print.specs.Columns.{AreNoted}
+use Rattle.pmap_print.specs.Table.{AreNoted}
 use Rattle.pmap_print.proofs.columns.Columns.note.Given as goal
 
 -- the lengths before the index are noted

@@ -2,8 +2,7 @@ use Rattle.std.proofs.Common.{ℕ, ◌≡◌, ◌+◌, ◌-◌, ◌<◌, ◌∙�
 use Rattle.std.specs.Prelude.{◌%◌, slice_index}
 use Rattle.std.proofs.lemmas.List.{get_or_read}
 use Rattle.std.proofs.lemmas.Nat.{mod_below}
-use Rattle.pmap_print.specs.Columns.{CanSpread}
-use Rattle.pmap_print.specs.Table.{Text}
+use Rattle.pmap_print.specs.Table.{CanSpread, Text}
 use Rattle.pmap_print.proofs.Spreading.{IsNext, IsSpread, is-next, moved}
 use Rattle.pmap_print.proofs.columns.Columns.spread.Goals as goal
 use Rattle.pmap_print.proofs.columns.Columns.spread.Goals.{After-saturating_sub-spaces}

@@ -1,6 +1,5 @@
 use Rattle.std.proofs.Common.{List}
-use Rattle.pmap_print.specs.Columns.{CanSpread}
-use Rattle.pmap_print.specs.Table.{Text}
+use Rattle.pmap_print.specs.Table.{CanSpread, Text}
 use Rattle.pmap_print.proofs.Spreading.{IsSpread}
 use Rattle.pmap_print.proofs.columns.Columns.spread.Given as goal
 

@@ -1,9 +1,7 @@
 use Rattle.std.proofs.Common.{ℕ, ◌≡◌, ◌∙◌, ap, is_some, option_map, take}
-use Rattle.flow_rows.specs.Row.{row_view}
-use Rattle.pmap_print.specs.Columns.{sizes}
-use Rattle.pmap_print.specs.Parts.{column_count}
-use Rattle.pmap_print.specs.Rows.{label_texts, row_line}
-use Rattle.pmap_print.specs.Table.{Line}
+use Rattle.flow_rows.specs.Elements.{row_view}
+use Rattle.pmap_print.specs.Table.{sizes, Line}
+use Rattle.pmap_print.specs.Reports.{column_count, label_texts, row_line}
 use Rattle.pmap_print.proofs.TableLines.{length-row_line, line_printed}
 use Rattle.pmap_print.proofs.table.Table.add_row.Goals as goal
 

@@ -1,4 +1,4 @@
-use Rattle.pmap_print.specs.Columns.{IsNoted}
+use Rattle.pmap_print.specs.Table.{IsNoted}
 use Rattle.pmap_print.proofs.TableLines.{some-noted}
 use Rattle.pmap_print.proofs.table.Table.note.Goals as goal
 use Rattle.std.specs.Prelude.{◌++◌, ◌∷◌, []}

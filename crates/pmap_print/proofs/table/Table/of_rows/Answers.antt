@@ -1,7 +1,6 @@
 use Rattle.std.proofs.Common.{◌≡◌, ◌∙◌, Bool, true, false, [], ◌∷◌, ap, length, refl, subst, take}
-use Rattle.pmap_print.specs.Columns.{IsTable, sizes}
-use Rattle.pmap_print.specs.Parts.{column_count}
-use Rattle.pmap_print.specs.Rows.{title_line}
+use Rattle.pmap_print.specs.Table.{IsTable, sizes}
+use Rattle.pmap_print.specs.Reports.{column_count, title_line}
 use Rattle.pmap_print.proofs.TableLines.{line_printed}
 use Rattle.pmap_print.proofs.table.Table.of_rows.Goals as goal
 

@@ -1,9 +1,8 @@
 use Rattle.std.proofs.Common.{List, map, subst}
 use Rattle.std.proofs.lemmas.Result.{IfOk-weaker}
-use Rattle.pmap_text.specs.Filed.{IsFirstRepeat}
-use Rattle.pmap_text.specs.PrefixList.{prefix_of}
+use Rattle.pmap_text.specs.Inner.{IsFirstRepeat}
+use Rattle.pmap_text.specs.PrefixList.{prefix_of, Entry}
 use Rattle.pmap_text.specs.Reading.{Earlier}
-use Rattle.pmap_text.specs.declared.entry.Entry.{Entry}
 use Rattle.pmap_text.proofs.reading.Reading.first_repeat.Goals as goal
 
 pub returns : goal.returns

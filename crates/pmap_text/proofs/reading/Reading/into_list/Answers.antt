@@ -1,9 +1,8 @@
 use Rattle.std.proofs.Common.{◌≡◌, ℕ, ◌<◌, List, get_or, length, sym, subst, ◌∙◌}
-use Rattle.pmap_text.specs.Filed.{HasDistinctKeys, same_key}
+use Rattle.pmap_text.specs.Inner.{HasDistinctKeys, same_key}
 use Rattle.pmap_text.specs.ListEntries.{HasDistinctBlocks}
-use Rattle.pmap_text.specs.PrefixList.{prefix_of}
+use Rattle.pmap_text.specs.PrefixList.{prefix_of, Entry}
 use Rattle.pmap_text.specs.Reading.{Earlier}
-use Rattle.pmap_text.specs.declared.entry.Entry.{Entry}
 use Rattle.pmap_text.proofs.Filed.{distinct_from_map}
 use Rattle.pmap_text.proofs.ProgressSteps.{version-decided}
 use Rattle.pmap_text.proofs.reading.Reading.into_list.Goals as goal

@@ -1,10 +1,8 @@
 use Rattle.std.proofs.Common.{◌≡◌, ℕ, Result, sym, ap, subst, ◌∙◌}
-use Rattle.prefix_keys.specs.Block.{block_number, first_of}
-use Rattle.prefix_keys.specs.Version.{width_of}
+use Rattle.prefix_keys.specs.Block.{block_number, first_of, width_of}
 use Rattle.prefix_keys.specs.declared.version.Version.{Version}
-use Rattle.pmap_text.specs.Reading.{Entry, number_in, placed_line, single_line, ◌>>=◌}
-use Rattle.pmap_text.specs.declared.fault.MapFaultKind.{MapFaultKind}
-use Rattle.pmap_text.specs.Steps.{Reads}
+use Rattle.pmap_text.specs.Reading.{Entry, number_in, placed_line, single_line, ◌>>=◌, MapFaultKind}
+use Rattle.pmap_text.specs.Inner.{Reads}
 use Rattle.pmap_text.proofs.MovedBlocks.{first_of-full}
 use Rattle.pmap_text.proofs.reading.Reading.read_single.Goals as goal
 

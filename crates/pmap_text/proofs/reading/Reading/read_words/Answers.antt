@@ -1,8 +1,6 @@
 use Rattle.std.proofs.Common.{◌≡◌, ◌≢◌, ℕ, List, [], ◌∷◌, length, refl, sym}
 use Rattle.std.proofs.lemmas.Bool.{eqb-false}
-use Rattle.pmap_text.specs.Lines.{behind_word, first_word}
-use Rattle.pmap_text.specs.Reading.{Earlier, content_line, statement_line}
-use Rattle.pmap_text.specs.declared.form.Form.{Form}
+use Rattle.pmap_text.specs.Reading.{behind_word, first_word, Earlier, content_line, statement_line, Form}
 use Rattle.pmap_text.proofs.reading.Reading.read_words.Goals as goal
 
 -- the content of a line with a word is that of its statement

@@ -1,6 +1,5 @@
 use Rattle.std.proofs.Common.{◌≡◌, ◌∙◌, ℕ, List, [], Option, None, Some, true, ap, refl, sym, subst, slice_get}
-use Rattle.pmap_text.specs.Declarations.{label_number, meant_text, text_of_number}
-use Rattle.pmap_text.specs.Label.{has_label, number_of}
+use Rattle.pmap_text.specs.Label.{label_number, meant_text, text_of_number, has_label, number_of}
 use Rattle.pmap_text.specs.MapModel.{Label}
 use Rattle.pmap_text.specs.Reading.{Earlier}
 use Rattle.pmap_text.proofs.LabelTexts.{has_label-number, slice_get-number}

@@ -1,7 +1,6 @@
 use Rattle.std.proofs.Common.{◌≡◌, ◌<◌, ap, arith, length, slice_get, sym, ◌∙◌, List}
 use Rattle.std.proofs.lemmas.Option.{slice_get_read}
-use Rattle.pmap_text.specs.Starting.{starts_from}
-use Rattle.pmap_text.specs.declared.start.Start.{Start}
+use Rattle.pmap_text.specs.Starting.{starts_from, Start}
 use Rattle.pmap_text.proofs.StartLists.{length_from, start_from}
 use Rattle.pmap_text.proofs.starts.Starts.at.Goals as goal
 

@@ -1,6 +1,5 @@
 use Rattle.std.proofs.Common.{◌≡◌, ap, arith, length, List}
-use Rattle.pmap_text.specs.Starting.{starts_from}
-use Rattle.pmap_text.specs.declared.start.Start.{Start}
+use Rattle.pmap_text.specs.Starting.{starts_from, Start}
 use Rattle.pmap_text.proofs.StartLists.{length_from}
 use Rattle.pmap_text.proofs.starts.Starts.len.Goals as goal
 

@@ -1,8 +1,6 @@
 use Rattle.std.proofs.Common.{◌+◌, ◌-◌, ◌<◌, ◌≡◌, ◌++◌, ap, sym, ◌∙◌, arith, length, map, slice_get, List}
 use Rattle.std.proofs.lemmas.List.{length-append, length-map}
-use Rattle.pmap_text.specs.Packed.{narrow_statement, wide_statement}
-use Rattle.pmap_text.specs.declared.packed.Narrow.{Narrow}
-use Rattle.pmap_text.specs.declared.packed.Wide.{Wide}
+use Rattle.pmap_text.specs.Packed.{narrow_statement, wide_statement, Narrow, Wide}
 use Rattle.pmap_text.specs.declared.statement.Statement.{Statement}
 use Rattle.pmap_text.proofs.PackedStatements.{packed-right}
 use Rattle.pmap_text.proofs.statements.Statements.at.Goals as goal

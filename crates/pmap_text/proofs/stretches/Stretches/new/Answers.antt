@@ -1,5 +1,5 @@
 use Rattle.std.proofs.Common.{◌∙◌, ◌+◌, ◌^◌, ◌<◌, ◌≡◌, inl, arith, length, refl}
-use Rattle.prefix_keys.specs.Version.{width_of}
+use Rattle.prefix_keys.specs.Block.{width_of}
 use Rattle.pmap_text.proofs.Stretched.{held_text, stretches_all, stretches_from, stretches_known, stretches_longer, stretches_more}
 use Rattle.pmap_text.proofs.Swept.{open_known}
 use Rattle.pmap_text.proofs.Winners.{agree, differ, known_won}

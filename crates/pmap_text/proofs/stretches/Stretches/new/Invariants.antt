@@ -1,5 +1,5 @@
 use Rattle.std.proofs.Common.{◌≡◌, ◌+◌, ◌-◌, ◌≤◌}
-use Rattle.pmap_text.specs.Sweep.{IsReady}
+use Rattle.pmap_text.specs.Inner.{IsReady}
 use Rattle.pmap_text.proofs.Stretched.{AreStretchesTo}
 use Rattle.pmap_text.proofs.stretches.Stretches.new.Given as goal
 

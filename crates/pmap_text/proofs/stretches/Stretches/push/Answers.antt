@@ -1,9 +1,7 @@
 use Rattle.std.proofs.Common.{◌≡◌, ◌∙◌, ◌++◌, ◌∷◌, [], ap, map, subst, sym}
 use Rattle.std.proofs.lemmas.List.{map-append}
-use Rattle.pmap_text.specs.Begins.{label_kept, stretches_of}
-use Rattle.pmap_text.specs.Stretches.{HasEveryAddress, StretchesModel}
+use Rattle.pmap_text.specs.Stretches.{label_kept, stretches_of, HasEveryAddress, StretchesModel, Narrow, Wide}
 use Rattle.pmap_text.specs.declared.stretches.Begin.{Begin}
-use Rattle.pmap_text.specs.declared.stretches.Begins.TheVariants.{Narrow, Wide}
 use Rattle.pmap_text.proofs.Ranges.{Adds, every_added}
 use Rattle.pmap_text.proofs.stretches.Stretches.push.Goals as goal
 use Rattle.pmap_text.proofs.stretches.Stretches.push.Goals.{in-Narrow+in_ok-push-in-Narrow, in-Wide+in_ok-reserve-in-Wide+in_ok-push-in-Wide+in_ok-push-in-Wide-2}

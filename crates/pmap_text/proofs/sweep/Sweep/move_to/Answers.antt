@@ -1,6 +1,6 @@
 use Rattle.std.proofs.Common.{◌≡◌, ◌<◌, ◌≤◌, inl, inr, arith, drop, get_or}
 use Rattle.std.proofs.lemmas.List.Elements.{All-weaker, Contains-get_or}
-use Rattle.pmap_text.specs.Sweep.{high_won}
+use Rattle.pmap_text.specs.Inner.{high_won}
 use Rattle.pmap_text.specs.declared.start.Start.{Start}
 use Rattle.pmap_text.proofs.Swept.{open_known, swept_closed, swept_later, wins}
 use Rattle.pmap_text.proofs.sweep.Sweep.move_to.Goals as goal

@@ -1,5 +1,5 @@
 use Rattle.std.proofs.Common.{arith}
-use Rattle.prefix_keys.specs.Version.{width_of}
+use Rattle.prefix_keys.specs.Block.{width_of}
 use Rattle.prefix_keys.proofs.Quotients.{block_end, width_at_most}
 use Rattle.prefix_keys.proofs.block.Block.high.Goals as goal
 

@@ -1,5 +1,5 @@
 use Rattle.std.proofs.Common.{ℕ, ◌∙◌, Option, ap, sym, option_map}
-use Rattle.prefix_keys.specs.Steps.{more_groups}
+use Rattle.prefix_keys.specs.Inner.{more_groups}
 use Rattle.prefix_keys.specs.declared.text.colon.Groups.{Groups}
 use Rattle.prefix_keys.proofs.ColonPieces.{text_groups-last, turn-none, turn-full, turn-next}
 use Rattle.prefix_keys.proofs.text.colon.read_groups.Goals as goal

@@ -1,7 +1,7 @@
 use Rattle.std.proofs.Common.{◌≡◌, subst}
 use Rattle.std.specs.Prelude.{IfOk}
 use Rattle.flow_rows.specs.Counts.{CountsView}
-use Rattle.pmap_print.specs.Info.{info_text}
+use Rattle.pmap_print.specs.Reports.{info_text}
 use Rattle.flowlabel.proofs.run.info.InfoReportReport.finish.Goals as goal
 
 pub returns : goal.returns

@@ -1,8 +1,6 @@
 use Rattle.std.proofs.Common.{◌∙◌, ◌∷◌, [], Bool, List, Option, is_some, subst}
-use Rattle.pmap_print.specs.Columns.{IsTable}
-use Rattle.pmap_print.specs.Parts.{column_count}
-use Rattle.pmap_print.specs.Rows.{title_line}
-use Rattle.pmap_print.specs.Table.{Line}
+use Rattle.pmap_print.specs.Table.{IsTable, Line}
+use Rattle.pmap_print.specs.Reports.{column_count, title_line}
 use Rattle.label_lookup.specs.Labelling.{Labelling, labelling_lent}
 use Rattle.flowlabel.proofs.RowLemmas.{is_some-lent, no_rows}
 use Rattle.flowlabel.proofs.run.rows.RowsReportReport.begin.Goals as goal

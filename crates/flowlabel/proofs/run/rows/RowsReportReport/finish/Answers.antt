@@ -1,8 +1,8 @@
 use Rattle.std.proofs.Common.{◌≡◌, Bool, Option, subst}
 use Rattle.std.specs.Prelude.{IfOk, is_some}
 use Rattle.flow_filter.specs.Filters.{condition_in}
-use Rattle.flow_filter.specs.Passing.{passing_rows}
-use Rattle.pmap_print.specs.Parts.{column_count}
+use Rattle.flow_filter.specs.Condition.{passing_rows}
+use Rattle.pmap_print.specs.Reports.{column_count}
 use Rattle.pmap_print.specs.Table.{table_text}
 use Rattle.label_lookup.specs.Labelling.{Labelling, labelling_lent}
 use Rattle.flowlabel.specs.Output.{labelled_row_lines}

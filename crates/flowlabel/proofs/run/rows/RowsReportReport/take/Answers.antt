@@ -1,12 +1,11 @@
 use Rattle.std.proofs.Common.{◌≡◌, ◌∙◌, ◌++◌, List, Option, ap, is_some, map, subst, sym}
-use Rattle.flow_rows.specs.Content.{rows_of}
-use Rattle.flow_rows.specs.Row.{RowView, row_view}
+use Rattle.flow_rows.specs.Counts.{rows_of}
+use Rattle.flow_rows.specs.Elements.{RowView, row_view}
 use Rattle.flow_rows.specs.declared.row.Row.{Row}
-use Rattle.flow_filter.specs.Condition.{Condition}
+use Rattle.flow_filter.specs.Condition.{Condition, passing, passing_rows}
 use Rattle.flow_filter.specs.Filters.{condition_in}
-use Rattle.flow_filter.specs.Passing.{passing, passing_rows}
-use Rattle.pmap_print.specs.Columns.{IsTable}
-use Rattle.pmap_print.specs.Parts.{column_count}
+use Rattle.pmap_print.specs.Table.{IsTable}
+use Rattle.pmap_print.specs.Reports.{column_count}
 use Rattle.label_lookup.specs.Labelling.{Labelling, labelling_lent}
 use Rattle.flowlabel.specs.Output.{labelled_row_lines}
 use Rattle.flowlabel.proofs.RowLemmas.{passing_more}

@@ -1,14 +1,20 @@
--- How keys are stored.
-use Rattle.std.specs.Prelude.{◌≡◌, ℕ, zero, suc, ◌^◌, ◌<◌, ◌==◌, ◌++◌, Bool, List, [], ◌∷◌, Option, Some, None, length, take, drop, nat_lt, slice_index, option_copied, replicate, if◌then◌else◌}
+use Rattle.std.specs.Prelude.{◌≡◌, ℕ, zero, suc, ◌^◌, ◌<◌, ◌==◌, ◌++◌, Bool, List, [], ◌∷◌, Option, Some, None, length, take, drop, nat_lt, slice_index, option_copied, replicate, if◌then◌else◌, ◌+◌, ◌-◌, ◌*◌, ◌≤◌, map, All}
 use Rattle.std.specs.Int.{w16, w32, w64, w128, from_be_bytes, to_be_bytes}
 use Rattle.std.specs.List.{flat_map}
 use Rattle.std.specs.Str.{bytes_eq}
-use Rattle.prefix_keys.specs.Version.{width_of}
+use Rattle.std.specs.Map.{keys_of, values_of}
+use Rattle.prefix_keys.specs.Block.{width_of}
 use Rattle.prefix_keys.specs.declared.version.Version.TheVariants.{V4, V6}
 use Rattle.pmap_text.specs.MapModel.{Label}
+use Rattle.flow_rows.specs.Elements.{RowView}
 use Rattle.flow_uniq.specs.declared.codec.KeyPart.{KeyPart}
-use Rattle.flow_uniq.specs.declared.codec.KeyPart.TheVariants as part
 use Rattle.flow_uniq.specs.Key.{Key, KeyPartModel, AddressPart, NumberPart, LabelPart}
+pub use Rattle.flow_uniq.specs.declared.group.Group.{Group}
+use Rattle.flow_uniq.specs.Groups.{Totals, GroupModel}
+use Rattle.flow_uniq.specs.declared.codec.KeyPart.TheVariants as part
+use Rattle.flow_uniq.specs.declared.codec.Key as lent
+
+-- How keys are stored.
 
 -- a part of a key
 abbrev pub part_model : KeyPart → KeyPartModel
@@ -80,3 +86,37 @@ key_in code = parts_in (length code) code
 pub record IsCode (code : List ℕ) : Type 0 where
   pub small : AreSmall (key_in code)
   pub same : code ≡ key_code (key_in code)
+
+-- How groups are stored.
+
+-- the parts of a borrowed key, and a group
+abbrev pub key_model : lent.Key → Key
+key_model k = key_in k.code.now
+
+abbrev pub group_model : Group → GroupModel
+group_model g = record { key = key_model g.key; totals = g.totals }
+
+-- the groups of keys that are paired with totals
+abbrev pub kept_groups : List (Key × Totals) → List GroupModel
+kept_groups entries = map (λ e. record { key = e.0; totals = e.1 }) entries
+
+-- no row has more than 2 ^ 64 - 1 packets or octets
+abbrev pub IsBounded : Totals → Type 0
+IsBounded t = (t.packets ≤ (2 ^ 64 - 1) * t.records) × (t.octets ≤ (2 ^ 64 - 1) * t.records)
+
+-- the totals of one row, and totals with one more row
+abbrev pub first_totals : RowView → Totals
+first_totals row = record { records = 1; packets = row.packets; octets = row.octets }
+
+abbrev pub with_row : Totals → RowView → Totals
+with_row t row = record {
+  records = t.records + 1;
+  packets = t.packets + row.packets;
+  octets = t.octets + row.octets;
+}
+
+-- the keys have `count` parts, which fit in their bytes, and are paired with bounded totals
+pub record AreKept (count : ℕ) (entries : List (Key × Totals)) : Type 0 where
+  pub long : All (λ key. length key ≡ count) (keys_of entries)
+  pub small : All AreSmall (keys_of entries)
+  pub bounded : All IsBounded (values_of entries)

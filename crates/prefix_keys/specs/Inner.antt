@@ -1,7 +1,17 @@
-use Rattle.std.specs.Prelude.{◌≡◌, ℕ, ◌||◌, ◌==◌, Bool, true, List, ◌++◌, Option, Some, option_map}
+use Rattle.std.specs.Prelude.{ℕ, ◌+◌, ◌*◌, List, Option, Some, None, fold, length, nat_le, if◌then◌else◌, ◌≡◌, ◌||◌, ◌==◌, Bool, true, ◌++◌, option_map}
 use Rattle.std.specs.List.{list_all}
-use Rattle.prefix_keys.specs.Steps.{more_groups}
 use Rattle.prefix_keys.specs.Text.{around_gap, colon_address, hex_group, is_hex_digit, side_groups}
+
+-- Steps of the code, for the contracts of private functions. Callers of the crate need not read them.
+
+-- groups appended to other groups, given by their count and their number: the count and the number of all, if they are
+-- at most eight
+abbrev pub more_groups : ℕ → ℕ → Option (List ℕ) → Option (ℕ × ℕ)
+more_groups count number (Some groups) =
+    if nat_le (count + length groups) 8
+    then Some (count + length groups, fold (λ n group. n * 65536 + group) number groups)
+    else None
+more_groups count number None = None
 
 -- Prefixes of a text, for the contracts of private functions. Callers of the crate need not read them.
 

@@ -1,13 +1,14 @@
--- The offsets of the values of a row's elements in a record, and what is read there. This is private, and callers of
--- the crate need not read it.
 use Rattle.std.specs.Prelude.{◌≡◌, ℕ, ◌+◌, ◌≤◌, List, [], ◌∷◌, slice_range, filter, Bool, true, Option, Some, None, option_and_then, option_map, ◌==◌, if◌then◌else◌}
 use Rattle.std.specs.Map.{lookup}
 use Rattle.ipfix_templates.specs.declared.field.Field.{Field}
 use Rattle.ipfix_templates.specs.Field.{has_bytes}
 use Rattle.ipfix_templates.specs.Runs.{runs_behind}
-use Rattle.flow_rows.specs.declared.elements.Elements.{Elements}
-use Rattle.flow_rows.specs.declared.place.Place.{Place}
-use Rattle.flow_rows.specs.Element.{back, big_endian, forward, is_usable}
+pub use Rattle.flow_rows.specs.declared.elements.Elements.{Elements}
+pub use Rattle.flow_rows.specs.declared.place.Place.{Place}
+use Rattle.flow_rows.specs.Elements.{back, big_endian, forward, is_usable}
+
+-- The offsets of the values of a row's elements in a record, and what is read there. This is private, and callers of
+-- the crate need not read it.
 
 -- the offsets of the value of a field, after so many bytes
 abbrev pub place_of : ℕ → Field → Place

@@ -1,0 +1,125 @@
+use Rattle.std.specs.Prelude.{List, [], ◌∷◌, ◌++◌, map, Option, Some, None, Bool, false, true, codes, decimal, unwrap_or, option_map, option_copied, ℕ, slice_index_or, if◌then◌else◌}
+use Rattle.std.specs.Borrow.{Bor}
+use Rattle.std.specs.List.{zip}
+use Rattle.prefix_keys.specs.Print.{address_text}
+use Rattle.flow_rows.specs.Elements.{RowView}
+use Rattle.flow_rows.specs.Counts.{CountsView}
+use Rattle.flow_uniq.specs.declared.totals.Totals.{Totals}
+use Rattle.flow_uniq.specs.declared.field.KeyField.{KeyField}
+use Rattle.flow_uniq.specs.Key.{field_name, KeyPartModel, AddressPart, NumberPart, LabelPart}
+use Rattle.flow_uniq.specs.Groups.{GroupModel}
+pub use Rattle.pmap_print.specs.declared.labels.RowLabels.{RowLabels}
+use Rattle.pmap_print.specs.Table.{Text, Line, table_text}
+
+-- The printed text of flow rows.
+
+-- the names of a row's columns, and of the label columns that follow them
+abbrev pub row_titles : Line
+row_titles =
+    codes "sip" ∷ codes "dip" ∷ codes "sport" ∷ codes "dport" ∷ codes "proto" ∷ codes "flags" ∷ codes "packets"
+    ∷ codes "bytes" ∷ codes "stime" ∷ codes "etime" ∷ []
+
+abbrev pub label_titles : Line
+label_titles = codes "src-label" ∷ codes "dst-label" ∷ []
+
+-- the fields of a row
+abbrev pub row_fields : RowView → Line
+row_fields r =
+    address_text r.version r.src ∷ address_text r.version r.dst ∷ decimal r.sport ∷ decimal r.dport ∷ decimal r.protocol
+    ∷ decimal r.flags ∷ decimal r.packets ∷ decimal r.octets ∷ decimal r.start_ms ∷ decimal r.end_ms ∷ []
+
+-- the labels of a row's two addresses, if they have one
+abbrev pub LabelTexts : Type 0
+LabelTexts = Option Text × Option Text
+
+abbrev pub label_texts : RowLabels → LabelTexts
+label_texts labels = (option_copied labels.src, option_copied labels.dst)
+
+-- the labels of rows, if labels are given
+abbrev pub given_labels : Option (Bor (List RowLabels)) → Option (List LabelTexts)
+given_labels labels = option_map (λ given. map label_texts given.now) labels
+
+-- the fields of a row's labels; that of a missing label is empty
+abbrev pub label_fields : LabelTexts → Line
+label_fields labels = unwrap_or labels.0 [] ∷ unwrap_or labels.1 [] ∷ []
+
+-- the header of rows, without labels or with them
+abbrev pub title_line : Bool → Line
+title_line false = row_titles
+title_line true = row_titles ++ label_titles
+
+-- the line of a row, with its labels if it has them
+abbrev pub row_line : RowView → Option LabelTexts → Line
+row_line row None = row_fields row
+row_line row (Some labels) = row_fields row ++ label_fields labels
+
+-- the header and the lines of rows, with labels if they are given
+abbrev pub row_lines : List RowView → Option (List LabelTexts) → List Line
+row_lines rows None = row_titles ∷ map row_fields rows
+row_lines rows (Some labels) =
+    (row_titles ++ label_titles) ∷ map (λ p. row_fields p.0 ++ label_fields p.1) (zip rows labels)
+
+-- the text of rows, with the labels of each row's addresses if labels are given
+abbrev pub rows_text : List RowView → Option (List LabelTexts) → Bool → Text
+rows_text rows labels columns = table_text columns (row_lines rows labels)
+
+-- How the lines of rows are printed, one by one.
+
+-- the number of columns, with labels or without
+abbrev pub column_count : Bool → ℕ
+column_count labelled = if labelled then 12 else 10
+
+-- the labels of the row at an index, if labels are given
+abbrev pub labels_at : Option (List LabelTexts) → ℕ → Option LabelTexts
+labels_at labels index = option_map (λ texts. slice_index_or texts index (None, None)) labels
+
+-- the fields of the totals of a group
+abbrev pub total_fields : Totals → Line
+total_fields t = decimal t.records ∷ decimal t.packets ∷ decimal t.octets ∷ []
+
+-- The printed text of groups.
+
+-- the column names of totals, and of groups by these fields
+abbrev pub total_titles : Line
+total_titles = codes "records" ∷ codes "packets" ∷ codes "bytes" ∷ []
+
+abbrev pub group_titles : List KeyField → Line
+group_titles fields = map field_name fields ++ total_titles
+
+-- the text of a part of a key, which is empty for a missing label
+abbrev pub part_text : KeyPartModel → Text
+part_text (AddressPart address) = address_text address.0 address.1
+part_text (NumberPart number) = decimal number
+part_text (LabelPart label) = unwrap_or label []
+
+-- the fields of a group's line
+abbrev pub group_fields : GroupModel → Line
+group_fields g =
+    map part_text g.key ++ decimal g.totals.records ∷ decimal g.totals.packets ∷ decimal g.totals.octets ∷ []
+
+-- the header and the line of each group
+abbrev pub group_lines : List KeyField → List GroupModel → List Line
+group_lines fields groups = group_titles fields ∷ map group_fields groups
+
+-- the text of groups by these fields, in the order given
+abbrev pub groups_text : List KeyField → List GroupModel → Bool → Text
+groups_text fields groups columns = table_text columns (group_lines fields groups)
+
+-- The printed text of counts.
+
+-- a line with a name and its number
+abbrev pub count_text : Text → ℕ → Text
+count_text name number = name ++ 32 ∷ decimal number ++ 10 ∷ []
+
+-- the lines of all counts
+abbrev pub info_text : CountsView → Text
+info_text c =
+    count_text (codes "messages") c.messages
+    ++ count_text (codes "templates") c.templates
+    ++ count_text (codes "options-templates") c.options_templates
+    ++ count_text (codes "withdrawals") c.withdrawals
+    ++ count_text (codes "data-sets") c.data_sets
+    ++ count_text (codes "skipped-sets") c.skipped_sets
+    ++ count_text (codes "records") c.records
+    ++ count_text (codes "options-records") c.options_records
+    ++ count_text (codes "rows") c.rows

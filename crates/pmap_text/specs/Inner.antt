@@ -1,0 +1,254 @@
+use Rattle.std.specs.Prelude.{ℕ, ◌*◌, ◌-◌, ◌/◌, ◌%◌, ◌^◌, List, bit_and, bit_or, bit_xor, drop, length, ◌≡◌, ◌||◌, ◌==◌, Bool, true, false, ◌∷◌, ◌++◌, Some, Ok, ◌+◌, ◌<◌, ◌≤◌, ◌⊎◌, Option, All, Contains, IsSomeAnd, option_and_then, option_map, slice_get, unwrap_or, ◌&&◌, None, take, ◌≢◌, [], Result, Err, IfErr, IfOk, OnErr, OnOk}
+use Rattle.std.specs.Int.{from_le_bytes, w64}
+use Rattle.std.specs.List.{fold, list_all, list_any, IsDistinct}
+use Rattle.std.specs.Simd.{first_chunks}
+use Rattle.std.specs.Option.{ForSome, option_or}
+use Rattle.std.specs.Ordering.{is_eq, nat_cmp, ordering_then}
+use Rattle.std.specs.declared.cmp.Ordering.{Ordering}
+use Rattle.prefix_keys.specs.Text.{address_of, block_of_text, dotted_address, is_digit, is_hex_digit, short_number}
+use Rattle.prefix_keys.specs.declared.addr.Addr.{Addr}
+use Rattle.pmap_text.specs.declared.hashing.KeyHasher.{KeyHasher}
+use Rattle.pmap_text.specs.Label.{is_blank, meant_text, with_declared, with_label}
+pub use Rattle.pmap_text.specs.declared.leading.Word.{Word}
+pub use Rattle.pmap_text.specs.declared.leading.Word.TheVariants.{Address}
+use Rattle.pmap_text.specs.declared.leading.Word.TheVariants.{Block as block_word}
+use Rattle.pmap_text.specs.declared.statement.Statement.{Statement}
+use Rattle.pmap_text.specs.Starting.{Start, AreStarts, start_of}
+use Rattle.pmap_text.specs.declared.sweep.Sweep.{Sweep}
+use Rattle.pmap_text.specs.ListModel.{Prefix}
+use Rattle.pmap_text.specs.Reading.{has_prefix, Decides, Declares, Defaults, Earlier, Entry, Lists, Maps, Names, Nothing, earlier_of, entries_from, has_room, MapFault, MapFaultKind, DuplicateBlock, NoMemory, Form}
+use Rattle.pmap_text.specs.MapModel.{Label}
+
+-- The hash that a `KeyHasher` computes. No other contract depends on it.
+
+-- the two halves of the 128 bits of a * b, combined by exclusive or
+abbrev pub folded : ℕ → ℕ → ℕ
+folded a b = bit_xor (bit_and (a * b) (2 ^ 64 - 1)) (a * b / 2 ^ 64)
+
+-- fewer than eight bytes as a number after a leading 1
+abbrev pub short_word : List ℕ → ℕ
+short_word = fold (λ word byte. bit_or (word * 2 ^ 8 % 2 ^ 64) byte) 1
+
+-- the state after the words of eight bytes
+abbrev pub mixed : ℕ → ℕ → List (List ℕ) → ℕ
+mixed multiplier = fold (λ state word. folded (bit_xor state (from_le_bytes w64 word)) multiplier)
+
+-- the hasher after `write(bytes)`
+abbrev pub written : KeyHasher → List ℕ → KeyHasher
+written hasher bytes =
+    let multiplier = hasher.hashing.multiplier in
+    let count = length bytes / 8 in
+    let state = mixed multiplier hasher.state (first_chunks 8 count bytes) in
+    record hasher { state = folded (bit_xor state (short_word (drop (count * 8) bytes))) multiplier }
+
+-- the result of `finish`
+abbrev pub finished : KeyHasher → ℕ
+finished hasher = folded hasher.state hasher.hashing.seed
+
+-- Prefixes of a text, for the contracts of private functions. Callers of the crate need not read them.
+
+-- a byte of an address, in either form
+abbrev pub is_address_byte : ℕ → Bool
+is_address_byte b = is_hex_digit b || (b == 46 || b == 58)
+
+-- the text is a number, at most the limit, followed by the rest
+pub record BeginsWithNumber (text rest : List ℕ) (limit number : ℕ) : Type 0 where
+  pub front : List ℕ
+  pub whole : text ≡ front ++ rest
+  pub reads : short_number limit front ≡ Some number
+
+-- the text is an IPv4 address followed by the rest
+pub record BeginsWithDotted (text rest : List ℕ) (number : ℕ) : Type 0 where
+  pub front : List ℕ
+  pub whole : text ≡ front ++ rest
+  pub bytes : list_all (λ b. is_digit b || b == 46) front ≡ true
+  pub reads : dotted_address front ≡ Some number
+
+-- the text is an address followed by the rest
+pub record BeginsWithAddress (text rest : List ℕ) (addr : Addr) : Type 0 where
+  pub front : List ℕ
+  pub whole : text ≡ front ++ rest
+  pub bytes : list_all is_address_byte front ≡ true
+  pub reads : address_of front ≡ Some (addr.version, addr.value)
+
+-- the text begins with a blank
+pub record BeginsWithBlank (text : List ℕ) : Type 0 where
+  pub blank : ℕ
+  pub rest : List ℕ
+  pub whole : text ≡ blank ∷ rest
+  pub is : is_blank blank ≡ true
+
+-- the word is that address, or that block
+abbrev pub IsWord : List ℕ → Word → Type 0
+IsWord word (Address addr) =
+    (address_of word ≡ Some (addr.version, addr.value)) × (list_any (λ b. b == 47) word ≡ false)
+IsWord word (block_word block) =
+    (block_of_text word ≡ Ok (block.version, block.value, block.len)) × (list_any (λ b. b == 47) word ≡ true)
+
+-- How a sweep from the first address to the last finds the statement that wins.
+
+-- the statement with the number, if there is a number
+abbrev pub statement_won : List Statement → Option ℕ → Option Statement
+statement_won ss won = option_and_then (slice_get ss) won
+
+-- its last address, or the end if there is no number
+abbrev pub high_won : List Statement → ℕ → Option ℕ → ℕ
+high_won ss end won = unwrap_or (option_map (λ s. s.span.high.value) (statement_won ss won)) end
+
+-- the statement with the number covers the address
+pub record Covers (ss : List Statement) (a j : ℕ) : Type 0 where
+  pub statement : Statement
+  pub listed : slice_get ss j ≡ Some statement
+  pub low : statement.span.low.value ≤ a
+  pub high : a ≤ statement.span.high.value
+
+-- the statement with the number wins at the address: it covers the address, and no later one does; without a number,
+-- none does
+pub record IsWinner (ss : List Statement) (a : ℕ) (won : Option ℕ) : Type 0 where
+  pub covers : ForSome won (Covers ss a)
+  pub most : (j : ℕ) → Covers ss a j → IsSomeAnd won (λ k. j ≤ k)
+
+-- the statement with this number begins at the address or before it
+pub record HasBegun (ss : List Statement) (a j : ℕ) : Type 0 where
+  pub statement : Statement
+  pub listed : slice_get ss j ≡ Some statement
+  pub low : statement.span.low.value ≤ a
+
+-- the number is that of the winner, or one of the others that are open
+abbrev pub IsOpen : Option ℕ → List ℕ → ℕ → Type 0
+IsOpen won opened j = (won ≡ Some j) ⊎ Contains opened j
+
+-- none of the others is later than the winner
+abbrev pub IsTop : Option ℕ → List ℕ → Type 0
+IsTop won opened = (j : ℕ) → Contains opened j → IsSomeAnd won (λ k. j ≤ k)
+
+-- Each statement that covers an address from `first` on is open or will be opened. All open statements have begun, and
+-- those that will be opened don't begin before `first`.
+pub record IsSwept (ss : List Statement) (starts : List Start) (next : ℕ) (won : Option ℕ) (opened : List ℕ) (first : ℕ) : Type 0 where
+  pub within : next ≤ length starts
+  pub top : IsTop won opened
+  pub begun : (j : ℕ) → IsOpen won opened j → HasBegun ss first j
+  pub pending : (j a : ℕ) (covers : Covers ss a j) → first ≤ a
+      → IsOpen won opened j ⊎ Contains (drop next starts) (start_of j covers.statement)
+  pub later : All (λ start. first ≤ start.low) (drop next starts)
+
+-- those that will be opened begin after the address
+abbrev pub AreBehind : ℕ → List Start → Type 0
+AreBehind a coming = All (λ start. a < start.low) coming
+
+-- the last open statement that extends to `first` was removed, together with those that are later
+pub record Closes (ss : List Statement) (first : ℕ) (old : List ℕ) (won : Option ℕ) (new : List ℕ) : Type 0 where
+  pub top : IsTop won new
+  pub fewer : (j : ℕ) → IsOpen won new j → Contains old j
+  pub goes_on : first ≤ high_won ss first won
+  pub closed : (j : ℕ) (s : Statement) → slice_get ss j ≡ Some s → first ≤ s.span.high.value → Contains old j → IsOpen won new j
+
+-- the statement with the number was opened
+pub record Opens (won : Option ℕ) (old : List ℕ) (number latest : ℕ) (new : List ℕ) : Type 0 where
+  pub top : IsTop (Some latest) new
+  pub which : (latest ≡ number) ⊎ (won ≡ Some latest)
+  pub kept : (j : ℕ) → (j ≡ number) ⊎ IsOpen won old j → IsOpen (Some latest) new j
+  pub fewer : (j : ℕ) → IsOpen (Some latest) new j → (j ≡ number) ⊎ IsOpen won old j
+
+-- a sweep knows which statements decide from the address on
+pub record IsReady (ss : List Statement) (first : ℕ) (s : Sweep) : Type 0 where
+  pub starts : AreStarts ss s.starts
+  pub swept : IsSwept ss s.starts s.next s.won s.opened first
+
+-- from the address to the sweep's last one, which is at most `end`, its winner wins
+pub record IsSweeping (ss : List Statement) (end first : ℕ) (s : Sweep) : Type 0 where
+  pub ready : IsReady ss (s.last + 1) s
+  pub from : first ≤ s.last
+  pub to : s.last ≤ end
+  pub wins : (a : ℕ) → first ≤ a → a ≤ s.last → IsWinner ss a s.won
+
+-- How a repeated block is found. This is private, and callers of the crate need not read it.
+
+-- two entries have blocks with the same start and length
+abbrev pub same_key : Prefix → Prefix → Bool
+same_key p r = p.start == r.start && p.bits == r.bits
+
+-- no entry has the block of an earlier one
+abbrev pub HasDistinctKeys : List Prefix → Type 0
+HasDistinctKeys prefixes = IsDistinct same_key prefixes
+
+-- the order of starts and lengths
+abbrev pub key_cmp : ℕ × ℕ → ℕ × ℕ → Ordering
+key_cmp x y = ordering_then (nat_cmp x.0 y.0) (nat_cmp x.1 y.1)
+
+-- whether a set of keys has a key
+abbrev pub has_key : List (ℕ × ℕ) → ℕ × ℕ → Bool
+has_key keys k = list_any (λ q. is_eq (key_cmp k q)) keys
+
+-- no entry has the block of an earlier one, or the one at this index is the first that has
+abbrev pub IsFirstRepeat : List Prefix → Option ℕ → Type 0
+IsFirstRepeat ps None = HasDistinctKeys ps
+IsFirstRepeat ps (Some i) =
+    (p : Prefix) × (slice_get ps i ≡ Some p) × HasDistinctKeys (take i ps) × (has_prefix (take i ps) p.start p.bits ≡ true)
+
+-- Steps of the code, for the contracts of private functions. Callers of the crate need not read them.
+
+-- the content of the lines so far, after one more line
+abbrev pub added : Earlier → Entry → Earlier
+added earlier Nothing = earlier
+added earlier (Names name) = record earlier { name = Some name }
+added earlier (Decides version) = record earlier { mode = true; version = option_or earlier.version (Some version) }
+added earlier (Declares number text) =
+    record earlier { declared = with_declared earlier.declared (number, text); table = with_label earlier.table text }
+added earlier (Defaults label) = record earlier { fallback = Some label; table = with_label earlier.table label }
+added earlier (Maps version mapping) = record earlier {
+  version = option_or earlier.version (Some version);
+  mappings = earlier.mappings ++ mapping ∷ [];
+  table = with_label earlier.table mapping.label;
+}
+added earlier (Lists version prefix) = record earlier {
+  version = option_or earlier.version (Some version);
+  prefixes = earlier.prefixes ++ prefix ∷ [];
+  table = with_label earlier.table prefix.label;
+}
+
+-- an entry of the line has a block that no earlier entry has
+abbrev pub IsNewIn : Earlier → Entry → Type 0
+IsNewIn earlier (Lists version prefix) = has_prefix earlier.prefixes prefix.start prefix.bits ≡ false
+IsNewIn earlier _ = Unit {0}
+
+-- the line has an entry for the block of an earlier one, and the entry was added nevertheless
+pub record Repeats (old new : Earlier) : Type 0 where
+  pub prefix : Prefix
+  pub known : has_prefix old.prefixes prefix.start prefix.bits ≡ true
+  pub prefixes : new.prefixes ≡ old.prefixes ++ prefix ∷ []
+
+abbrev pub RepeatsAs : Earlier → Earlier → MapFaultKind → Type 0
+RepeatsAs old new DuplicateBlock = Repeats old new
+RepeatsAs old new _ = ⊥
+
+-- the line was read, and is the last of the lines so far; or it has an entry for the block of an earlier one
+abbrev pub Takes : Earlier → Earlier → Result Entry MapFaultKind → Type 0
+Takes old new (Ok entry) = (new ≡ added old entry) × IsNewIn old entry
+Takes old new (Err kind) = RepeatsAs old new kind
+
+-- the result if a line isn't read: the fault of the line, or that an allocation failed if the line has no fault
+abbrev pub refusal_of : Result Entry MapFaultKind → MapFaultKind
+refusal_of (Ok entry) = NoMemory
+refusal_of (Err kind) = kind
+
+-- the result of reading a line with this content: the line is taken, or its fault is returned, or that an allocation
+-- failed, and no entry is added
+pub record Reads (old new : Earlier) (line : Result Entry MapFaultKind) (result : Result (Unit {0}) MapFaultKind) : Type 0 where
+  pub ok : OnOk result (Takes old new line)
+  pub err : IfErr result (λ kind. kind ≡ refusal_of line)
+  pub kept : OnErr result (new.prefixes ≡ old.prefixes)
+
+-- there is room for one more mapping or entry, and for the text that this label means
+abbrev pub has_label_room : Earlier → Bool → Label → Bool
+has_label_room earlier room label = room && has_room earlier.table (meant_text earlier.declared label)
+
+-- the lines of a text were read up to a fault, except for repeated blocks, or until there were more entries than the
+-- limit; if the last entry of these lines is then the first with the block of an earlier one, it is the first fault
+pub record HasRead (form : Form) (text : List (List ℕ)) (limit : ℕ) (reading : Earlier) (result : Result ℕ MapFault) : Type 0 where
+  pub ok : OnOk result (limit ≡ 18446744073709551615 → HasDistinctKeys reading.prefixes
+      → (entries : List Entry) × (entries_from form [] 0 text ≡ Ok entries) × (reading ≡ earlier_of entries))
+  pub repeat : IfOk result (λ number. IsFirstRepeat reading.prefixes (Some limit)
+      → entries_from form [] 0 text ≡ Err (record { kind = DuplicateBlock; line = number }))
+  pub err : IfErr result (λ fault. HasDistinctKeys reading.prefixes → fault.kind ≢ NoMemory → entries_from form [] 0 text ≡ Err fault)
+  pub memory : IfErr result (λ fault. fault.kind ≡ NoMemory → fault.line ≡ 0)
