@@ -15,7 +15,7 @@ use Rattle.pmap_cert.specs.CertificateText.{HasNodeForm, HasRoomBelow}
 use Rattle.pmap_cert.specs.CertificateModel.{CertificateModel, ChainNode, InnerNode, LeafNode, Pair, Tree, claim_of, has, chain_pair, chosen_half, side_half, exact_pair}
 use Rattle.pmap_cert.proofs.ChainWords.{other-room}
 use Rattle.pmap_cert.proofs.Sets.{bytes_eq-same}
-use Rattle.cert_check.specs.Checking.{bits_fault, claim_fault, fault_at, first_fault, is_decided, is_label_of, leaf_fault, node_count, node_fault, whole_fault, is_same_version, CheckFault, BoundNotMet, CostTooHigh, LeafNotUniform, ListDiffers, SetTooSmall, VersionDiffers}
+use Rattle.cert_check.specs.Checking.{bits_fault, claim_fault, fault_of_number, first_fault, is_decided, is_label_of, leaf_fault, node_count, node_fault, whole_fault, is_same_version, CheckFault, BoundNotMet, CostTooHigh, LeafNotUniform, ListDiffers, SetTooSmall, VersionDiffers}
 use Rattle.cert_check.proofs.Lists.{any-filtered, none_kept}
 
 pub same_version-true : (v w : Version) → is_same_version v w ≡ true → v ≡ w
@@ -163,9 +163,9 @@ bits-accepted m ps side k end IsEnd Fits ends [] room n q fits deep none = ends 
 bits-accepted m ps side k end IsEnd Fits ends (bit ∷ bits) zero n q fits deep none = absurd fits
 bits-accepted m ps side k end IsEnd Fits ends (bit ∷ bits) (suc room) n q fits deep none =
     let beside = leaf_fault m ps (suc n) (side_half bit q) side in
-    let parts = or_none-parts (bits_fault m ps side k end bits (suc n) (chosen_half bit q)) (option_map (fault_at k) beside) none in (
+    let parts = or_none-parts (bits_fault m ps side k end bits (suc n) (chosen_half bit q)) (option_map (fault_of_number k) beside) none in (
       omega (arith, deep),
-      leaf-accepted m ps (suc n) (side_half bit q) side (map_none-part (fault_at k) beside parts.1),
+      leaf-accepted m ps (suc n) (side_half bit q) side (map_none-part (fault_of_number k) beside parts.1),
       bits-accepted m ps side k end IsEnd Fits ends bits room (suc n) (chosen_half bit q) fits (omega (arith, deep)) parts.0,
     )
 
@@ -176,50 +176,50 @@ bits-none m ps side k end IsEnd ends [] n q h = ends n q h
 bits-none m ps side k end IsEnd ends (bit ∷ bits) n q h =
     let leaf = h.1 in
     or_none-from (bits_fault m ps side k end bits (suc n) (chosen_half bit q))
-    (option_map (fault_at k) (leaf_fault m ps (suc n) (side_half bit q) side))
+    (option_map (fault_of_number k) (leaf_fault m ps (suc n) (side_half bit q) side))
     (bits-none m ps side k end IsEnd ends bits (suc n) (chosen_half bit q) h.2)
-    (ap (option_map (fault_at k)) (leaf-none m ps (suc n) (side_half bit q) side leaf.0 leaf.1))
+    (ap (option_map (fault_of_number k)) (leaf-none m ps (suc n) (side_half bit q) side leaf.0 leaf.1))
 
 -- a node without a fault is accepted
 node-accepted : (m : MapModel) (ps : List Prefix) (t : Tree) (room k n q : ℕ) → HasRoom t room → n + room ≡ width_of m.version
     → node_fault m ps t k n q ≡ None → IsNodeAccepted m ps t n q
-node-accepted m ps (LeafNode x) room k n q fits deep none = leaf-accepted m ps n q x (map_none-part (fault_at k) (leaf_fault m ps n q x) none)
+node-accepted m ps (LeafNode x) room k n q fits deep none = leaf-accepted m ps n q x (map_none-part (fault_of_number k) (leaf_fault m ps n q x) none)
 node-accepted m ps (InnerNode claim lower upper) zero k n q fits deep none = absurd fits
 node-accepted m ps (InnerNode claim lower upper) (suc room) k n q fits deep none =
     let exact = exact_pair (claim_of lower) (claim_of upper) in
-    let own = option_map (fault_at k) (claim_fault claim exact) in
+    let own = option_map (fault_of_number k) (claim_fault claim exact) in
     let high = node_fault m ps upper (k + 1 + node_count lower) (suc n) (2 * q + 1) in
     let first = or_none-parts (node_fault m ps lower (k + 1) (suc n) (2 * q)) (option_or high own) none in
     let second = or_none-parts high own first.1 in (
       omega (arith, deep),
       node-accepted m ps lower room (k + 1) (suc n) (2 * q) fits.0 (omega (arith, deep)) first.0,
       node-accepted m ps upper room (k + 1 + node_count lower) (suc n) (2 * q + 1) fits.1 (omega (arith, deep)) second.0,
-      claim-within claim exact (map_none-part (fault_at k) (claim_fault claim exact) second.1),
+      claim-within claim exact (map_none-part (fault_of_number k) (claim_fault claim exact) second.1),
     )
 node-accepted m ps (ChainNode claim bits side end) room k n q fits deep none =
     let exact = chain_pair (length bits) side (claim_of end) in
-    let own = option_map (fault_at k) (claim_fault claim exact) in
+    let own = option_map (fault_of_number k) (claim_fault claim exact) in
     let parts = or_none-parts (bits_fault m ps side k (node_fault m ps end (k + 1)) bits n q) own none in (
       fits.0,
       bits-accepted m ps side k (node_fault m ps end (k + 1)) (IsNodeAccepted m ps end) (HasRoom end)
           (λ room' n' q' fits' deep' none'. node-accepted m ps end room' (k + 1) n' q' fits' deep' none') bits room n q fits.1 deep parts.0,
-      claim-within claim exact (map_none-part (fault_at k) (claim_fault claim exact) parts.1),
+      claim-within claim exact (map_none-part (fault_of_number k) (claim_fault claim exact) parts.1),
     )
 
 node-none : (m : MapModel) (ps : List Prefix) (t : Tree) (k n q : ℕ) → IsNodeAccepted m ps t n q → node_fault m ps t k n q ≡ None
-node-none m ps (LeafNode x) k n q h = ap (option_map (fault_at k)) (leaf-none m ps n q x h.0 h.1)
+node-none m ps (LeafNode x) k n q h = ap (option_map (fault_of_number k)) (leaf-none m ps n q x h.0 h.1)
 node-none m ps (InnerNode claim lower upper) k n q h =
     let exact = exact_pair (claim_of lower) (claim_of upper) in
-    let own = option_map (fault_at k) (claim_fault claim exact) in
+    let own = option_map (fault_of_number k) (claim_fault claim exact) in
     let high = node_fault m ps upper (k + 1 + node_count lower) (suc n) (2 * q + 1) in
     or_none-from (node_fault m ps lower (k + 1) (suc n) (2 * q)) (option_or high own) (node-none m ps lower (k + 1) (suc n) (2 * q) h.1)
     (or_none-from high own (node-none m ps upper (k + 1 + node_count lower) (suc n) (2 * q + 1) h.2)
-    (ap (option_map (fault_at k)) (claim-none claim exact h.3)))
+    (ap (option_map (fault_of_number k)) (claim-none claim exact h.3)))
 node-none m ps (ChainNode claim bits side end) k n q h =
     let exact = chain_pair (length bits) side (claim_of end) in
-    or_none-from (bits_fault m ps side k (node_fault m ps end (k + 1)) bits n q) (option_map (fault_at k) (claim_fault claim exact))
+    or_none-from (bits_fault m ps side k (node_fault m ps end (k + 1)) bits n q) (option_map (fault_of_number k) (claim_fault claim exact))
     (bits-none m ps side k (node_fault m ps end (k + 1)) (IsNodeAccepted m ps end) (λ n' q' h'. node-none m ps end (k + 1) n' q' h') bits n q h.1)
-    (ap (option_map (fault_at k)) (claim-none claim exact h.2))
+    (ap (option_map (fault_of_number k)) (claim-none claim exact h.2))
 
 -- a certificate without a fault is accepted
 pub certificate-accepted : (m : MapModel) (l : ListModel) (c : CertificateModel) → HasNodeForm c.table c.root (width_of c.version) → first_fault m l c ≡ None → IsAccepted m l c

@@ -13,7 +13,7 @@ use Rattle.pmap_cert.specs.CertificateText.{HasRoomBelow, IsRising}
 use Rattle.pmap_cert.specs.CertificateModel.{ChainNode, InnerNode, LeafNode, Pair, Tree, claim_of, has, chain_pair, chosen_half, side_half, exact_pair}
 use Rattle.pmap_cert.specs.Node.{Chain, HasChainForm, Inner, Leaf, Node, behind, bits_of, first_node, from_next_line, label_of, set_of, side_of, tree_of}
 use Rattle.cert_check.specs.Inner.{number_of, IsHalf, IsAnswer, answer_of, NodeLine}
-use Rattle.cert_check.specs.Checking.{bits_fault, claim_fault, fault_at, is_decided, is_label_of, leaf_fault, node_count, node_fault, told, CheckFault, CheckFaultKind, CostTooHigh, LeafNotUniform, ListDiffers, NoMemory, SetTooSmall}
+use Rattle.cert_check.specs.Checking.{bits_fault, claim_fault, fault_of_number, is_decided, is_label_of, leaf_fault, node_count, node_fault, told, CheckFault, CheckFaultKind, CostTooHigh, LeafNotUniform, ListDiffers, NoMemory, SetTooSmall}
 use Rattle.cert_check.proofs.HalfBlocks.{half-number}
 
 -- the number of the next node in a fault
@@ -29,7 +29,7 @@ or-second a b c e f = ap (λ o. option_or o b) e ∙ f
 
 -- the result of the check of a node if those below it have no fault
 pub own-answer : (fault : ℕ → Option CheckFault) (number count : ℕ) (after : List Node) (o : Option CheckFaultKind) (next : NodeLine) → next.node ≡ after
-    → ((k : ℕ) → told k ≡ number → (fault k ≡ option_map (fault_at k) o) × (next.number ≡ told (k + count)))
+    → ((k : ℕ) → told k ≡ number → (fault k ≡ option_map (fault_of_number k) o) × (next.number ≡ told (k + count)))
     → IsAnswer fault number count after (answer_of o number next)
 own-answer fault number count after None next is holds = (is, holds)
 own-answer fault number count after (Some kind) next is holds = λ k told_is. (holds k told_is).0 ∙ (λ i. Some (record { kind = kind; node = told_is i }))
@@ -61,11 +61,11 @@ half-room b half q less h room =
 pub way-step : (m : MapModel) (ps : List Prefix) (x : Label) (k : ℕ) (end : ℕ → ℕ → Option CheckFault) (b chosen beside : Block) (bit : Bool) (bits rest : List Bool)
     → bits ≡ bit ∷ rest → IsHalf b chosen (chosen_half bit (number_of b)) → IsHalf b beside (side_half bit (number_of b))
     → bits_fault m ps x k end bits b.len (number_of b)
-    ≡ option_or (bits_fault m ps x k end rest chosen.len (number_of chosen)) (option_map (fault_at k) (leaf_fault m ps beside.len (number_of beside) x))
+    ≡ option_or (bits_fault m ps x k end rest chosen.len (number_of chosen)) (option_map (fault_of_number k) (leaf_fault m ps beside.len (number_of beside) x))
 way-step m ps x k end b chosen beside bit bits rest is on off =
     ap (λ (xs : List Bool). bits_fault m ps x k end xs b.len (number_of b)) is
     ∙ (λ i. option_or (sym (half-is b chosen (chosen_half bit (number_of b)) on (bits_fault m ps x k end rest)) i)
-    (option_map (fault_at k) (sym (half-is b beside (side_half bit (number_of b)) off (λ n q. leaf_fault m ps n q x)) i)))
+    (option_map (fault_of_number k) (sym (half-is b beside (side_half bit (number_of b)) off (λ n q. leaf_fault m ps n q x)) i)))
 
 -- the set of a node rises
 pub rising-of : (node : Node) (count room : ℕ) → HasChainForm count node room → IsRising count 0 (set_of node)
@@ -90,7 +90,7 @@ pub record IsLeafAt (labels : List Label) (nodes next : List Node) (id : ℕ) : 
   pub known : id < length labels
   pub next_is : next ≡ behind nodes
   pub count : count_of labels nodes ≡ 1
-  pub fault : (m : MapModel) (ps : List Prefix) (k n q : ℕ) → fault_of labels m ps nodes k n q ≡ option_map (fault_at k) (leaf_fault m ps n q (text_at labels id))
+  pub fault : (m : MapModel) (ps : List Prefix) (k n q : ℕ) → fault_of labels m ps nodes k n q ≡ option_map (fault_of_number k) (leaf_fault m ps n q (text_at labels id))
 
 pub leaf-at : (labels : List Label) (nodes next : List Node) (id room : ℕ) → 0 < length nodes → HasChainForm (length labels) (first_node nodes) room
     → Some id ≡ label_of (first_node nodes) → next ≡ from_next_line nodes → IsLeafAt labels nodes next id
@@ -112,7 +112,7 @@ pub record IsInnerAt (labels : List Label) (nodes lower upper : List Node) (room
   pub fault : (m : MapModel) (ps : List Prefix) (k n q : ℕ) → fault_of labels m ps nodes k n q
       ≡ option_or (fault_of labels m ps lower (k + 1) (suc n) (2 * q))
       (option_or (fault_of labels m ps upper (k + 1 + count_of labels lower) (suc n) (2 * q + 1))
-      (option_map (fault_at k) (claim_fault (pair_of labels nodes) (exact_pair (pair_of labels lower) (pair_of labels upper)))))
+      (option_map (fault_of_number k) (claim_fault (pair_of labels nodes) (exact_pair (pair_of labels lower) (pair_of labels upper)))))
 
 pub inner-at : (labels : List Label) (nodes lower upper : List Node) (room : ℕ) → 0 < length nodes → HasChainForm (length labels) (first_node nodes) room
     → label_of (first_node nodes) ≡ None → side_of (first_node nodes) ≡ None → lower ≡ from_next_line nodes → upper ≡ behind lower
@@ -148,7 +148,7 @@ pub record IsChainAt (labels : List Label) (nodes next : List Node) (side room :
   pub count : count_of labels nodes ≡ 1 + count_of labels next
   pub fault : (m : MapModel) (ps : List Prefix) (k n q : ℕ) → fault_of labels m ps nodes k n q
       ≡ option_or (bits_fault m ps (text_at labels side) k (fault_of labels m ps next (k + 1)) (bits_of (first_node nodes)) n q)
-      (option_map (fault_at k) (claim_fault (pair_of labels nodes) (chain_pair (length (bits_of (first_node nodes))) (text_at labels side) (pair_of labels next))))
+      (option_map (fault_of_number k) (claim_fault (pair_of labels nodes) (chain_pair (length (bits_of (first_node nodes))) (text_at labels side) (pair_of labels next))))
 
 pub chain-at : (labels : List Label) (nodes next : List Node) (side room : ℕ) → HasChainForm (length labels) (first_node nodes) room
     → side_of (first_node nodes) ≡ Some side → next ≡ from_next_line nodes → IsChainAt labels nodes next side room
@@ -201,9 +201,9 @@ or-node : (a b : Option CheckFault) → IsNodeFault a → IsNodeFault b → IsNo
 or-node None b first second = second
 or-node (Some f) b first second = first
 
-at-node : (k : ℕ) (o : Option CheckFaultKind) → (o ≡ Some NoMemory → ⊥) → IsNodeFault (option_map (fault_at k) o)
+at-node : (k : ℕ) (o : Option CheckFaultKind) → (o ≡ Some NoMemory → ⊥) → IsNodeFault (option_map (fault_of_number k) o)
 at-node k None not f is kind = none-some f is
-at-node k (Some kind) not f is none = not (ap Some (ap (λ (g : CheckFault). g.kind) (same_Some (fault_at k kind) f is) ∙ none))
+at-node k (Some kind) not f is none = not (ap Some (ap (λ (g : CheckFault). g.kind) (same_Some (fault_of_number k kind) f is) ∙ none))
 
 leaf-kinds : (a b : Bool) → ◌≡◌ {A = Option CheckFaultKind} (cond a (cond b None (Some ListDiffers)) (Some LeafNotUniform)) (Some NoMemory) → ⊥
 leaf-kinds true true e = absurd (none-some NoMemory e)
@@ -216,10 +216,10 @@ claim-kinds false true e = let bad : SetTooSmall ≡ NoMemory = same_Some SetToo
 claim-kinds false false e = absurd (none-some NoMemory e)
 
 module _ (m : MapModel) (ps : List Prefix) where
-  leaf-node : (k n q : ℕ) (x : Label) → IsNodeFault (option_map (fault_at k) (leaf_fault m ps n q x))
+  leaf-node : (k n q : ℕ) (x : Label) → IsNodeFault (option_map (fault_of_number k) (leaf_fault m ps n q x))
   leaf-node k n q x = at-node k (leaf_fault m ps n q x) (leaf-kinds (is_label_of (settled_label m n q) x) (is_decided (width_of m.version) ps n q x))
 
-  claim-node : (k : ℕ) (claim exact : Pair) → IsNodeFault (option_map (fault_at k) (claim_fault claim exact))
+  claim-node : (k : ℕ) (claim exact : Pair) → IsNodeFault (option_map (fault_of_number k) (claim_fault claim exact))
   claim-node k claim exact =
       at-node k (claim_fault claim exact)
       (claim-kinds (nat_lt exact.cost claim.cost) ((claim.cost == exact.cost) && not (list_all (has claim.labels) exact.labels)))
@@ -228,18 +228,18 @@ module _ (m : MapModel) (ps : List Prefix) where
       → IsNodeFault (bits_fault m ps x k end bits n q)
   bits-node x k end ends [] n q = ends n q
   bits-node x k end ends (bit ∷ bits) n q =
-      or-node (bits_fault m ps x k end bits (suc n) (chosen_half bit q)) (option_map (fault_at k) (leaf_fault m ps (suc n) (side_half bit q) x))
+      or-node (bits_fault m ps x k end bits (suc n) (chosen_half bit q)) (option_map (fault_of_number k) (leaf_fault m ps (suc n) (side_half bit q) x))
       (bits-node x k end ends bits (suc n) (chosen_half bit q)) (leaf-node k (suc n) (side_half bit q) x)
 
   pub tree-node : (t : Tree) (k n q : ℕ) → IsNodeFault (node_fault m ps t k n q)
   tree-node (LeafNode x) k n q = leaf-node k n q x
   tree-node (InnerNode claim lower upper) k n q =
-      let own = option_map (fault_at k) (claim_fault claim (exact_pair (claim_of lower) (claim_of upper))) in
+      let own = option_map (fault_of_number k) (claim_fault claim (exact_pair (claim_of lower) (claim_of upper))) in
       let high = node_fault m ps upper (k + 1 + node_count lower) (suc n) (2 * q + 1) in
       or-node (node_fault m ps lower (k + 1) (suc n) (2 * q)) (option_or high own) (tree-node lower (k + 1) (suc n) (2 * q))
       (or-node high own (tree-node upper (k + 1 + node_count lower) (suc n) (2 * q + 1)) (claim-node k claim (exact_pair (claim_of lower) (claim_of upper))))
   tree-node (ChainNode claim bits side end) k n q =
       or-node (bits_fault m ps side k (node_fault m ps end (k + 1)) bits n q)
-      (option_map (fault_at k) (claim_fault claim (chain_pair (length bits) side (claim_of end))))
+      (option_map (fault_of_number k) (claim_fault claim (chain_pair (length bits) side (claim_of end))))
       (bits-node side k (node_fault m ps end (k + 1)) (λ n' q'. tree-node end (k + 1) n' q') bits n q)
       (claim-node k claim (chain_pair (length bits) side (claim_of end)))

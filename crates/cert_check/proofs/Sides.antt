@@ -18,7 +18,7 @@ use Rattle.pmap_cert.proofs.Longest.{label_below-same}
 use Rattle.pmap_cert.specs.CertificateModel.{chosen_half, side_half}
 use Rattle.pmap_cert.specs.Ways.{LeadsTo, way_number}
 use Rattle.cert_check.specs.Inner.{number_of, IsHalf, IsHandedDown, IsListPart, IsSettledBetween, LiesIn, last_in, text_of}
-use Rattle.cert_check.specs.Checking.{bits_fault, fault_at, is_decided, is_label_of, leaf_fault, CheckFault, CheckFaultKind, LeafNotUniform, ListDiffers}
+use Rattle.cert_check.specs.Checking.{bits_fault, fault_of_number, is_decided, is_label_of, leaf_fault, CheckFault, CheckFaultKind, LeafNotUniform, ListDiffers}
 use Rattle.cert_check.proofs.Carries.{first-last}
 use Rattle.cert_check.proofs.HalfBlocks.{IsWithin, block-first, block-last, half-number}
 use Rattle.cert_check.proofs.Handed.{entry-version, never-found, none-listed}
@@ -75,7 +75,7 @@ module _ (m : MapModel) (ps : List Prefix) (x : Label) (W from first last begin 
       let rest =
       sides-clear number below bits (suc n) (chosen_half bit q) k (omega (arith, deep)) (omega (arith, is)) le (omega (arith, begins, half)) (omega (arith, ends, half'))
       at to in
-      ap (λ (o : Option CheckFaultKind). option_or (bits_fault m ps x number below bits (suc n) (chosen_half bit q)) (option_map (fault_at number) o)) (beside bit at to)
+      ap (λ (o : Option CheckFaultKind). option_or (bits_fault m ps x number below bits (suc n) (chosen_half bit q)) (option_map (fault_of_number number) o)) (beside bit at to)
       ∙ or-none (bits_fault m ps x number below bits (suc n) (chosen_half bit q)) ∙ rest
     where
       less' : n < W

@@ -58,8 +58,8 @@ abbrev pub told : ℕ → ℕ
 told number = if nat_lt number (2 ^ 64) then number else 2 ^ 64 - 1
 
 -- a fault of the node with this number
-abbrev pub fault_at : ℕ → CheckFaultKind → CheckFault
-fault_at number kind = record { kind = kind; node = told number }
+abbrev pub fault_of_number : ℕ → CheckFaultKind → CheckFault
+fault_of_number number kind = record { kind = kind; node = told number }
 
 -- The first fault along the bits of the chain with this number: first that of its end, then those of the side blocks
 -- from the deepest up.
@@ -67,20 +67,20 @@ abbrev pub bits_fault : MapModel → List Prefix → Label → ℕ → (ℕ → 
 bits_fault m ps side number end [] n q = end n q
 bits_fault m ps side number end (bit ∷ bits) n q =
     option_or (bits_fault m ps side number end bits (suc n) (chosen_half bit q))
-    (option_map (fault_at number) (leaf_fault m ps (suc n) (side_half bit q) side))
+    (option_map (fault_of_number number) (leaf_fault m ps (suc n) (side_half bit q) side))
 
 -- The first fault of the node with this number, for the block of n bits with the number q, and of those below it: those
 -- of the lower node come first, then those of the upper, then the node's own. Nodes are numbered as in a certificate's
 -- text: the node, then those of its lower half, then those of its upper half.
 abbrev pub node_fault : MapModel → List Prefix → Tree → ℕ → ℕ → ℕ → Option CheckFault
-node_fault m ps (LeafNode x) number n q = option_map (fault_at number) (leaf_fault m ps n q x)
+node_fault m ps (LeafNode x) number n q = option_map (fault_of_number number) (leaf_fault m ps n q x)
 node_fault m ps (InnerNode claim lower upper) number n q =
     option_or (node_fault m ps lower (number + 1) (suc n) (2 * q))
     (option_or (node_fault m ps upper (number + 1 + node_count lower) (suc n) (2 * q + 1))
-    (option_map (fault_at number) (claim_fault claim (exact_pair (claim_of lower) (claim_of upper)))))
+    (option_map (fault_of_number number) (claim_fault claim (exact_pair (claim_of lower) (claim_of upper)))))
 node_fault m ps (ChainNode claim bits side end) number n q =
     option_or (bits_fault m ps side number (node_fault m ps end (number + 1)) bits n q)
-    (option_map (fault_at number) (claim_fault claim (chain_pair (length bits) side (claim_of end))))
+    (option_map (fault_of_number number) (claim_fault claim (chain_pair (length bits) side (claim_of end))))
 
 -- a fault of no single node
 abbrev pub whole_fault : CheckFaultKind → CheckFault

@@ -74,19 +74,19 @@ allows None x = true
 allows (Some test) x = test x
 
 -- the label exists and is this one
-abbrev pub is_label : List ℕ → Option (List ℕ) → Bool
-is_label label None = false
-is_label label (Some found) = bytes_eq found label
+abbrev pub is_this_label : List ℕ → Option (List ℕ) → Bool
+is_this_label label None = false
+is_this_label label (Some found) = bytes_eq found label
 
 -- the label is the requested one, if one is requested
 abbrev pub allows_label : Option (List ℕ) → Option (List ℕ) → Bool
 allows_label None found = true
-allows_label (Some label) found = is_label label found
+allows_label (Some label) found = is_this_label label found
 
 -- one of the two labels is the requested one, if one is requested
 abbrev pub allows_either : Option (List ℕ) → Option (List ℕ) → Option (List ℕ) → Bool
 allows_either None source destination = true
-allows_either (Some label) source destination = is_label label source || is_label label destination
+allows_either (Some label) source destination = is_this_label label source || is_this_label label destination
 
 -- the row meets each condition given, with these labels of addresses
 abbrev pub row_passes : Condition → (AddressOf → Option (List ℕ)) → RowView → Bool

@@ -1,6 +1,6 @@
 //! Conditions on the labels of a row's addresses.
 ghost use Rattle.std.specs.Prelude.{◌≡◌, option_map};
-ghost use Rattle.flow_filter.specs.Condition.{allows_either, allows_label, is_label};
+ghost use Rattle.flow_filter.specs.Condition.{allows_either, allows_label, is_this_label};
 ghost use Rattle.label_lookup.specs.Labelling.{label_where, labelling_lent};
 
 use label_lookup::{Labeller, label_row_under};
@@ -8,7 +8,7 @@ use prefix_keys::Addr;
 
 // Returns `true` if the row's address has this label.
 fn has_label<L: Labeller>(label: &str, labeller: Option<&L>, addr: Addr) -> bool
-    ensures { result ≡ is_label label.now
+    ensures { result ≡ is_this_label label.now
         (label_where (labelling_lent L.version_of L.label labeller.entry) (addr.version, addr.value)) }
 {
     match label_row_under(labeller, addr) {

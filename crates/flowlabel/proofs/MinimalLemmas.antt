@@ -7,7 +7,7 @@ use Rattle.pmap_cert.specs.Acceptance.{IsAccepted, IsLeast, HasListForm, IsInOrd
 use Rattle.pmap_cert.specs.CertificateText.{HasFormatText, HasTextForm, certificate_text}
 use Rattle.pmap_cert.specs.CertificateModel.{CertificateModel, IsOfFormat}
 use Rattle.pmap_cert.specs.Compacting.{compact}
-use Rattle.pmap_print.specs.List.{list_text, in_order, CanBeReadAgain, IsListAgain, IsWellFormed, labels_of}
+use Rattle.pmap_print.specs.List.{list_text, entries_in_order, CanBeReadAgain, IsListAgain, IsWellFormed, labels_of}
 use Rattle.flowlabel.specs.Headline.{IsShortest, MinimalIsShortest, ShrunkIsLeast}
 use Rattle.flowlabel.specs.Output.{CheckAcceptsMinimal, FileTexts, FitsText, IsOutput, minimal_text}
 use Rattle.flowlabel.specs.Request.{check}
@@ -82,7 +82,7 @@ pub shrunk_is_least : CheckAcceptsMinimal
     → MinimalIsShortest
     → ((l : ListModel) → CanBeReadAgain l → (again : ListModel) × ReadsList (list_text l) again × IsListAgain l again)
     → ((l : ListModel) (m : MapModel) → CanBeReadAgain l → IsEquivalent l m → (again : ListModel) × ReadsList (list_text l) again × IsEquivalent again m)
-    → ((ps : List Prefix) → IsInOrder ps → in_order ps ≡ ps)
+    → ((ps : List Prefix) → IsInOrder ps → entries_in_order ps ≡ ps)
     → ShrunkIsLeast
 shrunk_is_least accepts exists shortest back alike kept file texts m reads =
     let (l, c, pair, has_form) = exists texts.map m reads in
@@ -94,7 +94,7 @@ shrunk_is_least accepts exists shortest back alike kept file texts m reads =
       inr (m, reads, (l, c, pair, has_form, refl)),
       short,
       λ fits.
-          let same : in_order l.prefixes ≡ l.prefixes = kept l.prefixes short.order in
+          let same : entries_in_order l.prefixes ≡ l.prefixes = kept l.prefixes short.order in
           let readable : CanBeReadAgain l = record {
             form = short.form;
             few_entries = fits.0;

@@ -11,12 +11,9 @@ use Rattle.flowlabel.specs.declared.command.LabelFile.{LabelFile}
 use Rattle.flowlabel.specs.declared.command.LabelFile.TheVariants.{Map, List as Prefixes}
 pub use Rattle.flowlabel.specs.declared.command.Needs.{Needs}
 pub use Rattle.flowlabel.specs.declared.command.Shrunk.{Shrunk}
+pub use Rattle.pmap_print.specs.Table.{Text}
 
 -- What a command line may ask for, independent of how the program represents it.
-
--- the bytes of a word
-abbrev pub Text : Type 0
-Text = List ℕ
 
 -- the source of labels: the map in a file, or the prefix list in a file
 pub data LabelSource : Type 0 where

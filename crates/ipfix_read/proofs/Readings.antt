@@ -12,7 +12,7 @@ use Rattle.ipfix_templates.specs.Laws.{HasReading as HasTemplateReading, OneRead
 use Rattle.ipfix_templates.proofs.Choice.{some_is, chosen}
 use Rattle.ipfix_templates.proofs.Reading.{Goes, has_outcome, one_outcome, reads_shorter}
 use Rattle.ipfix_read.specs.Record.{Record, record_at, IsPadding, ReadsRecord, IsDataSet, IsCutOff, HasRecordFault}
-use Rattle.ipfix_read.specs.Set.{Set, Templates, Values, Skipped, IsContent, HasContentFault, in_file, written_length, IsSet, HasSetLength, HasSetFault, events_of_set, Place, ReadsSet, IsEnd, IsSets, IsSetFault, HasSetsFault}
+use Rattle.ipfix_read.specs.Set.{Set, Templates, Values, Skipped, IsContent, HasContentFault, in_file, written_length, IsSet, HasSetLength, HasSetFault, events_of_set, MessageState, ReadsSet, IsEnd, IsSets, IsSetFault, HasSetsFault}
 use Rattle.ipfix_read.specs.Message.{ReadFault, ReadFaultKind, MessageView, IsMessage, HasMessageFault, header_fault, events_of_message, own_fault}
 use Rattle.ipfix_read.specs.Fault.{BadRecord, BadSetLength, TruncatedHeader, BadVersion, BadMessageLength, TruncatedMessage, TooManyMessages, BadTemplate, NoMemory, is_of_calls, is_of_reader}
 use Rattle.ipfix_read.specs.declared.fault.ReadFaultKind.TheVariants.{ReadFault as Unread}
@@ -216,14 +216,14 @@ front_has_length bytes front after f = (
   omega (arith, front_written bytes front after f, front_within bytes front after f),
 )
 
-set_front : (domain : ℕ) (at : Place) (set : Set) (next : Place) (r : ReadsSet domain at set next) → Front at.1 r.0 next.1
+set_front : (domain : ℕ) (at : MessageState) (set : Set) (next : MessageState) (r : ReadsSet domain at set next) → Front at.1 r.0 next.1
 set_front domain at set next r = let is = r.2 in record { parts = r.1; least = is.0; whole = is.1 }
 
-set_smaller : (domain : ℕ) (at : Place) (set : Set) (next : Place) → ReadsSet domain at set next → length next.1 < length at.1
+set_smaller : (domain : ℕ) (at : MessageState) (set : Set) (next : MessageState) → ReadsSet domain at set next → length next.1 < length at.1
 set_smaller domain at set next r = let f = set_front domain at set next r in omega (arith, f.least, front_within at.1 r.0 next.1 f)
 
 module _ (one : OneTemplateSet) where
-  one_set : (domain : ℕ) (at : Place) (set other : Set) (next later : Place) → ReadsSet domain at set next → ReadsSet domain at other later → (set ≡ other) × (next ≡ later)
+  one_set : (domain : ℕ) (at : MessageState) (set other : Set) (next later : MessageState) → ReadsSet domain at set next → ReadsSet domain at other later → (set ≡ other) × (next ≡ later)
   one_set domain at set other next later p q =
       let fronts = one_front at.1 p.0 next.1 q.0 later.1 (set_front domain at set next p) (set_front domain at other later q) in
       let there = subst (λ (xs : List ℕ). IsSet at.0 domain xs set) fronts.0 p.2 in
@@ -232,7 +232,7 @@ module _ (one : OneTemplateSet) where
       let histories : next.0 ≡ later.0 = p.3 ∙ ap (λ (s : Set). at.0 ++ events_of_set domain s) same ∙ sym q.3 in
       (same, λ i. (histories i, fronts.1 i))
 
-  set_or_fault : (domain : ℕ) (at : Place) (base : ℕ) (fault : ReadFault) → Goes (ReadsSet domain) at → HasSetFault at.0 domain at.1 base fault → ⊥
+  set_or_fault : (domain : ℕ) (at : MessageState) (base : ℕ) (fault : ReadFault) → Goes (ReadsSet domain) at → HasSetFault at.0 domain at.1 base fault → ⊥
   set_or_fault domain at base fault g (inl q) = q.0 (front_has_length at.1 g.2.0 g.1.1 (set_front domain at g.0 g.1 g.2))
   set_or_fault domain at base fault g (inr q) =
       let r = g.2 in
@@ -281,7 +281,7 @@ pub cut_at : (bytes : List ℕ) → 4 ≤ written_length bytes → written_lengt
 cut_at bytes least within = record { front_is = refl; after_is = refl; least = least; within = within; whole = refl }
 
 module _ (known : HasTemplateReading) where
-  set_due : (domain base : ℕ) (at : Place) → Goes (ReadsSet domain) at ⊎ ((fault : ReadFault) × HasSetFault at.0 domain at.1 base fault)
+  set_due : (domain base : ℕ) (at : MessageState) → Goes (ReadsSet domain) at ⊎ ((fault : ReadFault) × HasSetFault at.0 domain at.1 base fault)
   set_due domain base at =
       let size = written_length at.1 in
       elim (fits 4 (length at.1) size) [
@@ -298,7 +298,7 @@ module _ (known : HasTemplateReading) where
             ]
       ]
 
-  sets_due : (domain size base : ℕ) (at : Place) → IsEnd at ⊎ (Goes (ReadsSet domain) at ⊎ ((fault : ReadFault) × IsSetFault domain size base at fault))
+  sets_due : (domain size base : ℕ) (at : MessageState) → IsEnd at ⊎ (Goes (ReadsSet domain) at ⊎ ((fault : ReadFault) × IsSetFault domain size base at fault))
   sets_due domain size base at =
       elim (cases_lt 0 (length at.1)) [
         | inr none ↦ inl (nil_from_length at.1 (omega (arith, none)))
@@ -311,7 +311,7 @@ module _ (known : HasTemplateReading) where
 
   pub sets : (history : List (ℕ × TemplateEvent)) (domain : ℕ) (bytes : List ℕ) (base : ℕ) → SetsOutcome history domain bytes base
   sets history domain bytes base =
-      has_outcome (ReadsSet domain) IsEnd (IsSetFault domain (length bytes) base) (λ (at : Place). length at.1) (length bytes) (set_smaller domain)
+      has_outcome (ReadsSet domain) IsEnd (IsSetFault domain (length bytes) base) (λ (at : MessageState). length at.1) (length bytes) (set_smaller domain)
       (λ at _. sets_due domain (length bytes) base at) (history, bytes) (omega arith)
 
 -- ---- bytes have at most one reading as a File, or one fault, and reading continues after a first message

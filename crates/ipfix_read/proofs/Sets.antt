@@ -2,7 +2,7 @@
 use Rattle.std.proofs.Common.{◌≡◌, ℕ, ◌+◌, ◌<◌, List, [], ◌∷◌, ◌++◌, length, get_or, take, sym, ap, ◌∙◌, append_assoc, ◌-◌, ◌≤◌, false, eqb, drop, refl, subst, inl, inr, arith, take-append-drop, length-drop, None}
 use Rattle.std.proofs.lemmas.List.{map_push, take_more, append-nil, take_all, get_or-take, get_or-drop, length-take-le}
 use Rattle.ipfix_templates.specs.declared.event.TemplateEvent.{TemplateEvent}
-use Rattle.ipfix_read.specs.Set.{in_domain, events_of_set, events_of_sets, written_length, IsContent, HasContentFault, IsSet, HasSetFault, Place, ReadsSet, IsRefused, IsSets, HasSetsFault, Set}
+use Rattle.ipfix_read.specs.Set.{in_domain, events_of_set, events_of_sets, written_length, IsContent, HasContentFault, IsSet, HasSetFault, MessageState, ReadsSet, IsRefused, IsSets, HasSetsFault, Set}
 use Rattle.std.proofs.lemmas.List.Concat.{flat_map-cons}
 use Rattle.std.proofs.lemmas.List.Sums.{sum_by-append, sum_by-cons}
 use Rattle.byteorder.specs.Endian.{big_number}
@@ -82,8 +82,8 @@ module _ {bytes front after : List ℕ} {n : ℕ} (cut : Cut bytes front after n
 -- ---- several sets
 
 -- the history after sets has their events
-pub sets_history : (domain : ℕ) (start : Place) (sets : List Set) (end : Place) → Reads (ReadsSet domain) start sets end → end.0 ≡ start.0 ++ events_of_sets domain sets
-sets_history domain start [] end done = ap (λ (at : Place). at.0) (sym done) ∙ sym (append-nil start.0)
+pub sets_history : (domain : ℕ) (start : MessageState) (sets : List Set) (end : MessageState) → Reads (ReadsSet domain) start sets end → end.0 ≡ start.0 ++ events_of_sets domain sets
+sets_history domain start [] end done = ap (λ (at : MessageState). at.0) (sym done) ∙ sym (append-nil start.0)
 sets_history domain start (set ∷ sets) end done =
     let one = done.1 in
     sets_history domain done.0 sets end done.2

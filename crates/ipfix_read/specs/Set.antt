@@ -69,16 +69,16 @@ HasSetFault history domain bytes base fault =
     × HasContentFault history domain (big_number 2 front) (drop 4 front) (base + 4) fault)
 
 -- a state of reading a message: the template events so far, and the remaining bytes
-abbrev pub Place : Type 0
-Place = List (ℕ × TemplateEvent) × List ℕ
+abbrev pub MessageState : Type 0
+MessageState = List (ℕ × TemplateEvent) × List ℕ
 
 -- the set at the start of the remaining bytes, and the state after it, with the set's events
-abbrev pub ReadsSet : ℕ → Place → Set → Place → Type 0
+abbrev pub ReadsSet : ℕ → MessageState → Set → MessageState → Type 0
 ReadsSet domain at set next =
     (front : List ℕ) × (at.1 ≡ front ++ next.1) × IsSet at.0 domain front set × (next.0 ≡ at.0 ++ events_of_set domain set)
 
 -- no bytes remain
-abbrev pub IsEnd : Place → Type 0
+abbrev pub IsEnd : MessageState → Type 0
 IsEnd at = at.1 ≡ []
 
 -- the bytes are exactly these consecutive sets
@@ -86,7 +86,7 @@ abbrev pub IsSets : List (ℕ × TemplateEvent) → ℕ → List ℕ → List Se
 IsSets history domain bytes sets = ReadsWhole (ReadsSet domain) IsEnd (history, bytes) sets
 
 -- bytes remain, the whole bytes begin at this offset of the File, and this is the fault of the next set
-abbrev pub IsSetFault : ℕ → ℕ → ℕ → Place → ReadFault → Type 0
+abbrev pub IsSetFault : ℕ → ℕ → ℕ → MessageState → ReadFault → Type 0
 IsSetFault domain size base at fault = (0 < length at.1) × HasSetFault at.0 domain at.1 (base + (size - length at.1)) fault
 
 -- after some sets this is the first fault

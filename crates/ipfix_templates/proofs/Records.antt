@@ -2,7 +2,7 @@
 use Rattle.std.proofs.Common.{◌≡◌, ℕ, suc, ◌+◌, ◌-◌, ◌<◌, ◌≤◌, List, [], ◌∷◌, ◌++◌, length, true, false, Option, Some, None, refl, sym, ap, ◌∙◌, append_assoc, arith, zero, ◌*◌, ◌||◌, cond, ltb, eqb, drop, Result, Ok, Err, ◌⊎◌, inl, inr, length-drop}
 use Rattle.std.specs.Prelude.{is_some, option_and_then}
 use Rattle.ipfix_templates.specs.Template.{Field, Kind, Flow, Options, set_id}
-use Rattle.ipfix_templates.specs.Reading.{field_at, fields_at, defined_by, definition_at, withdrawal, followed_by, record_at, ReadsEvent, ReadsEvents, IsPadding, IsTemplateSet, IsRecordFault, HasTemplateFault, TemplateFault, TemplateFaultKind, Truncated, BadTemplateId, BadScope, NoMemory}
+use Rattle.ipfix_templates.specs.Reading.{field_at, fields_at, defined_by, definition_at, withdrawal, followed_by, template_record_at, ReadsEvent, ReadsEvents, IsSetPadding, IsTemplateSet, IsRecordFault, HasTemplateFault, TemplateFault, TemplateFaultKind, Truncated, BadTemplateId, BadScope, NoMemory}
 use Rattle.std.proofs.lemmas.Bool.{cases_lt, ltb-false}
 use Rattle.byteorder.specs.Endian.{big_number}
 use Rattle.ipfix_templates.specs.declared.event.TemplateEvent.{TemplateEvent}
@@ -91,8 +91,8 @@ followed_shorter bytes (Ok event) x long e = omega (arith, length-drop 4 bytes, 
 followed_shorter bytes (Err fault) x long e = absurd (cc)
 
 -- a record takes at least 4 bytes
-pub record_shorter : (kind : Kind) (bytes : List ℕ) (x : TemplateEvent × List ℕ) → 4 ≤ length bytes → record_at kind bytes ≡ Ok x → length x.1 + 4 ≤ length bytes
-unfolding record_at
+pub record_shorter : (kind : Kind) (bytes : List ℕ) (x : TemplateEvent × List ℕ) → 4 ≤ length bytes → template_record_at kind bytes ≡ Ok x → length x.1 + 4 ≤ length bytes
+unfolding template_record_at
 record_shorter kind bytes x long e =
     let id = big_number 2 bytes in
     let count = big_number 2 (drop 2 bytes) in
@@ -131,16 +131,16 @@ alone kind size rest fault other p q =
 
 pub one_reading : OneReading
 one_reading kind bytes =
-    one_outcome (ReadsEvent kind) IsPadding (IsRecordFault kind (length bytes)) (one_event kind) (λ s g few. omega (arith, g.2.0, few))
+    one_outcome (ReadsEvent kind) IsSetPadding (IsRecordFault kind (length bytes)) (one_event kind) (λ s g few. omega (arith, g.2.0, few))
     (λ s fault g found. ok_not_err _ _ _ g.2.1 found.1) (λ s fault few found. omega (arith, few, found.0)) (alone kind (length bytes)) bytes
 
 -- if there is no padding, there is a record or a fault
-due : (kind : Kind) (size : ℕ) (rest : List ℕ) → length rest ≤ size → IsPadding rest ⊎ (Goes (ReadsEvent kind) rest ⊎ ((fault : TemplateFault) × IsRecordFault kind size rest fault))
+due : (kind : Kind) (size : ℕ) (rest : List ℕ) → length rest ≤ size → IsSetPadding rest ⊎ (Goes (ReadsEvent kind) rest ⊎ ((fault : TemplateFault) × IsRecordFault kind size rest fault))
 due kind size rest room =
     elim (cases_lt (length rest) 4) [
       | inl padding ↦ inl padding
       | inr long ↦
-          elim (record_at kind rest) as (λ r. record_at kind rest ≡ r → IsPadding rest ⊎ (Goes (ReadsEvent kind) rest ⊎ ((fault : TemplateFault) × IsRecordFault kind size rest fault))) [
+          elim (template_record_at kind rest) as (λ r. template_record_at kind rest ≡ r → IsSetPadding rest ⊎ (Goes (ReadsEvent kind) rest ⊎ ((fault : TemplateFault) × IsRecordFault kind size rest fault))) [
             | Ok x ↦ λ read. inr (inl (x.0, x.1, (long, read)))
             | Err fault ↦ λ read. inr (inr (record { kind = fault; offset = size - length rest }, (long, read, omega (arith, room))))
           ] refl
@@ -148,7 +148,7 @@ due kind size rest room =
 
 pub has_reading : HasReading
 has_reading kind bytes =
-    has_outcome (ReadsEvent kind) IsPadding (IsRecordFault kind (length bytes)) length (length bytes) (λ s event next r. omega (arith, shorter kind s event next r)) (due kind (length bytes)) bytes (omega arith)
+    has_outcome (ReadsEvent kind) IsSetPadding (IsRecordFault kind (length bytes)) length (length bytes) (λ s event next r. omega (arith, shorter kind s event next r)) (due kind (length bytes)) bytes (omega arith)
 
 pub events_fit : (kind : Kind) (bytes : List ℕ) (events : List TemplateEvent) → IsTemplateSet kind bytes events → 4 * length events ≤ length bytes
 events_fit kind bytes events p = omega (arith, events_shorter kind bytes events p.0 p.1)
@@ -179,8 +179,8 @@ withdrawal_fault kind id after e =
       | false ↦ elim (ltb id 256) as (λ b. followed_by after (cond b (Err BadTemplateId) (Ok (Withdraw id))) ≡ Err NoMemory → ⊥) [ true ↦ λ p. cc | false ↦ λ p. cc ]
     ] e
 
-pub record_fault : (kind : Kind) (bytes : List ℕ) → record_at kind bytes ≡ Err NoMemory → ⊥
-unfolding record_at
+pub record_fault : (kind : Kind) (bytes : List ℕ) → template_record_at kind bytes ≡ Err NoMemory → ⊥
+unfolding template_record_at
 record_fault kind bytes e =
     let id = big_number 2 bytes in
     let count = big_number 2 (drop 2 bytes) in

@@ -75,8 +75,8 @@ followed_by after (Ok event) = Ok (event, after)
 followed_by after (Err fault) = Err fault
 
 -- the template record at the start and the bytes after it, or the first fault of these bytes
-unfoldable pub record_at : Kind → List ℕ → Result (TemplateEvent × List ℕ) TemplateFaultKind
-record_at kind bytes =
+unfoldable pub template_record_at : Kind → List ℕ → Result (TemplateEvent × List ℕ) TemplateFaultKind
+template_record_at kind bytes =
     let id = big_number 2 bytes in
     let count = big_number 2 (drop 2 bytes) in
     if count == 0 then followed_by (drop 4 bytes) (withdrawal kind id)
@@ -85,28 +85,28 @@ record_at kind bytes =
 
 -- a record at the start is this event, and is followed by these bytes
 abbrev pub ReadsEvent : Kind → List ℕ → TemplateEvent → List ℕ → Type 0
-ReadsEvent kind bytes event after = (4 ≤ length bytes) × (record_at kind bytes ≡ Ok (event, after))
+ReadsEvent kind bytes event after = (4 ≤ length bytes) × (template_record_at kind bytes ≡ Ok (event, after))
 
 -- consecutive records are these events, and are followed by these bytes
 abbrev pub ReadsEvents : Kind → List ℕ → List TemplateEvent → List ℕ → Type 0
 ReadsEvents kind bytes events rest = Reads (ReadsEvent kind) bytes events rest
 
 -- fewer bytes than a record has, which are padding
-abbrev pub IsPadding : List ℕ → Type 0
-IsPadding bytes = length bytes < 4
+abbrev pub IsSetPadding : List ℕ → Type 0
+IsSetPadding bytes = length bytes < 4
 
 -- the bytes after the header of a template set are these records, followed by padding
 abbrev pub IsTemplateSet : Kind → List ℕ → List TemplateEvent → Type 0
-IsTemplateSet kind bytes events = ReadsWhole (ReadsEvent kind) IsPadding bytes events
+IsTemplateSet kind bytes events = ReadsWhole (ReadsEvent kind) IsSetPadding bytes events
 
 -- after some records there is no padding, but another record
 abbrev pub HasTemplateRecord : Kind → List ℕ → Type 0
 HasTemplateRecord kind bytes =
-    (events : List TemplateEvent) × (rest : List ℕ) × ReadsEvents kind bytes events rest × (4 ≤ length rest) × IsOk (record_at kind rest)
+    (events : List TemplateEvent) × (rest : List ℕ) × ReadsEvents kind bytes events rest × (4 ≤ length rest) × IsOk (template_record_at kind rest)
 
 -- at the start of the rest of so many bytes there is no padding and no record, but this fault
 abbrev pub IsRecordFault : Kind → ℕ → List ℕ → TemplateFault → Type 0
-IsRecordFault kind size rest fault = (4 ≤ length rest) × (record_at kind rest ≡ Err fault.kind) × (fault.offset + length rest ≡ size)
+IsRecordFault kind size rest fault = (4 ≤ length rest) × (template_record_at kind rest ≡ Err fault.kind) × (fault.offset + length rest ≡ size)
 
 -- after some records this is the first fault
 abbrev pub HasTemplateFault : Kind → List ℕ → TemplateFault → Type 0

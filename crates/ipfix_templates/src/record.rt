@@ -1,5 +1,5 @@
 ghost use Rattle.std.specs.Prelude.{◌≡◌, ◌≤◌, ◌<◌, length, is_some, IfOk, IfSome, IsOk, IsSome, OnErr, Ok, Err, MatchResult, option_map};
-ghost use Rattle.ipfix_templates.specs.Reading.{field_at, fields_at, record_at, definition_at};
+ghost use Rattle.ipfix_templates.specs.Reading.{field_at, fields_at, template_record_at, definition_at};
 
 use crate::event::TemplateEvent;
 use crate::fault::TemplateFaultKind;
@@ -131,16 +131,16 @@ fn read_definition<'a>(
 
 /// Reads the template record at the start of the bytes (RFC 7011 sections 3.4.1 and 3.4.2), and returns it with the
 /// bytes after it. Nothing is allocated if the record has a fault.
-#[tactic(auto, unfolding(crate::specs::Reading::record_at))]
+#[tactic(auto, unfolding(crate::specs::Reading::template_record_at))]
 pub fn read_record<'a>(
     alloc: Global,
     kind: Kind,
     bytes: &'a [u8],
 ) -> Result<Read<'a, TemplateEvent>, AllocError>
     requires { 4 ≤ length bytes.now }
-    ensures read { IfOk result (λ read. MatchResult read (λ x. record_at kind bytes.now ≡ Ok (x.0, x.1.now))
-        (λ fault. record_at kind bytes.now ≡ Err fault)) }
-    ensures memory { OnErr result (IsOk (record_at kind bytes.now)) }
+    ensures read { IfOk result (λ read. MatchResult read (λ x. template_record_at kind bytes.now ≡ Ok (x.0, x.1.now))
+        (λ fault. template_record_at kind bytes.now ≡ Err fault)) }
+    ensures memory { OnErr result (IsOk (template_record_at kind bytes.now)) }
 {
     let id = BigEndian::read_u16(bytes);
     let count = BigEndian::read_u16(&bytes[2..]);

@@ -8,7 +8,7 @@ use Rattle.prefix_keys.specs.Block.{block_number, first_of, last_of, width_of}
 use Rattle.pmap_text.specs.ListModel.{ListModel, Prefix}
 use Rattle.pmap_text.specs.MapModel.{Label, MapModel}
 use Rattle.pmap_cert.specs.CertificateModel.{CertificateModel, ChainNode, InnerNode, LeafNode, Tree, claim_of, has}
-use Rattle.pmap_cert.specs.Acceptance.{HasBlock, HasListForm, IsInOrder, is_before, HasItsLabels, IsMinimalPair, StandsFor, entries_of, handed_on, has_inherited, least_label, own_entry}
+use Rattle.pmap_cert.specs.Acceptance.{HasBlock, HasListForm, IsInOrder, begins_before, HasItsLabels, IsMinimalPair, StandsFor, entries_of, handed_on, has_inherited, least_label, own_entry}
 use Rattle.pmap_cert.proofs.Alike.{table-node}
 use Rattle.pmap_text.proofs.Blocks.{address-first, address-last, first_of-below, first_of-lower}
 use Rattle.pmap_cert.proofs.Counts.{is_within}
@@ -18,22 +18,22 @@ use Rattle.pmap_cert.proofs.Handed.{has-least_label, inhabited}
 use Rattle.pmap_text.proofs.Settled.{unsettled-halves}
 
 -- two lists in order are in order when joined if each entry of the first comes before each of the second
-in_order-append : (P Q : Prefix → Type 0) → ((p r : Prefix) → P p → Q r → is_before p r ≡ true) → (xs ys : List Prefix)
+in_order-append : (P Q : Prefix → Type 0) → ((p r : Prefix) → P p → Q r → begins_before p r ≡ true) → (xs ys : List Prefix)
     → IsInOrder xs → IsInOrder ys → AllByRecursion P xs → AllByRecursion Q ys → IsInOrder (xs ++ ys)
 in_order-append P Q before [] ys ordered more all rest = more
 in_order-append P Q before (x ∷ xs) ys ordered more all rest = (
-  all-append (λ r. IsTrue (is_before x r)) xs ys ordered.0 (all-weaker Q (λ r. IsTrue (is_before x r)) (λ r q. before x r all.0 q) ys rest),
+  all-append (λ r. IsTrue (begins_before x r)) xs ys ordered.0 (all-weaker Q (λ r. IsTrue (begins_before x r)) (λ r q. before x r all.0 q) ys rest),
   in_order-append P Q before xs ys ordered.1 more all.1 rest,
 )
 
 -- an entry with a lower start comes first, and so does one with the same start and fewer bits
-before-lower : (p r : Prefix) → p.start < r.start → is_before p r ≡ true
+before-lower : (p r : Prefix) → p.start < r.start → begins_before p r ≡ true
 before-lower p r h = or_left (nat_lt p.start r.start) (p.start == r.start && nat_lt p.bits r.bits) (lt-ltb _ _ h)
 
-before-shorter : (p r : Prefix) → p.start ≤ r.start → p.bits < r.bits → is_before p r ≡ true
+before-shorter : (p r : Prefix) → p.start ≤ r.start → p.bits < r.bits → begins_before p r ≡ true
 before-shorter p r h k = by (cases_lt p.start r.start)
   where
-    by : (p.start < r.start) ⊎ (r.start ≤ p.start) → is_before p r ≡ true
+    by : (p.start < r.start) ⊎ (r.start ≤ p.start) → begins_before p r ≡ true
     by (inl lower) = before-lower p r lower
     by (inr same) =
         or_right (nat_lt p.start r.start) (p.start == r.start && nat_lt p.bits r.bits)

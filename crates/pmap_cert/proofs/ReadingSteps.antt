@@ -7,7 +7,7 @@ use Rattle.pmap_text.specs.Reading.{◌>>=◌}
 use Rattle.pmap_text.specs.MapText.{text_at}
 use Rattle.pmap_cert.specs.CertificateModel.{ChainNode, InnerNode, LeafNode, Pair, Tree}
 use Rattle.pmap_cert.specs.Format.{IsNodeOf, format_number, Format, One, Two}
-use Rattle.pmap_cert.specs.FormatReading.{ChainLine, DueLine, InnerLine, LeafLine, Place, PlainLine, due_node, fault_at, labels_at, line_due_at, new_label, nodes_at, value_at, CertFault, BadLabelTable, TooDeep}
+use Rattle.pmap_cert.specs.FormatReading.{ChainLine, DueLine, InnerLine, LeafLine, Place, PlainLine, due_node, fault_at, labels_at, line_due_at, new_label, nodes_at, line_value, CertFault, BadLabelTable, TooDeep}
 use Rattle.pmap_cert.specs.Node.{Chain, HasChainForm, Inner, Leaf, Node, lines_of, tree_of}
 use Rattle.pmap_cert.specs.Inner.{IsReadNode}
 use Rattle.pmap_cert.proofs.ChainWords.{room-left}
@@ -19,12 +19,12 @@ module _ (count : ℕ) (table : List Label) (place : Place) (total : Result (Lis
   one_left : length table < count → count - length table ≡ suc (count - (length table + 1))
   one_left h = omega arith
 
-  pub labels_at-fault : (fault : CertFault) → length table < count → value_at BadLabelTable (new_label table) place ≡ Err fault → total ≡ Err fault
+  pub labels_at-fault : (fault : CertFault) → length table < count → line_value BadLabelTable (new_label table) place ≡ Err fault → total ≡ Err fault
   labels_at-fault fault h e =
       so_far ∙ ap (λ (n : ℕ). labels_at n table place) (one_left h)
       ∙ ap (λ (r : Result (Label × Place) CertFault). r >>= (λ label. labels_at (count - (length table + 1)) (table ++ label.0 ∷ []) label.1)) e
 
-  pub labels_at-next : (label : Label) (after : Place) → length table < count → value_at BadLabelTable (new_label table) place ≡ Ok (label, after) → total ≡ labels_at (count - length (table ++ label ∷ [])) (table ++ label ∷ []) after
+  pub labels_at-next : (label : Label) (after : Place) → length table < count → line_value BadLabelTable (new_label table) place ≡ Ok (label, after) → total ≡ labels_at (count - length (table ++ label ∷ [])) (table ++ label ∷ []) after
   labels_at-next label after h e =
       so_far ∙ ap (λ (n : ℕ). labels_at n table place) (one_left h)
       ∙ ap (λ (r : Result (Label × Place) CertFault). r >>= (λ label. labels_at (count - (length table + 1)) (table ++ label.0 ∷ []) label.1)) e

@@ -13,7 +13,7 @@ use Rattle.pmap_text.specs.MapModel.{Label}
 use Rattle.pmap_text.specs.Reading.{◌>>=◌}
 use Rattle.pmap_text.specs.MapText.{text_at}
 use Rattle.pmap_cert.specs.CertificateText.{IsRising, place_of}
-use Rattle.pmap_cert.specs.FormatReading.{Place, fault_at, labels_at, line_from, new_label, or_fault, value_at, value_by, CertFault, CertFaultKind, BadLabelTable}
+use Rattle.pmap_cert.specs.FormatReading.{Place, fault_at, labels_at, line_from, new_label, or_fault, line_value, value_by, CertFault, CertFaultKind, BadLabelTable}
 use Rattle.pmap_cert.proofs.Pieces.{found_at, line_from-cons}
 
 -- if two steps succeed, the first has a value with which the second succeeds
@@ -48,7 +48,7 @@ texts-places table low (x ∷ xs) rising =
     λ i. text_at-place_of table x rising.1 i ∷ texts-places table (place_of table x + 1) xs rising.2 i
 
 -- a value that is read is that of the next line, and the given rest follows
-pub value_at-found : {A : Type 0} (kind : CertFaultKind) (value_of : List ℕ → Option A) (place : Place) (x : A × Place) → value_at kind value_of place ≡ Ok x
+pub value_at-found : {A : Type 0} (kind : CertFaultKind) (value_of : List ℕ → Option A) (place : Place) (x : A × Place) → line_value kind value_of place ≡ Ok x
     → (line : List ℕ) × (place.pieces ≡ line ∷ x.1.pieces) × (value_of line ≡ Some x.0)
 value_at-found kind value_of place x e = by place.number place.pieces e
   where
@@ -72,7 +72,7 @@ value_at-found kind value_of place x e = by place.number place.pieces e
 
 -- the value of a line is read if another piece follows
 pub value_at-again : {A : Type 0} (kind : CertFaultKind) (value_of : List ℕ → Option A) (number : ℕ) (line : List ℕ) (rest : List (List ℕ)) (x : A) → value_of line ≡ Some x → 0 < length rest
-    → value_at kind value_of (record { number = number; pieces = line ∷ rest }) ≡ Ok (x, record { number = number + 1; pieces = rest })
+    → line_value kind value_of (record { number = number; pieces = line ∷ rest }) ≡ Ok (x, record { number = number + 1; pieces = rest })
 value_at-again kind value_of number line rest x e some =
     let fault = fault_at (record { number = number; pieces = line ∷ rest }) kind in
     ap (value_by fault value_of) (line_from-cons number line rest some) ∙ ap (or_fault fault (record { number = number + 1; pieces = rest })) e
@@ -91,7 +91,7 @@ labels_at-found zero table place x e ok few =
     subst (λ (x : List Label × Place). (new : List Label) × (x.0 ≡ table ++ new) × (place.pieces ≡ new ++ x.1.pieces) × IsLabelTable x.0 × (length new ≡ 0))
     (ok_is (table, place) x e) ([], sym (append-nil table), refl, ok, refl)
 labels_at-found (suc left) table place x e ok few =
-    let step = bind_ok (value_at BadLabelTable (new_label table) place) (λ (label : Label × Place). labels_at left (table ++ label.0 ∷ []) label.1) x e in
+    let step = bind_ok (line_value BadLabelTable (new_label table) place) (λ (label : Label × Place). labels_at left (table ++ label.0 ∷ []) label.1) x e in
     let label : Label = step.0.0 in
     let read = value_at-found BadLabelTable (new_label table) place step.0 step.1 in
     let found = new_label-is table read.0 label read.2 in

@@ -132,13 +132,13 @@ pub record HasItsLabels (m : MapModel) : Type 0 where
 -- The form of a minimal pair's list, in which it can be kept and printed as a prefix list.
 
 -- the first entry begins at a lower address, or both begin at the same address and the first has fewer bits
-abbrev pub is_before : Prefix → Prefix → Bool
-is_before p r = nat_lt p.start r.start || (p.start == r.start && nat_lt p.bits r.bits)
+abbrev pub begins_before : Prefix → Prefix → Bool
+begins_before p r = nat_lt p.start r.start || (p.start == r.start && nat_lt p.bits r.bits)
 
 -- each entry precedes all later ones in this order, so no two have one block
 abbrev pub IsInOrder : List Prefix → Type 0
 IsInOrder [] = Unit {0}
-IsInOrder (p ∷ ps) = AllByRecursion (λ r. IsTrue (is_before p r)) ps × IsInOrder ps
+IsInOrder (p ∷ ps) = AllByRecursion (λ r. IsTrue (begins_before p r)) ps × IsInOrder ps
 
 -- the entry has a block of addresses of W bits: its start is an address without host bits
 pub record HasBlock (W : ℕ) (p : Prefix) : Type 0 where

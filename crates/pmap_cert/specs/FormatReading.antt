@@ -56,8 +56,8 @@ value_by fault value_of (Some (line, after)) = or_fault fault after (value_of li
 value_by fault value_of None = Err fault
 
 -- reads the value of the next line; a fault of this kind if there is no line or it has no such value
-abbrev pub value_at : {A : Type 0} → CertFaultKind → (List ℕ → Option A) → Place → Result (A × Place) CertFault
-value_at kind value_of place = value_by (fault_at place kind) value_of (next_line place)
+abbrev pub line_value : {A : Type 0} → CertFaultKind → (List ℕ → Option A) → Place → Result (A × Place) CertFault
+line_value kind value_of place = value_by (fault_at place kind) value_of (next_line place)
 
 -- the number whose decimal text the word is, if it is below the bound
 abbrev pub number_below : ℕ → List ℕ → Option ℕ
@@ -87,7 +87,7 @@ new_label table line = if is_label line && not (has_label table line) then Some 
 abbrev pub labels_at : ℕ → List Label → Place → Result (List Label × Place) CertFault
 labels_at zero table place = Ok (table, place)
 labels_at (suc left) table place =
-    value_at BadLabelTable (new_label table) place >>= (λ label. labels_at left (table ++ label.0 ∷ []) label.1)
+    line_value BadLabelTable (new_label table) place >>= (λ label. labels_at left (table ++ label.0 ∷ []) label.1)
 
 -- a first number that is not below low, and those that follow it
 abbrev pub onto_numbers : ℕ → Option ℕ → (ℕ → Option (List ℕ)) → Option (List ℕ)
@@ -137,7 +137,7 @@ format_header_of _ = None
 
 -- reads the header
 abbrev pub format_header_at : Place → Result ((ℕ × (Version × ℕ)) × Place) CertFault
-format_header_at place = value_at BadHeader (λ line. format_header_of (words_of line)) place
+format_header_at place = line_value BadHeader (λ line. format_header_of (words_of line)) place
 
 -- a line of a leaf or an inner node, or of a chain with its cost, its bits, and the numbers of its side label and its
 -- set
@@ -169,7 +169,7 @@ due_words format most count [] = None
 -- reads the line of the next node; if there is none, the text has ended, or its next line is malformed
 abbrev pub line_due_at : ℕ → ℕ → ℕ → Place → Result (DueLine × Place) CertFault
 line_due_at format most count place =
-    value_at (if is_ended place.pieces then NodesMissing else BadNode) (λ line. due_words format most count (words_of line)) place
+    line_value (if is_ended place.pieces then NodesMissing else BadNode) (λ line. due_words format most count (words_of line)) place
 
 -- The node of a line, with at most `room` levels below it. `inside d` reads a node that is d + 1 levels below: a half
 -- of an inner node is one level below it, and a chain's end as many levels as the chain has bits.

@@ -3,7 +3,7 @@ ghost use Rattle.std.specs.Prelude.{◌≡◌, ◌≢◌, ◌-◌, ◌<◌, ◌�
 ghost use Rattle.pmap_text.specs.Label.{has_label, is_label as is_label_text};
 ghost use Rattle.pmap_cert.specs.Certificate.{ReturnsCertificate, certificate_of};
 ghost use Rattle.pmap_cert.specs.Format.{IsNodeOf, format_number};
-ghost use Rattle.pmap_cert.specs.FormatReading.{format_reading, is_ended, labels_at, line_due_at, new_label, value_at, BadLabelTable, BadNode, NoMemory, NodesMissing};
+ghost use Rattle.pmap_cert.specs.FormatReading.{format_reading, is_ended, labels_at, line_due_at, new_label, line_value, BadLabelTable, BadNode, NoMemory, NodesMissing};
 ghost use Rattle.pmap_cert.specs.Node.{HasChainForm, tree_of};
 ghost use Rattle.pmap_cert.specs.Inner.{IsReadNode, node_due_at};
 ghost use Rattle.pmap_cert.specs.Packed.{bits_in};
@@ -31,10 +31,10 @@ fn is_known(labels: &Labels, text: &[u8]) -> bool
 
 // Reads the next line as a label that the table doesn't have yet.
 fn read_label<'a>(labels: &Labels, lines: &Lines<'a>) -> Result<(&'a [u8], Lines<'a>), CertFault>
-    ensures ok { IfOk result (λ x. value_at BadLabelTable (new_label labels.now) lines.now ≡ Ok (x.0.now, x.1)) }
+    ensures ok { IfOk result (λ x. line_value BadLabelTable (new_label labels.now) lines.now ≡ Ok (x.0.now, x.1)) }
     ensures label { IfOk result (λ x. IsTrue (is_label_text x.0.now)) }
     ensures new { IfOk result (λ x. has_label labels.now x.0.now ≡ false) }
-    ensures err { IfErr result (λ fault. value_at BadLabelTable (new_label labels.now) lines.now ≡ Err fault) }
+    ensures err { IfErr result (λ fault. line_value BadLabelTable (new_label labels.now) lines.now ≡ Err fault) }
 {
     match lines.next() {
         Some((line, after)) => {

@@ -7,9 +7,9 @@ use Rattle.pmap_text.specs.ListModel.{Prefix}
 use Rattle.pmap_text.specs.MapModel.{Label}
 use Rattle.pmap_text.specs.PrefixList.{prefix_of}
 use Rattle.pmap_text.specs.declared.entry.Entry.{Entry}
-use Rattle.pmap_cert.specs.Acceptance.{IsInOrder, is_before}
+use Rattle.pmap_cert.specs.Acceptance.{IsInOrder, begins_before}
 
-not-same : (p r : Prefix) → is_before p r ≡ true → (p.start == r.start && p.bits == r.bits) ≡ true → ⊥
+not-same : (p r : Prefix) → begins_before p r ≡ true → (p.start == r.start && p.bits == r.bits) ≡ true → ⊥
 not-same p r before same =
     let parts = and_parts (p.start == r.start) (p.bits == r.bits) same in
     let start = eqb-true p.start r.start parts.0 in
@@ -22,7 +22,7 @@ not-same p r before same =
         let less = ltb-true p.bits r.bits (and_parts (p.start == r.start) (nat_lt p.bits r.bits) shorter).1 in
         absurd (omega arith)
 
-not-same_all : (table : List Label) (e : Entry) (es : List Entry) → AllByRecursion (λ r. IsTrue (is_before (prefix_of table e) r)) (map (prefix_of table) es)
+not-same_all : (table : List Label) (e : Entry) (es : List Entry) → AllByRecursion (λ r. IsTrue (begins_before (prefix_of table e) r)) (map (prefix_of table) es)
     → AllByRecursion (λ d. same_block e d ≡ false) es
 not-same_all table e [] all = tt
 not-same_all table e (d ∷ es) all =

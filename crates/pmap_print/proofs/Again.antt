@@ -31,7 +31,7 @@ use Rattle.pmap_text.specs.declared.form.Form.TheVariants as form
 use Rattle.pmap_text.proofs.ListBlocks.{distinct-list_of}
 use Rattle.pmap_text.proofs.Orders.{known_text}
 use Rattle.pmap_text.proofs.ListLabels.{label-longest, label-same_prefixes, longest-match, once-distinct, same_prefixes-permuted}
-use Rattle.pmap_print.specs.List.{entry_line, list_lines, list_text, mode_line, name_lines, in_order, starts_alike, CanBeReadAgain, IsListAgain, IsMapAgain, IsPrintedEntry, labels_of, mapping_of_prefix}
+use Rattle.pmap_print.specs.List.{entry_line, list_lines, list_text, mode_text, name_lines, entries_in_order, starts_alike, CanBeReadAgain, IsListAgain, IsMapAgain, IsPrintedEntry, labels_of, mapping_of_prefix}
 use Rattle.pmap_print.proofs.LastMatch.{last-found, match-in}
 use Rattle.pmap_print.proofs.Order.{alike-flips, in_order-moves, in_order-order, short}
 use Rattle.pmap_print.proofs.ReadLines.{name-high}
@@ -39,13 +39,13 @@ use Rattle.pmap_print.proofs.ReadList.{HasRead, lines-read}
 use Rattle.pmap_print.proofs.WordLines.{high-block, line-lacks_feed, lines-text}
 
 -- no printed line has a line feed in it
-mode-feed : (version : Version) → Lacks 10 (mode_line version)
+mode-feed : (version : Version) → Lacks 10 (mode_text version)
 mode-feed V4 =
-    All-weaker (λ b. not (b == 10) ≡ true) (λ b. (b == 10) ≡ false) (λ b h. not-true (b == 10) h) (mode_line V4)
-    (AllPass-from_list_all (λ b. not (b == 10)) (mode_line V4) refl)
+    All-weaker (λ b. not (b == 10) ≡ true) (λ b. (b == 10) ≡ false) (λ b h. not-true (b == 10) h) (mode_text V4)
+    (AllPass-from_list_all (λ b. not (b == 10)) (mode_text V4) refl)
 mode-feed V6 =
-    All-weaker (λ b. not (b == 10) ≡ true) (λ b. (b == 10) ≡ false) (λ b h. not-true (b == 10) h) (mode_line V6)
-    (AllPass-from_list_all (λ b. not (b == 10)) (mode_line V6) refl)
+    All-weaker (λ b. not (b == 10) ≡ true) (λ b. (b == 10) ≡ false) (λ b h. not-true (b == 10) h) (mode_text V6)
+    (AllPass-from_list_all (λ b. not (b == 10)) (mode_text V6) refl)
 
 name-feed : (name : Option Label) → ForSome name (λ n. IsTrue (is_label n)) → All (Lacks 10) (name_lines name)
 name-feed None label = All-nil (Lacks 10)
@@ -60,10 +60,10 @@ entry-feed version p is =
     (high-block version p.start p.bits (omega (arith, short version p.bits is.block.bits))) is.label
 
 lines-feed : (version : Version) (name : Option Label) (ps : List Prefix) → ForSome name (λ n. IsTrue (is_label n)) → All (IsPrintedEntry version) ps
-    → All (Lacks 10) (name_lines name ++ mode_line version ∷ map (entry_line version) ps)
+    → All (Lacks 10) (name_lines name ++ mode_text version ∷ map (entry_line version) ps)
 lines-feed version name ps label each =
-    All-append (Lacks 10) (name_lines name) (mode_line version ∷ map (entry_line version) ps) (name-feed name label)
-    (All-cons (Lacks 10) (mode_line version) (map (entry_line version) ps) (mode-feed version)
+    All-append (Lacks 10) (name_lines name) (mode_text version ∷ map (entry_line version) ps) (name-feed name label)
+    (All-cons (Lacks 10) (mode_text version) (map (entry_line version) ps) (mode-feed version)
     (All-map (Lacks 10) (entry_line version) ps
     (All-weaker (IsPrintedEntry version) (λ p. Lacks 10 (entry_line version p)) (entry-feed version) ps each)))
 
@@ -107,22 +107,22 @@ module _ (l : ListModel) (can : CanBeReadAgain l) where
   distinct : IsDistinct starts_alike l.prefixes
   distinct = alike-distinct (width_of l.version) l.prefixes can.form.distinct
 
-  moved : IsPermutation l.prefixes (in_order l.prefixes)
+  moved : IsPermutation l.prefixes (entries_in_order l.prefixes)
   moved = in_order-moves l.prefixes
 
-  each : All (IsPrintedEntry l.version) (in_order l.prefixes)
-  each = All-permutation (IsPrintedEntry l.version) l.prefixes (in_order l.prefixes) moved can.form.entries
+  each : All (IsPrintedEntry l.version) (entries_in_order l.prefixes)
+  each = All-permutation (IsPrintedEntry l.version) l.prefixes (entries_in_order l.prefixes) moved can.form.entries
 
   -- what the lines of the list's text say
   read : (kind : Form) → (es : List Entry)
       × (entries_from kind [] 0 (lines_of (list_text l)) ≡ Ok es)
-      × HasRead kind l.version l.name (earlier_of es) (in_order l.prefixes)
+      × HasRead kind l.version l.name (earlier_of es) (entries_in_order l.prefixes)
   read kind =
-      let found = lines-read kind l.version l.name (in_order l.prefixes) can.form.name each
-      (IsDistinct-IsPermutation starts_alike alike-flips l.prefixes (in_order l.prefixes) moved distinct)
-      (omega (arith, can.few_entries, length_permutation l.prefixes (in_order l.prefixes) moved)) can.few_labels in (
+      let found = lines-read kind l.version l.name (entries_in_order l.prefixes) can.form.name each
+      (IsDistinct-IsPermutation starts_alike alike-flips l.prefixes (entries_in_order l.prefixes) moved distinct)
+      (omega (arith, can.few_entries, length_permutation l.prefixes (entries_in_order l.prefixes) moved)) can.few_labels in (
         found.0,
-        ap (entries_from kind [] 0) (lines-text (list_lines l) (lines-feed l.version l.name (in_order l.prefixes) can.form.name each)) ∙ found.1,
+        ap (entries_from kind [] 0) (lines-text (list_lines l) (lines-feed l.version l.name (entries_in_order l.prefixes) can.form.name each)) ∙ found.1,
         found.2,
       )
 
@@ -139,19 +139,19 @@ module _ (l : ListModel) (can : CanBeReadAgain l) where
       )
 
   -- the entries in order label each address as the list does
-  pub order-label : (a : ℕ) → list_label l a ≡ label_below (width_of l.version) (in_order l.prefixes) (suc (width_of l.version)) a
+  pub order-label : (a : ℕ) → list_label l a ≡ label_below (width_of l.version) (entries_in_order l.prefixes) (suc (width_of l.version)) a
   order-label a =
-      label-same_prefixes (width_of l.version) l.prefixes (in_order l.prefixes) a (once-distinct (width_of l.version) l.prefixes can.form.distinct)
-      (same_prefixes-permuted l.prefixes (in_order l.prefixes) moved)
+      label-same_prefixes (width_of l.version) l.prefixes (entries_in_order l.prefixes) a (once-distinct (width_of l.version) l.prefixes can.form.distinct)
+      (same_prefixes-permuted l.prefixes (entries_in_order l.prefixes) moved)
 
   -- the last statement of the text that covers an address has the list's label
-  same-label : (a : ℕ) → label_or (last_such (spans a) (map (mapping_of_prefix (width_of l.version)) (in_order l.prefixes))) unknown
+  same-label : (a : ℕ) → label_or (last_such (spans a) (map (mapping_of_prefix (width_of l.version)) (entries_in_order l.prefixes))) unknown
       ≡ unwrap_or (list_label l a) unknown
   same-label a =
       rw (order-label a)
-      (found-label (width_of l.version) a (in_order l.prefixes)
-      (last-found (width_of l.version) a (in_order l.prefixes) (in_order-order l.prefixes distinct)
-      (All-weaker (IsPrintedEntry l.version) (HasBlock (width_of l.version)) (λ p is. is.block) (in_order l.prefixes) each)))
+      (found-label (width_of l.version) a (entries_in_order l.prefixes)
+      (last-found (width_of l.version) a (entries_in_order l.prefixes) (in_order-order l.prefixes distinct)
+      (All-weaker (IsPrintedEntry l.version) (HasBlock (width_of l.version)) (λ p is. is.block) (entries_in_order l.prefixes) each)))
 
   pub map-again : (m : MapModel) × ReadsMap (list_text l) m × IsMapAgain l m
   map-again =
@@ -162,7 +162,7 @@ module _ (l : ListModel) (can : CanBeReadAgain l) where
           version = ap (λ (o : Option Version). unwrap_or o V4) found.2.version_is;
           name = found.2.name_is;
           labels = λ a _. ap (λ (ms : List Mapping). label_or (last_such (spans a) ms) (unwrap_or (earlier_of found.0).fallback unknown)) found.2.entries
-              ∙ ap (λ (o : Option Label). label_or (last_such (spans a) (map (mapping_of_prefix (width_of l.version)) (in_order l.prefixes))) (unwrap_or o unknown)) found.2.fallback
+              ∙ ap (λ (o : Option Label). label_or (last_such (spans a) (map (mapping_of_prefix (width_of l.version)) (entries_in_order l.prefixes))) (unwrap_or o unknown)) found.2.fallback
               ∙ same-label a;
         },
       )
@@ -215,7 +215,7 @@ entry-printed l is k d below =
     }
 
 pub list-printable : (l : PrefixList) → IsLabelTable l.labels → ForSome l.name (λ n. IsTrue (is_label n)) → length l.entries ≤ mapping_limit
-    → length (labels_of (in_order (list_of l).prefixes)) ≤ label_limit → CanBeReadAgain (list_of l)
+    → length (labels_of (entries_in_order (list_of l).prefixes)) ≤ label_limit → CanBeReadAgain (list_of l)
 list-printable l is name few few_labels = record {
   form = record {
     entries = All-map (IsPrintedEntry l.version) (prefix_of l.labels) l.entries (entry-printed l is);

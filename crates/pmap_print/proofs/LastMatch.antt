@@ -5,7 +5,7 @@ use Rattle.std.proofs.lemmas.Bool.{and_parts, both_ways, cases_lt, leb-true}
 use Rattle.std.proofs.lemmas.List.Elements.{All-cons, All-contains, All-from_recursion, All-head, All-nil, All-tail, All-weaker, Contains-append_right}
 use Rattle.prefix_keys.specs.Block.{block_number, first_of, last_of}
 use Rattle.prefix_keys.proofs.Quotients.{whole}
-use Rattle.pmap_cert.specs.Acceptance.{HasBlock, IsInOrder, is_before}
+use Rattle.pmap_cert.specs.Acceptance.{HasBlock, IsInOrder, begins_before}
 use Rattle.pmap_text.specs.ListModel.{Prefix, CoversAddress, IsLongestMatch}
 use Rattle.pmap_text.specs.MapModel.{last_such, spans}
 use Rattle.pmap_text.proofs.Blocks.{address-between, address-first, address-last, block_number-shorter}
@@ -33,7 +33,7 @@ module _ (W a : ℕ) where
       grind (arith, nat_tests)
 
   -- of two entries that cover the address, the first one has the shorter prefix
-  first-shorter : (p r : Prefix) → HasBlock W p → HasBlock W r → is_before p r ≡ true → CoversAddress W a p → CoversAddress W a r → p.bits < r.bits
+  first-shorter : (p r : Prefix) → HasBlock W p → HasBlock W r → begins_before p r ≡ true → CoversAddress W a p → CoversAddress W a r → p.bits < r.bits
   first-shorter p r hp hr before cp cr = by (cases_lt p.bits r.bits)
     where
       starts : r.bits ≤ p.bits → r.start ≤ p.start
@@ -60,7 +60,7 @@ module _ (W a : ℕ) where
       → IsLongestMatch W (q ∷ ps) a p
   longer-list q ps p ordered has long =
       let in' = match-in ps p long in
-      let before : is_before q p ≡ true = All-contains (λ s. is_before q s ≡ true) ps p (All-from_recursion (λ s. is_before q s ≡ true) ps ordered.0) in' in
+      let before : begins_before q p ≡ true = All-contains (λ s. begins_before q s ≡ true) ps p (All-from_recursion (λ s. begins_before q s ≡ true) ps ordered.0) in' in
       record {
         before = q ∷ long.before;
         behind = long.behind;

@@ -8,7 +8,7 @@ use Rattle.std.proofs.lemmas.Map.Keys.{IsDistinct-cons}
 use Rattle.std.proofs.lemmas.Option.{slice_get-get_or}
 use Rattle.std.proofs.lemmas.Slice.Eq.{bytes_eq-Decides}
 use Rattle.prefix_keys.specs.Block.{block_number, width_of}
-use Rattle.pmap_cert.specs.Acceptance.{IsAccepted, IsNodeAccepted, HasBlock, HasListForm, IsInOrder, is_before, IsMinimalPair}
+use Rattle.pmap_cert.specs.Acceptance.{IsAccepted, IsNodeAccepted, HasBlock, HasListForm, IsInOrder, begins_before, IsMinimalPair}
 use Rattle.pmap_cert.specs.CertificateModel.{CertificateModel, claim_of, has}
 use Rattle.pmap_cert.proofs.InOrder.{list-form}
 use Rattle.pmap_cert.proofs.MapLabels.{labels-read}
@@ -30,7 +30,7 @@ same-start W p r hp hr bits number =
     sym (block-start W p hp) ∙ ap (λ (k : ℕ). k * 2 ^ (W - p.bits)) number
     ∙ ap (λ (n : ℕ). block_number W r.bits r.start * 2 ^ (W - n)) bits ∙ block-start W r hr
 
-before-apart : (W : ℕ) (p r : Prefix) → HasBlock W p → HasBlock W r → is_before p r ≡ true → is_same_prefix W p r ≡ false
+before-apart : (W : ℕ) (p r : Prefix) → HasBlock W p → HasBlock W r → begins_before p r ≡ true → is_same_prefix W p r ≡ false
 before-apart W p r hp hr before =
     false_from_ne_true (is_same_prefix W p r)
     (λ e.
@@ -40,7 +40,7 @@ before-apart W p r hp hr before =
     same-start W p r hp hr bits (eqb-true (block_number W p.bits p.start) (block_number W r.bits r.start) parts.1) in
     grind (arith, nat_tests))
 
-all-apart : (W : ℕ) (p : Prefix) (ps : List Prefix) → HasBlock W p → AllByRecursion (HasBlock W) ps → AllByRecursion (λ r. IsTrue (is_before p r)) ps
+all-apart : (W : ℕ) (p : Prefix) (ps : List Prefix) → HasBlock W p → AllByRecursion (HasBlock W) ps → AllByRecursion (λ r. IsTrue (begins_before p r)) ps
     → AllByRecursion (λ r. is_same_prefix W p r ≡ false) ps
 all-apart W p [] has blocks before = tt
 all-apart W p (r ∷ rs) has blocks before = (before-apart W p r has blocks.0 before.0, all-apart W p rs has blocks.1 before.1)

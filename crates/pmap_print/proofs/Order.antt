@@ -9,7 +9,7 @@ use Rattle.std.proofs.lemmas.Map.Keys.{IsDistinct-IsPermutation, IsDistinct-head
 use Rattle.prefix_keys.specs.Block.{width_of}
 use Rattle.prefix_keys.specs.declared.version.Version.{Version}
 use Rattle.prefix_keys.specs.declared.version.Version.TheVariants.{V4, V6}
-use Rattle.pmap_cert.specs.Acceptance.{IsInOrder, is_before}
+use Rattle.pmap_cert.specs.Acceptance.{IsInOrder, begins_before}
 use Rattle.pmap_text.specs.ListEntries.{HasDistinctBlocks, same_block}
 use Rattle.pmap_text.specs.ListModel.{Prefix}
 use Rattle.pmap_text.specs.MapModel.{Label}
@@ -17,22 +17,22 @@ use Rattle.pmap_text.specs.PrefixList.{prefix_of}
 use Rattle.pmap_text.specs.declared.entry.Entry.{Entry}
 use Rattle.pmap_text.proofs.Filed.{distinct_to_map}
 use Rattle.pmap_text.proofs.Finds.{Contains-cases, Contains-first, Contains-later, Contains-nil}
-use Rattle.pmap_print.specs.List.{in_order, placed, starts_alike, place_of}
+use Rattle.pmap_print.specs.List.{entries_in_order, placed, starts_alike, place_of}
 
 -- one entry precedes another
-before-trans : (p r s : Prefix) → is_before p r ≡ true → is_before r s ≡ true → is_before p s ≡ true
+before-trans : (p r s : Prefix) → begins_before p r ≡ true → begins_before r s ≡ true → begins_before p s ≡ true
 before-trans p r s a b = grind (arith, nat_tests)
 
-before-once : (p r : Prefix) → is_before p r ≡ true → is_before r p ≡ true → ⊥
+before-once : (p r : Prefix) → begins_before p r ≡ true → begins_before r p ≡ true → ⊥
 before-once p r a b = grind (arith, nat_tests)
 
-before-other : (p r : Prefix) → is_before p r ≡ false → starts_alike p r ≡ false → is_before r p ≡ true
+before-other : (p r : Prefix) → begins_before p r ≡ false → starts_alike p r ≡ false → begins_before r p ≡ true
 before-other p r not ne = grind (arith, nat_tests)
 
 -- two lists in order with the same entries are equal
-after-first : (p r : Prefix) (ps : List Prefix) → IsInOrder (p ∷ ps) → Contains ps r → is_before p r ≡ true
+after-first : (p r : Prefix) (ps : List Prefix) → IsInOrder (p ∷ ps) → Contains ps r → begins_before p r ≡ true
 after-first p r ps ordered in' =
-    All-contains (λ s. is_before p s ≡ true) ps r (All-from_recursion (λ s. is_before p s ≡ true) ps ordered.0) in'
+    All-contains (λ s. begins_before p s ≡ true) ps r (All-from_recursion (λ s. begins_before p s ≡ true) ps ordered.0) in'
 
 first-same : (p r : Prefix) (ps rs : List Prefix) → IsInOrder (p ∷ ps) → IsInOrder (r ∷ rs)
     → (r ≡ p) ⊎ Contains rs p → (p ≡ r) ⊎ Contains ps r → p ≡ r
@@ -42,7 +42,7 @@ first-same p r ps rs op or' (inr here) (inr there) = absurd (before-once r p (af
 
 rest-in : (p s : Prefix) (ps rs : List Prefix) → IsInOrder (p ∷ ps) → Contains ps s → (p ≡ s) ⊎ Contains rs s → Contains rs s
 rest-in p s ps rs ordered in' (inl e) =
-    let self : is_before p p ≡ true = rw e (subst (λ x. is_before x s ≡ true) e (after-first p s ps ordered in')) in
+    let self : begins_before p p ≡ true = rw e (subst (λ x. begins_before x s ≡ true) e (after-first p s ps ordered in')) in
     absurd (before-once p p self self)
 rest-in p s ps rs ordered in' (inr there) = there
 
@@ -61,7 +61,7 @@ order-one (p ∷ ps) (r ∷ rs) op or' to from =
 -- the entries in order are those of the list
 placed-moves : (p : Prefix) (ps : List Prefix) → IsPermutation (p ∷ ps) (placed p ps)
 placed-moves p [] = IsPermutation-refl (p ∷ [])
-placed-moves p (r ∷ rs) = by (is_before p r) (placed-moves p rs)
+placed-moves p (r ∷ rs) = by (begins_before p r) (placed-moves p rs)
   where
     by : (b : Bool) → IsPermutation (p ∷ rs) (placed p rs) → IsPermutation (p ∷ r ∷ rs) (cond b (p ∷ r ∷ rs) (r ∷ placed p rs))
     by true ih = IsPermutation-refl (p ∷ r ∷ rs)
@@ -70,54 +70,54 @@ placed-moves p (r ∷ rs) = by (is_before p r) (placed-moves p rs)
         (IsPermutation-sym (r ∷ p ∷ rs) (p ∷ r ∷ rs) (IsPermutation-middle (r ∷ []) p rs))
         (IsPermutation-cons r (p ∷ rs) (placed p rs) ih)
 
-pub in_order-moves : (ps : List Prefix) → IsPermutation ps (in_order ps)
+pub in_order-moves : (ps : List Prefix) → IsPermutation ps (entries_in_order ps)
 in_order-moves [] = IsPermutation-refl []
 in_order-moves (p ∷ ps) =
-    IsPermutation-trans (p ∷ ps) (p ∷ in_order ps) (placed p (in_order ps)) (IsPermutation-cons p ps (in_order ps) (in_order-moves ps))
-    (placed-moves p (in_order ps))
+    IsPermutation-trans (p ∷ ps) (p ∷ entries_in_order ps) (placed p (entries_in_order ps)) (IsPermutation-cons p ps (entries_in_order ps) (in_order-moves ps))
+    (placed-moves p (entries_in_order ps))
 
 -- the entries in order rise
 placed-all : (P : Prefix → Type 0) (p : Prefix) (ps : List Prefix) → P p → AllByRecursion P ps → AllByRecursion P (placed p ps)
 placed-all P p [] is all = (is, tt)
-placed-all P p (r ∷ rs) is all = by (is_before p r) (placed-all P p rs is all.1)
+placed-all P p (r ∷ rs) is all = by (begins_before p r) (placed-all P p rs is all.1)
   where
     by : (b : Bool) → AllByRecursion P (placed p rs) → AllByRecursion P (cond b (p ∷ r ∷ rs) (r ∷ placed p rs))
     by true ih = (is, all)
     by false ih = (all.0, ih)
 
-all-before : (p r : Prefix) (rs : List Prefix) → is_before p r ≡ true → AllByRecursion (λ s. is_before r s ≡ true) rs
-    → AllByRecursion (λ s. is_before p s ≡ true) rs
+all-before : (p r : Prefix) (rs : List Prefix) → begins_before p r ≡ true → AllByRecursion (λ s. begins_before r s ≡ true) rs
+    → AllByRecursion (λ s. begins_before p s ≡ true) rs
 all-before p r [] is all = tt
 all-before p r (s ∷ ss) is all = (before-trans p r s is all.0, all-before p r ss is all.1)
 
 placed-order : (p : Prefix) (ps : List Prefix) → IsInOrder ps → AllByRecursion (λ r. starts_alike p r ≡ false) ps → IsInOrder (placed p ps)
 placed-order p [] ordered other = (tt, tt)
-placed-order p (r ∷ rs) ordered other = by (is_before p r) refl (placed-order p rs ordered.1 other.1)
+placed-order p (r ∷ rs) ordered other = by (begins_before p r) refl (placed-order p rs ordered.1 other.1)
   where
-    by : (b : Bool) → is_before p r ≡ b → IsInOrder (placed p rs) → IsInOrder (cond b (p ∷ r ∷ rs) (r ∷ placed p rs))
+    by : (b : Bool) → begins_before p r ≡ b → IsInOrder (placed p rs) → IsInOrder (cond b (p ∷ r ∷ rs) (r ∷ placed p rs))
     by true e ih = ((e, all-before p r rs e ordered.0), ordered)
-    by false e ih = (placed-all (λ s. is_before r s ≡ true) p rs (before-other p r e other.0) ordered.0, ih)
+    by false e ih = (placed-all (λ s. begins_before r s ≡ true) p rs (before-other p r e other.0) ordered.0, ih)
 
 pub alike-flips : (p r : Prefix) → starts_alike p r ≡ starts_alike r p
 alike-flips p r = grind arith
 
-pub in_order-order : (ps : List Prefix) → IsDistinct starts_alike ps → IsInOrder (in_order ps)
+pub in_order-order : (ps : List Prefix) → IsDistinct starts_alike ps → IsInOrder (entries_in_order ps)
 in_order-order [] distinct = tt
 in_order-order (p ∷ ps) distinct =
-    let more : IsDistinct starts_alike (p ∷ in_order ps) =
-    IsDistinct-IsPermutation starts_alike alike-flips (p ∷ ps) (p ∷ in_order ps) (IsPermutation-cons p ps (in_order ps) (in_order-moves ps)) distinct in
-    placed-order p (in_order ps) (in_order-order ps (IsDistinct-tail starts_alike p ps distinct)) (IsDistinct-head starts_alike p (in_order ps) more)
+    let more : IsDistinct starts_alike (p ∷ entries_in_order ps) =
+    IsDistinct-IsPermutation starts_alike alike-flips (p ∷ ps) (p ∷ entries_in_order ps) (IsPermutation-cons p ps (entries_in_order ps) (in_order-moves ps)) distinct in
+    placed-order p (entries_in_order ps) (in_order-order ps (IsDistinct-tail starts_alike p ps distinct)) (IsDistinct-head starts_alike p (entries_in_order ps) more)
 
 -- there is only one order of a list's entries
-pub in_order-one : (ps rs : List Prefix) → IsDistinct starts_alike ps → IsPermutation ps rs → IsInOrder rs → rs ≡ in_order ps
+pub in_order-one : (ps rs : List Prefix) → IsDistinct starts_alike ps → IsPermutation ps rs → IsInOrder rs → rs ≡ entries_in_order ps
 in_order-one ps rs distinct moved ordered =
-    let both = IsPermutation-trans rs ps (in_order ps) (IsPermutation-sym ps rs moved) (in_order-moves ps) in
-    order-one rs (in_order ps) ordered (in_order-order ps distinct) (λ s. Contains-permutation rs (in_order ps) s both)
-    (λ s. Contains-permutation (in_order ps) rs s (IsPermutation-sym rs (in_order ps) both))
+    let both = IsPermutation-trans rs ps (entries_in_order ps) (IsPermutation-sym ps rs moved) (in_order-moves ps) in
+    order-one rs (entries_in_order ps) ordered (in_order-order ps distinct) (λ s. Contains-permutation rs (entries_in_order ps) s both)
+    (λ s. Contains-permutation (entries_in_order ps) rs s (IsPermutation-sym rs (entries_in_order ps) both))
 
 -- entries that rise by `place_of` are in order
 place-before : (table : List Label) (d e : Entry) → d.block.len ≤ 128 → e.block.len ≤ 128 → place_of d ≤ place_of e → same_block d e ≡ false
-    → is_before (prefix_of table d) (prefix_of table e) ≡ true
+    → begins_before (prefix_of table d) (prefix_of table e) ≡ true
 place-before table d e short short' le ne = grind (arith, nat_tests)
 
 pub short : (v : Version) (len : ℕ) → len ≤ width_of v → len ≤ 128
@@ -131,7 +131,7 @@ pub entries-order : (table : List Label) (es : List Entry) → IsNonDecreasingBy
     → IsInOrder (map (prefix_of table) es)
 entries-order table [] rising distinct = tt
 entries-order table (e ∷ es) rising distinct =
-    let P : Prefix → Type 0 = λ p. is_before (prefix_of table e) p ≡ true in
+    let P : Prefix → Type 0 = λ p. begins_before (prefix_of table e) p ≡ true in
     let other = All-from_recursion (λ (d : Entry). same_block e d ≡ false) es (IsDistinct-head same_block e es distinct) in
     let each : All (λ d. P (prefix_of table d)) es = λ k d below.
     place-before table e (get_or es k d) (short-block e) (short-block (get_or es k d)) (rising 0 (suc k) d (omega arith) (omega (arith, below))) (other k d below) in (
@@ -147,7 +147,7 @@ alike-blocks : (table : List Label) (es : List Entry) → HasDistinctBlocks es �
 alike-blocks table es distinct = distinct_to_map (prefix_of table) starts_alike es distinct
 
 pub sorted-order : (table : List Label) (es sorted : List Entry) → IsPermutation es sorted → IsNonDecreasingBy place_of sorted → HasDistinctBlocks es
-    → map (prefix_of table) sorted ≡ in_order (map (prefix_of table) es)
+    → map (prefix_of table) sorted ≡ entries_in_order (map (prefix_of table) es)
 sorted-order table es sorted moved rising distinct =
     in_order-one (map (prefix_of table) es) (map (prefix_of table) sorted) (alike-blocks table es distinct)
     (IsPermutation-map (prefix_of table) es sorted moved)
@@ -156,8 +156,8 @@ sorted-order table es sorted moved rising distinct =
 -- entries in order keep their order
 placed-first : (p : Prefix) (ps : List Prefix) → IsInOrder (p ∷ ps) → placed p ps ≡ p ∷ ps
 placed-first p [] ordered = refl
-placed-first p (r ∷ rs) ordered = let e : is_before p r ≡ true = ordered.0.0 in rw e refl
+placed-first p (r ∷ rs) ordered = let e : begins_before p r ≡ true = ordered.0.0 in rw e refl
 
-pub in_order-kept : (ps : List Prefix) → IsInOrder ps → in_order ps ≡ ps
+pub in_order-kept : (ps : List Prefix) → IsInOrder ps → entries_in_order ps ≡ ps
 in_order-kept [] ordered = refl
 in_order-kept (p ∷ ps) ordered = ap (placed p) (in_order-kept ps ordered.1) ∙ placed-first p ps ordered

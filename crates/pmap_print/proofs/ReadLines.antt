@@ -23,7 +23,7 @@ use Rattle.pmap_text.specs.ListModel.{Prefix}
 use Rattle.pmap_text.specs.MapModel.{Label}
 use Rattle.pmap_text.specs.declared.form.Form.{Form}
 use Rattle.pmap_text.specs.declared.form.Form.TheVariants as form
-use Rattle.pmap_print.specs.List.{entry_line, mode_line, IsPrintedEntry, mapping_of_prefix}
+use Rattle.pmap_print.specs.List.{entry_line, mode_text, IsPrintedEntry, mapping_of_prefix}
 use Rattle.pmap_print.specs.Table.{Text}
 use Rattle.pmap_print.proofs.Order.{short}
 use Rattle.pmap_print.proofs.WordLines.{high-block, line-behind_word, line-content, line-first_word}
@@ -66,13 +66,13 @@ name-entry kind earlier name is =
     word-line kind earlier (codes "map-name") name (omega arith) name-high is ∙ rw (label_of-label name is) refl
 
 -- the line of the version
-pub mode-entry : (kind : Form) (version : Version) → line_entry kind (earlier_of []) (mode_line version) ≡ Ok (Decides version)
+pub mode-entry : (kind : Form) (version : Version) → line_entry kind (earlier_of []) (mode_text version) ≡ Ok (Decides version)
 mode-entry form.Map V4 = refl
 mode-entry form.Map V6 = refl
 mode-entry form.List V4 = refl
 mode-entry form.List V6 = refl
 
-pub mode-entry-named : (kind : Form) (name : Label) (version : Version) → line_entry kind (earlier_of (Names name ∷ [])) (mode_line version) ≡ Ok (Decides version)
+pub mode-entry-named : (kind : Form) (name : Label) (version : Version) → line_entry kind (earlier_of (Names name ∷ [])) (mode_text version) ≡ Ok (Decides version)
 mode-entry-named form.Map name V4 = refl
 mode-entry-named form.Map name V6 = refl
 mode-entry-named form.List name V4 = refl

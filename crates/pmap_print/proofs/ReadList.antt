@@ -19,7 +19,7 @@ use Rattle.pmap_text.specs.declared.form.Form.{Form}
 use Rattle.pmap_text.specs.declared.form.Form.TheVariants as form
 use Rattle.pmap_text.proofs.LineEntries.{earlier_of-push}
 use Rattle.pmap_text.proofs.ProgressSteps.{length-with_label}
-use Rattle.pmap_print.specs.List.{entry_line, mode_line, name_lines, starts_alike, IsPrintedEntry, labels_of, mapping_of_prefix}
+use Rattle.pmap_print.specs.List.{entry_line, mode_text, name_lines, starts_alike, IsPrintedEntry, labels_of, mapping_of_prefix}
 use Rattle.pmap_print.specs.Table.{Text}
 use Rattle.pmap_print.proofs.ReadLines.{list-entry, map-entry, mode-entry, mode-entry-named, name-entry}
 
@@ -155,19 +155,19 @@ head-read-named form.Map version name = record { version_is = refl; name_is = re
 
 pub lines-read : (kind : Form) (version : Version) (name : Option Label) (ps : List Prefix) → ForSome name (λ n. IsTrue (is_label n))
     → All (IsPrintedEntry version) ps → IsDistinct starts_alike ps → length ps ≤ mapping_limit → length (labels_of ps) ≤ label_limit
-    → (read : List Entry) × (entries_from kind [] 0 (name_lines name ++ mode_line version ∷ map (entry_line version) ps) ≡ Ok read)
+    → (read : List Entry) × (entries_from kind [] 0 (name_lines name ++ mode_text version ∷ map (entry_line version) ps) ≡ Ok read)
     × HasRead kind version name (earlier_of read) ps
 lines-read kind version None ps label each distinct few few_labels =
     let rest = read-entries kind version None (Decides version ∷ []) 1 [] ps (head-read kind version)
     (recursion_from_All (IsPrintedEntry version) ps each) distinct few few_labels in
-    (rest.0, entries-more kind [] 0 (mode_line version) (map (entry_line version) ps) (Decides version) (mode-entry kind version) ∙ rest.1, rest.2)
+    (rest.0, entries-more kind [] 0 (mode_text version) (map (entry_line version) ps) (Decides version) (mode-entry kind version) ∙ rest.1, rest.2)
 lines-read kind version (Some name) ps label each distinct few few_labels =
     let rest = read-entries kind version (Some name) (Names name ∷ Decides version ∷ []) 2 [] ps (head-read-named kind version name)
     (recursion_from_All (IsPrintedEntry version) ps each) distinct few few_labels in (
       rest.0,
-      entries-more kind [] 0 (codes "map-name" ++ 32 ∷ name) (mode_line version ∷ map (entry_line version) ps) (Names name)
+      entries-more kind [] 0 (codes "map-name" ++ 32 ∷ name) (mode_text version ∷ map (entry_line version) ps) (Names name)
           (name-entry kind (earlier_of []) name (label name refl))
-          ∙ entries-more kind (Names name ∷ []) 1 (mode_line version) (map (entry_line version) ps) (Decides version) (mode-entry-named kind name version)
+          ∙ entries-more kind (Names name ∷ []) 1 (mode_text version) (map (entry_line version) ps) (Decides version) (mode-entry-named kind name version)
           ∙ rest.1,
       rest.2,
     )

@@ -7,7 +7,7 @@ use Rattle.std.proofs.lemmas.Bool.{both_ways, ne_eqb}
 use Rattle.std.proofs.lemmas.List.{drop_at, get_or-append-add, get_or_append_left, get_or_at, length-append, take_all, take_at}
 use Rattle.std.proofs.lemmas.List.Elements.{All-append, All-cons, All-drop, All-head, All-nil, All-tail, All-take, All-weaker}
 use Rattle.std.proofs.lemmas.List.Sums.{AllPass-from_list_all, position_or_len_is, suffix_len-take_no}
-use Rattle.prefix_keys.specs.Print.{address_bytes, address_groups, address_text, block_text, groups_text, joined_text, longest_run, shortened_text}
+use Rattle.prefix_keys.specs.Print.{address_bytes, address_groups, address_text, block_text, address_groups_text, joined_text, longest_run, shortened_text}
 use Rattle.prefix_keys.specs.declared.version.Version.{Version}
 use Rattle.prefix_keys.specs.declared.version.Version.TheVariants.{V4, V6}
 use Rattle.prefix_keys.proofs.Digits.{All-digits}
@@ -154,15 +154,15 @@ high-joined base separator low high (n ∷ m ∷ numbers) all =
 high-shortened : (groups : List ℕ) (start len : ℕ) → All (λ n. n < 65536) groups → All (λ b. 45 ≤ b) (shortened_text groups (start, len))
 high-shortened groups start len all = by (nat_le 2 len)
   where
-    colons : (groups : List ℕ) → All (λ n. n < 65536) groups → All (λ b. 45 ≤ b) (groups_text groups)
+    colons : (groups : List ℕ) → All (λ n. n < 65536) groups → All (λ b. 45 ≤ b) (address_groups_text groups)
     colons = high-joined 16 58 (omega arith) (omega arith)
 
-    by : (b : Bool) → All (λ b. 45 ≤ b) (cond b (groups_text (take start groups) ++ 58 ∷ 58 ∷ groups_text (drop (start + len) groups)) (groups_text groups))
+    by : (b : Bool) → All (λ b. 45 ≤ b) (cond b (address_groups_text (take start groups) ++ 58 ∷ 58 ∷ address_groups_text (drop (start + len) groups)) (address_groups_text groups))
     by true =
-        All-append (λ b. 45 ≤ b) (groups_text (take start groups)) (58 ∷ 58 ∷ groups_text (drop (start + len) groups))
+        All-append (λ b. 45 ≤ b) (address_groups_text (take start groups)) (58 ∷ 58 ∷ address_groups_text (drop (start + len) groups))
         (colons (take start groups) (All-take (λ n. n < 65536) start groups all))
-        (All-cons (λ b. 45 ≤ b) 58 (58 ∷ groups_text (drop (start + len) groups)) (omega arith)
-        (All-cons (λ b. 45 ≤ b) 58 (groups_text (drop (start + len) groups)) (omega arith)
+        (All-cons (λ b. 45 ≤ b) 58 (58 ∷ address_groups_text (drop (start + len) groups)) (omega arith)
+        (All-cons (λ b. 45 ≤ b) 58 (address_groups_text (drop (start + len) groups)) (omega arith)
         (colons (drop (start + len) groups) (All-drop (λ n. n < 65536) (start + len) groups all))))
     by false = colons groups all
 

@@ -8,7 +8,7 @@ use Rattle.pmap_text.specs.MapModel.{Label, MapModel, Mapping, map_label}
 use Rattle.pmap_text.specs.declared.entry.Entry.{Entry}
 use Rattle.pmap_text.specs.Label.{is_label, with_label}
 use Rattle.pmap_text.specs.Reading.{label_limit, mapping_limit, unknown}
-use Rattle.pmap_cert.specs.Acceptance.{is_before, HasBlock}
+use Rattle.pmap_cert.specs.Acceptance.{begins_before, HasBlock}
 use Rattle.pmap_cert.specs.CertificateText.{text_of_lines, version_word}
 use Rattle.pmap_print.specs.Table.{Text}
 
@@ -17,12 +17,12 @@ use Rattle.pmap_print.specs.Table.{Text}
 -- the entries with one more, which is placed before the first entry that it precedes
 abbrev pub placed : Prefix → List Prefix → List Prefix
 placed p [] = p ∷ []
-placed p (r ∷ rs) = if is_before p r then p ∷ r ∷ rs else r ∷ placed p rs
+placed p (r ∷ rs) = if begins_before p r then p ∷ r ∷ rs else r ∷ placed p rs
 
 -- the entries in order of their first addresses, and the shorter prefix first of two with the same one
-abbrev pub in_order : List Prefix → List Prefix
-in_order [] = []
-in_order (p ∷ ps) = placed p (in_order ps)
+abbrev pub entries_in_order : List Prefix → List Prefix
+entries_in_order [] = []
+entries_in_order (p ∷ ps) = placed p (entries_in_order ps)
 
 -- both entries begin at the same address and have the same length
 abbrev pub starts_alike : Prefix → Prefix → Bool
@@ -36,8 +36,8 @@ name_lines None = []
 name_lines (Some name) = (codes "map-name" ++ 32 ∷ name) ∷ []
 
 -- `mode VERSION`
-abbrev pub mode_line : Version → Text
-mode_line version = codes "mode" ++ 32 ∷ version_word version
+abbrev pub mode_text : Version → Text
+mode_text version = codes "mode" ++ 32 ∷ version_word version
 
 -- `BLOCK LABEL`
 abbrev pub entry_line : Version → Prefix → Text
@@ -45,7 +45,7 @@ entry_line version p = block_text version p.start p.bits ++ 32 ∷ p.label
 
 -- the lines of a list: its name, its version, and its entries in order
 abbrev pub list_lines : ListModel → List Text
-list_lines l = name_lines l.name ++ mode_line l.version ∷ map (entry_line l.version) (in_order l.prefixes)
+list_lines l = name_lines l.name ++ mode_text l.version ∷ map (entry_line l.version) (entries_in_order l.prefixes)
 
 -- the text of a list: each line with its line feed
 abbrev pub list_text : ListModel → Text
@@ -78,7 +78,7 @@ pub record IsWellFormed (l : ListModel) : Type 0 where
 pub record CanBeReadAgain (l : ListModel) : Type 0 where
   pub form : IsWellFormed l
   pub few_entries : length l.prefixes ≤ mapping_limit
-  pub few_labels : length (labels_of (in_order l.prefixes)) ≤ label_limit
+  pub few_labels : length (labels_of (entries_in_order l.prefixes)) ≤ label_limit
 
 -- the statement that the addresses of an entry's block, which have W bits, have the entry's label
 abbrev pub mapping_of_prefix : ℕ → Prefix → Mapping
@@ -90,7 +90,7 @@ mapping_of_prefix W p =
 pub record IsListAgain (l r : ListModel) : Type 0 where
   pub version : r.version ≡ l.version
   pub name : r.name ≡ l.name
-  pub prefixes : r.prefixes ≡ in_order l.prefixes
+  pub prefixes : r.prefixes ≡ entries_in_order l.prefixes
 
 -- The printed text of `l`, read as a map, gives `m`: each address has the label that the list gives it, or the label of
 -- a map without a default if the list gives none.

@@ -14,7 +14,7 @@ ghost use Rattle.pmap_text.specs.MapModel.{Label, MapModel, map_label};
 ghost use Rattle.pmap_text.specs.PrefixList.{list_of};
 ghost use Rattle.pmap_text.specs.Reading.{ReadsList, ReadsMap, label_limit, mapping_limit};
 ghost use Rattle.pmap_text.specs.declared.prefix_list.PrefixList.{PrefixList};
-ghost use Rattle.pmap_print.specs.List.{list_text, in_order, starts_alike, CanBeReadAgain, IsListAgain, IsMapAgain, IsWellFormed, labels_of};
+ghost use Rattle.pmap_print.specs.List.{list_text, entries_in_order, starts_alike, CanBeReadAgain, IsListAgain, IsMapAgain, IsWellFormed, labels_of};
 ghost use Rattle.pmap_print.specs.Runs.{IsRunsText};
 ghost use Rattle.pmap_print.specs.Table.{Text};
 
@@ -32,11 +32,11 @@ pub fn labelling_has_one_runs_text()
 
 /// A list is printed in the only order in which each entry precedes all that follow it. A list in that order keeps it.
 pub fn printed_order_is_one()
-    ensures entries { (ps : List Prefix) → IsPermutation ps (in_order ps) }
-    ensures order { (ps : List Prefix) → IsDistinct starts_alike ps → IsInOrder (in_order ps) }
+    ensures entries { (ps : List Prefix) → IsPermutation ps (entries_in_order ps) }
+    ensures order { (ps : List Prefix) → IsDistinct starts_alike ps → IsInOrder (entries_in_order ps) }
     ensures one { (ps rs : List Prefix) → IsDistinct starts_alike ps → IsPermutation ps rs → IsInOrder rs →
-        rs ≡ in_order ps }
-    ensures kept { (ps : List Prefix) → IsInOrder ps → in_order ps ≡ ps }
+        rs ≡ entries_in_order ps }
+    ensures kept { (ps : List Prefix) → IsInOrder ps → entries_in_order ps ≡ ps }
 {}
 
 /// The printed text of a list of distinct blocks, with well-formed labels and within the limits of a text, is read
@@ -62,7 +62,7 @@ pub fn printed_list_is_equivalent()
 /// most 65,535 label texts. `Labels::len` and `Name::as_bytes` prove that its table and its name are labels.
 pub fn prefix_list_can_be_read_again()
     ensures { (l : PrefixList) → IsLabelTable l.labels → ForSome l.name (λ name. IsTrue (is_label name)) →
-        length l.entries ≤ mapping_limit → length (labels_of (in_order (list_of l).prefixes)) ≤ label_limit →
+        length l.entries ≤ mapping_limit → length (labels_of (entries_in_order (list_of l).prefixes)) ≤ label_limit →
         CanBeReadAgain (list_of l) }
 {}
 

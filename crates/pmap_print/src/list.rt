@@ -3,7 +3,7 @@ ghost use Rattle.std.specs.Prelude.{◌≡◌, ◌++◌, ◌∷◌, [], All, IfO
 ghost use Rattle.std.specs.List.Sorted.{IsNonDecreasingBy, IsPermutation};
 ghost use Rattle.std.specs.Ordering.{nat_cmp};
 ghost use Rattle.pmap_cert.specs.CertificateText.{text_of_lines};
-ghost use Rattle.pmap_print.specs.List.{entry_line, list_text, mode_line, name_lines, in_order, place_of};
+ghost use Rattle.pmap_print.specs.List.{entry_line, list_text, mode_text, name_lines, entries_in_order, place_of};
 ghost use Rattle.pmap_text.specs.ListEntries.{HasDistinctBlocks};
 ghost use Rattle.pmap_text.specs.MapModel.{Label};
 ghost use Rattle.pmap_text.specs.PrefixList.{list_of, prefix_of};
@@ -16,7 +16,7 @@ use std::cmp::Ordering;
 // Appends the line of the list's name, if it has one, and the line of its version.
 fn print_head(out: &mut Vec<u8>, list: &PrefixList) -> Result<(), AllocError>
     ensures { OnOk result (out.new.items
-        ≡ out.old.items ++ text_of_lines (name_lines list.now.name ++ mode_line list.now.version ∷ [])) }
+        ≡ out.old.items ++ text_of_lines (name_lines list.now.name ++ mode_text list.now.version ∷ [])) }
 {
     if let Some(name) = &list.name {
         out.extend_from_slice(b"map-name ")?;
@@ -82,7 +82,7 @@ fn sorted_entries(alloc: Global, entries: &[Entry]) -> Result<Vec<Entry>, AllocE
     requires { HasDistinctBlocks entries.now }
     ensures same { IfOk result (λ sorted. IsPermutation entries.now sorted.items) }
     ensures order { IfOk result (λ sorted. (table : List Label) →
-        map (prefix_of table) sorted.items ≡ in_order (map (prefix_of table) entries.now)) }
+        map (prefix_of table) sorted.items ≡ entries_in_order (map (prefix_of table) entries.now)) }
 {
     let mut sorted = Vec::from_slice(alloc, entries)?;
     sort_by_place(&mut sorted)?;

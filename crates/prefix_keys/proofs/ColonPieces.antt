@@ -3,7 +3,7 @@ use Rattle.std.specs.List.{slice_split, before_first, after_first, position_or_l
 use Rattle.std.proofs.lemmas.List.{length-take, take_all}
 use Rattle.std.proofs.lemmas.List.Splits.{slice_split_first, length-slice_split}
 use Rattle.std.proofs.lemmas.Bool.Decides.{nat_tests}
-use Rattle.prefix_keys.specs.Text.{groups_of, text_groups, last_groups, hex_group, onto_groups}
+use Rattle.prefix_keys.specs.Text.{groups_of_pieces, text_groups, last_groups, hex_group, onto_groups}
 use Rattle.prefix_keys.specs.Inner.{more_groups}
 use Rattle.prefix_keys.proofs.Pieces.{split-whole}
 
@@ -23,11 +23,11 @@ pub text_groups-last : (dotted : Bool) (text piece : List ℕ) → piece ≡ bef
     length piece ≡ length text → text_groups dotted text ≡ last_groups dotted piece
 text_groups-last dotted text piece front h =
     let none = no_colon text (ap (λ p. length p) (sym front) ∙ h) in
-    ap (groups_of dotted) (split-whole is_colon text none)
+    ap (groups_of_pieces dotted) (split-whole is_colon text none)
     ∙ ap (last_groups dotted) (sym (front ∙ take_all (position_or_len is_colon text) text none))
 
 pub groups_of-more : (dotted : Bool) (piece : List ℕ) (pieces : List (List ℕ)) → 0 < length pieces →
-    groups_of dotted (piece ∷ pieces) ≡ onto_groups (hex_group piece) (groups_of dotted pieces)
+    groups_of_pieces dotted (piece ∷ pieces) ≡ onto_groups (hex_group piece) (groups_of_pieces dotted pieces)
 groups_of-more dotted piece [] h = absurd (omega arith)
 groups_of-more dotted piece (next ∷ pieces) h = refl
 
@@ -36,7 +36,7 @@ pub text_groups-more : (dotted : Bool) (text piece behind : List ℕ) → piece 
     text_groups dotted text ≡ onto_groups (hex_group piece) (text_groups dotted behind)
 text_groups-more dotted text piece behind front back h =
     rw (front, back)
-    (ap (groups_of dotted) (slice_split_first is_colon text 0 (some_colon text (rw front at h)))
+    (ap (groups_of_pieces dotted) (slice_split_first is_colon text 0 (some_colon text (rw front at h)))
     ∙ groups_of-more dotted (before_first is_colon text) (slice_split is_colon (after_first is_colon text))
     (omega (arith, length-slice_split is_colon (after_first is_colon text))))
 

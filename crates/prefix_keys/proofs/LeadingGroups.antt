@@ -6,7 +6,7 @@ use Rattle.std.proofs.lemmas.List.{append_assoc, append-nil, length-append}
 use Rattle.std.proofs.lemmas.List.Folds.{list_all-append}
 use Rattle.std.proofs.lemmas.List.Splits.{slice_split_at, slice_split_none, length-slice_split}
 use Rattle.prefix_keys.specs.Inner.{BeginsWithColon, BeginsWithGroup, BeginsWithSide, behind, is_colon_byte, more_groups}
-use Rattle.prefix_keys.specs.Text.{around_gap, around_address, colon_address, groups_of, hex_group, hex_value, is_hex_digit, last_groups, onto_groups, side_groups, text_groups, two_groups, whole_address, dotted_address}
+use Rattle.prefix_keys.specs.Text.{around_gap, around_address, colon_address, groups_of_pieces, hex_group, hex_value, is_hex_digit, last_groups, onto_groups, side_groups, text_groups, two_groups, whole_address, dotted_address}
 use Rattle.prefix_keys.proofs.ColonPieces.{is_colon, groups_of-more, more-next}
 use Rattle.prefix_keys.proofs.Gaps.{address-around}
 use Rattle.prefix_keys.proofs.GroupNumbers.{counted-count, gap-some, whole-some}
@@ -35,7 +35,7 @@ group-lacks c other text g reads = none-passes is_hex_digit (λ b. b == c) (apar
 -- a group alone, and one before a colon
 pub groups-last : (dotted : Bool) (f : List ℕ) (g : ℕ) → hex_group f ≡ Some g → text_groups dotted f ≡ Some (g ∷ [])
 groups-last dotted f g reads =
-    ap (groups_of dotted) (slice_split_none is_colon f (group-lacks 58 refl f g reads)) ∙ last dotted
+    ap (groups_of_pieces dotted) (slice_split_none is_colon f (group-lacks 58 refl f g reads)) ∙ last dotted
   where
     last : (dotted : Bool) → last_groups dotted f ≡ Some (g ∷ [])
     last true =
@@ -47,7 +47,7 @@ groups-last dotted f g reads =
 pub groups-next : (dotted : Bool) (f t : List ℕ) (g : ℕ) → hex_group f ≡ Some g
     → text_groups dotted (f ++ 58 ∷ t) ≡ onto_groups (Some g) (text_groups dotted t)
 groups-next dotted f t g reads =
-    ap (groups_of dotted) (slice_split_at is_colon f 58 t (group-lacks 58 refl f g reads) refl)
+    ap (groups_of_pieces dotted) (slice_split_at is_colon f 58 t (group-lacks 58 refl f g reads) refl)
     ∙ groups_of-more dotted f (slice_split is_colon t) (omega (arith, length-slice_split is_colon t))
     ∙ ap (λ x. onto_groups x (text_groups dotted t)) reads
 
@@ -194,7 +194,7 @@ no-colon text none =
     let around : around_gap text ≡ None =
     ap around_gap (sym (append-nil text)) ∙ around-piece text [] lacks-colon in
     ap (around_address text) around
-    ∙ ap (λ pieces. whole_address (groups_of true pieces)) (slice_split_none is_colon text lacks-colon)
+    ∙ ap (λ pieces. whole_address (groups_of_pieces true pieces)) (slice_split_none is_colon text lacks-colon)
     ∙ few (list_any (λ b. b == 46) text)
   where
     two : (x : Option ℕ) → whole_address (option_map two_groups x) ≡ None

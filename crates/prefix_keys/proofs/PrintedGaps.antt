@@ -3,7 +3,7 @@ use Rattle.std.proofs.lemmas.List.{append_assoc, append-nil}
 use Rattle.std.proofs.lemmas.List.Elements.{All-head, All-tail}
 use Rattle.std.specs.Fmt.{digits}
 use Rattle.prefix_keys.specs.Inner.{behind}
-use Rattle.prefix_keys.specs.Print.{groups_text}
+use Rattle.prefix_keys.specs.Print.{address_groups_text}
 use Rattle.prefix_keys.specs.Text.{begins_gap, around_gap}
 use Rattle.prefix_keys.proofs.Printed.{Lacks, Lacks-digits, no_colon}
 use Rattle.prefix_keys.proofs.Digits.{digits_some}
@@ -56,19 +56,19 @@ hex_lacks : (group : ℕ) → group < 65536 → Lacks 58 (hex group)
 hex_lacks group small = Lacks-digits 58 no_colon 16 group (omega arith) (omega arith) (omega arith)
 
 -- no `::` begins with the colon before a group
-groups-begin : (group : ℕ) (groups rest : List ℕ) → group < 65536 → begins_gap (58 ∷ (groups_text (group ∷ groups) ++ rest)) ≡ false
+groups-begin : (group : ℕ) (groups rest : List ℕ) → group < 65536 → begins_gap (58 ∷ (address_groups_text (group ∷ groups) ++ rest)) ≡ false
 groups-begin group [] rest small = colon-begins (hex group) rest (digits_some 16 (omega arith) group (omega arith)) (hex_lacks group small)
 groups-begin group (next ∷ groups) rest small =
-    ap (λ text. begins_gap (58 ∷ text)) (append_assoc (hex group) (58 ∷ groups_text (next ∷ groups)) rest)
-    ∙ colon-begins (hex group) ((58 ∷ groups_text (next ∷ groups)) ++ rest) (digits_some 16 (omega arith) group (omega arith))
+    ap (λ text. begins_gap (58 ∷ text)) (append_assoc (hex group) (58 ∷ address_groups_text (next ∷ groups)) rest)
+    ∙ colon-begins (hex group) ((58 ∷ address_groups_text (next ∷ groups)) ++ rest) (digits_some 16 (omega arith) group (omega arith))
     (hex_lacks group small)
 
 -- groups have no `::`
 around-groups : (group : ℕ) (groups rest : List ℕ) → All IsGroup (group ∷ groups)
-    → around_gap (groups_text (group ∷ groups) ++ rest) ≡ behind (groups_text (group ∷ groups)) (around_gap rest)
+    → around_gap (address_groups_text (group ∷ groups) ++ rest) ≡ behind (address_groups_text (group ∷ groups)) (around_gap rest)
 around-groups group [] rest all = around-piece (hex group) rest (hex_lacks group (All-head IsGroup group [] all))
 around-groups group (next ∷ groups) rest all =
-    let text : List ℕ = groups_text (next ∷ groups) in
+    let text : List ℕ = address_groups_text (next ∷ groups) in
     let others : All IsGroup (next ∷ groups) = All-tail IsGroup group (next ∷ groups) all in
     ap around_gap (append_assoc (hex group) (58 ∷ text) rest)
     ∙ around-piece (hex group) (58 ∷ (text ++ rest)) (hex_lacks group (All-head IsGroup group (next ∷ groups) all))
@@ -78,12 +78,12 @@ around-groups group (next ∷ groups) rest all =
     ∙ behind-behind (hex group) (58 ∷ text) (around_gap rest)
 
 -- the first `::` of a text of groups, `::` and groups
-pub around-gap : (front back : List ℕ) → All IsGroup front → around_gap (groups_text front ++ 58 ∷ 58 ∷ back) ≡ Some (groups_text front, back)
+pub around-gap : (front back : List ℕ) → All IsGroup front → around_gap (address_groups_text front ++ 58 ∷ 58 ∷ back) ≡ Some (address_groups_text front, back)
 around-gap [] back all = refl
 around-gap (group ∷ front) back all =
-    around-groups group front (58 ∷ 58 ∷ back) all ∙ ap (λ text. Some (text, back)) (append-nil (groups_text (group ∷ front)))
+    around-groups group front (58 ∷ 58 ∷ back) all ∙ ap (λ text. Some (text, back)) (append-nil (address_groups_text (group ∷ front)))
 
 -- groups alone have no `::`
-pub around-none : (group : ℕ) (groups : List ℕ) → All IsGroup (group ∷ groups) → around_gap (groups_text (group ∷ groups)) ≡ None
+pub around-none : (group : ℕ) (groups : List ℕ) → All IsGroup (group ∷ groups) → around_gap (address_groups_text (group ∷ groups)) ≡ None
 around-none group groups all =
-    ap around_gap (sym (append-nil (groups_text (group ∷ groups)))) ∙ around-groups group groups [] all
+    ap around_gap (sym (append-nil (address_groups_text (group ∷ groups)))) ∙ around-groups group groups [] all

@@ -8,8 +8,8 @@ use Rattle.std.proofs.lemmas.List.Folds.{list_any_none, list_any-append}
 use Rattle.prefix_keys.specs.Block.{width_of, Version, V4, V6}
 use Rattle.std.proofs.Math.Nat.{div-add-mod'}
 use Rattle.std.proofs.lemmas.List.Sums.{position_or_len_is}
-use Rattle.prefix_keys.specs.Print.{address_text, joined_text, dotted_text, address_bytes, address_groups, groups_text, longest_run, shortened_text, AddressIsReadBack, BlockIsReadBack, IsZeroRun}
-use Rattle.prefix_keys.specs.Text.{onto_groups, groups_of, last_groups, text_groups, side_groups, groups_number, whole_address, gap_address, around_address, colon_address, hex_group, dotted_address, two_groups, four_pieces, four_bytes, short_number, address_of, block_from, covering_block}
+use Rattle.prefix_keys.specs.Print.{address_text, joined_text, dotted_text, address_bytes, address_groups, address_groups_text, longest_run, shortened_text, AddressIsReadBack, BlockIsReadBack, IsZeroRun}
+use Rattle.prefix_keys.specs.Text.{onto_groups, groups_of_pieces, last_groups, text_groups, side_groups, groups_number, whole_address, gap_address, around_address, colon_address, hex_group, dotted_address, two_groups, four_pieces, four_bytes, short_number, address_of, block_from, covering_block}
 use Rattle.prefix_keys.proofs.Printed.{Lacks, Lacks-digits, no_colon, no_point, no_slash, split-joined, joined-some, hex_group-digits, short_number-decimal, Lacks-joined}
 use Rattle.prefix_keys.proofs.Groups.{bytes-below, bytes-number, groups-below, groups-number, width-le}
 use Rattle.prefix_keys.proofs.PrintedGaps.{IsGroup, around-gap, around-none}
@@ -29,26 +29,26 @@ last_groups-hex true group small =
 last_groups-hex false group small = ap (option_map (λ group. group ∷ [])) (hex_group-digits group small)
 
 groups_of-hex : (dotted : Bool) (group : ℕ) (groups : List ℕ) → All IsGroup (group ∷ groups)
-    → groups_of dotted (map hex (group ∷ groups)) ≡ Some (group ∷ groups)
+    → groups_of_pieces dotted (map hex (group ∷ groups)) ≡ Some (group ∷ groups)
 groups_of-hex dotted group [] all = last_groups-hex dotted group (All-head IsGroup group [] all)
 groups_of-hex dotted group (next ∷ groups) all =
-    ap (λ o. onto_groups o (groups_of dotted (map hex (next ∷ groups)))) (hex_group-digits group (All-head IsGroup group (next ∷ groups) all))
+    ap (λ o. onto_groups o (groups_of_pieces dotted (map hex (next ∷ groups)))) (hex_group-digits group (All-head IsGroup group (next ∷ groups) all))
     ∙ ap (onto_groups (Some group)) (groups_of-hex dotted next groups (All-tail IsGroup group (next ∷ groups) all))
 
 text_groups-printed : (dotted : Bool) (group : ℕ) (groups : List ℕ) → All IsGroup (group ∷ groups)
-    → text_groups dotted (groups_text (group ∷ groups)) ≡ Some (group ∷ groups)
+    → text_groups dotted (address_groups_text (group ∷ groups)) ≡ Some (group ∷ groups)
 text_groups-printed dotted group groups all =
-    ap (groups_of dotted) (split-joined 16 58 no_colon (omega arith) (omega arith) group groups all)
+    ap (groups_of_pieces dotted) (split-joined 16 58 no_colon (omega arith) (omega arith) group groups all)
     ∙ groups_of-hex dotted group groups all
 
 side_some : (dotted : Bool) (text : List ℕ) → 0 < length text → side_groups dotted text ≡ text_groups dotted text
 side_some dotted [] h = absurd (omega arith)
 side_some dotted (b ∷ text) h = refl
 
-side_groups-printed : (dotted : Bool) (groups : List ℕ) → All IsGroup groups → side_groups dotted (groups_text groups) ≡ Some groups
+side_groups-printed : (dotted : Bool) (groups : List ℕ) → All IsGroup groups → side_groups dotted (address_groups_text groups) ≡ Some groups
 side_groups-printed dotted [] all = refl
 side_groups-printed dotted (group ∷ groups) all =
-    side_some dotted (groups_text (group ∷ groups)) (joined-some 16 58 (omega arith) group groups (All-head IsGroup group groups all))
+    side_some dotted (address_groups_text (group ∷ groups)) (joined-some 16 58 (omega arith) group groups (All-head IsGroup group groups all))
     ∙ text_groups-printed dotted group groups all
 
 -- a list is a front, a run of zeros, and the rest
@@ -61,26 +61,26 @@ around_run groups start len run =
     ∙ take-append-drop start groups
 
 -- the whole text of eight groups
-whole_back : (groups : List ℕ) → length groups ≡ 8 → All IsGroup groups → colon_address (groups_text groups) ≡ Some (groups_number groups)
+whole_back : (groups : List ℕ) → length groups ≡ 8 → All IsGroup groups → colon_address (address_groups_text groups) ≡ Some (groups_number groups)
 whole_back [] eight all = absurd (omega arith)
 whole_back (group ∷ groups) eight all =
-    let text : List ℕ = groups_text (group ∷ groups) in
+    let text : List ℕ = address_groups_text (group ∷ groups) in
     ap (around_address text) (around-none group groups all)
     ∙ ap whole_address (text_groups-printed true group groups all)
     ∙ cond-true (length (group ∷ groups) == 8) (Some (groups_number (group ∷ groups))) None (eq-eqb _ _ eight)
 
 -- the text of the groups without such a run
 gap_back : (groups : List ℕ) (start len : ℕ) → length groups ≡ 8 → All IsGroup groups → IsZeroRun groups start len → start + len ≤ 8 → 2 ≤ len
-    → colon_address (groups_text (take start groups) ++ 58 ∷ 58 ∷ groups_text (drop (start + len) groups)) ≡ Some (groups_number groups)
+    → colon_address (address_groups_text (take start groups) ++ 58 ∷ 58 ∷ address_groups_text (drop (start + len) groups)) ≡ Some (groups_number groups)
 gap_back groups start len eight all run within long =
     let front : List ℕ = take start groups in
     let back : List ℕ = drop (start + len) groups in
     let front_count : length front ≡ start = length-take-le start groups (omega arith) in
     let back_count : length back ≡ 8 - (start + len) = omega (arith, length-drop (start + len) groups) in
     let count : 8 - (length front + length back) ≡ len = omega arith in
-    ap (around_address (groups_text front ++ 58 ∷ 58 ∷ groups_text back))
-    (around-gap front (groups_text back) (All-take IsGroup start groups all))
-    ∙ ap (λ sides. gap_address sides (side_groups true (groups_text back)))
+    ap (around_address (address_groups_text front ++ 58 ∷ 58 ∷ address_groups_text back))
+    (around-gap front (address_groups_text back) (All-take IsGroup start groups all))
+    ∙ ap (λ sides. gap_address sides (side_groups true (address_groups_text back)))
     (side_groups-printed false front (All-take IsGroup start groups all))
     ∙ ap (gap_address (Some front)) (side_groups-printed true back (All-drop IsGroup (start + len) groups all))
     ∙ cond-true (nat_le (length front + length back) 7)
@@ -91,11 +91,11 @@ gap_back groups start len eight all run within long =
 
 -- a printed text is one of these two
 shortened-long : (groups : List ℕ) (start len : ℕ) → 2 ≤ len
-    → shortened_text groups (start, len) ≡ groups_text (take start groups) ++ 58 ∷ 58 ∷ groups_text (drop (start + len) groups)
-shortened-long groups start len h = cond-true (nat_le 2 len) _ (groups_text groups) (le-leb 2 len h)
+    → shortened_text groups (start, len) ≡ address_groups_text (take start groups) ++ 58 ∷ 58 ∷ address_groups_text (drop (start + len) groups)
+shortened-long groups start len h = cond-true (nat_le 2 len) _ (address_groups_text groups) (le-leb 2 len h)
 
-shortened-short : (groups : List ℕ) (start len : ℕ) → len < 2 → shortened_text groups (start, len) ≡ groups_text groups
-shortened-short groups start len h = cond-false (nat_le 2 len) _ (groups_text groups) (lt-leb 2 len h)
+shortened-short : (groups : List ℕ) (start len : ℕ) → len < 2 → shortened_text groups (start, len) ≡ address_groups_text groups
+shortened-short groups start len h = cond-false (nat_le 2 len) _ (address_groups_text groups) (lt-leb 2 len h)
 
 -- a run of zeros is within the groups
 run_within : (groups : List ℕ) (start len : ℕ) → IsZeroRun groups start len → 0 < len → start + len ≤ length groups
@@ -117,10 +117,10 @@ colon_in front back =
     list_any-append (λ b. b == 58) front (58 ∷ back)
     ∙ or_right (list_any (λ b. b == 58) front) (list_any (λ b. b == 58) (58 ∷ back)) refl
 
-colon_in_groups : (groups : List ℕ) → 2 ≤ length groups → list_any (λ b. b == 58) (groups_text groups) ≡ true
+colon_in_groups : (groups : List ℕ) → 2 ≤ length groups → list_any (λ b. b == 58) (address_groups_text groups) ≡ true
 colon_in_groups [] h = absurd (omega arith)
 colon_in_groups (group ∷ []) h = absurd (omega arith)
-colon_in_groups (group ∷ next ∷ groups) h = colon_in (hex group) (groups_text (next ∷ groups))
+colon_in_groups (group ∷ next ∷ groups) h = colon_in (hex group) (address_groups_text (next ∷ groups))
 
 pub shortened_has_colon : (groups : List ℕ) (start len : ℕ) → length groups ≡ 8
     → list_any (λ b. b == 58) (shortened_text groups (start, len)) ≡ true
@@ -129,7 +129,7 @@ shortened_has_colon groups start len eight = elim (cases_lt len 2) [
       ap (list_any (λ b. b == 58)) (shortened-short groups start len short) ∙ colon_in_groups groups (omega arith)
   | inr long ↦
       ap (list_any (λ b. b == 58)) (shortened-long groups start len long)
-      ∙ colon_in (groups_text (take start groups)) (58 ∷ groups_text (drop (start + len) groups))
+      ∙ colon_in (address_groups_text (take start groups)) (58 ∷ address_groups_text (drop (start + len) groups))
 ]
 
 -- four bytes are read back
@@ -190,15 +190,15 @@ after_cut c front back lacks =
 shortened_lacks_slash : (groups : List ℕ) (start len : ℕ) → All IsGroup groups → Lacks 47 (shortened_text groups (start, len))
 shortened_lacks_slash groups start len all =
     let P : ℕ → Type 0 = λ b. (b == 47) ≡ false in
-    let lacks : (groups : List ℕ) → All IsGroup groups → Lacks 47 (groups_text groups) = Lacks-joined 47 58 no_slash refl 16 (omega arith) (omega arith) in
+    let lacks : (groups : List ℕ) → All IsGroup groups → Lacks 47 (address_groups_text groups) = Lacks-joined 47 58 no_slash refl 16 (omega arith) (omega arith) in
     elim (cases_lt len 2) [
       | inl short ↦ All-same P _ _ (shortened-short groups start len short) (lacks groups all)
       | inr long ↦
           All-same P _ _ (shortened-long groups start len long)
-          (All-append P (groups_text (take start groups)) (58 ∷ 58 ∷ groups_text (drop (start + len) groups))
+          (All-append P (address_groups_text (take start groups)) (58 ∷ 58 ∷ address_groups_text (drop (start + len) groups))
           (lacks (take start groups) (All-take IsGroup start groups all))
-          (All-cons P 58 (58 ∷ groups_text (drop (start + len) groups)) refl
-          (All-cons P 58 (groups_text (drop (start + len) groups)) refl
+          (All-cons P 58 (58 ∷ address_groups_text (drop (start + len) groups)) refl
+          (All-cons P 58 (address_groups_text (drop (start + len) groups)) refl
           (lacks (drop (start + len) groups) (All-drop IsGroup (start + len) groups all)))))
     ]
 

@@ -28,8 +28,8 @@ abbrev pub dotted_text : ℕ → List ℕ
 dotted_text number = joined_text 10 46 (address_bytes number)
 
 -- groups in lower-case hexadecimal, separated by colons
-abbrev pub groups_text : List ℕ → List ℕ
-groups_text groups = joined_text 16 58 groups
+abbrev pub address_groups_text : List ℕ → List ℕ
+address_groups_text groups = joined_text 16 58 groups
 
 -- the number of zeros at the start of the groups
 abbrev pub zeros_ahead : List ℕ → ℕ
@@ -48,8 +48,8 @@ longest_run (group ∷ groups) = longer_run (zeros_ahead (group ∷ groups)) (lo
 abbrev pub shortened_text : List ℕ → ℕ × ℕ → List ℕ
 shortened_text groups (start, len) =
     if nat_le 2 len
-    then groups_text (take start groups) ++ 58 ∷ 58 ∷ groups_text (drop (start + len) groups)
-    else groups_text groups
+    then address_groups_text (take start groups) ++ 58 ∷ 58 ∷ address_groups_text (drop (start + len) groups)
+    else address_groups_text groups
 
 -- an IPv6 address: its groups, with the first longest run of zeros shortened
 abbrev pub colon_text : ℕ → List ℕ

@@ -76,14 +76,14 @@ onto_groups (Some group) (Some groups) = Some (group ∷ groups)
 onto_groups _ _ = None
 
 -- the groups of pieces: one for each piece, and one or two for the last
-abbrev pub groups_of : Bool → List (List ℕ) → Option (List ℕ)
-groups_of dotted [] = None
-groups_of dotted (piece ∷ []) = last_groups dotted piece
-groups_of dotted (piece ∷ next ∷ pieces) = onto_groups (hex_group piece) (groups_of dotted (next ∷ pieces))
+abbrev pub groups_of_pieces : Bool → List (List ℕ) → Option (List ℕ)
+groups_of_pieces dotted [] = None
+groups_of_pieces dotted (piece ∷ []) = last_groups dotted piece
+groups_of_pieces dotted (piece ∷ next ∷ pieces) = onto_groups (hex_group piece) (groups_of_pieces dotted (next ∷ pieces))
 
 -- the groups of a text of pieces separated by colons
 abbrev pub text_groups : Bool → List ℕ → Option (List ℕ)
-text_groups dotted text = groups_of dotted (slice_split (λ b. b == 58) text)
+text_groups dotted text = groups_of_pieces dotted (slice_split (λ b. b == 58) text)
 
 -- the groups on one side of a `::`, which may be empty
 abbrev pub side_groups : Bool → List ℕ → Option (List ℕ)

@@ -1,7 +1,7 @@
 //! Printing numbers from their last digit backwards.
 ghost use Rattle.std.specs.Prelude.{◌≡◌, ◌+◌, ◌*◌, ◌<◌, ◌≤◌, ◌++◌, drop, false, length};
 ghost use Rattle.std.specs.Fmt.{decimal, digit_glyph, digits};
-ghost use Rattle.prefix_keys.specs.Print.{groups_text};
+ghost use Rattle.prefix_keys.specs.Print.{address_groups_text};
 
 // Returns the lower-case hexadecimal digit.
 #[inline(always)]
@@ -67,7 +67,7 @@ pub fn write_groups(groups: &[u16], buf: &mut [u8], end: usize) -> usize
     requires within { end ≤ length buf.old }
     ensures start { result ≤ end }
     ensures room { end ≤ result + 5 * length groups.now }
-    ensures written { drop result buf.new ≡ groups_text groups.now ++ drop end buf.old }
+    ensures written { drop result buf.new ≡ address_groups_text groups.now ++ drop end buf.old }
 {
     let mut at = end;
     for i in (0..groups.len()).rev() {

@@ -10,7 +10,7 @@ use Rattle.pmap_cert.specs.Node.{HasChainForm, behind, bits_of, first_node}
 use Rattle.pmap_cert.specs.Packed.{bits_in}
 use Rattle.pmap_cert.proofs.Ways.{way-length}
 use Rattle.cert_check.specs.Inner.{number_of, IsNodeAnswer, IsWayAnswer, line_fault, tree_at, way_fault}
-use Rattle.cert_check.specs.Checking.{bits_fault, claim_fault, fault_at, node_fault, told}
+use Rattle.cert_check.specs.Checking.{bits_fault, claim_fault, fault_of_number, node_fault, told}
 use Rattle.cert_check.proofs.Nodes.{chain-at, count_of, end-rising, end-room, fault_of, half-is, half-room, inner-at, later-answer, or-first, or-second, own-answer, pair_of, rising-of, room-long, room-rest, way-step}
 use Rattle.cert_check.proofs.checking.+nodes.Goals as goal
 
@@ -100,8 +100,8 @@ check_chain-returns t c =
     let along = λ (xs : List Bool). bits_fault m ps (text_at labels side) k (fault_of labels m ps end.node (k + 1)) xs b.len (number_of b) in
     let count : k + (1 + count_of labels end.node) ≡ k + count_of labels line.node = ap (λ (n : ℕ). k + n) (sym at.count) in (
       at.fault m ps k b.len (number_of b)
-          ∙ or-second (along bits) (option_map (fault_at k) (claim_fault (pair_of labels line.node) (chain_pair (length bits) (text_at labels side) (pair_of labels end.node))))
-          (option_map (fault_at k) fault) (ap along (sym c.way-way.ensures) ∙ below.0) (ap (option_map (fault_at k)) (sym c.chain_fault-fault.ensures)),
+          ∙ or-second (along bits) (option_map (fault_of_number k) (claim_fault (pair_of labels line.node) (chain_pair (length bits) (text_at labels side) (pair_of labels end.node))))
+          (option_map (fault_of_number k) fault) (ap along (sym c.way-way.ensures) ∙ below.0) (ap (option_map (fault_of_number k)) (sym c.chain_fault-fault.ensures)),
       below.1 ∙ ap told count,
     )))
 
@@ -279,11 +279,11 @@ check_inner-returns t c =
     let second = c.in_ok-next.ensures.1 later (sym first.1) in
     let count : later + count_of labels upper.node ≡ k + count_of labels line.node = omega (arith, at.2.count) in (
       at.2.fault m ps k b.len (number_of b)
-          ∙ or-second (fault_of labels m ps lower.node (k + 1) (suc b.len) (2 * number_of b)) _ (option_map (fault_at k) fault)
+          ∙ or-second (fault_of labels m ps lower.node (k + 1) (suc b.len) (2 * number_of b)) _ (option_map (fault_of_number k) fault)
           (sym (half-is b low (2 * number_of b) c.halves.ensures.halves.lower (fault_of labels m ps lower.node (k + 1))) ∙ first.0)
-          (or-second (fault_of labels m ps upper.node later (suc b.len) (2 * number_of b + 1)) _ (option_map (fault_at k) fault)
+          (or-second (fault_of labels m ps upper.node later (suc b.len) (2 * number_of b + 1)) _ (option_map (fault_of_number k) fault)
           (sym (half-is b high (2 * number_of b + 1) c.halves.ensures.halves.upper (fault_of labels m ps upper.node later)) ∙ second.0)
-          (ap (option_map (fault_at k)) (sym c.claim_fault-fault.ensures))),
+          (ap (option_map (fault_of_number k)) (sym c.claim_fault-fault.ensures))),
       second.1 ∙ ap told count,
     )))
 
@@ -405,7 +405,7 @@ check_way-returns t c =
     let end = node_fault m ps (tree_at s line) (k + 1) in
     let below = c.in_ok-next.ensures.1 k told_is in (
       way-step m ps x k end b chosen beside bit bits rest is c.step.ensures.chosen_half c.step.ensures.side_half
-          ∙ or-second (bits_fault m ps x k end rest chosen.len (number_of chosen)) _ (option_map (fault_at k) fault) below.0
-          (ap (option_map (fault_at k)) (sym c.leaf_fault.ensures)),
+          ∙ or-second (bits_fault m ps x k end rest chosen.len (number_of chosen)) _ (option_map (fault_of_number k) fault) below.0
+          (ap (option_map (fault_of_number k)) (sym c.leaf_fault.ensures)),
       below.1,
     )))
