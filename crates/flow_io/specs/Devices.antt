@@ -1,4 +1,4 @@
-use Rattle.std.specs.Prelude.{◌≡◌, ◌<◌, ℕ, Bool, true, List, Result, Ok, Err, length, false, ◌⊎◌, ◌++◌, Option}
+use Rattle.std.specs.Prelude.{◌≡◌, ◌==◌, ◌&&◌, ◌||◌, ℕ, Bool, true, List, Result, Ok, Err, length, false, ◌⊎◌, ◌++◌, Option, nat_lt}
 use Rattle.std.specs.Io.KnownBytes.{Appends, Keeps}
 pub use Rattle.flow_io.specs.declared.last_call.LastCall.{LastCall}
 pub use Rattle.flow_io.specs.declared.last_call.LastCall.TheVariants.{FailedFlush, Flush, Nothing, Write}
@@ -12,15 +12,9 @@ abbrev pub FailsOnErr : {A E : Type 0} → Bool → Bool → Result A E → Type
 FailsOnErr old new (Ok _) = new ≡ old
 FailsOnErr old new (Err _) = new ≡ true
 
--- a write of these bytes makes the device failed if it takes none of them although there are some
-pub record FailsOnNone (old new : Bool) (count : ℕ) (bytes : List ℕ) : Type 0 where
-  pub none_taken : count ≡ 0 → 0 < length bytes → new ≡ true
-  pub some_taken : 0 < count → new ≡ old
-  pub no_bytes : length bytes ≡ 0 → new ≡ old
-
 -- a write makes the device failed if it returns `Err`, or takes none of the bytes although there are some
 abbrev pub FailsOnShortWrite : {E : Type 0} → Bool → Bool → Result ℕ E → List ℕ → Type 0
-FailsOnShortWrite old new (Ok count) bytes = FailsOnNone old new count bytes
+FailsOnShortWrite old new (Ok count) bytes = new ≡ (old || (count == 0 && nat_lt 0 (length bytes)))
 FailsOnShortWrite old new (Err _) bytes = new ≡ true
 
 -- the last call of a writer after a flush with this result
@@ -28,27 +22,22 @@ abbrev pub flush_call : {A E : Type 0} → Result A E → LastCall
 flush_call (Ok _) = Flush
 flush_call (Err _) = FailedFlush
 
--- The state of a `Buffered` as contracts see it.
-
--- the inner reader, and the bytes that were read from it and not returned yet
+-- a `Buffered` as contracts see it: the inner reader, and the bytes that were read from it and not returned yet
 pub record BufferedState (T : Type 0) : Type 0 where
   pub inner : T
   pub ahead : List ℕ
 
--- The state of a `MemoryInput` as contracts see it.
-
--- the bytes left, the maximum that a read returns, the number of the next call that fails (1 is the next call, 0 is no
--- call), and whether a call has failed
+-- a `MemoryInput` as contracts see it: the bytes left, the maximum that a read returns, the number of the next call that
+-- fails (1 is the next call, 0 is no call), and whether a call has failed
 pub record InputState : Type 0 where
   pub left : List ℕ
   pub step : ℕ
   pub failing_call : ℕ
   pub failed : Bool
 
--- The state of a `MemoryOutput` as contracts see it.
-
--- the bytes taken, the maximum that a write takes, the number of the next call that fails (1 is the next call, 0 is no
--- call), whether a failing write returns 0, whether a call has failed, and the last call
+-- a `MemoryOutput` as contracts see it: the bytes taken, the maximum that a write takes, the number of the next call that
+-- fails (1 is the next call, 0 is no call), whether a failing write returns 0, whether a call has failed, and the last
+-- call
 pub record OutputState : Type 0 where
   pub taken : List ℕ
   pub step : ℕ
@@ -57,17 +46,13 @@ pub record OutputState : Type 0 where
   pub failed : Bool
   pub last_call : LastCall
 
--- The state of a device after it was read whole, from the result.
-
--- whether the reader failed
+-- whether the reader failed, from the result of reading it whole
 abbrev pub is_read_fault : {A : Type 0} → Result A ReadStop → Bool
 is_read_fault (Ok _) = false
 is_read_fault (Err ReadFault) = true
 is_read_fault (Err NoMemory) = false
 
--- The state of a `Watched` as contracts see it.
-
--- the inner reader or writer, whether a call has failed, and the last call of a writer
+-- a `Watched` as contracts see it: the inner reader or writer, whether a call has failed, and the last call of a writer
 pub record WatchState (T : Type 0) : Type 0 where
   pub inner : T
   pub failed : Bool

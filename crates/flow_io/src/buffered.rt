@@ -1,4 +1,4 @@
-ghost use Rattle.std.specs.Prelude.{◌≡◌, ◌-◌, ◌<◌, ◌≤◌, [], ◌++◌, false, length, min, take};
+ghost use Rattle.std.specs.Prelude.{◌≡◌, ◌-◌, ◌<◌, ◌≤◌, [], ◌++◌, length, min, take};
 ghost use Rattle.flow_io.specs.Devices.{BufferedState};
 
 use crate::devices::{DeviceFault, Input};
@@ -68,13 +68,8 @@ impl<T: Input> Input for Buffered<T> {
             if buffer.len() >= AHEAD {
                 return self.inner.read(buffer);
             }
-            match self.inner.read(&mut self.bytes) {
-                Ok(count) => {
-                    self.start = 0;
-                    self.end = count;
-                }
-                Err(fault) => return Err(fault),
-            }
+            self.end = self.inner.read(&mut self.bytes)?;
+            self.start = 0;
         }
         Ok(self.hand_out(buffer))
     }

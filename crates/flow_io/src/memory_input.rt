@@ -2,7 +2,7 @@ ghost use Rattle.std.specs.Prelude.{◌≡◌, ◌+◌, ◌-◌, ◌≤◌, ◌+
 ghost use Rattle.std.specs.Io.KnownBytes.{ReadConsumes};
 ghost use Rattle.flow_io.specs.Devices.{FailsOnErr};
 
-use crate::countdown::Countdown;
+use crate::countdown::is_due;
 use crate::devices::{DeviceFault, Input};
 use std::marker::Model;
 
@@ -11,7 +11,7 @@ use std::marker::Model;
 pub struct MemoryInput<'a> {
     left: &'a [u8],
     step: usize,
-    countdown: Countdown,
+    failing_call: u64,
     failed: bool,
 }
 
@@ -24,7 +24,7 @@ impl<'a> Model for MemoryInput<'a> {
     ghost view = { λ input. record {
       left = input.left.now;
       step = input.step;
-      failing_call = input.countdown;
+      failing_call = input.failing_call;
       failed = input.failed;
     } };
 
@@ -46,7 +46,7 @@ impl<'a> MemoryInput<'a> {
         MemoryInput {
             left: bytes,
             step,
-            countdown: Countdown::new(fail_at),
+            failing_call: fail_at.unwrap_or(0),
             failed: false,
         }
     }
@@ -76,7 +76,7 @@ impl Input for MemoryInput<'_> {
         ensures step { self.new.step ≡ self.old.step }
         ensures counted { self.new.failing_call ≡ self.old.failing_call - 1 }
     {
-        if self.countdown.is_due() {
+        if is_due(&mut self.failing_call) {
             self.failed = true;
             return Err(DeviceFault);
         }

@@ -1,8 +1,8 @@
-ghost use Rattle.std.specs.Prelude.{◌≡◌, ◌≢◌, ◌+◌, ◌-◌, ◌≤◌, ◌++◌, ◌↔◌, false, [], IfOk, OnOk, OnErr, IsErr, length, min, unwrap_or};
+ghost use Rattle.std.specs.Prelude.{◌≡◌, ◌≢◌, ◌+◌, ◌-◌, ◌≤◌, ◌↔◌, false, [], IfOk, IsErr, length, min, unwrap_or};
 ghost use Rattle.std.specs.Io.KnownBytes.{Keeps, WriteAppends};
 ghost use Rattle.flow_io.specs.Devices.{FailsOnErr, FailsOnShortWrite, flush_call, Nothing, Write};
 
-use crate::countdown::Countdown;
+use crate::countdown::is_due;
 use crate::devices::{DeviceFault, Output};
 use crate::last_call::LastCall;
 use std::marker::Model;
@@ -13,7 +13,7 @@ pub struct MemoryOutput<const N: usize> {
     buffer: [u8; N],
     filled: usize,
     step: usize,
-    countdown: Countdown,
+    failing_call: u64,
     zero: bool,
     failed: bool,
     last_call: LastCall,
@@ -28,7 +28,7 @@ impl<const N: usize> Model for MemoryOutput<N> {
     ghost view = { λ output. record {
       taken = take output.filled output.buffer;
       step = output.step;
-      failing_call = output.countdown;
+      failing_call = output.failing_call;
       zero = output.zero;
       failed = output.failed;
       last_call = output.last_call;
@@ -56,7 +56,7 @@ impl<const N: usize> MemoryOutput<N> {
             buffer: [0; N],
             filled: 0,
             step,
-            countdown: Countdown::new(fail_at),
+            failing_call: fail_at.unwrap_or(0),
             zero,
             failed: false,
             last_call: LastCall::Nothing,
@@ -96,7 +96,7 @@ impl<const N: usize> Output for MemoryOutput<N> {
         ensures settings { (self.new.step ≡ self.old.step) × (self.new.zero ≡ self.old.zero) }
         ensures counted { self.new.failing_call ≡ self.old.failing_call - 1 }
     {
-        let due = self.countdown.is_due();
+        let due = is_due(&mut self.failing_call);
         self.last_call = LastCall::Write;
         if due && !self.zero {
             self.failed = true;
@@ -126,7 +126,7 @@ impl<const N: usize> Output for MemoryOutput<N> {
         ensures settings { (self.new.step ≡ self.old.step) × (self.new.zero ≡ self.old.zero) }
         ensures counted { self.new.failing_call ≡ self.old.failing_call - 1 }
     {
-        if self.countdown.is_due() {
+        if is_due(&mut self.failing_call) {
             self.failed = true;
             self.last_call = LastCall::FailedFlush;
             return Err(DeviceFault);

@@ -47,13 +47,11 @@ impl<T: Read> Input for Watched<T> {
     ghost bytes_left = { λ watched. T.remaining watched.inner };
 
     fn read(&mut self, buffer: &mut [u8]) -> Result<usize, DeviceFault> {
-        match self.inner.read(buffer) {
-            Ok(count) => Ok(count),
-            Err(_) => {
-                self.failed = true;
-                Err(DeviceFault)
-            }
-        }
+        let Ok(count) = self.inner.read(buffer) else {
+            self.failed = true;
+            return Err(DeviceFault);
+        };
+        Ok(count)
     }
 
     fn failed(&self) -> bool {
@@ -70,32 +68,24 @@ impl<T: Write> Output for Watched<T> {
 
     fn write(&mut self, slice: &[u8]) -> Result<usize, DeviceFault> {
         self.last_call = LastCall::Write;
-        match self.inner.write(slice) {
-            Ok(count) => {
-                if count == 0 && !slice.is_empty() {
-                    self.failed = true;
-                }
-                Ok(count)
-            }
-            Err(_) => {
-                self.failed = true;
-                Err(DeviceFault)
-            }
+        let Ok(count) = self.inner.write(slice) else {
+            self.failed = true;
+            return Err(DeviceFault);
+        };
+        if count == 0 && !slice.is_empty() {
+            self.failed = true;
         }
+        Ok(count)
     }
 
     fn flush(&mut self) -> Result<(), DeviceFault> {
-        match self.inner.flush() {
-            Ok(()) => {
-                self.last_call = LastCall::Flush;
-                Ok(())
-            }
-            Err(_) => {
-                self.failed = true;
-                self.last_call = LastCall::FailedFlush;
-                Err(DeviceFault)
-            }
+        if self.inner.flush().is_err() {
+            self.failed = true;
+            self.last_call = LastCall::FailedFlush;
+            return Err(DeviceFault);
         }
+        self.last_call = LastCall::Flush;
+        Ok(())
     }
 
     fn failed(&self) -> bool {

@@ -32,14 +32,13 @@ pub fn read_whole<R: Input>(alloc: Global, reader: &mut R) -> Result<Vec<u8>, Re
     let mut chunk = Vec::new(alloc);
     chunk.resize(CHUNK, 0).map_err(|_| ReadStop::NoMemory)?;
     loop {
-        match reader.read(chunk.as_mut_slice()) {
-            Ok(0) => return Ok(text),
-            Ok(count) => {
-                if text.extend_from_slice(&chunk[..count]).is_err() {
-                    return Err(ReadStop::NoMemory);
-                }
-            }
-            Err(_) => return Err(ReadStop::ReadFault),
+        let Ok(count) = reader.read(chunk.as_mut_slice()) else {
+            return Err(ReadStop::ReadFault);
+        };
+        if count == 0 {
+            return Ok(text);
         }
+        text.extend_from_slice(&chunk[..count])
+            .map_err(|_| ReadStop::NoMemory)?;
     }
 }

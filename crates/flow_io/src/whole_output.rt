@@ -26,8 +26,5 @@ pub fn write_whole<W: Output>(writer: &mut W, bytes: &[u8]) -> Result<(), WriteF
             Ok(count) => rest = &rest[count..],
         }
     }
-    match writer.flush() {
-        Ok(()) => Ok(()),
-        Err(_) => Err(WriteFault),
-    }
+    writer.flush().map_err(|_| WriteFault)
 }

@@ -1,19 +1,19 @@
 -- Headers, whatever bytes follow them, and headers whose following bytes are known.
-use Rattle.std.proofs.Common.{◌≡◌, ℕ, ◌<◌, ◌≤◌, cond, ltb, eqb, List, ◌++◌, length, Option, Some, None, inl, inr, refl, sym, ap, ◌∙◌, arith, ◌+◌, take, length-take, ◌-◌, [], IfSome, Ok, Err, subst, append_assoc, length-append}
-use Rattle.std.specs.Option.{option_or}
-use Rattle.std.proofs.lemmas.Bool.{lt-ltb, le-ltb, ltb-true, ltb-false, eqb-true}
+use Rattle.std.proofs.Common.{◌≡◌, ℕ, ◌<◌, ◌≤◌, List, ◌++◌, length, Option, Some, None, inl, inr, refl, sym, ap, ◌∙◌, arith, ◌+◌, take, length-take, ◌-◌, IfSome, Ok, Err, subst, append_assoc, length-append}
+use Rattle.std.proofs.lemmas.Grind.{common_steps}
+use Rattle.std.proofs.lemmas.Bool.Decides.{nat_tests}
+use Rattle.std.proofs.lemmas.Bool.{lt-ltb, le-ltb}
 use Rattle.std.proofs.lemmas.List.{take_at, take_all, length-take-le}
 use Rattle.byteorder.specs.Endian.{big_number}
-use Rattle.ipfix_templates.proofs.Choice.{chosen}
 use Rattle.ipfix_read.specs.Message.{ReadFaultKind, header_fault, own_fault, HasHeader}
-use Rattle.ipfix_read.specs.declared.fault.ReadFaultKind.TheVariants.{TruncatedHeader, BadVersion, BadMessageLength, TruncatedMessage, TooManyMessages, ReadFault as Unread}
+use Rattle.ipfix_read.specs.declared.fault.ReadFaultKind.TheVariants.{TruncatedHeader, TruncatedMessage, ReadFault as Unread}
 use Rattle.ipfix_read.specs.Set.{written_length}
 use Rattle.ipfix_read.proofs.Sets.{front_number, front_length}
 use lib.Seq.{take-append-add, take-append-le, take-append_seam}
 use borrow.Rule.Slice.PartMut.{put_mid, post_of}
 use Rattle.std.specs.Io.KnownBytes.{Consumes, IsAtEnd}
 use Rattle.std.proofs.KnownBytes.{Consumes-trans}
-use Rattle.ipfix_read.specs.Messages.{Gathers, HoldsMessage}
+use Rattle.ipfix_read.specs.Messages.{Gathers}
 
 -- ---- numbers at the start, whatever follows
 
@@ -47,35 +47,12 @@ pub record Own (count : ℕ) (bytes : List ℕ) : Type 0 where
   pub least : 16 ≤ written_length bytes
 
 pub own_sound : (count : ℕ) (bytes : List ℕ) → own_fault count bytes ≡ None → Own count bytes
-own_sound count bytes e =
-    elim (chosen (ltb count 4294967295) _ (Some TooManyMessages) None e) [
-      | inl p ↦
-          elim (chosen (eqb (big_number 2 bytes) 10) _ (Some BadVersion) None p.1) [
-            | inl q ↦
-                elim (chosen (ltb (written_length bytes) 16) (Some BadMessageLength) None None q.1) [
-                  | inl r ↦ absurd (cc)
-                  | inr r ↦ record { counted = ltb-true _ _ p.0; version = eqb-true _ _ q.0; least = ltb-false _ _ r.0 }
-                ]
-            | inr q ↦ absurd (cc)
-          ]
-      | inr p ↦ absurd (cc)
-    ]
+own_sound count bytes e = record { counted = grind (arith, nat_tests, common_steps); version = grind (arith, nat_tests, common_steps); least = grind (arith, nat_tests, common_steps) }
 
 -- and about one whose following bytes are known
 pub header_sound : (count : ℕ) (bytes : List ℕ) → header_fault count bytes ≡ None → Own count bytes × (written_length bytes ≤ length bytes)
 header_sound count bytes e =
-    elim (chosen (ltb (length bytes) 16) (Some TruncatedHeader) _ None e) [
-      | inl p ↦ absurd (cc)
-      | inr p ↦
-          elim (own_fault count bytes) as (λ o. own_fault count bytes ≡ o → option_or o (cond (ltb (length bytes) (written_length bytes)) (Some TruncatedMessage) None) ≡ None → Own count bytes × (written_length bytes ≤ length bytes)) [
-            | Some kind ↦ λ _ q. absurd (cc)
-            | None ↦ λ own q.
-                elim (chosen (ltb (length bytes) (written_length bytes)) (Some TruncatedMessage) None None q) [
-                  | inl r ↦ absurd (cc)
-                  | inr r ↦ (own_sound count bytes own, ltb-false _ _ r.0)
-                ]
-          ] refl p.1
-    ]
+    let own : own_fault count bytes ≡ None = grind (arith, nat_tests, common_steps) in (own_sound count bytes own, grind (arith, nat_tests, common_steps))
 
 -- ---- the start of a slice after a read into the rest of it
 
@@ -112,19 +89,19 @@ two_parts size xs ys zs sixteen all =
 -- ---- the reader returned nothing, too little, or a header with a fault
 
 -- if nothing is gathered, the content of the buffer is unspecified
-pub unread : (o : Option (List ℕ)) (count : ℕ) → IfSome o (λ left. Gathers count left (Err Unread) [] None)
+pub unread : (o : Option (List ℕ)) (count : ℕ) → IfSome o (λ left. Gathers count left (Err Unread) None)
 unread None count = tt
 unread (Some left) count = inl refl
 
 pub nothing_left : (o n : Option (List ℕ)) (count head : ℕ) (ys : List ℕ) → Consumes o n (take head ys) → head ≡ 0 → IsAtEnd n
-    → IfSome o (λ left. Gathers count left (Ok None) [] n)
+    → IfSome o (λ left. Gathers count left (Ok None) n)
 nothing_left None n count head ys given none end = tt
 nothing_left (Some left) None count head ys given none end = absurd given
 nothing_left (Some left) (Some rest) count head ys given none end =
     (given ∙ ap (λ (k : ℕ). take k ys ++ rest) none ∙ end, ap (λ (l : List ℕ). Some l) end)
 
 pub short_header : (o n : Option (List ℕ)) (count head : ℕ) (ys : List ℕ) → Consumes o n (take head ys) → 0 < head → head < 16 → head ≤ length ys → IsAtEnd n
-    → IfSome o (λ left. Gathers count left (Err TruncatedHeader) [] n)
+    → IfSome o (λ left. Gathers count left (Err TruncatedHeader) n)
 short_header None n count head ys given some short within end = tt
 short_header (Some left) None count head ys given some short within end = absurd given
 short_header (Some left) (Some rest) count head ys given some short within end =
@@ -149,7 +126,7 @@ long_enough : (left ys more : List ℕ) → left ≡ ys ++ more → length left 
 long_enough left ys more parts = ap (λ (l : List ℕ). length l) parts ∙ length-append ys more
 
 pub faulty_header : (o n : Option (List ℕ)) (count head : ℕ) (xs ys : List ℕ) (kind : ReadFaultKind) → Consumes o n (take head ys) → length ys ≡ 16 → 16 ≤ head
-    → own_fault count (head_of xs ys) ≡ Some kind → IfSome o (λ left. Gathers count left (Err kind) [] n)
+    → own_fault count (head_of xs ys) ≡ Some kind → IfSome o (λ left. Gathers count left (Err kind) n)
 faulty_header None n count head xs ys kind given sixteen whole own = tt
 faulty_header (Some left) None count head xs ys kind given sixteen whole own = absurd given
 faulty_header (Some left) (Some rest) count head xs ys kind given sixteen whole own =
@@ -165,7 +142,7 @@ both_given left rest ys zs head given sixteen whole =
     given ∙ ap (λ (l : List ℕ). (l ++ zs) ++ rest) (take_all head ys (omega (arith, sixteen, whole))) ∙ append_assoc ys zs rest
 
 cut_message : (left : List ℕ) (n : Option (List ℕ)) (count size head : ℕ) (xs ys zs : List ℕ) → Consumes (Some left) n (take head ys ++ zs) → length ys ≡ 16 → 16 ≤ head
-    → own_fault count (head_of xs ys) ≡ None → size ≡ written_length (head_of xs ys) → 16 + length zs < size → IsAtEnd n → Gathers count left (Err TruncatedMessage) [] n
+    → own_fault count (head_of xs ys) ≡ None → size ≡ written_length (head_of xs ys) → 16 + length zs < size → IsAtEnd n → Gathers count left (Err TruncatedMessage) n
 cut_message left None count size head xs ys zs given sixteen whole own written short end = absurd given
 cut_message left (Some rest) count size head xs ys zs given sixteen whole own written short end =
     let parts = both_given left rest ys zs head given sixteen whole in
@@ -179,14 +156,14 @@ cut_message left (Some rest) count size head xs ys zs given sixteen whole own wr
 
 pub short_message : (o n₁ n₂ : Option (List ℕ)) (count size head got : ℕ) (xs ys zs : List ℕ) → Consumes o n₁ (take head ys) → Consumes n₁ n₂ (take got zs)
     → length ys ≡ 16 → 16 ≤ head → own_fault count (head_of xs ys) ≡ None → size ≡ written_length (head_of xs ys) → got ≤ length zs → 16 + got < size → IsAtEnd n₂
-    → IfSome o (λ left. Gathers count left (Err TruncatedMessage) [] n₂)
+    → IfSome o (λ left. Gathers count left (Err TruncatedMessage) n₂)
 short_message None n₁ n₂ count size head got xs ys zs first second sixteen whole own written within short end = tt
 short_message (Some left) n₁ n₂ count size head got xs ys zs first second sixteen whole own written within short end =
     cut_message left n₂ count size head xs ys (take got zs) (Consumes-trans (Some left) n₁ n₂ (take head ys) (take got zs) first second) sixteen whole own written
     (omega (arith, length-take-le got zs within, short)) end
 
 whole_message : (left : List ℕ) (n : Option (List ℕ)) (count size head : ℕ) (xs ys zs : List ℕ) → Consumes (Some left) n (take head ys ++ zs) → length ys ≡ 16 → 16 ≤ head
-    → own_fault count (head_of xs ys) ≡ None → size ≡ written_length (head_of xs ys) → size ≡ 16 + length zs → Gathers count left (Ok (Some size)) (both_in size xs ys zs) n
+    → own_fault count (head_of xs ys) ≡ None → size ≡ written_length (head_of xs ys) → size ≡ 16 + length zs → Gathers count left (Ok (Some (take size (both_in size xs ys zs)))) n
 whole_message left None count size head xs ys zs given sixteen whole own written all = absurd given
 whole_message left (Some rest) count size head xs ys zs given sixteen whole own written all =
     let parts = both_given left rest ys zs head given sixteen whole in
@@ -200,7 +177,7 @@ whole_message left (Some rest) count size head xs ys zs given sixteen whole own 
 
 pub gathered : (o n₁ n₂ : Option (List ℕ)) (count size head got : ℕ) (xs ys zs : List ℕ) → Consumes o n₁ (take head ys) → Consumes n₁ n₂ (take got zs)
     → length ys ≡ 16 → 16 ≤ head → own_fault count (head_of xs ys) ≡ None → size ≡ written_length (head_of xs ys) → size ≡ 16 + length zs → size ≤ 16 + got
-    → IfSome o (λ left. Gathers count left (Ok (Some size)) (both_in size xs ys zs) n₂)
+    → IfSome o (λ left. Gathers count left (Ok (Some (take size (both_in size xs ys zs)))) n₂)
 gathered None n₁ n₂ count size head got xs ys zs first second sixteen whole own written all most = tt
 gathered (Some left) n₁ n₂ count size head got xs ys zs first second sixteen whole own written all most =
     let given = subst (λ (l : List ℕ). Consumes (Some left) n₂ (take head ys ++ l)) (take_all got zs (omega (arith, all, most)))
@@ -209,12 +186,11 @@ gathered (Some left) n₁ n₂ count size head got xs ys zs first second sixteen
 
 -- the buffer then holds a message
 pub holds_message : (size : ℕ) (xs ys zs : List ℕ) → length ys ≡ 16 → size ≡ 16 + length zs → size ≤ 65535 → big_number 2 (head_of xs ys) ≡ 10 → size ≡ written_length (head_of xs ys)
-    → HoldsMessage (both_in size xs ys zs) size
+    → HasHeader (take size (both_in size xs ys zs))
 holds_message size xs ys zs sixteen all most version written =
     let parts = two_parts size xs ys zs sixteen all in
     let many : length (ys ++ zs) ≡ size = omega (arith, length-append ys zs, sixteen, all) in
     let ten : big_number 2 (ys ++ zs) ≡ 10 =
     number_ahead ys zs (omega (arith, sixteen)) ∙ ap (λ (l : List ℕ). big_number 2 l) (sym (head_is xs ys sixteen)) ∙ version in
     let lengths : written_length (ys ++ zs) ≡ length (ys ++ zs) = same_length (ys ++ zs) xs ys zs refl sixteen ∙ sym written ∙ sym many in
-    let header : HasHeader (ys ++ zs) = record { least = omega (arith, many, all); most = omega (arith, many, most); version = ten; whole = lengths } in
-    record { sized = ap (λ (l : List ℕ). length l) parts ∙ many; header = subst (λ (l : List ℕ). HasHeader l) (sym parts) header }
+    subst (λ (l : List ℕ). HasHeader l) (sym parts) (record { least = omega (arith, many, all); most = omega (arith, many, most); version = ten; whole = lengths })

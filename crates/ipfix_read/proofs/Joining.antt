@@ -1,5 +1,5 @@
 -- The result of a call for a message, from what it gathered and read.
-use Rattle.std.proofs.Common.{◌≡◌, ℕ, false, ◌+◌, ◌<◌, List, ◌++◌, length, take, drop, Option, None, Some, IfSome, Result, Ok, Err, ◌⊎◌, inl, inr, refl, subst, sym, ap, ◌∙◌, arith, length-append, []}
+use Rattle.std.proofs.Common.{◌≡◌, ℕ, false, ◌+◌, ◌<◌, List, ◌++◌, length, drop, Option, None, Some, IfSome, Result, Ok, Err, ◌⊎◌, inl, inr, refl, subst, ap, arith, length-append, []}
 use Rattle.std.proofs.lemmas.Option.{IfSome_then}
 use Rattle.byteorder.specs.Endian.{big_number}
 use Rattle.ipfix_read.specs.Message.{ReadFault, ReadFaultKind, MessageView, IsMessage, HasHeader, events_of_message, HasMessageFault}
@@ -14,16 +14,16 @@ use Rattle.ipfix_read.specs.Laws.{CallsBegin, CallsJoinFile, CallsStart}
 use Rattle.ipfix_read.proofs.Readings.{messages_shorter}
 
 -- The results, by the parts of the state between two calls, which are the view of the old state.
-module _ {view old : ProgressView} (same : view ≡ old) (o n : Option (List ℕ)) (buffer : List ℕ) where
-  by_left : (gathered : Result (Option ℕ) ReadFaultKind) (answer : Result (Option MessageView) ReadFault) (new : ProgressView) → IfSome o (λ left. Gathers view.count left gathered buffer n)
-      → ((left : List ℕ) → Gathers view.count left gathered buffer n → AnswersNext view left answer new n) → IfSome o (λ left. AnswersNext old left answer new n)
+module _ {view old : ProgressView} (same : view ≡ old) (o n : Option (List ℕ)) where
+  by_left : (gathered : Result (Option (List ℕ)) ReadFaultKind) (answer : Result (Option MessageView) ReadFault) (new : ProgressView) → IfSome o (λ left. Gathers view.count left gathered n)
+      → ((left : List ℕ) → Gathers view.count left gathered n → AnswersNext view left answer new n) → IfSome o (λ left. AnswersNext old left answer new n)
   by_left gathered answer new is step = subst (λ (p : ProgressView). IfSome o (λ left. AnswersNext p left answer new n)) same (IfSome_then o is step)
 
-  pub answers_end : IfSome o (λ left. Gathers view.count left (Ok None) buffer n) → IfSome o (λ left. AnswersNext old left (Ok None) (record view { state = Ended }) n)
+  pub answers_end : IfSome o (λ left. Gathers view.count left (Ok None) n) → IfSome o (λ left. AnswersNext old left (Ok None) (record view { state = Ended }) n)
   answers_end is = by_left (Ok None) (Ok None) (record view { state = Ended }) is (λ left there. (there.0, refl, there.1))
 
   -- a fault of the header, or of the reader
-  pub answers_fault_of_header : (kind : ReadFaultKind) → IfSome o (λ left. Gathers view.count left (Err kind) buffer n)
+  pub answers_fault_of_header : (kind : ReadFaultKind) → IfSome o (λ left. Gathers view.count left (Err kind) n)
       → IfSome o (λ left. AnswersNext old left (Err (record { kind = kind; offset = view.offset })) (record view { state = Failed }) n)
   answers_fault_of_header kind is =
       by_left (Err kind) (Err (record { kind = kind; offset = view.offset })) (record view { state = Failed }) is (λ left there. (
@@ -34,28 +34,25 @@ module _ {view old : ProgressView} (same : view ≡ old) (o n : Option (List ℕ
         ],
       ))
 
-  module _ (front : List ℕ) (size : ℕ) (taken : front ≡ take size buffer) (is : IfSome o (λ left. Gathers view.count left (Ok (Some size)) buffer n)) where
+  module _ (front : List ℕ) (is : IfSome o (λ left. Gathers view.count left (Ok (Some front)) n)) where
     -- a fault of the sets, or a failed allocation
     pub answers_fault_of_sets : (fault : ReadFault) → HasHeader front
         → IsRefused view.table (λ history. HasSetsFault history (big_number 4 (drop 12 front)) (drop 16 front) (view.offset + 16)) fault
         → IfSome o (λ left. AnswersNext old left (Err fault) (record view { state = Failed }) n)
     answers_fault_of_sets fault header refused =
-        by_left (Ok (Some size)) (Err fault) (record view { state = Failed }) is (λ left there.
-        let parts : left ≡ front ++ there.0 = there.1 ∙ ap (λ (l : List ℕ). l ++ there.0) (sym taken) in
-        let many : 0 < length left = omega (arith, ap (λ (l : List ℕ). length l) parts, length-append front there.0, header.least) in (
+        by_left (Ok (Some front)) (Err fault) (record view { state = Failed }) is (λ left there.
+        let many : 0 < length left = omega (arith, ap (λ (l : List ℕ). length l) there.1, length-append front there.0, header.least) in (
           refl,
           elim refused.1 [
             | inl memory ↦ inl memory
-            | inr sets ↦ inr (inr (many, λ history follows. message_fault history view.count view.offset left front there.0 fault parts there.2 header (sets history follows)))
+            | inr sets ↦ inr (inr (many, λ history follows. message_fault history view.count view.offset left front there.0 fault there.1 there.2 header (sets history follows)))
           ],
         ))
 
-    pub answers_message : (new : ProgressView) (m : MessageView) → length front ≡ size → IsReadAfter view.table new.table (events_of_message m) (λ history. IsMessage history front m)
-        → new.offset ≡ view.offset + size → new.count ≡ view.count + 1 → new.state ≡ Going → IfSome o (λ left. AnswersNext old left (Ok (Some m)) new n)
-    answers_message new m sized read offset count state =
-        by_left (Ok (Some size)) (Ok (Some m)) new is (λ left there.
-        let parts : left ≡ front ++ there.0 = there.1 ∙ ap (λ (l : List ℕ). l ++ there.0) (sym taken) in
-        (front, there.0, parts, there.2, read, offset ∙ ap (λ (k : ℕ). view.offset + k) (sym sized), count, state, there.3))
+    pub answers_message : (new : ProgressView) (m : MessageView) → IsReadAfter view.table new.table (events_of_message m) (λ history. IsMessage history front m)
+        → new.offset ≡ view.offset + length front → new.count ≡ view.count + 1 → new.state ≡ Going → IfSome o (λ left. AnswersNext old left (Ok (Some m)) new n)
+    answers_message new m read offset count state =
+        by_left (Ok (Some front)) (Ok (Some m)) new is (λ left there. (front, there.0, there.1, there.2, read, offset, count, state, there.3))
 
 -- whether the reader reports its bytes or not: it failed, or the fault is not one of calls
 pub fault_of_header : {view old : ProgressView} (same : view ≡ old) (kind : ReadFaultKind) → (kind ≡ Unread) ⊎ (is_of_calls kind ≡ false)

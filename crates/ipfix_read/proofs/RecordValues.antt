@@ -12,7 +12,8 @@ use Rattle.ipfix_read.specs.Value.{FieldValueView, bytes_at, variable_at, value_
 use Rattle.ipfix_templates.proofs.Choice.{chosen, gave, some_is, mapped}
 use Rattle.std.proofs.lemmas.List.Sums.{sum_by-cons}
 use Rattle.ipfix_templates.specs.Template.{TemplateView}
-use Rattle.ipfix_read.specs.Record.{Record, record_at, ReadsRecord, ReadsRecords, HasRecord}
+use Rattle.ipfix_templates.specs.Reading.{Reads}
+use Rattle.ipfix_read.specs.Record.{Record, record_at, ReadsRecord, HasRecord}
 use Rattle.ipfix_templates.proofs.Reading.{reads_shorter}
 use Rattle.std.proofs.Math.Nat.{add-mul, le-div_iff_mul-le, suc-mul}
 use Rattle.std.proofs.lemmas.List.Elements.{All-cons, All-nil}
@@ -285,7 +286,7 @@ record_shorter t bytes x e =
     omega (arith, values_shorter t.fields bytes a.0 a.1, ap (λ (y : Record × List ℕ). length y.1) a.2)
 
 -- records take at least one byte each
-pub records_shorter : (t : TemplateView) (bytes : List ℕ) (records : List Record) (rest : List ℕ) → ReadsRecords t bytes records rest → length records + length rest ≤ length bytes
+pub records_shorter : (t : TemplateView) (bytes : List ℕ) (records : List Record) (rest : List ℕ) → Reads (ReadsRecord t) bytes records rest → length records + length rest ≤ length bytes
 records_shorter t bytes records rest read =
     omega (arith, reads_shorter (ReadsRecord t) length 1 (λ s r after h. let has = h.0 in omega (arith, has.0, record_shorter t s (r, after) h.1)) bytes records rest read)
 
@@ -352,7 +353,7 @@ values_of t bytes after r e =
     (m.0, m.1, ap (λ (y : Record × List ℕ). y.0) (sym m.2), ap (λ (y : Record × List ℕ). y.1) (sym m.2))
 
 -- the records that are read are at the start, and are read in the same way whatever follows them
-reads_front : (t : TemplateView) (bytes : List ℕ) (records : List Record) (rest : List ℕ) → ReadsRecords t bytes records rest
+reads_front : (t : TemplateView) (bytes : List ℕ) (records : List Record) (rest : List ℕ) → Reads (ReadsRecord t) bytes records rest
     → (front : List ℕ) × (bytes ≡ front ++ rest) × ((more : List ℕ) → whole_records t.kind t.fields (length records) (front ++ more) ≡ records)
 reads_front t bytes [] rest done = ([], done, λ more. no_count t.kind t.fields more)
 reads_front t bytes (r ∷ rs) rest done =
@@ -370,7 +371,7 @@ reads_front t bytes (r ∷ rs) rest done =
     )
 
 -- the bytes before the remaining ones are the records
-pub packed : (t : TemplateView) (bytes : List ℕ) (records : List Record) (rest : List ℕ) (count n : ℕ) → ReadsRecords t bytes records rest → length records ≡ count
+pub packed : (t : TemplateView) (bytes : List ℕ) (records : List Record) (rest : List ℕ) (count n : ℕ) → Reads (ReadsRecord t) bytes records rest → length records ≡ count
     → n ≡ length bytes - length rest → whole_records t.kind t.fields count (take n bytes) ≡ records
 packed t bytes records rest count n done counted is =
     let g = reads_front t bytes records rest done in
@@ -379,12 +380,12 @@ packed t bytes records rest count n done counted is =
     ∙ ap (λ (ys : List ℕ). whole_records t.kind t.fields (length records) ys) (front ∙ sym (append-nil g.0))
     ∙ g.2 []
 
-pub packed_length : (t : TemplateView) (bytes : List ℕ) (records : List Record) (rest : List ℕ) (count n : ℕ) → ReadsRecords t bytes records rest → length records ≡ count
+pub packed_length : (t : TemplateView) (bytes : List ℕ) (records : List Record) (rest : List ℕ) (count n : ℕ) → Reads (ReadsRecord t) bytes records rest → length records ≡ count
     → n ≡ length bytes - length rest → length (whole_records t.kind t.fields count (take n bytes)) ≡ count
 packed_length t bytes records rest count n done counted is = ap length (packed t bytes records rest count n done counted is) ∙ counted
 
 -- if there are records, the first is complete at the start
-pub first_stands : (t : TemplateView) (bytes : List ℕ) (records : List Record) (rest : List ℕ) (count : ℕ) → ReadsRecords t bytes records rest → length records ≡ count → 0 < count → HasRecord t bytes
+pub first_stands : (t : TemplateView) (bytes : List ℕ) (records : List Record) (rest : List ℕ) (count : ℕ) → Reads (ReadsRecord t) bytes records rest → length records ≡ count → 0 < count → HasRecord t bytes
 first_stands t bytes [] rest count done counted some = absurd (omega (arith, counted, some))
 first_stands t bytes (r ∷ rs) rest count done counted some = let one = done.1 in ([], bytes, refl, one.0, ap is_some one.1)
 
@@ -417,7 +418,7 @@ fixed_values fields bytes none enough =
 
 -- as many records as fit
 pub fixed_records : (t : TemplateView) (count : ℕ) (bytes : List ℕ) → runs_behind 0 t.fields ≡ [] → 0 < least_length t.fields → count * least_length t.fields ≤ length bytes
-    → (records : List Record) × (length records ≡ count) × ReadsRecords t bytes records (drop (count * least_length t.fields) bytes)
+    → (records : List Record) × (length records ≡ count) × Reads (ReadsRecord t) bytes records (drop (count * least_length t.fields) bytes)
 fixed_records t zero bytes none some room =
     let nothing : 0 ≡ 0 * least_length t.fields = omega arith in
     ([], refl, ap (λ (n : ℕ). drop n bytes) nothing)
@@ -429,7 +430,7 @@ fixed_records t (suc count) bytes none some room =
     let behind : drop (count * least) v.0.1 ≡ drop (suc count * least) bytes = ap (drop (count * least)) v.2 ∙ drop-drop (count * least) least bytes ∙ ap (λ (n : ℕ). drop n bytes) (omega (arith, split)) in (
       record { kind = t.kind; fields = v.0.0 } ∷ more.0,
       ap (λ (n : ℕ). suc n) more.1,
-      (v.0.1, ((some, omega (arith, room, split)), record_is t bytes v.0 v.1), subst (λ (rest : List ℕ). ReadsRecords t v.0.1 more.0 rest) behind more.2),
+      (v.0.1, ((some, omega (arith, room, split)), record_is t bytes v.0 v.1), subst (λ (rest : List ℕ). Reads (ReadsRecord t) v.0.1 more.0 rest) behind more.2),
     )
 
 -- after as many records as fit, there is no room for one more

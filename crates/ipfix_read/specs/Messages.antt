@@ -1,9 +1,9 @@
-use Rattle.std.specs.Prelude.{◌≡◌, ℕ, ◌+◌, ◌-◌, ◌<◌, List, [], ◌++◌, length, None, ◌⊎◌, Bool, false, ◌∷◌, take, Option, Some, Result, Ok, Err}
+use Rattle.std.specs.Prelude.{◌≡◌, ℕ, ◌+◌, ◌-◌, ◌<◌, List, [], ◌++◌, length, None, ◌⊎◌, Bool, false, ◌∷◌, Option, Some, Result, Ok, Err}
 use Rattle.ipfix_templates.specs.declared.event.TemplateEvent.{TemplateEvent}
 use Rattle.ipfix_templates.specs.Reading.{ReadsWhole, StopsAt, Reads}
 use Rattle.ipfix_templates.specs.Template.{TemplateView}
 use Rattle.ipfix_templates.specs.InForce.{Follows}
-use Rattle.ipfix_read.specs.Message.{ReadFault, MessageView, IsMessage, HasMessageFault, header_fault, events_of_message, HasHeader, ReadFaultKind}
+use Rattle.ipfix_read.specs.Message.{ReadFault, MessageView, IsMessage, HasMessageFault, header_fault, events_of_message, ReadFaultKind}
 use Rattle.ipfix_read.specs.declared.fault.ReadFaultKind.TheVariants.{ReadFault as Unread}
 use Rattle.ipfix_read.specs.declared.progress.State.{State}
 pub use Rattle.ipfix_read.specs.declared.progress.State.TheVariants.{Ended, Failed, Going}
@@ -23,14 +23,10 @@ ReadsMessage at m next =
     (front : List ℕ) × (at.2 ≡ front ++ next.2) × (header_fault at.1 at.2 ≡ None) × IsMessage at.0 front m
     × (next.0 ≡ at.0 ++ events_of_message m) × (next.1 ≡ at.1 + 1)
 
--- no bytes remain
-abbrev pub IsFileEnd : FilePlace → Type 0
-IsFileEnd at = at.2 ≡ []
-
 -- The bytes are exactly these consecutive messages. Reading begins after a history of template events and a number of
 -- messages.
 abbrev pub ReadsFile : List (ℕ × TemplateEvent) → ℕ → List ℕ → List MessageView → Type 0
-ReadsFile history count bytes messages = ReadsWhole ReadsMessage IsFileEnd (history, count, bytes) messages
+ReadsFile history count bytes messages = ReadsWhole ReadsMessage (λ at. at.2 ≡ []) (history, count, bytes) messages
 
 -- bytes remain, the whole bytes begin at this offset of the File, and this is the fault of the next message
 abbrev pub IsMessageFault : ℕ → ℕ → FilePlace → ReadFault → Type 0
@@ -71,36 +67,18 @@ AnswersNext old left (Err fault) new gives =
     ⊎ ((fault ≡ read_fault old.offset)
     ⊎ ((0 < length left) × ((history : List (ℕ × TemplateEvent)) → Follows old.table history → HasMessageFault history old.count left old.offset fault))))
 
--- the result of a call in the state Going, whatever the state after it
-abbrev pub GivesNext : ProgressView → List ℕ → Result (Option MessageView) ReadFault → Type 0
-GivesNext old left result = (new : ProgressView) × (gives : Option (List ℕ)) × AnswersNext old left result new gives
-
 -- whether a result is that the reader failed
 abbrev pub is_read_fault : {A : Type 0} → Result A ReadFault → Bool
 is_read_fault (Ok _) = false
 is_read_fault (Err fault) = is_of_reader fault.kind
 
--- ---- a call over a buffer
-
--- the buffer starts with the bytes of a message of this length
-pub record HoldsMessage (buffer : List ℕ) (size : ℕ) : Type 0 where
-  pub sized : length (take size buffer) ≡ size
-  pub header : HasHeader (take size buffer)
-
--- the bytes read to the start of a buffer, after so many messages, if the reader will still return these bytes: those
--- of the next message, none if no bytes remain, or the fault of its header
-abbrev pub Gathers : ℕ → List ℕ → Result (Option ℕ) ReadFaultKind → List ℕ → Option (List ℕ) → Type 0
-Gathers count left (Ok (Some size)) buffer gives =
-    (after : List ℕ) × (left ≡ take size buffer ++ after) × (header_fault count left ≡ None) × (gives ≡ Some after)
-Gathers count left (Ok None) buffer gives = (left ≡ []) × (gives ≡ Some [])
-Gathers count left (Err kind) buffer gives = (kind ≡ Unread) ⊎ ((0 < length left) × (header_fault count left ≡ Some kind))
-
--- whether the result is that the reader failed
-abbrev pub is_unread : {A : Type 0} → Result A ReadFaultKind → Bool
-is_unread (Ok _) = false
-is_unread (Err kind) = is_of_reader kind
-
--- ---- consecutive calls
+-- the bytes of the message after so many messages, if the reader will still return these bytes; none if no bytes remain,
+-- or the fault of the header
+abbrev pub Gathers : ℕ → List ℕ → Result (Option (List ℕ)) ReadFaultKind → Option (List ℕ) → Type 0
+Gathers count left (Ok (Some front)) gives =
+    (after : List ℕ) × (left ≡ front ++ after) × (header_fault count left ≡ None) × (gives ≡ Some after)
+Gathers count left (Ok None) gives = (left ≡ []) × (gives ≡ Some [])
+Gathers count left (Err kind) gives = (kind ≡ Unread) ⊎ ((0 < length left) × (header_fault count left ≡ Some kind))
 
 -- These messages are at the start of the bytes. Reading began after a history of template events, at an offset and
 -- after a number of messages. The state between two calls is the one after these messages, and these bytes remain.

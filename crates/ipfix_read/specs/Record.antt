@@ -18,21 +18,14 @@ HasRoom t bytes = (0 < least_length t.fields) × (least_length t.fields ≤ leng
 abbrev pub ReadsRecord : TemplateView → List ℕ → Record → List ℕ → Type 0
 ReadsRecord t bytes r after = HasRoom t bytes × (record_at t bytes ≡ Some (r, after))
 
--- consecutive records at the start of the bytes, followed by these bytes
-abbrev pub ReadsRecords : TemplateView → List ℕ → List Record → List ℕ → Type 0
-ReadsRecords t bytes records rest = Reads (ReadsRecord t) bytes records rest
-
--- too few bytes for a record, which are padding (section 3.3.1)
-abbrev pub IsPadding : TemplateView → List ℕ → Type 0
-IsPadding t bytes = ¬ HasRoom t bytes
-
--- the bytes after the header of a data set are these records, followed by padding
+-- the bytes after the header of a data set are these records, followed by too few bytes for a record, which are padding
+-- (section 3.3.1)
 abbrev pub IsDataSet : TemplateView → List ℕ → List Record → Type 0
-IsDataSet t bytes records = ReadsWhole (ReadsRecord t) (IsPadding t) bytes records
+IsDataSet t bytes records = ReadsWhole (ReadsRecord t) (λ rest. ¬ HasRoom t rest) bytes records
 
 -- after some records there is no padding, and the next record is complete
 abbrev pub HasRecord : TemplateView → List ℕ → Type 0
-HasRecord t bytes = (records : List Record) × (rest : List ℕ) × ReadsRecords t bytes records rest × HasRoom t rest × IsSome (record_at t rest)
+HasRecord t bytes = (records : List Record) × (rest : List ℕ) × Reads (ReadsRecord t) bytes records rest × HasRoom t rest × IsSome (record_at t rest)
 
 -- at this offset of so many bytes there is no padding, and the record there extends beyond the end
 abbrev pub IsCutOff : TemplateView → ℕ → List ℕ → ℕ → Type 0

@@ -77,13 +77,9 @@ abbrev pub ReadsSet : ℕ → MessageState → Set → MessageState → Type 0
 ReadsSet domain at set next =
     (front : List ℕ) × (at.1 ≡ front ++ next.1) × IsSet at.0 domain front set × (next.0 ≡ at.0 ++ events_of_set domain set)
 
--- no bytes remain
-abbrev pub IsEnd : MessageState → Type 0
-IsEnd at = at.1 ≡ []
-
 -- the bytes are exactly these consecutive sets
 abbrev pub IsSets : List (ℕ × TemplateEvent) → ℕ → List ℕ → List Set → Type 0
-IsSets history domain bytes sets = ReadsWhole (ReadsSet domain) IsEnd (history, bytes) sets
+IsSets history domain bytes sets = ReadsWhole (ReadsSet domain) (λ at. at.1 ≡ []) (history, bytes) sets
 
 -- bytes remain, the whole bytes begin at this offset of the File, and this is the fault of the next set
 abbrev pub IsSetFault : ℕ → ℕ → ℕ → MessageState → ReadFault → Type 0
@@ -92,8 +88,6 @@ IsSetFault domain size base at fault = (0 < length at.1) × HasSetFault at.0 dom
 -- after some sets this is the first fault
 abbrev pub HasSetsFault : List (ℕ × TemplateEvent) → ℕ → List ℕ → ℕ → ReadFault → Type 0
 HasSetsFault history domain bytes base fault = StopsAt (ReadsSet domain) (IsSetFault domain (length bytes) base) (history, bytes) fault
-
--- ---- the table of templates while reading
 
 -- This is read, with these events, and changes the table from the old one to the new one. It holds for each history
 -- that the old table follows, and then the new table follows the history with the events.

@@ -3,7 +3,8 @@ use Rattle.std.specs.Prelude.{◌≡◌, ℕ, zero, suc, List, [], ◌∷◌, le
 use Rattle.std.specs.Option.{option_map_or}
 use Rattle.ipfix_templates.specs.declared.field.Field.{Field}
 use Rattle.ipfix_templates.specs.declared.kind.Kind.{Kind}
-use Rattle.ipfix_read.specs.Record.{Record, HasRoom, ReadsRecords}
+use Rattle.ipfix_templates.specs.Reading.{Reads}
+use Rattle.ipfix_read.specs.Record.{Record, HasRoom, ReadsRecord}
 use Rattle.ipfix_templates.specs.Template.{TemplateView}
 use Rattle.ipfix_read.specs.Value.{values_at}
 
@@ -20,4 +21,4 @@ packed_records kind (Some fields) count bytes = whole_records kind fields count 
 
 -- `count` records at the start of the bytes after the header of a data set, followed by its padding
 abbrev pub SkipsRecords : TemplateView → List ℕ → ℕ → List ℕ → Type 0
-SkipsRecords t bytes count padding = (records : List Record) × (length records ≡ count) × ReadsRecords t bytes records padding × ¬ HasRoom t padding
+SkipsRecords t bytes count padding = (records : List Record) × (length records ≡ count) × Reads (ReadsRecord t) bytes records padding × ¬ HasRoom t padding

@@ -1,7 +1,9 @@
-ghost use Rattle.std.specs.Prelude.{◌≡◌, ◌≤◌, ◌<◌, ◌⊎◌, false, IfErr, IfOk, IfSome, OnSome, length, take, vec_len};
+ghost use Rattle.std.specs.Prelude.{◌≡◌, ◌<◌, ◌⊎◌, false, IfErr, IfOk, IfSome, MatchResult, OnSome, length, option_map, vec_len};
+ghost use Rattle.std.specs.Result.{result_map_both};
 ghost use Rattle.ipfix_read.specs.declared.fault.ReadFaultKind.TheVariants.{ReadFault as Unread};
-ghost use Rattle.ipfix_read.specs.Fault.{is_of_calls};
-ghost use Rattle.ipfix_read.specs.Messages.{Gathers, HoldsMessage, is_unread};
+ghost use Rattle.ipfix_read.specs.Fault.{is_of_calls, is_of_reader};
+ghost use Rattle.ipfix_read.specs.Message.{HasHeader};
+ghost use Rattle.ipfix_read.specs.Messages.{Gathers};
 
 use crate::fault::ReadFaultKind;
 use crate::fill::fill;
@@ -15,24 +17,33 @@ const LONGEST_MESSAGE: usize = 65_535;
 /// The one buffer that messages are read into. It has room for the longest message, and messages borrow from it.
 #[derive(Drop)]
 pub struct Buffer {
-    bytes: Vec<u8>,
+    pub(crate) bytes: Vec<u8>,
     ghost sized: { vec_len bytes ≡ 65535 },
 }
 
-// Reads the next message to the start of a buffer, after `count` messages, and returns its length: first its header,
-// then the rest of the length that the header gives. Returns `None` at the end of the input.
-fn gather_at_front<R: Input>(
+impl Buffer {
+    /// Allocates the buffer.
+    pub fn new(alloc: Global) -> Result<Self, AllocError> {
+        let bytes = vec![in alloc; 0u8; LONGEST_MESSAGE]?;
+        Ok(Buffer { bytes })
+    }
+}
+
+/// Reads the next message, which follows `count` messages, to the start of a buffer, and returns its bytes: first its
+/// header, then the rest of the length that the header gives. Returns `None` at the end of the input.
+pub fn gather<'b, R: Input>(
     reader: &mut R,
     count: u32,
-    buffer: &mut [u8],
-) -> Result<Option<usize>, ReadFaultKind>
+    buffer: &'b mut [u8],
+) -> Result<Option<&'b [u8]>, ReadFaultKind>
     requires { length buffer.old ≡ 65535 }
-    ensures gathers { IfSome (R.bytes_left reader.old) (λ left.
-        Gathers count left result buffer.new (R.bytes_left reader.new)) }
-    ensures whole { IfOk result (λ size. IfSome size (HoldsMessage buffer.new)) }
-    ensures counted { IfOk result (λ size. OnSome size (count < 4294967295)) }
+    ensures gathers { IfSome (R.bytes_left reader.old) (λ left. Gathers count left
+        (result_map_both (option_map (λ bytes. bytes.now)) (λ kind. kind) result) (R.bytes_left reader.new)) }
+    ensures whole { IfOk result (λ next. IfSome next (λ bytes. HasHeader bytes.now)) }
+    ensures counted { IfOk result (λ next. OnSome next (count < 4294967295)) }
     ensures fault { IfErr result (λ kind. (kind ≡ Unread) ⊎ (is_of_calls kind ≡ false)) }
-    ensures device { R.failed reader.old ≡ false → R.failed reader.new ≡ is_unread result }
+    ensures device { R.failed reader.old ≡ false → MatchResult result (λ _. R.failed reader.new ≡ false)
+        (λ kind. R.failed reader.new ≡ is_of_reader kind) }
 {
     let head = fill(reader, &mut buffer[..HEADER_LENGTH])?;
     if head == 0 {
@@ -46,40 +57,5 @@ fn gather_at_front<R: Input>(
     if got < size - HEADER_LENGTH {
         return Err(ReadFaultKind::TruncatedMessage);
     }
-    Ok(Some(size))
-}
-
-impl Buffer {
-    /// Allocates the buffer.
-    pub fn new(alloc: Global) -> Result<Self, AllocError>
-        ensures { IfOk result (λ buffer. length buffer.bytes.items ≡ 65535) }
-    {
-        let bytes = vec![in alloc; 0u8; LONGEST_MESSAGE]?;
-        Ok(Buffer { bytes })
-    }
-
-    // Reads the next message to the start of the buffer, after `count` messages, and returns its length. Returns `None`
-    // at the end of the input.
-    pub(crate) fn gather<R: Input>(
-        &mut self,
-        reader: &mut R,
-        count: u32,
-    ) -> Result<Option<usize>, ReadFaultKind>
-        ensures gathers { IfSome (R.bytes_left reader.old) (λ left.
-            Gathers count left result self.new.bytes.items (R.bytes_left reader.new)) }
-        ensures whole { IfOk result (λ size. IfSome size (HoldsMessage self.new.bytes.items)) }
-        ensures counted { IfOk result (λ size. OnSome size (count < 4294967295)) }
-        ensures fault { IfErr result (λ kind. (kind ≡ Unread) ⊎ (is_of_calls kind ≡ false)) }
-        ensures device { R.failed reader.old ≡ false → R.failed reader.new ≡ is_unread result }
-    {
-        gather_at_front(reader, count, self.bytes.as_mut_slice())
-    }
-
-    // Returns the first `size` bytes.
-    pub(crate) fn front(&self, size: usize) -> &[u8]
-        requires { size ≤ 65535 }
-        ensures { result.now ≡ take size self.now.bytes.items }
-    {
-        &self.bytes[..size]
-    }
+    Ok(Some(&buffer[..size]))
 }

@@ -1,7 +1,5 @@
 //! Data sets.
-ghost use Rattle.std.specs.Prelude.{◌≡◌, ◌<◌, [], IfErr, IfOk, OnErr, MatchResult};
-ghost use Rattle.ipfix_templates.specs.Field.{least_length};
-ghost use Rattle.ipfix_templates.specs.Runs.{runs_behind};
+ghost use Rattle.std.specs.Prelude.{IfErr, IfOk, OnErr, MatchResult};
 ghost use Rattle.ipfix_read.specs.Record.{IsDataSet, HasRecord, HasRecordFault};
 ghost use Rattle.ipfix_read.specs.WholeRecords.{SkipsRecords};
 
@@ -9,17 +7,6 @@ use crate::record::RecordList;
 use crate::value::skip_values;
 use ipfix_templates::Template;
 use std::alloc::AllocError;
-
-// Returns the number of consecutive records without variable fields, and the padding after them.
-fn skip_fixed_records<'a>(template: &Template, bytes: &'a [u8]) -> (usize, &'a [u8])
-    requires fixed { runs_behind 0 template.now.fields ≡ [] }
-    requires some { 0 < least_length template.now.fields }
-    ensures { SkipsRecords template.now bytes.now result.0 result.1.now }
-{
-    let least = template.least_length() as usize;
-    let count = bytes.len() / least;
-    (count, &bytes[count * least..])
-}
 
 // Returns the number of consecutive records, and the padding after them. If a record extends beyond the end of the
 // bytes, returns the offset at which that record begins.
@@ -33,7 +20,8 @@ fn skip_records<'a>(template: &Template, bytes: &'a [u8]) -> Result<(usize, &'a 
     }
     let fields = template.fields();
     if fields.runs().is_empty() {
-        return Ok(skip_fixed_records(template, bytes));
+        let count = bytes.len() / least;
+        return Ok((count, &bytes[count * least..]));
     }
     let mut count = 0;
     let mut rest = bytes;

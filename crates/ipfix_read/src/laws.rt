@@ -10,26 +10,17 @@ pub fn first_message_and_rest()
 /// Any bytes have a reading as a File or a first fault, from whatever state reading begins.
 pub fn has_reading()
     ensures { HasReading }
-{
-    // Provides the same law for template sets.
-    ipfix_templates::has_reading();
-}
+{}
 
 /// Bytes have at most one reading as a File, or at most one first fault, and not both.
 pub fn one_reading()
     ensures { OneReading }
-{
-    // Provides the same law for template sets.
-    ipfix_templates::one_reading();
-}
+{}
 
 /// The bytes of a File never have the fault that an allocation failed, not even at a template.
 pub fn memory_is_no_fault()
     ensures { MemoryIsNoFault }
-{
-    // Provides the same law for template sets.
-    ipfix_templates::memory_is_no_fault();
-}
+{}
 
 /// Calls for messages join to the whole File. Before any call nothing is read. If some messages are read so far, the
 /// next call returns one more of them, or that there are no more, or the first fault of the whole File.

@@ -2,7 +2,7 @@ ghost use Rattle.std.specs.Prelude.{◌≡◌, ◌≤◌, ◌+◌, ◌⊎◌, fa
 ghost use Rattle.ipfix_read.specs.Messages.{Going, Ended, Failed, AnswersNext, at_start, is_read_fault};
 ghost use Rattle.ipfix_read.specs.Fault.{failed_before, is_of_calls, read_fault};
 
-use crate::buffer::Buffer;
+use crate::buffer::{Buffer, gather};
 use crate::fault::{ReadFault, ReadFaultKind};
 use crate::message::{Message, whole_message};
 use flow_io::Input;
@@ -85,53 +85,36 @@ impl Progress {
         ensures device { R.failed reader.old ≡ false → R.failed reader.new ≡ is_read_fault result }
     {
         match self.state {
-            State::Going => self.read_next(reader, buffer),
-            State::Ended => Ok(None),
-            State::Failed => Err(ReadFault {
-                kind: ReadFaultKind::Failed,
-                offset: 0,
-            }),
+            State::Going => {}
+            State::Ended => return Ok(None),
+            State::Failed => {
+                return Err(ReadFault {
+                    kind: ReadFaultKind::Failed,
+                    offset: 0,
+                });
+            }
         }
-    }
-
-    // Reads the next message in the state `Going`.
-    fn read_next<'b, R: Input>(
-        &mut self,
-        reader: &mut R,
-        buffer: &'b mut Buffer,
-    ) -> Result<Option<Message<'b>>, ReadFault>
-        requires { self.old.state ≡ Going }
-        ensures going { IfSome (R.bytes_left reader.old) (λ left.
-            AnswersNext self.old left result self.new (R.bytes_left reader.new)) }
-        ensures fault { IfErr result (λ fault.
-            (fault ≡ read_fault self.old.offset) ⊎ (is_of_calls fault.kind ≡ false)) }
-        ensures counted { IfOk result (λ next. OnSome next ((self.new.count ≡ self.old.count + 1)
-            × (self.new.count ≤ 4294967295) × (self.new.state ≡ Going))) }
-        ensures device { R.failed reader.old ≡ false → R.failed reader.new ≡ is_read_fault result }
-    {
         let offset = self.offset;
-        let gathered = match buffer.gather(reader, self.count) {
+        let gathered = match gather(reader, self.count, buffer.bytes.as_mut_slice()) {
             Ok(gathered) => gathered,
             Err(kind) => {
                 self.state = State::Failed;
                 return Err(ReadFault { kind, offset });
             }
         };
-        let Some(size) = gathered else {
+        let Some(bytes) = gathered else {
             self.state = State::Ended;
             return Ok(None);
         };
-        let bytes = buffer.front(size);
-        match whole_message(self.alloc, &mut self.table, bytes, offset) {
-            Ok(message) => {
-                self.count += 1;
-                self.offset += size as u64;
-                Ok(Some(message))
-            }
+        let message = match whole_message(self.alloc, &mut self.table, bytes, offset) {
+            Ok(message) => message,
             Err(fault) => {
                 self.state = State::Failed;
-                Err(fault)
+                return Err(fault);
             }
-        }
+        };
+        self.count += 1;
+        self.offset += bytes.len() as u64;
+        Ok(Some(message))
     }
 }

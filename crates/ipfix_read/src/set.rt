@@ -1,10 +1,7 @@
-ghost use Rattle.std.specs.Prelude.{◌≡◌, ◌≢◌, ◌^◌, ◌+◌, ◌<◌, ◌≤◌, ◌++◌, ◌∷◌, [], ℕ, List, length, false, IfOk, IfErr, OnOk};
+ghost use Rattle.std.specs.Prelude.{◌≢◌, ◌^◌, ◌+◌, ◌<◌, ◌≤◌, ◌++◌, ℕ, List, length, IfOk, IfErr, OnOk};
 ghost use Rattle.ipfix_templates.specs.declared.event.TemplateEvent.{TemplateEvent as Event};
 ghost use Rattle.ipfix_templates.specs.InForce.{Follows};
-ghost use Rattle.ipfix_templates.specs.declared.fault.TemplateFaultKind.TheVariants.{NoMemory};
-ghost use Rattle.ipfix_templates.specs.Template.{set_id};
-ghost use Rattle.ipfix_read.specs.Fault.{out_of_memory, is_of_calls};
-ghost use Rattle.ipfix_read.specs.Set.{in_domain, in_file, events_of_set, events_of_sets, IsContent, HasContentFault, ReadsSet, HasSetFault, IsSets, HasSetsFault, IsReadAfter, IsRefused};
+ghost use Rattle.ipfix_read.specs.Set.{in_domain, events_of_set, events_of_sets, IsContent, HasContentFault, ReadsSet, HasSetFault, IsSets, HasSetsFault, IsReadAfter, IsRefused};
 ghost use Rattle.ipfix_read.specs.Message.{set_size, message_size};
 
 use crate::data_set::read_data_set;
@@ -12,8 +9,7 @@ use crate::fault::{ReadFault, ReadFaultKind};
 use crate::record::RecordList;
 use byteorder::{BigEndian, ByteOrder};
 use ipfix_templates::{
-    Items, Kind, TemplateEvent, TemplateEvents, TemplateFault, TemplateFaultKind, TemplateTable,
-    events_fit, memory_is_no_fault, read_template_set,
+    Items, Kind, TemplateEvent, TemplateEvents, TemplateFaultKind, TemplateTable, read_template_set,
 };
 use std::alloc::{AllocError, Global};
 
@@ -37,23 +33,6 @@ const HEADER_LENGTH: usize = 4;
 // The first of the set IDs that data sets have (RFC 7011 section 3.3.2).
 const FIRST_DATA_SET_ID: u16 = 256;
 
-// Changes the table by one template event. If an allocation fails, the table is unchanged.
-fn apply_event(
-    table: &mut TemplateTable,
-    domain: u32,
-    event: &TemplateEvent,
-) -> Result<(), AllocError>
-    ensures { OnOk result ((history : List (ℕ × Event)) → Follows table.old history
-        → Follows table.new (history ++ (domain, event.now) ∷ [])) }
-{
-    match event {
-        TemplateEvent::Define(template) => table.set(domain, template.copy()?)?,
-        TemplateEvent::Withdraw(id) => table.withdraw(domain, *id),
-        TemplateEvent::WithdrawAll(kind) => table.withdraw_all(domain, *kind),
-    }
-    Ok(())
-}
-
 // Changes the table by these template events in turn. If an allocation fails, the table may have changed by some of
 // them.
 fn apply_events(
@@ -65,28 +44,13 @@ fn apply_events(
         → Follows table.new (history ++ in_domain domain events.now)) }
 {
     for event in events.as_slice() {
-        apply_event(table, domain, event)?;
+        match event {
+            TemplateEvent::Define(template) => table.set(domain, template.copy()?)?,
+            TemplateEvent::Withdraw(id) => table.withdraw(domain, *id),
+            TemplateEvent::WithdrawAll(kind) => table.withdraw_all(domain, *kind),
+        }
     }
     Ok(())
-}
-
-// Returns the fault of a template set as a fault of the File. `base` is the offset of the set's records in the File.
-fn fault_in_file(fault: TemplateFault, base: u64) -> ReadFault
-    requires { base + fault.offset < 2 ^ 64 }
-    ensures memory { fault.kind ≡ NoMemory → result ≡ out_of_memory }
-    ensures place { fault.kind ≢ NoMemory → result ≡ in_file base fault }
-    ensures of_bytes { is_of_calls result.kind ≡ false }
-{
-    if let TemplateFaultKind::NoMemory = fault.kind {
-        return ReadFault {
-            kind: ReadFaultKind::NoMemory,
-            offset: 0,
-        };
-    }
-    ReadFault {
-        kind: ReadFaultKind::BadTemplate(fault.kind),
-        offset: base + fault.offset,
-    }
 }
 
 // Reads the content of a set with this ID, which isn't the ID of template sets or options template sets.
@@ -143,12 +107,15 @@ fn read_content<'a>(
     } else {
         return read_values_of(table, domain, id, bytes, base);
     };
-    // Provides two laws: a set has room for its events, and no bytes have the fault that an allocation failed.
-    events_fit();
-    memory_is_no_fault();
     let events = match read_template_set(alloc, bytes, kind) {
         Ok(events) => events,
-        Err(fault) => return Err(fault_in_file(fault, base)),
+        Err(fault) if fault.kind == TemplateFaultKind::NoMemory => return Err(AllocError.into()),
+        Err(fault) => {
+            return Err(ReadFault {
+                kind: ReadFaultKind::BadTemplate(fault.kind),
+                offset: base + fault.offset,
+            });
+        }
     };
     apply_events(table, domain, &events)?;
     Ok(Set::Templates(kind, events))

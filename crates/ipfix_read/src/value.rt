@@ -132,10 +132,7 @@ impl<'f, 'a> Iterator for Values<'f, 'a> {
 fn read_bytes(count: usize, bytes: &[u8]) -> Option<(&[u8], &[u8])>
     ensures { option_map (λ x. (x.0.now, x.1.now)) result ≡ bytes_at count bytes.now }
 {
-    if bytes.len() < count {
-        return None;
-    }
-    Some(bytes.split_at(count))
+    bytes.split_at_checked(count)
 }
 
 // Reads the value of a variable length at the start of the bytes, and returns it with the bytes after it. Returns

@@ -1,5 +1,5 @@
 -- The template in force after one more event.
-use Rattle.std.proofs.Common.{◌≡◌, ℕ, ◌==◌, ◌||◌, ◌&&◌, not, Bool, true, false, cond, List, [], ◌∷◌, ◌++◌, Option, Some, None, refl, sym, ap, ◌∙◌, subst}
+use Rattle.std.proofs.Common.{◌≡◌, arith, ℕ, ◌==◌, ◌||◌, ◌&&◌, not, Bool, true, false, cond, List, [], ◌∷◌, ◌++◌, Option, Some, None, refl, sym, ap, ◌∙◌, subst}
 use Rattle.std.specs.Prelude.{option_and_then, option_map, nat_eq, IfSome}
 use Rattle.std.specs.List.{list_any}
 use Rattle.std.proofs.lemmas.List.Folds.{list_any-append}
@@ -9,6 +9,7 @@ use Rattle.ipfix_templates.specs.Template.{TemplateView, same_kind, Kind}
 use Rattle.ipfix_templates.specs.Laws.{after_event}
 use Rattle.std.specs.Borrow.{Bor}
 use Rattle.std.proofs.lemmas.Bool.{eqb-true}
+use Rattle.std.proofs.lemmas.Grind.{common_steps}
 
 abbrev Defined : Type 0
 Defined = Option (TemplateView × List (ℕ × TemplateEvent))
@@ -26,18 +27,14 @@ or_none None = refl
 or_none (Some x) = refl
 
 or_or : {A : Type 0} (a b c : Option A) → option_or (option_or a b) c ≡ option_or a (option_or b c)
-or_or None b c = refl
-or_or (Some x) b c = refl
+or_or a b c = grind (arith, common_steps)
 
 more_or : (e : ℕ × TemplateEvent) (a b : Defined) → more e (option_or a b) ≡ option_or (more e a) (more e b)
-more_or e None b = refl
-more_or e (Some x) b = refl
+more_or e a b = grind (arith, common_steps)
 
 more_here : (e : ℕ × TemplateEvent) (b : Bool) (o : Option TemplateView) (es : List (ℕ × TemplateEvent))
     → more e (cond b (option_map (λ t. (t, es)) o) None) ≡ cond b (option_map (λ t. (t, es ++ e ∷ [])) o) None
-more_here e true None es = refl
-more_here e true (Some t) es = refl
-more_here e false o es = refl
+more_here e b o es = grind (arith, common_steps)
 
 last-append : (es : List (ℕ × TemplateEvent)) (e : ℕ × TemplateEvent) (domain id : ℕ)
     → last_definition (es ++ e ∷ []) domain id ≡ option_or (newest domain id e) (more e (last_definition es domain id))
@@ -51,17 +48,10 @@ last-append (x ∷ es) e domain id =
     ∙ ap (λ (o : Defined). option_or (newest domain id e) (option_or (more e found) o)) (sym (more_here e (x.0 == domain) (definition id x.1) es))
     ∙ ap (option_or (newest domain id e)) (sym (more_or e found here))
 
-unless_not : (w : Bool) (t : TemplateView) → cond w None (Some t) ≡ cond (not w) (Some t) None
-unless_not true t = refl
-unless_not false t = refl
-
 -- a definition that later events may withdraw
 kept_step : (ends : TemplateView → Bool) (b q : Bool) (t : TemplateView)
     → cond (q || (b && ends t)) None (Some t) ≡ cond b (kept_where (λ u. not (ends u)) (cond q None (Some t))) (cond q None (Some t))
-kept_step ends true true t = refl
-kept_step ends true false t = unless_not (ends t) t
-kept_step ends false true t = refl
-kept_step ends false false t = refl
+kept_step ends b q t = grind (arith, common_steps)
 
 module _ (withdrawn : TemplateView × List (ℕ × TemplateEvent) → Bool) (ends : TemplateView → Bool) (e : ℕ × TemplateEvent) where
   abbrev alive : Defined → Option TemplateView

@@ -1,14 +1,13 @@
 -- Reading one item after another, as a loop does.
-use Rattle.std.proofs.Common.{◌≡◌, ℕ, suc, ◌+◌, ◌-◌, ◌<◌, ◌≤◌, List, [], ◌∷◌, ◌++◌, length, true, false, Option, Some, None, refl, sym, ap, ◌∙◌, append_assoc, arith, zero, ◌*◌, ◌||◌, cond, ltb, eqb, drop, Result, Ok, Err, ◌⊎◌, inl, inr, length-drop}
+use Rattle.std.proofs.Common.{◌≡◌, ℕ, suc, ◌+◌, ◌-◌, ◌<◌, ◌≤◌, List, [], ◌∷◌, ◌++◌, length, Option, Some, None, refl, sym, ap, ◌∙◌, append_assoc, arith, zero, ◌*◌, drop, Result, Ok, Err, ◌⊎◌, inl, inr, length-drop}
 use Rattle.std.specs.Prelude.{is_some, option_and_then}
-use Rattle.ipfix_templates.specs.Template.{Field, Kind, Flow, Options, set_id}
-use Rattle.ipfix_templates.specs.Reading.{field_at, fields_at, defined_by, definition_at, withdrawal, followed_by, template_record_at, ReadsEvent, ReadsEvents, IsSetPadding, IsTemplateSet, IsRecordFault, HasTemplateFault, TemplateFault, TemplateFaultKind, Truncated, BadTemplateId, BadScope, NoMemory}
-use Rattle.std.proofs.lemmas.Bool.{cases_lt, ltb-false}
+use Rattle.ipfix_templates.specs.Template.{Field, Kind, Flow, Options}
+use Rattle.ipfix_templates.specs.Reading.{field_at, fields_at, defined_by, definition_at, withdrawal, template_record_at, Reads, ReadsEvent, IsTemplateSet, IsRecordFault, HasTemplateFault, TemplateFault, TemplateFaultKind, NoMemory}
+use Rattle.std.proofs.lemmas.Grind.{common_steps}
+use Rattle.std.proofs.lemmas.Bool.{cases_lt}
 use Rattle.byteorder.specs.Endian.{big_number}
 use Rattle.ipfix_templates.specs.declared.event.TemplateEvent.{TemplateEvent}
-use Rattle.ipfix_templates.specs.declared.event.TemplateEvent.TheVariants.{Withdraw, WithdrawAll}
-use Rattle.ipfix_templates.specs.Laws.{HasReading, OneReading}
-use Rattle.ipfix_templates.proofs.Choice.{chosen, gave, some_is, ok_is}
+use Rattle.ipfix_templates.proofs.Choice.{gave, some_is, ok_is}
 use Rattle.ipfix_templates.proofs.Reading.{reads_shorter, Goes, has_outcome, one_outcome}
 
 -- the fields that were read before, and those that are still to be read
@@ -41,22 +40,7 @@ still f (Some x) = refl
 
 pub field_shorter : (bytes : List ℕ) (x : Field × List ℕ) → field_at bytes ≡ Some x → length x.1 + 4 ≤ length bytes
 unfolding field_at
-field_shorter bytes x e =
-    elim (chosen (ltb (length bytes) 4) None _ (Some x) e) [
-      | inl p ↦ absurd (cc)
-      | inr p ↦
-          let long : 4 ≤ length bytes = ltb-false _ _ p.0 in
-          elim (chosen (ltb (big_number 2 bytes) 32768) _ _ (Some x) p.1) [
-            | inl q ↦ omega (arith, length-drop 4 bytes, ap (λ (y : Field × List ℕ). length y.1) (some_is _ _ q.1))
-            | inr q ↦
-                elim (chosen (ltb (length bytes) 8) None _ (Some x) q.1) [
-                  | inl r ↦ absurd (cc)
-                  | inr r ↦
-                      let longer : 8 ≤ length bytes = ltb-false _ _ r.0 in
-                      omega (arith, length-drop 8 bytes, ap (λ (y : Field × List ℕ). length y.1) (some_is _ _ r.1))
-                ]
-          ]
-    ]
+field_shorter bytes x e = let four = length-drop 4 bytes in let eight = length-drop 8 bytes in grind (arith, common_steps)
 
 pub fields_shorter : (n : ℕ) (bytes : List ℕ) (x : List Field × List ℕ) → fields_at n bytes ≡ Some x → length x.1 ≤ length bytes
 unfolding fields_at
@@ -77,39 +61,26 @@ definition_shorter : (kind : Kind) (id count : ℕ) (bytes : List ℕ) (x : Temp
 unfolding definition_at
 definition_shorter Flow id count bytes x e = defined_shorter Flow id 0 count bytes x e
 definition_shorter Options id count bytes x e =
-    elim (chosen (ltb (length bytes) 2) (Err Truncated) _ (Ok x) e) [
-      | inl p ↦ absurd (cc)
-      | inr p ↦
-          elim (chosen (eqb (big_number 2 bytes) 0 || ltb count (big_number 2 bytes)) (Err BadScope) _ (Ok x) p.1) [
-            | inl q ↦ absurd (cc)
-            | inr q ↦ omega (arith, length-drop 2 bytes, defined_shorter Options id (big_number 2 bytes) count (drop 2 bytes) x q.1)
-          ]
-    ]
+    let rest = defined_shorter Options id (big_number 2 bytes) count (drop 2 bytes) x in
+    let two = length-drop 2 bytes in grind (arith, common_steps)
 
-followed_shorter : (bytes : List ℕ) (r : Result TemplateEvent TemplateFaultKind) (x : TemplateEvent × List ℕ) → 4 ≤ length bytes → followed_by (drop 4 bytes) r ≡ Ok x → length x.1 + 4 ≤ length bytes
-followed_shorter bytes (Ok event) x long e = omega (arith, length-drop 4 bytes, ap (λ (z : TemplateEvent × List ℕ). length z.1) (ok_is _ _ e))
-followed_shorter bytes (Err fault) x long e = absurd (cc)
+withdrawal_shorter : (kind : Kind) (id : ℕ) (after : List ℕ) (x : TemplateEvent × List ℕ) → withdrawal kind id after ≡ Ok x → x.1 ≡ after
+withdrawal_shorter kind id after x e = grind (arith, common_steps)
 
 -- a record takes at least 4 bytes
 pub record_shorter : (kind : Kind) (bytes : List ℕ) (x : TemplateEvent × List ℕ) → 4 ≤ length bytes → template_record_at kind bytes ≡ Ok x → length x.1 + 4 ≤ length bytes
 unfolding template_record_at
 record_shorter kind bytes x long e =
     let id = big_number 2 bytes in
-    let count = big_number 2 (drop 2 bytes) in
-    elim (chosen (eqb count 0) (followed_by (drop 4 bytes) (withdrawal kind id)) _ (Ok x) e) [
-      | inl p ↦ followed_shorter bytes (withdrawal kind id) x long p.1
-      | inr p ↦
-          elim (chosen (ltb id 256) (Err BadTemplateId) _ (Ok x) p.1) [
-            | inl q ↦ absurd (cc)
-            | inr q ↦ omega (arith, length-drop 4 bytes, definition_shorter kind id count (drop 4 bytes) x q.1)
-          ]
-    ]
+    let withdrawn = withdrawal_shorter kind id (drop 4 bytes) x in
+    let defined = definition_shorter kind id (big_number 2 (drop 2 bytes)) (drop 4 bytes) x in
+    let four = length-drop 4 bytes in grind (arith, common_steps)
 
 shorter : (kind : Kind) (bytes : List ℕ) (event : TemplateEvent) (after : List ℕ) → ReadsEvent kind bytes event after → length after + 4 ≤ length bytes
 shorter kind bytes event after r = record_shorter kind bytes (event, after) r.0 r.1
 
 -- records take at least 4 bytes each
-pub events_shorter : (kind : Kind) (bytes : List ℕ) (events : List TemplateEvent) (rest : List ℕ) → ReadsEvents kind bytes events rest → length events * 4 + length rest ≤ length bytes
+pub events_shorter : (kind : Kind) (bytes : List ℕ) (events : List TemplateEvent) (rest : List ℕ) → Reads (ReadsEvent kind) bytes events rest → length events * 4 + length rest ≤ length bytes
 events_shorter kind = reads_shorter (ReadsEvent kind) length 4 (shorter kind)
 
 -- ---- one reading, or one fault
@@ -129,26 +100,29 @@ alone kind size rest fault other p q =
     let offsets : fault.offset ≡ other.offset = omega (arith, p.2, q.2) in
     λ i. record { kind = alike i; offset = offsets i }
 
-pub one_reading : OneReading
+pub one_reading : (kind : Kind) (bytes : List ℕ)
+    → ((events others : List TemplateEvent) → IsTemplateSet kind bytes events → IsTemplateSet kind bytes others → events ≡ others)
+    × ((fault other : TemplateFault) → HasTemplateFault kind bytes fault → HasTemplateFault kind bytes other → fault ≡ other)
+    × ((events : List TemplateEvent) (fault : TemplateFault) → IsTemplateSet kind bytes events → HasTemplateFault kind bytes fault → ⊥)
 one_reading kind bytes =
-    one_outcome (ReadsEvent kind) IsSetPadding (IsRecordFault kind (length bytes)) (one_event kind) (λ s g few. omega (arith, g.2.0, few))
+    one_outcome (ReadsEvent kind) (λ rest. length rest < 4) (IsRecordFault kind (length bytes)) (one_event kind) (λ s g few. omega (arith, g.2.0, few))
     (λ s fault g found. ok_not_err _ _ _ g.2.1 found.1) (λ s fault few found. omega (arith, few, found.0)) (alone kind (length bytes)) bytes
 
 -- if there is no padding, there is a record or a fault
-due : (kind : Kind) (size : ℕ) (rest : List ℕ) → length rest ≤ size → IsSetPadding rest ⊎ (Goes (ReadsEvent kind) rest ⊎ ((fault : TemplateFault) × IsRecordFault kind size rest fault))
+due : (kind : Kind) (size : ℕ) (rest : List ℕ) → length rest ≤ size → (length rest < 4) ⊎ (Goes (ReadsEvent kind) rest ⊎ ((fault : TemplateFault) × IsRecordFault kind size rest fault))
 due kind size rest room =
     elim (cases_lt (length rest) 4) [
       | inl padding ↦ inl padding
       | inr long ↦
-          elim (template_record_at kind rest) as (λ r. template_record_at kind rest ≡ r → IsSetPadding rest ⊎ (Goes (ReadsEvent kind) rest ⊎ ((fault : TemplateFault) × IsRecordFault kind size rest fault))) [
+          elim (template_record_at kind rest) as (λ r. template_record_at kind rest ≡ r → (length rest < 4) ⊎ (Goes (ReadsEvent kind) rest ⊎ ((fault : TemplateFault) × IsRecordFault kind size rest fault))) [
             | Ok x ↦ λ read. inr (inl (x.0, x.1, (long, read)))
             | Err fault ↦ λ read. inr (inr (record { kind = fault; offset = size - length rest }, (long, read, omega (arith, room))))
           ] refl
     ]
 
-pub has_reading : HasReading
+pub has_reading : (kind : Kind) (bytes : List ℕ) → ((events : List TemplateEvent) × IsTemplateSet kind bytes events) ⊎ ((fault : TemplateFault) × HasTemplateFault kind bytes fault)
 has_reading kind bytes =
-    has_outcome (ReadsEvent kind) IsSetPadding (IsRecordFault kind (length bytes)) length (length bytes) (λ s event next r. omega (arith, shorter kind s event next r)) (due kind (length bytes)) bytes (omega arith)
+    has_outcome (ReadsEvent kind) (λ rest. length rest < 4) (IsRecordFault kind (length bytes)) length (length bytes) (λ s event next r. omega (arith, shorter kind s event next r)) (due kind (length bytes)) bytes (omega arith)
 
 pub events_fit : (kind : Kind) (bytes : List ℕ) (events : List TemplateEvent) → IsTemplateSet kind bytes events → 4 * length events ≤ length bytes
 events_fit kind bytes events p = omega (arith, events_shorter kind bytes events p.0 p.1)
@@ -163,35 +137,17 @@ definition_fault : (kind : Kind) (id count : ℕ) (bytes : List ℕ) → definit
 unfolding definition_at
 definition_fault Flow id count bytes e = defined_fault Flow id 0 (fields_at count bytes) e
 definition_fault Options id count bytes e =
-    elim (chosen (ltb (length bytes) 2) (Err Truncated) _ (Err NoMemory) e) [
-      | inl p ↦ cc
-      | inr p ↦
-          elim (chosen (eqb (big_number 2 bytes) 0 || ltb count (big_number 2 bytes)) (Err BadScope) _ (Err NoMemory) p.1) [
-            | inl q ↦ cc
-            | inr q ↦ defined_fault Options id (big_number 2 bytes) (fields_at count (drop 2 bytes)) q.1
-          ]
-    ]
+    let none = defined_fault Options id (big_number 2 bytes) (fields_at count (drop 2 bytes)) in grind (arith, common_steps)
 
-withdrawal_fault : (kind : Kind) (id : ℕ) (after : List ℕ) → followed_by after (withdrawal kind id) ≡ Err NoMemory → ⊥
-withdrawal_fault kind id after e =
-    elim (eqb id (set_id kind)) as (λ b. followed_by after (cond b (Ok (WithdrawAll kind)) (cond (ltb id 256) (Err BadTemplateId) (Ok (Withdraw id)))) ≡ Err NoMemory → ⊥) [
-      | true ↦ λ p. cc
-      | false ↦ elim (ltb id 256) as (λ b. followed_by after (cond b (Err BadTemplateId) (Ok (Withdraw id))) ≡ Err NoMemory → ⊥) [ true ↦ λ p. cc | false ↦ λ p. cc ]
-    ] e
+withdrawal_fault : (kind : Kind) (id : ℕ) (after : List ℕ) → withdrawal kind id after ≡ Err NoMemory → ⊥
+withdrawal_fault kind id after e = grind (arith, common_steps)
 
 pub record_fault : (kind : Kind) (bytes : List ℕ) → template_record_at kind bytes ≡ Err NoMemory → ⊥
 unfolding template_record_at
 record_fault kind bytes e =
     let id = big_number 2 bytes in
-    let count = big_number 2 (drop 2 bytes) in
-    elim (chosen (eqb count 0) (followed_by (drop 4 bytes) (withdrawal kind id)) _ (Err NoMemory) e) [
-      | inl p ↦ withdrawal_fault kind id (drop 4 bytes) p.1
-      | inr p ↦
-          elim (chosen (ltb id 256) (Err BadTemplateId) _ (Err NoMemory) p.1) [
-            | inl q ↦ cc
-            | inr q ↦ definition_fault kind id count (drop 4 bytes) q.1
-          ]
-    ]
+    let withdrawn = withdrawal_fault kind id (drop 4 bytes) in
+    let defined = definition_fault kind id (big_number 2 (drop 2 bytes)) (drop 4 bytes) in grind (arith, common_steps)
 
 pub memory_is_no_fault : (kind : Kind) (bytes : List ℕ) (fault : TemplateFault) → HasTemplateFault kind bytes fault → fault.kind ≡ NoMemory → ⊥
 memory_is_no_fault kind bytes fault p is = record_fault kind p.1 (p.3.1 ∙ ap (λ (k : TemplateFaultKind). Err k) is)

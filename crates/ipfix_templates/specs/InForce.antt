@@ -65,8 +65,8 @@ DropsKind old new domain kind = (d i : ℕ) → template_at new d i ≡ (if doma
 abbrev pub Follows : List ((ℕ × ℕ) × TemplateView) → List (ℕ × TemplateEvent) → Type 0
 Follows table history = (domain id : ℕ) → template_at table domain id ≡ in_force history domain id
 
--- How a table is stored: the templates of each kind separately, and for each domain a map from the IDs. This is
--- private. Table and InForce specify tables, and callers need not read this file.
+-- How a table is stored, which callers need not read: the templates of each kind separately, and for each domain a map
+-- from the IDs.
 
 -- the entries of the maps of domains
 abbrev pub entries_of : List (ℕ × BTreeMap ℕ TemplateView) → List ((ℕ × ℕ) × TemplateView)

@@ -7,15 +7,11 @@ use Rattle.ipfix_templates.specs.declared.event.TemplateEvent.{TemplateEvent}
 use Rattle.ipfix_templates.specs.declared.event.TemplateEvent.TheVariants.{Define, Withdraw, WithdrawAll}
 pub use Rattle.ipfix_templates.specs.declared.fault.TemplateFaultKind.{TemplateFaultKind}
 
--- The fault that an allocation failed.
-
--- it has no position
+-- the fault that an allocation failed, which has no position
 abbrev pub out_of_memory : TemplateFault
 out_of_memory = record { kind = NoMemory; offset = 0 }
 
--- Reading one item after another.
-
--- A step reads one item in one state and leads to the next state.
+-- Reading one item after another: a step reads one item in one state and leads to the next state.
 module _ {S A : Type 0} (step : S → A → S → Type 0) where
   -- steps from the start read these items, and lead to the end
   abbrev pub Reads : S → List A → S → Type 0
@@ -62,24 +58,19 @@ definition_at Options id count bytes =
     else (if scopes == 0 || nat_lt count scopes then Err BadScope
     else defined_by Options id scopes (fields_at count (drop 2 bytes)))
 
--- the withdrawal of a record with field count 0: of all templates of the kind if the ID is the set's own, otherwise of
--- the template with that ID (section 8.1)
-abbrev pub withdrawal : Kind → ℕ → Result TemplateEvent TemplateFaultKind
-withdrawal kind id =
-    if id == set_id kind then Ok (WithdrawAll kind)
-    else (if nat_lt id 256 then Err BadTemplateId else Ok (Withdraw id))
-
--- a withdrawal, and the bytes after it
-abbrev pub followed_by : List ℕ → Result TemplateEvent TemplateFaultKind → Result (TemplateEvent × List ℕ) TemplateFaultKind
-followed_by after (Ok event) = Ok (event, after)
-followed_by after (Err fault) = Err fault
+-- the withdrawal of a record with field count 0, and the bytes after it: of all templates of the kind if the ID is the
+-- set's own, otherwise of the template with that ID (section 8.1)
+abbrev pub withdrawal : Kind → ℕ → List ℕ → Result (TemplateEvent × List ℕ) TemplateFaultKind
+withdrawal kind id after =
+    if id == set_id kind then Ok (WithdrawAll kind, after)
+    else (if nat_lt id 256 then Err BadTemplateId else Ok (Withdraw id, after))
 
 -- the template record at the start and the bytes after it, or the first fault of these bytes
 unfoldable pub template_record_at : Kind → List ℕ → Result (TemplateEvent × List ℕ) TemplateFaultKind
 template_record_at kind bytes =
     let id = big_number 2 bytes in
     let count = big_number 2 (drop 2 bytes) in
-    if count == 0 then followed_by (drop 4 bytes) (withdrawal kind id)
+    if count == 0 then withdrawal kind id (drop 4 bytes)
     else (if nat_lt id 256 then Err BadTemplateId
     else definition_at kind id count (drop 4 bytes))
 
@@ -87,22 +78,15 @@ template_record_at kind bytes =
 abbrev pub ReadsEvent : Kind → List ℕ → TemplateEvent → List ℕ → Type 0
 ReadsEvent kind bytes event after = (4 ≤ length bytes) × (template_record_at kind bytes ≡ Ok (event, after))
 
--- consecutive records are these events, and are followed by these bytes
-abbrev pub ReadsEvents : Kind → List ℕ → List TemplateEvent → List ℕ → Type 0
-ReadsEvents kind bytes events rest = Reads (ReadsEvent kind) bytes events rest
-
--- fewer bytes than a record has, which are padding
-abbrev pub IsSetPadding : List ℕ → Type 0
-IsSetPadding bytes = length bytes < 4
-
--- the bytes after the header of a template set are these records, followed by padding
+-- the bytes after the header of a template set are these records, followed by fewer bytes than a record has, which are
+-- padding
 abbrev pub IsTemplateSet : Kind → List ℕ → List TemplateEvent → Type 0
-IsTemplateSet kind bytes events = ReadsWhole (ReadsEvent kind) IsSetPadding bytes events
+IsTemplateSet kind bytes events = ReadsWhole (ReadsEvent kind) (λ rest. length rest < 4) bytes events
 
 -- after some records there is no padding, but another record
 abbrev pub HasTemplateRecord : Kind → List ℕ → Type 0
 HasTemplateRecord kind bytes =
-    (events : List TemplateEvent) × (rest : List ℕ) × ReadsEvents kind bytes events rest × (4 ≤ length rest) × IsOk (template_record_at kind rest)
+    (events : List TemplateEvent) × (rest : List ℕ) × Reads (ReadsEvent kind) bytes events rest × (4 ≤ length rest) × IsOk (template_record_at kind rest)
 
 -- at the start of the rest of so many bytes there is no padding and no record, but this fault
 abbrev pub IsRecordFault : Kind → ℕ → List ℕ → TemplateFault → Type 0

@@ -3,8 +3,6 @@ pub use Rattle.ipfix_templates.specs.declared.kind.Kind.{Kind}
 pub use Rattle.ipfix_templates.specs.declared.kind.Kind.TheVariants.{Flow, Options}
 pub use Rattle.ipfix_templates.specs.declared.field.Field.{Field}
 
--- The two kinds of template.
-
 -- the set ID of the sets that hold its templates (RFC 7011 section 3.3.2)
 abbrev pub set_id : Kind → ℕ
 set_id Flow = 2
@@ -17,9 +15,7 @@ same_kind Flow Options = false
 same_kind Options Flow = false
 same_kind Options Options = true
 
--- A template as contracts see it.
-
--- a template, without how it is stored
+-- a template as contracts see it, without how it is stored
 pub record TemplateView : Type 0 where
   pub id : ℕ
   pub kind : Kind

@@ -1,5 +1,5 @@
-ghost use Rattle.std.specs.Prelude.{◌≡◌, ◌≤◌, ◌<◌};
-ghost use Rattle.ipfix_templates.specs.Field.{has_bytes, least_field_length, is_variable};
+ghost use Rattle.std.specs.Prelude.{◌≡◌, ◌<◌};
+ghost use Rattle.ipfix_templates.specs.Field.{is_variable};
 
 use std::marker::Model;
 
@@ -58,24 +58,5 @@ impl Field {
         ensures { result ≡ is_variable self }
     {
         self.length == VARIABLE_LENGTH
-    }
-
-    /// Returns `true` if values of the field take bytes in a record.
-    pub fn has_bytes(self) -> bool
-        ensures { result ≡ has_bytes self }
-    {
-        self.length != 0
-    }
-
-    /// Returns the minimum number of bytes that a value of the field takes in a record: 1 if the length is variable.
-    pub fn least_length(self) -> u16
-        ensures value { result ≡ least_field_length self }
-        ensures bound { result ≤ 65534 }
-    {
-        if self.length == VARIABLE_LENGTH {
-            1
-        } else {
-            self.length
-        }
     }
 }

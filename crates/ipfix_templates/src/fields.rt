@@ -1,9 +1,9 @@
 ghost use Rattle.std.specs.Prelude.{◌≡◌, ◌≤◌, length, filter, IfOk};
 ghost use Rattle.ipfix_templates.specs.Field.{has_bytes, least_length};
-ghost use Rattle.ipfix_templates.specs.Runs.{IsKept, runs_behind, last_run_behind};
+ghost use Rattle.ipfix_templates.specs.Runs.{runs_behind, last_run_behind};
 
 use crate::field::Field;
-use std::alloc::{AllocError, Global};
+use std::alloc::AllocError;
 use std::marker::Model;
 use std::rc::Rc;
 
@@ -36,38 +36,6 @@ impl Model for Fields {
     ghost invariant = { λ a. let l = rc_value a.shared in IsKept l.items.items l.filled.items l.runs.items l.last_run l.least };
 }
 
-// Computes the layout of the fields.
-fn layout_of(items: Vec<Field>) -> Result<Layout, AllocError>
-    requires { length items.items ≤ 65535 }
-    ensures fields { IfOk result (λ layout. layout.items.items ≡ items.items) }
-    ensures kept { IfOk result (λ l. IsKept l.items.items l.filled.items l.runs.items l.last_run l.least) }
-{
-    let alloc = *items.allocator();
-    let mut filled = Vec::new(alloc);
-    let mut runs = Vec::new(alloc);
-    let mut last_run = 0u32;
-    let mut least = 0u32;
-    for field in items.as_slice() {
-        least += u32::from(field.least_length());
-        if field.has_bytes() {
-            filled.push(*field)?;
-        }
-        if field.is_variable() {
-            runs.push(last_run)?;
-            last_run = 0;
-        } else {
-            last_run += u32::from(field.length());
-        }
-    }
-    Ok(Layout {
-        items,
-        filled,
-        runs,
-        last_run,
-        least,
-    })
-}
-
 impl Fields {
     /// Returns the list of these fields, in order.
     pub fn from_vec(items: Vec<Field>) -> Result<Fields, AllocError>
@@ -75,7 +43,31 @@ impl Fields {
         ensures { IfOk result (λ fields. fields ≡ items.items) }
     {
         let alloc = *items.allocator();
-        let layout = layout_of(items)?;
+        let mut filled = Vec::new(alloc);
+        let mut runs = Vec::new(alloc);
+        let mut last_run = 0u32;
+        let mut least = 0u32;
+        for field in items.as_slice() {
+            let length = field.length();
+            if length != 0 {
+                filled.push(*field)?;
+            }
+            if field.is_variable() {
+                runs.push(last_run)?;
+                last_run = 0;
+                least += 1;
+            } else {
+                last_run += u32::from(length);
+                least += u32::from(length);
+            }
+        }
+        let layout = Layout {
+            items,
+            filled,
+            runs,
+            last_run,
+            least,
+        };
         Ok(Fields {
             shared: Rc::new(alloc, layout)?,
         })

@@ -30,23 +30,20 @@ fn read_field(bytes: &[u8]) -> Option<(Field, &[u8])>
     }
     let number = BigEndian::read_u16(bytes);
     let length = BigEndian::read_u16(&bytes[2..]);
-    if number < ENTERPRISE_BIT {
-        let field = Field {
-            enterprise: None,
-            number,
-            length,
-        };
-        return Some((field, &bytes[4..]));
-    }
-    if bytes.len() < 8 {
+    let (enterprise, rest) = if number < ENTERPRISE_BIT {
+        (None, &bytes[4..])
+    } else if bytes.len() < 8 {
         return None;
-    }
+    } else {
+        (Some(BigEndian::read_u32(&bytes[4..])), &bytes[8..])
+    };
+    let number = number % ENTERPRISE_BIT;
     let field = Field {
-        enterprise: Some(BigEndian::read_u32(&bytes[4..])),
-        number: number - ENTERPRISE_BIT,
+        enterprise,
+        number,
         length,
     };
-    Some((field, &bytes[8..]))
+    Some((field, rest))
 }
 
 // Returns `true` if the bytes start with `count` field specifiers.

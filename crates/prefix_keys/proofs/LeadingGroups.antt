@@ -1,12 +1,12 @@
 -- The groups at the start of a text.
-use Rattle.std.proofs.Common.{◌≡◌, ℕ, ◌+◌, ◌-◌, ◌*◌, ◌^◌, ◌<◌, ◌&&◌, ◌==◌, Bool, true, false, List, [], ◌∷◌, ◌++◌, Option, Some, None, length, ap, sym, refl, ◌∙◌, arith, inl, inr, nat_le, option_map, if◌then◌else◌}
+use Rattle.std.proofs.Common.{◌/◌, ◌%◌, ◌≡◌, ℕ, ◌+◌, ◌-◌, ◌*◌, ◌^◌, ◌<◌, ◌&&◌, ◌==◌, Bool, true, false, List, [], ◌∷◌, ◌++◌, Option, Some, None, length, ap, sym, refl, ◌∙◌, arith, inl, inr, nat_le, option_map, if◌then◌else◌}
 use Rattle.std.specs.List.{list_all, list_any, slice_split}
 use Rattle.std.proofs.lemmas.Bool.{and_from, and_right, cond-true, cond-false, cases_Bool, eq-eqb, true_from_ne_false}
 use Rattle.std.proofs.lemmas.List.{append_assoc, append-nil, length-append}
 use Rattle.std.proofs.lemmas.List.Folds.{list_all-append}
 use Rattle.std.proofs.lemmas.List.Splits.{slice_split_at, slice_split_none, length-slice_split}
 use Rattle.prefix_keys.specs.Inner.{BeginsWithColon, BeginsWithGroup, BeginsWithSide, behind, is_colon_byte, more_groups}
-use Rattle.prefix_keys.specs.Text.{around_gap, around_address, colon_address, groups_of_pieces, hex_group, hex_value, is_hex_digit, last_groups, onto_groups, side_groups, text_groups, two_groups, whole_address, dotted_address}
+use Rattle.prefix_keys.specs.Text.{around_gap, around_address, colon_address, groups_of_pieces, hex_group, hex_value, is_hex_digit, last_groups, onto_groups, side_groups, text_groups, whole_address, dotted_address}
 use Rattle.prefix_keys.proofs.ColonPieces.{is_colon, groups_of-more, more-next}
 use Rattle.prefix_keys.proofs.Gaps.{address-around}
 use Rattle.prefix_keys.proofs.GroupNumbers.{counted-count, gap-some, whole-some}
@@ -39,7 +39,7 @@ groups-last dotted f g reads =
   where
     last : (dotted : Bool) → last_groups dotted f ≡ Some (g ∷ [])
     last true =
-        cond-false (list_any (λ b. b == 46) f) (option_map two_groups (dotted_address f)) (option_map (λ group. group ∷ []) (hex_group f))
+        cond-false (list_any (λ b. b == 46) f) (option_map (λ value. value / 65536 ∷ value % 65536 ∷ []) (dotted_address f)) (option_map (λ group. group ∷ []) (hex_group f))
         (lacks is_hex_digit 46 refl f (group-digits f g reads))
         ∙ ap (option_map (λ group. group ∷ [])) reads
     last false = ap (option_map (λ group. group ∷ [])) reads
@@ -197,7 +197,7 @@ no-colon text none =
     ∙ ap (λ pieces. whole_address (groups_of_pieces true pieces)) (slice_split_none is_colon text lacks-colon)
     ∙ few (list_any (λ b. b == 46) text)
   where
-    two : (x : Option ℕ) → whole_address (option_map two_groups x) ≡ None
+    two : (x : Option ℕ) → whole_address (option_map (λ value. value / 65536 ∷ value % 65536 ∷ []) x) ≡ None
     two None = refl
     two (Some value) = refl
 
@@ -205,7 +205,7 @@ no-colon text none =
     one None = refl
     one (Some group) = refl
 
-    few : (dotted : Bool) → whole_address (if dotted then option_map two_groups (dotted_address text)
+    few : (dotted : Bool) → whole_address (if dotted then option_map (λ value. value / 65536 ∷ value % 65536 ∷ []) (dotted_address text)
         else option_map (λ group. group ∷ []) (hex_group text)) ≡ None
     few true = two (dotted_address text)
     few false = one (hex_group text)

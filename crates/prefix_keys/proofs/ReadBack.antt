@@ -9,7 +9,7 @@ use Rattle.prefix_keys.specs.Block.{width_of, Version, V4, V6}
 use Rattle.std.proofs.Math.Nat.{div-add-mod'}
 use Rattle.std.proofs.lemmas.List.Sums.{position_or_len_is}
 use Rattle.prefix_keys.specs.Print.{address_text, joined_text, dotted_text, address_bytes, address_groups, address_groups_text, longest_run, shortened_text, AddressIsReadBack, BlockIsReadBack, IsZeroRun}
-use Rattle.prefix_keys.specs.Text.{onto_groups, groups_of_pieces, last_groups, text_groups, side_groups, groups_number, whole_address, gap_address, around_address, colon_address, hex_group, dotted_address, two_groups, four_pieces, four_bytes, short_number, address_of, block_from, covering_block}
+use Rattle.prefix_keys.specs.Text.{onto_groups, groups_of_pieces, last_groups, text_groups, side_groups, groups_number, whole_address, gap_address, around_address, colon_address, hex_group, dotted_address, four_pieces, four_bytes, short_number, address_of, block_from, covering_block}
 use Rattle.prefix_keys.proofs.Printed.{Lacks, Lacks-digits, no_colon, no_point, no_slash, split-joined, joined-some, hex_group-digits, short_number-decimal, Lacks-joined}
 use Rattle.prefix_keys.proofs.Groups.{bytes-below, bytes-number, groups-below, groups-number, width-le}
 use Rattle.prefix_keys.proofs.PrintedGaps.{IsGroup, around-gap, around-none}
@@ -23,7 +23,7 @@ hex group = digits 16 false group
 -- the groups of texts with colons
 last_groups-hex : (dotted : Bool) (group : ℕ) → group < 65536 → last_groups dotted (hex group) ≡ Some (group ∷ [])
 last_groups-hex true group small =
-    ap (λ t. cond t (option_map two_groups (dotted_address (hex group))) (option_map (λ group. group ∷ []) (hex_group (hex group))))
+    ap (λ t. cond t (option_map (λ value. value / 65536 ∷ value % 65536 ∷ []) (dotted_address (hex group))) (option_map (λ group. group ∷ []) (hex_group (hex group))))
     (list_any_none (λ b. b == 46) (hex group) (Lacks-digits 46 no_point 16 group (omega arith) (omega arith) (omega arith)))
     ∙ ap (option_map (λ group. group ∷ [])) (hex_group-digits group small)
 last_groups-hex false group small = ap (option_map (λ group. group ∷ [])) (hex_group-digits group small)

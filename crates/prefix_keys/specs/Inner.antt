@@ -13,8 +13,6 @@ more_groups count number (Some groups) =
     else None
 more_groups count number None = None
 
--- Prefixes of a text, for the contracts of private functions. Callers of the crate need not read them.
-
 -- the text is a group followed by the rest
 pub record BeginsWithGroup (text rest : List ℕ) (group : ℕ) : Type 0 where
   pub front : List ℕ

@@ -23,10 +23,7 @@ decimal_number digits limit text =
 
 -- a number of one to three digits, at most the limit
 abbrev pub short_number : ℕ → List ℕ → Option ℕ
-short_number limit text =
-    if nat_le 1 (length text) && (nat_le (length text) 3 && (list_all is_digit text && nat_le (decimal_value text) limit))
-    then Some (decimal_value text)
-    else None
+short_number limit text = decimal_number 3 limit text
 
 -- the number of four bytes, the first the highest, if each exists
 abbrev pub four_bytes : Option ℕ → Option ℕ → Option ℕ → Option ℕ → Option ℕ
@@ -59,14 +56,10 @@ abbrev pub hex_group : List ℕ → Option ℕ
 hex_group text =
     if nat_le 1 (length text) && (nat_le (length text) 4 && list_all is_hex_digit text) then Some (hex_value text) else None
 
--- the two groups of an IPv4 address
-abbrev pub two_groups : ℕ → List ℕ
-two_groups value = value / 65536 ∷ value % 65536 ∷ []
-
 -- the groups of the last piece: one group, or two if an IPv4 text is allowed and the piece is one
 abbrev pub last_groups : Bool → List ℕ → Option (List ℕ)
 last_groups true piece = if list_any (λ b. b == 46) piece
-    then option_map two_groups (dotted_address piece)
+    then option_map (λ value. value / 65536 ∷ value % 65536 ∷ []) (dotted_address piece)
     else option_map (λ group. group ∷ []) (hex_group piece)
 last_groups false piece = option_map (λ group. group ∷ []) (hex_group piece)
 

@@ -1,5 +1,4 @@
-ghost use Rattle.std.specs.Prelude.{◌≡◌, ◌≤◌, ◌↔◌, ◌&&◌, IsSome, IfSome, IsTrue, nat_le};
-ghost use Rattle.prefix_keys.specs.Block.{block_number, first_of, last_of, width_of};
+ghost use Rattle.std.specs.Prelude.{◌≡◌, ◌≤◌, ◌↔◌, IsSome, IfSome, IsTrue};
 
 use crate::addr::Addr;
 use crate::block::Block;
@@ -40,12 +39,7 @@ impl Span {
 
     /// Returns `true` if the span covers every address of the block.
     pub fn covers_block(&self, block: &Block) -> bool
-        ensures meaning { IsTrue result ↔ SpanCoversBlock self.now block.now }
-        ensures interval { let W = width_of block.now.version in
-            let q = block_number W block.now.len block.now.value in
-            self.now.low.version ≡ block.now.version →
-            result ≡ (nat_le self.now.low.value (first_of W block.now.len q)
-            && nat_le (last_of W block.now.len q) self.now.high.value) }
+        ensures { IsTrue result ↔ SpanCoversBlock self.now block.now }
     {
         if self.low.version != block.version {
             return false;
@@ -55,12 +49,7 @@ impl Span {
 
     /// Returns `true` if the span covers some address of the block.
     pub fn meets(&self, block: &Block) -> bool
-        ensures meaning { IsTrue result ↔ SpanMeetsBlock self.now block.now }
-        ensures interval { let W = width_of block.now.version in
-            let q = block_number W block.now.len block.now.value in
-            self.now.low.version ≡ block.now.version →
-            result ≡ (nat_le self.now.low.value (last_of W block.now.len q)
-            && nat_le (first_of W block.now.len q) self.now.high.value) }
+        ensures { IsTrue result ↔ SpanMeetsBlock self.now block.now }
     {
         if self.low.version != block.version {
             return false;

@@ -8,9 +8,10 @@ mod dotted;
 use crate::addr::Addr;
 use crate::block::{Block, block_of};
 use crate::cutting::cut;
+use crate::decimal::read_decimal;
 pub use crate::text::colon::leading_colon;
 use crate::text::colon::read_colon;
-use crate::text::dotted::{read_dotted, read_number};
+use crate::text::dotted::read_dotted;
 use crate::version::Version;
 use thiserror::Error;
 
@@ -64,7 +65,7 @@ pub fn read_block(text: &[u8]) -> Result<Block, BlockFault>
     let Some(addr) = read_addr(front) else {
         return Err(BlockFault::BadAddress);
     };
-    let Some(len) = read_number(back, addr.version.width()) else {
+    let Some(len) = read_decimal(back, 3, addr.version.width()) else {
         return Err(BlockFault::BadLength);
     };
     Ok(block_of(addr, len))

@@ -14,6 +14,12 @@ struct Groups {
     ghost in_range: { number < 2 ^ (16 * count) },
 }
 
+// No groups.
+const NONE: Groups = Groups {
+    count: 0,
+    number: 0,
+};
+
 impl Groups {
     // Returns these groups followed by `group`, or `None` if there are eight already.
     fn push(self, group: u32) -> Option<Groups>
@@ -83,10 +89,7 @@ fn read_groups(text: &[u8], dotted: bool) -> Option<Groups>
     ensures { option_map (λ groups. (groups.count, groups.number)) result
         ≡ more_groups 0 0 (text_groups dotted text.now) }
 {
-    let mut groups = Groups {
-        count: 0,
-        number: 0,
-    };
+    let mut groups = NONE;
     let mut rest = text;
     loop {
         let (piece, behind) = cut(rest, b':');
@@ -105,10 +108,7 @@ fn read_side(text: &[u8], dotted: bool) -> Option<Groups>
         ≡ more_groups 0 0 (side_groups dotted text.now) }
 {
     if text.is_empty() {
-        Some(Groups {
-            count: 0,
-            number: 0,
-        })
+        Some(NONE)
     } else {
         read_groups(text, dotted)
     }
@@ -197,10 +197,7 @@ fn behind_colon(text: &[u8]) -> Option<&[u8]>
 fn leading_groups(text: &[u8]) -> Option<(Groups, &[u8])>
     ensures { IfSome result (λ r. BeginsWithSide text.now r.1.now r.0.count r.0.number) }
 {
-    let mut groups = Groups {
-        count: 0,
-        number: 0,
-    };
+    let mut groups = NONE;
     let mut rest = text;
     loop {
         let (group, behind) = leading_group(rest)?;
@@ -219,13 +216,7 @@ fn leading_side(text: &[u8]) -> Option<(Groups, &[u8])>
 {
     match text.first() {
         Some(byte) if digit_value(*byte).is_some() => leading_groups(text),
-        _ => {
-            let none = Groups {
-                count: 0,
-                number: 0,
-            };
-            Some((none, text))
-        }
+        _ => Some((NONE, text)),
     }
 }
 

@@ -15,4 +15,4 @@ loop-rest-preserved g c =
     let rest = c.loop-rest.rest.now in
     let count = c.in-Ok.count in
     let some : 0 < count = omega arith in
-    (front ++ take count rest, moves_front _ front rest count split, Appends-trans _ _ _ _ _ appended c.in-Ok.ensures.taken, c.in-Ok.ensures.fails.some_taken some ∙ sound)
+    (front ++ take count rest, moves_front _ front rest count split, Appends-trans _ _ _ _ _ appended c.in-Ok.ensures.taken, c.in-Ok.ensures.fails ∙ grind (arith, some, sound))

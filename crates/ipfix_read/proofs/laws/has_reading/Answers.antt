@@ -2,4 +2,4 @@ use Rattle.ipfix_read.proofs.Readings.{has_reading}
 use Rattle.ipfix_read.proofs.laws.has_reading.Goals as goal
 
 pub returns : goal.returns
-returns c = has_reading c.has_reading.ensures
+returns c = has_reading

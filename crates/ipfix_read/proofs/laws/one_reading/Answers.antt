@@ -2,4 +2,4 @@ use Rattle.ipfix_read.proofs.Readings.{one_reading}
 use Rattle.ipfix_read.proofs.laws.one_reading.Goals as goal
 
 pub returns : goal.returns
-returns c = one_reading c.one_reading.ensures
+returns c = one_reading

@@ -5,7 +5,7 @@ use Rattle.ipfix_templates.specs.InForce.{template_at}
 use Rattle.ipfix_templates.proofs.Parts.{in_parts}
 use Rattle.ipfix_templates.proofs.History.{keyed_found}
 use Rattle.ipfix_templates.proofs.table.TemplateTable.get.Goals as goal
-use Rattle.ipfix_templates.proofs.table.TemplateTable.get.Goals.{In-Some, In-None}
+use Rattle.ipfix_templates.proofs.table.TemplateTable.get.Goals.{In-Some}
 
 in_flow : (c : In-Some) → Some c.in-Some.template.now ≡ template_at c.args.self.now c.args.domain c.args.id
 in_flow c =

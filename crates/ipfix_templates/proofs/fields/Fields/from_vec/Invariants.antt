@@ -2,7 +2,7 @@ use Rattle.std.proofs.Common.{◌≡◌, ◌*◌, ◌≤◌, ◌++◌, take, dro
 use Rattle.std.specs.Prelude.{filter}
 use Rattle.ipfix_templates.specs.Field.{has_bytes, least_length}
 use Rattle.ipfix_templates.specs.Runs.{runs_behind, last_run_behind}
-use Rattle.ipfix_templates.proofs.fields.layout_of.Given as goal
+use Rattle.ipfix_templates.proofs.fields.Fields.from_vec.Given as goal
 
 abbrev pub invariant-loop-field : goal.invariant-loop-field
 invariant-loop-field l = record {
