@@ -46,40 +46,34 @@ abbrev pub label_where : Option Labelling → AddressOf → Option Label
 label_where None address = None
 label_where (Some l) address = label_by l address
 
--- the labelling of a labeller, by its version and its labels
 abbrev pub labelling_by : {L : Type 0} → (L → Version) → (L → ℕ → Option Label) → L → Labelling
 labelling_by version_of label_of labeller = record { version = version_of labeller; label = label_of labeller }
 
--- the labelling of a labeller that may be missing
 abbrev pub labelling_lent : {L : Type 0} → (L → Version) → (L → ℕ → Option Label) → Option (Bor L) → Option Labelling
 labelling_lent version_of label_of labeller = option_map (λ l. labelling_by version_of label_of l.now) labeller
 
--- one of the entries that cover the address such that none of them is longer, or none if no entry covers it; for the
--- contracts of private functions
+-- one of the longest entries that cover the address, for the contracts of private functions
 abbrev pub IsLongest : List Entry → Addr → Option Entry → Type 0
 IsLongest entries addr None = All (λ e. BlockCovers e.block addr → ⊥) entries
 IsLongest entries addr (Some e) =
     Contains entries e × BlockCovers e.block addr × All (λ r. BlockCovers r.block addr → r.block.len ≤ e.block.len) entries
 
--- A trie of label numbers, with the table of their texts.
+-- a trie of label numbers, with the table of their texts
 pub record TrieLabels : Type 0 where
   pub trie : TrieModel
   pub table : List Label
 
--- each label number in the trie has a text in the table
 abbrev pub AreNumbersKnown : TrieModel → List Label → Type 0
 AreNumbersKnown t table = All (λ leaf. ForSome leaf.label (λ id. id < length table)) t.leaves
 
--- the text of the label that the trie gives an address
 abbrev pub trie_label : TrieLabels → ℕ → Option Label
 trie_label l a = option_and_then (slice_get l.table) (label_in l.trie a)
 
--- An index of stretches as contracts see it: the stretches, and the table of their labels.
+-- stretches, with the table of their labels
 pub record StretchModel : Type 0 where
   pub table : List Label
   pub stretches : StretchesModel
 
--- the labelling of the index
 abbrev pub labelling_of_stretches : StretchModel → Labelling
 labelling_of_stretches m = labelling m.stretches.version (text_held m.table m.stretches)
 

@@ -17,7 +17,6 @@ pub use Rattle.label_trie.specs.declared.growing.Part.{Part}
 -- How a list of nodes represents a tree: a node is followed by those of its lower half, and these by those of its
 -- higher half.
 
--- the node of a leaf
 abbrev pub leaf_node : Option LabelId → Node
 leaf_node None = Unlabelled
 leaf_node (Some id) = Labelled id
@@ -39,27 +38,25 @@ grown (Labelled id) low of_number = Tip (Some id)
 grown Unlabelled low of_number = Tip None
 grown (Inner high) low of_number = Fork low (of_number high)
 
--- the tree at an index of the list, as deep as `fuel` allows
+-- the tree at an index, as deep as `fuel` allows
 abbrev pub tree_within : ℕ → List Node → ℕ → Tree
 tree_within zero nodes at = Tip None
 tree_within (suc fuel) nodes at =
     grown (slice_index_or nodes at Unlabelled) (tree_within fuel nodes (at + 1)) (λ number. tree_within fuel nodes number)
 
--- the tree at an index, and the whole tree
 abbrev pub tree_at : List Node → ℕ → Tree
 tree_at nodes at = tree_within (length nodes) nodes at
 
 abbrev pub tree_of : List Node → Tree
 tree_of nodes = tree_at nodes 0
 
--- the nodes are those of one tree over addresses of W bits
+-- over addresses of W bits
 pub record IsTrie (W : ℕ) (nodes : List Node) : Type 0 where
   pub here : IsAt nodes 0 (tree_of nodes)
   pub all : size (tree_of nodes) ≡ length nodes
   pub room : HasRoom (tree_of nodes) W
   pub few : length nodes ≤ 2 ^ 32
 
--- the node with the number `at` represents the block
 pub record IsPlace (nodes : List Node) (at : ℕ) (block : Block) : Type 0 where
   pub here : IsAt nodes at (tree_at nodes at)
   pub small : size (tree_at nodes at) ≤ length nodes
@@ -85,7 +82,6 @@ parted_count W (suc h) n q s =
     else 1 + (parted_count W h (suc n) (2 * q) s + parted_count W h (suc n) (2 * q + 1) s))
     else 0
 
--- the number of blocks that each statement parts, added up
 abbrev pub parted_sum : ℕ → ℕ → ℕ → ℕ → List Statement → ℕ
 parted_sum W h n q [] = 0
 parted_sum W h n q (s ∷ ss) = parted_count W h n q s.span + parted_sum W h n q ss
@@ -97,9 +93,8 @@ pub record IsMapOf (W : ℕ) (ss : List Statement) (default : Option LabelId) (m
   pub known : All (λ s. s.label.0 < length m.table) ss
   pub fallback : ForSome default (λ id. (id.0 < length m.table) × (text_at m.table id.0 ≡ m.fallback))
 
--- The new nodes are the old ones followed by those of a tree for the block of n bits with the number q. The tree fits
--- each map of these statements. If there is a default, its leaves are labelled. It has at most one leaf, plus one for
--- each block that a statement parts.
+-- the nodes of a tree for the block of n bits with the number q are added; it has at most one leaf, plus one for each
+-- block that a statement parts
 pub record AddsTree (W : ℕ) (ss : List Statement) (default : Option LabelId) (n q : ℕ) (old new : List Node) : Type 0 where
   pub tree : Tree
   pub nodes : new ≡ old ++ encode (length old) tree
@@ -107,12 +102,9 @@ pub record AddsTree (W : ℕ) (ss : List Statement) (default : Option LabelId) (
   pub labelled : IsSome default → IsLabelled tree
   pub few : leaf_count tree ≤ 1 + parted_sum W (W - n) n q ss
 
--- the number of a part's block among the blocks of the same length
 abbrev pub part_number : StretchesModel → Part → ℕ
 part_number s p = block_number (width_of s.version) p.len p.first
 
--- the part is a block of the stretches' addresses, and has the indices of the stretches of its first and its last
--- address
 pub record IsPart (s : StretchesModel) (p : Part) : Type 0 where
   pub within : p.len ≤ width_of s.version
   pub block : IsBlock (width_of s.version) p.first p.last p.len (part_number s p)
@@ -126,14 +118,7 @@ pub record HasRoomFor (s : StretchesModel) (p : Part) (count : ℕ) : Type 0 whe
   pub are : AreStretches statements default s
   pub room : count + (1 + 2 * parted_sum (width_of s.version) (width_of s.version - p.len) p.len (part_number s p) statements) ≤ 2 ^ 32
 
--- the new nodes are the old ones followed by those of the part, for all statements that have these stretches
+-- the nodes of the part are added, for all statements that have these stretches
 abbrev pub GrowsTree : StretchesModel → Part → List Node → List Node → Type 0
 GrowsTree s p old new = (ss : List Statement) (default : Option LabelId) → AreStretches ss default s →
     AddsTree (width_of s.version) ss default p.len (part_number s p) old new
-
--- these are the stretches of at most 1000000 statements
-pub record HasFewStatements (s : StretchesModel) : Type 0 where
-  pub statements : List Statement
-  pub default : Option LabelId
-  pub are : AreStretches statements default s
-  pub few : length statements ≤ 1000000

@@ -11,10 +11,8 @@ pub record IsHalf (side : ℕ) (whole half : Block) : Type 0 where
   pub len : half.len ≡ whole.len + 1
   pub number : number_of half ≡ 2 * number_of whole + side
 
--- A node divided into two, whose blocks are the halves of its block and whose leaves together are its leaves. A map
--- that settles no block larger than a leaf there doesn't settle the node's block. At and below the node there are twice
--- as many nodes as leaves, less one. The node's own number is the first, followed by the numbers of the lower half and
--- then those of the higher half.
+-- A node and its two halves. A map that settles no block larger than a leaf there doesn't settle the node's block. At
+-- and below a node there are twice as many nodes as leaves, less one.
 pub record IsDivided (whole low high : CursorModel) : Type 0 where
   pub low_half : IsHalf 0 whole.block low.block
   pub high_half : IsHalf 1 whole.block high.block

@@ -18,7 +18,6 @@ abbrev pub leaves_of : Tree → ℕ → ℕ → List LeafModel
 leaves_of (Tip label) n q = record { bits = n; number = q; label = option_map (λ id. id.0) label } ∷ []
 leaves_of (Fork low high) n q = leaves_of low (suc n) (2 * q) ++ leaves_of high (suc n) (2 * q + 1)
 
--- the number of leaves
 abbrev pub leaf_count : Tree → ℕ
 leaf_count (Tip label) = 1
 leaf_count (Fork low high) = leaf_count low + leaf_count high
@@ -28,11 +27,10 @@ abbrev pub size : Tree → ℕ
 size (Tip label) = 1
 size (Fork low high) = 1 + (size low + size high)
 
--- the node at the top of a tree
 abbrev pub top_of : Tree → ℕ → ℕ → NodeModel
 top_of tree n q = record { bits = n; number = q; leaves = leaves_of tree n q }
 
--- the nodes of a tree: the one at the top, followed by those of the lower half and those of the higher half
+-- the node at the top, followed by those of the lower half and those of the higher half
 abbrev pub nodes_of : Tree → ℕ → ℕ → List NodeModel
 nodes_of (Tip label) n q = top_of (Tip label) n q ∷ []
 nodes_of (Fork low high) n q =
@@ -56,7 +54,6 @@ abbrev pub Settles : MapModel → Option LabelId → ℕ → ℕ → Type 0
 Settles m None n q = last_such (meets (width_of m.version) n q) m.mappings ≡ None
 Settles m (Some id) n q = (id.0 < length m.table) × IsSettled m n q (text_at m.table id.0)
 
--- the leaves of the tree all have labels
 abbrev pub IsLabelled : Tree → Type 0
 IsLabelled (Tip label) = IsSome label
 IsLabelled (Fork low high) = IsLabelled low × IsLabelled high
@@ -73,7 +70,6 @@ abbrev pub IsKindOf : NodeModel → Kind → Type 0
 IsKindOf node (Leaf label) = node.leaves ≡ record { bits = node.bits; number = node.number; label = option_map (λ id. id.0) label } ∷ []
 IsKindOf node Divided = 2 ≤ length node.leaves
 
--- the leaves and the nodes are those of one tree, which is no deeper than an address has bits
 pub record IsOfTree (t : TrieModel) : Type 0 where
   pub tree : Tree
   pub leaves : t.leaves ≡ leaves_of tree 0 0

@@ -6,6 +6,7 @@ use Rattle.prefix_keys.specs.declared.block.Block.{Block}
 use Rattle.pmap_text.specs.ListModel.{ListModel, label_below, lies_inside}
 use Rattle.pmap_text.specs.MapModel.{MapModel, IsSettled, settled_label}
 use Rattle.pmap_text.specs.MapText.{text_at}
+pub use Rattle.pmap_text.specs.PrefixList.{number_of_block as number_of}
 use Rattle.label_trie.specs.declared.leaf.Leaf.{Leaf}
 
 -- A trie as contracts see it: its leaves, in rising order of their addresses, and its nodes.
@@ -60,19 +61,13 @@ abbrev pub IsUndivided : MapModel → LeafModel → Type 0
 IsUndivided m leaf = (k : ℕ) → k < leaf.bits → settled_label m k (leaf.number / 2 ^ (leaf.bits - k)) ≡ None
 
 -- The prefix list decides the whole block of the leaf: no entry lies strictly inside the block, and the longest entry
--- that covers it has the leaf's label. If no entry covers the block, the leaf has no label. The label is in the list's
--- label table.
+-- that covers it has the leaf's label. If no entry covers the block, the leaf has no label.
 pub record IsDecidedLeaf (l : ListModel) (leaf : LeafModel) : Type 0 where
   pub inside : filter (lies_inside (width_of l.version) leaf.bits leaf.number) l.prefixes ≡ []
   pub longest : label_below (width_of l.version) l.prefixes (suc leaf.bits) (first_of (width_of l.version) leaf.bits leaf.number)
       ≡ option_and_then (slice_get l.table) leaf.label
   pub known : ForSome leaf.label (λ id. id < length l.table)
 
--- the number of a block among the blocks of the same length
-abbrev pub number_of : Block → ℕ
-number_of b = block_number (width_of b.version) b.len b.value
-
--- a leaf as contracts see it
 abbrev pub model_of : Leaf → LeafModel
 model_of leaf =
     record { bits = leaf.block.len; number = number_of leaf.block; label = option_map (λ id. id.0) leaf.label }
@@ -85,7 +80,6 @@ pub record CursorModel : Type 0 where
   pub number : ℕ
   pub nodes : List NodeModel
 
--- the trie's node with the cursor's number has the cursor's block and leaves
 abbrev pub IsNode : CursorModel → Type 0
 IsNode c = slice_get c.nodes c.number
     ≡ Some (record { bits = c.block.len; number = number_of c.block; leaves = c.leaves })

@@ -9,7 +9,7 @@ ghost use Rattle.label_trie.specs.Tree.{IsKindOf, IsOfTree, leaves_of};
 ghost use Rattle.pmap_text.specs.Stretches.{AreStretches};
 ghost use Rattle.pmap_text.specs.declared.label.LabelId.{LabelId as LabelNumber};
 ghost use Rattle.pmap_text.specs.declared.statement.Statement.{Statement};
-ghost use Rattle.label_trie.specs.Inner.{AddsTree, HasFewStatements, IsTrie, tree_of};
+ghost use Rattle.label_trie.specs.Inner.{AddsTree, IsTrie, tree_of};
 ghost use Rattle.label_trie.specs.TrieModel.{model_of, IsCut, IsDecidedLeaf, IsSettledLeaf, IsUndivided, label_among, label_in};
 
 use crate::cursor::{Cursor, Parts, cursor_at};
@@ -166,7 +166,8 @@ impl Trie {
 
 // Returns the nodes of the trie of some statements, given their stretches.
 fn grow(alloc: Global, stretches: &Stretches) -> Result<Vec<Node>, AllocError>
-    requires { HasFewStatements stretches.now }
+    requires { (ss : List Statement) × (default : Option LabelNumber) ×
+        AreStretches ss default stretches.now × (length ss ≤ 1000000) }
     ensures { IfOk result (λ nodes. (ss : List Statement) (default : Option LabelNumber) →
         AreStretches ss default stretches.now → AddsTree (width_of stretches.now.version) ss default 0 0 [] nodes.items) }
 {

@@ -141,5 +141,4 @@ TakenCases old new r =
 pub taken-cases : (old new : Earlier) (r : Result Entry MapFaultKind) → Takes old new r → TakenCases old new r
 taken-cases old new (Ok (Lists v p)) taken = inr (p, ap (λ (e : Earlier). e.prefixes) taken.0, inl (taken.0, refl, taken.1))
 taken-cases old new (Ok entry) taken = inl (taken.0, ap (λ (e : Earlier). e.prefixes) taken.0)
-taken-cases old new (Err DuplicateBlock) taken = inr (taken.prefix, taken.prefixes, inr (refl, taken.known))
-taken-cases old new (Err kind) taken = absurd taken
+taken-cases old new (Err kind) taken = inr ((taken.1).prefix, (taken.1).prefixes, inr (ap Err taken.0, (taken.1).known))

@@ -1,5 +1,6 @@
 -- A prefix list's entries as statements painted over one another, the short ones first.
-use Rattle.std.proofs.Common.{◌≡◌, ℕ, suc, ◌-◌, ◌<◌, ◌≤◌, List, [], ◌∷◌, Option, Some, None, option_and_then, map, length, refl, sym, ap, ◌∙◌, subst, arith, All, Contains, slice_get}
+use Rattle.std.proofs.Common.{◌≡◌, ℕ, suc, ◌-◌, ◌<◌, ◌≤◌, List, [], ◌∷◌, Option, Some, None, option_and_then, option_map, map, length, refl, sym, ap, ◌∙◌, subst, arith, All, Contains, slice_get}
+use Rattle.std.specs.Option.{option_or}
 use Rattle.std.specs.List.{AllZip}
 use Rattle.std.proofs.lemmas.List.Elements.{All-contains, All-cons, All-head, All-map, All-nil, All-tail, All-weaker}
 use Rattle.std.proofs.lemmas.List.Sorted.{All-permutation, IsPermutation-map, IsPermutation-sym, length_permutation}
@@ -11,7 +12,7 @@ use Rattle.pmap_text.specs.ListModel.{Prefix, list_label}
 use Rattle.pmap_text.specs.MapModel.{Label, Mapping, last_such, spans}
 use Rattle.pmap_text.specs.MapText.{mapping_of, text_at, Statement}
 use Rattle.pmap_text.specs.PrefixList.{AreShortestFirst, HasStatement, list_of, prefix_of, Entry, PrefixList}
-use Rattle.pmap_text.specs.Stretches.{mappings_of, text_or, text_won}
+use Rattle.pmap_text.specs.Stretches.{mappings_of, text_won}
 use Rattle.pmap_text.proofs.Finds.{Contains-from_map, distinct_same}
 use Rattle.pmap_text.proofs.ListBlocks.{block_short, same_block-from}
 use Rattle.pmap_text.proofs.Longest.{AreBlocks, label_seen}
@@ -80,7 +81,7 @@ list_blocks l =
 record IsWon (W a : ℕ) (table : List Label) (ps : List Prefix) (o : Option Mapping) : Type 0 where
   label : Option ℕ
   seen : IsSeen W table ps W a label
-  text : text_or o None ≡ option_and_then (slice_get table) label
+  text : option_or (option_map (λ m. m.label) o) None ≡ option_and_then (slice_get table) label
 
 won : (W a : ℕ) (table : List Label) (ps : List Prefix) (ss : List Statement) → IsRising W ps → All (λ s. s.label.0 < length table) ss
     → (o : Option Mapping) → last_such (spans a) (mappings_of table ss) ≡ o → IsWhole W W a (map (painted W) ps) o → IsWon W a table ps o

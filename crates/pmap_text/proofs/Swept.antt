@@ -7,12 +7,12 @@ use Rattle.std.proofs.lemmas.List.Sorted.{Contains-permutation, IsNonDecreasingB
 use Rattle.std.proofs.lemmas.Option.{same_Some, slice_get_within}
 use Rattle.pmap_text.specs.declared.statement.Statement.{Statement}
 use Rattle.pmap_text.specs.Starting.{start_of, IsStart, AreStarts, Start}
-use Rattle.pmap_text.specs.Inner.{AreBehind, Closes, HasBegun, IsSwept, IsTop, IsWinner, Opens, high_won}
+use Rattle.pmap_text.specs.Inner.{Closes, IsSwept, IsTop, IsWinner, Opens, high_won}
 use Rattle.pmap_text.proofs.Finds.{Contains-cases, Contains-first, Contains-later}
 
 -- if the first of a rising list is after an address, all are
 behind_first : (coming : List Start) (first : ℕ) (e : Start) → IsNonDecreasingBy (λ start. start.low) coming → 0 < length coming
-    → e ≡ get_or coming 0 e → first < e.low → AreBehind first coming
+    → e ≡ get_or coming 0 e → first < e.low → All (λ start. first < start.low) coming
 behind_first coming first e up some is behind k d below =
     let least = up 0 k d (omega arith) below in
     let same : get_or coming 0 d ≡ e = sym (get_or_read coming 0 e some is d) in
@@ -20,7 +20,7 @@ behind_first coming first e up some is behind k d below =
     omega (arith, low, behind)
 
 pub behind_coming : (ss : List Statement) (starts : List Start) (next first : ℕ) (e : Start) → AreStarts ss starts → next < length starts
-    → e ≡ get_or starts next e → first < e.low → AreBehind first (drop next starts)
+    → e ≡ get_or starts next e → first < e.low → All (λ start. first < start.low) (drop next starts)
 behind_coming ss starts next first e are within is behind =
     let long = length-drop next starts in
     let here : get_or (drop next starts) 0 e ≡ get_or starts next e = get_or-drop next starts 0 e ∙ ap (λ (k : ℕ). get_or starts k e) (let z : next + 0 ≡ next = omega arith in z) in
@@ -137,8 +137,8 @@ pub high_is : (ss : List Statement) (end : ℕ) (won : Option ℕ) (j : ℕ) (s 
 high_is ss end won j s is listed = rw (is, listed) refl
 
 -- those that are open have numbers of statements
-pub open_known : (ss : List Statement) (first j : ℕ) → HasBegun ss first j → j < length ss
-open_known ss first j begun = slice_get_within ss j begun.statement begun.listed
+pub open_known : (ss : List Statement) (first j : ℕ) → ((s : Statement) × (slice_get ss j ≡ Some s) × (s.span.low.value ≤ first)) → j < length ss
+open_known ss first j begun = slice_get_within ss j begun.0 begun.1
 
 module _ (ss : List Statement) (starts : List Start) (next : ℕ) (won : Option ℕ) (opened : List ℕ) (first : ℕ)
     (swept : IsSwept ss starts next won opened first) where
@@ -171,8 +171,7 @@ module _ (ss : List Statement) (starts : List Start) (next : ℕ) (won : Option 
       within = omega (arith, within);
       top = opens.top;
       begun = λ j active. elim (opens.fewer j active) [
-        | inl same ↦ subst (HasBegun ss first) (sym same)
-            (record { statement = start.statement; listed = start.listed; low = omega (arith, start.low, low) })
+        | inl same ↦ (start.statement, ap (slice_get ss) same ∙ start.listed, omega (arith, start.low, low))
         | inr before ↦ swept.begun j before
       ];
       pending = λ j a covers from. elim (swept.pending j a covers from) [
@@ -197,13 +196,13 @@ module _ (ss : List Statement) (starts : List Start) (next : ℕ) (won : Option 
     ]
 
   -- the winner wins up to an address that is before the next start and not after its own end
-  module _ (end last : ℕ) (to : last ≤ high_won ss end won) (behind : AreBehind last (drop next starts)) where
+  module _ (end last : ℕ) (to : last ≤ high_won ss end won) (behind : All (λ start. last < start.low) (drop next starts)) where
     pub wins : (a : ℕ) → first ≤ a → a ≤ last → IsWinner ss a won
     wins a from below = record {
       covers = λ j is.
           let begun = swept.begun j (inl is) in
-          let high = high_is ss end won j begun.statement is begun.listed in
-          record { statement = begun.statement; listed = begun.listed; low = omega (arith, begun.low, from); high = omega (arith, high, to, below) };
+          let high = high_is ss end won j begun.0 is begun.1 in
+          record { statement = begun.0; listed = begun.1; low = omega (arith, begun.2, from); high = omega (arith, high, to, below) };
       most = λ j covers. elim (swept.pending j a covers from) [
         | inl (inl is) ↦ rw is (omega arith)
         | inl (inr has) ↦ swept.top j has
@@ -217,8 +216,7 @@ module _ (ss : List Statement) (starts : List Start) (next : ℕ) (won : Option 
     swept_later from = record {
       within = swept.within;
       top = swept.top;
-      begun = λ j active. let begun = swept.begun j active in
-          record { statement = begun.statement; listed = begun.listed; low = omega (arith, begun.low, from) };
+      begun = λ j active. let begun = swept.begun j active in (begun.0, begun.1, omega (arith, begun.2, from));
       pending = λ j a covers after. swept.pending j a covers (omega (arith, from, after));
       later = All-weaker (λ start. last < start.low) (λ start. last + 1 ≤ start.low) (λ start less. omega (arith, less)) (drop next starts) behind;
     }

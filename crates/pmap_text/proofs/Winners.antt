@@ -1,6 +1,6 @@
 -- The statement that wins at an address, by its number, and as contracts see it.
 use Rattle.std.proofs.Common.{◌≡◌, ◌≢◌, ◌∙◌, ℕ, ◌+◌, ◌^◌, ◌<◌, ◌≤◌, Bool, true, false, not, List, [], Some, None, Option, All, Contains, length, option_and_then, option_map, slice_get, refl, sym, ap, subst, arith}
-use Rattle.std.specs.Option.{ForSome, option_eq}
+use Rattle.std.specs.Option.{ForSome, option_eq, option_or}
 use Rattle.std.specs.Prelude.{nat_eq}
 use Rattle.std.proofs.lemmas.Bool.{eq-eqb, eqb-true}
 use Rattle.std.proofs.lemmas.List.Elements.{All-contains}
@@ -9,7 +9,7 @@ use Rattle.prefix_keys.specs.Block.{width_of}
 use Rattle.prefix_keys.specs.declared.version.Version.{Version}
 use Rattle.pmap_text.specs.MapModel.{Label, MapModel, Mapping}
 use Rattle.pmap_text.specs.MapText.{mapping_of, text_at, Statement}
-use Rattle.pmap_text.specs.Stretches.{HasStretch, label_seen, mappings_of, text_or, text_won, LabelId}
+use Rattle.pmap_text.specs.Stretches.{HasStretch, label_seen, mappings_of, text_won, LabelId}
 use Rattle.pmap_text.specs.Inner.{IsWinner, statement_won}
 use Rattle.pmap_text.proofs.Orders.{known_text}
 use Rattle.pmap_text.proofs.Seen.{none_at, seen_at, seen_last}
@@ -105,7 +105,7 @@ pub known_won : (count : ℕ) (ss : List Statement) (default : Option LabelId) (
 known_won count ss default won label known fallback is = rw is (known_label count ss default (statement_won ss won) known fallback (listed_won ss won))
 
 label_text : (table : List Label) (default : Option LabelId) (top : Option Statement) → ForSome (label_seen default top) (λ id. id.0 < length table)
-    → text_or (option_map (mapping_of table) top) (option_map (λ id. text_at table id.0) default)
+    → option_or (option_map (λ m. m.label) (option_map (mapping_of table) top)) (option_map (λ id. text_at table id.0) default)
     ≡ option_and_then (λ id. slice_get table id.0) (label_seen default top)
 label_text table None None known = refl
 label_text table (Some id) None known = sym (known_text table id.0 (known id refl))

@@ -14,15 +14,13 @@ abbrev pub from_last : {X : Type 0} → (X → Bool) → List X → List X
 from_last p [] = []
 from_last p (x ∷ xs) = if list_any p xs then from_last p xs else x ∷ xs
 
--- a statement meets the block, or covers all of it, whatever its label
 abbrev pub statement_meets : ℕ → ℕ → ℕ → Statement → Bool
 statement_meets W n q s = meets W n q (mapping_of [] s)
 
 abbrev pub statement_spans : ℕ → ℕ → ℕ → Statement → Bool
 statement_spans W n q s = spans_all W n q (mapping_of [] s)
 
--- the statements that meet the block of n bits with the number q, from the last one that covers all of it (all of them
--- if none does), in the order given
+-- the statements that meet the block of n bits with the number q, from the last one that covers all of it
 abbrev pub carried : ℕ → ℕ → ℕ → List Statement → List Statement
 carried W n q ss = from_last (statement_spans W n q) (filter (statement_meets W n q) ss)
 

@@ -1,4 +1,4 @@
-use Rattle.std.specs.Prelude.{ℕ, ◌*◌, ◌-◌, ◌/◌, ◌%◌, ◌^◌, List, bit_and, bit_or, bit_xor, drop, length, ◌≡◌, ◌||◌, ◌==◌, Bool, true, false, ◌∷◌, ◌++◌, Some, Ok, ◌+◌, ◌<◌, ◌≤◌, ◌⊎◌, Option, All, Contains, IsSomeAnd, option_and_then, option_map, slice_get, unwrap_or, ◌&&◌, None, take, ◌≢◌, [], Result, Err, IfErr, IfOk, OnErr, OnOk}
+use Rattle.std.specs.Prelude.{ℕ, ◌*◌, ◌-◌, ◌/◌, ◌%◌, ◌^◌, List, bit_and, bit_or, bit_xor, drop, length, ◌≡◌, ◌||◌, ◌==◌, Bool, true, false, ◌∷◌, ◌++◌, Some, Ok, ◌+◌, ◌≤◌, ◌⊎◌, Option, All, Contains, IsSomeAnd, option_and_then, option_map, slice_get, unwrap_or, ◌&&◌, None, take, ◌≢◌, [], Result, Err, IfErr, IfOk, OnErr, OnOk}
 use Rattle.std.specs.Int.{from_le_bytes, w64}
 use Rattle.std.specs.List.{fold, list_all, list_any, IsDistinct}
 use Rattle.std.specs.Simd.{first_chunks}
@@ -25,60 +25,46 @@ use Rattle.pmap_text.specs.MapModel.{Label}
 abbrev pub folded : ℕ → ℕ → ℕ
 folded a b = bit_xor (bit_and (a * b) (2 ^ 64 - 1)) (a * b / 2 ^ 64)
 
--- fewer than eight bytes as a number after a leading 1
-abbrev pub short_word : List ℕ → ℕ
-short_word = fold (λ word byte. bit_or (word * 2 ^ 8 % 2 ^ 64) byte) 1
-
--- the state after the words of eight bytes
-abbrev pub mixed : ℕ → ℕ → List (List ℕ) → ℕ
-mixed multiplier = fold (λ state word. folded (bit_xor state (from_le_bytes w64 word)) multiplier)
-
--- the hasher after `write(bytes)`
+-- the hasher after `write(bytes)`: the state is mixed with the words of eight bytes, and with the rest after a leading 1
 abbrev pub written : KeyHasher → List ℕ → KeyHasher
 written hasher bytes =
     let multiplier = hasher.hashing.multiplier in
     let count = length bytes / 8 in
-    let state = mixed multiplier hasher.state (first_chunks 8 count bytes) in
-    record hasher { state = folded (bit_xor state (short_word (drop (count * 8) bytes))) multiplier }
+    let mixed = fold (λ state word. folded (bit_xor state (from_le_bytes w64 word)) multiplier) hasher.state (first_chunks 8 count bytes) in
+    let rest = fold (λ word byte. bit_or (word * 2 ^ 8 % 2 ^ 64) byte) 1 (drop (count * 8) bytes) in
+    record hasher { state = folded (bit_xor mixed rest) multiplier }
 
--- the result of `finish`
 abbrev pub finished : KeyHasher → ℕ
 finished hasher = folded hasher.state hasher.hashing.seed
 
 -- Prefixes of a text, for the contracts of private functions. Callers of the crate need not read them.
 
--- a byte of an address, in either form
 abbrev pub is_address_byte : ℕ → Bool
 is_address_byte b = is_hex_digit b || (b == 46 || b == 58)
 
--- the text is a number, at most the limit, followed by the rest
 pub record BeginsWithNumber (text rest : List ℕ) (limit number : ℕ) : Type 0 where
   pub front : List ℕ
   pub whole : text ≡ front ++ rest
   pub reads : short_number limit front ≡ Some number
 
--- the text is an IPv4 address followed by the rest
 pub record BeginsWithDotted (text rest : List ℕ) (number : ℕ) : Type 0 where
   pub front : List ℕ
   pub whole : text ≡ front ++ rest
   pub bytes : list_all (λ b. is_digit b || b == 46) front ≡ true
   pub reads : dotted_address front ≡ Some number
 
--- the text is an address followed by the rest
 pub record BeginsWithAddress (text rest : List ℕ) (addr : Addr) : Type 0 where
   pub front : List ℕ
   pub whole : text ≡ front ++ rest
   pub bytes : list_all is_address_byte front ≡ true
   pub reads : address_of front ≡ Some (addr.version, addr.value)
 
--- the text begins with a blank
 pub record BeginsWithBlank (text : List ℕ) : Type 0 where
   pub blank : ℕ
   pub rest : List ℕ
   pub whole : text ≡ blank ∷ rest
   pub is : is_blank blank ≡ true
 
--- the word is that address, or that block
 abbrev pub IsWord : List ℕ → Word → Type 0
 IsWord word (Address addr) =
     (address_of word ≡ Some (addr.version, addr.value)) × (list_any (λ b. b == 47) word ≡ false)
@@ -87,7 +73,6 @@ IsWord word (block_word block) =
 
 -- How a sweep from the first address to the last finds the statement that wins.
 
--- the statement with the number, if there is a number
 abbrev pub statement_won : List Statement → Option ℕ → Option Statement
 statement_won ss won = option_and_then (slice_get ss) won
 
@@ -95,7 +80,6 @@ statement_won ss won = option_and_then (slice_get ss) won
 abbrev pub high_won : List Statement → ℕ → Option ℕ → ℕ
 high_won ss end won = unwrap_or (option_map (λ s. s.span.high.value) (statement_won ss won)) end
 
--- the statement with the number covers the address
 pub record Covers (ss : List Statement) (a j : ℕ) : Type 0 where
   pub statement : Statement
   pub listed : slice_get ss j ≡ Some statement
@@ -107,12 +91,6 @@ pub record Covers (ss : List Statement) (a j : ℕ) : Type 0 where
 pub record IsWinner (ss : List Statement) (a : ℕ) (won : Option ℕ) : Type 0 where
   pub covers : ForSome won (Covers ss a)
   pub most : (j : ℕ) → Covers ss a j → IsSomeAnd won (λ k. j ≤ k)
-
--- the statement with this number begins at the address or before it
-pub record HasBegun (ss : List Statement) (a j : ℕ) : Type 0 where
-  pub statement : Statement
-  pub listed : slice_get ss j ≡ Some statement
-  pub low : statement.span.low.value ≤ a
 
 -- the number is that of the winner, or one of the others that are open
 abbrev pub IsOpen : Option ℕ → List ℕ → ℕ → Type 0
@@ -127,23 +105,18 @@ IsTop won opened = (j : ℕ) → Contains opened j → IsSomeAnd won (λ k. j �
 pub record IsSwept (ss : List Statement) (starts : List Start) (next : ℕ) (won : Option ℕ) (opened : List ℕ) (first : ℕ) : Type 0 where
   pub within : next ≤ length starts
   pub top : IsTop won opened
-  pub begun : (j : ℕ) → IsOpen won opened j → HasBegun ss first j
+  pub begun : (j : ℕ) → IsOpen won opened j → (s : Statement) × (slice_get ss j ≡ Some s) × (s.span.low.value ≤ first)
   pub pending : (j a : ℕ) (covers : Covers ss a j) → first ≤ a
       → IsOpen won opened j ⊎ Contains (drop next starts) (start_of j covers.statement)
   pub later : All (λ start. first ≤ start.low) (drop next starts)
 
--- those that will be opened begin after the address
-abbrev pub AreBehind : ℕ → List Start → Type 0
-AreBehind a coming = All (λ start. a < start.low) coming
-
--- the last open statement that extends to `first` was removed, together with those that are later
+-- the last open statement that extends to `first` was removed, and those that are later
 pub record Closes (ss : List Statement) (first : ℕ) (old : List ℕ) (won : Option ℕ) (new : List ℕ) : Type 0 where
   pub top : IsTop won new
   pub fewer : (j : ℕ) → IsOpen won new j → Contains old j
   pub goes_on : first ≤ high_won ss first won
   pub closed : (j : ℕ) (s : Statement) → slice_get ss j ≡ Some s → first ≤ s.span.high.value → Contains old j → IsOpen won new j
 
--- the statement with the number was opened
 pub record Opens (won : Option ℕ) (old : List ℕ) (number latest : ℕ) (new : List ℕ) : Type 0 where
   pub top : IsTop (Some latest) new
   pub which : (latest ≡ number) ⊎ (won ≡ Some latest)
@@ -164,19 +137,15 @@ pub record IsSweeping (ss : List Statement) (end first : ℕ) (s : Sweep) : Type
 
 -- How a repeated block is found. This is private, and callers of the crate need not read it.
 
--- two entries have blocks with the same start and length
 abbrev pub same_key : Prefix → Prefix → Bool
 same_key p r = p.start == r.start && p.bits == r.bits
 
--- no entry has the block of an earlier one
 abbrev pub HasDistinctKeys : List Prefix → Type 0
 HasDistinctKeys prefixes = IsDistinct same_key prefixes
 
--- the order of starts and lengths
 abbrev pub key_cmp : ℕ × ℕ → ℕ × ℕ → Ordering
 key_cmp x y = ordering_then (nat_cmp x.0 y.0) (nat_cmp x.1 y.1)
 
--- whether a set of keys has a key
 abbrev pub has_key : List (ℕ × ℕ) → ℕ × ℕ → Bool
 has_key keys k = list_any (λ q. is_eq (key_cmp k q)) keys
 
@@ -186,9 +155,6 @@ IsFirstRepeat ps None = HasDistinctKeys ps
 IsFirstRepeat ps (Some i) =
     (p : Prefix) × (slice_get ps i ≡ Some p) × HasDistinctKeys (take i ps) × (has_prefix (take i ps) p.start p.bits ≡ true)
 
--- Steps of the code, for the contracts of private functions. Callers of the crate need not read them.
-
--- the content of the lines so far, after one more line
 abbrev pub added : Earlier → Entry → Earlier
 added earlier Nothing = earlier
 added earlier (Names name) = record earlier { name = Some name }
@@ -207,39 +173,31 @@ added earlier (Lists version prefix) = record earlier {
   table = with_label earlier.table prefix.label;
 }
 
--- an entry of the line has a block that no earlier entry has
 abbrev pub IsNewIn : Earlier → Entry → Type 0
 IsNewIn earlier (Lists version prefix) = has_prefix earlier.prefixes prefix.start prefix.bits ≡ false
 IsNewIn earlier _ = Unit {0}
 
--- the line has an entry for the block of an earlier one, and the entry was added nevertheless
+-- the line has an entry for the block of an earlier one, and is added nevertheless
 pub record Repeats (old new : Earlier) : Type 0 where
   pub prefix : Prefix
   pub known : has_prefix old.prefixes prefix.start prefix.bits ≡ true
   pub prefixes : new.prefixes ≡ old.prefixes ++ prefix ∷ []
 
-abbrev pub RepeatsAs : Earlier → Earlier → MapFaultKind → Type 0
-RepeatsAs old new DuplicateBlock = Repeats old new
-RepeatsAs old new _ = ⊥
-
--- the line was read, and is the last of the lines so far; or it has an entry for the block of an earlier one
 abbrev pub Takes : Earlier → Earlier → Result Entry MapFaultKind → Type 0
 Takes old new (Ok entry) = (new ≡ added old entry) × IsNewIn old entry
-Takes old new (Err kind) = RepeatsAs old new kind
+Takes old new (Err kind) = (kind ≡ DuplicateBlock) × Repeats old new
 
--- the result if a line isn't read: the fault of the line, or that an allocation failed if the line has no fault
+-- a line without a fault is refused only if an allocation fails
 abbrev pub refusal_of : Result Entry MapFaultKind → MapFaultKind
 refusal_of (Ok entry) = NoMemory
 refusal_of (Err kind) = kind
 
--- the result of reading a line with this content: the line is taken, or its fault is returned, or that an allocation
--- failed, and no entry is added
+-- the result of reading a line: it is taken, or refused, and then no entry is added
 pub record Reads (old new : Earlier) (line : Result Entry MapFaultKind) (result : Result (Unit {0}) MapFaultKind) : Type 0 where
   pub ok : OnOk result (Takes old new line)
   pub err : IfErr result (λ kind. kind ≡ refusal_of line)
   pub kept : OnErr result (new.prefixes ≡ old.prefixes)
 
--- there is room for one more mapping or entry, and for the text that this label means
 abbrev pub has_label_room : Earlier → Bool → Label → Bool
 has_label_room earlier room label = room && has_room earlier.table (meant_text earlier.declared label)
 

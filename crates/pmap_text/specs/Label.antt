@@ -55,15 +55,12 @@ with_declared declared pair = if list_any (λ d. d.0 == pair.0) declared then de
 abbrev pub declared_text : List (ℕ × Label) → ℕ → Option Label
 declared_text declared number = option_map (λ d. d.1) (find (λ d. d.0 == number) declared)
 
--- the pair has the number with another text, or the text with another number
-abbrev pub clashes : ℕ → Label → ℕ × Label → Bool
-clashes number text d = if d.0 == number then not (bytes_eq d.1 text) else bytes_eq d.1 text
-
+-- whether the number has another text, or the text another number
 abbrev pub conflicts : List (ℕ × Label) → ℕ → Label → Bool
-conflicts declared number text = list_any (clashes number text) declared
+conflicts declared number text =
+    list_any (λ d. if d.0 == number then not (bytes_eq d.1 text) else bytes_eq d.1 text) declared
 
--- the text that a label represents: the text of the number if the label is a declared number, otherwise the label
--- itself
+-- the text that a label represents: that of the number if the label is a declared number, otherwise the label itself
 abbrev pub text_of_number : List (ℕ × Label) → Label → Option ℕ → Label
 text_of_number declared label None = label
 text_of_number declared label (Some number) = unwrap_or (declared_text declared number) label
@@ -71,8 +68,6 @@ text_of_number declared label (Some number) = unwrap_or (declared_text declared 
 abbrev pub meant_text : List (ℕ × Label) → Label → Label
 meant_text declared label = text_of_number declared label (label_number label)
 
--- the texts are paired with the numbers: there are equally many, no two numbers and no two texts are equal, and each
--- text is a label
 pub record ArePaired (numbers : List ℕ) (texts : List Label) : Type 0 where
   pub same_count : length texts ≡ length numbers
   pub numbers_once : IsDistinct nat_eq numbers

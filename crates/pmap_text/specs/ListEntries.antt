@@ -5,15 +5,12 @@ use Rattle.pmap_text.specs.declared.entry.Entry.{Entry}
 -- The entries of a prefix list and their blocks. The blocks of one list are of one version, so start and length
 -- identify a block.
 
--- whether an entry has the block of this length with this first address
 abbrev pub has_entry : List Entry → ℕ → ℕ → Bool
 has_entry entries start bits = list_any (λ e. e.block.value == start && e.block.len == bits) entries
 
--- whether two entries have blocks with the same start and length
 abbrev pub same_block : Entry → Entry → Bool
 same_block d e = d.block.value == e.block.value && d.block.len == e.block.len
 
--- no entry has the block of an earlier one
 abbrev pub HasDistinctBlocks : List Entry → Type 0
 HasDistinctBlocks entries = IsDistinct same_block entries
 

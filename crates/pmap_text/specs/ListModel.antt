@@ -13,8 +13,7 @@ pub record Prefix : Type 0 where
   pub bits : ℕ
   pub label : Label
 
--- any finite list of blocks of one version with labels; equal blocks, any labels, and addresses without an entry are
--- allowed
+-- any list of blocks of one version with labels, in which blocks may be equal
 pub record ListModel : Type 0 where
   pub version : Version
   pub name : Option Label
@@ -54,8 +53,7 @@ pub record CoversAddress (W a : ℕ) (p : Prefix) : Type 0 where
   pub fits : p.bits ≤ W
   pub number : block_number W p.bits p.start ≡ block_number W p.bits a
 
--- the entry is the longest of those that cover the address, and of equal blocks the first: each one before it is
--- shorter, and none after it is longer
+-- of those that cover the address, the entry is the longest, and of equal blocks the first
 pub record IsLongestMatch (W : ℕ) (ps : List Prefix) (a : ℕ) (p : Prefix) : Type 0 where
   pub before : List Prefix
   pub behind : List Prefix

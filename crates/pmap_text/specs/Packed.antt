@@ -6,7 +6,6 @@ use Rattle.std.proofs.Common.{refl}
 
 -- How mappings are stored. This is private, and callers of the crate need not read it.
 
--- the mapping that was packed
 abbrev pub narrow_statement : Narrow → Statement
 narrow_statement n = record {
   span = record {

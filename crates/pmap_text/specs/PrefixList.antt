@@ -24,13 +24,10 @@ list_of l = record {
   table = l.labels;
 }
 
--- The entries of a prefix list as statements.
-
--- the number of a block among the blocks of the same length
+-- the number among the blocks of the same length
 abbrev pub number_of_block : Block → ℕ
 number_of_block b = block_number (width_of b.version) b.len b.value
 
--- a statement has the span and the label of an entry
 pub record HasStatement (e : Entry) (s : Statement) : Type 0 where
   pub version : s.span.low.version ≡ e.block.version
   pub low : s.span.low.value ≡ first_of (width_of e.block.version) e.block.len (number_of_block e.block)
@@ -41,7 +38,6 @@ pub record HasStatement (e : Entry) (s : Statement) : Type 0 where
 abbrev pub IsNoShorter : Block → Block → Type 0
 IsNoShorter b c = (a : ℕ) → b.version ≡ c.version → IsInBlock b a → IsInBlock c a → b.len ≤ c.len
 
--- the longer of nested blocks comes later
 abbrev pub LongerLater : List Entry → Type 0
 LongerLater es =
     (i j : ℕ) (d : Entry) → i ≤ j → j < length es → IsNoShorter (slice_index_or es i d).block (slice_index_or es j d).block

@@ -9,7 +9,6 @@ use Rattle.pmap_text.specs.declared.label.LabelId.{LabelId}
 
 -- The state of reading the lines so far: label numbers in place of texts.
 
--- the lines so far, with the texts that the numbers represent
 abbrev pub progress_of : Bool → Option Version → Option Label → List (ℕ × Label) → Option LabelId → List Statement → List Entry → List Label → Earlier
 progress_of mode version name declared default statements entries table = record {
   mode = mode;

@@ -52,8 +52,7 @@ behind_word content = trim_start (drop (position_or_len is_blank content) conten
 
 -- How a text is read as a map or as a prefix list, and the first fault of a text that can't be read.
 
--- the content of a line: nothing, a name, the version, a number for a label text, the label of addresses without a
--- mapping, or a mapping of a map or an entry of a list, with the version of the text
+-- the content of a line; a mapping or an entry comes with the version of the text
 pub data Entry : Type 0 where
   Nothing : Entry
   Names : (name : Label) → Entry
@@ -122,9 +121,7 @@ pub record Earlier : Type 0 where
   pub prefixes : List Prefix
   pub table : List Label
 
--- the content of some lines: whether there is a mode, the version that the first mode or mapping decides, the last
--- name, the declared numbers, the last default, the mappings and the entries in order, and the label texts in the order
--- of first occurrence
+-- the content of some lines; the label texts are in the order of first occurrence
 abbrev pub earlier_of : List Entry → Earlier
 earlier_of entries = record {
   mode = list_any decides_in entries;
@@ -268,8 +265,7 @@ abbrev pub one_or_two : Form → Earlier → AddressOf → Option AddressOf → 
 one_or_two form earlier first None rest = single_line form earlier first rest
 one_or_two form earlier first (Some second) rest = range_line form earlier first second (behind_word rest)
 
--- the fault of a line whose first word begins no statement: a word that looks like an address but isn't one, or any
--- other word
+-- the fault of a line whose first word begins no statement; the word may look like an address
 abbrev pub other_fault : List ℕ → MapFaultKind
 other_fault word = if is_digit (slice_index word 0) || list_any (λ b. b == 58) word then BadAddress else BadStatement
 
@@ -336,11 +332,10 @@ list_from lines = record {
   table = lines.table;
 }
 
--- the map that a text is read as, or the first fault of the text with its line
+-- the map, or the list, that a text is read as, or the first fault of the text with its line
 abbrev pub map_reading : List ℕ → Result MapModel MapFault
 map_reading text = entries_from form.Map [] 0 (lines_of text) >>= (λ entries. Ok (map_from (earlier_of entries)))
 
--- the list that a text is read as, or the first fault of the text with its line
 abbrev pub list_reading : List ℕ → Result ListModel MapFault
 list_reading text = entries_from form.List [] 0 (lines_of text) >>= (λ entries. Ok (list_from (earlier_of entries)))
 

@@ -1,21 +1,16 @@
-use Rattle.std.specs.Prelude.{◌≡◌, ℕ, ◌+◌, List, [], ◌∷◌, Option, Some, None, All, Contains, slice_get}
+use Rattle.std.specs.Prelude.{◌≡◌, ℕ, ◌+◌, List, [], ◌∷◌, Some, All, Contains, slice_get}
 use Rattle.std.specs.List.Sorted.{IsNonDecreasingBy}
 use Rattle.pmap_text.specs.declared.statement.Statement.{Statement}
 pub use Rattle.pmap_text.specs.declared.start.Start.{Start}
 
--- The starts of statements.
-
--- the start of the statement with a number
 abbrev pub start_of : ℕ → Statement → Start
 start_of number s = record { low = s.span.low.value; number = number }
 
--- a start is that of a statement
 pub record IsStart (ss : List Statement) (start : Start) : Type 0 where
   pub statement : Statement
   pub listed : slice_get ss start.number ≡ Some statement
   pub low : statement.span.low.value ≡ start.low
 
--- these are the starts of the statements, in rising order
 pub record AreStarts (ss : List Statement) (starts : List Start) : Type 0 where
   pub each : All (IsStart ss) starts
   pub every : (j : ℕ) (s : Statement) → slice_get ss j ≡ Some s → Contains starts (start_of j s)
@@ -25,8 +20,3 @@ pub record AreStarts (ss : List Statement) (starts : List Start) : Type 0 where
 abbrev pub starts_from : ℕ → List Statement → List Start
 starts_from n [] = []
 starts_from n (s ∷ ss) = start_of n s ∷ starts_from (n + 1) ss
-
--- the starts that are stored, or if none are, those of the statements in their own order
-abbrev pub starts_by : List Statement → Option (List Start) → List Start
-starts_by ss None = starts_from 0 ss
-starts_by ss (Some starts) = starts

@@ -1,6 +1,6 @@
 use Rattle.std.specs.Prelude.{◌≡◌, ◌≢◌, ℕ, ◌+◌, ◌-◌, ◌<◌, ◌≤◌, ◌^◌, List, Option, Some, None, All, Contains, length, map, nat_le, nat_lt, option_and_then, option_map, slice_get, slice_index, slice_index_or, if◌then◌else◌, ◌==◌}
 use Rattle.std.specs.List.{prefix_len}
-use Rattle.std.specs.Option.{ForSome}
+use Rattle.std.specs.Option.{ForSome, option_or}
 use Rattle.prefix_keys.specs.Block.{width_of}
 use Rattle.prefix_keys.specs.declared.version.Version.{Version}
 use Rattle.prefix_keys.specs.declared.version.Version.TheVariants.{V4, V6}
@@ -25,29 +25,20 @@ pub record IsStretch (m : MapModel) (first last : ℕ) (top : Option Mapping) : 
   pub before : (a : ℕ) → a + 1 ≡ first → winner m a ≢ top
   pub behind : last + 1 < 2 ^ width_of m.version → winner m (last + 1) ≢ top
 
--- each statement has an address
 abbrev pub HaveAddresses : List Mapping → Type 0
 HaveAddresses ms = All (λ s. s.low ≤ s.high) ms
 
--- the statements as mappings to the texts of a label table
 abbrev pub mappings_of : List Label → List Statement → List Mapping
 mappings_of table ss = map (mapping_of table) ss
 
--- the label if the statement wins, or if none does
 abbrev pub label_seen : Option LabelId → Option Statement → Option LabelId
 label_seen default None = default
 label_seen default (Some s) = Some s.label
 
--- the label text of the mapping, or the other one if there is no mapping
-abbrev pub text_or : Option Mapping → Option Label → Option Label
-text_or None x = x
-text_or (Some m) x = Some m.label
-
--- the label text that statements give an address: that of the statement that wins there, otherwise that of the default,
--- if there is one
+-- the label text that statements give an address: that of the statement that wins there, otherwise the default's
 abbrev pub text_won : List Label → Option LabelId → List Statement → ℕ → Option Label
 text_won table default ss a =
-    text_or (last_such (spans a) (mappings_of table ss)) (option_map (λ id. text_at table id.0) default)
+    option_or (option_map (λ m. m.label) (last_such (spans a) (mappings_of table ss))) (option_map (λ id. text_at table id.0) default)
 
 -- Among addresses of W bits, those from `first` to `last` are a stretch of each map of these statements, whatever the
 -- texts of its labels. They have the label of the statement that wins there, or the default if none does.
@@ -78,7 +69,6 @@ last_at s i = if nat_lt (i + 1) (length s.firsts) then first_at s (i + 1) - 1 el
 abbrev pub label_at : StretchesModel → ℕ → Option LabelId
 label_at s i = slice_index_or s.labels i None
 
--- the stretch with the index has the address
 pub record HoldsAddress (s : StretchesModel) (a i : ℕ) : Type 0 where
   pub index : i < length s.firsts
   pub from : first_at s i ≤ a
@@ -93,22 +83,19 @@ pub record HasEveryAddress (s : StretchesModel) : Type 0 where
   pub rising : (i j : ℕ) → i < j → j < length s.firsts → first_at s i < first_at s j
   pub within : (i : ℕ) → i < length s.firsts → first_at s i < 2 ^ width_of s.version
 
--- they are the stretches of the statements; the default is the label of the addresses that no statement covers
+-- the default is the label of the addresses that no statement covers
 pub record AreStretches (ss : List Statement) (default : Option LabelId) (s : StretchesModel) : Type 0 where
   pub every : HasEveryAddress s
   pub each : (i : ℕ) → i < length s.firsts
       → HasStretch (width_of s.version) ss default (first_at s i) (last_at s i) (label_at s i)
 
--- each label is the number of a text in a table with this number of texts
 abbrev pub AreLabelsBelow : ℕ → StretchesModel → Type 0
 AreLabelsBelow count s = All (λ label. ForSome label (λ id. id.0 < count)) s.labels
 
--- the number of stretches that begin at the address or before it
 abbrev pub count_begun : List ℕ → ℕ → ℕ
 count_begun firsts a = prefix_len (λ first. nat_le first a) firsts
 
--- the label text, in the table, of the stretch that has the address: the last one that begins at the address or before
--- it
+-- the label text of the stretch that has the address: the last one that begins at the address or before it
 abbrev pub text_held : List Label → StretchesModel → ℕ → Option Label
 text_held table s a = option_and_then (λ id. slice_get table id.0) (label_at s (count_begun s.firsts a - 1))
 
@@ -118,7 +105,6 @@ text_held table s a = option_and_then (λ id. slice_get table id.0) (label_at s 
 abbrev pub label_kept : LabelId → Option LabelId
 label_kept id = if id.0 == 4294967295 then None else Some id
 
--- the stretches that are stored
 abbrev pub stretches_of : Begins → StretchesModel
 stretches_of (Narrow begins) = record {
   version = V4;

@@ -62,40 +62,27 @@ fn leading_dotted(text: &[u8]) -> Option<(u32, &[u8])>
     Some((((a * 256 + b) * 256 + c) * 256 + d, rest))
 }
 
-// Returns the IPv4 address at the start of a text, and the rest of the text.
-#[inline(always)]
-fn leading_narrow(text: &[u8]) -> Option<(Addr, &[u8])>
-    ensures { IfSome result (λ r. BeginsWithAddress text.now r.1.now r.0) }
-{
-    let (value, rest) = leading_dotted(text)?;
-    let addr = Addr {
-        version: Version::V4,
-        value: u128::from(value),
-    };
-    Some((addr, rest))
-}
-
-// Returns the IPv6 address at the start of a text, and the rest of the text.
-#[inline(always)]
-fn leading_wide(text: &[u8]) -> Option<(Addr, &[u8])>
-    ensures { IfSome result (λ r. BeginsWithAddress text.now r.1.now r.0) }
-{
-    let (value, rest) = leading_colon(text)?;
-    let addr = Addr {
-        version: Version::V6,
-        value,
-    };
-    Some((addr, rest))
-}
-
 // Returns the address of either version at the start of a text, and the rest of the text.
 #[inline(always)]
 fn leading_address(text: &[u8]) -> Option<(Addr, &[u8])>
     ensures { IfSome result (λ r. BeginsWithAddress text.now r.1.now r.0) }
 {
-    match leading_narrow(text) {
-        Some(found) => Some(found),
-        None => leading_wide(text),
+    match leading_dotted(text) {
+        Some((value, rest)) => {
+            let addr = Addr {
+                version: Version::V4,
+                value: u128::from(value),
+            };
+            Some((addr, rest))
+        }
+        None => {
+            let (value, rest) = leading_colon(text)?;
+            let addr = Addr {
+                version: Version::V6,
+                value,
+            };
+            Some((addr, rest))
+        }
     }
 }
 

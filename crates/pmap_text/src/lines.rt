@@ -67,7 +67,8 @@ fn content_end(text: &[u8]) -> usize
     memchr2(b'\n', b'#', text).unwrap_or(text.len())
 }
 
-/// Returns the content of the first line of a text (`content`), and the text after its line feed.
+/// Returns the content of the first line of a text, without its comment and outer blanks, and the text after its line
+/// feed.
 #[inline(always)]
 pub fn split_content(text: &[u8]) -> (&[u8], &[u8])
     requires { 0 < length text.now }
@@ -78,7 +79,7 @@ pub fn split_content(text: &[u8]) -> (&[u8], &[u8])
     let end = content_end(text);
     if end < text.len() && text[end] == b'#' {
         let (line, behind) = split_line(text);
-        return (content(line), behind);
+        return (without_outer_blanks(before_comment(line)), behind);
     }
     let (line, behind) = split_at_feed(text, end);
     (without_outer_blanks(line), behind)
@@ -117,13 +118,6 @@ fn without_outer_blanks(text: &[u8]) -> &[u8]
     ensures { result.now ≡ trim_end (trim_start text.now) }
 {
     without_trailing_blanks(without_leading_blanks(text))
-}
-
-/// Returns the content of a line: the text before its comment, without outer blanks.
-pub fn content(line: &[u8]) -> &[u8]
-    ensures { result.now ≡ content_of line.now }
-{
-    without_outer_blanks(before_comment(line))
 }
 
 /// Returns the first word of a line's content, and the text after the blanks that follow it.

@@ -1,10 +1,10 @@
 ghost use Rattle.std.specs.Prelude.{◌≡◌, ◌<◌, ◌≤◌, ◌++◌, ◌∷◌, [], Some, true, false, ◌⊎◌, length, option_map, slice_get, IsTrue, IfOk, IfErr, IfSome, OnOk, OnErr};
 ghost use Rattle.std.specs.Option.{option_or};
-ghost use Rattle.pmap_text.specs.Label.{conflicts as conflicts_of, meant_text, with_declared, has_label, is_label as is_label_text, number_of, with_label};
+ghost use Rattle.pmap_text.specs.Label.{meant_text, has_label, is_label as is_label_text, number_of, with_label};
 ghost use Rattle.pmap_text.specs.Inner.{HasDistinctKeys, IsFirstRepeat};
 ghost use Rattle.pmap_text.specs.MapText.{map_of, text_at};
 ghost use Rattle.pmap_text.specs.PrefixList.{list_of};
-ghost use Rattle.pmap_text.specs.Reading.{Earlier, earlier_of, has_mapping as has_mapping_of, has_prefix as has_prefix_of, has_room, list_from, map_from, version_at as version_at_of, NoMemory, TooMany};
+ghost use Rattle.pmap_text.specs.Reading.{Earlier, earlier_of, has_prefix as has_prefix_of, has_room, list_from, map_from, version_at as version_at_of, NoMemory, TooMany};
 ghost use Rattle.pmap_text.specs.declared.reading.TheConstants.{LABEL_LIMIT, MAPPING_LIMIT};
 
 use crate::declarations::Declarations;
@@ -132,28 +132,6 @@ impl Reading {
         }
     }
 
-    /// Returns `true` if a mode was read.
-    pub fn has_mode(&self) -> bool
-        ensures { result ≡ self.now.mode }
-    {
-        self.mode
-    }
-
-    /// Returns `true` if a mapping or an entry was read.
-    pub fn has_mapping(&self) -> bool
-        ensures { result ≡ has_mapping_of self.now }
-    {
-        self.statements.len() > 0 || self.entries.len() > 0
-    }
-
-    /// Returns the number of mappings.
-    #[inline(always)]
-    pub fn mapping_count(&self) -> usize
-        ensures { result ≡ length self.now.mappings }
-    {
-        self.statements.len()
-    }
-
     /// Returns the number of entries.
     pub fn entry_count(&self) -> usize
         ensures { result ≡ length self.now.prefixes }
@@ -183,52 +161,6 @@ impl Reading {
         self.version.unwrap_or(own)
     }
 
-    /// Returns `true` if the number has another text, or the text another number.
-    pub fn conflicts(&self, number: u32, text: &[u8]) -> bool
-        ensures { result ≡ conflicts_of self.now.declared number text.now }
-    {
-        self.declared.conflicts(number, text)
-    }
-
-    /// Sets the name of the text.
-    pub fn set_name(&mut self, name: &[u8]) -> Result<(), MapFaultKind>
-        requires { IsTrue (is_label_text name.now) }
-        ensures ok { OnOk result (self.new ≡ record self.old { name = Some name.now }) }
-        ensures err { IfErr result (λ kind. kind ≡ NoMemory) }
-        ensures kept { OnErr result (self.new.prefixes ≡ self.old.prefixes) }
-    {
-        let Ok(name) = Name::new(self.alloc, name) else {
-            return Err(MapFaultKind::NoMemory);
-        };
-        self.name = Some(name);
-        Ok(())
-    }
-
-    /// Sets the version that a mode names, unless the version is decided.
-    pub fn set_mode(&mut self, version: Version)
-        ensures { self.new ≡ record self.old { mode = true; version = option_or self.old.version (Some version) } }
-    {
-        self.mode = true;
-        self.version = Some(self.version_at(version));
-    }
-
-    /// Returns the number of the text that a label represents. The text is added to the table if it isn't there.
-    pub fn label_id(&mut self, label: &[u8]) -> Result<LabelId, MapFaultKind>
-        requires { IsTrue (is_label_text label.now) }
-        ensures room { OnOk result (has_room self.old.table (meant_text self.old.declared label.now) ≡ true) }
-        ensures ok { OnOk result (self.new
-            ≡ record self.old { table = with_label self.old.table (meant_text self.old.declared label.now) }) }
-        ensures text { IfOk result (λ id. slice_get self.new.table id.0
-            ≡ Some (meant_text self.old.declared label.now)) }
-        ensures err { IfErr result (λ kind.
-            ((kind ≡ NoMemory) × (has_room self.old.table (meant_text self.old.declared label.now) ≡ true))
-            ⊎ ((kind ≡ TooMany) × (has_room self.old.table (meant_text self.old.declared label.now) ≡ false))) }
-        ensures kept { OnErr result (self.new.prefixes ≡ self.old.prefixes) }
-    {
-        let text = self.declared.meant(label);
-        number_for(&mut self.labels, &mut self.recent, text)
-    }
-
     /// Returns the number of a label that was found recently, if no number is declared. The label's bytes need not be
     /// checked, since each text of the table is a label.
     #[inline(always)]
@@ -247,35 +179,6 @@ impl Reading {
         } else {
             None
         }
-    }
-
-    /// Declares a text for a number.
-    pub fn declare(&mut self, number: u32, text: &[u8]) -> Result<(), MapFaultKind>
-        requires label { IsTrue (is_label_text text.now) }
-        requires agrees { conflicts_of self.old.declared number text.now ≡ false }
-        ensures room { OnOk result (has_room self.old.table text.now ≡ true) }
-        ensures ok { OnOk result (self.new
-            ≡ record self.old {
-              declared = with_declared self.old.declared (number, text.now);
-              table = with_label self.old.table text.now;
-            }) }
-        ensures err { IfErr result (λ kind. ((kind ≡ NoMemory) × (has_room self.old.table text.now ≡ true))
-            ⊎ ((kind ≡ TooMany) × (has_room self.old.table text.now ≡ false))) }
-        ensures kept { OnErr result (self.new.prefixes ≡ self.old.prefixes) }
-    {
-        number_for(&mut self.labels, &mut self.recent, text)?;
-        let Ok(()) = self.declared.add(number, text) else {
-            return Err(MapFaultKind::NoMemory);
-        };
-        Ok(())
-    }
-
-    /// Sets the label of addresses without a mapping.
-    pub fn set_default(&mut self, label: LabelId)
-        requires { label.0 < length self.old.table }
-        ensures { self.new ≡ record self.old { fallback = Some (text_at self.old.table label.0) } }
-    {
-        self.default = Some(label);
     }
 
     /// Adds a mapping of the text's version. Its version decides that of the text if nothing decided before.

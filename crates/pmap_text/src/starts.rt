@@ -16,12 +16,12 @@ pub struct Starts<'a> {
 }
 
 impl<'a> Model for Starts<'a> {
-    ghost use Rattle.std.specs.Prelude.{List, option_map};
-    ghost use Rattle.pmap_text.specs.Starting.{Start, starts_by};
+    ghost use Rattle.std.specs.Prelude.{List, option_map, unwrap_or};
+    ghost use Rattle.pmap_text.specs.Starting.{Start, starts_from};
 
     ghost Value = { List Start };
 
-    ghost view = { λ s. starts_by s.statements.now (option_map (λ v. v.items) s.sorted) };
+    ghost view = { λ s. unwrap_or (option_map (λ v. v.items) s.sorted) (starts_from 0 s.statements.now) };
 }
 
 // Returns `true` if no statement begins before an earlier one.

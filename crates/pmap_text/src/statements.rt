@@ -61,18 +61,6 @@ fn unpack_wide(packed: Wide) -> Statement
     }
 }
 
-// Returns the mappings in order. Memory for all of them is allocated once.
-fn unpacked(alloc: Global, statements: &Statements) -> Result<Vec<Statement>, AllocError>
-    ensures { IfOk result (λ all. all.items ≡ statements.now) }
-{
-    let mut all = Vec::with_capacity(alloc, statements.len())?;
-    for place in 0..statements.len() {
-        let statement = statements.at(place);
-        all.push(statement)?;
-    }
-    Ok(all)
-}
-
 // Packs an IPv4 mapping.
 #[inline(always)]
 fn pack_narrow(statement: Statement) -> Narrow
@@ -139,7 +127,11 @@ impl Statements {
     pub fn to_vec(&self, alloc: Global) -> Result<Vec<Statement>, AllocError>
         ensures { IfOk result (λ all. all.items ≡ self.now) }
     {
-        unpacked(alloc, self)
+        let mut all = Vec::with_capacity(alloc, self.len())?;
+        for place in 0..self.len() {
+            all.push(self.at(place))?;
+        }
+        Ok(all)
     }
 
     /// Appends a mapping. If an allocation fails, the list is unchanged.

@@ -1,7 +1,7 @@
 ghost use Rattle.std.specs.Prelude.{◌≡◌, ◌+◌, ◌<◌, ◌≤◌, ◌^◌, All, IfOk, OnOk, drop, length};
 ghost use Rattle.std.specs.Option.{ForSome};
 ghost use Rattle.prefix_keys.specs.Block.{width_of};
-ghost use Rattle.pmap_text.specs.Inner.{AreBehind, Closes, IsReady, IsSweeping, IsTop, Opens, high_won};
+ghost use Rattle.pmap_text.specs.Inner.{Closes, IsReady, IsSweeping, IsTop, Opens, high_won};
 
 use crate::opened::Opened;
 use crate::starts::Starts;
@@ -138,7 +138,7 @@ fn open_begun(
     ensures goes_on { OnOk result (first ≤ high_won statements.now end sweep.new.won) }
     ensures from { IfOk result (λ before. first ≤ before) }
     ensures to { IfOk result (λ before. before ≤ end) }
-    ensures behind { IfOk result (λ before. AreBehind before (drop sweep.new.next sweep.new.starts)) }
+    ensures behind { IfOk result (λ before. All (λ start. before < start.low) (drop sweep.new.next sweep.new.starts)) }
 {
     while sweep.next < sweep.starts.len() {
         let start = sweep.starts.at(sweep.next);

@@ -1,9 +1,9 @@
 //! The reading of one line of a text.
-ghost use Rattle.std.specs.Prelude.{◌≡◌, ◌<◌, ◌≤◌, ◌==◌, ◌⊎◌, Some, Ok, Err, true, false, length, slice_get, slice_index, IsTrue, IfOk, IfErr, OnOk, OnErr};
+ghost use Rattle.std.specs.Prelude.{◌≡◌, ◌<◌, ◌≤◌, ◌==◌, ◌⊎◌, Some, Ok, Err, true, false, length, slice_get, IsTrue, IfOk, IfErr, OnOk, OnErr};
 ghost use Rattle.std.specs.List.{list_any};
-ghost use Rattle.prefix_keys.specs.Text.{address_of, block_of_text, is_digit};
+ghost use Rattle.prefix_keys.specs.Text.{address_of, block_of_text};
 ghost use Rattle.pmap_text.specs.Label.{label_number as number_of_label, meant_text, is_label as is_label_text, with_label};
-ghost use Rattle.pmap_text.specs.Reading.{first_word, Lists, address_line, block_line, content_line, decided, declared_line, default_line, label_line, label_of, mode_line, mode_version, name_line, one_or_two, other_fault, placed_line, prefix_line, range_line, single_line, span_line, statement_line, version_at as version_at_of, NoMemory, TooMany};
+ghost use Rattle.pmap_text.specs.Reading.{first_word, Lists, block_line, content_line, decided, declared_line, default_line, label_line, label_of, mode_line, mode_version, name_line, one_or_two, other_fault, placed_line, prefix_line, range_line, single_line, span_line, statement_line, version_at as version_at_of, NoMemory, TooMany};
 ghost use Rattle.pmap_text.specs.Inner.{Reads, has_label_room};
 
 use crate::declarations::label_number;
@@ -13,7 +13,8 @@ use crate::in_version::{addr_in, block_in};
 use crate::label::{LabelId, is_label};
 use crate::leading::{Word, leading_word};
 use crate::lines::split_word;
-use crate::reading::{MAPPING_LIMIT, Reading};
+use crate::name::Name;
+use crate::reading::{MAPPING_LIMIT, Reading, number_for};
 use prefix_keys::{
     Addr, Block, BlockFault, Span, Version, are_digits, block_of, read_addr, read_block,
 };
@@ -33,16 +34,6 @@ fn check_label(rest: &[u8]) -> Result<(), MapFaultKind>
     }
 }
 
-// Returns `true` if the first byte is a digit.
-fn begins_with_digit(word: &[u8]) -> bool
-    ensures { result ≡ is_digit (slice_index word.now 0) }
-{
-    match word.first() {
-        Some(byte) => byte.is_ascii_digit(),
-        None => false,
-    }
-}
-
 // Returns `true` if the byte is in the word.
 fn has_byte(word: &[u8], byte: u8) -> bool
     ensures { result ≡ list_any (λ b. b == byte) word.now }
@@ -54,10 +45,10 @@ fn has_byte(word: &[u8], byte: u8) -> bool
 fn fault_of(word: &[u8]) -> MapFaultKind
     ensures { result ≡ other_fault word.now }
 {
-    if begins_with_digit(word) || has_byte(word, b':') {
-        MapFaultKind::BadAddress
-    } else {
-        MapFaultKind::BadStatement
+    match word.first() {
+        Some(byte) if byte.is_ascii_digit() => MapFaultKind::BadAddress,
+        _ if has_byte(word, b':') => MapFaultKind::BadAddress,
+        _ => MapFaultKind::BadStatement,
     }
 }
 
@@ -80,7 +71,11 @@ impl Reading {
         ensures { Reads self.old self.new (name_line rest.now) result }
     {
         check_label(rest)?;
-        self.set_name(rest)
+        let Ok(name) = Name::new(self.alloc, rest) else {
+            return Err(MapFaultKind::NoMemory);
+        };
+        self.name = Some(name);
+        Ok(())
     }
 
     // Reads `mode WORD`, given the text after the first word.
@@ -90,13 +85,14 @@ impl Reading {
         let Some(version) = named_version(rest) else {
             return Err(MapFaultKind::BadMode);
         };
-        if self.has_mapping() {
+        if self.statements.len() > 0 || self.entries.len() > 0 {
             return Err(MapFaultKind::ModeLate);
         }
-        if self.has_mode() {
+        if self.mode {
             return Err(MapFaultKind::ModeRepeated);
         }
-        self.set_mode(version);
+        self.mode = true;
+        self.version = Some(self.version_at(version));
         Ok(())
     }
 
@@ -108,10 +104,14 @@ impl Reading {
         if are_digits(rest) {
             return Err(MapFaultKind::BadLabel);
         }
-        if self.conflicts(number, rest) {
+        if self.declared.conflicts(number, rest) {
             return Err(MapFaultKind::LabelConflict);
         }
-        self.declare(number, rest)
+        number_for(&mut self.labels, &mut self.recent, rest)?;
+        let Ok(()) = self.declared.add(number, rest) else {
+            return Err(MapFaultKind::NoMemory);
+        };
+        Ok(())
     }
 
     // Reads `label NUMBER TEXT`, given the text after the first word.
@@ -132,8 +132,7 @@ impl Reading {
         if form == Form::List {
             return Err(MapFaultKind::NotAList);
         }
-        let label = self.line_label(rest, true)?;
-        self.set_default(label);
+        self.default = Some(self.line_label(rest, true)?);
         Ok(())
     }
 
@@ -161,7 +160,8 @@ impl Reading {
                 if !has_room {
                     return Err(MapFaultKind::TooMany);
                 }
-                self.label_id(rest)
+                let text = self.declared.meant(rest);
+                number_for(&mut self.labels, &mut self.recent, text)
             }
         }
     }
@@ -173,7 +173,7 @@ impl Reading {
         ensures { Reads self.old self.new
             (span_line self.old span.low.version span.low.value span.high.value rest.now) result }
     {
-        let has_room = self.mapping_count() < MAPPING_LIMIT;
+        let has_room = self.statements.len() < MAPPING_LIMIT;
         let label = self.line_label(rest, has_room)?;
         self.add_statement(span, label)
     }
@@ -300,16 +300,6 @@ impl Reading {
         }
     }
 
-    // Reads a line whose first word is not a keyword and has no `/`.
-    fn read_other(&mut self, form: Form, word: &[u8], rest: &[u8]) -> Result<(), MapFaultKind>
-        ensures { Reads self.old self.new (address_line form self.old word.now (address_of word.now) rest.now) result }
-    {
-        match read_addr(word) {
-            Some(addr) => self.read_address_line(form, addr, rest),
-            None => Err(fault_of(word)),
-        }
-    }
-
     // Reads a line with a word, given its first word and the text after it.
     fn read_statement(&mut self, form: Form, word: &[u8], rest: &[u8]) -> Result<(), MapFaultKind>
         ensures { Reads self.old self.new (statement_line form self.old word.now rest.now) result }
@@ -324,8 +314,10 @@ impl Reading {
             self.read_default(form, rest)
         } else if has_byte(word, b'/') {
             self.read_block_line(form, word, rest)
+        } else if let Some(addr) = read_addr(word) {
+            self.read_address_line(form, addr, rest)
         } else {
-            self.read_other(form, word, rest)
+            Err(fault_of(word))
         }
     }
 

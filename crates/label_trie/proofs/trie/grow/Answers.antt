@@ -10,10 +10,10 @@ push_block-requires-clause-part c =
 
 pub push_block-requires-clause-room : goal.push_block-requires-clause-room
 push_block-requires-clause-room c = record {
-  statements = c.requires.statements;
-  default = c.requires.default;
-  are = c.requires.are;
-  room = room_at_root c.args.stretches.now.version c.requires.statements c.new-nodes.result.items c.new-nodes.ensures.items c.requires.few;
+  statements = c.requires.0;
+  default = c.requires.1;
+  are = c.requires.2;
+  room = room_at_root c.args.stretches.now.version c.requires.0 c.new-nodes.result.items c.new-nodes.ensures.items c.requires.3;
 }
 
 pub returns : goal.returns

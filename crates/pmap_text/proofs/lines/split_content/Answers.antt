@@ -16,4 +16,4 @@ returns-clause-line c =
     let cut = c.split_at_feed.ensures in
     let line = c.split_at_feed.result.0.now in
     let plain : before_first (λ b. eqb b 35) line ≡ line = rw (cut.before, c.content_end-end.ensures.place) fact.1 in
-    (line, cut.line, c.without_outer_blanks.ensures ∙ ap (λ t. trim_end (trim_start t)) (sym plain))
+    (line, cut.line, c.without_outer_blanks-2.ensures ∙ ap (λ t. trim_end (trim_start t)) (sym plain))

@@ -8,12 +8,8 @@ use Rattle.label_trie.proofs.NodeLeaves.{leaves_settled, leaves_undivided}
 use Rattle.label_trie.proofs.trie.Trie.build.Goals as goal
 
 pub grow-requires : goal.grow-requires
-grow-requires c = record {
-  statements = c.args.map.now.statements;
-  default = Some c.args.map.now.default;
-  are = c.in_ok-stretches.ensures.stretches;
-  few = c.args.map.now.within_limit;
-}
+grow-requires c =
+    (c.args.map.now.statements, Some c.args.map.now.default, c.in_ok-stretches.ensures.stretches, c.args.map.now.within_limit)
 
 pub invariant_of-result : goal.invariant_of-result
 invariant_of-result c =

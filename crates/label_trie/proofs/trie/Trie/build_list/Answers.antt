@@ -8,12 +8,8 @@ use Rattle.pmap_text.proofs.Painted.{painting}
 use Rattle.label_trie.proofs.trie.Trie.build_list.Goals as goal
 
 pub grow-requires : goal.grow-requires
-grow-requires c = record {
-  statements = c.in_ok-statements.statements;
-  default = None;
-  are = c.in_ok-stretches.ensures.stretches;
-  few = omega (arith, c.in_ok-statements.ensures.count, c.requires);
-}
+grow-requires c =
+    (c.in_ok-statements.statements, None, c.in_ok-stretches.ensures.stretches, omega (arith, c.in_ok-statements.ensures.count, c.requires))
 
 pub invariant_of-result : goal.invariant_of-result
 invariant_of-result c =

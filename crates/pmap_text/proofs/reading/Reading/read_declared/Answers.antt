@@ -1,0 +1,40 @@
+use Rattle.std.proofs.Common.{List, ap, map, refl, sym, ◌∙◌}
+use Rattle.pmap_text.specs.MapModel.{Label}
+use Rattle.pmap_text.specs.PrefixList.{prefix_of}
+use Rattle.pmap_text.proofs.ProgressSteps.{IsProgress-with_label, prefixes-with_label, progress-with_label}
+use Rattle.pmap_text.proofs.reading.Reading.read_declared.Goals as goal
+
+pub returns : goal.returns
+returns c =
+    let r = c.self.inside in
+    let digits = sym c.are_digits.ensures ∙ c.if-are_digits.false in
+    let agrees = sym c.conflicts.ensures ∙ c.if-conflicts.false in
+    rw (← c.self.view_is, c.in_ok-check_label.ensures.ok, digits, agrees, c.in_ok-number_for.ensures.room, c.in_ok-number_for.ensures.ok, c.in-Ok.ensures.ok)
+    (record {
+      ok = (progress-with_label r.mode r.version r.name _ r.default r.statements r.entries.items r.labels c.args.rest.now c.self.invariant, tt);
+      err = tt;
+      kept = tt;
+    })
+
+pub returns-in_default : goal.returns-in_default
+returns-in_default c =
+    let r = c.self.inside in
+    let digits = sym c.are_digits.ensures ∙ c.if-are_digits.false in
+    let agrees = sym c.conflicts.ensures ∙ c.if-conflicts.false in
+    rw (← c.self.view_is, c.in_ok-check_label.ensures.ok, digits, agrees, c.in_ok-number_for.ensures.room)
+    (record {
+      ok = tt;
+      err = refl;
+      kept = ap (λ (t : List Label). map (prefix_of t) r.entries.items) c.in_ok-number_for.ensures.ok
+          ∙ prefixes-with_label r.labels c.args.rest.now r.entries.items c.self.invariant.entry_numbers;
+    })
+
+pub invariant_of-self-2 : goal.invariant_of-self-2
+invariant_of-self-2 c =
+    let to = c.in_ok-number_for.ensures.ok in
+    rw to (IsProgress-with_label _ _ _ _ _ _ c.self.invariant (rw to at c.in_ok-number_for.ensures.limit))
+
+pub invariant_of-self-in_default : goal.invariant_of-self-in_default
+invariant_of-self-in_default c =
+    let to = c.in_ok-number_for.ensures.ok in
+    rw to (IsProgress-with_label _ _ _ _ _ _ c.self.invariant (rw to at c.in_ok-number_for.ensures.limit))
