@@ -10,12 +10,13 @@ use Rattle.prefix_keys.specs.declared.version.Version.{Version}
 use Rattle.prefix_keys.specs.declared.version.Version.TheVariants.{V4, V6}
 use Rattle.pmap_text.specs.ListModel.{ListModel, Prefix, label_below, lies_inside}
 use Rattle.pmap_text.specs.MapModel.{IsSettled, Label, MapModel, settled_label}
+use Rattle.pmap_cert.specs.Compacting.{line_count}
 use Rattle.pmap_cert.specs.Acceptance.{AreBitsAccepted, IsAccepted, IsDecided, IsNodeAccepted, IsWithinExact}
 use Rattle.pmap_cert.specs.CertificateText.{HasNodeForm, HasRoomBelow}
 use Rattle.pmap_cert.specs.CertificateModel.{CertificateModel, ChainNode, InnerNode, LeafNode, Pair, Tree, claim_of, has, chain_pair, chosen_half, side_half, exact_pair}
 use Rattle.pmap_cert.proofs.ChainWords.{other-room}
 use Rattle.pmap_cert.proofs.Sets.{bytes_eq-same}
-use Rattle.cert_check.specs.Checking.{bits_fault, claim_fault, fault_of_number, first_fault, is_decided, is_label_of, leaf_fault, node_count, node_fault, whole_fault, is_same_version, CheckFault, BoundNotMet, CostTooHigh, LeafNotUniform, ListDiffers, SetTooSmall, VersionDiffers}
+use Rattle.cert_check.specs.Checking.{bits_fault, claim_fault, fault_of_number, first_fault, is_decided, is_label_of, leaf_fault, node_fault, whole_fault, is_same_version, CheckFault, BoundNotMet, CostTooHigh, LeafNotUniform, ListDiffers, SetTooSmall, VersionDiffers}
 use Rattle.cert_check.proofs.Lists.{any-filtered, none_kept}
 
 pub same_version-true : (v w : Version) → is_same_version v w ≡ true → v ≡ w
@@ -188,12 +189,12 @@ node-accepted m ps (InnerNode claim lower upper) zero k n q fits deep none = abs
 node-accepted m ps (InnerNode claim lower upper) (suc room) k n q fits deep none =
     let exact = exact_pair (claim_of lower) (claim_of upper) in
     let own = option_map (fault_of_number k) (claim_fault claim exact) in
-    let high = node_fault m ps upper (k + 1 + node_count lower) (suc n) (2 * q + 1) in
+    let high = node_fault m ps upper (k + 1 + line_count lower) (suc n) (2 * q + 1) in
     let first = or_none-parts (node_fault m ps lower (k + 1) (suc n) (2 * q)) (option_or high own) none in
     let second = or_none-parts high own first.1 in (
       omega (arith, deep),
       node-accepted m ps lower room (k + 1) (suc n) (2 * q) fits.0 (omega (arith, deep)) first.0,
-      node-accepted m ps upper room (k + 1 + node_count lower) (suc n) (2 * q + 1) fits.1 (omega (arith, deep)) second.0,
+      node-accepted m ps upper room (k + 1 + line_count lower) (suc n) (2 * q + 1) fits.1 (omega (arith, deep)) second.0,
       claim-within claim exact (map_none-part (fault_of_number k) (claim_fault claim exact) second.1),
     )
 node-accepted m ps (ChainNode claim bits side end) room k n q fits deep none =
@@ -211,9 +212,9 @@ node-none m ps (LeafNode x) k n q h = ap (option_map (fault_of_number k)) (leaf-
 node-none m ps (InnerNode claim lower upper) k n q h =
     let exact = exact_pair (claim_of lower) (claim_of upper) in
     let own = option_map (fault_of_number k) (claim_fault claim exact) in
-    let high = node_fault m ps upper (k + 1 + node_count lower) (suc n) (2 * q + 1) in
+    let high = node_fault m ps upper (k + 1 + line_count lower) (suc n) (2 * q + 1) in
     or_none-from (node_fault m ps lower (k + 1) (suc n) (2 * q)) (option_or high own) (node-none m ps lower (k + 1) (suc n) (2 * q) h.1)
-    (or_none-from high own (node-none m ps upper (k + 1 + node_count lower) (suc n) (2 * q + 1) h.2)
+    (or_none-from high own (node-none m ps upper (k + 1 + line_count lower) (suc n) (2 * q + 1) h.2)
     (ap (option_map (fault_of_number k)) (claim-none claim exact h.3)))
 node-none m ps (ChainNode claim bits side end) k n q h =
     let exact = chain_pair (length bits) side (claim_of end) in

@@ -11,10 +11,10 @@ use Rattle.prefix_keys.specs.Block.{first_of, last_of, width_of}
 use Rattle.prefix_keys.specs.declared.block.Block.{Block}
 use Rattle.pmap_text.specs.Carried.{entry_covers, from_last, statement_meets, statement_spans}
 use Rattle.pmap_text.specs.ListModel.{lies_inside}
-use Rattle.pmap_text.specs.PrefixList.{prefix_of}
+use Rattle.pmap_text.specs.PrefixList.{prefix_of, number_of_block as number_of}
 use Rattle.pmap_text.specs.declared.entry.Entry.{Entry}
 use Rattle.pmap_text.specs.declared.statement.Statement.{Statement}
-use Rattle.cert_check.specs.Inner.{carried_to, entries_carried_to, number_of, covers_whole, greatest, is_inside, meets_block, spans_block}
+use Rattle.cert_check.specs.Inner.{carried_to, entries_carried_to, covers_whole, greatest, is_inside, meets_block, spans_block}
 use Rattle.cert_check.specs.Checking.{is_same_version}
 use Rattle.cert_check.proofs.Lists.{any-kept, filter_twice, from_last-filter}
 

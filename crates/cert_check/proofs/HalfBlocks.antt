@@ -4,7 +4,8 @@ use Rattle.prefix_keys.specs.Block.{block_number, first_of, last_of, width_of}
 use Rattle.prefix_keys.specs.declared.block.Block.{Block}
 use Rattle.prefix_keys.proofs.Quotients.{whole}
 use Rattle.pmap_text.proofs.Blocks.{block_number-half, pow-half}
-use Rattle.cert_check.specs.Inner.{number_of, AreHalves, IsHalf, last_in}
+use Rattle.pmap_text.specs.PrefixList.{number_of_block as number_of}
+use Rattle.cert_check.specs.Inner.{AreHalves, IsHalf, last_in}
 use Rattle.cert_check.proofs.Carries.{first-last}
 
 -- the first address with a block's number is the block's first address

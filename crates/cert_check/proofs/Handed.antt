@@ -12,7 +12,7 @@ use Rattle.prefix_keys.specs.declared.block.Block.{Block}
 use Rattle.pmap_text.specs.ListModel.{Prefix, covers, label_at, label_below, lies_inside}
 use Rattle.pmap_text.specs.MapModel.{Label}
 use Rattle.pmap_text.specs.MapText.{text_at}
-use Rattle.pmap_text.specs.PrefixList.{list_of, prefix_of}
+use Rattle.pmap_text.specs.PrefixList.{list_of, prefix_of, number_of_block as number_of}
 use Rattle.pmap_text.specs.declared.entry.Entry.{Entry}
 use Rattle.pmap_text.specs.declared.label.LabelId.{LabelId}
 use Rattle.pmap_text.specs.declared.prefix_list.PrefixList.{PrefixList}
@@ -20,7 +20,7 @@ use Rattle.pmap_text.proofs.Finds.{Contains-first, Contains-later, Contains-nil,
 use Rattle.pmap_text.proofs.ListBlocks.{block_start}
 use Rattle.pmap_text.proofs.ListPainted.{list_blocks}
 use Rattle.pmap_cert.proofs.Longest.{label_below-same}
-use Rattle.cert_check.specs.Inner.{number_of, AreWithin, IsHandedDown, IsListPart, LiesIn, text_of}
+use Rattle.cert_check.specs.Inner.{AreWithin, IsHandedDown, IsListPart, LiesIn, text_of}
 use Rattle.cert_check.specs.Checking.{is_decided, is_label_of}
 use Rattle.cert_check.proofs.HalfBlocks.{block-first}
 use Rattle.cert_check.proofs.Within.{IsOwn, first-other, strict, strict-rest}

@@ -1,5 +1,5 @@
 -- The nodes of a certificate at a line, and their first faults by those of the nodes below them.
-use Rattle.std.proofs.Common.{◌≡◌, ◌∙◌, ℕ, zero, suc, ◌+◌, ◌-◌, ◌*◌, ◌^◌, ◌<◌, ◌≤◌, ◌==◌, ◌&&◌, Bool, true, false, cond, not, nat_lt, List, [], ◌∷◌, length, Option, Some, None, Result, Ok, Err, min, option_map, refl, sym, ap, subst, arith}
+use Rattle.std.proofs.Common.{◌≡◌, ◌∙◌, ℕ, zero, suc, ◌+◌, ◌-◌, ◌*◌, ◌^◌, ◌<◌, ◌≤◌, ◌==◌, ◌&&◌, Bool, true, false, cond, not, nat_lt, List, [], ◌∷◌, length, Option, Some, None, Result, Ok, Err, min, option_map, refl, sym, ap, subst, arith, drop}
 use Rattle.std.specs.List.{list_all}
 use Rattle.std.specs.Option.{option_or}
 use Rattle.std.proofs.lemmas.Bool.Decides.{nat_tests}
@@ -9,11 +9,13 @@ use Rattle.pmap_text.specs.MapModel.{Label, MapModel, settled_label}
 use Rattle.pmap_text.specs.MapText.{text_at}
 use Rattle.prefix_keys.specs.Block.{width_of}
 use Rattle.prefix_keys.specs.declared.block.Block.{Block}
+use Rattle.pmap_text.specs.PrefixList.{number_of_block as number_of}
+use Rattle.pmap_cert.specs.Compacting.{line_count}
 use Rattle.pmap_cert.specs.CertificateText.{HasRoomBelow, IsRising}
 use Rattle.pmap_cert.specs.CertificateModel.{ChainNode, InnerNode, LeafNode, Pair, Tree, claim_of, has, chain_pair, chosen_half, side_half, exact_pair}
-use Rattle.pmap_cert.specs.Node.{Chain, HasChainForm, Inner, Leaf, Node, behind, bits_of, first_node, from_next_line, label_of, set_of, side_of, tree_of}
-use Rattle.cert_check.specs.Inner.{number_of, IsHalf, IsAnswer, answer_of, NodeLine}
-use Rattle.cert_check.specs.Checking.{bits_fault, claim_fault, fault_of_number, is_decided, is_label_of, leaf_fault, node_count, node_fault, told, CheckFault, CheckFaultKind, CostTooHigh, LeafNotUniform, ListDiffers, NoMemory, SetTooSmall}
+use Rattle.pmap_cert.specs.Node.{Chain, HasChainForm, Inner, Leaf, Node, bits_of, first_node, from_next_line, label_of, set_of, side_of, tree_of}
+use Rattle.cert_check.specs.Inner.{IsHalf, IsAnswer, answer_of, NodeLine}
+use Rattle.cert_check.specs.Checking.{bits_fault, claim_fault, fault_of_number, is_decided, is_label_of, leaf_fault, node_fault, told, CheckFault, CheckFaultKind, CostTooHigh, LeafNotUniform, ListDiffers, NoMemory, SetTooSmall}
 use Rattle.cert_check.proofs.HalfBlocks.{half-number}
 
 -- the number of the next node in a fault
@@ -80,7 +82,7 @@ pair_of labels nodes = claim_of (tree_of labels (first_node nodes))
 
 -- the number of nodes of the first node's tree at a line
 abbrev pub count_of : List Label → List Node → ℕ
-count_of labels nodes = node_count (tree_of labels (first_node nodes))
+count_of labels nodes = line_count (tree_of labels (first_node nodes))
 
 abbrev pub fault_of : List Label → MapModel → List Prefix → List Node → ℕ → ℕ → ℕ → Option CheckFault
 fault_of labels m ps nodes k n q = node_fault m ps (tree_of labels (first_node nodes)) k n q
@@ -88,7 +90,7 @@ fault_of labels m ps nodes k n q = node_fault m ps (tree_of labels (first_node n
 -- the node at a line is a leaf, and `next` is the line after it
 pub record IsLeafAt (labels : List Label) (nodes next : List Node) (id : ℕ) : Type 0 where
   pub known : id < length labels
-  pub next_is : next ≡ behind nodes
+  pub next_is : next ≡ drop 1 nodes
   pub count : count_of labels nodes ≡ 1
   pub fault : (m : MapModel) (ps : List Prefix) (k n q : ℕ) → fault_of labels m ps nodes k n q ≡ option_map (fault_of_number k) (leaf_fault m ps n q (text_at labels id))
 
@@ -107,7 +109,7 @@ pub record IsInnerAt (labels : List Label) (nodes lower upper : List Node) (room
   pub upper_here : 0 < length upper
   pub lower_form : HasChainForm (length labels) (first_node lower) room
   pub upper_form : HasChainForm (length labels) (first_node upper) room
-  pub next_is : behind upper ≡ behind nodes
+  pub next_is : drop 1 upper ≡ drop 1 nodes
   pub count : count_of labels nodes ≡ 1 + count_of labels lower + count_of labels upper
   pub fault : (m : MapModel) (ps : List Prefix) (k n q : ℕ) → fault_of labels m ps nodes k n q
       ≡ option_or (fault_of labels m ps lower (k + 1) (suc n) (2 * q))
@@ -115,7 +117,7 @@ pub record IsInnerAt (labels : List Label) (nodes lower upper : List Node) (room
       (option_map (fault_of_number k) (claim_fault (pair_of labels nodes) (exact_pair (pair_of labels lower) (pair_of labels upper)))))
 
 pub inner-at : (labels : List Label) (nodes lower upper : List Node) (room : ℕ) → 0 < length nodes → HasChainForm (length labels) (first_node nodes) room
-    → label_of (first_node nodes) ≡ None → side_of (first_node nodes) ≡ None → lower ≡ from_next_line nodes → upper ≡ behind lower
+    → label_of (first_node nodes) ≡ None → side_of (first_node nodes) ≡ None → lower ≡ from_next_line nodes → upper ≡ drop 1 lower
     → (less : ℕ) × (room ≡ suc less) × IsInnerAt labels nodes lower upper less
 inner-at labels [] lower upper room some form none plain next_is after_is = absurd (omega (arith, some))
 inner-at labels (Leaf number ∷ nodes) lower upper room some form none plain next_is after_is = absurd (none-some number (sym none))
@@ -124,7 +126,7 @@ inner-at labels (Inner cost set left right ∷ nodes) lower upper zero some form
 inner-at labels (Inner cost set left right ∷ nodes) lower upper (suc room) some form none plain next_is after_is = (
   room,
   refl,
-  subst (λ (ns : List Node). IsInnerAt labels (Inner cost set left right ∷ nodes) lower ns room) (sym (after_is ∙ ap behind next_is))
+  subst (λ (ns : List Node). IsInnerAt labels (Inner cost set left right ∷ nodes) lower ns room) (sym (after_is ∙ ap (drop 1) next_is))
       (subst (λ (ns : List Node). IsInnerAt labels (Inner cost set left right ∷ nodes) ns (right ∷ nodes) room) (sym next_is)
       (record {
         lower_here = omega arith;
@@ -144,7 +146,7 @@ pub record IsChainAt (labels : List Label) (nodes next : List Node) (side room :
   pub known : side < length labels
   pub some : 0 < length (bits_of (first_node nodes))
   pub form : HasRoomBelow (HasChainForm (length labels) (first_node next)) (bits_of (first_node nodes)) room
-  pub next_is : behind next ≡ behind nodes
+  pub next_is : drop 1 next ≡ drop 1 nodes
   pub count : count_of labels nodes ≡ 1 + count_of labels next
   pub fault : (m : MapModel) (ps : List Prefix) (k n q : ℕ) → fault_of labels m ps nodes k n q
       ≡ option_or (bits_fault m ps (text_at labels side) k (fault_of labels m ps next (k + 1)) (bits_of (first_node nodes)) n q)
@@ -235,9 +237,9 @@ module _ (m : MapModel) (ps : List Prefix) where
   tree-node (LeafNode x) k n q = leaf-node k n q x
   tree-node (InnerNode claim lower upper) k n q =
       let own = option_map (fault_of_number k) (claim_fault claim (exact_pair (claim_of lower) (claim_of upper))) in
-      let high = node_fault m ps upper (k + 1 + node_count lower) (suc n) (2 * q + 1) in
+      let high = node_fault m ps upper (k + 1 + line_count lower) (suc n) (2 * q + 1) in
       or-node (node_fault m ps lower (k + 1) (suc n) (2 * q)) (option_or high own) (tree-node lower (k + 1) (suc n) (2 * q))
-      (or-node high own (tree-node upper (k + 1 + node_count lower) (suc n) (2 * q + 1)) (claim-node k claim (exact_pair (claim_of lower) (claim_of upper))))
+      (or-node high own (tree-node upper (k + 1 + line_count lower) (suc n) (2 * q + 1)) (claim-node k claim (exact_pair (claim_of lower) (claim_of upper))))
   tree-node (ChainNode claim bits side end) k n q =
       or-node (bits_fault m ps side k (node_fault m ps end (k + 1)) bits n q)
       (option_map (fault_of_number k) (claim_fault claim (chain_pair (length bits) side (claim_of end))))

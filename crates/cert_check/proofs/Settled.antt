@@ -10,7 +10,8 @@ use Rattle.pmap_text.specs.declared.label.LabelId.{LabelId}
 use Rattle.pmap_text.specs.declared.map_text.MapText.{MapText}
 use Rattle.pmap_text.specs.declared.statement.Statement.{Statement}
 use Rattle.pmap_text.proofs.SeenBlocks.{settled_stretch}
-use Rattle.cert_check.specs.Inner.{number_of, AreSources, IsPart, IsSettledBetween, last_in, text_of, Part, Sources}
+use Rattle.pmap_text.specs.PrefixList.{number_of_block as number_of}
+use Rattle.cert_check.specs.Inner.{AreSources, IsPart, IsSettledBetween, last_in, text_of, Part, Sources}
 use Rattle.cert_check.specs.Checking.{is_label_of}
 use Rattle.cert_check.proofs.Carries.{first-last}
 use Rattle.cert_check.proofs.HalfBlocks.{block-first, block-last}

@@ -1,15 +1,14 @@
 -- The conditions under which one look shows that the blocks beside a chain's way have no fault.
-use Rattle.std.proofs.Common.{◌≡◌, ◌∙◌, ◌⊎◌, inl, inr, ℕ, zero, suc, ◌+◌, ◌-◌, ◌*◌, ◌<◌, ◌≤◌, ◌==◌, ◌&&◌, Bool, true, false, cond, not, List, [], ◌∷◌, ◌++◌, get_or, length, take, Option, Some, None, Contains, nat_lt, option_map, refl, sym, ap, ap₂, subst, arith}
+use Rattle.std.proofs.Common.{◌≡◌, ◌∙◌, ◌⊎◌, inl, inr, ℕ, zero, suc, ◌+◌, ◌-◌, ◌*◌, ◌<◌, ◌≤◌, ◌==◌, ◌&&◌, Bool, true, false, cond, not, List, [], ◌∷◌, length, Option, Some, None, Contains, nat_lt, option_map, refl, sym, ap, ap₂, subst, arith}
 use Rattle.std.specs.List.{list_any}
 use Rattle.std.specs.Option.{option_or}
 use Rattle.std.proofs.lemmas.Bool.{and_parts, eqb-true, false_from_ne_true, ltb-true}
-use Rattle.std.proofs.lemmas.List.{take_more}
 use Rattle.std.proofs.lemmas.Nat.{pow_pos}
 use Rattle.prefix_keys.specs.Block.{block_number, first_of, last_of, width_of}
 use Rattle.prefix_keys.specs.declared.block.Block.{Block}
 use Rattle.pmap_text.specs.ListModel.{Prefix, covers, label_at, label_below, lies_inside}
 use Rattle.pmap_text.specs.MapModel.{Label, MapModel, settled_label}
-use Rattle.pmap_text.specs.PrefixList.{list_of, prefix_of}
+use Rattle.pmap_text.specs.PrefixList.{list_of, prefix_of, number_of_block as number_of}
 use Rattle.pmap_text.specs.declared.entry.Entry.{Entry}
 use Rattle.pmap_text.specs.declared.label.LabelId.{LabelId}
 use Rattle.pmap_text.specs.declared.prefix_list.PrefixList.{PrefixList}
@@ -17,10 +16,10 @@ use Rattle.pmap_text.proofs.Blocks.{address-between, address-first, address-last
 use Rattle.pmap_cert.proofs.Longest.{label_below-same}
 use Rattle.pmap_cert.specs.CertificateModel.{chosen_half, side_half}
 use Rattle.pmap_cert.specs.Ways.{LeadsTo, way_number}
-use Rattle.cert_check.specs.Inner.{number_of, IsHalf, IsHandedDown, IsListPart, IsSettledBetween, LiesIn, last_in, text_of}
+use Rattle.cert_check.specs.Inner.{IsHandedDown, IsListPart, IsSettledBetween, LiesIn, last_in, text_of}
 use Rattle.cert_check.specs.Checking.{bits_fault, fault_of_number, is_decided, is_label_of, leaf_fault, CheckFault, CheckFaultKind, LeafNotUniform, ListDiffers}
 use Rattle.cert_check.proofs.Carries.{first-last}
-use Rattle.cert_check.proofs.HalfBlocks.{IsWithin, block-first, block-last, half-number}
+use Rattle.cert_check.proofs.HalfBlocks.{IsWithin, block-first, block-last}
 use Rattle.cert_check.proofs.Handed.{entry-version, never-found, none-listed}
 use Rattle.cert_check.proofs.Within.{narrow}
 

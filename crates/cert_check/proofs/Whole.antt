@@ -8,12 +8,12 @@ use Rattle.prefix_keys.specs.declared.block.Block.{Block}
 use Rattle.prefix_keys.specs.declared.version.Version.{Version}
 use Rattle.pmap_text.specs.ListModel.{Prefix, label_below}
 use Rattle.pmap_text.specs.MapModel.{Label, MapModel}
-use Rattle.pmap_text.specs.PrefixList.{list_of}
+use Rattle.pmap_text.specs.PrefixList.{list_of, number_of_block as number_of}
 use Rattle.pmap_text.specs.Stretches.{HoldsAddress, first_at, last_at}
 use Rattle.pmap_text.specs.declared.entry.Entry.{Entry}
 use Rattle.pmap_text.proofs.Blocks.{block_number-zero}
 use Rattle.pmap_cert.specs.Node.{HasChainForm, Node, first_node, tree_of}
-use Rattle.cert_check.specs.Inner.{number_of, IsAtNode, AreSources, AreInOrder, IsListPart, last_in, Sources}
+use Rattle.cert_check.specs.Inner.{IsAtNode, AreSources, AreInOrder, IsListPart, last_in, Sources}
 use Rattle.cert_check.specs.Checking.{node_fault}
 use Rattle.cert_check.proofs.Handed.{entry-version}
 

@@ -17,7 +17,8 @@ use Rattle.pmap_text.specs.ListEntries.{HasDistinctBlocks, same_block}
 use Rattle.pmap_text.specs.declared.entry.Entry.{Entry}
 use Rattle.pmap_text.proofs.Blocks.{address-between, address-first, address-last}
 use Rattle.pmap_text.proofs.Finds.{Contains-cases, Contains-first, Contains-later}
-use Rattle.cert_check.specs.Inner.{number_of, AreInOrder, AreRising, AreWithin, LiesIn, last_in, rank_of}
+use Rattle.pmap_text.specs.PrefixList.{number_of_block as number_of}
+use Rattle.cert_check.specs.Inner.{AreInOrder, AreRising, AreWithin, LiesIn, last_in, rank_of}
 use Rattle.cert_check.proofs.HalfBlocks.{IsWithin, block-first}
 
 -- no block has more than 128 bits

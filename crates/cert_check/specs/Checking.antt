@@ -7,6 +7,7 @@ use Rattle.prefix_keys.specs.declared.version.Version.TheVariants.{V4, V6}
 use Rattle.prefix_keys.specs.Block.{first_of, width_of}
 use Rattle.pmap_text.specs.ListModel.{ListModel, Prefix, label_below, lies_inside}
 use Rattle.pmap_text.specs.MapModel.{Label, MapModel, settled_label}
+use Rattle.pmap_cert.specs.Compacting.{line_count}
 use Rattle.pmap_cert.specs.CertificateModel.{CertificateModel, ChainNode, InnerNode, LeafNode, Pair, Tree, claim_of, has, chain_pair, chosen_half, side_half, exact_pair}
 pub use Rattle.cert_check.specs.declared.fault.CheckFault.{CheckFault}
 pub use Rattle.cert_check.specs.declared.fault.CheckFaultKind.{CheckFaultKind}
@@ -15,9 +16,8 @@ pub use Rattle.cert_check.specs.declared.fault.CheckFaultKind.TheVariants.{Bound
 -- the versions are equal
 abbrev pub is_same_version : Version → Version → Bool
 is_same_version V4 V4 = true
-is_same_version V4 V6 = false
-is_same_version V6 V4 = false
 is_same_version V6 V6 = true
+is_same_version _ _ = false
 
 -- The first fault of a certificate for a map and a prefix list: the order in which faults are looked for, and the node
 -- of each. A certificate without a fault is accepted (the laws of this crate).
@@ -47,12 +47,6 @@ claim_fault claim exact =
     if nat_lt exact.cost claim.cost then Some CostTooHigh
     else (if claim.cost == exact.cost && not (list_all (has claim.labels) exact.labels) then Some SetTooSmall else None)
 
--- how many nodes a tree has
-abbrev pub node_count : Tree → ℕ
-node_count (LeafNode x) = 1
-node_count (InnerNode claim lower upper) = 1 + node_count lower + node_count upper
-node_count (ChainNode claim bits side end) = 1 + node_count end
-
 -- a node's number in a fault, which is at most 2 ^ 64 - 1
 abbrev pub told : ℕ → ℕ
 told number = if nat_lt number (2 ^ 64) then number else 2 ^ 64 - 1
@@ -76,7 +70,7 @@ abbrev pub node_fault : MapModel → List Prefix → Tree → ℕ → ℕ → �
 node_fault m ps (LeafNode x) number n q = option_map (fault_of_number number) (leaf_fault m ps n q x)
 node_fault m ps (InnerNode claim lower upper) number n q =
     option_or (node_fault m ps lower (number + 1) (suc n) (2 * q))
-    (option_or (node_fault m ps upper (number + 1 + node_count lower) (suc n) (2 * q + 1))
+    (option_or (node_fault m ps upper (number + 1 + line_count lower) (suc n) (2 * q + 1))
     (option_map (fault_of_number number) (claim_fault claim (exact_pair (claim_of lower) (claim_of upper)))))
 node_fault m ps (ChainNode claim bits side end) number n q =
     option_or (bits_fault m ps side number (node_fault m ps end (number + 1)) bits n q)

@@ -1,4 +1,4 @@
-use Rattle.std.specs.Prelude.{ℕ, List, filter, ◌≡◌, ◌+◌, ◌*◌, ◌&&◌, ◌==◌, Bool, [], ◌∷◌, Option, map, nat_lt, option_map, if◌then◌else◌, Some, length, ◌<◌, ◌≤◌, true, Contains, slice_index_or, ◌≢◌, ◌-◌, None, Result, Ok, Err}
+use Rattle.std.specs.Prelude.{ℕ, List, filter, ◌≡◌, ◌+◌, ◌*◌, ◌&&◌, ◌==◌, Bool, [], ◌∷◌, Option, map, nat_lt, option_map, if◌then◌else◌, Some, length, ◌<◌, ◌≤◌, true, Contains, slice_index_or, ◌≢◌, ◌-◌, None, Result, Ok, Err, drop}
 use Rattle.std.specs.List.{list_any}
 use Rattle.std.specs.Option.{ForSome}
 use Rattle.prefix_keys.specs.Block.{block_number, width_of, first_of, last_of}
@@ -9,24 +9,21 @@ use Rattle.pmap_text.specs.declared.statement.Statement.{Statement}
 use Rattle.pmap_text.specs.Label.{IsLabelTable, number_of as number_of_label}
 use Rattle.pmap_text.specs.ListModel.{lies_inside, label_below}
 use Rattle.pmap_text.specs.MapModel.{Label, MapModel, settled_label}
-use Rattle.pmap_text.specs.PrefixList.{prefix_of, list_of}
+use Rattle.pmap_text.specs.PrefixList.{prefix_of, list_of, number_of_block as number_of}
 use Rattle.pmap_text.specs.declared.label.LabelId.{LabelId}
 use Rattle.pmap_text.specs.Stretches.{AreLabelsBelow, AreStretches, HoldsAddress}
 use Rattle.pmap_text.specs.MapText.{text_at, map_of}
 use Rattle.pmap_text.specs.declared.prefix_list.PrefixList.{PrefixList}
+use Rattle.pmap_cert.specs.Compacting.{line_count}
 use Rattle.pmap_cert.specs.CertificateText.{HasRoomBelow}
 use Rattle.pmap_cert.specs.CertificateModel.{Tree}
-use Rattle.pmap_cert.specs.Node.{HasChainForm, Node, behind, first_node, tree_of}
-use Rattle.cert_check.specs.Checking.{is_same_version, is_label_of, bits_fault, node_count, node_fault, told, CheckFault, CheckFaultKind, NoMemory}
+use Rattle.pmap_cert.specs.Node.{HasChainForm, Node, first_node, tree_of}
+use Rattle.cert_check.specs.Checking.{is_same_version, is_label_of, bits_fault, node_fault, told, CheckFault, CheckFaultKind, NoMemory}
 pub use Rattle.cert_check.specs.declared.sources.Sources.{Sources}
 pub use Rattle.cert_check.specs.declared.part.Part.{Part}
 pub use Rattle.cert_check.specs.declared.checking.NodeLine.{NodeLine}
 
 -- The statements and entries that affect a block. Those of another version than the block's cover no address of it.
-
--- the number of a block: the leading bits of its addresses
-abbrev pub number_of : Block → ℕ
-number_of block = block_number (width_of block.version) block.len block.value
 
 -- the statements of the block's version that meet the block, from the last one that covers it whole (all of them if
 -- none does), in the given order
@@ -40,7 +37,6 @@ abbrev pub entries_carried_to : Block → List Entry → List Entry
 entries_carried_to block es =
     carried_entries (width_of block.version) block.len (number_of block) (filter (λ e. is_same_version e.block.version block.version) es)
 
--- the second block is a half of the first and has the number q
 pub record IsHalf (b half : Block) (q : ℕ) : Type 0 where
   pub version : half.version ≡ b.version
   pub len : half.len ≡ b.len + 1
@@ -51,24 +47,18 @@ pub record AreHalves (b low high : Block) : Type 0 where
   pub upper : IsHalf b high (2 * number_of b + 1)
   pub begins : low.value ≡ b.value
 
--- What the code keeps while it checks, for the contracts of private functions.
-
--- the statement is of the block's version and meets the block
 abbrev pub meets_block : Block → Statement → Bool
 meets_block b s =
     is_same_version s.span.low.version b.version && statement_meets (width_of b.version) b.len (number_of b) s
 
--- the statement is of the block's version and covers the whole block
 abbrev pub spans_block : Block → Statement → Bool
 spans_block b s =
     is_same_version s.span.low.version b.version && statement_spans (width_of b.version) b.len (number_of b) s
 
--- the entry is of the block's version and covers the block
 abbrev pub covers_whole : Block → Entry → Bool
 covers_whole b e =
     is_same_version e.block.version b.version && entry_covers (width_of b.version) b.len (number_of b) e
 
--- the entry is of the block's version and lies strictly inside the block
 abbrev pub is_inside : Block → Entry → Bool
 is_inside b e =
     is_same_version e.block.version b.version && lies_inside (width_of b.version) b.len (number_of b) (prefix_of [] e)
@@ -83,11 +73,8 @@ pub record AreNumbers (numbers : List (Option LabelId)) (from to : List Label) :
   pub each : map (option_map (λ id. id.0)) numbers ≡ map (number_of_label to) from
   pub table : IsLabelTable to
 
--- the set has the number
 abbrev pub has_number : List ℕ → ℕ → Bool
 has_number ns n = list_any (λ i. i == n) ns
-
--- What holds of the values that the check keeps, for the contracts of private functions.
 
 -- the inputs have one version, the stretches are the map's, and the numbers are those in the certificate's table
 pub record AreSources (s : Sources) : Type 0 where
@@ -99,9 +86,6 @@ pub record AreSources (s : Sources) : Type 0 where
   pub stretches : AreStretches s.map.now.statements (Some s.map.now.default) s.stretches
   pub known : AreLabelsBelow (length s.map.now.labels) s.stretches
 
--- The part of the map and the list in a node's block, for the contracts of private functions.
-
--- the last address of a block
 abbrev pub last_in : Block → ℕ
 last_in b = last_of (width_of b.version) b.len (number_of b)
 
@@ -109,7 +93,6 @@ last_in b = last_of (width_of b.version) b.len (number_of b)
 abbrev pub rank_of : Block → ℕ
 rank_of b = b.value * 256 + b.len
 
--- each entry comes before the later ones by its rank
 abbrev pub AreRising : List Entry → Type 0
 AreRising es = (i j : ℕ) (d : Entry) → i < j → j < length es → rank_of (slice_index_or es i d).block < rank_of (slice_index_or es j d).block
 
@@ -124,7 +107,6 @@ pub record AreWithin (es : List Entry) (b : Block) (n : ℕ) (within : List Entr
   pub inside : (e : Entry) → Contains within e → Contains es e × LiesIn b n e
   pub every : (e : Entry) → Contains es e → LiesIn b n e → Contains within e
 
--- the text of a label, if there is one
 abbrev pub text_of : List Label → Option LabelId → Option Label
 text_of table label = option_map (λ id. text_at table id.0) label
 
@@ -151,15 +133,11 @@ abbrev pub IsSettledBetween : MapModel → ℕ → ℕ → Label → Type 0
 IsSettledBetween m first stop x =
     (j r : ℕ) → first ≤ first_of (width_of m.version) j r → last_of (width_of m.version) j r < stop → is_label_of (settled_label m j r) x ≡ true
 
--- the entries are those of a list, in order
 pub record AreInOrder (es entries : List Entry) : Type 0 where
   pub rising : AreRising entries
   pub listed : (e : Entry) → Contains entries e → Contains es e
   pub every : (e : Entry) → Contains es e → Contains entries e
 
--- The contracts of the private functions that check a certificate's nodes.
-
--- the tree of the node at a line
 abbrev pub tree_at : Sources → NodeLine → Tree
 tree_at s line = tree_of s.certificate.now.labels (first_node line.node)
 
@@ -203,10 +181,10 @@ IsAnswer fault number count after (Ok next) =
 IsAnswer fault number count after (Err found) = (k : ℕ) → told k ≡ number → fault k ≡ Some found
 
 abbrev pub IsNodeAnswer : Sources → NodeLine → Part → Result NodeLine CheckFault → Type 0
-IsNodeAnswer s line p = IsAnswer (line_fault s line p) line.number (node_count (tree_at s line)) (behind line.node)
+IsNodeAnswer s line p = IsAnswer (line_fault s line p) line.number (line_count (tree_at s line)) (drop 1 line.node)
 
 abbrev pub IsWayAnswer : Sources → NodeLine → ℕ → ℕ → List Bool → Part → Result NodeLine CheckFault → Type 0
-IsWayAnswer s end number side bits p = IsAnswer (way_fault s end side bits p) number (1 + node_count (tree_at s end)) (behind end.node)
+IsWayAnswer s end number side bits p = IsAnswer (way_fault s end side bits p) number (1 + line_count (tree_at s end)) (drop 1 end.node)
 
 -- the result of a check with this first fault, which may also run out of memory
 abbrev pub IsOutcome : {A : Type 0} → Option CheckFault → Result A CheckFault → Type 0

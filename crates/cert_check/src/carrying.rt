@@ -6,21 +6,18 @@ use pmap_text::{Entry, Statement};
 use prefix_keys::Block;
 use std::alloc::{AllocError, Global};
 
-// Whether the entry's block covers the block.
 fn covers_whole(entry: &Entry, block: &Block) -> bool
     ensures { result ≡ covers_whole_of block.now entry.now }
 {
     entry.block.len <= block.len && entry.block.covers(&block.low())
 }
 
-// Whether the entry's block lies strictly inside the block.
 fn is_inside(entry: &Entry, block: &Block) -> bool
     ensures { result ≡ is_inside_of block.now entry.now }
 {
     block.len < entry.block.len && block.covers(&entry.block.low())
 }
 
-// Whether the statement covers an address of the block.
 fn meets_block(statement: &Statement, block: &Block) -> bool
     ensures { result ≡ meets_block_of block.now statement.now }
 {
@@ -29,7 +26,6 @@ fn meets_block(statement: &Statement, block: &Block) -> bool
         && (own.low.value <= within.high.value && within.low.value <= own.high.value)
 }
 
-// Whether the statement covers the whole block.
 fn spans_block(statement: &Statement, block: &Block) -> bool
     ensures { result ≡ spans_block_of block.now statement.now }
 {

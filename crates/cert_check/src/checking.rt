@@ -29,7 +29,6 @@ pub struct NodeLine<'a> {
     pub number: u64,
 }
 
-// Returns the line after this one.
 fn next_line<'a>(line: &NodeLine<'a>) -> NodeLine<'a>
     requires { 0 < length line.now.node }
     ensures node { result.node ≡ from_next_line line.now.node }
@@ -207,13 +206,6 @@ fn check_nodes(
     check_nodes_by(&sources, sorted.as_slice())
 }
 
-// Returns a fault of no single node.
-fn whole_fault(kind: CheckFaultKind) -> CheckFault
-    ensures { result ≡ record { kind = kind; node = 0 } }
-{
-    CheckFault { kind, node: 0 }
-}
-
 // Checks the certificate, and returns the number of the list's entries or the first fault.
 fn count_entries(
     alloc: Global,
@@ -229,13 +221,15 @@ fn count_entries(
     ensures memory { IfErr result (λ fault. fault.kind ≡ NoMemory → fault.node ≡ 0) }
 {
     if list.version != map.version || certificate.version != map.version {
-        return Err(whole_fault(CheckFaultKind::VersionDiffers));
+        let kind = CheckFaultKind::VersionDiffers;
+        return Err(CheckFault { kind, node: 0 });
     }
     check_nodes(alloc, map, list, certificate)?;
     let count = list.entries.len() as u64;
     let root = certificate.root();
     if count > u64::from(root.cost()) + 1 {
-        return Err(whole_fault(CheckFaultKind::BoundNotMet));
+        let kind = CheckFaultKind::BoundNotMet;
+        return Err(CheckFault { kind, node: 0 });
     }
     Ok(count)
 }

@@ -30,7 +30,6 @@ fn rest_from<'a>(set: &'a [LabelId], id: LabelId) -> &'a [LabelId]
     rest
 }
 
-// Whether the rest begins with the number.
 fn begins_with(rest: &[LabelId], id: LabelId) -> bool
     requires { IsRising (2 ^ 32) id.0 (map (λ i. i.0) rest.now) }
     ensures { result ≡ has_number (map (λ i. i.0) rest.now) id.0 }
@@ -41,7 +40,6 @@ fn begins_with(rest: &[LabelId], id: LabelId) -> bool
     }
 }
 
-// Whether the set has the label.
 fn has_one(set: &[LabelId], id: LabelId) -> bool
     requires { IsRising (2 ^ 32) 0 (map (λ i. i.0) set.now) }
     ensures { result ≡ has_number (map (λ i. i.0) set.now) id.0 }
@@ -49,7 +47,6 @@ fn has_one(set: &[LabelId], id: LabelId) -> bool
     begins_with(rest_from(set, id), id)
 }
 
-// Whether the sets have no label in common.
 fn are_apart(lower: &[LabelId], upper: &[LabelId]) -> bool
     requires lower { IsRising (2 ^ 32) 0 (map (λ i. i.0) lower.now) }
     requires upper { IsRising (2 ^ 32) 0 (map (λ i. i.0) upper.now) }
@@ -85,7 +82,6 @@ fn has_common(set: &[LabelId], lower: &[LabelId], upper: &[LabelId]) -> bool
     true
 }
 
-// Whether the set has each of the labels.
 fn has_all(set: &[LabelId], labels: &[LabelId]) -> bool
     requires set { IsRising (2 ^ 32) 0 (map (λ i. i.0) set.now) }
     requires labels { IsRising (2 ^ 32) 0 (map (λ i. i.0) labels.now) }
@@ -110,16 +106,6 @@ fn has_both(set: &[LabelId], lower: &[LabelId], upper: &[LabelId]) -> bool
         && list_all (λ i. has_number (map (λ j. j.0) set.now) i.0) upper.now) }
 {
     has_all(set, lower) && has_all(set, upper)
-}
-
-// Returns the sum of the costs that the nodes of both halves claim.
-fn cost_below(left: &Cursor, right: &Cursor) -> u64
-    requires left { 0 < length left.now }
-    requires right { 0 < length right.now }
-    ensures value { result ≡ cost_of (first_node left.now) + cost_of (first_node right.now) }
-    ensures fits { result < 2 ^ 33 }
-{
-    u64::from(left.cost()) + u64::from(right.cost())
 }
 
 // Returns the fault of a claim by its cost, the exact cost, and whether its set has all labels of the exact set.
@@ -158,7 +144,7 @@ pub fn claim_fault(
     let set = claim.set();
     let lower = left.set();
     let upper = right.set();
-    let below = cost_below(left, right);
+    let below = u64::from(left.cost()) + u64::from(right.cost());
     if are_apart(lower, upper) {
         fault_by(cost, below + 1, has_both(set, lower, upper))
     } else {

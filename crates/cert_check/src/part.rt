@@ -3,14 +3,14 @@ ghost use Rattle.std.specs.Prelude.{◌≡◌, ℕ, suc, ◌+◌, ◌-◌, ◌<�
 ghost use Rattle.prefix_keys.specs.Block.{width_of};
 ghost use Rattle.pmap_text.specs.MapModel.{settled_label};
 ghost use Rattle.pmap_text.specs.MapText.{map_of, text_at};
-ghost use Rattle.pmap_text.specs.PrefixList.{list_of};
+ghost use Rattle.pmap_text.specs.PrefixList.{list_of, number_of_block as number_of};
 ghost use Rattle.pmap_text.specs.declared.entry.Entry.{Entry};
 ghost use Rattle.pmap_text.specs.declared.prefix_list.PrefixList.{PrefixList};
 ghost use Rattle.pmap_cert.specs.CertificateModel.{chosen_half, side_half};
 ghost use Rattle.pmap_cert.specs.Packed.{bits_in};
 ghost use Rattle.pmap_cert.specs.Ways.{LeadsTo};
 ghost use Rattle.pmap_text.specs.Stretches.{HoldsAddress};
-ghost use Rattle.cert_check.specs.Inner.{number_of, AreHalves, IsHalf, AreSources, AreRising, IsListPart, IsPart, IsSettledBetween, LiesIn, last_in};
+ghost use Rattle.cert_check.specs.Inner.{AreHalves, IsHalf, AreSources, AreRising, IsListPart, IsPart, IsSettledBetween, LiesIn, last_in};
 ghost use Rattle.cert_check.specs.Checking.{bits_fault, is_decided as is_decided_of, is_label_of, leaf_fault as leaf_fault_of, CheckFault};
 
 use crate::entry_order::by_rank;
@@ -75,7 +75,6 @@ impl<'a> Part<'a> {
         self.from == self.to && sources.is_of_map(self.from, id)
     }
 
-    // Whether the list decides the block by the certificate's label.
     fn is_decided(&self, sources: &Sources, id: LabelId) -> bool
         requires sources { AreSources sources.now }
         requires part { IsPart sources.now self.now }

@@ -40,21 +40,22 @@ use rows::RowsReport;
 use shrink::shrunk_text;
 use uniq::UniqReport;
 
-// Returns the output of a command over its loaded files and its flows, which are read here if it needs them.
+// Returns the output of a command over its loaded files and its flows, which are read here if it needs them. A map that
+// is only shrunk is taken out of `loaded`.
 fn answer<'a, R: Input>(
     alloc: Global,
     command: &Command<'_>,
-    loaded: &Loaded,
+    loaded: &mut Loaded,
     inputs: &mut Inputs<'a, R>,
     hashing: KeyHashing,
 ) -> Result<Vec<u8>, RunFault<'a>>
     requires needed { AreNeeded (needs_of (request_of command.now)) inputs.old }
-    requires present { ArePresent (needs_of (request_of command.now)) loaded.now }
+    requires present { ArePresent (needs_of (request_of command.now)) loaded.old }
     requires readers { any_failed R.failed inputs.old ≡ false }
     ensures ok { IfOk result (λ out. (bytes : List ℕ) → HasText R.bytes_left inputs.old.flows bytes
-        → ComesOf (request_of command.now) loaded.now bytes (Ok out.items)) }
+        → ComesOf (request_of command.now) loaded.old bytes (Ok out.items)) }
     ensures err { IfErr result (IsFaultOfAnswer R.bytes_left R.failed inputs.old inputs.new
-        (ComesOf (request_of command.now) loaded.now)) }
+        (ComesOf (request_of command.now) loaded.old)) }
     ensures failed { any_failed R.failed inputs.new ≡ is_read_stop result }
 {
     match command {
@@ -87,14 +88,13 @@ fn answer<'a, R: Input>(
         }
         Command::Cat { .. } => Ok(runs_text(alloc, loaded.labels().unwrap())?),
         Command::Shrink { printed, .. } => {
-            Ok(shrunk_text(alloc, loaded.map.as_ref().unwrap(), *printed)?)
+            Ok(shrunk_text(alloc, loaded.map.take().unwrap(), *printed)?)
         }
         Command::Check { .. } => check_loaded(alloc, loaded, inputs),
         Command::Recert { .. } => Ok(recert_text(alloc, loaded.certificate.as_ref().unwrap())?),
     }
 }
 
-// Reads the inputs of a command, and returns its whole output.
 fn output<'a, R: Input>(
     alloc: Global,
     command: &Command<'_>,
@@ -108,8 +108,8 @@ fn output<'a, R: Input>(
     ensures err { IfErr result (IsFaultOfBytes R.bytes_left R.failed inputs.old inputs.new (IsOutput (request_of command.now))) }
     ensures failed { any_failed R.failed inputs.new ≡ is_read_stop result }
 {
-    let loaded = load(alloc, inputs, hashing)?;
-    answer(alloc, command, &loaded, inputs, hashing)
+    let mut loaded = load(alloc, inputs, hashing)?;
+    answer(alloc, command, &mut loaded, inputs, hashing)
 }
 
 /// Runs a command: reads its inputs, makes the whole output, and then writes it and flushes once. The map, the list and

@@ -9,8 +9,8 @@ use Rattle.std.proofs.lemmas.List.{length-map}
 use Rattle.std.proofs.lemmas.Option.{none-some, same_Some}
 use Rattle.std.proofs.lemmas.Slice.Eq.{bytes_eq-Decides}
 use Rattle.pmap_cert.specs.CertificateText.{IsRising, bit_digits}
-use Rattle.pmap_cert.specs.FormatReading.{ChainLine, DueLine, InnerLine, LeafLine, NodeLine, PlainLine, bits_of, both, chain_by, due_words, node_words, number_below, rising_numbers}
-use Rattle.pmap_cert.proofs.NodeLines.{SaysDue, both_some, node_words-found, node_words-inner, node_words-leaf}
+use Rattle.pmap_cert.specs.FormatReading.{ChainLine, DueLine, InnerLine, LeafLine, bits_of, both, chain_by, due_words, number_below, rising_numbers}
+use Rattle.pmap_cert.proofs.NodeLines.{SaysDue, both_some, node_words, node_words-found, node_words-inner, node_words-leaf}
 use Rattle.pmap_cert.proofs.Numbers.{number_below-decimal, number_below-found, option_map_some, rising_numbers-decimals, rising_numbers-found}
 
 -- the byte is a digit of a chain's bits
@@ -103,7 +103,7 @@ due_words-found format most count [] line e = absurd (none-some line e)
 due_words-found format most count (word ∷ words) line e = by (format == 2 && bytes_eq word (codes "c")) refl
   where
     plain : Option DueLine
-    plain = option_map PlainLine (node_words count (word ∷ words))
+    plain = node_words count (word ∷ words)
 
     by : (b : Bool) → (format == 2 && bytes_eq word (codes "c")) ≡ b → SaysDue format most count line (word ∷ words)
     by true h =
@@ -111,29 +111,27 @@ due_words-found format most count (word ∷ words) line e = by (format == 2 && b
         chain-found format most count word words line ((bytes_eq-Decides word (codes "c")).0 parts.1) (eqb-true format 2 parts.0)
         (sym (cond-true (format == 2 && bytes_eq word (codes "c")) (chain_by most count words) plain h) ∙ e)
     by false h =
-        let found = option_map_some PlainLine (node_words count (word ∷ words)) line
-        (sym (cond-false (format == 2 && bytes_eq word (codes "c")) (chain_by most count words) plain h) ∙ e) in
-        subst (λ (line : DueLine). SaysDue format most count line (word ∷ words)) found.2
-        (node_words-found format most count (word ∷ words) found.0 found.1)
+        node_words-found format most count (word ∷ words) line
+        (sym (cond-false (format == 2 && bytes_eq word (codes "c")) (chain_by most count words) plain h) ∙ e)
 
 none-and : (a b : Bool) → b ≡ false → (a && b) ≡ false
 none-and true b e = e
 none-and false b e = refl
 
-due_words-plain : (format most count : ℕ) (word : List ℕ) (words : List (List ℕ)) (line : NodeLine) → bytes_eq word (codes "c") ≡ false →
-    node_words count (word ∷ words) ≡ Some line → due_words format most count (word ∷ words) ≡ Some (PlainLine line)
+due_words-plain : (format most count : ℕ) (word : List ℕ) (words : List (List ℕ)) (line : DueLine) → bytes_eq word (codes "c") ≡ false →
+    node_words count (word ∷ words) ≡ Some line → due_words format most count (word ∷ words) ≡ Some line
 due_words-plain format most count word words line other e =
-    cond-false (format == 2 && bytes_eq word (codes "c")) (chain_by most count words) (option_map PlainLine (node_words count (word ∷ words)))
+    cond-false (format == 2 && bytes_eq word (codes "c")) (chain_by most count words) (node_words count (word ∷ words))
     (none-and (format == 2) (bytes_eq word (codes "c")) other)
-    ∙ ap (option_map PlainLine) e
+    ∙ e
 
 pub due_words-leaf : (format most count number : ℕ) → number < count → count ≤ 2 ^ 63 →
-    due_words format most count (codes "l" ∷ decimal number ∷ []) ≡ Some (PlainLine (LeafLine number))
+    due_words format most count (codes "l" ∷ decimal number ∷ []) ≡ Some (LeafLine number)
 due_words-leaf format most count number h small =
     due_words-plain format most count (codes "l") (decimal number ∷ []) (LeafLine number) refl (node_words-leaf count number h small)
 
 pub due_words-inner : (format most count cost : ℕ) (numbers : List ℕ) → cost < 2 ^ 32 → IsRising count 0 numbers → count ≤ 2 ^ 63 →
-    due_words format most count (codes "n" ∷ decimal cost ∷ map decimal numbers) ≡ Some (PlainLine (InnerLine cost numbers))
+    due_words format most count (codes "n" ∷ decimal cost ∷ map decimal numbers) ≡ Some (InnerLine cost numbers)
 due_words-inner format most count cost numbers h rising small =
     due_words-plain format most count (codes "n") (decimal cost ∷ map decimal numbers) (InnerLine cost numbers) refl
     (node_words-inner count cost numbers h rising small)
@@ -145,7 +143,7 @@ pub due_words-chain : (format most count cost : ℕ) (bits : List Bool) (side : 
 due_words-chain format most count cost bits side numbers two h some few known rising small =
     cond-true (format == 2 && bytes_eq (codes "c") (codes "c"))
     (chain_by most count (decimal cost ∷ bit_digits bits ∷ decimal side ∷ map decimal numbers))
-    (option_map PlainLine (node_words count (codes "c" ∷ decimal cost ∷ bit_digits bits ∷ decimal side ∷ map decimal numbers)))
+    (node_words count (codes "c" ∷ decimal cost ∷ bit_digits bits ∷ decimal side ∷ map decimal numbers))
     (and_from (format == 2) (bytes_eq (codes "c") (codes "c")) (eq-eqb format 2 two) refl)
     ∙ (λ i. option_map chain_of (both (both (is_cost i) (are_bits i)) (both (is_side i) (are_numbers i))))
   where

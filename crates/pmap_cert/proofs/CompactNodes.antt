@@ -15,7 +15,7 @@ use Rattle.pmap_cert.specs.CertificateText.{HasRoomBelow, place_of}
 use Rattle.pmap_cert.specs.CertificateModel.{CertificateModel, ChainNode, InnerNode, Pair, Tree}
 use Rattle.pmap_cert.specs.Compacting.{compact, compacted, is_side, leaf_label, run_bits, run_compacted, run_end, side_of}
 use Rattle.pmap_cert.specs.Format.{format_number, Format, One, Two}
-use Rattle.pmap_cert.specs.FormatReading.{ChainLine, DueLine, InnerLine, LeafLine, PlainLine}
+use Rattle.pmap_cert.specs.FormatReading.{ChainLine, DueLine, InnerLine, LeafLine}
 use Rattle.pmap_cert.specs.Node.{Chain, HasChainForm, Inner, Leaf, Node, cost_of, label_of, lines_of, set_of, tree_of}
 use Rattle.pmap_cert.specs.Inner.{IsCompactNode, IsCompacted, IsShort, bits_down, end_down, is_leaf, side_below}
 use Rattle.pmap_cert.proofs.ChainWords.{end-room, other-room}
@@ -199,7 +199,7 @@ module _ (cost : ℕ) (set : List ℕ) (lower upper : Node) where
       )
 
 -- the line of a leaf is that of the leaf compacted
-pub leaf-lines : (node : Node) (number : ℕ) (old new : List DueLine) → node ≡ Leaf number → new ≡ old ++ PlainLine (LeafLine number) ∷ [] → IsCompacted node old new
+pub leaf-lines : (node : Node) (number : ℕ) (old new : List DueLine) → node ≡ Leaf number → new ≡ old ++ LeafLine number ∷ [] → IsCompacted node old new
 leaf-lines node number old new is pushed =
     subst (λ (n : Node). IsCompacted n old new) (sym is) (record { compact = Leaf number; is = compact-leaf number; lines = pushed })
 
@@ -221,16 +221,16 @@ module _ (node : Node) (cost : ℕ) (set : List ℕ) (lower upper : Node) (node_
       })
 
   pub inner-lines : (cost' : ℕ) (set' : List ℕ) (low up : Node) (first second third : List DueLine) → low ≡ lower → up ≡ upper → IsShort node → cost' ≡ cost_of node → set' ≡ set_of node
-      → first ≡ old ++ PlainLine (InnerLine cost' set') ∷ [] → IsCompacted low first second → IsCompacted up second third → IsCompacted node old third
+      → first ≡ old ++ InnerLine cost' set' ∷ [] → IsCompacted low first second → IsCompacted up second third → IsCompacted node old third
   inner-lines cost' set' low up first second third low_is up_is short cost_is set_is pushed is_low is_up =
       subst (λ (n : Node). IsCompacted n old third) (sym node_is) (record {
         compact = Inner cost set is_low.compact is_up.compact;
         is = by (option_or (label_of lower) (label_of upper)) refl;
         lines =
             is_up.lines ∙ ap (λ (ls : List DueLine). ls ++ lines_of is_up.compact) (is_low.lines ∙ ap (λ (ls : List DueLine). ls ++ lines_of is_low.compact)
-            (pushed ∙ (λ i. old ++ PlainLine (InnerLine ((cost_is ∙ ap cost_of node_is) i) ((set_is ∙ ap set_of node_is) i)) ∷ [])))
-            ∙ append_assoc (old ++ PlainLine (InnerLine cost set) ∷ []) (lines_of is_low.compact) (lines_of is_up.compact)
-            ∙ append_assoc old (PlainLine (InnerLine cost set) ∷ []) (lines_of is_low.compact ++ lines_of is_up.compact);
+            (pushed ∙ (λ i. old ++ InnerLine ((cost_is ∙ ap cost_of node_is) i) ((set_is ∙ ap set_of node_is) i) ∷ [])))
+            ∙ append_assoc (old ++ InnerLine cost set ∷ []) (lines_of is_low.compact) (lines_of is_up.compact)
+            ∙ append_assoc old (InnerLine cost set ∷ []) (lines_of is_low.compact ++ lines_of is_up.compact);
       })
     where
       lower_is : IsCompactNode lower is_low.compact

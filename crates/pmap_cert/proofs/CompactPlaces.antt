@@ -3,18 +3,22 @@ use Rattle.std.proofs.Common.{◌≡◌, ℕ, zero, suc, ◌+◌, ◌<◌, ◌�
 use Rattle.pmap_text.specs.declared.label.LabelId.{LabelId}
 use Rattle.std.proofs.lemmas.Option.{none-some, same_Some}
 use Rattle.std.proofs.lemmas.List.Elements.{All-append, All-cons, All-head, All-nil, All-tail}
-use Rattle.pmap_cert.specs.FormatReading.{ChainLine, DueLine, InnerLine, LeafLine, PlainLine}
-use Rattle.pmap_cert.specs.Node.{AreWhole, Inner, HasChainForm, IsPlainNode, Chain, Leaf, Node, behind, first_node, from_next_line, joined, label_of, line_label, lines_of, nodes_of}
-use Rattle.pmap_cert.specs.Inner.{AreEndsFrom, ArePlain, EndsAt, HasHalves, HasPlace, IsPlainLine, IsRunEnd, IsShallow, IsStep, bits_down, end_down, is_leaf, node_from}
+use Rattle.pmap_cert.specs.FormatReading.{ChainLine, DueLine, InnerLine, LeafLine}
+use Rattle.pmap_cert.specs.Node.{AreWhole, Inner, HasChainForm, IsPlainNode, Chain, Leaf, Node, first_node, from_next_line, joined, label_of, lines_of, nodes_of, node_of}
+use Rattle.pmap_cert.specs.Inner.{AreEndsFrom, ArePlain, EndsAt, HasHalves, HasPlace, IsRunEnd, IsShallow, IsStep, bits_down, end_down, is_leaf, node_from}
 use Rattle.pmap_cert.proofs.ChainWords.{left-room}
 use Rattle.pmap_cert.proofs.CompactNodes.{form-down}
 use Rattle.pmap_cert.proofs.NodeWalk.{IsLineOf, line-here, nodes-next, root-of, tree-whole, whole-next, within}
 
 -- a node without chains has no line of a chain
+-- the line isn't that of a chain
+abbrev IsPlainLine : DueLine → Type 0
+IsPlainLine line = IsPlainNode (node_of line)
+
 pub plain-lines : (node : Node) → IsPlainNode node → All IsPlainLine (lines_of node)
-plain-lines (Leaf number) plain = All-cons IsPlainLine (PlainLine (LeafLine number)) [] tt (All-nil IsPlainLine)
+plain-lines (Leaf number) plain = All-cons IsPlainLine (LeafLine number) [] tt (All-nil IsPlainLine)
 plain-lines (Inner cost set lower upper) plain =
-    All-cons IsPlainLine (PlainLine (InnerLine cost set)) (lines_of lower ++ lines_of upper) tt
+    All-cons IsPlainLine (InnerLine cost set) (lines_of lower ++ lines_of upper) (tt, tt)
     (All-append IsPlainLine (lines_of lower) (lines_of upper) (plain-lines lower plain.0) (plain-lines upper plain.1))
 plain-lines (Chain cost set bits side end) plain = absurd plain
 
@@ -28,7 +32,7 @@ pub data Here (lines : List DueLine) (k : ℕ) : Type 0 where
   inner-here : (cost : ℕ) (set : List ℕ) (lower upper : Node) (rest : List Node) (is : nodes_of (drop k lines) ≡ Inner cost set lower upper ∷ rest)
       (next : nodes_of (drop (suc k) lines) ≡ lower ∷ upper ∷ rest) → Here lines k
 
-inner-by : (lines : List DueLine) (cost : ℕ) (set : List ℕ) (nodes : List Node) → nodes_of lines ≡ nodes → 2 ≤ length nodes → Here (PlainLine (InnerLine cost set) ∷ lines) zero
+inner-by : (lines : List DueLine) (cost : ℕ) (set : List ℕ) (nodes : List Node) → nodes_of lines ≡ nodes → 2 ≤ length nodes → Here (InnerLine cost set ∷ lines) zero
 inner-by lines cost set [] e two = absurd (omega arith)
 inner-by lines cost set (node ∷ []) e two = absurd (omega arith)
 inner-by lines cost set (lower ∷ upper ∷ rest) e two = inner-here cost set lower upper rest (ap (joined cost set) e) e
@@ -42,8 +46,8 @@ rest-plain line lines whole = whole-next (line ∷ lines) zero whole
 
 here-by : (lines : List DueLine) (k : ℕ) → AreWhole lines → All IsPlainLine lines → k < length lines → Here lines k
 here-by [] k whole plain inside = absurd (omega arith)
-here-by (PlainLine (LeafLine number) ∷ lines) zero whole plain inside = leaf-here number (nodes_of lines) refl refl
-here-by (PlainLine (InnerLine cost set) ∷ lines) zero whole plain inside = inner-by lines cost set (nodes_of lines) refl whole.0
+here-by (LeafLine number ∷ lines) zero whole plain inside = leaf-here number (nodes_of lines) refl refl
+here-by (InnerLine cost set ∷ lines) zero whole plain inside = inner-by lines cost set (nodes_of lines) refl whole.0
 here-by (ChainLine cost bits side numbers ∷ lines) zero whole plain inside =
     absurd (All-head IsPlainLine (ChainLine cost bits side numbers) lines plain)
 here-by (line ∷ lines) (suc k) whole plain inside =
@@ -58,9 +62,9 @@ some-here lines k (leaf-here number rest is next) = let e = ap length is in omeg
 some-here lines k (inner-here cost set lower upper rest is next) = let e = ap length is in omega arith
 
 -- the line with a number has the values of the node at that line
-pub line-of : (lines : List DueLine) (k : ℕ) → ArePlain lines → k < length lines → IsLineOf (get_or lines k (PlainLine (LeafLine 0))) (node_from lines k)
+pub line-of : (lines : List DueLine) (k : ℕ) → ArePlain lines → k < length lines → IsLineOf (get_or lines k (LeafLine 0)) (node_from lines k)
 line-of lines k are inside =
-    line-here lines k (PlainLine (LeafLine 0)) (some-here lines k (here lines k are inside)) (whole-drop lines k are.whole)
+    line-here lines k (LeafLine 0) (some-here lines k (here lines k are inside)) (whole-drop lines k are.whole)
 
 node-is : (lines : List DueLine) (k : ℕ) (node : Node) (rest : List Node) → nodes_of (drop k lines) ≡ node ∷ rest → node_from lines k ≡ node
 node-is lines k node rest is = ap first_node is
@@ -95,7 +99,7 @@ halves-of lines all k place none = by (here lines k place.plain place.within)
         let next : nodes_of (drop (k + 1) lines) ≡ lower ∷ upper ∷ rest = ap (λ (n : ℕ). nodes_of (drop n lines)) (sym one) ∙ next_suc in
         let inside = inside-is lines (k + 1) lower (upper ∷ rest) next in
         let ends = place.ends.each (k + 1) (omega arith) inside in
-        let after : nodes_of (drop e lines) ≡ upper ∷ rest = ends.behind ∙ ap behind next in
+        let after : nodes_of (drop e lines) ≡ upper ∷ rest = ends.behind ∙ ap (drop 1) next in
         let more = ends.after in
         record {
           cost = cost;
@@ -107,7 +111,7 @@ halves-of lines all k place none = by (here lines k place.plain place.within)
           up = record { plain = place.plain; within = inside-is lines e upper rest after; ends = ends-later lines all (k + 1) (e + 1) place.ends (omega arith) };
           low_after = omega arith;
           up_after = omega arith;
-          rest = ap behind is ∙ sym (ap behind after);
+          rest = ap (drop 1) is ∙ sym (ap (drop 1) after);
         }
 
 -- a leaf ends at the next line
@@ -119,7 +123,7 @@ ends-leaf lines all k number place leaf = by (here lines k place.plain place.wit
 
     by : Here lines k → EndsAt lines k (k + 1)
     by (leaf-here n rest is next) =
-        subst (EndsAt lines k) (omega arith) (record { after = omega arith; within = within; behind = next ∙ sym (ap behind is) })
+        subst (EndsAt lines k) (omega arith) (record { after = omega arith; within = within; behind = next ∙ sym (ap (drop 1) is) })
     by (inner-here cost set lower upper rest is next) =
         absurd (none-some number (sym (ap label_of (node-is lines k (Inner cost set lower upper) rest is)) ∙ ap label_of leaf))
 
@@ -160,7 +164,7 @@ module _ (lines : List DueLine) (all : List ℕ) (side k : ℕ) where
 
 -- the label of the line with a number is the label of the node at that line
 pub label-at : (lines : List DueLine) (k : ℕ) (o : Option LabelId) → ArePlain lines → k < length lines
-    → option_map (λ id. id.0) o ≡ line_label (get_or lines k (PlainLine (LeafLine 0))) → label_of (node_from lines k) ≡ option_map (λ id. id.0) o
+    → option_map (λ id. id.0) o ≡ label_of (node_of (get_or lines k (LeafLine 0))) → label_of (node_from lines k) ≡ option_map (λ id. id.0) o
 label-at lines k o are inside said = sym (said ∙ (line-of lines k are inside).label)
 
 pub leaf-some : (node : Node) (side number : ℕ) → label_of node ≡ Some number → is_leaf side node ≡ (number == side)

@@ -1,18 +1,16 @@
 -- The line of a node that a text begins with is the line that the specification reads.
-use Rattle.std.proofs.Common.{◌≡◌, ℕ, zero, suc, ◌+◌, ◌^◌, ◌<◌, ◌≤◌, ◌==◌, ◌∙◌, false, List, [], ◌∷◌, ◌++◌, Option, None, Some, Ok, Err, cond, length, map, refl, sym, ap, subst, arith, codes}
+use Rattle.std.proofs.Common.{◌≡◌, ℕ, zero, suc, ◌+◌, ◌^◌, ◌<◌, ◌≤◌, ◌==◌, ◌∙◌, Bool, false, List, [], ◌∷◌, ◌++◌, Option, None, Some, Ok, Err, cond, length, map, refl, sym, ap, subst, arith, codes}
 use Rattle.std.specs.Fmt.{decimal}
 use Rattle.std.specs.List.{AllByRecursion, join_with_byte}
-use Rattle.std.specs.Option.{option_map}
 use Rattle.std.proofs.lemmas.Bool.{eq-eqb, ne_eqb}
 use Rattle.std.proofs.lemmas.List.{length-append}
 use Rattle.std.proofs.lemmas.List.Splits.{join_with_byte-slice_split, slice_split_at}
 use Rattle.std.proofs.lemmas.Option.{none-some}
 use Rattle.prefix_keys.proofs.Printed.{Lacks}
 use Rattle.pmap_cert.specs.CertificateText.{bit_digits, spaced}
-use Rattle.pmap_cert.specs.FormatReading.{ChainLine, DueLine, InnerLine, LeafLine, Place, PlainLine, due_words, fault_at, is_ended, line_due_at, line_from, or_fault, pieces_of, value_by, words_of, CertFault, BadNode, NodesMissing}
+use Rattle.pmap_cert.specs.FormatReading.{ChainLine, DueLine, InnerLine, LeafLine, Place, due_words, fault_at, is_ended, line_due_at, line_from, or_fault, pieces_of, value_by, words_of, CertFault, BadNode, NodesMissing}
 use Rattle.pmap_cert.specs.Inner.{BeginsWithLine, FitsLine, Reads}
 use Rattle.pmap_cert.specs.Node.{line_text}
-use Rattle.pmap_cert.specs.Words.{due_or_missing}
 use Rattle.pmap_cert.proofs.ChainLines.{due_words-chain, due_words-found, due_words-inner, due_words-leaf}
 use Rattle.pmap_cert.proofs.ChainWords.{Lacks-bits}
 use Rattle.pmap_cert.proofs.Headers.{Lacks-line}
@@ -22,8 +20,8 @@ use Rattle.pmap_cert.proofs.Pieces.{line-words, split_some, words-line}
 use Rattle.pmap_cert.proofs.Tables.{value_at-again}
 
 text-words : (line : DueLine) → line_text line ≡ spaced (line_words line)
-text-words (PlainLine (LeafLine number)) = refl
-text-words (PlainLine (InnerLine cost numbers)) = refl
+text-words (LeafLine number) = refl
+text-words (InnerLine cost numbers) = refl
 text-words (ChainLine cost bits side numbers) = refl
 
 module _ (format most count : ℕ) where
@@ -41,8 +39,8 @@ module _ (format most count : ℕ) where
       letter b high (suc k) d h = absurd (omega arith)
 
       words-lack : (line : DueLine) → Fits line → AllByRecursion (Lacks c) (line_words line)
-      words-lack (PlainLine (LeafLine number)) h = (letter 108 (omega arith), (Lacks-decimal c number low (omega (arith, h, few)), tt))
-      words-lack (PlainLine (InnerLine cost numbers)) h = (
+      words-lack (LeafLine number) h = (letter 108 (omega arith), (Lacks-decimal c number low (omega (arith, h, few)), tt))
+      words-lack (InnerLine cost numbers) h = (
         letter 110 (omega arith),
         (Lacks-decimal c cost low (omega (arith, h.0)), Lacks-decimals c count 0 numbers low (omega (arith, few)) h.1),
       )
@@ -62,12 +60,12 @@ module _ (format most count : ℕ) where
         subst (Lacks 10) (sym (text-words line)) (Lacks-line 10 (line_words line) refl (words-lack 10 (omega arith) line h))
 
     line-said : (line : DueLine) → Fits line → due_words format most count (words_of (line_text line)) ≡ Some line
-    line-said (PlainLine (LeafLine number)) h =
-        let all = words-lack 32 (omega arith) (PlainLine (LeafLine number)) h in
+    line-said (LeafLine number) h =
+        let all = words-lack 32 (omega arith) (LeafLine number) h in
         ap (due_words format most count) (words-line (codes "l") (decimal number ∷ []) all.0 all.1)
         ∙ due_words-leaf format most count number h (omega (arith, few))
-    line-said (PlainLine (InnerLine cost numbers)) h =
-        let all = words-lack 32 (omega arith) (PlainLine (InnerLine cost numbers)) h in
+    line-said (InnerLine cost numbers) h =
+        let all = words-lack 32 (omega arith) (InnerLine cost numbers) h in
         ap (due_words format most count) (words-line (codes "n") (decimal cost ∷ map decimal numbers) all.0 all.1)
         ∙ due_words-inner format most count cost numbers h.0 h.1 (omega (arith, few))
     line-said (ChainLine cost bits side numbers) h =
@@ -92,7 +90,7 @@ module _ (format most count : ℕ) where
       abbrev Begins : DueLine → List ℕ → Type 0
       Begins = BeginsWithLine format most count text
 
-      there : (line : DueLine) (rest : List ℕ) → Begins line rest → line_due_at format most count place ≡ Ok (line, at (number + 1) (pieces_of rest))
+      pub there : (line : DueLine) (rest : List ℕ) → Begins line rest → line_due_at format most count place ≡ Ok (line, at (number + 1) (pieces_of rest))
       there line rest begins =
           let pieces : pieces_of text ≡ line_text line ∷ pieces_of rest =
           ap pieces_of begins.whole ∙ slice_split_at (λ b. b == 10) (line_text line) 10 rest (line-lacks line begins.fits) (eq-eqb 10 10 refl) in
@@ -125,11 +123,12 @@ module _ (format most count : ℕ) where
                     fits = said.1;
                   }))
 
-      -- a reading of the text finds the line that the specification reads
-      pub due-read : (found : Option (DueLine × List ℕ)) → Reads Begins found
-          → due_or_missing place (option_map (λ x. (x.0, at (number + 1) (pieces_of x.1))) found) ≡ line_due_at format most count place
-      due-read None reads = sym (nowhere (λ line rest begins. none-some (line, rest) (reads.only line rest begins)))
-      due-read (Some x) reads = sym (there x.0 x.1 reads.right)
+      -- if a reading of the text finds no line, the specification reads none
+      pub due-missing : (ended : Bool) → is_ended (pieces_of text) ≡ ended → Reads Begins None
+          → line_due_at format most count place ≡ Err (fault_at place (cond ended NodesMissing BadNode))
+      due-missing ended is reads =
+          nowhere (λ line rest begins. none-some (line, rest) (reads.only line rest begins))
+          ∙ ap (λ (b : Bool). Err (fault_at place (cond b NodesMissing BadNode))) is
 
       pub rest-shorter : (line : DueLine) (rest : List ℕ) → Begins line rest → length rest + 1 ≤ length text
       rest-shorter line rest begins =

@@ -9,7 +9,7 @@ use Rattle.pmap_text.specs.Reading.{◌>>=◌}
 use Rattle.pmap_text.specs.MapText.{text_at}
 use Rattle.pmap_cert.specs.CertificateText.{HasNodeForm, IsRising, bit_digits, chain_line, inner_line, leaf_line, node_lines, place_of}
 use Rattle.pmap_cert.specs.CertificateModel.{ChainNode, InnerNode, LeafNode, Pair, Tree, IsPlain}
-use Rattle.pmap_cert.specs.FormatReading.{ChainLine, DueLine, InnerLine, LeafLine, Place, PlainLine, due_node, due_words, fault_at, is_ended, line_due_at, nodes_at, words_of, CertFault, BadNode, NodesMissing, TooDeep}
+use Rattle.pmap_cert.specs.FormatReading.{ChainLine, DueLine, InnerLine, LeafLine, Place, due_node, due_words, fault_at, is_ended, line_due_at, nodes_at, words_of, CertFault, BadNode, NodesMissing, TooDeep}
 use Rattle.pmap_cert.proofs.ChainLines.{due_words-found}
 use Rattle.pmap_cert.proofs.NodeLines.{SaysDue}
 use Rattle.pmap_cert.proofs.ChainWords.{left-room, room-left}
@@ -62,7 +62,7 @@ module _ (table : List Label) (ok : IsLabelTable table) (format most : ℕ) wher
   claim_at cost numbers = record { cost = cost; labels = map (text_at table) numbers }
 
   leaf-read : (room number : ℕ) (text : List ℕ) (place after : Place) (x : Tree × Place) → place.pieces ≡ text ∷ after.pieces →
-      SaysDue format most (length table) (PlainLine (LeafLine number)) (words_of text) →
+      SaysDue format most (length table) (LeafLine number) (words_of text) →
       ◌≡◌ {A = Result (Tree × Place) CertFault} (Ok (LeafNode (text_at table number), after)) (Ok x) → IsReadIn table format room place x
   leaf-read room number text place after x pieces says e =
       let place_is : place_of table (text_at table number) ≡ number = place_of-text_at table number ok says.1 in
@@ -73,7 +73,7 @@ module _ (table : List Label) (ok : IsLabelTable table) (format most : ℕ) wher
       )
 
   inner-read : (room cost : ℕ) (numbers : List ℕ) (text : List ℕ) (place after : Place) (x lower upper : Tree × Place) →
-      place.pieces ≡ text ∷ after.pieces → SaysDue format most (length table) (PlainLine (InnerLine cost numbers)) (words_of text) →
+      place.pieces ≡ text ∷ after.pieces → SaysDue format most (length table) (InnerLine cost numbers) (words_of text) →
       IsReadIn table format room after lower → IsReadIn table format room lower.1 upper →
       (InnerNode (claim_at cost numbers) lower.0 upper.0, upper.1) ≡ x → IsReadIn table format (suc room) place x
   inner-read room cost numbers text place after x lower upper pieces says low up e =
@@ -122,8 +122,8 @@ module _ (table : List Label) (ok : IsLabelTable table) (format most : ℕ) wher
     where
       by : (line : DueLine) (after : Place) (text : List ℕ) → place.pieces ≡ text ∷ after.pieces → SaysDue format most (length table) line (words_of text) →
           due_node table zero place (λ deeper after. Err (fault_at place TooDeep)) line after ≡ Ok x → IsReadIn table format left place x
-      by (PlainLine (LeafLine number)) after text pieces says e = leaf-read left number text place after x pieces says e
-      by (PlainLine (InnerLine cost numbers)) after text pieces says e = absurd cc
+      by (LeafLine number) after text pieces says e = leaf-read left number text place after x pieces says e
+      by (InnerLine cost numbers) after text pieces says e = absurd cc
       by (ChainLine cost [] side numbers) after text pieces says e = absurd cc
       by (ChainLine cost (bit ∷ bits) side numbers) after text pieces says e =
           absurd (not-ok (fault_at place TooDeep) x
@@ -139,8 +139,8 @@ module _ (table : List Label) (ok : IsLabelTable table) (format most : ℕ) wher
           ((down left : ℕ) (place : Place) (x : Tree × Place) → room ≡ down + left →
           nodes_at due table room down place ≡ Ok x → IsReadIn table format left place x) →
           due_node table (suc room) place (nodes_at due table room) line after ≡ Ok x → IsReadIn table format (suc room) place x
-      by (PlainLine (LeafLine number)) after text pieces says below e = leaf-read (suc room) number text place after x pieces says e
-      by (PlainLine (InnerLine cost numbers)) after text pieces says below e =
+      by (LeafLine number) after text pieces says below e = leaf-read (suc room) number text place after x pieces says e
+      by (InnerLine cost numbers) after text pieces says below e =
           let claim : Pair = claim_at cost numbers in
           let low = bind_ok (nodes_at due table room 0 after) (λ (lower : Tree × Place). nodes_at due table room 0 lower.1 >>= (λ (upper : Tree × Place). Ok (InnerNode claim lower.0 upper.0, upper.1))) x e in
           let up = bind_ok (nodes_at due table room 0 low.0.1) (λ (upper : Tree × Place). Ok (InnerNode claim low.0.0 upper.0, upper.1)) x low.2 in
@@ -205,12 +205,12 @@ module _ (table : List Label) (ok : IsLabelTable table) (format most : ℕ) wher
   unfolding nodes_at
   nodes_at-again (LeafNode x) zero rest number most_room form kind some = (
     number + 1,
-    ap (λ (r : Result (DueLine × Place) CertFault). r >>= (λ line. due_node table zero (at number (leaf_line (place_of table x) ∷ rest)) (λ deeper after. Err (fault_at (at number (leaf_line (place_of table x) ∷ rest)) TooDeep)) line.0 line.1)) (due-again format most (length table) few (PlainLine (LeafLine (place_of table x))) number rest form some)
+    ap (λ (r : Result (DueLine × Place) CertFault). r >>= (λ line. due_node table zero (at number (leaf_line (place_of table x) ∷ rest)) (λ deeper after. Err (fault_at (at number (leaf_line (place_of table x) ∷ rest)) TooDeep)) line.0 line.1)) (due-again format most (length table) few (LeafLine (place_of table x)) number rest form some)
         ∙ ap (λ (t : Tree). Ok (t, at (number + 1) rest)) (leaf-is x form),
   )
   nodes_at-again (LeafNode x) (suc room) rest number most_room form kind some = (
     number + 1,
-    ap (λ (r : Result (DueLine × Place) CertFault). r >>= (λ line. due_node table (suc room) (at number (leaf_line (place_of table x) ∷ rest)) (nodes_at due table room) line.0 line.1)) (due-again format most (length table) few (PlainLine (LeafLine (place_of table x))) number rest form some)
+    ap (λ (r : Result (DueLine × Place) CertFault). r >>= (λ line. due_node table (suc room) (at number (leaf_line (place_of table x) ∷ rest)) (nodes_at due table room) line.0 line.1)) (due-again format most (length table) few (LeafLine (place_of table x)) number rest form some)
         ∙ ap (λ (t : Tree). Ok (t, at (number + 1) rest)) (leaf-is x form),
   )
   nodes_at-again (InnerNode claim lower upper) zero rest number most_room form kind some = absurd form
@@ -219,7 +219,7 @@ module _ (table : List Label) (ok : IsLabelTable table) (format most : ℕ) wher
       let low : List (List ℕ) = node_lines table lower in
       let up : List (List ℕ) = node_lines table upper in
       let behind : 0 < length (up ++ rest) = omega (arith, length-append up rest) in
-      let line = due-again format most (length table) few (PlainLine (InnerLine claim.cost numbers)) number (low ++ (up ++ rest)) (form.0, form.1) (omega (arith, length-append low (up ++ rest))) in
+      let line = due-again format most (length table) few (InnerLine claim.cost numbers) number (low ++ (up ++ rest)) (form.0, form.1) (omega (arith, length-append low (up ++ rest))) in
       let first = nodes_at-again lower room (up ++ rest) (number + 1) (omega arith) form.2 (lower-kind claim lower upper kind) behind in
       let second = nodes_at-again upper room rest first.0 (omega arith) form.3 (upper-kind claim lower upper kind) some in
       let here : Place = at number (inner_line claim.cost numbers ∷ (low ++ (up ++ rest))) in (

@@ -14,7 +14,7 @@ use Rattle.std.proofs.lemmas.Slice.Eq.{bytes_eq-Decides}
 use Rattle.prefix_keys.specs.Text.{decimal_value, is_digit}
 use Rattle.pmap_cert.specs.CertificateText.{IsRising, bit_digits, chain_line, inner_line}
 use Rattle.std.specs.Prelude.{IfSome}
-use Rattle.pmap_cert.specs.FormatReading.{ChainLine, DueLine, InnerLine, LeafLine, PlainLine}
+use Rattle.pmap_cert.specs.FormatReading.{ChainLine, DueLine, InnerLine, LeafLine}
 use Rattle.pmap_cert.specs.Inner.{BeginsWithBits, BeginsWithChain, BeginsWithClaim, BeginsWithLine, BeginsWithNumber, BeginsWithSet, GoesOnWithout, Reads, Then, after_byte, is_bit}
 use Rattle.pmap_cert.proofs.ChainLines.{bits-back, bits-digits, digits-back}
 use Rattle.pmap_cert.proofs.Written.{joined-numbers}
@@ -409,7 +409,7 @@ module _ (format most count : ℕ) (text : List ℕ) where
     module _ (rest : List ℕ) (letter : after_byte 110 text ≡ Some rest) (found : Option ((ℕ × List ℕ) × List ℕ))
         (claim : Reads (BeginsWithClaim (2 ^ 32) count rest) found) where
       abbrev as_inner : (ℕ × List ℕ) × List ℕ → DueLine × List ℕ
-      as_inner x = (PlainLine (InnerLine x.0.0 x.0.1), x.1)
+      as_inner x = (InnerLine x.0.0 x.0.1, x.1)
 
       pub line-inner : Reads Line (option_map as_inner found)
       line-inner = record { right = right found claim.right; only = only }
@@ -425,8 +425,8 @@ module _ (format most count : ℕ) (text : List ℕ) where
           }
 
           only : (line : DueLine) (r : List ℕ) → Line line r → option_map as_inner found ≡ Some (line, r)
-          only (PlainLine (LeafLine n)) r h = absurd (not-there 108 text _ no_leaf h.whole)
-          only (PlainLine (InnerLine cost numbers)) r h =
+          only (LeafLine n) r h = absurd (not-there 108 text _ no_leaf h.whole)
+          only (InnerLine cost numbers) r h =
               ap (option_map as_inner) (claim.only (cost, numbers) r (record {
                 middle = words numbers ++ 10 ∷ r;
                 first = record {
@@ -444,8 +444,8 @@ module _ (format most count : ℕ) (text : List ℕ) where
       line-none no_chain = reads_none Line never
         where
           never : (line : DueLine) (r : List ℕ) → Line line r → ⊥
-          never (PlainLine (LeafLine n)) r h = not-there 108 text _ no_leaf h.whole
-          never (PlainLine (InnerLine cost numbers)) r h = not-there 110 text _ no_inner (h.whole ∙ inner-text cost numbers r)
+          never (LeafLine n) r h = not-there 108 text _ no_leaf h.whole
+          never (InnerLine cost numbers) r h = not-there 110 text _ no_inner (h.whole ∙ inner-text cost numbers r)
           never (ChainLine cost bits side numbers) r h =
               not-there 99 text _ (no_chain h.fits.0) (h.whole ∙ chain-text cost bits side numbers r)
 
@@ -473,8 +473,8 @@ module _ (format most count : ℕ) (text : List ℕ) where
                 }
 
             only : (line : DueLine) (r : List ℕ) → Line line r → option_map as_chain found ≡ Some (line, r)
-            only (PlainLine (LeafLine n)) r h = absurd (not-there 108 text _ no_leaf h.whole)
-            only (PlainLine (InnerLine cost numbers)) r h = absurd (not-there 110 text _ no_inner (h.whole ∙ inner-text cost numbers r))
+            only (LeafLine n) r h = absurd (not-there 108 text _ no_leaf h.whole)
+            only (InnerLine cost numbers) r h = absurd (not-there 110 text _ no_inner (h.whole ∙ inner-text cost numbers r))
             only (ChainLine cost bits side numbers) r h =
                 let last : List ℕ = words numbers ++ 10 ∷ r in
                 let way : List ℕ = 32 ∷ (bit_digits bits ++ 32 ∷ (decimal side ++ last)) in

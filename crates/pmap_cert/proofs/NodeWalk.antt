@@ -1,8 +1,8 @@
 -- The nodes of a list of lines.
 use Rattle.std.proofs.Common.{◌≡◌, Bool, ℕ, zero, suc, ◌<◌, ◌≤◌, ◌∙◌, List, [], ◌∷◌, ◌++◌, length, drop, get_or, refl, sym, ap, subst, arith}
 use Rattle.std.proofs.lemmas.List.{append-nil, append_assoc}
-use Rattle.pmap_cert.specs.FormatReading.{ChainLine, DueLine, InnerLine, LeafLine, PlainLine}
-use Rattle.pmap_cert.specs.Node.{AreWhole, Chain, Inner, IsTree, Leaf, Node, bits_of, chained, cost_of, first_node, from_next_line, joined, label_of, line_bits, line_cost, line_label, line_set, line_side, lines_of, nodes-lines, nodes_of, set_of, side_of}
+use Rattle.pmap_cert.specs.FormatReading.{ChainLine, DueLine, InnerLine, LeafLine}
+use Rattle.pmap_cert.specs.Node.{AreWhole, Chain, Inner, IsTree, Leaf, Node, bits_of, chained, cost_of, first_node, from_next_line, joined, label_of, lines_of, nodes-lines, nodes_of, set_of, side_of, node_of}
 
 pub whole-lines : (node : Node) (rest : List DueLine) → AreWhole rest → AreWhole (lines_of node ++ rest)
 whole-lines (Leaf number) rest whole = whole
@@ -28,8 +28,8 @@ tree-lines lines node tree is = tree.is ∙ ap lines_of (sym (ap first_node (roo
 pub whole-next : (lines : List DueLine) (k : ℕ) → AreWhole (drop k lines) → AreWhole (drop (suc k) lines)
 whole-next [] zero whole = whole
 whole-next [] (suc k) whole = whole
-whole-next (PlainLine (LeafLine number) ∷ lines) zero whole = whole
-whole-next (PlainLine (InnerLine cost numbers) ∷ lines) zero whole = whole.1
+whole-next (LeafLine number ∷ lines) zero whole = whole
+whole-next (InnerLine cost numbers ∷ lines) zero whole = whole.1
 whole-next (ChainLine cost bits side numbers ∷ lines) zero whole = whole.1
 whole-next (line ∷ lines) (suc k) whole = whole-next lines k whole
 
@@ -45,20 +45,20 @@ end-next cost set bits side (end ∷ nodes) some = refl
 pub nodes-next : (lines : List DueLine) (k : ℕ) → AreWhole (drop k lines) → nodes_of (drop (suc k) lines) ≡ from_next_line (nodes_of (drop k lines))
 nodes-next [] zero whole = refl
 nodes-next [] (suc k) whole = refl
-nodes-next (PlainLine (LeafLine number) ∷ lines) zero whole = refl
-nodes-next (PlainLine (InnerLine cost numbers) ∷ lines) zero whole = halves cost numbers (nodes_of lines) whole.0
+nodes-next (LeafLine number ∷ lines) zero whole = refl
+nodes-next (InnerLine cost numbers ∷ lines) zero whole = halves cost numbers (nodes_of lines) whole.0
 nodes-next (ChainLine cost bits side numbers ∷ lines) zero whole = end-next cost numbers bits side (nodes_of lines) whole.0
 nodes-next (line ∷ lines) (suc k) whole = nodes-next lines k whole
 
 -- the line has the values of its node
 pub record IsLineOf (line : DueLine) (node : Node) : Type 0 where
-  pub label : line_label line ≡ label_of node
-  pub cost : line_cost line ≡ cost_of node
-  pub set : line_set line ≡ set_of node
-  pub bits : line_bits line ≡ bits_of node
-  pub side : line_side line ≡ side_of node
+  pub label : label_of (node_of line) ≡ label_of node
+  pub cost : cost_of (node_of line) ≡ cost_of node
+  pub set : set_of (node_of line) ≡ set_of node
+  pub bits : bits_of (node_of line) ≡ bits_of node
+  pub side : side_of (node_of line) ≡ side_of node
 
-inner-line : (cost : ℕ) (set : List ℕ) (nodes : List Node) → 2 ≤ length nodes → IsLineOf (PlainLine (InnerLine cost set)) (first_node (joined cost set nodes))
+inner-line : (cost : ℕ) (set : List ℕ) (nodes : List Node) → 2 ≤ length nodes → IsLineOf (InnerLine cost set) (first_node (joined cost set nodes))
 inner-line cost set [] two = absurd (omega arith)
 inner-line cost set (node ∷ []) two = absurd (omega arith)
 inner-line cost set (lower ∷ upper ∷ nodes) two = record { label = refl; cost = refl; set = refl; bits = refl; side = refl }
@@ -78,7 +78,7 @@ pub line-here : (lines : List DueLine) (k : ℕ) (z : DueLine) → 0 < length (n
     → IsLineOf (get_or lines k z) (first_node (nodes_of (drop k lines)))
 line-here [] zero z some whole = absurd (omega arith)
 line-here [] (suc k) z some whole = absurd (omega arith)
-line-here (PlainLine (LeafLine number) ∷ lines) zero z some whole = record { label = refl; cost = refl; set = refl; bits = refl; side = refl }
-line-here (PlainLine (InnerLine cost numbers) ∷ lines) zero z some whole = inner-line cost numbers (nodes_of lines) whole.0
+line-here (LeafLine number ∷ lines) zero z some whole = record { label = refl; cost = refl; set = refl; bits = refl; side = refl }
+line-here (InnerLine cost numbers ∷ lines) zero z some whole = inner-line cost numbers (nodes_of lines) whole.0
 line-here (ChainLine cost bits side numbers ∷ lines) zero z some whole = chain-line cost numbers bits side (nodes_of lines) whole.0
 line-here (line ∷ lines) (suc k) z some whole = line-here lines k z some whole

@@ -4,7 +4,7 @@ use Rattle.std.specs.List.{slice_range}
 use Rattle.std.proofs.lemmas.List.{drop-append-le, append-nil, get_or_append_left, get_or_push, map-append, take-append-le}
 use Rattle.std.proofs.lemmas.List.Elements.{All-head, All-push, All-tail, All-weaker}
 use Rattle.pmap_text.specs.declared.label.LabelId.{LabelId}
-use Rattle.pmap_cert.specs.FormatReading.{ChainLine, DueLine, InnerLine, PlainLine}
+use Rattle.pmap_cert.specs.FormatReading.{ChainLine, DueLine, InnerLine}
 use Rattle.pmap_cert.specs.Packed.{HasSet, HasSetBy, IsGrown, IsHeld, IsPacked, Store, bits_in, chain_at, chain_in, count_at, joined_halves, line_in, no_chain, set_by, set_in, Packed, Chain, Inner, Leaf, PackedChain, SetId}
 
 -- a range of a list stays the same if more is appended
@@ -64,7 +64,7 @@ module _ (s s' : Store) (m : IsMore s s') where
 
   same-line : (p : Packed) → IsPacked s p → line_in s' p ≡ line_in s p
   same-line (Leaf id) has = refl
-  same-line (Inner cost set) has = ap (λ (ns : List ℕ). PlainLine (InnerLine cost ns)) (same-set s s' set m has)
+  same-line (Inner cost set) has = ap (λ (ns : List ℕ). InnerLine cost ns) (same-set s s' set m has)
   same-line (Chain low high) has =
       let c = chain_at s.chains (joined_halves low high) in
       ap (chain_in s') (same-chain_at (joined_halves low high) has.0) ∙ (λ i. ChainLine c.cost (bits_in c.way) c.side.0 (same-set s s' c.set m has.1 i))

@@ -7,7 +7,7 @@ use Rattle.pmap_text.specs.Reading.{◌>>=◌}
 use Rattle.pmap_text.specs.MapText.{text_at}
 use Rattle.pmap_cert.specs.CertificateModel.{ChainNode, InnerNode, LeafNode, Pair, Tree}
 use Rattle.pmap_cert.specs.Format.{IsNodeOf, format_number, Format, One, Two}
-use Rattle.pmap_cert.specs.FormatReading.{ChainLine, DueLine, InnerLine, LeafLine, Place, PlainLine, due_node, fault_at, labels_at, line_due_at, new_label, nodes_at, line_value, CertFault, BadLabelTable, TooDeep}
+use Rattle.pmap_cert.specs.FormatReading.{ChainLine, DueLine, InnerLine, LeafLine, Place, due_node, fault_at, labels_at, line_due_at, new_label, nodes_at, line_value, CertFault, BadLabelTable, TooDeep}
 use Rattle.pmap_cert.specs.Node.{Chain, HasChainForm, Inner, Leaf, Node, lines_of, tree_of}
 use Rattle.pmap_cert.specs.Inner.{IsReadNode}
 use Rattle.pmap_cert.proofs.ChainWords.{room-left}
@@ -47,7 +47,7 @@ module _ (due : Place → Result (DueLine × Place) CertFault) (table : List Lab
   node-fault zero fault e = ap (then_in zero too_deep) e
   node-fault (suc room) fault e = ap (then_in (suc room) (nodes_at due table room)) e
 
-  pub node-leaf : (room number : ℕ) → due place ≡ Ok (PlainLine (LeafLine number), after)
+  pub node-leaf : (room number : ℕ) → due place ≡ Ok (LeafLine number, after)
       → nodes_at due table room 0 place ≡ Ok (LeafNode (text_at table number), after)
   unfolding nodes_at
   node-leaf zero number e = ap (then_in zero too_deep) e
@@ -57,7 +57,7 @@ module _ (due : Place → Result (DueLine × Place) CertFault) (table : List Lab
     abbrev claim : Pair
     claim = record { cost = cost; labels = map (text_at table) numbers }
 
-    module _ (is : due place ≡ Ok (PlainLine (InnerLine cost numbers), after)) where
+    module _ (is : due place ≡ Ok (InnerLine cost numbers, after)) where
       pub node-deep : nodes_at due table 0 0 place ≡ Err (fault_at place TooDeep)
       unfolding nodes_at
       node-deep = ap (then_in zero too_deep) is
@@ -141,10 +141,10 @@ module _ (format : Format) (most : ℕ) (table : List Label) where
       let said = line_due-found (format_number format) most (length table) place (ChainLine cost bits side numbers, after) is in said.2.1.2
 
   -- a leaf that was read, and its line after the old ones
-  pub read-leaf : (room : ℕ) (place after : Place) (number : ℕ) (old new : List DueLine) → due_in place ≡ Ok (PlainLine (LeafLine number), after)
-      → new ≡ old ++ PlainLine (LeafLine number) ∷ [] → IsReadNode format most table room place old new after
+  pub read-leaf : (room : ℕ) (place after : Place) (number : ℕ) (old new : List DueLine) → due_in place ≡ Ok (LeafLine number, after)
+      → new ≡ old ++ LeafLine number ∷ [] → IsReadNode format most table room place old new after
   read-leaf room place after number old new due is =
-      let said = line_due-found (format_number format) most (length table) place (PlainLine (LeafLine number), after) due in record {
+      let said = line_due-found (format_number format) most (length table) place (LeafLine number, after) due in record {
         node = Leaf number;
         read = node-leaf due_in table place after room number due;
         form = said.2.1;
@@ -153,11 +153,11 @@ module _ (format : Format) (most : ℕ) (table : List Label) where
       }
 
   pub read-inner : (room : ℕ) (place after middle end : Place) (cost : ℕ) (numbers : List ℕ) (old first second third : List DueLine)
-      → due_in place ≡ Ok (PlainLine (InnerLine cost numbers), after) → 0 < room → first ≡ old ++ PlainLine (InnerLine cost numbers) ∷ []
+      → due_in place ≡ Ok (InnerLine cost numbers, after) → 0 < room → first ≡ old ++ InnerLine cost numbers ∷ []
       → IsReadNode format most table (room - 1) after first second middle → IsReadNode format most table (room - 1) middle second third end
       → IsReadNode format most table room place old third end
   read-inner room place after middle end cost numbers old first second third due some is low up =
-      let said = line_due-found (format_number format) most (length table) place (PlainLine (InnerLine cost numbers), after) due in
+      let said = line_due-found (format_number format) most (length table) place (InnerLine cost numbers, after) due in
       let more : suc (room - 1) ≡ room = omega arith in
       let node : Node = Inner cost numbers low.node up.node in record {
         node = node;
@@ -166,8 +166,8 @@ module _ (format : Format) (most : ℕ) (table : List Label) where
         kind = inner-kind format cost numbers low.node up.node low.kind up.kind;
         lines =
             up.lines ∙ ap (λ (ls : List DueLine). ls ++ lines_of up.node) (low.lines ∙ ap (λ (ls : List DueLine). ls ++ lines_of low.node) is)
-            ∙ append_assoc (old ++ PlainLine (InnerLine cost numbers) ∷ []) (lines_of low.node) (lines_of up.node)
-            ∙ append_assoc old (PlainLine (InnerLine cost numbers) ∷ []) (lines_of low.node ++ lines_of up.node);
+            ∙ append_assoc (old ++ InnerLine cost numbers ∷ []) (lines_of low.node) (lines_of up.node)
+            ∙ append_assoc old (InnerLine cost numbers ∷ []) (lines_of low.node ++ lines_of up.node);
       }
 
   pub read-chain : (room : ℕ) (place after end : Place) (cost : ℕ) (bits : List Bool) (side : ℕ) (numbers : List ℕ) (old first second : List DueLine)

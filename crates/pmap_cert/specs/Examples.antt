@@ -1,4 +1,4 @@
-use Rattle.std.specs.Prelude.{List, [], ◌∷◌, None, codes, ℕ, zero, suc, Bool, true}
+use Rattle.std.specs.Prelude.{List, [], ◌∷◌, None, codes, ℕ, replicate, true}
 use Rattle.prefix_keys.specs.declared.version.Version.TheVariants.{V4}
 use Rattle.pmap_text.specs.ListModel.{ListModel}
 use Rattle.pmap_text.specs.MapModel.{Label, MapModel}
@@ -58,18 +58,13 @@ four_quarters_certificate = record {
 --   default D   255.255.255.255 X
 -- whose certificate is one chain of 32 bits.
 
--- n steps into the upper half
-abbrev pub all_upper : ℕ → List Bool
-all_upper zero = []
-all_upper (suc n) = true ∷ all_upper n
-
 abbrev pub last_address_table : List Label
 last_address_table = codes "D" ∷ codes "X" ∷ []
 
 -- the chain  c 1 {D}  of 32 bits, with the side label D, over the leaf X
 abbrev pub last_address_chain : Tree
 last_address_chain =
-    ChainNode (record { cost = 1; labels = codes "D" ∷ [] }) (all_upper 32) (codes "D") (LeafNode (codes "X"))
+    ChainNode (record { cost = 1; labels = codes "D" ∷ [] }) (replicate 32 true) (codes "D") (LeafNode (codes "X"))
 
 abbrev pub last_address_certificate : CertificateModel
 last_address_certificate = record { format = 2; version = V4; table = last_address_table; root = last_address_chain }

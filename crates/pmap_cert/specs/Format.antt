@@ -4,8 +4,6 @@ use Rattle.pmap_cert.specs.Node.{Chain, Inner, IsPlainNode, Leaf, Node}
 pub use Rattle.pmap_cert.specs.declared.format.Format.{Format}
 pub use Rattle.pmap_cert.specs.declared.format.Format.TheVariants.{One, Two}
 
--- The format of a certificate of the code.
-
 abbrev pub format_number : Format → ℕ
 format_number One = 1
 format_number Two = 2

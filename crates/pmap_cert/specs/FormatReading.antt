@@ -100,28 +100,23 @@ rising_numbers bound low [] = Some []
 rising_numbers bound low (word ∷ words) =
     onto_numbers low (number_below bound word) (λ next. rising_numbers bound next words)
 
--- a line of a leaf with its label's number, or of an inner node with its cost and its set's numbers
-pub data NodeLine : Type 0 where
-  LeafLine : (number : ℕ) → NodeLine
-  InnerLine : (cost : ℕ) (numbers : List ℕ) → NodeLine
+-- a line of a leaf with its label's number, of an inner node with its cost and its set's numbers, or of a chain with its
+-- cost, its bits, and the numbers of its side label and its set
+pub data DueLine : Type 0 where
+  LeafLine : (number : ℕ) → DueLine
+  InnerLine : (cost : ℕ) (numbers : List ℕ) → DueLine
+  ChainLine : (cost : ℕ) (bits : List Bool) (side : ℕ) (numbers : List ℕ) → DueLine
 
 -- the line of a leaf, by its words after the first
-abbrev pub leaf_by : ℕ → List (List ℕ) → Option NodeLine
+abbrev pub leaf_by : ℕ → List (List ℕ) → Option DueLine
 leaf_by count (number ∷ []) = option_map LeafLine (number_below count number)
 leaf_by count _ = None
 
 -- the line of an inner node, by its words after the first
-abbrev pub inner_by : ℕ → List (List ℕ) → Option NodeLine
+abbrev pub inner_by : ℕ → List (List ℕ) → Option DueLine
 inner_by count (cost ∷ numbers) =
     option_map (λ claim. InnerLine claim.0 claim.1) (both (number_below (2 ^ 32) cost) (rising_numbers count 0 numbers))
 inner_by count [] = None
-
--- the line of a leaf or an inner node, by its words, in a certificate of `count` labels
-abbrev pub node_words : ℕ → List (List ℕ) → Option NodeLine
-node_words count (word ∷ words) =
-    if bytes_eq word (codes "l") then leaf_by count words
-    else (if bytes_eq word (codes "n") then inner_by count words else None)
-node_words count [] = None
 
 -- the format that a word names
 abbrev pub named_format : List ℕ → Option ℕ
@@ -138,12 +133,6 @@ format_header_of _ = None
 -- reads the header
 abbrev pub format_header_at : Place → Result ((ℕ × (Version × ℕ)) × Place) CertFault
 format_header_at place = line_value BadHeader (λ line. format_header_of (words_of line)) place
-
--- a line of a leaf or an inner node, or of a chain with its cost, its bits, and the numbers of its side label and its
--- set
-pub data DueLine : Type 0 where
-  PlainLine : (line : NodeLine) → DueLine
-  ChainLine : (cost : ℕ) (bits : List Bool) (side : ℕ) (numbers : List ℕ) → DueLine
 
 -- the bits of a word of 1 to `most` digits 0 and 1
 abbrev pub bits_of : ℕ → List ℕ → Option (List Bool)
@@ -163,7 +152,9 @@ chain_by most count _ = None
 -- the line of a node by its words; only format 2 has chains
 abbrev pub due_words : ℕ → ℕ → ℕ → List (List ℕ) → Option DueLine
 due_words format most count (word ∷ words) =
-    if format == 2 && bytes_eq word (codes "c") then chain_by most count words else option_map PlainLine (node_words count (word ∷ words))
+    if format == 2 && bytes_eq word (codes "c") then chain_by most count words
+    else (if bytes_eq word (codes "l") then leaf_by count words
+    else (if bytes_eq word (codes "n") then inner_by count words else None))
 due_words format most count [] = None
 
 -- reads the line of the next node; if there is none, the text has ended, or its next line is malformed
@@ -174,8 +165,8 @@ line_due_at format most count place =
 -- The node of a line, with at most `room` levels below it. `inside d` reads a node that is d + 1 levels below: a half
 -- of an inner node is one level below it, and a chain's end as many levels as the chain has bits.
 abbrev pub due_node : List Label → ℕ → Place → (ℕ → Place → Result (Tree × Place) CertFault) → DueLine → Place → Result (Tree × Place) CertFault
-due_node table room place inside (PlainLine (LeafLine number)) after = Ok (LeafNode (text_at table number), after)
-due_node table room place inside (PlainLine (InnerLine cost numbers)) after =
+due_node table room place inside (LeafLine number) after = Ok (LeafNode (text_at table number), after)
+due_node table room place inside (InnerLine cost numbers) after =
     inside 0 after >>= (λ lower. inside 0 lower.1 >>= (λ upper.
     Ok (InnerNode (record { cost = cost; labels = map (text_at table) numbers }) lower.0 upper.0, upper.1)))
 due_node table room place inside (ChainLine cost [] side numbers) after = Err (fault_at place BadNode)

@@ -6,8 +6,8 @@ use Rattle.prefix_keys.specs.Text.{is_digit}
 use Rattle.pmap_text.specs.MapModel.{Label}
 use Rattle.pmap_text.specs.Label.{IsLabelTable}
 use Rattle.pmap_cert.specs.Format.{IsNodeOf, format_number, Format}
-use Rattle.pmap_cert.specs.FormatReading.{DueLine, Place, line_due_at, nodes_at, ChainLine, InnerLine, LeafLine, PlainLine, CertFault}
-use Rattle.pmap_cert.specs.Node.{HasChainForm, Node, lines_of, tree_of, line_text, AreWhole, Chain, Inner, Leaf, behind, first_node, label_of, nodes_of}
+use Rattle.pmap_cert.specs.FormatReading.{DueLine, Place, line_due_at, nodes_at, ChainLine, InnerLine, LeafLine, CertFault}
+use Rattle.pmap_cert.specs.Node.{HasChainForm, IsPlainNode, Node, lines_of, tree_of, line_text, AreWhole, Inner, Leaf, first_node, label_of, node_of, nodes_of}
 use Rattle.pmap_cert.specs.CertificateModel.{Tree}
 use Rattle.pmap_cert.specs.CertificateText.{IsRising, bit_digits}
 use Rattle.pmap_cert.specs.Compacting.{compacted}
@@ -27,8 +27,6 @@ pub record IsReadNode (format : Format) (most : ℕ) (table : List Label) (room 
   pub kind : IsNodeOf format node
   pub lines : new ≡ old ++ lines_of node
 
--- What a text begins with, for the contracts of private functions.
-
 -- A reading of the text finds x and the rest exactly if `Begins x rest` holds.
 pub record Reads {A : Type 0} (Begins : A → List ℕ → Type 0) (found : Option (A × List ℕ)) : Type 0 where
   pub right : IfSome found (λ x. Begins x.0 x.1)
@@ -44,7 +42,6 @@ abbrev pub GoesOnWithout : (ℕ → Bool) → List ℕ → Type 0
 GoesOnWithout known [] = ⊥
 GoesOnWithout known (b ∷ rest) = known b ≡ false
 
--- a digit of a chain's bits
 abbrev pub is_bit : ℕ → Bool
 is_bit d = (d == 48) || (d == 49)
 
@@ -66,79 +63,58 @@ pub record BeginsWithSet (bound low : ℕ) (text : List ℕ) (numbers rest : Lis
   pub whole : text ≡ flat_map (λ n. 32 ∷ decimal n) numbers ++ 10 ∷ rest
   pub rising : IsRising bound low numbers
 
--- the text is a leaf's line after its letter, and then the rest
 pub record BeginsWithLeaf (count : ℕ) (text : List ℕ) (number : ℕ) (rest : List ℕ) : Type 0 where
   pub whole : text ≡ 32 ∷ (decimal number ++ 10 ∷ rest)
   pub known : number < count
 
--- the text is a first part, a second part, and the rest
 pub record Then {A B : Type 0} (First : A → List ℕ → Type 0) (Second : List ℕ → B → List ℕ → Type 0) (both : A × B) (rest : List ℕ) : Type 0 where
   pub middle : List ℕ
   pub first : First both.0 middle
   pub second : Second middle both.1 rest
 
--- a number below the bound, and then the set to the end of the line
 abbrev pub BeginsWithClaim : ℕ → ℕ → List ℕ → ℕ × List ℕ → List ℕ → Type 0
 BeginsWithClaim bound count text = Then (BeginsWithNumber bound text) (BeginsWithSet count 0)
 
--- the bits of a chain, and then its side label and its set
-abbrev pub BeginsWithWay : ℕ → ℕ → List ℕ → List Bool × (ℕ × List ℕ) → List ℕ → Type 0
-BeginsWithWay most count text = Then (BeginsWithBits most text) (BeginsWithClaim count count)
-
--- the cost of a chain, and then its bits, its side label and its set
 abbrev pub BeginsWithChain : ℕ → ℕ → List ℕ → ℕ × (List Bool × (ℕ × List ℕ)) → List ℕ → Type 0
-BeginsWithChain most count text = Then (BeginsWithNumber (2 ^ 32) text) (BeginsWithWay most count)
+BeginsWithChain most count text =
+    Then (BeginsWithNumber (2 ^ 32) text) (λ middle. Then (BeginsWithBits most middle) (BeginsWithClaim count count))
 
 -- the line fits a certificate of this format with `count` labels for addresses of `most` bits
 abbrev pub FitsLine : ℕ → ℕ → ℕ → DueLine → Type 0
-FitsLine format most count (PlainLine (LeafLine number)) = number < count
-FitsLine format most count (PlainLine (InnerLine cost numbers)) = (cost < 2 ^ 32) × IsRising count 0 numbers
+FitsLine format most count (LeafLine number) = number < count
+FitsLine format most count (InnerLine cost numbers) = (cost < 2 ^ 32) × IsRising count 0 numbers
 FitsLine format most count (ChainLine cost bits side numbers) =
     (format ≡ 2) × (cost < 2 ^ 32) × (0 < length bits) × (length bits ≤ most) × (side < count) × IsRising count 0 numbers
 
--- the text is a line that fits, and then the rest
 pub record BeginsWithLine (format most count : ℕ) (text : List ℕ) (line : DueLine) (rest : List ℕ) : Type 0 where
   pub whole : text ≡ line_text line ++ 10 ∷ rest
   pub fits : FitsLine format most count line
 
--- Nodes by the numbers of their lines while the code compacts, for the contracts of private functions.
-
--- the line isn't that of a chain
-abbrev pub IsPlainLine : DueLine → Type 0
-IsPlainLine (PlainLine line) = Unit {0}
-IsPlainLine (ChainLine cost bits side numbers) = ⊥
-
--- the node at line `number`
 abbrev pub node_from : List DueLine → ℕ → Node
 node_from lines number = first_node (nodes_of (drop number lines))
 
--- the node is a leaf with this label
 abbrev pub is_leaf : ℕ → Node → Bool
 is_leaf side (Leaf number) = number == side
-is_leaf side (Inner cost set lower upper) = false
-is_leaf side (Chain cost set bits x end) = false
+is_leaf side _ = false
 
--- the bits of the run of a side label from a node down
 abbrev pub bits_down : ℕ → Node → List Bool
 bits_down side (Inner cost set lower upper) =
     if is_leaf side lower then true ∷ bits_down side upper
     else (if is_leaf side upper then false ∷ bits_down side lower else [])
-bits_down side (Leaf number) = []
-bits_down side (Chain cost set bits x end) = []
+bits_down side _ = []
 
 -- the lines are those of whole nodes without chains, whose runs have at most 128 bits
 pub record ArePlain (lines : List DueLine) : Type 0 where
   pub whole : AreWhole lines
-  pub plain : All IsPlainLine lines
+  pub plain : All (λ line. IsPlainNode (node_of line)) lines
   pub short : (k side : ℕ) → length (bits_down side (node_from lines k)) ≤ 128
 
 -- The lines of the node at line `number` and of those below it end before line `end`.
 pub record EndsAt (lines : List DueLine) (number end : ℕ) : Type 0 where
   pub after : number < end
   pub within : end ≤ length lines
-  pub behind : nodes_of (drop end lines) ≡ behind (nodes_of (drop number lines))
+  pub behind : nodes_of (drop end lines) ≡ drop 1 (nodes_of (drop number lines))
 
--- `ends` has the end of each node from line `number` on
 pub record AreEndsFrom (lines : List DueLine) (ends : List ℕ) (number : ℕ) : Type 0 where
   pub count : length ends ≡ length lines
   pub each : (k : ℕ) → number ≤ k → k < length lines → EndsAt lines k (slice_index ends k)
@@ -158,20 +134,17 @@ pub record HasHalves (lines : List DueLine) (all : List ℕ) (number lower upper
   pub up : HasPlace lines all upper
   pub low_after : number < lower
   pub up_after : number < upper
-  pub rest : behind (nodes_of (drop number lines)) ≡ behind (nodes_of (drop upper lines))
+  pub rest : drop 1 (nodes_of (drop number lines)) ≡ drop 1 (nodes_of (drop upper lines))
 
--- the node at line `number` is the given leaf or has the given halves
 abbrev pub IsBelow : List DueLine → List ℕ → ℕ → Below → Type 0
 IsBelow lines all number (Nothing id) = node_from lines number ≡ Leaf id.0
 IsBelow lines all number (Halves lower upper) = HasHalves lines all number lower upper
 
--- the node at the end of the run of a side label from a node down
 abbrev pub end_down : ℕ → Node → Node
 end_down side (Inner cost set lower upper) =
     if is_leaf side lower then end_down side upper
     else (if is_leaf side upper then end_down side lower else Inner cost set lower upper)
-end_down side (Leaf number) = Leaf number
-end_down side (Chain cost set bits x end) = Chain cost set bits x end
+end_down side node = node
 
 -- a run of the side label steps from line `number` by this bit to the chosen half
 pub record IsStep (lines : List DueLine) (all : List ℕ) (side number : ℕ) (bit : Bool) (chosen : ℕ) : Type 0 where
@@ -180,7 +153,6 @@ pub record IsStep (lines : List DueLine) (all : List ℕ) (side number : ℕ) (b
   pub after : number < chosen
   pub place : HasPlace lines all chosen
 
--- the run of the side label ends at line `number`
 pub record IsRunEnd (lines : List DueLine) (side number : ℕ) : Type 0 where
   pub bits : bits_down side (node_from lines number) ≡ []
   pub end : end_down side (node_from lines number) ≡ node_from lines number
@@ -192,13 +164,10 @@ pub record IsRun (lines : List DueLine) (all : List ℕ) (side number : ℕ) (bi
   pub place : HasPlace lines all end
   pub after : number + length bits ≤ end
 
--- the side label of an inner node's run
 abbrev pub side_below : Node → Option ℕ
 side_below (Inner cost set lower upper) = option_or (label_of lower) (label_of upper)
-side_below (Leaf number) = None
-side_below (Chain cost set bits side end) = None
+side_below _ = None
 
--- the run of an inner node has fewer than two bits
 abbrev pub IsShort : Node → Type 0
 IsShort node = (side : ℕ) → side_below node ≡ Some side → length (bits_down side node) < 2
 
@@ -214,12 +183,10 @@ pub record IsCompactNode (node compact : Node) : Type 0 where
       tree_of table compact ≡ compacted (tree_of table node)
   pub form : (count room : ℕ) → HasChainForm count node room → HasChainForm count compact room
 
--- the new lines are the old ones and then those of the node compacted
 pub record IsCompacted (node : Node) (old new : List DueLine) : Type 0 where
   pub compact : Node
   pub is : IsCompactNode node compact
   pub lines : new ≡ old ++ lines_of compact
 
--- the node has at most 128 levels below it
 abbrev pub IsShallow : Node → Type 0
 IsShallow node = (count : ℕ) × (room : ℕ) × (room ≤ 128) × HasChainForm count node room

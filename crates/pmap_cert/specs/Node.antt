@@ -7,23 +7,19 @@ use Rattle.pmap_text.specs.MapModel.{Label}
 use Rattle.pmap_text.specs.MapText.{text_at}
 use Rattle.pmap_cert.specs.CertificateText.{HasRoomBelow, IsRising, IsRising-prop, chain_line, inner_line, leaf_line}
 use Rattle.pmap_cert.specs.CertificateModel.{ChainNode, InnerNode, LeafNode, Tree}
-use Rattle.pmap_cert.specs.FormatReading.{ChainLine, DueLine, InnerLine, LeafLine, PlainLine}
+use Rattle.pmap_cert.specs.FormatReading.{ChainLine, DueLine, InnerLine, LeafLine}
 
--- Nodes with label numbers, as the code has them.
-
--- a leaf with the number of its label, an inner node with the cost and the set of label numbers that it claims and the
--- nodes of the halves of its block, or a chain with its claim, its bits, the number of its side label and the node at
--- its end
+-- A node with label numbers, as the code has it: a leaf with the number of its label, an inner node with the cost and
+-- the set that it claims and the nodes of its block's halves, or a chain with its claim, its bits, the number of its
+-- side label and the node at its end.
 pub data Node : Type 0 where
   Leaf : (number : ℕ) → Node
   Inner : (cost : ℕ) (set : List ℕ) (lower upper : Node) → Node
   Chain : (cost : ℕ) (set : List ℕ) (bits : List Bool) (side : ℕ) (end : Node) → Node
 
--- the label of a leaf
 abbrev pub label_of : Node → Option ℕ
 label_of (Leaf number) = Some number
-label_of (Inner cost set lower upper) = None
-label_of (Chain cost set bits side end) = None
+label_of _ = None
 
 -- the cost that a node claims, 0 for a leaf
 abbrev pub cost_of : Node → ℕ
@@ -37,18 +33,14 @@ set_of (Leaf number) = number ∷ []
 set_of (Inner cost set lower upper) = set
 set_of (Chain cost set bits side end) = set
 
--- the bits of a chain
 abbrev pub bits_of : Node → List Bool
-bits_of (Leaf number) = []
-bits_of (Inner cost set lower upper) = []
 bits_of (Chain cost set bits side end) = bits
+bits_of _ = []
 
 abbrev pub side_of : Node → Option ℕ
-side_of (Leaf number) = None
-side_of (Inner cost set lower upper) = None
 side_of (Chain cost set bits side end) = Some side
+side_of _ = None
 
--- the node with the texts of its label numbers
 abbrev pub tree_of : List Label → Node → Tree
 tree_of table (Leaf number) = LeafNode (text_at table number)
 tree_of table (Inner cost set lower upper) =
@@ -56,7 +48,6 @@ tree_of table (Inner cost set lower upper) =
 tree_of table (Chain cost set bits side end) =
     ChainNode (record { cost = cost; labels = map (text_at table) set }) bits (text_at table side) (tree_of table end)
 
--- the node has no chain
 abbrev pub IsPlainNode : Node → Type 0
 IsPlainNode (Leaf number) = Unit {0}
 IsPlainNode (Inner cost set lower upper) = IsPlainNode lower × IsPlainNode upper
@@ -104,39 +95,20 @@ HasChainForm-prop count (Chain cost set bits side end) room =
 -- the lines of a node and of those below it: first its own, then all of the lower half, then all of the upper, or all
 -- of a chain's end
 abbrev pub lines_of : Node → List DueLine
-lines_of (Leaf number) = PlainLine (LeafLine number) ∷ []
-lines_of (Inner cost set lower upper) = PlainLine (InnerLine cost set) ∷ (lines_of lower ++ lines_of upper)
+lines_of (Leaf number) = LeafLine number ∷ []
+lines_of (Inner cost set lower upper) = InnerLine cost set ∷ (lines_of lower ++ lines_of upper)
 lines_of (Chain cost set bits side end) = ChainLine cost bits side set ∷ lines_of end
 
--- the text of a line without its line feed
 abbrev pub line_text : DueLine → List ℕ
-line_text (PlainLine (LeafLine number)) = leaf_line number
-line_text (PlainLine (InnerLine cost numbers)) = inner_line cost numbers
+line_text (LeafLine number) = leaf_line number
+line_text (InnerLine cost numbers) = inner_line cost numbers
 line_text (ChainLine cost bits side numbers) = chain_line cost bits side numbers
 
--- the label, cost, set, bits and side label of a line, as those of its node
-abbrev pub line_label : DueLine → Option ℕ
-line_label (PlainLine (LeafLine number)) = Some number
-line_label (PlainLine (InnerLine cost numbers)) = None
-line_label (ChainLine cost bits side numbers) = None
-
-abbrev pub line_cost : DueLine → ℕ
-line_cost (PlainLine (LeafLine number)) = 0
-line_cost (PlainLine (InnerLine cost numbers)) = cost
-line_cost (ChainLine cost bits side numbers) = cost
-
-abbrev pub line_set : DueLine → List ℕ
-line_set (PlainLine (LeafLine number)) = number ∷ []
-line_set (PlainLine (InnerLine cost numbers)) = numbers
-line_set (ChainLine cost bits side numbers) = numbers
-
-abbrev pub line_bits : DueLine → List Bool
-line_bits (PlainLine line) = []
-line_bits (ChainLine cost bits side numbers) = bits
-
-abbrev pub line_side : DueLine → Option ℕ
-line_side (PlainLine line) = None
-line_side (ChainLine cost bits side numbers) = Some side
+-- the node of a line, with placeholders for the nodes below it
+abbrev pub node_of : DueLine → Node
+node_of (LeafLine number) = Leaf number
+node_of (InnerLine cost numbers) = Inner cost numbers (Leaf 0) (Leaf 0)
+node_of (ChainLine cost bits side numbers) = Chain cost numbers bits side (Leaf 0)
 
 -- the lines are those of one node and of the nodes below it
 pub record IsTree (lines : List DueLine) : Type 0 where
@@ -154,15 +126,15 @@ chained cost set bits side [] = []
 
 abbrev pub nodes_of : List DueLine → List Node
 nodes_of [] = []
-nodes_of (PlainLine (LeafLine number) ∷ lines) = Leaf number ∷ nodes_of lines
-nodes_of (PlainLine (InnerLine cost numbers) ∷ lines) = joined cost numbers (nodes_of lines)
+nodes_of (LeafLine number ∷ lines) = Leaf number ∷ nodes_of lines
+nodes_of (InnerLine cost numbers ∷ lines) = joined cost numbers (nodes_of lines)
 nodes_of (ChainLine cost bits side numbers ∷ lines) = chained cost numbers bits side (nodes_of lines)
 
 -- each line of an inner node is followed by the nodes of its halves, and each line of a chain by its end
 abbrev pub AreWhole : List DueLine → Type 0
 AreWhole [] = Unit {0}
-AreWhole (PlainLine (LeafLine number) ∷ lines) = AreWhole lines
-AreWhole (PlainLine (InnerLine cost numbers) ∷ lines) = (2 ≤ length (nodes_of lines)) × AreWhole lines
+AreWhole (LeafLine number ∷ lines) = AreWhole lines
+AreWhole (InnerLine cost numbers ∷ lines) = (2 ≤ length (nodes_of lines)) × AreWhole lines
 AreWhole (ChainLine cost bits side numbers ∷ lines) = (1 ≤ length (nodes_of lines)) × AreWhole lines
 
 -- the first of the nodes, or a placeholder if there is none
@@ -178,26 +150,21 @@ from_next_line (Leaf number ∷ nodes) = nodes
 from_next_line (Inner cost set lower upper ∷ nodes) = lower ∷ upper ∷ nodes
 from_next_line (Chain cost set bits side end ∷ nodes) = end ∷ nodes
 
--- the nodes after the first one
-abbrev pub behind : List Node → List Node
-behind [] = []
-behind (node ∷ nodes) = nodes
-
 -- A node is coded as the list of its lines, and a line by its kind, bits and numbers.
 
 abbrev pub split_line : DueLine → ℕ ⊎ ((ℕ × List ℕ) ⊎ ((ℕ × List Bool) × (ℕ × List ℕ)))
-split_line (PlainLine (LeafLine number)) = inl number
-split_line (PlainLine (InnerLine cost numbers)) = inr (inl (cost, numbers))
+split_line (LeafLine number) = inl number
+split_line (InnerLine cost numbers) = inr (inl (cost, numbers))
 split_line (ChainLine cost bits side numbers) = inr (inr ((cost, bits), (side, numbers)))
 
 abbrev pub join_line : ℕ ⊎ ((ℕ × List ℕ) ⊎ ((ℕ × List Bool) × (ℕ × List ℕ))) → DueLine
-join_line (inl number) = PlainLine (LeafLine number)
-join_line (inr (inl p)) = PlainLine (InnerLine p.0 p.1)
+join_line (inl number) = LeafLine number
+join_line (inr (inl p)) = InnerLine p.0 p.1
 join_line (inr (inr p)) = ChainLine p.0.0 p.0.1 p.1.0 p.1.1
 
 pub joined_line : (line : DueLine) → join_line (split_line line) ≡ line
-joined_line (PlainLine (LeafLine number)) = refl
-joined_line (PlainLine (InnerLine cost numbers)) = refl
+joined_line (LeafLine number) = refl
+joined_line (InnerLine cost numbers) = refl
 joined_line (ChainLine cost bits side numbers) = refl
 
 abbrev pub line_code : Coded DueLine

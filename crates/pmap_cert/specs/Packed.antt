@@ -2,7 +2,7 @@ use Rattle.std.specs.Prelude.{◌≡◌, ℕ, zero, suc, ◌+◌, ◌*◌, ◌^�
 use Rattle.std.proofs.Common.{lit≤}
 use Rattle.std.specs.List.{slice_range}
 use Rattle.pmap_text.specs.declared.label.LabelId.{LabelId}
-use Rattle.pmap_cert.specs.FormatReading.{ChainLine, DueLine, InnerLine, LeafLine, PlainLine}
+use Rattle.pmap_cert.specs.FormatReading.{ChainLine, DueLine, InnerLine, LeafLine}
 pub use Rattle.pmap_cert.specs.declared.nodes.Packed.{Packed}
 pub use Rattle.pmap_cert.specs.declared.nodes.Packed.TheVariants.{Chain, Inner, Leaf}
 pub use Rattle.pmap_cert.specs.declared.nodes.PackedChain.{PackedChain}
@@ -10,17 +10,13 @@ pub use Rattle.pmap_cert.specs.declared.pool.SetId.{SetId}
 use Rattle.pmap_cert.specs.declared.way.Way.{Way}
 use Rattle.pmap_cert.specs.Ways.{way_to}
 
--- How the code stores the lines of nodes, for the contracts of private functions.
-
 -- the number with these lower and upper 32 bits
 abbrev pub joined_halves : ℕ → ℕ → ℕ
 joined_halves low high = high * 2 ^ 32 + low
 
--- the number of labels of the set at an index of the pool
 abbrev pub count_at : List LabelId → ℕ → ℕ
 count_at pool place = (slice_index_or pool place (record { 0 = 0 })).0
 
--- the labels of the set at an index of the pool
 abbrev pub larger_at : List LabelId → ℕ → List ℕ
 larger_at pool place = map (λ id. id.0) (slice_range pool (place + 1) (place + 1 + count_at pool place))
 
@@ -28,7 +24,6 @@ abbrev pub set_by : List LabelId → ℕ → ℕ → List ℕ
 set_by pool low zero = low ∷ []
 set_by pool low (suc high) = larger_at pool (joined_halves low high)
 
--- the labels of a set in the pool
 abbrev pub set_in : List LabelId → SetId → List ℕ
 set_in pool id = set_by pool id.low.0 id.high
 
@@ -36,7 +31,6 @@ abbrev pub HasSetBy : List LabelId → ℕ → ℕ → Type 0
 HasSetBy pool low zero = Unit {0}
 HasSetBy pool low (suc high) = joined_halves low high + 1 + count_at pool (joined_halves low high) ≤ length pool
 
--- the pool has all of the set
 abbrev pub HasSet : List LabelId → SetId → Type 0
 HasSet pool id = HasSetBy pool id.low.0 id.high
 
@@ -44,24 +38,20 @@ HasSet pool id = HasSetBy pool id.low.0 id.high
 abbrev pub IsGrown : {A : Type 0} → List A → List A → Type 0
 IsGrown {A} old new = (more : List A) × (new ≡ old ++ more)
 
--- the pool has the set with these labels
 pub record IsHeld (pool : List LabelId) (id : SetId) (numbers : List ℕ) : Type 0 where
   pub whole : HasSet pool id
   pub set : set_in pool id ≡ numbers
 
--- the pool of sets, and the chains
 pub record Store : Type 0 where
   pub labels : List LabelId
   pub chains : List PackedChain
 
--- a placeholder for a missing chain
 abbrev pub no_chain : PackedChain
 no_chain = record { cost = 0; side = record { 0 = 0 }; set = record { low = record { 0 = 0 }; high = 0 }; way = record { value = 0; count = 0; few = lit≤ tt } }
 
 abbrev pub chain_at : List PackedChain → ℕ → PackedChain
 chain_at chains number = slice_index_or chains number no_chain
 
--- the bits of a chain
 abbrev pub bits_in : Way → List Bool
 bits_in way = way_to way.value way.count
 
@@ -70,11 +60,10 @@ chain_in s c = ChainLine c.cost (bits_in c.way) c.side.0 (set_in s.labels c.set)
 
 -- the line that a packed line represents
 abbrev pub line_in : Store → Packed → DueLine
-line_in s (Leaf id) = PlainLine (LeafLine id.0)
-line_in s (Inner cost set) = PlainLine (InnerLine cost (set_in s.labels set))
+line_in s (Leaf id) = LeafLine id.0
+line_in s (Inner cost set) = InnerLine cost (set_in s.labels set)
 line_in s (Chain low high) = chain_in s (chain_at s.chains (joined_halves low high))
 
--- the store has all that the line refers to
 abbrev pub IsPacked : Store → Packed → Type 0
 IsPacked s (Leaf id) = Unit {0}
 IsPacked s (Inner cost set) = HasSet s.labels set

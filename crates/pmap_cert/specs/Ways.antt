@@ -3,8 +3,6 @@ use Rattle.prefix_keys.specs.Block.{block_number, width_of}
 use Rattle.prefix_keys.specs.declared.block.Block.{Block}
 use Rattle.pmap_cert.specs.CertificateModel.{chosen_half}
 
--- The bits of a chain as the code stores them, and the block that they lead to, for the contracts of private functions.
-
 -- the binary digit of a number at a place, from 0 at the end, and the bits of its last places
 abbrev pub digit : ℕ → ℕ → ℕ
 digit value place = (value / 2 ^ place) % 2

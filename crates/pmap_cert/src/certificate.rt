@@ -35,12 +35,7 @@ impl Certificate {
         ensures labels { result.labels ≡ labels }
         ensures root { result.root ≡ root }
     {
-        Certificate {
-            format: Format::One,
-            version,
-            labels,
-            root,
-        }
+        Certificate::of_format(Format::One, version, labels, root)
     }
 
     /// Returns the certificate of the given format with these parts.

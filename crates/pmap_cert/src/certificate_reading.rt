@@ -22,7 +22,6 @@ use std::alloc::Global;
 
 mod header;
 
-// Whether the table already has the label.
 fn is_known(labels: &Labels, text: &[u8]) -> bool
     ensures { result ≡ has_label labels.now text.now }
 {
@@ -70,36 +69,6 @@ fn read_labels<'a>(
     Ok((labels, lines))
 }
 
-// Reads the next line of a node and moves `lines` past it. `kept` gets the set of an inner node or a chain, and the
-// bits of a chain.
-fn read_due(kept: &mut Kept, frame: &Frame, lines: &mut Lines) -> Result<NodeLine, CertFault>
-    ensures ok { IfOk result (λ line. line_due_at (format_number frame.now.format) frame.now.width
-        (length frame.now.labels.now) lines.old
-        ≡ Ok (line_model kept.new.set.items (bits_in kept.new.way) line, lines.new)) }
-    ensures err { IfErr result (λ fault. fault.kind ≢ NoMemory → line_due_at (format_number frame.now.format)
-        frame.now.width (length frame.now.labels.now) lines.old ≡ Err fault) }
-    ensures memory { IfErr result (λ fault. fault.kind ≡ NoMemory → fault.line ≡ 0) }
-{
-    match lines.next_node(kept, frame)? {
-        Some((line, after)) => {
-            *lines = after;
-            Ok(line)
-        }
-        None => Err(lines.fault(missing_kind(lines))),
-    }
-}
-
-// Returns the kind of fault if no node line comes next: the text has ended, or its next line is malformed.
-fn missing_kind(lines: &Lines) -> CertFaultKind
-    ensures { result ≡ (if is_ended lines.now.pieces then NodesMissing else BadNode) }
-{
-    if lines.is_ended() {
-        CertFaultKind::NodesMissing
-    } else {
-        CertFaultKind::BadNode
-    }
-}
-
 // Reads the next node, with at most `room` levels below it, adds its lines to `nodes`, and moves `lines` past them.
 fn read_node(
     nodes: &mut Nodes,
@@ -115,8 +84,7 @@ fn read_node(
     ensures memory { IfErr result (λ fault. fault.kind ≡ NoMemory → fault.line ≡ 0) }
 {
     let deepest = lines.fault(CertFaultKind::TooDeep);
-    let line = read_due(kept, frame, lines)?;
-    match line {
+    match lines.next_node(kept, frame)? {
         NodeLine::Leaf(id) => {
             nodes.push_leaf(id)?;
             Ok(())

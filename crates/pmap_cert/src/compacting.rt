@@ -22,7 +22,6 @@ enum Below {
     Halves(usize, usize),
 }
 
-// Returns what is below the node at line `number`.
 fn look_below(nodes: &Nodes, ends: &[usize], number: usize) -> Below
     requires { HasPlace nodes.now ends.now number }
     ensures { IsBelow nodes.now ends.now number result }
@@ -59,7 +58,6 @@ fn ends_of(alloc: Global, nodes: &Nodes) -> Result<Vec<usize>, AllocError>
     Ok(ends)
 }
 
-// Whether the node at line `number` is a leaf with the label.
 fn is_leaf(nodes: &Nodes, number: usize, label: LabelId) -> bool
     requires plain { ArePlain nodes.now }
     requires within { number < length nodes.now }
@@ -172,7 +170,6 @@ fn compact_node(
     }
 }
 
-// Compacts a root.
 fn compact_root(alloc: Global, root: &Root) -> Result<Root, AllocError>
     requires plain { IsPlainNode root.now }
     requires shallow { IsShallow root.now }

@@ -1,13 +1,12 @@
-ghost use Rattle.std.specs.Prelude.{◌≡◌, IfOk, length, option_map};
+ghost use Rattle.std.specs.Prelude.{◌≡◌, ◌≢◌, Err, IfErr, IfOk, Ok, length, option_map};
 ghost use Rattle.pmap_cert.specs.Format.{format_number};
-ghost use Rattle.pmap_cert.specs.FormatReading.{fault_at, is_ended, line_due_at, next_line, start_of};
+ghost use Rattle.pmap_cert.specs.FormatReading.{fault_at, is_ended, line_due_at, next_line, start_of, NoMemory};
 ghost use Rattle.pmap_cert.specs.Packed.{bits_in};
-ghost use Rattle.pmap_cert.specs.Words.{due_or_missing, line_model};
+ghost use Rattle.pmap_cert.specs.Words.{line_model};
 
 use crate::fault::{CertFault, CertFaultKind};
 use crate::node_line::{Frame, Kept, NodeLine, node_line};
 use prefix_keys::find_byte;
-use std::alloc::AllocError;
 use std::marker::Model;
 
 /// The rest of a text, and the number of lines read so far.
@@ -56,27 +55,27 @@ impl<'a> Lines<'a> {
         }
     }
 
-    /// Reads the next line of a node and returns it with the lines that follow, or `None` if no such line comes next.
-    /// `kept` gets the set of an inner node or a chain, and the bits of a chain.
-    pub fn next_node(
-        &self,
-        kept: &mut Kept,
-        frame: &Frame,
-    ) -> Result<Option<(NodeLine, Lines<'a>)>, AllocError>
-        ensures { IfOk result (λ found. due_or_missing self.now
-            (option_map (λ x. (line_model kept.new.set.items (bits_in kept.new.way) x.0, x.1)) found)
-            ≡ line_due_at (format_number frame.now.format) frame.now.width (length frame.now.labels.now) self.now) }
+    /// Reads the next line of a node and moves past it. `kept` gets the set of an inner node or a chain, and the bits of
+    /// a chain.
+    pub fn next_node(&mut self, kept: &mut Kept, frame: &Frame) -> Result<NodeLine, CertFault>
+        ensures ok { IfOk result (λ line. line_due_at (format_number frame.now.format) frame.now.width
+            (length frame.now.labels.now) self.old
+            ≡ Ok (line_model kept.new.set.items (bits_in kept.new.way) line, self.new)) }
+        ensures err { IfErr result (λ fault. fault.kind ≢ NoMemory → line_due_at (format_number frame.now.format)
+            frame.now.width (length frame.now.labels.now) self.old ≡ Err fault) }
+        ensures memory { IfErr result (λ fault. fault.kind ≡ NoMemory → fault.line ≡ 0) }
     {
         let count = frame.labels.len() as u64;
         match node_line(kept, frame, self.rest, count)? {
             Some((line, rest)) => {
-                let lines = Lines {
+                *self = Lines {
                     rest,
                     number: self.number + 1,
                 };
-                Ok(Some((line, lines)))
+                Ok(line)
             }
-            None => Ok(None),
+            None if self.is_ended() => Err(self.fault(CertFaultKind::NodesMissing)),
+            None => Err(self.fault(CertFaultKind::BadNode)),
         }
     }
 

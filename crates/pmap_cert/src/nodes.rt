@@ -1,6 +1,6 @@
 ghost use Rattle.std.specs.Prelude.{◌≡◌, ◌<◌, ◌++◌, ◌∷◌, [], IfOk, None, OnErr, OnOk, length, map, option_map, slice_index_or};
-ghost use Rattle.pmap_cert.specs.FormatReading.{ChainLine, InnerLine, LeafLine, PlainLine};
-ghost use Rattle.pmap_cert.specs.Node.{line_bits, line_cost, line_label, line_set, line_side};
+ghost use Rattle.pmap_cert.specs.FormatReading.{ChainLine, InnerLine, LeafLine};
+ghost use Rattle.pmap_cert.specs.Node.{bits_of, cost_of, label_of, node_of, set_of, side_of};
 ghost use Rattle.pmap_cert.specs.Packed.{bits_in};
 
 use crate::pool::{SetId, SetPool, halves, joined_halves};
@@ -76,7 +76,7 @@ impl Nodes {
 
     /// Adds the line of a leaf with this label. If an allocation fails, the lines are unchanged.
     pub fn push_leaf(&mut self, id: LabelId) -> Result<(), AllocError>
-        ensures ok { OnOk result (self.new ≡ self.old ++ PlainLine (LeafLine id.0) ∷ []) }
+        ensures ok { OnOk result (self.new ≡ self.old ++ LeafLine id.0 ∷ []) }
         ensures err { OnErr result (self.new ≡ self.old) }
     {
         self.lines.push(Packed::Leaf(id))?;
@@ -86,7 +86,7 @@ impl Nodes {
     /// Adds the line of an inner node that claims this cost and set. The lines of its lower half must follow, then
     /// those of its upper half. If an allocation fails, the lines are unchanged.
     pub fn push_inner(&mut self, cost: u32, set: &[LabelId]) -> Result<(), AllocError>
-        ensures ok { OnOk result (self.new ≡ self.old ++ PlainLine (InnerLine cost (map (λ id. id.0) set.now)) ∷ []) }
+        ensures ok { OnOk result (self.new ≡ self.old ++ InnerLine cost (map (λ id. id.0) set.now) ∷ []) }
         ensures err { OnErr result (self.new ≡ self.old) }
     {
         let set = self.sets.hold(set)?;
@@ -123,7 +123,7 @@ impl Nodes {
     pub fn label(&self, number: usize) -> Option<LabelId>
         requires { number < length self.now }
         ensures { option_map (λ id. id.0) result
-            ≡ line_label (slice_index_or self.now number (PlainLine (LeafLine 0))) }
+            ≡ label_of (node_of (slice_index_or self.now number (LeafLine 0))) }
     {
         match self.lines[number] {
             Packed::Leaf(id) => Some(id),
@@ -134,7 +134,7 @@ impl Nodes {
     /// Returns the cost of the node at line `number`, 0 for a leaf.
     pub fn cost(&self, number: usize) -> u32
         requires { number < length self.now }
-        ensures { result ≡ line_cost (slice_index_or self.now number (PlainLine (LeafLine 0))) }
+        ensures { result ≡ cost_of (node_of (slice_index_or self.now number (LeafLine 0))) }
     {
         match self.lines[number] {
             Packed::Leaf(_) => 0,
@@ -147,7 +147,7 @@ impl Nodes {
     pub fn set(&self, number: usize) -> &[LabelId]
         requires { number < length self.now }
         ensures { map (λ id. id.0) result.now
-            ≡ line_set (slice_index_or self.now number (PlainLine (LeafLine 0))) }
+            ≡ set_of (node_of (slice_index_or self.now number (LeafLine 0))) }
     {
         match &self.lines[number] {
             Packed::Leaf(id) => slice::from_ref(id),
@@ -161,7 +161,7 @@ impl Nodes {
     /// Returns the bits of the node at line `number`, none if it isn't a chain.
     pub fn way(&self, number: usize) -> Way
         requires { number < length self.now }
-        ensures { bits_in result ≡ line_bits (slice_index_or self.now number (PlainLine (LeafLine 0))) }
+        ensures { bits_in result ≡ bits_of (node_of (slice_index_or self.now number (LeafLine 0))) }
     {
         match self.lines[number] {
             Packed::Leaf(_) | Packed::Inner(_, _) => Way { value: 0, count: 0 },
@@ -173,7 +173,7 @@ impl Nodes {
     pub fn side(&self, number: usize) -> Option<LabelId>
         requires { number < length self.now }
         ensures { option_map (λ id. id.0) result
-            ≡ line_side (slice_index_or self.now number (PlainLine (LeafLine 0))) }
+            ≡ side_of (node_of (slice_index_or self.now number (LeafLine 0))) }
     {
         match self.lines[number] {
             Packed::Leaf(_) | Packed::Inner(_, _) => None,

@@ -5,7 +5,7 @@ ghost use Rattle.std.specs.Fmt.{decimal};
 ghost use Rattle.pmap_cert.specs.Certificate.{certificate_of};
 ghost use Rattle.pmap_cert.specs.CertificateText.{bit_digits, certificate_text, chain_line, format_header, format_word, inner_line, leaf_line, text_of_lines, version_word};
 ghost use Rattle.pmap_cert.specs.Format.{format_number};
-ghost use Rattle.pmap_cert.specs.FormatReading.{LeafLine, PlainLine};
+ghost use Rattle.pmap_cert.specs.FormatReading.{LeafLine};
 ghost use Rattle.pmap_cert.specs.Node.{line_text};
 ghost use Rattle.pmap_cert.specs.Packed.{bits_in};
 
@@ -76,7 +76,6 @@ fn push_bits(out: &mut Vec<u8>, way: Way) -> Result<(), AllocError>
     Ok(())
 }
 
-// Appends the line of a chain.
 fn push_chain(
     out: &mut Vec<u8>,
     cost: u32,
@@ -96,11 +95,10 @@ fn push_chain(
     Ok(())
 }
 
-// Appends the line of the node at line `number`.
 fn push_line(out: &mut Vec<u8>, nodes: &Nodes, number: usize) -> Result<(), AllocError>
     requires { number < length nodes.now }
     ensures { OnOk result (out.new.items ≡ out.old.items
-        ++ (line_text (slice_index_or nodes.now number (PlainLine (LeafLine 0))) ++ 10 ∷ [])) }
+        ++ (line_text (slice_index_or nodes.now number (LeafLine 0)) ++ 10 ∷ [])) }
 {
     if let Some(id) = nodes.label(number) {
         return push_leaf_line(out, id);
@@ -113,7 +111,6 @@ fn push_line(out: &mut Vec<u8>, nodes: &Nodes, number: usize) -> Result<(), Allo
     }
 }
 
-// Appends the lines of all nodes.
 fn push_nodes(out: &mut Vec<u8>, nodes: &Nodes) -> Result<(), AllocError>
     ensures { OnOk result (out.new.items ≡ out.old.items ++ text_of_lines (map line_text nodes.now)) }
 {
@@ -157,7 +154,6 @@ fn format_text(format: Format) -> &'static [u8]
     }
 }
 
-// Appends the header of a certificate with `count` labels.
 fn push_header(
     out: &mut Vec<u8>,
     format: Format,

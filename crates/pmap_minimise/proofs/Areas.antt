@@ -378,13 +378,6 @@ run-below s side (suc count) a end is run =
       smaller = omega arith;
     }
 
--- the digits of the steps are the last digits of the end's number
-step-digit : (s : StretchesModel) (side count : ℕ) (a chosen end : Area) → (step : IsStepBy s side a chosen) → IsBelow s count chosen end → digit (number_at s end) count ≡ step.digit
-step-digit s side count a chosen end step below =
-    let number : number_at s end / 2 ^ count ≡ 2 * number_at s a + step.digit = below.number ∙ step.number in
-    let small = step.small in
-    omega arith
-
 -- the node from which a run leads to the node of its end
 module _ (s : StretchesModel) (side : ℕ) (fits : side < 2 ^ 32) (end : Area) (tree : Tree) (node : Node) (made : IsMade s end tree node) where
   abbrev value : ℕ

@@ -4,12 +4,13 @@ use Rattle.std.specs.Option.{ForSome}
 use Rattle.std.proofs.Math.Seq.{drop-length, drop-nil}
 use Rattle.std.proofs.lemmas.List.{append-nil, append_assoc, same_from_push}
 use Rattle.std.proofs.lemmas.Option.{none-some, same_Some, slice_get-get_or}
+use Rattle.std.specs.List.{flat_map}
 use Rattle.prefix_keys.specs.Block.{width_of}
 use Rattle.prefix_keys.specs.declared.block.Block.{Block}
 use Rattle.prefix_keys.specs.declared.version.Version.{Version}
 use Rattle.pmap_text.specs.declared.entry.Entry.{Entry}
 use Rattle.pmap_text.specs.declared.label.LabelId.{LabelId}
-use Rattle.pmap_cert.specs.FormatReading.{DueLine, InnerLine, LeafLine, PlainLine}
+use Rattle.pmap_cert.specs.FormatReading.{DueLine, InnerLine, LeafLine}
 use Rattle.pmap_cert.specs.Node.{Inner, Leaf, Node, cost_of, lines_of, set_of}
 use Rattle.pmap_cert.specs.declared.pool.SetId.{SetId}
 use Rattle.pmap_cert.proofs.PackedLines.{held-more}
@@ -22,7 +23,7 @@ use Rattle.label_trie.proofs.NodeLeaves.{length_leaves}
 use Rattle.pmap_minimise.specs.Built.{AddsInner, AddsLeaf, HasRisingSet, HasGrown, IsAt, Built, Claim}
 use Rattle.pmap_minimise.specs.Numbers.{IsCertified, IsOwn, IsSound, numbers_of}
 use Rattle.pmap_minimise.specs.Listing.{AddsEntries, IsWhole}
-use Rattle.pmap_minimise.specs.Walks.{AddsAll, AreStacked, IsChosenFrom, IsClaimOf, IsClaimed, IsClaimedFrom, IsDueFor, all_lines, from_next, trees_from, Due}
+use Rattle.pmap_minimise.specs.Walks.{AddsAll, AreStacked, IsChosenFrom, IsClaimOf, IsClaimed, IsClaimedFrom, IsDueFor, from_next, trees_from, Due}
 use Rattle.pmap_minimise.specs.declared.built.Line.{Line}
 use Rattle.pmap_minimise.specs.declared.built.Line.TheVariants.{Chain as ChainLine, Inner as InnerEntry, Leaf as LeafEntry}
 use Rattle.pmap_minimise.proofs.BuiltNodes.{at-grown, inner-added, leaf-added, rising-held}
@@ -331,7 +332,7 @@ pub choosing-end : (b : Built) (version : Version) (root : Node) (left : ℕ) (e
     → (lines ≡ lines_of root) × (block : Block) × IsWhole version block × AddsEntries root block None [] entries
 choosing-end b version root left entries lines due from end = by from.nodes from.stacked from.lines_are from.entries_are
   where
-    by : (nodes : List Node) → AreStacked (IsDueFor b) nodes left due → lines ++ all_lines nodes ≡ lines_of root
+    by : (nodes : List Node) → AreStacked (IsDueFor b) nodes left due → lines ++ flat_map lines_of nodes ≡ lines_of root
         → ((all : List Entry) → AddsAll nodes due entries all → AddsEntries root from.block None [] all)
         → (lines ≡ lines_of root) × (block : Block) × IsWhole version block × AddsEntries root block None [] entries
     by [] stacked lines_are entries_are = (sym (append-nil lines) ∙ lines_are, from.block, from.whole, entries_are entries refl)
@@ -350,7 +351,7 @@ pub record IsHere (b : Built) (version : Version) (root : Node) (number : ℕ) (
   pub at : IsAt b node node from (number + 1)
   pub sound : IsSound node (width_of here.block.version - here.block.len)
   pub below : AreStacked (IsDueFor b) others from rest
-  pub lines_are : lines ++ (lines_of node ++ all_lines others) ≡ lines_of root
+  pub lines_are : lines ++ (lines_of node ++ flat_map lines_of others) ≡ lines_of root
   pub entries_are : (middle all : List Entry) → AddsEntries node here.block here.inherited entries middle → AddsAll others rest middle all → AddsEntries root block None [] all
 
 -- the entries of the node that is due next are added before those of the others
@@ -379,7 +380,7 @@ module _ (b : Built) (version : Version) (root : Node) (number : ℕ) (entries :
   pub here-is : (rest : List Due) (here : Due) → due ≡ rest ++ here ∷ [] → IsHere b version root number entries lines rest here
   here-is rest here is = by from.nodes from.stacked from.lines_are from.entries_are
     where
-      by : (nodes : List Node) → AreStacked (IsDueFor b) nodes (number + 1) due → lines ++ all_lines nodes ≡ lines_of root
+      by : (nodes : List Node) → AreStacked (IsDueFor b) nodes (number + 1) due → lines ++ flat_map lines_of nodes ≡ lines_of root
           → ((all : List Entry) → AddsAll nodes due entries all → AddsEntries root from.block None [] all) → IsHere b version root number entries lines rest here
       by [] stacked lines_are entries_are = let none = stacked.0 in absurd (omega arith)
       by (node ∷ nodes) stacked lines_are entries_are =
@@ -415,7 +416,7 @@ module _ (b : Built) (version : Version) (root : Node) (number : ℕ) (entries :
       subst (λ (n : Node). IsSound n (width_of here.block.version - here.block.len)) node.compact_is is.sound
 
   pub chosen-leaf : (read : Line) (id : LabelId) (ids : List LabelId) (new : List Entry) (own : LabelId) → read ≡ get_or b.lines.items number read → read ≡ LeafEntry id → numbers_of ids ≡ id.0 ∷ []
-      → IsOwn ids here.block here.inherited entries new own → IsChosenFrom b version root number new (lines ++ PlainLine (LeafLine id.0) ∷ []) rest
+      → IsOwn ids here.block here.inherited entries new own → IsChosenFrom b version root number new (lines ++ LeafLine id.0 ∷ []) rest
   chosen-leaf read id ids new own read_is is_line ids_are adds =
       let leaf = leaf-there b is.from (number + 1) number refl is.node is.node id.0 is.at (there read (LeafEntry id) read_is is_line) in
       let to = leaf.to_is in
@@ -425,7 +426,7 @@ module _ (b : Built) (version : Version) (root : Node) (number : ℕ) (entries :
         whole = is.whole;
         nodes = is.others;
         stacked = subst (λ (n : ℕ). AreStacked (IsDueFor b) is.others n rest) same is.below;
-        lines_are = append_assoc lines (PlainLine (LeafLine id.0) ∷ []) (all_lines is.others) ∙ ap (λ (n : Node). lines ++ (lines_of n ++ all_lines is.others)) (sym leaf.node_is) ∙ is.lines_are;
+        lines_are = append_assoc lines (LeafLine id.0 ∷ []) (flat_map lines_of is.others) ∙ ap (λ (n : Node). lines ++ (lines_of n ++ flat_map lines_of is.others)) (sym leaf.node_is) ∙ is.lines_are;
         entries_are = λ all after.
             is.entries_are new all
             (subst (λ (n : Node). AddsEntries n here.block here.inherited entries new) (sym leaf.node_is) (leaf-adds id here.block here.inherited entries new ids own ids_are adds)) after;
@@ -437,7 +438,7 @@ module _ (b : Built) (version : Version) (root : Node) (number : ℕ) (entries :
   module _ (cost : ℕ) (id : SetId) (node : IsInnerNode b is.node is.node cost id is.from number) where
     pub chosen-inner : (low_block high_block : Block) (ids : List LabelId) (new : List Entry) (own : LabelId) → numbers_of ids ≡ node.set → IsHalf 0 here.block low_block → IsHalf 1 here.block high_block
         → IsOwn ids here.block here.inherited entries new own
-        → IsChosenFrom b version root number new (lines ++ PlainLine (InnerLine cost (numbers_of ids)) ∷ [])
+        → IsChosenFrom b version root number new (lines ++ InnerLine cost (numbers_of ids) ∷ [])
         ((rest ++ record { block = high_block; inherited = Some own } ∷ []) ++ record { block = low_block; inherited = Some own } ∷ [])
     chosen-inner low_block high_block ids new own ids_are low_half high_half adds =
         let both : Inner cost node.set node.low node.high ≡ Inner cost node.set node.lower node.upper = sym node.compact_is ∙ node.node_is in
@@ -467,10 +468,10 @@ module _ (b : Built) (version : Version) (root : Node) (number : ℕ) (entries :
             };
           };
           lines_are =
-              append_assoc lines (PlainLine (InnerLine cost (numbers_of ids)) ∷ []) (lines_of node.low ++ (lines_of node.high ++ all_lines is.others))
-              ∙ ap (λ (l : List DueLine). lines ++ (PlainLine (InnerLine cost (numbers_of ids)) ∷ l)) (sym (append_assoc (lines_of node.low) (lines_of node.high) (all_lines is.others)))
-              ∙ ap (λ (s : List ℕ). lines ++ (PlainLine (InnerLine cost s) ∷ ((lines_of node.low ++ lines_of node.high) ++ all_lines is.others))) ids_are
-              ∙ ap (λ (n : Node). lines ++ (lines_of n ++ all_lines is.others)) (sym node.compact_is) ∙ is.lines_are;
+              append_assoc lines (InnerLine cost (numbers_of ids) ∷ []) (lines_of node.low ++ (lines_of node.high ++ flat_map lines_of is.others))
+              ∙ ap (λ (l : List DueLine). lines ++ (InnerLine cost (numbers_of ids) ∷ l)) (sym (append_assoc (lines_of node.low) (lines_of node.high) (flat_map lines_of is.others)))
+              ∙ ap (λ (s : List ℕ). lines ++ (InnerLine cost s ∷ ((lines_of node.low ++ lines_of node.high) ++ flat_map lines_of is.others))) ids_are
+              ∙ ap (λ (n : Node). lines ++ (lines_of n ++ flat_map lines_of is.others)) (sym node.compact_is) ∙ is.lines_are;
           entries_are = λ all after.
               let first = first-added node.low (node.high ∷ is.others) (rest ++ high_due ∷ []) low_due new all after in
               let second = first-added node.high is.others rest high_due first.middle all first.after in

@@ -14,9 +14,6 @@ use Rattle.pmap_minimise.proofs.Merged.{lacks}
 abbrev only_if : Bool → ℕ → List ℕ
 only_if b n = cond b (n ∷ []) []
 
-number-first : (n m : ℕ) (ms : List ℕ) → has_number (m ∷ ms) n ≡ ((n == m) || has_number ms n)
-number-first n m ms = refl
-
 common-one : (b k n : ℕ) (set : List ℕ) → IsRising b k set → common_numbers set (n ∷ []) ≡ only_if (has_number set n) n
 common-one b k n [] rising = refl
 common-one b k n (m ∷ ms) rising = by (common-one b (m + 1) n ms rising.2) (n == m) refl

@@ -28,13 +28,17 @@ use Rattle.pmap_cert.proofs.Written.{node_form, whole_text}
 use Rattle.pmap_text.specs.ListEntries.{HasDistinctBlocks}
 use Rattle.pmap_cert.proofs.InOrder.{list-form}
 use Rattle.pmap_cert.proofs.Sets.{bytes_eq-same}
-use Rattle.pmap_minimise.specs.Listing.{AddsEntries, IsEntryOf, IsWhole, list_with, IsListedBy}
+use Rattle.pmap_minimise.specs.Listing.{AddsEntries, IsEntryOf, IsWhole, IsListedBy}
 use Rattle.pmap_minimise.proofs.Distinct.{order-distinct}
 use Rattle.pmap_minimise.proofs.Entered.{half-entries}
 use Rattle.pmap_minimise.specs.Numbers.{IsCertified, IsKnownLeaf}
 use Rattle.pmap_minimise.specs.Walks.{IsClaimed}
 use Rattle.pmap_minimise.specs.declared.built.Built.{Built}
 use Rattle.pmap_minimise.proofs.Joined.{settled-known, whole-number}
+
+-- the prefix list with these entries, and with the map's name and label table
+abbrev pub list_with : MapText → List Entry → ListModel
+list_with m items = record { version = m.version; name = m.name; prefixes = map (prefix_of m.labels) items; table = m.labels }
 
 -- the map's prefix list with the entries of a certificate's root
 abbrev pub shortest_list : MapModel → Tree → ListModel

@@ -12,9 +12,6 @@ use Rattle.label_trie.specs.Tree.{Fits, IsLabelled, Tree, leaf_count}
 use Rattle.pmap_minimise.specs.Numbers.{IsNodeFor}
 pub use Rattle.pmap_minimise.specs.declared.area.Area.{Area}
 
--- Blocks of addresses with the stretches at their ends, and how a run leads down from a block.
-
--- the number of the area's block among the blocks of its size
 abbrev pub number_at : StretchesModel → Area → ℕ
 number_at s a = block_number (width_of s.version) a.len a.first
 
@@ -53,7 +50,6 @@ pub record AreHalvesOf (s : StretchesModel) (a low high : Area) : Type 0 where
 abbrev pub own_label : StretchesModel → Area → Option ℕ
 own_label s a = if a.from == a.to then option_map (λ id. id.0) (label_at s a.from) else None
 
--- the stretch with the index i has the label with this number
 abbrev pub HasLabel : StretchesModel → ℕ → ℕ → Type 0
 HasLabel s label i = option_map (λ id. id.0) (label_at s i) ≡ Some label
 
@@ -75,7 +71,6 @@ abbrev pub IsRun : StretchesModel → ℕ → ℕ → Area → Area → Type 0
 IsRun s side zero a end = end ≡ a
 IsRun s side (suc count) a end = (chosen : Area) × IsStep s side a chosen × IsRun s side count chosen end
 
--- neither half of the block has the side label alone, so no step leads on
 pub record HasNoSide (s : StretchesModel) (side : ℕ) (a : Area) : Type 0 where
   pub low : Area
   pub high : Area
@@ -94,7 +89,6 @@ pub record IsRunTo (s : StretchesModel) (side : ℕ) (a end : Area) : Type 0 whe
   pub area : IsArea s end
   pub len : end.len ≡ a.len + count
 
--- the tree of the statements for the block of n bits with the number q
 pub record IsTreeOf (v : Version) (ss : List Statement) (default : Option LabelId) (n q : ℕ) (tree : Tree) : Type 0 where
   pub fits : (m : MapModel) → IsMapOf (width_of v) ss default m → Fits m tree n q
   pub labelled : IsSome default → IsLabelled tree

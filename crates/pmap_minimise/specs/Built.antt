@@ -1,4 +1,4 @@
-use Rattle.std.specs.Prelude.{◌≡◌, ℕ, zero, suc, ◌+◌, ◌/◌, ◌%◌, ◌^◌, ◌≤◌, ◌==◌, Bool, List, [], ◌∷◌, Some, All, if◌then◌else◌, length, nat_lt, slice_get, ◌<◌, ◌++◌, map}
+use Rattle.std.specs.Prelude.{◌≡◌, ℕ, zero, suc, ◌+◌, ◌^◌, ◌≤◌, Bool, List, [], ◌∷◌, Some, All, if◌then◌else◌, length, nat_lt, slice_get, ◌<◌, ◌++◌, map}
 use Rattle.prefix_keys.specs.Block.{width_of}
 use Rattle.prefix_keys.specs.declared.version.Version.{Version}
 use Rattle.pmap_text.specs.MapText.{map_of}
@@ -47,7 +47,6 @@ way_node side value zero end = end
 way_node side value (suc bits) end =
     node_over (digit value bits) (cost_above side end) (set_above side (set_of end) bits) (way_node side value bits end) (Leaf side)
 
--- the node is a leaf, and the line `from` is its only one
 pub record IsLeafAt (b : Built) (label : ℕ) (node : Node) (from to : ℕ) : Type 0 where
   pub line_is : slice_get b.lines.items from ≡ Some (LeafLine (record { 0 = label }))
   pub to_is : to ≡ from + 1
@@ -90,7 +89,6 @@ IsAt b (Leaf label) = IsLeafAt b label
 IsAt b (Inner cost set lower upper) = IsInnerAt b cost set (IsAt b lower) (IsAt b upper)
 IsAt b (ChainNode cost set bits side end) = IsChainAt b cost set bits side (IsAt b end)
 
--- sets, and lines and chains after the old ones, may have been added
 pub record HasGrown (old new : Built) : Type 0 where
   pub sets : IsGrown old.sets new.sets
   pub lines : IsGrown old.lines.items new.lines.items
@@ -115,7 +113,6 @@ pub record IsBuiltOf (version : Version) (leaves : List LeafModel) (b : Built) (
   pub compact_is : IsCompactNode node compact
   pub at : IsAt b compact node 0 (length b.lines.items)
 
--- what was built is the compacted certificate of the map
 pub record IsBuiltFor (m : MapText) (b : Built) : Type 0 where
   pub leaves : List LeafModel
   pub node : Node
@@ -130,27 +127,21 @@ pub record HasLinesTo (b : Built) (to : ℕ) : Type 0 where
   pub from : ℕ
   pub at : IsAt b compact node from to
 
--- the cost of a node over two halves with these costs, by whether the halves' sets are apart
 abbrev pub exact_cost : ℕ → ℕ → Bool → ℕ
 exact_cost low high apart = if apart then low + high + 1 else low + high
 
--- the pool has the set, and its numbers rise
 pub record HasRisingSet (pool : List LabelId) (id : SetId) : Type 0 where
   pub has : HasSet pool id
   pub rising : IsRising (2 ^ 32) 0 (set_in pool id)
 
--- the pool keeps the set under this id
 pub record IsHeldAs (old new : List LabelId) (set : List ℕ) (id : SetId) : Type 0 where
   pub grown : IsGrown old new
   pub stands : IsHeld new id set
 
--- the pool keeps the exact set of two halves under this id
 pub record IsHalfHeld (low high : SetId) (old new : List LabelId) (half : SetId) (apart : Bool) : Type 0 where
   pub set : List ℕ
   pub exact : IsExactSet (set_in old low) (set_in old high) apart set
   pub held : IsHeldAs old new set half
-
--- What a node's own line adds, and what the node claims.
 
 pub record AddsLeaf (id : LabelId) (old new : Built) (claim : Claim) : Type 0 where
   pub lines_are : new.lines.items ≡ old.lines.items ++ LeafLine id ∷ []
@@ -173,7 +164,6 @@ pub record AddsChain (below : Claim) (side : LabelId) (end bits : ℕ) (old new 
   pub held : IsHeldAs old.sets new.sets (side.0 ∷ []) claim.set
   pub fits : side.0 < 2 ^ 32
 
--- the text of a node's lines
 abbrev pub node_text : Node → List ℕ
 node_text node = text_of_lines (map line_text (lines_of node))
 

@@ -3,10 +3,8 @@ use Rattle.std.specs.Option.{ForSome}
 use Rattle.prefix_keys.specs.declared.block.Block.{Block}
 use Rattle.prefix_keys.specs.declared.version.Version.{Version}
 use Rattle.prefix_keys.specs.Block.{width_of}
-use Rattle.pmap_text.specs.ListModel.{ListModel}
 use Rattle.pmap_text.specs.PrefixList.{prefix_of}
 use Rattle.pmap_text.specs.declared.entry.Entry.{Entry}
-use Rattle.pmap_text.specs.declared.map_text.MapText.{MapText}
 use Rattle.pmap_text.specs.Label.{IsLabelTable}
 use Rattle.pmap_text.specs.MapModel.{Label}
 use Rattle.pmap_text.specs.MapText.{text_at}
@@ -16,21 +14,14 @@ use Rattle.pmap_cert.specs.Acceptance.{entries_of}
 use Rattle.pmap_cert.specs.Node.{HasNumberForm, Node, tree_of}
 use Rattle.pmap_minimise.specs.Numbers.{IsCertified}
 
--- the block of all addresses of the version
 pub record IsWhole (version : Version) (block : Block) : Type 0 where
   pub version_is : block.version ≡ version
   pub start : block.value ≡ 0
   pub bits : block.len ≡ 0
 
--- the prefix list with these entries, and with the map's name and label table
-abbrev pub list_with : MapText → List Entry → ListModel
-list_with m items = record { version = m.version; name = m.name; prefixes = map (prefix_of m.labels) items; table = m.labels }
-
--- the text of an inherited label
 abbrev pub text_of : List Label → Option LabelId → Option Label
 text_of table inherited = option_map (λ id. text_at table id.0) inherited
 
--- the entry has the block's version, and the number of its label is below `count`
 pub record IsEntryOf (block : Block) (count : ℕ) (e : Entry) : Type 0 where
   pub version : e.block.version ≡ block.version
   pub known : e.label.0 < count
@@ -45,8 +36,6 @@ pub record AddsEntries (node : Node) (block : Block) (inherited : Option LabelId
   pub fit : (count : ℕ) → ForSome inherited (λ id. id.0 < count)
       → HasNumberForm count node (width_of block.version - block.len)
       → All (IsEntryOf block count) old → All (IsEntryOf block count) new
-
--- The list that is read off a certificate.
 
 -- the entries are those of the node, which is the certificate's for the address space with these leaves
 pub record IsListedBy (version : Version) (leaves : List LeafModel) (node : Node) (entries : List Entry) : Type 0 where

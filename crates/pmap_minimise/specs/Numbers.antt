@@ -12,20 +12,15 @@ use Rattle.pmap_cert.specs.CertificateText.{IsRising}
 use Rattle.pmap_cert.specs.Node.{Chain, Inner, Leaf, Node, cost_of, set_of, HasNumberForm, tree_of}
 use Rattle.pmap_cert.specs.Acceptance.{StandsFor}
 
--- Sets of labels, claims and entries by the numbers of labels, as the code has them.
-
 abbrev pub numbers_of : List LabelId → List ℕ
 numbers_of ids = map (λ id. id.0) ids
 
--- whether n is one of the numbers
 abbrev pub has_number : List ℕ → ℕ → Bool
 has_number ns n = list_any (λ m. n == m) ns
 
--- the numbers that both lists have
 abbrev pub common_numbers : List ℕ → List ℕ → List ℕ
 common_numbers low high = filter (has_number high) low
 
--- the set has exactly the numbers that either list has
 abbrev pub IsUnion : List ℕ → List ℕ → List ℕ → Type 0
 IsUnion low high set = (p : ℕ → Bool) → list_any p set ≡ (list_any p low || list_any p high)
 
@@ -52,9 +47,8 @@ IsExact low high cost set =
 
 -- the node is the inner one of these halves, with their exact cost and set
 abbrev pub IsJoined : Node → Node → Node → Type 0
-IsJoined low high (Leaf id) = ⊥
 IsJoined low high (Inner cost set left right) = (left ≡ low) × (right ≡ high) × IsExact low high cost set
-IsJoined low high (Chain cost set bits side end) = ⊥
+IsJoined low high _ = ⊥
 
 -- the node has no chain, each of its sets has a number, and at most `room` inner nodes are nested
 abbrev pub IsSound : Node → ℕ → Type 0
@@ -63,7 +57,6 @@ IsSound (Inner cost set left right) zero = ⊥
 IsSound (Inner cost set left right) (suc room) = (0 < length set) × IsSound left room × IsSound right room
 IsSound (Chain cost set bits side end) room = ⊥
 
--- whether the inherited label, if there is one, is one of the labels
 abbrev pub keeps : List LabelId → Option LabelId → Bool
 keeps ids None = false
 keeps ids (Some id) = list_any (λ label. id.0 == label.0) ids

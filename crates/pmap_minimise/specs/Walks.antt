@@ -1,4 +1,5 @@
 use Rattle.std.specs.Prelude.{◌≡◌, ℕ, zero, suc, ◌-◌, ◌^◌, ◌<◌, ◌≤◌, ◌++◌, List, [], ◌∷◌, None, length}
+use Rattle.std.specs.List.{flat_map}
 use Rattle.prefix_keys.specs.Block.{width_of}
 use Rattle.prefix_keys.specs.declared.block.Block.{Block}
 use Rattle.prefix_keys.specs.declared.version.Version.{Version}
@@ -13,8 +14,6 @@ use Rattle.pmap_minimise.specs.Built.{IsAt, Built, Claim}
 use Rattle.pmap_minimise.specs.Numbers.{IsCertified, IsNodeFor, IsSound}
 use Rattle.pmap_minimise.specs.Listing.{AddsEntries, IsWhole}
 pub use Rattle.pmap_minimise.specs.declared.walks.Due.{Due}
-
--- The walks over a trie's nodes, each with a stack.
 
 -- the trees with the first one's root replaced by its halves, and the trees of a tree's nodes from a number on
 abbrev pub from_next : List Tree → List Tree
@@ -79,16 +78,11 @@ abbrev pub AddsAll : List Node → List Due → List Entry → List Entry → Ty
 AddsAll [] due old new = old ≡ new
 AddsAll (node ∷ nodes) due old new = AddsFirst node (AddsAll nodes) due old new
 
--- the lines of nodes, one after the other
-abbrev pub all_lines : List Node → List DueLine
-all_lines [] = []
-all_lines (node ∷ nodes) = lines_of node ++ all_lines nodes
-
 -- `left` lines aren't read yet; what their nodes add completes the entries and the lines of the root
 pub record IsChosenFrom (b : Built) (version : Version) (root : Node) (left : ℕ) (entries : List Entry) (lines : List DueLine) (due : List Due) : Type 0 where
   pub block : Block
   pub whole : IsWhole version block
   pub nodes : List Node
   pub stacked : AreStacked (IsDueFor b) nodes left due
-  pub lines_are : lines ++ all_lines nodes ≡ lines_of root
+  pub lines_are : lines ++ flat_map lines_of nodes ≡ lines_of root
   pub entries_are : (all : List Entry) → AddsAll nodes due entries all → AddsEntries root block None [] all

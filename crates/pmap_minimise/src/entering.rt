@@ -1,7 +1,7 @@
 //! The own entry of a certificate's node, and the label that the node passes on.
 ghost use Rattle.std.specs.Prelude.{◌≡◌, ◌<◌, ◌==◌, IfOk, length};
 ghost use Rattle.std.specs.List.{list_any};
-ghost use Rattle.pmap_minimise.specs.Numbers.{IsOwn, keeps};
+ghost use Rattle.pmap_minimise.specs.Numbers.{IsOwn};
 
 use pmap_text::{Entry, LabelId};
 use prefix_keys::Block;
@@ -14,16 +14,6 @@ pub fn has_label(labels: &[LabelId], id: LabelId) -> bool
     labels.iter().any(|label| id.0 == label.0)
 }
 
-// Returns whether there is an inherited label and it is one of `labels`.
-fn has_inherited(labels: &[LabelId], inherited: Option<LabelId>) -> bool
-    ensures { result ≡ keeps labels.now inherited }
-{
-    match inherited {
-        Some(id) => has_label(labels, id),
-        None => false,
-    }
-}
-
 /// Adds the own entry of a node with these labels, if it has one, and returns the label that the node passes on.
 pub fn push_own(
     entries: &mut Vec<Entry>,
@@ -34,8 +24,8 @@ pub fn push_own(
     requires { 0 < length labels.now }
     ensures { IfOk result (IsOwn labels.now block inherited entries.old.items entries.new.items) }
 {
-    if has_inherited(labels, inherited)
-        && let Some(id) = inherited
+    if let Some(id) = inherited
+        && has_label(labels, id)
     {
         return Ok(id);
     }

@@ -1,15 +1,14 @@
-ghost use Rattle.std.specs.Prelude.{◌≡◌, ◌+◌, ◌<◌, All, IfOk, length};
+ghost use Rattle.std.specs.Prelude.{◌≡◌, ◌+◌, ◌<◌, All, IfOk, length, map};
 ghost use Rattle.pmap_text.specs.ListEntries.{HasDistinctBlocks};
 ghost use Rattle.pmap_text.specs.ListModel.{IsEquivalent, ListModel};
 ghost use Rattle.pmap_text.specs.MapText.{map_of};
-ghost use Rattle.pmap_text.specs.PrefixList.{list_of};
+ghost use Rattle.pmap_text.specs.PrefixList.{list_of, prefix_of};
 ghost use Rattle.pmap_cert.specs.Acceptance.{IsAccepted, IsLeast, HasListForm, IsMinimalPair};
 ghost use Rattle.pmap_cert.specs.Certificate.{certificate_of};
 ghost use Rattle.pmap_cert.specs.CertificateText.{HasTextForm, certificate_text};
 ghost use Rattle.pmap_cert.specs.CertificateModel.{CertificateModel, claim_of};
 ghost use Rattle.pmap_cert.specs.Compacting.{compact};
 ghost use Rattle.label_trie.specs.TrieModel.{IsSettledLeaf, IsUndivided};
-ghost use Rattle.pmap_minimise.specs.Listing.{list_with};
 
 use crate::building::built;
 use crate::compacting::compacted;
@@ -18,7 +17,8 @@ use crate::opening::push_text;
 use crate::walks::{chosen, claimed};
 use label_trie::Trie;
 use pmap_cert::{Certificate, Format, minimal_pair_is_accepted, push_head, write_cert};
-use pmap_text::{Entries, Entry, MapText, Name, PrefixList};
+use pmap_text::{Entries, Entry, Labels, MapText, Name, PrefixList};
+use prefix_keys::Version;
 use std::alloc::{AllocError, Global};
 
 /// A shortest prefix list for a map, its certificate, and the cost that the certificate's root claims.
@@ -53,7 +53,8 @@ pub fn minimise(alloc: Global, map: &MapText, trie: &Trie) -> Result<Minimal, Al
     let _labels = map.labels.len();
     let claims = claimed(alloc, trie)?;
     let (entries, root) = chosen(alloc, &claims, map.version)?;
-    let list = list_with(alloc, map, entries)?;
+    let name = copy_name(alloc, &map.name)?;
+    let list = list_with(map.version, name, map.labels.copy()?, entries);
     let labels = map.labels.copy()?;
     let certificate = Certificate::new(map.version, labels, root);
     let top = certificate.root();
@@ -67,71 +68,82 @@ pub fn minimise(alloc: Global, map: &MapText, trie: &Trie) -> Result<Minimal, Al
 
 /// Returns the list of `minimise`, made without a trie and without the certificate's nodes: a shortest prefix list that
 /// labels every address as the map does, with the map's name and label table.
-pub fn shortest(alloc: Global, map: &MapText) -> Result<PrefixList, AllocError>
+pub fn shortest(alloc: Global, map: MapText) -> Result<PrefixList, AllocError>
     // The list and a certificate that has a text are the map's minimal pair.
-    ensures minimal { IfOk result (λ list. (c : CertificateModel) × IsMinimalPair (map_of map.now) (list_of list) c
+    ensures minimal { IfOk result (λ list. (c : CertificateModel) × IsMinimalPair (map_of map) (list_of list) c
         × HasTextForm c) }
     // The list labels every address as the map does, and no shorter list does.
-    ensures equivalent { IfOk result (λ list. IsEquivalent (list_of list) (map_of map.now)) }
-    ensures least { IfOk result (λ list. IsLeast (map_of map.now) (list_of list)) }
+    ensures equivalent { IfOk result (λ list. IsEquivalent (list_of list) (map_of map)) }
+    ensures least { IfOk result (λ list. IsLeast (map_of map) (list_of list)) }
     // The entries are in order of their first addresses. Of two with the same one, the shorter prefix is first.
     ensures order { IfOk result (λ list. HasListForm (list_of list)) }
 {
     // Provides the laws that a minimal pair is accepted, and that the table's labels are distinct.
     minimal_pair_is_accepted();
     let _labels = map.labels.len();
-    let built = built(alloc, map)?;
+    let built = built(alloc, &map)?;
     let items = listed(alloc, &built, map.version)?;
-    let list = list_with(alloc, map, items)?;
-    Ok(list)
+    Ok(list_with(map.version, map.name, map.labels, items))
 }
 
 /// Returns the text of the certificate of `minimise`, made without the list and without a node for each of its lines.
-pub fn certificate_text(alloc: Global, map: &MapText) -> Result<Vec<u8>, AllocError>
+pub fn certificate_text(alloc: Global, map: MapText) -> Result<Vec<u8>, AllocError>
     // It is the text of the certificate of the map's minimal pair.
-    ensures { IfOk result (λ text. (l : ListModel) × (c : CertificateModel) × IsMinimalPair (map_of map.now) l c
+    ensures { IfOk result (λ text. (l : ListModel) × (c : CertificateModel) × IsMinimalPair (map_of map) l c
         × HasTextForm c × (text.items ≡ certificate_text c)) }
 {
     // Provides the law that the table's labels are distinct.
     let _labels = map.labels.len();
-    let built = built(alloc, map)?;
+    let built = built(alloc, &map)?;
+    let version = map.version;
+    let labels = labels_of(map);
     let mut out = Vec::new(alloc);
-    push_head(&mut out, Format::One, map.version, &map.labels)?;
+    push_head(&mut out, Format::One, version, &labels)?;
     push_text(&mut out, alloc, &built, built.lines.len())?;
     Ok(out)
 }
 
 /// Returns the text of the compacted certificate of `minimise`, made without a trie, without the list and without the
 /// nodes of the certificate that isn't compacted.
-pub fn compact_text(alloc: Global, map: &MapText) -> Result<Vec<u8>, AllocError>
+pub fn compact_text(alloc: Global, map: MapText) -> Result<Vec<u8>, AllocError>
     // It is the text of the certificate of the map's minimal pair, compacted.
-    ensures { IfOk result (λ text. (l : ListModel) × (c : CertificateModel) × IsMinimalPair (map_of map.now) l c
+    ensures { IfOk result (λ text. (l : ListModel) × (c : CertificateModel) × IsMinimalPair (map_of map) l c
         × HasTextForm c × (text.items ≡ certificate_text (compact c))) }
 {
     // Provides the law that the table's labels are distinct.
     let _labels = map.labels.len();
-    let built = built(alloc, map)?;
+    let built = built(alloc, &map)?;
     let root = compacted(alloc, &built)?;
-    let labels = map.labels.copy()?;
-    let certificate = Certificate::of_format(Format::Two, map.version, labels, root);
+    let certificate = Certificate::of_format(Format::Two, map.version, labels_of(map), root);
     write_cert(alloc, &certificate)
 }
 
-// Returns the prefix list with these entries and the map's name and label table.
-fn list_with(alloc: Global, map: &MapText, items: Vec<Entry>) -> Result<PrefixList, AllocError>
-    requires versions { All (λ e. e.block.version ≡ map.now.version) items.items }
-    requires known { All (λ e. e.label.0 < length map.now.labels) items.items }
+// Returns the map's label table. The memory of its statements is given back.
+fn labels_of(map: MapText) -> Labels
+    ensures { result ≡ map.labels }
+{
+    map.labels
+}
+
+fn list_with(version: Version, name: Option<Name>, labels: Labels, items: Vec<Entry>) -> PrefixList
+    requires versions { All (λ e. e.block.version ≡ version) items.items }
+    requires known { All (λ e. e.label.0 < length labels) items.items }
     requires distinct { HasDistinctBlocks items.items }
-    ensures { IfOk result (λ list. list_of list ≡ list_with map.now items.items) }
+    ensures { list_of result ≡ record {
+      version = version;
+      name = name;
+      prefixes = map (prefix_of labels) items.items;
+      table = labels;
+    } }
 {
     // Provides the law that the table's labels are distinct.
-    let _labels = map.labels.len();
-    Ok(PrefixList {
-        version: map.version,
-        name: copy_name(alloc, &map.name)?,
+    let _labels = labels.len();
+    PrefixList {
+        version,
+        name,
         entries: Entries::from_distinct(items),
-        labels: map.labels.copy()?,
-    })
+        labels,
+    }
 }
 
 fn copy_name(alloc: Global, name: &Option<Name>) -> Result<Option<Name>, AllocError>

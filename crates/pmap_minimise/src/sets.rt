@@ -13,7 +13,6 @@ use std::alloc::{AllocError, Global};
 // A set of labels. Most sets have at most 8 labels, and need no allocation.
 type SmallSet = SmallVec<LabelId, 8>;
 
-// Returns the labels that both sets have.
 fn common(alloc: Global, low: &[LabelId], high: &[LabelId]) -> Result<SmallSet, AllocError>
     requires low { IsRising (2 ^ 32) 0 (numbers_of low.now) }
     requires high { IsRising (2 ^ 32) 0 (numbers_of high.now) }
@@ -40,7 +39,6 @@ fn common(alloc: Global, low: &[LabelId], high: &[LabelId]) -> Result<SmallSet, 
     Ok(set)
 }
 
-// Returns the labels that either set has.
 fn either(alloc: Global, low: &[LabelId], high: &[LabelId]) -> Result<SmallSet, AllocError>
     requires low { IsRising (2 ^ 32) 0 (numbers_of low.now) }
     requires high { IsRising (2 ^ 32) 0 (numbers_of high.now) }

@@ -24,7 +24,6 @@ pub struct Due {
     pub inherited: Option<LabelId>,
 }
 
-// Removes and returns the top of a stack that isn't empty.
 fn pop<T>(stack: &mut Vec<T>) -> T
     requires { 0 < length stack.old.items }
     ensures { stack.old.items ≡ stack.new.items ++ result ∷ [] }

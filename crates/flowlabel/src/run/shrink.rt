@@ -10,8 +10,8 @@ use pmap_text::MapText;
 use std::alloc::{AllocError, Global};
 
 /// Returns the text of a map's shortest list, or of its certificate, compacted or not.
-pub fn shrunk_text(alloc: Global, map: &MapText, printed: Shrunk) -> Result<Vec<u8>, AllocError>
-    ensures { IfOk result (λ out. PrintsMinimal printed (map_of map.now) (Ok out.items)) }
+pub fn shrunk_text(alloc: Global, map: MapText, printed: Shrunk) -> Result<Vec<u8>, AllocError>
+    ensures { IfOk result (λ out. PrintsMinimal printed (map_of map) (Ok out.items)) }
 {
     match printed {
         Shrunk::List => print_list(alloc, &shortest(alloc, map)?),

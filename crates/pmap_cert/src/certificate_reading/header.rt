@@ -18,7 +18,6 @@ pub struct Header {
     pub count: u32,
 }
 
-// The version that a word names.
 fn named_version(word: &[u8]) -> Option<Version>
     ensures { result ≡ named_version word.now }
 {
@@ -31,7 +30,6 @@ fn named_version(word: &[u8]) -> Option<Version>
     }
 }
 
-// The format that a word names.
 fn named_format(word: &[u8]) -> Option<Format>
     ensures { option_map format_number result ≡ named_format word.now }
 {
@@ -63,7 +61,6 @@ fn said_by(name: &[u8], format: &[u8], version: &[u8], count: &[u8]) -> Option<H
     }
 }
 
-// Parses a header line.
 fn said(line: &[u8]) -> Option<Header>
     ensures { option_map header_model result ≡ format_header_of (words_of line.now) }
 {

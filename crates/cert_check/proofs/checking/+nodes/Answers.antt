@@ -1,15 +1,15 @@
-use Rattle.std.proofs.Common.{◌≡◌, ◌∙◌, ◌+◌, ◌-◌, ◌*◌, ◌<◌, Bool, List, ◌∷◌, Some, ap, arith, drop, length, option_map, refl, subst, suc, sym, take, ℕ}
+use Rattle.std.proofs.Common.{◌≡◌, ◌∙◌, ◌+◌, ◌-◌, ◌*◌, ◌<◌, Bool, List, ◌∷◌, Some, ap, arith, drop, length, option_map, refl, subst, suc, sym, ℕ}
 use Rattle.std.proofs.lemmas.Result.{err_from_is_err_and}
 use Rattle.prefix_keys.specs.Block.{width_of}
 use Rattle.pmap_text.specs.MapText.{map_of, text_at}
-use Rattle.pmap_text.specs.PrefixList.{list_of}
+use Rattle.pmap_text.specs.PrefixList.{list_of, number_of_block as number_of}
 use Rattle.pmap_text.specs.declared.label.LabelId.{LabelId}
 use Rattle.pmap_cert.specs.CertificateText.{HasRoomBelow}
 use Rattle.pmap_cert.specs.CertificateModel.{chain_pair, chosen_half}
-use Rattle.pmap_cert.specs.Node.{HasChainForm, behind, bits_of, first_node}
+use Rattle.pmap_cert.specs.Node.{HasChainForm, bits_of, first_node}
 use Rattle.pmap_cert.specs.Packed.{bits_in}
 use Rattle.pmap_cert.proofs.Ways.{way-length}
-use Rattle.cert_check.specs.Inner.{number_of, IsNodeAnswer, IsWayAnswer, line_fault, tree_at, way_fault}
+use Rattle.cert_check.specs.Inner.{IsNodeAnswer, IsWayAnswer, line_fault, tree_at, way_fault}
 use Rattle.cert_check.specs.Checking.{bits_fault, claim_fault, fault_of_number, node_fault, told}
 use Rattle.cert_check.proofs.Nodes.{chain-at, count_of, end-rising, end-room, fault_of, half-is, half-room, inner-at, later-answer, or-first, or-second, own-answer, pair_of, rising-of, room-long, room-rest, way-step}
 use Rattle.cert_check.proofs.checking.+nodes.Goals as goal
@@ -37,15 +37,12 @@ check_below-check_node-requires t c =
       },
     )
 
-pub check_below-check_way-requires : goal.check_below-check_way-requires
-check_below-check_way-requires t c = (omega (arith, c.requires.some), c.requires.end)
-
 pub check_below-returns-in-Some : goal.check_below-returns-in-Some
 check_below-returns-in-Some t c =
     let s = c.args.sources.now in
     let end = c.args.end.now in
     later-answer (way_fault s end c.args.side.0 (bits_in c.args.way.now) c.args.part.now) (line_fault s end c.in-Some.below) c.args.number end.number
-    (count_of s.certificate.now.labels end.node) (behind end.node) c.check_node.result c.requires.end.next
+    (count_of s.certificate.now.labels end.node) (drop 1 end.node) c.check_node.result c.requires.end.next
     (λ k. c.in-Some.ensures.clear k (node_fault (map_of s.map.now) (list_of s.list.now).prefixes (tree_at s end) (k + 1))) c.check_node.ensures
 
 pub check_chain-check_below-requires : goal.check_chain-check_below-requires
@@ -94,7 +91,7 @@ check_chain-returns t c =
     let at = chain-at labels line.node end.node side (width_of b.version - b.len) c.requires.node.form c.requires.chain c.next_line-end.ensures.node in
     let fault = c.chain_fault-fault.result in
     subst (IsNodeAnswer s line p) (sym c.unless_fault.ensures)
-    (own-answer (line_fault s line p) line.number (count_of labels line.node) (behind line.node) fault next (c.in_ok-next.ensures.0 ∙ at.next_is)
+    (own-answer (line_fault s line p) line.number (count_of labels line.node) (drop 1 line.node) fault next (c.in_ok-next.ensures.0 ∙ at.next_is)
     (λ k told_is.
     let below = c.in_ok-next.ensures.1 k told_is in
     let along = λ (xs : List Bool). bits_fault m ps (text_at labels side) k (fault_of labels m ps end.node (k + 1)) xs b.len (number_of b) in
@@ -109,13 +106,11 @@ pub check_inner-check_node-requires : goal.check_inner-check_node-requires
 check_inner-check_node-requires t c =
     let s = c.args.sources.now in
     let labels = s.certificate.now.labels in
-    let m = map_of s.map.now in
-    let ps = (list_of s.list.now).prefixes in
     let p = c.args.part.now in
     let b = p.block in
     let line = c.args.line.now in
     let lower = c.next_line-lower.result in
-    let at = inner-at labels line.node lower.node (behind lower.node) (width_of b.version - b.len) c.requires.node.here c.requires.node.form c.requires.inner.0 c.requires.inner.1
+    let at = inner-at labels line.node lower.node (drop 1 lower.node) (width_of b.version - b.len) c.requires.node.here c.requires.node.form c.requires.inner.0 c.requires.inner.1
     c.next_line-lower.ensures.node refl in
     let low = c.halves.result.0.block in
     let half = c.halves.ensures.halves.lower in
@@ -133,8 +128,6 @@ pub check_inner-check_node-requires-2 : goal.check_inner-check_node-requires-2
 check_inner-check_node-requires-2 t c =
     let s = c.args.sources.now in
     let labels = s.certificate.now.labels in
-    let m = map_of s.map.now in
-    let ps = (list_of s.list.now).prefixes in
     let p = c.args.part.now in
     let b = p.block in
     let line = c.args.line.now in
@@ -164,7 +157,7 @@ check_inner-returns-in_err-upper t c =
     let b = p.block in
     let line = c.args.line.now in
     let lower = c.next_line-lower.result in
-    let at = inner-at labels line.node lower.node (behind lower.node) (width_of b.version - b.len) c.requires.node.here c.requires.node.form c.requires.inner.0 c.requires.inner.1
+    let at = inner-at labels line.node lower.node (drop 1 lower.node) (width_of b.version - b.len) c.requires.node.here c.requires.node.form c.requires.inner.0 c.requires.inner.1
     c.next_line-lower.ensures.node refl in
     let low = c.halves.result.0.block in
     let found = c.in_err-upper.field-0.0 in
@@ -204,55 +197,22 @@ check_inner-returns-in_err-next t c =
     (sym (half-is b high (2 * number_of b + 1) c.halves.ensures.halves.upper (fault_of labels m ps upper.node later))
     ∙ c.in_err-next.ensures later (sym first.1))))
 
-pub check_inner-claim_fault-fault-requires-clause-below : goal.check_inner-claim_fault-fault-requires-clause-below
-check_inner-claim_fault-fault-requires-clause-below t c =
-    let s = c.args.sources.now in
-    let labels = s.certificate.now.labels in
-    let m = map_of s.map.now in
-    let ps = (list_of s.list.now).prefixes in
-    let p = c.args.part.now in
-    let b = p.block in
-    let line = c.args.line.now in
-    let lower = c.next_line-lower.result in
-    let upper = c.in_ok-upper.upper in
-    let at = inner-at labels line.node lower.node upper.node (width_of b.version - b.len) c.requires.node.here c.requires.node.form c.requires.inner.0 c.requires.inner.1
-    c.next_line-lower.ensures.node c.in_ok-upper.ensures.0 in
-    (at.2.lower_here, at.2.upper_here)
-
-pub check_inner-claim_fault-fault-requires-clause-claim : goal.check_inner-claim_fault-fault-requires-clause-claim
-check_inner-claim_fault-fault-requires-clause-claim t c =
+pub check_inner-claim_fault-fault-requires : goal.check_inner-claim_fault-fault-requires
+check_inner-claim_fault-fault-requires t c =
+    let labels = c.args.sources.now.certificate.now.labels in
     let b = c.args.part.now.block in
-    rising-of (first_node c.args.line.now.node) (length c.args.sources.now.certificate.now.labels) (width_of b.version - b.len) c.requires.node.form
-
-pub check_inner-claim_fault-fault-requires-clause-left : goal.check_inner-claim_fault-fault-requires-clause-left
-check_inner-claim_fault-fault-requires-clause-left t c =
-    let s = c.args.sources.now in
-    let labels = s.certificate.now.labels in
-    let m = map_of s.map.now in
-    let ps = (list_of s.list.now).prefixes in
-    let p = c.args.part.now in
-    let b = p.block in
     let line = c.args.line.now in
     let lower = c.next_line-lower.result in
     let upper = c.in_ok-upper.upper in
     let at = inner-at labels line.node lower.node upper.node (width_of b.version - b.len) c.requires.node.here c.requires.node.form c.requires.inner.0 c.requires.inner.1
     c.next_line-lower.ensures.node c.in_ok-upper.ensures.0 in
-    rising-of (first_node lower.node) (length labels) at.0 at.2.lower_form
-
-pub check_inner-claim_fault-fault-requires-clause-right : goal.check_inner-claim_fault-fault-requires-clause-right
-check_inner-claim_fault-fault-requires-clause-right t c =
-    let s = c.args.sources.now in
-    let labels = s.certificate.now.labels in
-    let m = map_of s.map.now in
-    let ps = (list_of s.list.now).prefixes in
-    let p = c.args.part.now in
-    let b = p.block in
-    let line = c.args.line.now in
-    let lower = c.next_line-lower.result in
-    let upper = c.in_ok-upper.upper in
-    let at = inner-at labels line.node lower.node upper.node (width_of b.version - b.len) c.requires.node.here c.requires.node.form c.requires.inner.0 c.requires.inner.1
-    c.next_line-lower.ensures.node c.in_ok-upper.ensures.0 in
-    rising-of (first_node upper.node) (length labels) at.0 at.2.upper_form
+    record {
+      here = c.requires.node.here;
+      below = (at.2.lower_here, at.2.upper_here);
+      claim = rising-of (first_node line.node) (length labels) (width_of b.version - b.len) c.requires.node.form;
+      left = rising-of (first_node lower.node) (length labels) at.0 at.2.lower_form;
+      right = rising-of (first_node upper.node) (length labels) at.0 at.2.upper_form;
+    }
 
 pub check_inner-returns : goal.check_inner-returns
 check_inner-returns t c =
@@ -272,7 +232,7 @@ check_inner-returns t c =
     let high = c.halves.result.1.block in
     let fault = c.claim_fault-fault.result in
     subst (IsNodeAnswer s line p) (sym c.unless_fault.ensures)
-    (own-answer (line_fault s line p) line.number (count_of labels line.node) (behind line.node) fault next (c.in_ok-next.ensures.0 ∙ at.2.next_is)
+    (own-answer (line_fault s line p) line.number (count_of labels line.node) (drop 1 line.node) fault next (c.in_ok-next.ensures.0 ∙ at.2.next_is)
     (λ k told_is.
     let first = c.in_ok-upper.ensures.1 (k + 1) (c.next_line-lower.ensures.number k told_is) in
     let later = k + 1 + count_of labels lower.node in
@@ -286,10 +246,6 @@ check_inner-returns t c =
           (ap (option_map (fault_of_number k)) (sym c.claim_fault-fault.ensures))),
       second.1 ∙ ap told count,
     )))
-
-pub check_node-check_chain-requires : goal.check_node-check_chain-requires
-check_node-check_chain-requires t c =
-    (omega arith, (c.requires.node, sym c.side.ensures ∙ ap (option_map (λ (id : LabelId). id.0)) c.in-Some-side.is))
 
 pub check_node-check_inner-requires : goal.check_node-check_inner-requires
 check_node-check_inner-requires t c = (
@@ -325,7 +281,7 @@ check_way-returns-in_default t c =
     let end = c.args.end.now in
     let none = c.in_default.ensures.bits in
     later-answer (way_fault s end c.args.side.0 (bits_in c.args.way.now) p) (line_fault s end p) c.args.number end.number (count_of s.certificate.now.labels end.node)
-    (behind end.node) c.check_node.result c.requires.end.next (λ k. ap (λ (xs : List Bool). way_fault s end c.args.side.0 xs p k) none) c.check_node.ensures
+    (drop 1 end.node) c.check_node.result c.requires.end.next (λ k. ap (λ (xs : List Bool). way_fault s end c.args.side.0 xs p k) none) c.check_node.ensures
 
 pub check_way-step-requires-clause-room : goal.check_way-step-requires-clause-room
 check_way-step-requires-clause-room t c =
@@ -400,7 +356,7 @@ check_way-returns t c =
     let line = c.args.end.now in
     let fault = c.leaf_fault.result in
     subst (IsWayAnswer s line c.args.number c.args.side.0 bits p) (sym c.unless_fault.ensures)
-    (own-answer (way_fault s line c.args.side.0 bits p) c.args.number (1 + count_of labels line.node) (behind line.node) fault c.in_ok-next.next c.in_ok-next.ensures.0
+    (own-answer (way_fault s line c.args.side.0 bits p) c.args.number (1 + count_of labels line.node) (drop 1 line.node) fault c.in_ok-next.next c.in_ok-next.ensures.0
     (λ k told_is.
     let end = node_fault m ps (tree_at s line) (k + 1) in
     let below = c.in_ok-next.ensures.1 k told_is in (

@@ -1,13 +1,8 @@
-use Rattle.std.proofs.Common.{◌∙◌, ap, not, refl, sym}
-use Rattle.std.specs.List.{list_all}
-use Rattle.std.proofs.lemmas.List.{take_all}
+use Rattle.std.proofs.Common.{◌∙◌, ap, not, sym}
 use Rattle.pmap_text.specs.declared.label.LabelId.{LabelId}
 use Rattle.cert_check.specs.Inner.{has_number}
-use Rattle.cert_check.proofs.Sets.{all-fails, all-more, goes-on, walk-has, numbers, walk-start}
+use Rattle.cert_check.proofs.Sets.{all-fails, all-more, goes-on, walk-has, numbers}
 use Rattle.cert_check.proofs.claims.are_apart.Goals as goal
-
-pub loop-id-init : goal.loop-id-init
-loop-id-init c = record { walk = walk-start c.args.lower.now c.args.upper.now c.requires.lower c.requires.upper; all = refl }
 
 pub loop-id-preserved : goal.loop-id-preserved
 loop-id-preserved c =
@@ -31,8 +26,3 @@ returns-then-begins_with c =
     let id : LabelId = record { 0 = 0 } in
     let here = walk-has lower c.loop-id.rest.now c.rest_from-rest.result.now upper i id c.loop-id-test.true c.loop-id.invariant.walk c.rest_from-rest.ensures.rising c.rest_from-rest.ensures.kept in
     sym (all-fails (λ (j : LabelId). not (has_number (numbers upper) j.0)) lower i id c.loop-id-test.true (ap not (sym here ∙ sym c.begins_with.ensures ∙ c.if-begins_with.true)))
-
-pub returns : goal.returns
-returns c =
-    sym (sym (ap (list_all (λ (j : LabelId). not (has_number (numbers c.args.upper.now) j.0))) (take_all c.loop-id.id-index c.args.lower.now c.loop-id-test.false))
-    ∙ c.loop-id.invariant.all)

@@ -1,13 +1,8 @@
-use Rattle.std.proofs.Common.{◌∙◌, ap, refl, sym}
-use Rattle.std.specs.List.{list_all}
-use Rattle.std.proofs.lemmas.List.{take_all}
+use Rattle.std.proofs.Common.{◌∙◌, sym}
 use Rattle.pmap_text.specs.declared.label.LabelId.{LabelId}
 use Rattle.cert_check.specs.Inner.{has_number}
-use Rattle.cert_check.proofs.Sets.{all-fails, all-more, goes-on, walk-has, numbers, walk-start}
+use Rattle.cert_check.proofs.Sets.{all-fails, all-more, goes-on, walk-has, numbers}
 use Rattle.cert_check.proofs.claims.has_all.Goals as goal
-
-pub loop-id-init : goal.loop-id-init
-loop-id-init c = record { walk = walk-start c.args.labels.now c.args.set.now c.requires.labels c.requires.set; all = refl }
 
 pub loop-id-preserved : goal.loop-id-preserved
 loop-id-preserved c =
@@ -31,8 +26,3 @@ returns-then-not-begins_with c =
     let id : LabelId = record { 0 = 0 } in
     let here = walk-has labels c.loop-id.rest.now c.rest_from-rest.result.now set i id c.loop-id-test.true c.loop-id.invariant.walk c.rest_from-rest.ensures.rising c.rest_from-rest.ensures.kept in
     sym (all-fails (λ (j : LabelId). has_number (numbers set) j.0) labels i id c.loop-id-test.true (sym here ∙ sym c.begins_with.ensures ∙ c.if-not-begins_with.true))
-
-pub returns : goal.returns
-returns c =
-    sym (sym (ap (list_all (λ (j : LabelId). has_number (numbers c.args.set.now) j.0)) (take_all c.loop-id.id-index c.args.labels.now c.loop-id-test.false))
-    ∙ c.loop-id.invariant.all)

@@ -1,16 +1,9 @@
-use Rattle.std.proofs.Common.{◌∙◌, ◌||◌, inl, inr, not, refl, sym}
+use Rattle.std.proofs.Common.{◌∙◌, ◌||◌, inl, inr, not, sym}
 use Rattle.pmap_text.specs.declared.label.LabelId.{LabelId}
 use Rattle.cert_check.specs.Inner.{has_number}
-use Rattle.cert_check.proofs.Sets.{all-more, goes-on, numbers, or-from, walk-has, walk-start}
+use Rattle.cert_check.proofs.Sets.{all-more, goes-on, numbers, or-from, walk-has}
 use Rattle.cert_check.proofs.claims.has_common.Goals as goal
 use Rattle.cert_check.proofs.claims.has_common.Goals.{else-begins_with-via-then-begins_with+else-not-begins_with, else-begins_with-via-else-begins_with}
-
-pub loop-id-init : goal.loop-id-init
-loop-id-init c = record {
-  walk = walk-start c.args.lower.now c.args.set.now c.requires.lower c.requires.set;
-  above = walk-start c.args.lower.now c.args.upper.now c.requires.lower c.requires.upper;
-  all = refl;
-}
 
 pub loop-id-preserved : goal.loop-id-preserved
 loop-id-preserved c =

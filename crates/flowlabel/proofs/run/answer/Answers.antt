@@ -43,8 +43,8 @@ returns-in-Check-clause-err g c = rw c.in-Check.is c.check_loaded.ensures.err
 
 pub returns-in_ok-shrunk_text-in-Shrink-clause-ok : goal.returns-in_ok-shrunk_text-in-Shrink-clause-ok
 returns-in_ok-shrunk_text-in-Shrink-clause-ok g c = λ bytes told. rw c.in-Shrink.is
-    (c.unwrap-in-Shrink.result.now, sym c.as_ref.ensures.value ∙ ap option_copied c.unwrap-in-Shrink.ensures, c.in_ok-shrunk_text-in-Shrink.ensures)
+    (c.unwrap-in-Shrink.result, sym c.take.ensures.value ∙ c.unwrap-in-Shrink.ensures, c.in_ok-shrunk_text-in-Shrink.ensures)
 
 pub returns-in_ok-recert_text-in-Recert-clause-ok : goal.returns-in_ok-recert_text-in-Recert-clause-ok
 returns-in_ok-recert_text-in-Recert-clause-ok g c = λ bytes told. rw c.in-Recert.is
-    (c.unwrap-in-Recert.result.now, sym c.as_ref-in-Recert.ensures.value ∙ ap option_copied c.unwrap-in-Recert.ensures, c.in_ok-recert_text-in-Recert.ensures)
+    (c.unwrap-in-Recert.result.now, sym c.as_ref.ensures.value ∙ ap option_copied c.unwrap-in-Recert.ensures, c.in_ok-recert_text-in-Recert.ensures)

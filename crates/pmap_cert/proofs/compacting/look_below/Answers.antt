@@ -1,13 +1,7 @@
 use Rattle.std.proofs.Common.{◌∙◌, ap, arith, option_map}
 use Rattle.pmap_text.specs.declared.label.LabelId.{LabelId}
-use Rattle.pmap_cert.specs.Inner.{node_from}
-use Rattle.pmap_cert.proofs.CompactPlaces.{halves-of, label-at, leaf-only}
+use Rattle.pmap_cert.proofs.CompactPlaces.{halves-of, label-at}
 use Rattle.pmap_cert.proofs.compacting.look_below.Goals as goal
-
-pub returns-in-Some : goal.returns-in-Some
-returns-in-Some c =
-    leaf-only (node_from c.args.nodes.now c.args.number) c.in-Some.id.0
-    (label-at c.args.nodes.now c.args.number c.label.result c.requires.plain c.requires.within c.label.ensures ∙ ap (option_map (λ (id : LabelId). id.0)) c.in-Some.is)
 
 pub bounds-ends-number : goal.bounds-ends-number
 bounds-ends-number c =

@@ -1,21 +1,7 @@
 use Rattle.std.proofs.Common.{◌+◌, ◌-◌, ◌/◌, ℕ, arith, refl}
 use Rattle.pmap_text.proofs.Ranges.{held_order}
-use Rattle.pmap_minimise.proofs.Areas.{are-halves, area-split, block-order}
+use Rattle.pmap_minimise.proofs.Areas.{are-halves, area-split}
 use Rattle.pmap_minimise.proofs.area.halves.Goals as goal
-
-pub index_of-at-requires : goal.index_of-at-requires
-index_of-at-requires c =
-    let is = c.requires.area in
-    let order = block-order c.args.stretches.now c.args.area.now is in
-    record { area = is; from = omega arith; to = omega arith }
-
-pub next_index-next-requires : goal.next_index-next-requires
-next_index-next-requires c =
-    let is = c.requires.area in
-    let split = area-split c.args.stretches.now c.args.area.now is c.requires.divided is.few.statements is.few.default is.few.stretches in
-    let some = split.some in
-    let fits = split.fits in
-    record { holds = c.index_of-at.ensures.holds; below = omega arith }
 
 pub returns : goal.returns
 returns c =

@@ -2,7 +2,7 @@ use Rattle.std.proofs.Common.{◌≡◌, ◌∙◌, ◌++◌, ℕ, List, [], ◌
 use Rattle.std.proofs.lemmas.List.{append_assoc}
 use Rattle.std.proofs.lemmas.Option.{slice_get_within}
 use Rattle.pmap_text.specs.declared.label.LabelId.{LabelId}
-use Rattle.pmap_cert.specs.FormatReading.{ChainLine, DueLine, InnerLine, PlainLine}
+use Rattle.pmap_cert.specs.FormatReading.{ChainLine, DueLine, InnerLine}
 use Rattle.pmap_cert.specs.Node.{lines_of}
 use Rattle.pmap_cert.specs.Ways.{way_to}
 use Rattle.pmap_minimise.specs.Built.{IsAt}
@@ -90,7 +90,7 @@ returns-in_ok-middle-in-Inner t c =
     let first = c.in_ok-middle-in-Inner.ensures inner.low inner.lower inner.middle inner.low_at in
     let second = done inner.high inner.upper start (subst (IsAt b inner.high inner.upper start) (sym first.0) inner.high_at) in
     let set : numbers_of c.labels.result.now ≡ inner.set = c.labels.ensures ∙ inner.held.set in
-    let line : List ℕ → DueLine = λ s. PlainLine (InnerLine c.in-Inner.cost s) in (
+    let line : List ℕ → DueLine = λ s. InnerLine c.in-Inner.cost s in (
       second.0,
       second.1 ∙ ap (λ (ls : List DueLine). ls ++ lines_of inner.high) (first.1 ∙ ap (λ (ls : List DueLine). ls ++ lines_of inner.low) c.in_ok-push_inner-in-Inner.ensures.ok)
           ∙ append_assoc (c.args.out.now ++ line (numbers_of c.labels.result.now) ∷ []) (lines_of inner.low) (lines_of inner.high)

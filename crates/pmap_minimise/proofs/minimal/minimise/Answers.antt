@@ -1,4 +1,4 @@
-use Rattle.std.proofs.Common.{◌≡◌, ◌∙◌, List, length, ap, arith, subst, sym}
+use Rattle.std.proofs.Common.{◌≡◌, ◌<◌, ◌∙◌, All, List, length, map, ap, arith, subst, sym}
 use Rattle.std.proofs.lemmas.List.{length-map}
 use Rattle.prefix_keys.specs.Block.{width_of}
 use Rattle.pmap_text.specs.MapModel.{Label}
@@ -8,15 +8,19 @@ use Rattle.pmap_cert.specs.Certificate.{certificate_of}
 use Rattle.pmap_cert.specs.Format.{format_number}
 use Rattle.pmap_cert.specs.Node.{HasNumberForm, Node, cost_of, first_node, tree_of}
 use Rattle.pmap_minimise.proofs.Joined.{claim-cost}
-use Rattle.pmap_minimise.proofs.Whole.{chosen-shortest, listed-form, listed-minimal, shortest-distinct}
+use Rattle.pmap_minimise.proofs.Whole.{chosen-shortest, list_with, listed-form, listed-minimal, shortest-distinct}
 use Rattle.pmap_minimise.proofs.minimal.minimise.Goals as goal
 
-pub list_with-requires : goal.list_with-requires
-list_with-requires c =
+pub list_with-list-requires : goal.list_with-list-requires
+list_with-list-requires c =
     let claimed = c.in_ok-claims.ensures in
     let made = chosen-shortest c.args.map.now c.args.trie.now.version c.args.trie.now.leaves c.in_ok-claims.claims claimed.0 c.in_ok-entries.entries.items c.in_ok-entries.root claimed.1
     c.requires.version c.len-labels.ensures.table c.requires.settled c.requires.undivided c.in_ok-entries.ensures in
-    record { versions = made.0.versions; known = made.0.known; distinct = shortest-distinct c.args.map.now claimed.0 c.in_ok-entries.entries.items made.0 }
+    record {
+      versions = made.0.versions;
+      known = subst (λ (t : List Label). All (λ e. e.label.0 < length t) c.in_ok-entries.entries.items) (sym c.in_ok-copy.ensures) made.0.known;
+      distinct = shortest-distinct c.args.map.now claimed.0 c.in_ok-entries.entries.items made.0;
+    }
 
 pub new-certificate-requires : goal.new-certificate-requires
 new-certificate-requires c =
@@ -30,7 +34,11 @@ new-certificate-requires c =
 pub returns : goal.returns
 returns c =
     let m = c.args.map.now in
-    let l = list_of c.in_ok-list.list in
+    let items = c.in_ok-entries.entries.items in
+    let made_list = c.list_with-list.result in
+    let l = list_of made_list in
+    let is : l ≡ list_with m items =
+    c.list_with-list.ensures ∙ (λ i. record { version = m.version; name = c.in_ok-name.ensures i; prefixes = map (prefix_of (c.in_ok-copy.ensures i)) items; table = c.in_ok-copy.ensures i }) in
     let certificate = certificate_of c.new-certificate.result in
     let claimed = c.in_ok-claims.ensures in
     let made = chosen-shortest m c.args.trie.now.version c.args.trie.now.leaves c.in_ok-claims.claims claimed.0 c.in_ok-entries.entries.items c.in_ok-entries.root claimed.1
@@ -38,9 +46,9 @@ returns c =
     let table = c.new-certificate.ensures.labels ∙ c.in_ok-labels.ensures in
     let same : certificate ≡ record { format = 1; version = m.version; table = m.labels; root = tree_of m.labels claimed.0 } =
     λ i. record { format = format_number (c.new-certificate.ensures.format i); version = c.new-certificate.ensures.version i; table = table i; root = tree_of (table i) ((c.new-certificate.ensures.root ∙ made.1) i) } in
-    let pair = listed-minimal m claimed.0 c.in_ok-entries.entries.items made.0 l c.in_ok-list.ensures certificate same in
+    let pair = listed-minimal m claimed.0 c.in_ok-entries.entries.items made.0 l is certificate same in
     let count = c.minimal_pair_is_accepted.ensures.count (map_of m) l certificate pair in
-    let entries : length l.prefixes ≡ length c.in_ok-list.list.entries = length-map c.in_ok-list.list.entries (prefix_of c.in_ok-list.list.labels) in
+    let entries : length l.prefixes ≡ length made_list.entries = length-map made_list.entries (prefix_of made_list.labels) in
     let cost = claim-cost c.new-certificate.result.labels c.new-certificate.result.root in
     let own : c.cost.result ≡ cost_of c.new-certificate.result.root = c.cost.ensures ∙ ap (λ (l : List Node). cost_of (first_node l)) c.root-top.ensures.value in
     record {
@@ -50,5 +58,5 @@ returns c =
       count = omega (arith, count, entries, cost, own, c.from-root_cost.ensures);
       least = c.minimal_pair_is_accepted.ensures.least (map_of m) l certificate pair;
       accepted = c.minimal_pair_is_accepted.ensures.accepted (map_of m) l certificate pair;
-      order = listed-form m claimed.0 c.in_ok-entries.entries.items made.0 l c.in_ok-list.ensures;
+      order = listed-form m claimed.0 c.in_ok-entries.entries.items made.0 l is;
     }

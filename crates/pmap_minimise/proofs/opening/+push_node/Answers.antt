@@ -1,5 +1,4 @@
-use Rattle.std.proofs.Common.{◌≡◌, ◌+◌, ◌∙◌, ◌∷◌, ◌++◌, [], ℕ, List, ap, arith, length, length-append, subst, sym, take}
-use Rattle.std.proofs.Math.Seq.{take-append_seam}
+use Rattle.std.proofs.Common.{◌≡◌, ◌+◌, ◌∙◌, ◌∷◌, ◌++◌, [], ℕ, List, ap, arith, length, length-append, subst, sym}
 use Rattle.std.proofs.lemmas.List.{append_assoc}
 use Rattle.std.proofs.lemmas.Option.{slice_get_within}
 use Rattle.pmap_cert.specs.CertificateText.{inner_line}
@@ -65,52 +64,38 @@ set_to-end-requires t c =
     let chain = read-chained b lines.compact lines.node lines.from c.args.to lines.at c.index.result.now c.in-Chain.number c.index.ensures c.in-Chain.is in
     record { compact = chain.end; node = chain.opened; from = lines.from; at = chain.below }
 
-pub push_down-requires-clause-bits : goal.push_down-requires-clause-bits
-push_down-requires-clause-bits t c =
+pub push_down-requires : goal.push_down-requires
+push_down-requires t c =
+    let lines = c.requires in
+    let b = c.args.built.now in
+    let read = c.index-in-Chain.result.now in
+    let chain = read-chained b lines.compact lines.node lines.from c.args.to lines.at c.index.result.now c.in-Chain.number c.index.ensures c.in-Chain.is in
+    let long = read-long b lines.compact lines.node c.in-Chain.number lines.from _ chain read c.index-in-Chain.ensures in
+    let old = c.args.texts.now.items in
+    let node : c.push_inner_line-in-Chain.new.out.items ≡ old ++ way_line read =
+    c.in_ok-push_inner_line-in-Chain.ensures ∙ ap (λ (s : List ℕ). old ++ (inner_line read.cost s ++ 10 ∷ [])) (ap numbers_of c.from_ref.ensures.value) in
+    let count : length c.push_inner_line-in-Chain.new.out.items ≡ length old + length (way_line read) = ap length node ∙ length-append old (way_line read) in
+    record {
+      bits = (omega arith, read-few b lines.compact lines.node c.in-Chain.number lines.from _ chain read c.index-in-Chain.ensures);
+      both =
+          text-after old (way_line read ++ side_line read) c.deref.result.now c.len-start.result
+          (c.deref.ensures.value ∙ c.in_ok-push_leaf_line-in-Chain.ensures ∙ ap (λ (l : List ℕ). l ++ side_line read) node ∙ append_assoc old (way_line read) (side_line read))
+          (omega (arith, c.len-start.ensures, c.args.texts.now.ok));
+      len = omega (arith, c.len-start.ensures, c.args.texts.now.ok, c.len-leaf.ensures, c.push_inner_line-in-Chain.new.out.ok);
+    }
+
+pub push_up-requires : goal.push_up-requires
+push_up-requires t c =
     let lines = c.requires in
     let b = c.args.built.now in
     let chain = read-chained b lines.compact lines.node lines.from c.args.to lines.at c.index.result.now c.in-Chain.number c.index.ensures c.in-Chain.is in
-    let long = read-long b lines.compact lines.node c.in-Chain.number lines.from _ chain c.index-in-Chain.result.now c.index-in-Chain.ensures in
-    (omega arith, read-few b lines.compact lines.node c.in-Chain.number lines.from _ chain c.index-in-Chain.result.now c.index-in-Chain.ensures)
-
-pub push_down-requires-clause-both : goal.push_down-requires-clause-both
-push_down-requires-clause-both t c =
-    let old = c.args.texts.now.items in
-    let chain = c.index-in-Chain.result.now in
-    let node : c.push_inner_line-in-Chain.new.out.items ≡ old ++ way_line chain =
-    c.in_ok-push_inner_line-in-Chain.ensures ∙ ap (λ (s : List ℕ). old ++ (inner_line chain.cost s ++ 10 ∷ [])) (ap numbers_of c.from_ref.ensures.value) in
-    text-after old (way_line chain ++ side_line chain) c.deref.result.now c.len-start.result
-    (c.deref.ensures.value ∙ c.in_ok-push_leaf_line-in-Chain.ensures ∙ ap (λ (l : List ℕ). l ++ side_line chain) node ∙ append_assoc old (way_line chain) (side_line chain))
-    (omega (arith, c.len-start.ensures, c.args.texts.now.ok))
-
-pub push_down-requires-clause-len : goal.push_down-requires-clause-len
-push_down-requires-clause-len t c =
-    let old = c.args.texts.now.items in
-    let chain = c.index-in-Chain.result.now in
-    let node : c.push_inner_line-in-Chain.new.out.items ≡ old ++ way_line chain =
-    c.in_ok-push_inner_line-in-Chain.ensures ∙ ap (λ (s : List ℕ). old ++ (inner_line chain.cost s ++ 10 ∷ [])) (ap numbers_of c.from_ref.ensures.value) in
-    let length : length c.push_inner_line-in-Chain.new.out.items ≡ length old + length (way_line chain) = ap length node ∙ length-append old (way_line chain) in
-    omega (arith, c.len-start.ensures, c.args.texts.now.ok, c.len-leaf.ensures, c.push_inner_line-in-Chain.new.out.ok)
-
-pub push_up-requires-clause-leaf : goal.push_up-requires-clause-leaf
-push_up-requires-clause-leaf t c =
-    text-after c.push_inner_line-in-Chain.new.out.items (side_line c.index-in-Chain.result.now) c.deref-in-Chain.result.now c.len-leaf.result
-    (c.deref-in-Chain.ensures.value ∙ c.in_ok-from-in-Chain.ensures.kept ∙ c.in_ok-push_leaf_line-in-Chain.ensures)
-    (omega (arith, c.len-leaf.ensures, c.push_inner_line-in-Chain.new.out.ok))
-
-pub returns-in_ok-push_up-in-Chain-clause-kept : goal.returns-in_ok-push_up-in-Chain-clause-kept
-returns-in_ok-push_up-in-Chain-clause-kept t c =
-    let old = c.args.texts.now.items in
-    let start : c.len-start.result ≡ length old = omega (arith, c.len-start.ensures, c.args.texts.now.ok) in
-    let all = c.in_ok-from-in-Chain.ensures.kept ∙ c.in_ok-push_leaf_line-in-Chain.ensures ∙ ap (λ (l : List ℕ). l ++ side_line c.index-in-Chain.result.now) c.in_ok-push_inner_line-in-Chain.ensures in
-    c.truncate.ensures.items ∙ (λ i. take (start i) (all i)) ∙ ap (take (length old)) (append_assoc old _ _) ∙ take-append_seam old _
-
-pub push_up-requires-clause-bits : goal.push_up-requires-clause-bits
-push_up-requires-clause-bits t c =
-    let lines = c.requires in
-    let b = c.args.built.now in
-    let chain = read-chained b lines.compact lines.node lines.from c.args.to lines.at c.index.result.now c.in-Chain.number c.index.ensures c.in-Chain.is in
-    read-few b lines.compact lines.node c.in-Chain.number lines.from _ chain c.index-in-Chain.result.now c.index-in-Chain.ensures
+    record {
+      bits = read-few b lines.compact lines.node c.in-Chain.number lines.from _ chain c.index-in-Chain.result.now c.index-in-Chain.ensures;
+      leaf =
+          text-after c.push_inner_line-in-Chain.new.out.items (side_line c.index-in-Chain.result.now) c.deref-in-Chain.result.now c.len-leaf.result
+          (c.deref-in-Chain.ensures.value ∙ c.in_ok-from-in-Chain.ensures.kept ∙ c.in_ok-push_leaf_line-in-Chain.ensures)
+          (omega (arith, c.len-leaf.ensures, c.push_inner_line-in-Chain.new.out.ok));
+    }
 
 pub push_node-requires-in-Chain : goal.push_node-requires-in-Chain
 push_node-requires-in-Chain t c =

@@ -26,11 +26,6 @@ loop-place-preserved c =
       ],
     )
 
-pub push_last_line-requires : goal.push_last_line-requires
-push_last_line-requires c =
-    let chain = c.args.chain.now in
-    c.split_at.ensures.front ∙ (λ i. take (c.requires.len i) (c.requires.both i)) ∙ take-append_seam (way_line chain) (side_line chain)
-
 pub returns-in_ok-extend_from_slice-2 : goal.returns-in_ok-extend_from_slice-2
 returns-in_ok-extend_from_slice-2 c =
     let chain = c.args.chain.now in

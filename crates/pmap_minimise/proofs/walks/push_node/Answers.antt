@@ -27,23 +27,14 @@ pop-high-requires c =
     (subst (λ (k : Kind). ForSome (slice_get c.args.trie.now.nodes c.args.number) (λ node. IsKindOf node k)) c.in-Divided.is c.kind.ensures)
     c.pop-low.new.stack.items c.pop-low.result c.pop-low.ensures
 
-pub push_inner-requires-clause-low : goal.push_inner-requires-clause-low
-push_inner-requires-clause-low c =
-    low-held c.args.trie.now c.args.number c.args.built.now c.args.claims.now.items c.requires
-    (subst (λ (k : Kind). ForSome (slice_get c.args.trie.now.nodes c.args.number) (λ node. IsKindOf node k)) c.in-Divided.is c.kind.ensures)
-    c.pop-low.new.stack.items c.pop-high.new.stack.items c.pop-high.result c.pop-low.result c.pop-low.ensures c.pop-high.ensures
-
-pub push_inner-requires-clause-high : goal.push_inner-requires-clause-high
-push_inner-requires-clause-high c =
-    high-held c.args.trie.now c.args.number c.args.built.now c.args.claims.now.items c.requires
-    (subst (λ (k : Kind). ForSome (slice_get c.args.trie.now.nodes c.args.number) (λ node. IsKindOf node k)) c.in-Divided.is c.kind.ensures)
-    c.pop-low.new.stack.items c.pop-high.new.stack.items c.pop-high.result c.pop-low.result c.pop-low.ensures c.pop-high.ensures
-
-pub push_inner-requires-clause-few : goal.push_inner-requires-clause-few
-push_inner-requires-clause-few c =
-    halves-few c.args.trie.now c.args.number c.args.built.now c.args.claims.now.items c.requires
-    (subst (λ (k : Kind). ForSome (slice_get c.args.trie.now.nodes c.args.number) (λ node. IsKindOf node k)) c.in-Divided.is c.kind.ensures)
-    c.pop-low.new.stack.items c.pop-high.new.stack.items c.pop-high.result c.pop-low.result c.pop-low.ensures c.pop-high.ensures
+pub push_inner-requires : goal.push_inner-requires
+push_inner-requires c =
+    let kind = subst (λ (k : Kind). ForSome (slice_get c.args.trie.now.nodes c.args.number) (λ node. IsKindOf node k)) c.in-Divided.is c.kind.ensures in
+    record {
+      low = low-held c.args.trie.now c.args.number c.args.built.now c.args.claims.now.items c.requires kind c.pop-low.new.stack.items c.pop-high.new.stack.items c.pop-high.result c.pop-low.result c.pop-low.ensures c.pop-high.ensures;
+      high = high-held c.args.trie.now c.args.number c.args.built.now c.args.claims.now.items c.requires kind c.pop-low.new.stack.items c.pop-high.new.stack.items c.pop-high.result c.pop-low.result c.pop-low.ensures c.pop-high.ensures;
+      few = halves-few c.args.trie.now c.args.number c.args.built.now c.args.claims.now.items c.requires kind c.pop-low.new.stack.items c.pop-high.new.stack.items c.pop-high.result c.pop-low.result c.pop-low.ensures c.pop-high.ensures;
+    }
 
 pub returns-in-Leaf-Some : goal.returns-in-Leaf-Some
 returns-in-Leaf-Some c =

@@ -9,31 +9,8 @@ use Rattle.cert_check.proofs.Halved.{high-part, low-part}
 use Rattle.cert_check.proofs.Within.{rising-values}
 use Rattle.cert_check.proofs.part.Part.halves.Goals as goal
 
-pub returns-clause-lower : goal.returns-clause-lower
-returns-clause-lower c =
-    let s = c.args.sources.now in
-    let b = c.args.self.now.block in
-    let low = c.in-Some.low in
-    let high = c.in-Some.high in
-    let are : AreHalves b low high = record {
-      lower = record { version = c.in-Some.ensures.versions.0; len = c.in-Some.ensures.lens.0; number = c.in-Some.ensures.lower_number };
-      upper = record { version = c.in-Some.ensures.versions.1; len = c.in-Some.ensures.lens.1; number = c.in-Some.ensures.upper_number };
-      begins = c.in-Some.ensures.lower;
-    } in
-    let inside = c.inside-above.ensures s.list.now c.requires.part.list in
-    let es = c.inside-above.result.0.now in
-    let point = IsPartitionPoint-from_clause (λ (e : Entry). ltb e.block.value high.value) es c.partition_point-begun.result
-    c.partition_point-begun.ensures.partitioned (IsPartitionedBy-ltb (λ (e : Entry). e.block.value) es high.value (rising-values es inside.within.rising))
-    (λ x r q k. search rules) in
-    let last = behind-low b low high are in
-    record {
-      from = subst (λ (a : ℕ). HoldsAddress s.stretches a c.args.self.now.from) (sym are.begins) c.requires.part.from;
-      to = subst (λ (a : ℕ). HoldsAddress s.stretches a c.cut-to.result.0) (omega (arith, last)) c.cut-to.ensures.before;
-      list = low-part s.list.now b low high are es c.inside-above.result.1 inside c.partition_point-begun.result point;
-    }
-
-pub returns-clause-upper : goal.returns-clause-upper
-returns-clause-upper c =
+pub returns : goal.returns
+returns c =
     let s = c.args.sources.now in
     let b = c.args.self.now.block in
     let low = c.in-Some.low in
@@ -49,9 +26,18 @@ returns-clause-upper c =
     let point = IsPartitionPoint-from_clause (λ (e : Entry). ltb e.block.value high.value) es k
     c.partition_point-begun.ensures.partitioned (IsPartitionedBy-ltb (λ (e : Entry). e.block.value) es high.value (rising-values es inside.within.rising))
     (λ x r q k. search rules) in
+    let last = behind-low b low high are in
     record {
-      from = c.cut-to.ensures.at;
-      to = subst (λ (a : ℕ). HoldsAddress s.stretches a c.args.self.now.to) (sym (ends-high b low high are)) c.requires.part.to;
-      list = subst (λ (xs : List Entry). IsListPart s.list.now high high.len xs c.inside-above.result.1) (sym (slice-from es k))
-          (high-part s.list.now b low high are es c.inside-above.result.1 inside k point);
+      halves = are;
+      lower = record {
+        from = subst (λ (a : ℕ). HoldsAddress s.stretches a c.args.self.now.from) (sym are.begins) c.requires.part.from;
+        to = subst (λ (a : ℕ). HoldsAddress s.stretches a c.cut-to.result.0) (omega (arith, last)) c.cut-to.ensures.before;
+        list = low-part s.list.now b low high are es c.inside-above.result.1 inside k point;
+      };
+      upper = record {
+        from = c.cut-to.ensures.at;
+        to = subst (λ (a : ℕ). HoldsAddress s.stretches a c.args.self.now.to) (sym (ends-high b low high are)) c.requires.part.to;
+        list = subst (λ (xs : List Entry). IsListPart s.list.now high high.len xs c.inside-above.result.1) (sym (slice-from es k))
+            (high-part s.list.now b low high are es c.inside-above.result.1 inside k point);
+      };
     }

@@ -3,9 +3,9 @@ use Rattle.std.proofs.lemmas.Bool.{eqb-true}
 use Rattle.prefix_keys.specs.Block.{width_of}
 use Rattle.prefix_keys.specs.declared.version.Version.{Version}
 use Rattle.pmap_text.specs.MapText.{text_at}
-use Rattle.pmap_text.specs.PrefixList.{list_of}
+use Rattle.pmap_text.specs.PrefixList.{list_of, number_of_block as number_of}
 use Rattle.pmap_text.specs.declared.entry.Entry.{Entry}
-use Rattle.cert_check.specs.Inner.{number_of, IsListPart}
+use Rattle.cert_check.specs.Inner.{IsListPart}
 use Rattle.cert_check.specs.Checking.{is_decided}
 use Rattle.cert_check.proofs.Handed.{decided-by, decided-some}
 use Rattle.cert_check.proofs.Lists.{length-nil}

@@ -1,6 +1,6 @@
 use Rattle.std.proofs.Common.{refl}
 use Rattle.std.proofs.lemmas.Result.{err_from_is_err_and}
-use Rattle.pmap_cert.specs.FormatReading.{InnerLine, PlainLine}
+use Rattle.pmap_cert.specs.FormatReading.{InnerLine}
 use Rattle.pmap_cert.specs.declared.nodes.Packed.TheVariants.{Inner}
 use Rattle.pmap_cert.proofs.PackedLines.{line-pushed, more-kept, more-of, same-grown}
 use Rattle.pmap_cert.proofs.nodes.Nodes.push_inner.Goals as goal
@@ -19,12 +19,12 @@ pub invariant_of-self-2 : goal.invariant_of-self-2
 invariant_of-self-2 c =
     let held = c.in_ok-set.ensures.ok in
     let pushed = line-pushed _ _ _ _ (more-of c.self.inside.sets _ c.self.inside.chains.items _ c.hold.ensures.grown (same-grown _ _ refl)) c.self.invariant c.self.view_is
-    c.push.new.self.items (Inner c.args.cost c.in_ok-set.set) _ held.whole (λ i. PlainLine (InnerLine c.args.cost (held.set i))) c.in_ok-push.ensures.items in
+    c.push.new.self.items (Inner c.args.cost c.in_ok-set.set) _ held.whole (λ i. InnerLine c.args.cost (held.set i)) c.in_ok-push.ensures.items in
     pushed.packed
 
 pub returns-clause-ok : goal.returns-clause-ok
 returns-clause-ok c =
     let held = c.in_ok-set.ensures.ok in
     let pushed = line-pushed _ _ _ _ (more-of c.self.inside.sets _ c.self.inside.chains.items _ c.hold.ensures.grown (same-grown _ _ refl)) c.self.invariant c.self.view_is
-    c.push.new.self.items (Inner c.args.cost c.in_ok-set.set) _ held.whole (λ i. PlainLine (InnerLine c.args.cost (held.set i))) c.in_ok-push.ensures.items in
+    c.push.new.self.items (Inner c.args.cost c.in_ok-set.set) _ held.whole (λ i. InnerLine c.args.cost (held.set i)) c.in_ok-push.ensures.items in
     pushed.are
