@@ -1,11 +1,11 @@
 -- The first fault of the options, in their order.
-use Rattle.std.proofs.Common.{◌≡◌, inl, inr, ℕ, ◌+◌, List, [], ◌∷◌, ◌++◌, Option, Some, None, Err, length, take, refl, sym, ap, subst, ◌∙◌}
+use Rattle.std.proofs.Common.{◌≡◌, inl, inr, ℕ, ◌+◌, List, [], ◌∷◌, ◌++◌, Option, Some, None, Err, if◌then◌else◌, is_none, length, take, refl, sym, ap, subst, ◌∙◌}
 use lib.Seq.{take-append-add}
 use Rattle.flow_filter.specs.Filters.{IsRefused}
-use Rattle.flow_filter.specs.Words.{IsFault, Words, condition_of, fault_in, fault_of, fault_unless, faults, filter_of_words, first_some, place_of, text_of, unless_fault, FilterFault, FilterFaultKind, FilterOption}
+use Rattle.flow_filter.specs.Words.{IsFault, Words, condition_of, fault_in, fault_of, faults, filter_of_words, first_some, place_of, text_of, unless_fault, FilterFault, FilterFaultKind, FilterOption}
 
 -- a fault is the one of its option
-unless_is : {X : Type 0} (fault : FilterFault) (x : Option X) (f : FilterFault) → fault_unless fault x ≡ Some f → f ≡ fault
+unless_is : {X : Type 0} (fault : FilterFault) (x : Option X) (f : FilterFault) → (if is_none x then Some fault else None) ≡ Some f → f ≡ fault
 unless_is fault None f e = cc
 unless_is fault (Some x) f e = absurd (cc)
 

@@ -83,11 +83,6 @@ abbrev pub allows_label : Option (List ℕ) → Option (List ℕ) → Bool
 allows_label None found = true
 allows_label (Some label) found = is_this_label label found
 
--- one of the two labels is the requested one, if one is requested
-abbrev pub allows_either : Option (List ℕ) → Option (List ℕ) → Option (List ℕ) → Bool
-allows_either None source destination = true
-allows_either (Some label) source destination = is_this_label label source || is_this_label label destination
-
 -- the row meets each condition given, with these labels of addresses
 abbrev pub row_passes : Condition → (AddressOf → Option (List ℕ)) → RowView → Bool
 row_passes c label row =
@@ -95,7 +90,7 @@ row_passes c label row =
     && allows c.saddress (row.version, row.src) && allows c.daddress (row.version, row.dst)
     && allows c.packets row.packets && allows c.bytes row.octets
     && allows_label c.src_label (label (row.version, row.src)) && allows_label c.dst_label (label (row.version, row.dst))
-    && allows_either c.any_label (label (row.version, row.src)) (label (row.version, row.dst))
+    && (allows_label c.any_label (label (row.version, row.src)) || allows_label c.any_label (label (row.version, row.dst)))
 
 -- a condition on labels is given
 abbrev pub needs_map : Condition → Bool

@@ -22,10 +22,6 @@ IsRefused o k read text fault =
 abbrev pub by_place : List Range → AddressOf → Bool
 by_place ranges address = in_ranges ranges (mapped_number address)
 
--- the numbers of a range
-abbrev pub covering : Range → ℕ → Bool
-covering range n = in_range n range
-
 -- the condition of a filter
 abbrev pub condition_in : Filter → Condition
 condition_in f = record {
@@ -34,8 +30,8 @@ condition_in f = record {
   dport = option_map in_ranges f.dport;
   saddress = option_map by_place f.saddress;
   daddress = option_map by_place f.daddress;
-  packets = option_map covering f.packets;
-  bytes = option_map covering f.bytes;
+  packets = option_map (λ range n. in_range n range) f.packets;
+  bytes = option_map (λ range n. in_range n range) f.bytes;
   src_label = option_map (λ s. s.now) f.src_label;
   dst_label = option_map (λ s. s.now) f.dst_label;
   any_label = option_map (λ s. s.now) f.any_label;

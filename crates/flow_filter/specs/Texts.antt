@@ -1,8 +1,8 @@
-use Rattle.std.specs.Prelude.{ℕ, suc, ◌&&◌, ◌==◌, Bool, false, List, [], ◌∷◌, Option, Some, None, Result, Ok, Err, length, map, nat_le, option_map, if◌then◌else◌}
+use Rattle.std.specs.Prelude.{ℕ, suc, ◌&&◌, ◌==◌, Bool, false, List, [], ◌∷◌, Option, Some, None, length, map, nat_le, option_and_then, option_map, if◌then◌else◌}
 use Rattle.std.specs.List.{after_first, before_first, list_all, list_any, slice_split}
+use Rattle.std.specs.Result.{result_ok}
 use Rattle.prefix_keys.specs.Text.{AddressOf, BlockOf, address_of, block_of_text, decimal_value, is_digit}
 use Rattle.prefix_keys.specs.Block.{width_of}
-use Rattle.prefix_keys.specs.declared.text.BlockFault.{BlockFault}
 use Rattle.flow_filter.specs.declared.range.Range.{Range}
 
 -- The written forms of filters.
@@ -48,14 +48,10 @@ number_range may_be_open limit text =
     let low = bounded_number limit (before_first (λ b. b == 45) text) in
     range_between low (end_or may_be_open limit low (after_byte 45 text))
 
--- an item and more items, if all exist
-abbrev pub onto : {X : Type 0} → Option X → Option (List X) → Option (List X)
-onto (Some x) (Some xs) = Some (x ∷ xs)
-onto _ _ = None
-
+-- the items, if all exist
 abbrev pub each_some : {X : Type 0} → List (Option X) → Option (List X)
 each_some [] = Some []
-each_some (o ∷ os) = onto o (each_some os)
+each_some (o ∷ os) = option_and_then (λ x. option_map (λ xs. x ∷ xs) (each_some os)) o
 
 -- the items of a list, separated by commas
 abbrev pub items_of : List ℕ → List (List ℕ)
@@ -69,14 +65,10 @@ number_list limit text = each_some (map (number_range false limit) (items_of tex
 abbrev pub single : AddressOf → BlockOf
 single address = (address.0, address.1, width_of address.0)
 
-abbrev pub block_or_none : Result BlockOf BlockFault → Option BlockOf
-block_or_none (Ok block) = Some block
-block_or_none (Err fault) = None
-
 -- an item of an address list: a block if there is a `/`, otherwise an address
 abbrev pub address_item : List ℕ → Option BlockOf
 address_item text =
-    if list_any (λ b. b == 47) text then block_or_none (block_of_text text) else option_map single (address_of text)
+    if list_any (λ b. b == 47) text then result_ok (block_of_text text) else option_map single (address_of text)
 
 -- the blocks of an address list
 abbrev pub address_list : List ℕ → Option (List BlockOf)

@@ -1,4 +1,4 @@
-use Rattle.std.specs.Prelude.{◌≡◌, ℕ, ◌+◌, Bool, true, List, [], ◌∷◌, Option, Some, None, Result, Ok, Err, option_and_then, option_map, take}
+use Rattle.std.specs.Prelude.{◌≡◌, ℕ, ◌+◌, ◌-◌, ◌^◌, Bool, true, List, [], ◌∷◌, Option, Some, None, Result, Ok, Err, if◌then◌else◌, is_none, option_and_then, option_map, take}
 use Rattle.std.specs.Option.{is_some, option_or}
 use Rattle.prefix_keys.specs.Text.{AddressOf}
 use Rattle.flow_filter.specs.Condition.{items_cover, Condition, in_range, in_ranges}
@@ -43,29 +43,20 @@ words_of w = record {
 abbrev pub numbers_in : ℕ → List ℕ → Option (ℕ → Bool)
 numbers_in limit text = option_map in_ranges (number_list limit text)
 
--- the limit of numbers of packets and bytes: below 2^64
-abbrev pub count_limit : ℕ
-count_limit = 18446744073709551615
-
 abbrev pub counts_in : List ℕ → Option (ℕ → Bool)
-counts_in text = option_map (λ range n. in_range n range) (number_range true count_limit text)
+counts_in text = option_map (λ range n. in_range n range) (number_range true (2 ^ 64 - 1) text)
 
 -- the addresses that a text allows
 abbrev pub addresses_in : List ℕ → Option (AddressOf → Bool)
 addresses_in text = option_map items_cover (address_list text)
 
--- the fault of a text that can't be read
-abbrev pub fault_unless : {X : Type 0} → FilterFault → Option X → Option FilterFault
-fault_unless fault None = Some fault
-fault_unless fault (Some x) = None
-
 abbrev pub fault_of : FilterOption → FilterFaultKind → FilterFault
 fault_of o k = record { option = o; kind = k }
 
--- the fault of an option, if it is given
+-- the fault of an option, if it is given and its text can't be read
 abbrev pub fault_in : {X : Type 0} → FilterOption → FilterFaultKind → (List ℕ → Option X) → Option (List ℕ) → Option FilterFault
 fault_in o k read None = None
-fault_in o k read (Some text) = fault_unless (fault_of o k) (read text)
+fault_in o k read (Some text) = if is_none (read text) then Some (fault_of o k) else None
 
 -- the faults of the options in their order; any text is a label
 abbrev pub faults : Words → List (Option FilterFault)
@@ -83,9 +74,6 @@ faults w =
 abbrev pub first_some : {X : Type 0} → List (Option X) → Option X
 first_some [] = None
 first_some (o ∷ os) = option_or o (first_some os)
-
-abbrev pub first_fault : Words → Option FilterFault
-first_fault w = first_some (faults w)
 
 -- the condition of texts without a fault
 abbrev pub condition_of : Words → Condition
@@ -108,7 +96,7 @@ unless_fault c (Some fault) = Err fault
 
 -- the condition of the texts, or the fault of the first option whose text is malformed
 abbrev pub filter_of_words : Words → Result Condition FilterFault
-filter_of_words w = unless_fault (condition_of w) (first_fault w)
+filter_of_words w = unless_fault (condition_of w) (first_some (faults w))
 
 -- the number of options before an option, of those whose texts may be malformed
 abbrev pub place_of : FilterOption → ℕ
@@ -119,9 +107,7 @@ place_of SourceAddress = 3
 place_of DestinationAddress = 4
 place_of Packets = 5
 place_of Bytes = 6
-place_of SourceLabel = 7
-place_of DestinationLabel = 7
-place_of AnyLabel = 7
+place_of _ = 7
 
 -- the text of an option
 abbrev pub text_of : FilterOption → Words → Option (List ℕ)
@@ -145,9 +131,7 @@ pub record IsBeingRead (w : Words) (o : FilterOption) : Type 0 where
 -- the texts
 abbrev pub IsFaultOfKind : Words → FilterFault → FilterFaultKind → Type 0
 IsFaultOfKind w fault NoMemory = IsBeingRead w fault.option
-IsFaultOfKind w fault BadNumberList = filter_of_words w ≡ Err fault
-IsFaultOfKind w fault BadRange = filter_of_words w ≡ Err fault
-IsFaultOfKind w fault BadBlock = filter_of_words w ≡ Err fault
+IsFaultOfKind w fault _ = filter_of_words w ≡ Err fault
 
 abbrev pub IsFault : Words → FilterFault → Type 0
 IsFault w fault = IsFaultOfKind w fault fault.kind

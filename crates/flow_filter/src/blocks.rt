@@ -19,10 +19,7 @@ pub fn read_item(text: &[u8]) -> Option<Block>
     ensures { option_map view_of result ≡ address_item text.now }
 {
     if text.contains(&b'/') {
-        match read_block(text) {
-            Ok(block) => Some(block),
-            Err(_) => None,
-        }
+        read_block(text).ok()
     } else {
         let addr = read_addr(text)?;
         Some(block_of_one(addr))

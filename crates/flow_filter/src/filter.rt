@@ -1,14 +1,14 @@
 ghost use Rattle.std.specs.Prelude.{◌≡◌, ℕ, IfErr, IfOk, List, Ok, Option, option_map, true};
 ghost use Rattle.flow_rows.specs.Elements.{RowView, row_view};
 ghost use Rattle.prefix_keys.specs.Text.{AddressOf};
-ghost use Rattle.flow_filter.specs.Condition.{allows, needs_map, row_passes, in_ranges};
+ghost use Rattle.flow_filter.specs.Condition.{allows, needs_map, row_passes, in_range, in_ranges};
 ghost use Rattle.label_lookup.specs.Labelling.{label_where, labelling_lent};
-ghost use Rattle.flow_filter.specs.Filters.{condition_in, by_place, covering};
+ghost use Rattle.flow_filter.specs.Filters.{condition_in, by_place};
 ghost use Rattle.flow_filter.specs.Words.{IsFault, filter_of_words, words_of};
 
 use crate::blocks::place_of;
 use crate::fault::{FilterFault, FilterOption};
-use crate::labels::{is_allowed, is_either_allowed};
+use crate::labels::is_allowed;
 use crate::options::{addresses, counts, numbers};
 use crate::range::Range;
 use crate::ranges::Ranges;
@@ -48,15 +48,12 @@ fn is_in(set: &Option<Ranges>, number: u128) -> bool
 fn is_at(set: &Option<Ranges>, addr: Addr) -> bool
     ensures { result ≡ allows (option_map by_place set.now) (addr.version, addr.value) }
 {
-    match set {
-        None => true,
-        Some(set) => set.covers(place_of(addr)),
-    }
+    is_in(set, place_of(addr))
 }
 
 // Returns `true` if the range covers the number, or if no range is given.
 fn is_within(range: Option<Range>, number: u64) -> bool
-    ensures { result ≡ allows (option_map covering range) number }
+    ensures { result ≡ allows (option_map (λ range n. in_range n range) range) number }
 {
     match range {
         None => true,
@@ -110,7 +107,8 @@ impl<'a> Filter<'a> {
             && is_within(self.bytes, row.octets)
             && is_allowed(self.src_label, labeller, row.src)
             && is_allowed(self.dst_label, labeller, row.dst)
-            && is_either_allowed(self.any_label, labeller, row.src, row.dst)
+            && (is_allowed(self.any_label, labeller, row.src)
+                || is_allowed(self.any_label, labeller, row.dst))
     }
 
     /// Whether no condition is given, so that each row passes.

@@ -1,8 +1,8 @@
 //! Reading the texts of the options.
 ghost use Rattle.std.specs.Prelude.{◌≡◌, ◌++◌, ◌∷◌, [], IfErr, IfOk, IfSome, Some, is_some, map, option_map};
 ghost use Rattle.std.specs.Result.{IsOkAnd};
-ghost use Rattle.flow_filter.specs.Condition.{items_cover, view_of, in_ranges};
-ghost use Rattle.flow_filter.specs.Filters.{IsRead, IsRefused, by_place, covering};
+ghost use Rattle.flow_filter.specs.Condition.{items_cover, view_of, in_range, in_ranges};
+ghost use Rattle.flow_filter.specs.Filters.{IsRead, IsRefused, by_place};
 ghost use Rattle.flow_filter.specs.Texts.{address_list, number_list};
 ghost use Rattle.flow_filter.specs.Words.{addresses_in, counts_in, fault_of, numbers_in};
 
@@ -129,7 +129,7 @@ pub fn addresses(
 /// Returns the range of counts that an option allows, if it is given.
 pub fn counts(option: FilterOption, text: Option<&str>) -> Result<Option<Range>, FilterFault>
     ensures ok { IfOk result
-        (λ range. IsRead option FilterFaultKind.BadRange counts_in (option_map (λ s. s.now) text.entry) (option_map covering range)) }
+        (λ range. IsRead option FilterFaultKind.BadRange counts_in (option_map (λ s. s.now) text.entry) (option_map (λ range n. in_range n range) range)) }
     ensures err { IfErr result
         (λ fault. IsRefused option FilterFaultKind.BadRange counts_in (option_map (λ s. s.now) text.entry) fault) }
 {

@@ -3,7 +3,7 @@ use Rattle.std.specs.List.{flat_map}
 use Rattle.ipfix_templates.specs.declared.event.TemplateEvent.{TemplateEvent}
 use Rattle.ipfix_templates.specs.declared.kind.Kind.{Kind}
 use Rattle.ipfix_templates.specs.declared.kind.Kind.TheVariants.{Flow, Options}
-use Rattle.ipfix_templates.specs.declared.event.TemplateEvent.TheVariants.{Define, Withdraw, WithdrawAll}
+use Rattle.ipfix_templates.specs.declared.event.TemplateEvent.TheVariants.{Define}
 use Rattle.ipfix_templates.specs.Template.{same_kind}
 use Rattle.ipfix_read.specs.declared.record.Record.{Record}
 use Rattle.ipfix_read.specs.declared.set.Set.{Set}
@@ -17,17 +17,15 @@ use Rattle.flow_rows.specs.declared.counts.Counts.{Counts}
 -- the template events of a set, and of sets
 abbrev pub events_in : Set → List TemplateEvent
 events_in (Templates kind events) = events
-events_in (Values kind records) = []
-events_in (Skipped id) = []
+events_in _ = []
 
 abbrev pub events_of : List Set → List TemplateEvent
 events_of sets = flat_map events_in sets
 
 -- the data records of a set, and of sets
 abbrev pub records_in : Set → List Record
-records_in (Templates kind events) = []
 records_in (Values kind records) = records
-records_in (Skipped id) = []
+records_in _ = []
 
 abbrev pub records_of : List Set → List Record
 records_of sets = flat_map records_in sets
@@ -79,26 +77,22 @@ total c =
 -- whether the event defines a template of the kind
 abbrev pub defines : Kind → TemplateEvent → Bool
 defines kind (Define template) = same_kind template.kind kind
-defines kind (Withdraw id) = false
-defines kind (WithdrawAll every) = false
+defines kind _ = false
 
 -- whether the event withdraws one template, or all of a kind
 abbrev pub is_withdrawal : TemplateEvent → Bool
 is_withdrawal (Define template) = false
-is_withdrawal (Withdraw id) = true
-is_withdrawal (WithdrawAll every) = true
+is_withdrawal _ = true
 
 -- whether the set is a data set under a template in force
 abbrev pub is_data_set : Set → Bool
-is_data_set (Templates kind events) = false
 is_data_set (Values kind records) = true
-is_data_set (Skipped id) = false
+is_data_set _ = false
 
 -- whether the set is skipped
 abbrev pub is_skipped : Set → Bool
-is_skipped (Templates kind events) = false
-is_skipped (Values kind records) = false
 is_skipped (Skipped id) = true
+is_skipped _ = false
 
 -- whether the record is described by a template of the kind
 abbrev pub is_of_kind : Kind → Record → Bool

@@ -116,8 +116,7 @@ row_between version (Some src) (Some dst) said = Some (record {
   start_ms = unwrap_or (said 152) 0;
   end_ms = unwrap_or (said 153) 0;
 })
-row_between version (Some src) None said = None
-row_between version None dst said = None
+row_between version _ _ said = None
 
 -- the row of the numbers of the elements: between the IPv4 addresses, or otherwise between the IPv6 addresses
 abbrev pub row_of_elements : (ℕ → Option ℕ) → Option RowView

@@ -5,8 +5,6 @@ use prefix_keys::{Addr, Version};
 /// A flow row: the flow that a data record describes. A missing number is 0.
 #[derive(Clone, Copy, Debug, PartialEq, Eq)]
 pub struct Row {
-    /// The version of both addresses.
-    pub version: Version,
     /// The source address.
     pub src: Addr,
     /// The destination address.
@@ -17,6 +15,8 @@ pub struct Row {
     pub dport: u16,
     /// The number of the protocol above IP, such as 6 for TCP.
     pub protocol: u8,
+    /// The version of both addresses.
+    pub version: Version,
     /// The union of the TCP flags of all packets.
     pub flags: u16,
     /// The number of packets.

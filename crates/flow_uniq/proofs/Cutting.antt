@@ -1,11 +1,10 @@
 -- The bytes that are written for a key are read back as this key.
-use Rattle.std.proofs.Common.{◌≡◌, ℕ, zero, suc, ◌+◌, ◌^◌, ◌<◌, ◌≤◌, Bool, true, false, if◌then◌else◌, List, [], ◌∷◌, ◌++◌, length, take, drop, nat_lt, slice_index, get_or, map, Option, Some, None, Result, Ok, Err, is_err, true≢false, refl, sym, ap, subst, ◌∙◌, arith}
+use Rattle.std.proofs.Common.{◌≡◌, ℕ, zero, suc, ◌+◌, ◌^◌, ◌<◌, ◌≤◌, Bool, true, false, if◌then◌else◌, List, [], ◌∷◌, ◌++◌, length, take, drop, nat_lt, slice_index, get_or, map, Option, Some, None, refl, sym, ap, subst, ◌∙◌, arith}
 use Rattle.std.proofs.lemmas.List.{append-nil, append_assoc, drop_all, drop-append-le, length-append, length-drop, take_all, take-append-le}
 use Rattle.std.proofs.lemmas.Bool.Decides.{nat_tests}
 use Rattle.std.proofs.lemmas.Grind.{common_steps}
 use Rattle.std.proofs.lemmas.Nat.{from_be_bytes-to_be_bytes_2, from_be_bytes-to_be_bytes_4, from_be_bytes-to_be_bytes_8}
 use Rattle.std.specs.Int.{w16, w32, w64, w128, from_be_bytes, to_be_bytes}
-use Rattle.std.specs.Result.{OnOk}
 use Rattle.byteorder.specs.Endian.{big_from}
 use Rattle.byteorder.specs.Numbers.{big_number-reads_back}
 use Rattle.prefix_keys.specs.declared.version.Version.TheVariants.{V4, V6}
@@ -91,22 +90,6 @@ key_in-code k h = parts_in-code k (length (key_code k)) h (no_fewer_bytes k)
 pub same_from_codes : (a b : Key) → AreSmall a → AreSmall b → key_code a ≡ key_code b → a ≡ b
 same_from_codes a b small_a small_b e = sym (key_in-code a small_a) ∙ ap key_in e ∙ key_in-code b small_b
 
--- the bytes that were written for a key, if there were none before
-pub written : (k : Key) (before code : List ℕ) → before ≡ [] → code ≡ before ++ key_code k → AreSmall k → IsCode code × (key_in code ≡ k)
-written k before code b e h =
-    let is : code ≡ key_code k = e ∙ ap (λ (l : List ℕ). l ++ key_code k) b in
-    let back : key_in code ≡ k = ap key_in is ∙ key_in-code k h in
-    (record { small = subst AreSmall (sym back) h; same = is ∙ ap key_code (sym back) }, back)
-
--- two postconditions of a call combined, and combined for a call that succeeded
-pub both_ok : {T E P Q R : Type 0} (r : Result T E) → (P → Q → R) → OnOk r P → OnOk r Q → OnOk r R
-both_ok (Ok x) f p q = f p q
-both_ok (Err e) f p q = tt
-
-pub when_ok : {T E P : Type 0} (r : Result T E) → is_err r ≡ false → OnOk r P → P
-when_ok (Ok x) h p = p
-when_ok (Err e) h p = absurd (true≢false h)
-
 -- the rest is no longer than the bytes
 front_shorter : (n : ℕ) (code : List ℕ) → length (front_bytes n code).1 ≤ length code
 front_shorter n code = grind (arith, nat_tests, length-drop n code)
@@ -155,6 +138,14 @@ module _ (f : KeyField → KeyPartModel) (fields : List KeyField) (i : ℕ) (d :
   pub more_small : AreSmall (map f (take i fields)) → IsSmall p → AreSmall (map f (take (i + 1) fields))
   more_small all small = subst AreSmall (sym one_more) (small-push (map f (take i fields)) p all small)
 
-  pub more_code : (before out new : List ℕ) → out ≡ before ++ key_code (map f (take i fields)) → new ≡ out ++ part_code p
-      → new ≡ before ++ key_code (map f (take (i + 1) fields))
-  more_code before out new e h = rw one_more (grind (arith, common_steps))
+  pub more_code : (out new : List ℕ) → out ≡ key_code (map f (take i fields)) → new ≡ out ++ part_code p
+      → new ≡ key_code (map f (take (i + 1) fields))
+  more_code out new e h = rw one_more (grind (arith, common_steps))
+
+-- after the last field the bytes are those of the key
+pub all_written : (f : KeyField → KeyPartModel) (fields : List KeyField) (i : ℕ) (code : List ℕ) → length fields ≤ i
+    → code ≡ key_code (map f (take i fields)) → AreSmall (map f (take i fields)) → IsCode code × (key_in code ≡ map f fields)
+all_written f fields i code end e h =
+    let key : Key = map f (take i fields) in
+    let back : key_in code ≡ key = ap key_in e ∙ key_in-code key h in
+    (record { small = subst AreSmall (sym back) h; same = e ∙ ap key_code (sym back) }, back ∙ ap (map f) (take_all i fields end))

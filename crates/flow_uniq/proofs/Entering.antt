@@ -1,169 +1,124 @@
 -- How a row changes the groups that are stored.
-use Rattle.std.proofs.Common.{◌≡◌, ℕ, ◌+◌, ◌-◌, ◌*◌, ◌^◌, ◌<◌, ◌≤◌, Bool, true, false, ◌||◌, cond, if◌then◌else◌, List, [], ◌∷◌, ◌++◌, length, map, All, Option, Some, None, is_some, sum_by, refl, sym, ap, subst, ◌∙◌, arith}
+use Rattle.std.proofs.Common.{◌≡◌, ℕ, ◌+◌, ◌-◌, ◌*◌, ◌^◌, ◌≤◌, Bool, true, false, ◌||◌, cond, if◌then◌else◌, List, [], ◌∷◌, ◌++◌, length, map, All, None, Some, unwrap_or, refl, sym, ap, subst, ◌∙◌, arith}
 use Rattle.std.proofs.lemmas.Cmp.{nat_list_eq_equiv, on_equiv}
-use Rattle.std.proofs.lemmas.List.{append-nil, get_or-map, length-map, map_push}
-use Rattle.std.proofs.lemmas.List.Elements.{All-head, All-map, All-push, All-tail}
-use Rattle.std.proofs.lemmas.List.Sums.{sum_by-cons, sum_by_push}
-use Rattle.std.proofs.lemmas.Map.{keys-set_value, lookup-none}
-use Rattle.std.proofs.lemmas.Map.Entries.{All-lookup, none_past_head, sum_by-set_value}
+use Rattle.std.proofs.lemmas.List.{append-nil}
+use Rattle.std.proofs.lemmas.List.Elements.{All-cons, All-head, All-map, All-nil, All-tail}
+use Rattle.std.proofs.lemmas.List.Sums.{sum_by-cons}
+use Rattle.std.proofs.lemmas.Map.{lookup-none}
+use Rattle.std.proofs.lemmas.Map.Entries.{none_past_head}
 use Rattle.std.proofs.lemmas.Map.Keys.{IsDistinct-tail}
-use Rattle.std.proofs.lemmas.Map.Views.{All-values-set_value}
-use Rattle.std.proofs.lemmas.Option.{none-some, same_Some}
+use Rattle.std.proofs.lemmas.Option.{none-some}
 use Rattle.std.specs.List.{IsDistinct, list_any}
-use Rattle.std.specs.Option.{IfSome}
-use Rattle.std.specs.Map.{keys_of, lookup, set_value, values_of}
-use Rattle.indexmap.proofs.CallerLemmas.{insert_entry-new}
+use Rattle.std.specs.Map.{keys_of, lookup}
 use Rattle.indexmap.specs.IndexMap.{IndexMap, IsUnique, get, insert_entry}
 use Rattle.flow_rows.specs.Elements.{RowView}
 use Rattle.flow_uniq.specs.Groups.{Totals, GroupModel, KeyedRow, groups_of_keyed, record_count}
-use Rattle.flow_uniq.specs.Inner.{AreKept, IsBounded, first_totals, kept_groups, with_row, AreSmall, key_code, same_code}
+use Rattle.flow_uniq.specs.Inner.{AreSmall, IsBounded, IsKept, kept_groups, key_code, same_code, with_row}
 use Rattle.flow_uniq.specs.Key.{Key, same_key}
 use Rattle.flow_uniq.proofs.Codes.{same_code-small}
-use Rattle.flow_uniq.proofs.Grouping.{entered, fresh, grown, groups-push}
+use Rattle.flow_uniq.proofs.Grouping.{entered, fresh, grown, groups-push, none}
 
 abbrev Entries : Type 0
 Entries = List (Key × Totals)
 
--- what is true of all values of a function is true of the function at each element
-All-each : {X Y : Type 0} (P : Y → Type 0) (f : X → Y) (xs : List X) → All P (map f xs) → All (λ x. P (f x)) xs
-All-each P f xs all = λ i d h. subst P (get_or-map f xs i d (f d) h) (all i (f d) (omega (arith, length-map xs f)))
+abbrev group : Key × Totals → GroupModel
+group e = record { key = e.0; totals = e.1 }
 
 -- each group has a key with this number of parts
-pub parts-kept : (count : ℕ) (es : Entries) → AreKept count es → All (λ g. length g.key ≡ count) (kept_groups es)
-parts-kept count es kept =
-    All-map (λ (g : GroupModel). length g.key ≡ count) (λ (e : Key × Totals). record { key = e.0; totals = e.1 }) es
-    (All-each (λ (key : Key). length key ≡ count) (λ e. e.0) es kept.long)
+pub parts-kept : (count : ℕ) (es : Entries) → All (IsKept count) es → All (λ g. length g.key ≡ count) (kept_groups es)
+parts-kept count es kept = All-map (λ (g : GroupModel). length g.key ≡ count) group es (λ i d h. (kept i d h).long)
 
-module _ (k : Key) (row : RowView) (small : AreSmall k) where
-  -- the first key has the code if and only if it is the key
-  at_front : (e : Key × Totals) (es : Entries) (b : Bool) → All AreSmall (keys_of (e ∷ es)) → same_code k e.0 ≡ b → same_key k e.0 ≡ b
-  at_front e es b all is = sym (same_code-small k e.0 small (All-head AreSmall e.0 (keys_of es) all)) ∙ is
+count-cons : (e : Key × Totals) (es : Entries) → record_count (kept_groups (e ∷ es)) ≡ e.1.records + record_count (kept_groups es)
+count-cons e es = sum_by-cons (λ (g : GroupModel). g.totals.records) (group e) (kept_groups es)
 
-  looked_up : (e : Key × Totals) (es : Entries) (b : Bool) → same_code k e.0 ≡ b
-      → lookup (same_code k) (e ∷ es) ≡ cond b (Some e.1) (lookup (same_code k) es)
-  looked_up e es b is = ap (λ c. cond c (Some e.1) (lookup (same_code k) es)) is
-
-  -- if no key has the code, no group grows
-  none_grown : (es : Entries) → All AreSmall (keys_of es) → lookup (same_code k) es ≡ None → map (grown k row) (kept_groups es) ≡ kept_groups es
-  none_grown [] all none = refl
-  none_grown (e ∷ es) all none = by (same_code k e.0) refl (none_grown es (All-tail AreSmall e.0 (keys_of es) all))
-    where
-      by : (b : Bool) → same_code k e.0 ≡ b → (lookup (same_code k) es ≡ None → map (grown k row) (kept_groups es) ≡ kept_groups es)
-          → map (grown k row) (kept_groups (e ∷ es)) ≡ kept_groups (e ∷ es)
-      by true is ih = absurd (none-some e.1 (sym none ∙ looked_up e es true is))
-      by false is ih =
-          let rest : map (grown k row) (kept_groups es) ≡ kept_groups es = ih (sym (looked_up e es false is) ∙ none) in
-          (λ i. record { key = e.0; totals = if at_front e es false all is i then with_row e.1 row else e.1 } ∷ rest i)
-
-  -- if a key has it, its group alone grows
-  one_grown : (es : Entries) (t : Totals) → All AreSmall (keys_of es) → IsDistinct same_code (keys_of es) → lookup (same_code k) es ≡ Some t
-      → kept_groups (set_value (same_code k) es (with_row t row)) ≡ map (grown k row) (kept_groups es)
-  one_grown [] t all once found = refl
-  one_grown (e ∷ es) t all once found =
-      by (same_code k e.0) refl (one_grown es t (All-tail AreSmall e.0 (keys_of es) all) (IsDistinct-tail same_code e.0 (keys_of es) once))
-    where
-      by : (b : Bool) → same_code k e.0 ≡ b
-          → (lookup (same_code k) es ≡ Some t → kept_groups (set_value (same_code k) es (with_row t row)) ≡ map (grown k row) (kept_groups es))
-          → kept_groups (cond b ((e.0, with_row t row) ∷ es) (e ∷ set_value (same_code k) es (with_row t row)))
-          ≡ map (grown k row) (kept_groups (e ∷ es))
-      by true is ih =
-          let same : e.1 ≡ t = same_Some _ _ (sym (looked_up e es true is) ∙ found) in
-          let past = lookup-none (same_code k) es (none_past_head (on_equiv key_code nat_list_eq_equiv) k e es once is) in
-          let rest : map (grown k row) (kept_groups es) ≡ kept_groups es = none_grown es (All-tail AreSmall e.0 (keys_of es) all) past in
-          sym (λ i. record { key = e.0; totals = if at_front e es true all is i then with_row (same i) row else same i } ∷ rest i)
-      by false is ih =
-          let rest : kept_groups (set_value (same_code k) es (with_row t row)) ≡ map (grown k row) (kept_groups es)
-          = ih (sym (looked_up e es false is) ∙ found) in
-          sym (λ i. record { key = e.0; totals = if at_front e es false all is i then with_row e.1 row else e.1 } ∷ sym rest i)
-
-  any_is : (es : Entries) → All AreSmall (keys_of es) → list_any (λ g. same_key k g.key) (kept_groups es) ≡ is_some (lookup (same_code k) es)
-  any_is [] all = refl
-  any_is (e ∷ es) all = by (same_code k e.0) refl (any_is es (All-tail AreSmall e.0 (keys_of es) all))
-    where
-      by : (b : Bool) → same_code k e.0 ≡ b → list_any (λ g. same_key k g.key) (kept_groups es) ≡ is_some (lookup (same_code k) es)
-          → list_any (λ g. same_key k g.key) (kept_groups (e ∷ es)) ≡ is_some (cond b (Some e.1) (lookup (same_code k) es))
-      by true is ih = ap (λ c. c || list_any (λ g. same_key k g.key) (kept_groups es)) (at_front e es true all is)
-      by false is ih = ap (λ c. c || list_any (λ g. same_key k g.key) (kept_groups es)) (at_front e es false all is) ∙ ih
-
-  entered_as : (es : Entries) (o : Option Totals) → All AreSmall (keys_of es) → lookup (same_code k) es ≡ o
-      → entered k row (kept_groups es) ≡ map (grown k row) (kept_groups es) ++ (if is_some o then [] else fresh k row ∷ [])
-  entered_as es o all is =
-      ap (λ c. map (grown k row) (kept_groups es) ++ (if c then [] else fresh k row ∷ [])) (any_is es all ∙ ap is_some is)
+-- the totals of one group are bounded, and of no more rows than there are
+pub found : (count : ℕ) (test : Key → Bool) (es : Entries) → All (IsKept count) es
+    → IsBounded (unwrap_or (lookup test es) none) × ((unwrap_or (lookup test es) none).records ≤ record_count (kept_groups es))
+found count test [] all = ((omega arith, omega arith), omega arith)
+found count test (e ∷ es) all = by (test e.0) (found count test es (All-tail (IsKept count) e es all))
+  where
+    by : (b : Bool) → IsBounded (unwrap_or (lookup test es) none) × ((unwrap_or (lookup test es) none).records ≤ record_count (kept_groups es))
+        → let t : Totals = unwrap_or (cond b (Some e.1) (lookup test es)) none in IsBounded t × (t.records ≤ record_count (kept_groups (e ∷ es)))
+    by true ih = ((All-head (IsKept count) e es all).bounded, omega (arith, count-cons e es))
+    by false ih = (ih.0, omega (arith, count-cons e es, ih.1))
 
 one_bound : (most n p q : ℕ) → p ≤ most * n → q ≤ most → p + q ≤ most * (n + 1)
 one_bound most n p q h k = grind arith
 
-bounded-grown : (t : Totals) (row : RowView) → IsBounded t → row.packets ≤ 2 ^ 64 - 1 → row.octets ≤ 2 ^ 64 - 1 → IsBounded (with_row t row)
-bounded-grown t row h p o =
-    (one_bound (2 ^ 64 - 1) t.records t.packets row.packets h.0 p, one_bound (2 ^ 64 - 1) t.records t.octets row.octets h.1 o)
+module _ (n : ℕ) (k : Key) (row : RowView) (small : AreSmall k) where
+  -- the entries with one more row of the key
+  abbrev with_entry : Entries → Entries
+  with_entry es = insert_entry same_code es k (with_row (unwrap_or (lookup (same_code k) es) none) row)
 
--- the number of all rows
-record_count-kept : (es : Entries) → record_count (kept_groups es) ≡ sum_by (λ t. t.records) (values_of es)
-record_count-kept [] = refl
-record_count-kept (e ∷ es) =
-    sum_by-cons (λ (g : GroupModel). g.totals.records) (record { key = e.0; totals = e.1 }) (kept_groups es)
-    ∙ ap (λ (n : ℕ). e.1.records + n) (record_count-kept es) ∙ sym (sum_by-cons (λ (t : Totals). t.records) e.1 (values_of es))
+  -- the first key has the code if and only if it is the key
+  at_front : (e : Key × Totals) (es : Entries) (b : Bool) → All (IsKept n) (e ∷ es) → same_code k e.0 ≡ b → same_key k e.0 ≡ b
+  at_front e es b all is = sym (same_code-small k e.0 small (All-head (IsKept n) e es all).small) ∙ is
 
--- the totals of one group are of no more rows than there are
-pub few_records : (test : Key → Bool) (es : Entries) (t : Totals) → lookup test es ≡ Some t → record_count (kept_groups es) < 2 ^ 64 - 1
-    → t.records < 2 ^ 64 - 1
-few_records test es t found few =
-    omega (arith, few, record_count-kept es, sum_by-set_value (λ (x : Totals). x.records) test es t (record { records = 0; packets = 0; octets = 0 }) found)
+  -- if no key has the code, no group grows
+  none_grown : (es : Entries) → All (IsKept n) es → lookup (same_code k) es ≡ None → map (grown k row) (kept_groups es) ≡ kept_groups es
+  none_grown [] all h = refl
+  none_grown (e ∷ es) all h = by (same_code k e.0) refl h (none_grown es (All-tail (IsKept n) e es all))
+    where
+      by : (b : Bool) → same_code k e.0 ≡ b → cond b (Some e.1) (lookup (same_code k) es) ≡ None
+          → (lookup (same_code k) es ≡ None → map (grown k row) (kept_groups es) ≡ kept_groups es)
+          → map (grown k row) (kept_groups (e ∷ es)) ≡ kept_groups (e ∷ es)
+      by true is h ih = absurd (none-some e.1 (sym h))
+      by false is h ih = λ i. record { key = e.0; totals = if at_front e es false all is i then with_row e.1 row else e.1 } ∷ ih h i
 
--- facts about the entries after a row with this key
-pub record AfterRow (n : ℕ) (k : Key) (row : RowView) (es new : Entries) : Type 0 where
-  pub kept : length k ≡ n → AreKept n new
-  pub groups : kept_groups new ≡ entered k row (kept_groups es)
-  pub count : record_count (kept_groups new) ≡ record_count (kept_groups es) + 1
+  bounded-grown : (t : Totals) → IsBounded t → row.packets ≤ 2 ^ 64 - 1 → row.octets ≤ 2 ^ 64 - 1 → IsBounded (with_row t row)
+  bounded-grown t h p o = (one_bound (2 ^ 64 - 1) t.records t.packets row.packets h.0 p, one_bound (2 ^ 64 - 1) t.records t.octets row.octets h.1 o)
 
-module _ {S : Type 0} (m : IndexMap Key Totals S) (n : ℕ) (k : Key) (row : RowView) (kept : AreKept n m.entries) (small : AreSmall k)
-    (p : row.packets ≤ 2 ^ 64 - 1) (o : row.octets ≤ 2 ^ 64 - 1) where
-  -- if the key has a group
-  pub after_known : (new : Entries) (t w : Totals) → IsUnique same_code m → Some t ≡ get same_code m k → w ≡ with_row t row
-      → new ≡ set_value (same_code k) m.entries w → AfterRow n k row m.entries new
-  after_known new t w once found grew is =
-      let after : Entries = set_value (same_code k) m.entries (with_row t row) in
-      let keys : keys_of m.entries ≡ keys_of after = sym (keys-set_value (same_code k) m.entries (with_row t row)) in
-      let bounded : IsBounded t
-      = subst (λ (x : Option Totals). IfSome x IsBounded) (sym found)
-      (All-lookup IsBounded (same_code k) m.entries (All-each IsBounded (λ e. e.1) m.entries kept.bounded)) in
-      subst (AfterRow n k row m.entries) (sym (is ∙ ap (λ (x : Totals). set_value (same_code k) m.entries x) grew)) (record {
-        kept = λ _. record {
-          long = subst (All (λ (key : Key). length key ≡ n)) keys kept.long;
-          small = subst (All AreSmall) keys kept.small;
-          bounded = All-values-set_value (same_code k) IsBounded m.entries (with_row t row) kept.bounded (bounded-grown t row bounded p o);
-        };
-        groups = one_grown k row small m.entries t kept.small once (sym found) ∙ sym (append-nil (map (grown k row) (kept_groups m.entries)))
-            ∙ sym (entered_as k row small m.entries (Some t) kept.small (sym found));
-        count = omega (
-          arith,
-          record_count-kept m.entries,
-          record_count-kept after,
-          sum_by-set_value (λ (x : Totals). x.records) (same_code k) m.entries t (with_row t row) (sym found),
-        );
-      })
+  -- facts about the entries after the row
+  pub record AfterRow (es new : Entries) : Type 0 where
+    pub kept : length k ≡ n → All (IsKept n) new
+    pub groups : kept_groups new ≡ entered k row (kept_groups es)
+    pub count : record_count (kept_groups new) ≡ record_count (kept_groups es) + 1
 
-  -- if it has none
-  pub after_new : (new : Entries) (old : IndexMap Key Totals S) (code : Key) (t : Totals) → None ≡ get same_code m k → old ≡ m → code ≡ k
-      → t ≡ first_totals row → new ≡ insert_entry same_code old.entries code t → AfterRow n k row m.entries new
-  after_new new old code t none same copied first is =
-      let after : Entries = m.entries ++ (k, first_totals row) ∷ [] in
-      let keys : keys_of m.entries ++ k ∷ [] ≡ keys_of after = sym (map_push (λ (e : Key × Totals). e.0) m.entries (k, first_totals row)) in
-      let values : values_of m.entries ++ first_totals row ∷ [] ≡ values_of after
-      = sym (map_push (λ (e : Key × Totals). e.1) m.entries (k, first_totals row)) in
-      let groups : kept_groups after ≡ kept_groups m.entries ++ fresh k row ∷ []
-      = map_push (λ (e : Key × Totals). record { key = e.0; totals = e.1 }) m.entries (k, first_totals row) in
-      subst (AfterRow n k row m.entries)
-      (sym (is ∙ (λ i. insert_entry same_code (same i).entries (copied i) (first i)) ∙ insert_entry-new same_code m k (first_totals row) (sym none))) (record {
-        kept = λ long. record {
-          long = subst (All (λ (key : Key). length key ≡ n)) keys (All-push (λ (key : Key). length key ≡ n) (keys_of m.entries) k kept.long long);
-          small = subst (All AreSmall) keys (All-push AreSmall (keys_of m.entries) k kept.small small);
-          bounded = subst (All IsBounded) values (All-push IsBounded (values_of m.entries) (first_totals row) kept.bounded (p, o));
-        };
-        groups = groups ∙ ap (λ (l : List GroupModel). l ++ fresh k row ∷ []) (sym (none_grown k row small m.entries kept.small (sym none)))
-            ∙ sym (entered_as k row small m.entries None kept.small (sym none));
-        count = ap record_count groups ∙ sum_by_push (λ (g : GroupModel). g.totals.records) (kept_groups m.entries) (fresh k row);
-      })
+  module _ (p : row.packets ≤ 2 ^ 64 - 1) (o : row.octets ≤ 2 ^ 64 - 1) where
+    after : (es : Entries) → All (IsKept n) es → IsDistinct same_code (keys_of es) → AfterRow es (with_entry es)
+    after [] all once = record {
+      kept = λ long. All-cons (IsKept n) (k, with_row none row) []
+          (record { long = long; small = small; bounded = bounded-grown none (omega arith, omega arith) p o }) (All-nil (IsKept n));
+      groups = refl;
+      count = omega arith;
+    }
+    after (e ∷ es) all once = by (same_code k e.0) refl (after es rest (IsDistinct-tail same_code e.0 (keys_of es) once))
+      where
+        first : IsKept n e
+        first = All-head (IsKept n) e es all
+
+        rest : All (IsKept n) es
+        rest = All-tail (IsKept n) e es all
+
+        grows : (b : Bool) → same_code k e.0 ≡ b → (l : List GroupModel) → map (grown k row) (kept_groups es) ≡ l
+            → entered k row (kept_groups (e ∷ es))
+            ≡ (record { key = e.0; totals = if b then with_row e.1 row else e.1 } ∷ l)
+            ++ (if b || list_any (λ g. same_key k g.key) (kept_groups es) then [] else fresh k row ∷ [])
+        grows b is l same = λ i. (record { key = e.0; totals = if at_front e es b all is i then with_row e.1 row else e.1 } ∷ same i)
+            ++ (if at_front e es b all is i || list_any (λ g. same_key k g.key) (kept_groups es) then [] else fresh k row ∷ [])
+
+        by : (b : Bool) → same_code k e.0 ≡ b → AfterRow es (with_entry es)
+            → let w : Totals = with_row (unwrap_or (cond b (Some e.1) (lookup (same_code k) es)) none) row in
+            AfterRow (e ∷ es) (if b then (e.0, w) ∷ es else e ∷ insert_entry same_code es k w)
+        by true is ih =
+            let past = lookup-none (same_code k) es (none_past_head (on_equiv key_code nat_list_eq_equiv) k e es once is) in
+            record {
+              kept = λ _. All-cons (IsKept n) (e.0, with_row e.1 row) es
+                  (record { long = first.long; small = first.small; bounded = bounded-grown e.1 first.bounded p o }) rest;
+              groups = sym (grows true is (kept_groups es) (none_grown es rest past) ∙ append-nil (kept_groups ((e.0, with_row e.1 row) ∷ es)));
+              count = omega (arith, count-cons e es, count-cons (e.0, with_row e.1 row) es);
+            }
+        by false is ih = record {
+          kept = λ long. All-cons (IsKept n) e (with_entry es) first (ih.kept long);
+          groups = ap (λ (l : List GroupModel). group e ∷ l) ih.groups ∙ sym (grows false is (map (grown k row) (kept_groups es)) refl);
+          count = omega (arith, count-cons e es, count-cons e (with_entry es), ih.count);
+        }
+
+    -- if the totals of the key grew by the row
+    pub after_row : {S : Type 0} (m : IndexMap Key Totals S) (t w : Totals) (new : Entries) → All (IsKept n) m.entries → IsUnique same_code m
+        → t ≡ unwrap_or (get same_code m k) none → w ≡ with_row t row → new ≡ insert_entry same_code m.entries k w → AfterRow m.entries new
+    after_row m t w new all once was grew is =
+        subst (AfterRow m.entries) (sym (is ∙ ap (insert_entry same_code m.entries k) (grew ∙ ap (λ x. with_row x row) was))) (after m.entries all once)
 
 pub then_groups : (rows : List KeyedRow) (k given : Key) (row : RowView) (kept old new : List GroupModel) → new ≡ entered k row kept → k ≡ given
     → kept ≡ old → old ≡ groups_of_keyed rows → new ≡ groups_of_keyed (rows ++ (given, row) ∷ [])

@@ -1,6 +1,5 @@
 -- The groups of some rows followed by one more.
 use Rattle.std.proofs.Common.{◌≡◌, ℕ, ◌+◌, ◌<◌, Bool, true, false, not, ◌||◌, cond, if◌then◌else◌, List, [], ◌∷◌, ◌++◌, Option, map, filter, length, get_or, take, true≢false, arith, refl, sym, ap, ◌∙◌}
-use Rattle.std.proofs.Common.{zero-add}
 use Rattle.std.proofs.lemmas.Cmp.{lists_equiv, nat_list_eq_equiv, on_equiv}
 use Rattle.std.proofs.lemmas.Grind.{common_steps}
 use Rattle.std.proofs.lemmas.List.{append-nil, append_assoc, length_push, map-append, map_push}
@@ -17,14 +16,18 @@ use Rattle.flow_rows.specs.Elements.{RowView, row_view}
 use Rattle.flow_rows.specs.declared.row.Row.{Row}
 use Rattle.flow_uniq.specs.Key.{KeyField, Key, key_of, part_numbers, same_key}
 use Rattle.flow_uniq.specs.Groups.{Totals, GroupModel, KeyedRow, distinct_keys, groups_of_keyed, keyed, rows_with, totals_of}
-use Rattle.flow_uniq.specs.Inner.{first_totals, with_row}
+use Rattle.flow_uniq.specs.Inner.{with_row}
 
 same_key-equiv : IsEquivalence same_key
 same_key-equiv = lists_equiv (on_equiv part_numbers nat_list_eq_equiv)
 
--- the group of a new key, a group with one more row if it is of its key, and groups with one more row
+-- the totals of no rows, the group of a new key, a group with one more row if it is of its key, and groups with one more
+-- row
+abbrev pub none : Totals
+none = record { records = 0; packets = 0; octets = 0 }
+
 abbrev pub fresh : Key → RowView → GroupModel
-fresh k row = record { key = k; totals = first_totals row }
+fresh k row = record { key = k; totals = with_row none row }
 
 abbrev pub grown : Key → RowView → GroupModel → GroupModel
 grown k row g = record { key = g.key; totals = if same_key k g.key then with_row g.totals row else g.totals }
@@ -108,7 +111,6 @@ module _ (rows : List KeyedRow) (k : Key) (row : RowView) where
   groups-last false h =
       ap (λ (l : List KeyedRow). record { key = k; totals = totals_of l } ∷ [])
       (with-more k true (same_key-equiv.refl k) ∙ ap (λ (l : List KeyedRow). l ++ (k, row) ∷ []) (with-none rows h))
-      ∙ (λ i. record { key = k; totals = record { records = 1; packets = zero-add row.packets i; octets = zero-add row.octets i } } ∷ [])
 
   -- the groups of rows followed by one more
   pub groups-push : groups_of_keyed more ≡ entered k row (groups_of_keyed rows)

@@ -1,8 +1,7 @@
-use Rattle.std.specs.Prelude.{◌≡◌, ℕ, zero, suc, ◌^◌, ◌<◌, ◌==◌, ◌++◌, Bool, List, [], ◌∷◌, Option, Some, None, length, take, drop, nat_lt, slice_index, option_copied, replicate, if◌then◌else◌, ◌+◌, ◌-◌, ◌*◌, ◌≤◌, map, All}
+use Rattle.std.specs.Prelude.{◌≡◌, ℕ, zero, suc, ◌^◌, ◌<◌, ◌==◌, ◌++◌, Bool, List, [], ◌∷◌, Option, Some, None, length, take, drop, nat_lt, slice_index, option_copied, replicate, if◌then◌else◌, ◌+◌, ◌-◌, ◌*◌, ◌≤◌, map}
 use Rattle.std.specs.Int.{w16, w32, w64, w128, from_be_bytes, to_be_bytes}
-use Rattle.std.specs.List.{flat_map}
+use Rattle.std.specs.List.{AllByRecursion, flat_map}
 use Rattle.std.specs.Str.{bytes_eq}
-use Rattle.std.specs.Map.{keys_of, values_of}
 use Rattle.prefix_keys.specs.Block.{width_of}
 use Rattle.prefix_keys.specs.declared.version.Version.TheVariants.{V4, V6}
 use Rattle.pmap_text.specs.MapModel.{Label}
@@ -49,8 +48,7 @@ IsSmall (LabelPart (Some text)) = length text < 2 ^ 64
 IsSmall (AddressPart address) = address.1 < 2 ^ width_of address.0
 
 abbrev pub AreSmall : Key → Type 0
-AreSmall [] = Unit {0}
-AreSmall (p ∷ key) = IsSmall p × AreSmall key
+AreSmall key = AllByRecursion IsSmall key
 
 -- the given number of bytes at the start and those after them, or zeros if there are too few
 abbrev pub front_bytes : ℕ → List ℕ → List ℕ × List ℕ
@@ -104,10 +102,7 @@ kept_groups entries = map (λ e. record { key = e.0; totals = e.1 }) entries
 abbrev pub IsBounded : Totals → Type 0
 IsBounded t = (t.packets ≤ (2 ^ 64 - 1) * t.records) × (t.octets ≤ (2 ^ 64 - 1) * t.records)
 
--- the totals of one row, and totals with one more row
-abbrev pub first_totals : RowView → Totals
-first_totals row = record { records = 1; packets = row.packets; octets = row.octets }
-
+-- totals with one more row
 abbrev pub with_row : Totals → RowView → Totals
 with_row t row = record {
   records = t.records + 1;
@@ -115,8 +110,8 @@ with_row t row = record {
   octets = t.octets + row.octets;
 }
 
--- the keys have `count` parts, which fit in their bytes, and are paired with bounded totals
-pub record AreKept (count : ℕ) (entries : List (Key × Totals)) : Type 0 where
-  pub long : All (λ key. length key ≡ count) (keys_of entries)
-  pub small : All AreSmall (keys_of entries)
-  pub bounded : All IsBounded (values_of entries)
+-- the key has `count` parts, which fit in their bytes, and is paired with bounded totals
+pub record IsKept (count : ℕ) (entry : Key × Totals) : Type 0 where
+  pub long : length entry.0 ≡ count
+  pub small : AreSmall entry.0
+  pub bounded : IsBounded entry.1

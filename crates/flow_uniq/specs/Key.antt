@@ -56,13 +56,10 @@ has_unnamed items = list_any (λ item. is_none (field_named item)) items
 abbrev pub named_fields : List (List ℕ) → List KeyField
 named_fields items = filter_map field_named items
 
--- the number of times that a field occurs in a list
-abbrev pub times_named : List KeyField → KeyField → ℕ
-times_named fields field = count_by (λ other. bytes_eq (field_name other) (field_name field)) fields
-
 -- whether a field occurs more than once
 abbrev pub has_repetition : List KeyField → Bool
-has_repetition fields = list_any (λ field. nat_lt 1 (times_named fields field)) fields
+has_repetition fields =
+    list_any (λ field. nat_lt 1 (count_by (λ other. bytes_eq (field_name other) (field_name field)) fields)) fields
 
 -- whether an item occurs more than once, and whether some item does
 abbrev pub is_repeated : List (List ℕ) → List ℕ → Bool

@@ -159,60 +159,23 @@ fn append_part(out: &mut Bytes, part: KeyPart<'_>) -> Result<(), AllocError>
     Ok(())
 }
 
-// Appends the bytes of the key of a row. If an allocation fails, some of them may have been appended.
-fn append_key<L: Labeller>(
-    out: &mut Bytes,
-    fields: &[KeyField],
-    row: &Row,
-    labeller: Option<&L>,
-) -> Result<(), AllocError>
-    ensures code { let label = label_where (labelling_lent L.version_of L.label labeller.entry) in
-        OnOk result (out.new.items ≡ out.old.items ++ key_code (key_of label fields.now (row_view row.now))) }
-    ensures small { let label = label_where (labelling_lent L.version_of L.label labeller.entry) in
-        OnOk result (AreSmall (key_of label fields.now (row_view row.now))) }
-{
-    for field in fields {
-        append_part(out, part_of(*field, row, labeller))?;
-    }
-    Ok(())
-}
-
 impl Code {
-    /// Returns a key without parts.
-    pub fn new(alloc: Global) -> Code
-        ensures { result ≡ [] }
-    {
-        Code {
-            bytes: SmallVec::new(alloc),
-        }
-    }
-
-    /// Replaces this key with that of a row. If an allocation fails, the key has no parts.
-    pub fn write<L: Labeller>(
-        &mut self,
+    /// Returns the key of a row.
+    pub fn of_row<L: Labeller>(
+        alloc: Global,
         fields: &[KeyField],
         row: &Row,
         labeller: Option<&L>,
-    ) -> Result<(), AllocError>
+    ) -> Result<Code, AllocError>
         ensures key { let label = label_where (labelling_lent L.version_of L.label labeller.entry) in
-            OnOk result (self.new ≡ key_of label fields.now (row_view row.now)) }
-        ensures small { OnOk result (AreSmall self.new) }
+            IfOk result (λ code. code ≡ key_of label fields.now (row_view row.now)) }
+        ensures small { IfOk result AreSmall }
     {
-        self.bytes.clear();
-        let written = append_key(&mut self.bytes, fields, row, labeller);
-        if written.is_err() {
-            self.bytes.clear();
+        let mut bytes = SmallVec::new(alloc);
+        for field in fields {
+            append_part(&mut bytes, part_of(*field, row, labeller))?;
         }
-        written
-    }
-
-    /// Returns a copy of the key.
-    pub fn copy(&self, alloc: Global) -> Result<Code, AllocError>
-        ensures { IfOk result (λ code. code ≡ self.now) }
-    {
-        Ok(Code {
-            bytes: SmallVec::from_slice(alloc, self.bytes.as_slice())?,
-        })
+        Ok(Code { bytes })
     }
 }
 

@@ -25,20 +25,19 @@ pub struct Groups {
     alloc: Global,
     fields: Vec<KeyField>,
     totals: IndexMap<Code, Totals, KeyHashing>,
-    scratch: Code,
 }
 
 impl Model for Groups {
-    ghost use Rattle.std.specs.Prelude.{length};
+    ghost use Rattle.std.specs.Prelude.{All, length};
     ghost use Rattle.flow_uniq.specs.Groups.{GroupsModel};
 
     ghost Value = { GroupsModel };
 
-    ghost use Rattle.flow_uniq.specs.Inner.{AreKept, kept_groups};
+    ghost use Rattle.flow_uniq.specs.Inner.{IsKept, kept_groups};
 
     ghost view = { λ g. record { fields = g.fields.items; groups = kept_groups g.totals.entries } };
 
-    ghost invariant = { λ g. AreKept (length g.fields.items) g.totals.entries };
+    ghost invariant = { λ g. All (IsKept (length g.fields.items)) g.totals.entries };
 }
 
 // Returns the groups in the order of their first rows. Memory for all groups is allocated once: if that fails,
@@ -53,18 +52,6 @@ fn listed(alloc: Global, groups: &Groups) -> Result<Vec<Group<'_>>, AllocError>
         }
     }
     Ok(listed)
-}
-
-// Returns the groups in the order of their keys.
-fn in_order(mut groups: Vec<Group<'_>>) -> Result<Vec<Group<'_>>, AllocError>
-    ensures value { let given = map group_model groups.entry.items in
-        IfOk result (λ sorted. map group_model sorted.items ≡ sorted_groups given) }
-    ensures permutation { let given = map group_model groups.entry.items in
-        IfOk result (λ sorted. IsPermutation given (map group_model sorted.items)) }
-    ensures rises { IfOk result (λ sorted. IsSortedBy is_before (map group_model sorted.items)) }
-{
-    groups.sort_by(|a, b| compare_keys(a.key, b.key))?;
-    Ok(groups)
 }
 
 impl Groups {
@@ -87,13 +74,11 @@ impl Groups {
             alloc,
             fields: Vec::from_slice(alloc, keys.fields())?,
             totals: IndexMap::with_hasher(alloc, hashing),
-            scratch: Code::new(alloc),
         })
     }
 
     /// Adds a row to the group with its key, or to a new group, which comes last. The labels of its addresses are those
-    /// of the labeller. Without a labeller no address has a label. A row whose key is known allocates no memory except
-    /// scratch space, which is kept. If an allocation fails, the groups are unchanged.
+    /// of the labeller. Without a labeller no address has a label. If an allocation fails, the groups are unchanged.
     pub fn add<L: Labeller>(&mut self, row: &Row, labeller: Option<&L>) -> Result<(), AllocError>
         requires { record_count self.old.groups < 2 ^ 64 - 1 }
         ensures fields { self.new.fields ≡ self.old.fields }
@@ -105,14 +90,13 @@ impl Groups {
         ensures count { OnOk result (record_count self.new.groups ≡ record_count self.old.groups + 1) }
         ensures err { OnErr result (self.new ≡ self.old) }
     {
-        self.scratch.write(self.fields.as_slice(), row, labeller)?;
-        match self.totals.get_mut(&self.scratch) {
-            Some(totals) => totals.add(row),
-            None => {
-                let code = self.scratch.copy(self.alloc)?;
-                self.totals.insert(code, Totals::of_row(row))?;
-            }
-        }
+        let code = Code::of_row(self.alloc, self.fields.as_slice(), row, labeller)?;
+        let none = Totals {
+            records: 0,
+            packets: 0,
+            octets: 0,
+        };
+        self.totals.entry(code)?.or_insert(none).add(row);
         Ok(())
     }
 
@@ -174,6 +158,8 @@ impl Groups {
         ensures permutation { IfOk result (λ groups. IsPermutation self.now.groups (map group_model groups.items)) }
         ensures rises { IfOk result (λ groups. IsSortedBy is_before (map group_model groups.items)) }
     {
-        in_order(listed(self.alloc, self)?)
+        let mut groups = listed(self.alloc, self)?;
+        groups.sort_by(|a, b| compare_keys(a.key, b.key))?;
+        Ok(groups)
     }
 }

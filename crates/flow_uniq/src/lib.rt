@@ -15,8 +15,7 @@
 //! rows are grouped. `Groups` has a group for each key, with its totals. A `Key` is stored as bytes, and borrowed as
 //! the list of its parts. Callers may rely on this: a text is read if and only if its items name distinct fields. After
 //! one more row the groups are those of all rows so far. If an allocation fails, the groups are unchanged. Sorted
-//! groups are in the order of their keys. A row whose key is known allocates no memory except scratch space, which is
-//! kept.
+//! groups are in the order of their keys.
 #![tactic(auto)]
 
 mod codec;

@@ -15,20 +15,7 @@ pub struct Totals {
 
 impl Totals {
     ghost use Rattle.flow_rows.specs.Elements.{row_view};
-    ghost use Rattle.flow_uniq.specs.Inner.{IsBounded, first_totals, with_row};
-
-    /// Returns the totals of one row.
-    pub fn of_row(row: &Row) -> Totals
-        ensures value { result ≡ first_totals (row_view row.now) }
-        ensures packets { row.now.packets ≤ 2 ^ 64 - 1 }
-        ensures octets { row.now.octets ≤ 2 ^ 64 - 1 }
-    {
-        Totals {
-            records: 1,
-            packets: u128::from(row.packets),
-            octets: u128::from(row.octets),
-        }
-    }
+    ghost use Rattle.flow_uniq.specs.Inner.{IsBounded, with_row};
 
     /// Adds a row to the totals.
     pub fn add(&mut self, row: &Row)

@@ -31,8 +31,8 @@ use Rattle.pmap_text.specs.declared.form.Form.TheVariants as form
 use Rattle.pmap_text.proofs.ListBlocks.{distinct-list_of}
 use Rattle.pmap_text.proofs.Orders.{known_text}
 use Rattle.pmap_text.proofs.ListLabels.{label-longest, label-same_prefixes, longest-match, once-distinct, same_prefixes-permuted}
-use Rattle.pmap_print.specs.List.{entry_line, list_lines, list_text, mode_text, name_lines, entries_in_order, starts_alike, CanBeReadAgain, IsListAgain, IsMapAgain, IsPrintedEntry, labels_of, mapping_of_prefix}
-use Rattle.pmap_print.proofs.LastMatch.{last-found, match-in}
+use Rattle.pmap_print.specs.List.{entry_line, list_text, mode_text, name_lines, entries_in_order, starts_alike, CanBeReadAgain, IsListAgain, IsMapAgain, IsPrintedEntry, labels_of}
+use Rattle.pmap_print.proofs.LastMatch.{last-found, match-in, mapping_of_prefix}
 use Rattle.pmap_print.proofs.Order.{alike-flips, in_order-moves, in_order-order, short}
 use Rattle.pmap_print.proofs.ReadLines.{name-high}
 use Rattle.pmap_print.proofs.ReadList.{HasRead, lines-read}
@@ -122,7 +122,7 @@ module _ (l : ListModel) (can : CanBeReadAgain l) where
       (IsDistinct-IsPermutation starts_alike alike-flips l.prefixes (entries_in_order l.prefixes) moved distinct)
       (omega (arith, can.few_entries, length_permutation l.prefixes (entries_in_order l.prefixes) moved)) can.few_labels in (
         found.0,
-        ap (entries_from kind [] 0) (lines-text (list_lines l) (lines-feed l.version l.name (entries_in_order l.prefixes) can.form.name each)) ∙ found.1,
+        ap (entries_from kind [] 0) (lines-text _ (lines-feed l.version l.name (entries_in_order l.prefixes) can.form.name each)) ∙ found.1,
         found.2,
       )
 

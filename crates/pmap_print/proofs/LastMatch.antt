@@ -7,10 +7,14 @@ use Rattle.prefix_keys.specs.Block.{block_number, first_of, last_of}
 use Rattle.prefix_keys.proofs.Quotients.{whole}
 use Rattle.pmap_cert.specs.Acceptance.{HasBlock, IsInOrder, begins_before}
 use Rattle.pmap_text.specs.ListModel.{Prefix, CoversAddress, IsLongestMatch}
-use Rattle.pmap_text.specs.MapModel.{last_such, spans}
+use Rattle.pmap_text.specs.MapModel.{Mapping, last_such, spans}
 use Rattle.pmap_text.proofs.Blocks.{address-between, address-first, address-last, block_number-shorter}
 use Rattle.pmap_text.proofs.Finds.{Contains-first}
-use Rattle.pmap_print.specs.List.{mapping_of_prefix}
+
+-- the statement that the addresses of an entry's block, which have W bits, have the entry's label
+abbrev pub mapping_of_prefix : ℕ → Prefix → Mapping
+mapping_of_prefix W p =
+    record { low = p.start; high = last_of W p.bits (block_number W p.bits p.start); label = p.label }
 
 pub block-start : (W : ℕ) (p : Prefix) → HasBlock W p → first_of W p.bits (block_number W p.bits p.start) ≡ p.start
 block-start W p has = whole p.start (2 ^ (W - p.bits)) (pow_pos (W - p.bits)) has.no_host_bit

@@ -17,7 +17,12 @@ use Rattle.pmap_text.specs.PrefixList.{prefix_of}
 use Rattle.pmap_text.specs.declared.entry.Entry.{Entry}
 use Rattle.pmap_text.proofs.Filed.{distinct_to_map}
 use Rattle.pmap_text.proofs.Finds.{Contains-cases, Contains-first, Contains-later, Contains-nil}
-use Rattle.pmap_print.specs.List.{entries_in_order, placed, starts_alike, place_of}
+use Rattle.flow_uniq.specs.Groups.{with_in_order}
+use Rattle.pmap_print.specs.List.{entries_in_order, starts_alike, place_of}
+
+-- the entries with one more, which is placed before the first entry that doesn't precede it
+abbrev placed : Prefix → List Prefix → List Prefix
+placed p ps = with_in_order begins_before p ps
 
 -- one entry precedes another
 before-trans : (p r s : Prefix) → begins_before p r ≡ true → begins_before r s ≡ true → begins_before p s ≡ true
@@ -26,8 +31,11 @@ before-trans p r s a b = grind (arith, nat_tests)
 before-once : (p r : Prefix) → begins_before p r ≡ true → begins_before r p ≡ true → ⊥
 before-once p r a b = grind (arith, nat_tests)
 
-before-other : (p r : Prefix) → begins_before p r ≡ false → starts_alike p r ≡ false → begins_before r p ≡ true
+before-other : (p r : Prefix) → begins_before r p ≡ false → starts_alike p r ≡ false → begins_before p r ≡ true
 before-other p r not ne = grind (arith, nat_tests)
+
+before-not : (p r : Prefix) → begins_before p r ≡ true → begins_before r p ≡ false
+before-not p r is = grind (arith, nat_tests)
 
 -- two lists in order with the same entries are equal
 after-first : (p r : Prefix) (ps : List Prefix) → IsInOrder (p ∷ ps) → Contains ps r → begins_before p r ≡ true
@@ -61,11 +69,11 @@ order-one (p ∷ ps) (r ∷ rs) op or' to from =
 -- the entries in order are those of the list
 placed-moves : (p : Prefix) (ps : List Prefix) → IsPermutation (p ∷ ps) (placed p ps)
 placed-moves p [] = IsPermutation-refl (p ∷ [])
-placed-moves p (r ∷ rs) = by (begins_before p r) (placed-moves p rs)
+placed-moves p (r ∷ rs) = by (begins_before r p) (placed-moves p rs)
   where
-    by : (b : Bool) → IsPermutation (p ∷ rs) (placed p rs) → IsPermutation (p ∷ r ∷ rs) (cond b (p ∷ r ∷ rs) (r ∷ placed p rs))
-    by true ih = IsPermutation-refl (p ∷ r ∷ rs)
-    by false ih =
+    by : (b : Bool) → IsPermutation (p ∷ rs) (placed p rs) → IsPermutation (p ∷ r ∷ rs) (cond b (r ∷ placed p rs) (p ∷ r ∷ rs))
+    by false ih = IsPermutation-refl (p ∷ r ∷ rs)
+    by true ih =
         IsPermutation-trans (p ∷ r ∷ rs) (r ∷ p ∷ rs) (r ∷ placed p rs)
         (IsPermutation-sym (r ∷ p ∷ rs) (p ∷ r ∷ rs) (IsPermutation-middle (r ∷ []) p rs))
         (IsPermutation-cons r (p ∷ rs) (placed p rs) ih)
@@ -79,11 +87,11 @@ in_order-moves (p ∷ ps) =
 -- the entries in order rise
 placed-all : (P : Prefix → Type 0) (p : Prefix) (ps : List Prefix) → P p → AllByRecursion P ps → AllByRecursion P (placed p ps)
 placed-all P p [] is all = (is, tt)
-placed-all P p (r ∷ rs) is all = by (begins_before p r) (placed-all P p rs is all.1)
+placed-all P p (r ∷ rs) is all = by (begins_before r p) (placed-all P p rs is all.1)
   where
-    by : (b : Bool) → AllByRecursion P (placed p rs) → AllByRecursion P (cond b (p ∷ r ∷ rs) (r ∷ placed p rs))
-    by true ih = (is, all)
-    by false ih = (all.0, ih)
+    by : (b : Bool) → AllByRecursion P (placed p rs) → AllByRecursion P (cond b (r ∷ placed p rs) (p ∷ r ∷ rs))
+    by true ih = (all.0, ih)
+    by false ih = (is, all)
 
 all-before : (p r : Prefix) (rs : List Prefix) → begins_before p r ≡ true → AllByRecursion (λ s. begins_before r s ≡ true) rs
     → AllByRecursion (λ s. begins_before p s ≡ true) rs
@@ -92,11 +100,11 @@ all-before p r (s ∷ ss) is all = (before-trans p r s is all.0, all-before p r 
 
 placed-order : (p : Prefix) (ps : List Prefix) → IsInOrder ps → AllByRecursion (λ r. starts_alike p r ≡ false) ps → IsInOrder (placed p ps)
 placed-order p [] ordered other = (tt, tt)
-placed-order p (r ∷ rs) ordered other = by (begins_before p r) refl (placed-order p rs ordered.1 other.1)
+placed-order p (r ∷ rs) ordered other = by (begins_before r p) refl (placed-order p rs ordered.1 other.1)
   where
-    by : (b : Bool) → begins_before p r ≡ b → IsInOrder (placed p rs) → IsInOrder (cond b (p ∷ r ∷ rs) (r ∷ placed p rs))
-    by true e ih = ((e, all-before p r rs e ordered.0), ordered)
-    by false e ih = (placed-all (λ s. begins_before r s ≡ true) p rs (before-other p r e other.0) ordered.0, ih)
+    by : (b : Bool) → begins_before r p ≡ b → IsInOrder (placed p rs) → IsInOrder (cond b (r ∷ placed p rs) (p ∷ r ∷ rs))
+    by true e ih = (placed-all (λ s. begins_before r s ≡ true) p rs e ordered.0, ih)
+    by false e ih = let is = before-other p r e other.0 in ((is, all-before p r rs is ordered.0), ordered)
 
 pub alike-flips : (p r : Prefix) → starts_alike p r ≡ starts_alike r p
 alike-flips p r = grind arith
@@ -156,7 +164,7 @@ sorted-order table es sorted moved rising distinct =
 -- entries in order keep their order
 placed-first : (p : Prefix) (ps : List Prefix) → IsInOrder (p ∷ ps) → placed p ps ≡ p ∷ ps
 placed-first p [] ordered = refl
-placed-first p (r ∷ rs) ordered = let e : begins_before p r ≡ true = ordered.0.0 in rw e refl
+placed-first p (r ∷ rs) ordered = let e : begins_before r p ≡ false = before-not p r ordered.0.0 in rw e refl
 
 pub in_order-kept : (ps : List Prefix) → IsInOrder ps → entries_in_order ps ≡ ps
 in_order-kept [] ordered = refl

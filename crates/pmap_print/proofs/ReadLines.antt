@@ -23,7 +23,8 @@ use Rattle.pmap_text.specs.ListModel.{Prefix}
 use Rattle.pmap_text.specs.MapModel.{Label}
 use Rattle.pmap_text.specs.declared.form.Form.{Form}
 use Rattle.pmap_text.specs.declared.form.Form.TheVariants as form
-use Rattle.pmap_print.specs.List.{entry_line, mode_text, IsPrintedEntry, mapping_of_prefix}
+use Rattle.pmap_print.proofs.LastMatch.{mapping_of_prefix}
+use Rattle.pmap_print.specs.List.{entry_line, mode_text, IsPrintedEntry}
 use Rattle.pmap_print.specs.Table.{Text}
 use Rattle.pmap_print.proofs.Order.{short}
 use Rattle.pmap_print.proofs.WordLines.{high-block, line-behind_word, line-content, line-first_word}

@@ -19,7 +19,8 @@ use Rattle.pmap_text.specs.declared.form.Form.{Form}
 use Rattle.pmap_text.specs.declared.form.Form.TheVariants as form
 use Rattle.pmap_text.proofs.LineEntries.{earlier_of-push}
 use Rattle.pmap_text.proofs.ProgressSteps.{length-with_label}
-use Rattle.pmap_print.specs.List.{entry_line, mode_text, name_lines, starts_alike, IsPrintedEntry, labels_of, mapping_of_prefix}
+use Rattle.pmap_print.proofs.LastMatch.{mapping_of_prefix}
+use Rattle.pmap_print.specs.List.{entry_line, mode_text, name_lines, starts_alike, IsPrintedEntry, labels_of}
 use Rattle.pmap_print.specs.Table.{Text}
 use Rattle.pmap_print.proofs.ReadLines.{list-entry, map-entry, mode-entry, mode-entry-named, name-entry}
 

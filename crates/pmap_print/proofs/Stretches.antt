@@ -2,7 +2,8 @@
 use Rattle.std.proofs.Common.{◌≡◌, ◌≢◌, ℕ, ◌+◌, ◌^◌, ◌<◌, ◌≤◌, ◌==◌, ◌⊎◌, inl, inr, true, false, List, [], ◌∷◌, ◌++◌, Option, Some, None, refl, sym, ◌∙◌, ap, subst, arith, length, option_and_then, option_map, slice_get, append_assoc}
 use Rattle.std.proofs.lemmas.List.{append-nil}
 use Rattle.std.specs.List.{flat_map}
-use Rattle.std.specs.Option.{ForSome}
+use Rattle.std.specs.Option.{ForSome, option_eq}
+use Rattle.std.specs.Prelude.{nat_eq}
 use Rattle.std.proofs.lemmas.Bool.{both_ways, cases_lt, eq-eqb}
 use Rattle.std.proofs.lemmas.Grind.{common_steps}
 use Rattle.std.proofs.lemmas.List.Folds.{flat_map-map}
@@ -19,11 +20,29 @@ use Rattle.pmap_text.specs.declared.label.LabelId.{LabelId}
 use Rattle.pmap_text.proofs.Orders.{known_text}
 use Rattle.pmap_text.proofs.Ranges.{last_end, next_first, ordered_at, text_at_index}
 use Rattle.label_trie.specs.Runs.{AreRuns, HasOneLabel, Run}
-use Rattle.pmap_print.specs.Runs.{IsRunsText, run_fields, run_text, run_titles, IsPrinted, IsPrintedTo, Numbered, is_same_number, run_of, stretch_view, view_at, Stretch}
+use Rattle.pmap_print.specs.Runs.{IsRunsText, run_fields, run_text, run_titles, Numbered, run_of, stretch_view, view_at, Stretch}
 use Rattle.pmap_print.specs.Table.{Text, line_text}
 
+-- The runs before the stretch `s` are printed. If `s`, extended to any end, and the runs after it are the labelling's
+-- runs from `s` up to `end`, then they and the printed ones are its runs from 0 up to `end`.
+pub record IsPrinted (label_of : ℕ → Option Label) (table : List Label) (version : Version) (end : ℕ) (before out : Text) (s : Numbered) : Type 0 where
+  pub runs : List Run
+  pub text : out ≡ before ++ flat_map (run_text version) runs
+  pub goes_on : (high : ℕ) (rest : List Run) → AreRuns label_of s.low end (run_of table (record s { high = high }) ∷ rest)
+      → AreRuns label_of 0 end (runs ++ run_of table (record s { high = high }) ∷ rest)
+
+-- The runs of the first `count` stretches are printed, except the last one, which ends before the next stretch.
+pub record IsPrintedTo (table : List Label) (s : StretchesModel) (count : ℕ) (before out : Text) (run : Stretch) : Type 0 where
+  pub low_version : run.low.version ≡ s.version
+  pub high_version : run.high.version ≡ s.version
+  pub next : count < length s.firsts → first_at s count ≡ run.high.value + 1
+  pub end : length s.firsts ≤ count → run.high.value + 1 ≡ 2 ^ width_of s.version
+  pub known : ForSome (stretch_view run).label (λ i. i < length table)
+  pub one : HasOneLabel (text_held table s) (run_of table (stretch_view run))
+  pub printed : IsPrinted (text_held table s) table s.version (2 ^ width_of s.version) before out (stretch_view run)
+
 -- labels with the same number are the same
-pub same-number : (x y : Option ℕ) → is_same_number x y ≡ true → x ≡ y
+pub same-number : (x y : Option ℕ) → option_eq nat_eq x y ≡ true → x ≡ y
 same-number None None e = refl
 same-number None (Some j) e = absurd (both_ways false refl e)
 same-number (Some i) None e = absurd (both_ways false refl e)
@@ -43,7 +62,7 @@ other-text table is i j ki kj ne same =
     both_ways (i == j) ne (eq-eqb i j e)
 
 pub other-label : (table : List Label) → IsLabelTable table → (x y : Option ℕ) → ForSome x (λ id. id < length table) → ForSome y (λ id. id < length table)
-    → is_same_number x y ≡ false → option_and_then (slice_get table) x ≢ option_and_then (slice_get table) y
+    → option_eq nat_eq x y ≡ false → option_and_then (slice_get table) x ≢ option_and_then (slice_get table) y
 other-label table is None None kx ky e = absurd (both_ways true e refl)
 other-label table is None (Some j) kx ky e = none-text table j (ky j refl)
 other-label table is (Some i) None kx ky e = λ same. none-text table i (kx i refl) (sym same)
@@ -164,7 +183,7 @@ module _ (table : List Label) (s : StretchesModel) (every : HasEveryAddress s) (
     low = ap (λ (n : Numbered). n.low) view ∙ is.next within
 
     -- if the next stretch has the same label, the run goes on
-    pub run_goes_on : is_same_number (stretch_view run).label (stretch_view next).label ≡ true → IsPrintedTo table s (i + 1) before out (record run { high = next.high })
+    pub run_goes_on : option_eq nat_eq (stretch_view run).label (stretch_view next).label ≡ true → IsPrintedTo table s (i + 1) before out (record run { high = next.high })
     run_goes_on e = record {
       low_version = is.low_version;
       high_version = high_version;
@@ -177,7 +196,7 @@ module _ (table : List Label) (s : StretchesModel) (every : HasEveryAddress s) (
     }
 
     -- if the next stretch has another label, the run is printed
-    pub run_ends : (new : Text) → IsLabelTable table → next.low.version ≡ s.version → is_same_number (stretch_view run).label (stretch_view next).label ≡ false
+    pub run_ends : (new : Text) → IsLabelTable table → next.low.version ≡ s.version → option_eq nat_eq (stretch_view run).label (stretch_view next).label ≡ false
         → new ≡ out ++ run_text run.low.version (run_of table (stretch_view run)) → IsPrintedTo table s (i + 1) before new next
     run_ends new distinct low_version e text = record {
       low_version = low_version;

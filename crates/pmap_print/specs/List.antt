@@ -1,28 +1,23 @@
-use Rattle.std.specs.Prelude.{◌&&◌, ◌==◌, Bool, List, [], ◌∷◌, if◌then◌else◌, ◌++◌, Option, Some, None, codes, map, ℕ, ◌+◌, ◌*◌, ◌≡◌, ◌^◌, ◌<◌, ◌≤◌, All, IsTrue, fold, length, unwrap_or}
+use Rattle.std.specs.Prelude.{◌&&◌, ◌==◌, Bool, List, [], ◌∷◌, ◌++◌, Option, Some, None, codes, map, ℕ, ◌+◌, ◌*◌, ◌≡◌, ◌^◌, ◌<◌, ◌≤◌, All, IsTrue, fold, length, unwrap_or}
 use Rattle.std.specs.Option.{ForSome}
 use Rattle.prefix_keys.specs.Print.{block_text}
 use Rattle.prefix_keys.specs.declared.version.Version.{Version}
-use Rattle.prefix_keys.specs.Block.{block_number, last_of, width_of}
+use Rattle.prefix_keys.specs.Block.{width_of}
 use Rattle.pmap_text.specs.ListModel.{Prefix, ListModel, list_label, HasDistinctPrefixes}
-use Rattle.pmap_text.specs.MapModel.{Label, MapModel, Mapping, map_label}
+use Rattle.pmap_text.specs.MapModel.{Label, MapModel, map_label}
 use Rattle.pmap_text.specs.declared.entry.Entry.{Entry}
 use Rattle.pmap_text.specs.Label.{is_label, with_label}
 use Rattle.pmap_text.specs.Reading.{label_limit, mapping_limit, unknown}
 use Rattle.pmap_cert.specs.Acceptance.{begins_before, HasBlock}
 use Rattle.pmap_cert.specs.CertificateText.{text_of_lines, version_word}
+use Rattle.flow_uniq.specs.Groups.{in_order}
 use Rattle.pmap_print.specs.Table.{Text}
 
 -- The order in which a prefix list is printed.
 
--- the entries with one more, which is placed before the first entry that it precedes
-abbrev pub placed : Prefix → List Prefix → List Prefix
-placed p [] = p ∷ []
-placed p (r ∷ rs) = if begins_before p r then p ∷ r ∷ rs else r ∷ placed p rs
-
 -- the entries in order of their first addresses, and the shorter prefix first of two with the same one
 abbrev pub entries_in_order : List Prefix → List Prefix
-entries_in_order [] = []
-entries_in_order (p ∷ ps) = placed p (entries_in_order ps)
+entries_in_order ps = in_order begins_before ps
 
 -- both entries begin at the same address and have the same length
 abbrev pub starts_alike : Prefix → Prefix → Bool
@@ -43,13 +38,10 @@ mode_text version = codes "mode" ++ 32 ∷ version_word version
 abbrev pub entry_line : Version → Prefix → Text
 entry_line version p = block_text version p.start p.bits ++ 32 ∷ p.label
 
--- the lines of a list: its name, its version, and its entries in order
-abbrev pub list_lines : ListModel → List Text
-list_lines l = name_lines l.name ++ mode_text l.version ∷ map (entry_line l.version) (entries_in_order l.prefixes)
-
--- the text of a list: each line with its line feed
+-- the text of a list: the lines of its name, its version, and its entries in order
 abbrev pub list_text : ListModel → Text
-list_text l = text_of_lines (list_lines l)
+list_text l =
+    text_of_lines (name_lines l.name ++ mode_text l.version ∷ map (entry_line l.version) (entries_in_order l.prefixes))
 
 -- How the code sorts entries.
 
@@ -79,11 +71,6 @@ pub record CanBeReadAgain (l : ListModel) : Type 0 where
   pub form : IsWellFormed l
   pub few_entries : length l.prefixes ≤ mapping_limit
   pub few_labels : length (labels_of (entries_in_order l.prefixes)) ≤ label_limit
-
--- the statement that the addresses of an entry's block, which have W bits, have the entry's label
-abbrev pub mapping_of_prefix : ℕ → Prefix → Mapping
-mapping_of_prefix W p =
-    record { low = p.start; high = last_of W p.bits (block_number W p.bits p.start); label = p.label }
 
 -- The printed text of `l`, read as a list, gives `r`: the same name and version, and the entries in order with their
 -- labels.

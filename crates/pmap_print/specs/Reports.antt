@@ -94,16 +94,11 @@ part_text (LabelPart label) = unwrap_or label []
 
 -- the fields of a group's line
 abbrev pub group_fields : GroupModel → Line
-group_fields g =
-    map part_text g.key ++ decimal g.totals.records ∷ decimal g.totals.packets ∷ decimal g.totals.octets ∷ []
+group_fields g = map part_text g.key ++ total_fields g.totals
 
--- the header and the line of each group
-abbrev pub group_lines : List KeyField → List GroupModel → List Line
-group_lines fields groups = group_titles fields ∷ map group_fields groups
-
--- the text of groups by these fields, in the order given
+-- the text of groups by these fields, in the order given: the header and the line of each group
 abbrev pub groups_text : List KeyField → List GroupModel → Bool → Text
-groups_text fields groups columns = table_text columns (group_lines fields groups)
+groups_text fields groups columns = table_text columns (group_titles fields ∷ map group_fields groups)
 
 -- The printed text of counts.
 

@@ -29,13 +29,10 @@ filled width field = replicate (width - length field) 32 ++ field
 abbrev pub filled_line : (ℕ → ℕ) → Line → Line
 filled_line width fields = map (λ e. filled (width e.0) e.1) (enumerate_from 0 fields)
 
--- the lines of a table as they are, or with each field filled to the width of its column
-abbrev pub table_lines : Bool → List Line → List Line
-table_lines columns lines = if columns then map (filled_line (column_width lines)) lines else lines
-
--- the text of a table, whose first line is its header
+-- the text of a table, whose first line is its header: its lines as they are, or with each field filled to the width of
+-- its column
 abbrev pub table_text : Bool → List Line → Text
-table_text columns lines = flat_map line_text (table_lines columns lines)
+table_text columns lines = flat_map line_text (if columns then map (filled_line (column_width lines)) lines else lines)
 
 -- How the lengths of a table's fields are noted, and its fields moved to columns.
 

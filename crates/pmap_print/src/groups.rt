@@ -5,7 +5,7 @@ ghost use Rattle.flow_uniq.specs.Groups.{shown_groups};
 ghost use Rattle.pmap_print.specs.Table.{has_columns, IsTable, sizes, Line, line_text};
 ghost use Rattle.pmap_print.specs.Reports.{group_fields, group_titles, groups_text, part_text, total_fields};
 
-use crate::number::{print_number, print_total};
+use crate::number::print_number;
 use crate::table::Table;
 use flow_uniq::{Group, Groups, KeyField, KeyPart, Totals};
 use prefix_keys::print_addr;
@@ -17,7 +17,7 @@ fn print_part(out: &mut Vec<u8>, part: KeyPart<'_>) -> Result<(), AllocError>
 {
     match part {
         KeyPart::Address(addr) => print_addr(out, addr),
-        KeyPart::Number(number) => print_number(out, u64::from(number)),
+        KeyPart::Number(number) => print_number(out, number),
         KeyPart::Label(label) => out.extend_from_slice(label.unwrap_or(b"")),
     }
 }
@@ -54,10 +54,10 @@ fn print_totals(out: &mut Vec<u8>, totals: &Totals) -> Result<[usize; TOTALS], A
     print_number(out, totals.records)?;
     out.push(b'|')?;
     let packets = out.len();
-    print_total(out, totals.packets)?;
+    print_number(out, totals.packets)?;
     out.push(b'|')?;
     let octets = out.len();
-    print_total(out, totals.octets)?;
+    print_number(out, totals.octets)?;
     out.push(b'\n')?;
     Ok([packets - begin, octets - packets, out.len() - octets])
 }

@@ -1,6 +1,6 @@
 //! The printed text of a prefix list.
 ghost use Rattle.std.specs.Prelude.{◌≡◌, ◌++◌, ◌∷◌, [], All, IfOk, List, OnOk, map};
-ghost use Rattle.std.specs.List.Sorted.{IsNonDecreasingBy, IsPermutation};
+ghost use Rattle.std.specs.List.Sorted.{IsPermutation};
 ghost use Rattle.std.specs.Ordering.{nat_cmp};
 ghost use Rattle.pmap_cert.specs.CertificateText.{text_of_lines};
 ghost use Rattle.pmap_print.specs.List.{entry_line, list_text, mode_text, name_lines, entries_in_order, place_of};
@@ -68,15 +68,6 @@ fn by_place(entry: &Entry, other: &Entry) -> Ordering
     }
 }
 
-// Sorts entries into the order in which they are printed.
-fn sort_by_place(entries: &mut Vec<Entry>) -> Result<(), AllocError>
-    ensures same { IsPermutation entries.old.items entries.new.items }
-    ensures rising { OnOk result (IsNonDecreasingBy place_of entries.new.items) }
-{
-    entries.sort_by(|entry, other| by_place(entry, other))?;
-    Ok(())
-}
-
 // Returns the entries in the order in which they are printed.
 fn sorted_entries(alloc: Global, entries: &[Entry]) -> Result<Vec<Entry>, AllocError>
     requires { HasDistinctBlocks entries.now }
@@ -85,7 +76,7 @@ fn sorted_entries(alloc: Global, entries: &[Entry]) -> Result<Vec<Entry>, AllocE
         map (prefix_of table) sorted.items ≡ entries_in_order (map (prefix_of table) entries.now)) }
 {
     let mut sorted = Vec::from_slice(alloc, entries)?;
-    sort_by_place(&mut sorted)?;
+    sorted.sort_by(|entry, other| by_place(entry, other))?;
     Ok(sorted)
 }
 

@@ -1,6 +1,7 @@
-ghost use Rattle.std.specs.Prelude.{◌≡◌, ◌<◌, ◌++◌, IfOk, OnOk, length, option_map};
+ghost use Rattle.std.specs.Prelude.{◌≡◌, ◌<◌, ◌++◌, IfOk, OnOk, length, nat_eq, option_map};
+ghost use Rattle.std.specs.Option.{option_eq};
 ghost use Rattle.pmap_text.specs.Stretches.{AreLabelsBelow, HasEveryAddress, text_held};
-ghost use Rattle.pmap_print.specs.Runs.{IsRunsText, run_text, run_titles, is_same_number, run_of, stretch_view, view_at};
+ghost use Rattle.pmap_print.specs.Runs.{IsRunsText, run_text, run_titles, run_of, stretch_view, view_at};
 ghost use Rattle.pmap_print.specs.Table.{line_text};
 
 use pmap_text::{LabelId, Labels, Stretches};
@@ -42,7 +43,7 @@ fn stretch_at(stretches: &Stretches, index: usize) -> Stretch
 // Returns `true` if both labels have the same number, or both are missing. The texts of a label table are distinct, so
 // the texts are equal exactly in these cases.
 fn is_same(label: Option<LabelId>, other: Option<LabelId>) -> bool
-    ensures { result ≡ is_same_number (option_map (λ id. id.0) label) (option_map (λ id. id.0) other) }
+    ensures { result ≡ option_eq nat_eq (option_map (λ id. id.0) label) (option_map (λ id. id.0) other) }
 {
     match (label, other) {
         (Some(label), Some(other)) => label.0 == other.0,

@@ -43,13 +43,10 @@ impl Table {
             → ForSome self.old.columns (IsNoted count lines) → length line ≡ count → lengths.now ≡ sizes line
             → ForSome self.new.columns (IsNoted count (lines ++ line ∷ []))) }
     {
-        match &mut self.columns {
-            Some(columns) => {
-                columns.note(lengths)?;
-                Ok(())
-            }
-            None => Ok(()),
+        if let Some(columns) = &mut self.columns {
+            columns.note(lengths)?;
         }
+        Ok(())
     }
 
     /// Returns the text of the table, padded if the table has columns.

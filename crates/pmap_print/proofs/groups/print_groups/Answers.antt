@@ -9,7 +9,7 @@ use Rattle.flow_uniq.specs.Groups.{GroupModel, shown_groups}
 use Rattle.flow_uniq.specs.Inner.{group_model}
 use Rattle.flow_uniq.proofs.Listing.{none_past}
 use Rattle.pmap_print.specs.Table.{IsTable, has_columns, Line, table_text}
-use Rattle.pmap_print.specs.Reports.{group_fields, group_lines, group_titles}
+use Rattle.pmap_print.specs.Reports.{group_fields, group_titles}
 use Rattle.pmap_print.proofs.GroupLines.{first_lines, line_added, listed_at, parts_at}
 use Rattle.pmap_print.proofs.groups.print_groups.Goals as goal
 use Rattle.pmap_print.proofs.groups.print_groups.Goals.{in-Some+in_ok-add_group-2, in_default}
@@ -57,7 +57,7 @@ returns-then-sorted c =
     let fields : List KeyField = c.args.groups.now.fields in
     let gs : List GroupModel = map group_model c.as_slice-group-items.result.now in
     let i : ℕ = c.loop-group.group-index in
-    let whole : first_lines fields gs i ≡ group_lines fields (shown_groups c.args.sorted c.args.groups.now.groups) =
+    let whole : first_lines fields gs i ≡ group_titles fields ∷ map group_fields (shown_groups c.args.sorted c.args.groups.now.groups) =
     ap (λ (l : List GroupModel). group_titles fields ∷ map group_fields l)
     (take_all i gs (omega (arith, c.loop-group-test.false, length-map c.as_slice-group-items.result.now group_model))
     ∙ ap (map group_model) c.as_slice-group-items.ensures.value ∙ c.in_ok-shown.ensures.value
@@ -103,7 +103,7 @@ returns c =
     let fields : List KeyField = c.args.groups.now.fields in
     let gs : List GroupModel = c.args.groups.now.groups in
     let i : ℕ = c.loop-place.place in
-    let whole : first_lines fields gs i ≡ group_lines fields (shown_groups c.args.sorted gs) =
+    let whole : first_lines fields gs i ≡ group_titles fields ∷ map group_fields (shown_groups c.args.sorted gs) =
     ap (λ (l : List GroupModel). group_titles fields ∷ map group_fields l)
     (take_all i gs (omega (arith, c.loop-place-test.false, c.group_count-place-end.ensures))
     ∙ ap (λ (b : Bool). shown_groups b gs) (sym c.if-sorted.false)) in

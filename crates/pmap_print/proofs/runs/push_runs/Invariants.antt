@@ -1,4 +1,4 @@
-use Rattle.pmap_print.specs.Runs.{IsPrintedTo}
+use Rattle.pmap_print.proofs.Stretches.{IsPrintedTo}
 use Rattle.pmap_print.proofs.runs.push_runs.Given as goal
 
 abbrev pub invariant-loop-index : goal.invariant-loop-index

@@ -1,13 +1,14 @@
-use Rattle.std.proofs.Common.{Bool, ap, rules, ◌∙◌, map}
+use Rattle.std.proofs.Common.{Bool, List, ap, rules, subst, ◌∙◌, map}
 use borrow.Author.Tests.{tests}
 use Rattle.std.proofs.lemmas.Cmp.{lists_total, nat_list_cmp_total, on_total}
 use Rattle.std.proofs.lemmas.List.Sorted.{IsPermutation-map, answers_always, ranks_by}
 use Rattle.std.specs.Cmp.{IsStrictWeakOrder, IsTotalOrder}
+use Rattle.std.specs.List.Sorted.{IsPermutation}
 use Rattle.flow_uniq.specs.Inner.{Group, group_model}
 use Rattle.flow_uniq.specs.Key.{part_numbers}
-use Rattle.flow_uniq.specs.Groups.{is_before, key_order}
+use Rattle.flow_uniq.specs.Groups.{GroupModel, is_before, key_order, sorted_groups}
 use Rattle.flow_uniq.proofs.Sorting.{IsSortedBy-map, map-in_order, sorted_is}
-use Rattle.flow_uniq.proofs.groups.in_order.Goals as goal
+use Rattle.flow_uniq.proofs.groups.Groups.sorted.Goals as goal
 
 abbrev before : Group → Group → Bool
 before g h = is_before (group_model g) (group_model h)
@@ -22,12 +23,14 @@ pub returns-clause-value : goal.returns-clause-value
 returns-clause-value c =
     let answers = answers_always _ _ _ (λ f a r f' k. search (rules, tests)) in
     ap (map group_model)
-    (sorted_is before before-order c.args.groups.items _
+    (sorted_is before before-order c.in_ok-groups.groups.items _
     (c.in_ok-sort_by.ensures.sorted before before-order answers) (c.in_ok-sort_by.ensures.stable before before-order answers))
-    ∙ map-in_order group_model is_before c.args.groups.items
+    ∙ map-in_order group_model is_before c.in_ok-groups.groups.items ∙ ap sorted_groups c.in_ok-groups.ensures
 
 pub returns-clause-permutation : goal.returns-clause-permutation
-returns-clause-permutation c = IsPermutation-map group_model c.args.groups.items _ c.in_ok-sort_by.ensures.permutation
+returns-clause-permutation c =
+    subst (λ (l : List GroupModel). IsPermutation l (map group_model c.sort_by.new.self.items)) c.in_ok-groups.ensures
+    (IsPermutation-map group_model c.in_ok-groups.groups.items _ c.in_ok-sort_by.ensures.permutation)
 
 pub returns-clause-rises : goal.returns-clause-rises
 returns-clause-rises c =
